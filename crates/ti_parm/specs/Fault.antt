@@ -1,0 +1,20 @@
+-- Answers that may be faults.
+use Rattle.std.specs.Prelude.{◌≡◌, Result, Ok, Err}
+use Rattle.ti_parm.specs.declared.fault.ParmFault.{ParmFault}
+use Rattle.ti_parm.specs.declared.fault.ParmFault.TheVariants.{NoMemory}
+
+-- where f is right; with an own fault the answer is that
+abbrev pub ◌>>=◌ : {A B : Type 0} → Result A ParmFault → (A → Result B ParmFault) → Result B ParmFault
+Ok x >>= f = f x
+Err e >>= f = Err e
+
+infixl 10 ◌>>=◌
+-- a call fails as the meaning does; that memory ran out says nothing of the meaning
+abbrev pub Fails : {S : Type 0} → ParmFault → Result S ParmFault → Type 0
+Fails NoMemory meant = Unit {0}
+Fails e meant = meant ≡ Err e
+
+-- a call answers what is meant, seen through the view, or memory ran out
+abbrev pub Gives : {R S : Type 0} → (R → S) → Result R ParmFault → Result S ParmFault → Type 0
+Gives view (Ok x) meant = meant ≡ Ok (view x)
+Gives view (Err e) meant = Fails e meant

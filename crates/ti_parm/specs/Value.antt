@@ -1,0 +1,26 @@
+-- The values of parameter strings (terminfo(5), "Parameterized Strings").
+use Rattle.std.specs.Prelude.{ℤ, pos, List, ◌++◌, take, map, replicate}
+use Rattle.ti_parm.specs.declared.param.Param.{Param}
+use Rattle.ti_parm.specs.declared.param.Param.TheVariants.{Number as NumberParam}
+
+-- a number of 32 bits with sign
+pub data Value : Type 0 where
+  Number : ℤ → Value
+
+abbrev pub Values : Type 0
+Values = List Value
+
+-- the value that a parameter hands in
+abbrev pub value_of : Param → Value
+value_of (NumberParam n) = Number n
+
+abbrev pub values_of : List Param → List Value
+values_of given = map value_of given
+
+-- the parameters of a run: the first nine, and 0 for those that were not handed in
+unfoldable pub nine : List Value → List Value
+nine given = take 9 (given ++ replicate 9 (Number (pos 0)))
+
+-- 26 variables, all 0
+unfoldable pub zeros : List ℤ
+zeros = replicate 26 (pos 0)

@@ -1,0 +1,72 @@
+// Parameters, as they are handed in and as they are kept during a run.
+ghost use Rattle.std.specs.Prelude.{◌≡◌, pos, slice_index_or};
+
+use smallvec::SmallVec;
+use std::alloc::{AllocError, Global};
+use std::marker::Model;
+
+/// A parameter of an expansion.
+#[derive(Clone, Copy, Debug, PartialEq, Eq)]
+pub enum Param {
+    /// A number, with sign.
+    Number(i32),
+}
+
+impl Default for Param {
+    fn default() -> Self {
+        Param::Number(0)
+    }
+}
+
+/// The nine parameters of a run.
+#[derive(Drop)]
+pub struct Params {
+    values: SmallVec<Param, 9>,
+}
+
+impl Model for Params {
+    ghost use Rattle.ti_parm.specs.Value.{Values, values_of};
+
+    ghost Value = { Values };
+
+    ghost view = { λ p. values_of p.values.items };
+}
+
+/// The parameter that is handed in at an index, or 0.
+fn given_or_zero(given: &[Param], index: usize) -> Param
+    ensures { result ≡ slice_index_or given.now index (Param.Number (pos 0)) }
+{
+    given.get(index).copied().unwrap_or(Param::Number(0))
+}
+
+impl Params {
+    ghost use Rattle.std.specs.Prelude.{◌≡◌, IfOk, pos, slice_index_or, slice_set};
+    ghost use Rattle.ti_parm.specs.Value.{Number, nine, value_of, values_of};
+
+    /// The first nine that are handed in, and 0 for those that are not.
+    pub fn new(alloc: Global, given: &[Param]) -> Result<Self, AllocError>
+        ensures { IfOk result (λ p. p ≡ nine (values_of given.now)) }
+    {
+        let mut values = SmallVec::new(alloc);
+        for index in 0..9 {
+            values.push(given_or_zero(given, index))?;
+        }
+        Ok(Params { values })
+    }
+
+    /// The parameter at an index from 0 on.
+    pub fn get(&self, index: u8) -> Param
+        ensures { value_of result ≡ slice_index_or self.now index (Number (pos 0)) }
+    {
+        given_or_zero(self.values.as_slice(), usize::from(index))
+    }
+
+    /// Puts a value in place of the parameter at an index.
+    pub fn set(&mut self, index: usize, value: Param)
+        ensures { self.new ≡ slice_set self.old index (value_of value) }
+    {
+        if let Some(place) = self.values.get_mut(index) {
+            *place = value;
+        }
+    }
+}

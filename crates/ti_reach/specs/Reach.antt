@@ -1,0 +1,61 @@
+-- When a string serves as `cup` (terminfo(5), "Cursor Motions").
+use Rattle.std.specs.Prelude.{◌≡◌, ◌<◌, ◌⊎◌, ℕ, pos, List, [], ◌∷◌, Ok, Err}
+use Rattle.ti_parm.specs.Meaning.{State as Outcome, meaning}
+use Rattle.ti_parm.specs.Value.{Value, Number, zeros}
+use Rattle.ti_parm.specs.declared.fault.ParmFault.{ParmFault}
+use Rattle.vt_term.specs.Text.{Splits, IsStuck, IsUnfinished}
+use Rattle.vt_term.specs.Run as Run
+use Rattle.ti_reach.specs.declared.MissKind.{MissKind}
+use Rattle.ti_reach.specs.declared.MissKind.TheVariants.{Parm, Token, Misses, NoMemory}
+
+-- a row and a column as a string's parameters
+abbrev pub place : ℕ → ℕ → List Value
+place row col = Number (pos row) ∷ Number (pos col) ∷ []
+
+-- the bytes are tokens to their end
+abbrev pub IsWhole : List ℕ → Type 0
+IsWhole bytes = (tokens : List (List ℕ)) × Splits bytes tokens []
+
+-- the string can be expanded for this place, its bytes are whole tokens, and from every state at rest
+-- they leave the cursor of a terminal of this size there
+pub record Reaches (string : List ℕ) (rows cols row col : ℕ) : Type 0 where
+  pub end : Outcome
+  pub meant : meaning string (place row col) zeros ≡ Ok end
+  pub whole : IsWhole end.output
+  pub leads : Run.Reaches rows cols end.output row col
+
+-- the places of a row to the left of a column are reached
+abbrev pub ReachesInRow : List ℕ → ℕ → ℕ → ℕ → ℕ → Type 0
+ReachesInRow string rows cols row end = (col : ℕ) → col < end → Reaches string rows cols row col
+
+-- every place of the screen is reached
+abbrev pub ServesAsCup : List ℕ → ℕ → ℕ → Type 0
+ServesAsCup string rows cols = (row col : ℕ) → row < rows → col < cols → Reaches string rows cols row col
+
+-- the string can't be expanded for this place
+abbrev pub HasFaultAt : List ℕ → ℕ → ℕ → Type 0
+HasFaultAt string row col = (fault : ParmFault) × (meaning string (place row col) zeros ≡ Err fault)
+
+-- the bytes end inside a sequence, or one of them fits nothing
+abbrev pub IsNoText : List ℕ → Type 0
+IsNoText bytes = (at : ℕ) × (IsUnfinished bytes at ⊎ IsStuck bytes at)
+
+-- the bytes for this place are no whole text
+pub record IsNoTextAt (string : List ℕ) (row col : ℕ) : Type 0 where
+  pub end : Outcome
+  pub meant : meaning string (place row col) zeros ≡ Ok end
+  pub fault : IsNoText end.output
+
+-- what an answer says of the bytes for a place
+abbrev pub Judges : List ℕ → MissKind → Type 0
+Judges bytes Parm = ⊥
+Judges bytes Token = IsNoText bytes
+Judges bytes Misses = Unit {0}
+Judges bytes NoMemory = Unit {0}
+
+-- what an answer says of a place: where no CUP was found or memory was refused it says nothing
+abbrev pub TellsWhy : List ℕ → ℕ → ℕ → MissKind → Type 0
+TellsWhy string row col Parm = HasFaultAt string row col
+TellsWhy string row col Token = IsNoTextAt string row col
+TellsWhy string row col Misses = Unit {0}
+TellsWhy string row col NoMemory = Unit {0}

@@ -1,0 +1,2 @@
+pub mod Decodings
+pub mod Tests

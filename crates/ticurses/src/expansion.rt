@@ -1,0 +1,146 @@
+//! The command `expand`.
+
+use crate::decimal::decimal_number;
+use crate::failure::{Failure, Refusal, Reply};
+use clap::ArgMatches;
+use smallvec::SmallVec;
+use std::alloc::{AllocError, Global};
+use ti_parm::{Param, ParmFault, Statics, expand};
+use ti_reach::{MissKind, reach_cup};
+use ti_source::{EscapeFault, unescape};
+use vt_term::{Size, Terminal, TokenFault, TokenFaultKind, tokens};
+
+/// The parameters of one string: nine and fewer take no memory.
+type Params = SmallVec<Param, 9>;
+
+/// The words of `expand`, read.
+#[derive(Drop)]
+struct Request<'a> {
+    string: &'a str,
+    rows: u32,
+    cols: u32,
+    params: Params,
+    cup: bool,
+}
+
+/// Expands the string and shows where it leaves the cursor of a blank terminal.
+pub fn perform(alloc: Global, matches: &ArgMatches<'_>) -> Result<Reply, Failure> {
+    let request = read_request(alloc, matches)?;
+    let size = Size::new(request.rows as usize, request.cols as usize).ok_or(Failure::Refused(
+        Refusal::Size,
+    ))?;
+    let string = unescape(alloc, request.string.as_bytes()).map_err(escape_failure)?;
+    let mut sent = Vec::new(alloc);
+    let mut statics = Statics::new();
+    expand(
+        alloc,
+        string.as_slice(),
+        request.params.as_slice(),
+        &mut statics,
+        &mut sent,
+    )
+    .map_err(parm_failure)?;
+    let mut text = hex::encode(alloc, sent.as_slice())?;
+    text.push('\n')?;
+    match tokens(alloc, sent.as_slice()) {
+        Ok(_) => {
+            push_cursor(alloc, size, sent.as_slice(), &mut text)?;
+            if request.cup {
+                push_cup(alloc, string.as_slice(), size, &mut text)?;
+            }
+            Ok(Reply {
+                text,
+                refusal: None,
+            })
+        }
+        Err(fault) => match fault.kind {
+            TokenFaultKind::NoMemory => Err(Failure::NoMemory),
+            _ => Ok(Reply {
+                text,
+                refusal: Some(Refusal::Token(fault)),
+            }),
+        },
+    }
+}
+
+/// The line that says where the bytes leave the cursor.
+fn push_cursor(alloc: Global, size: Size, sent: &[u8], text: &mut String) -> Result<(), Failure> {
+    let mut terminal = Terminal::new(alloc, size)?;
+    let _whole = terminal.feed(sent);
+    let (row, col) = terminal.cursor();
+    text.push_str(format!(in alloc; "cursor {row} {col}\n")?.as_str())?;
+    Ok(())
+}
+
+/// The line that says whether the string serves as `cup`.
+fn push_cup(alloc: Global, string: &[u8], size: Size, text: &mut String) -> Result<(), Failure> {
+    match reach_cup(alloc, string, size) {
+        Ok(()) => text.push_str("cup yes\n")?,
+        Err(miss) => match miss.kind {
+            MissKind::NoMemory => return Err(Failure::NoMemory),
+            _ => {
+                let line = format!(in alloc; "cup no {} {}\n", miss.row, miss.col)?;
+                text.push_str(line.as_str())?;
+            }
+        },
+    }
+    Ok(())
+}
+
+fn escape_failure(fault: EscapeFault) -> Failure {
+    match fault {
+        EscapeFault::NoMemory => Failure::NoMemory,
+        _ => Failure::Refused(Refusal::Escape(fault)),
+    }
+}
+
+fn parm_failure(fault: ParmFault) -> Failure {
+    match fault {
+        ParmFault::NoMemory => Failure::NoMemory,
+        _ => Failure::Refused(Refusal::Parm(fault)),
+    }
+}
+
+/// The words of the line as values, or why they are no such values.
+fn read_request<'a>(alloc: Global, matches: &ArgMatches<'a>) -> Result<Request<'a>, Failure> {
+    Ok(Request {
+        string: matches.get_str("STRING").unwrap_or(""),
+        rows: number_word(alloc, matches, "ROWS")?,
+        cols: number_word(alloc, matches, "COLS")?,
+        params: read_params(alloc, matches.get_strs("PARAM").unwrap_or(&[]))?,
+        cup: matches.get_flag("cup"),
+    })
+}
+
+fn number_word(alloc: Global, matches: &ArgMatches<'_>, name: &str) -> Result<u32, Failure> {
+    let word = matches.get_str(name).unwrap_or("");
+    match decimal_number(word) {
+        Some(number) => Ok(number),
+        None => Err(not_a_number(alloc, name, word)),
+    }
+}
+
+fn read_params(alloc: Global, words: &[&str]) -> Result<Params, Failure> {
+    let mut params = SmallVec::new(alloc);
+    for word in words {
+        match decimal_number(word) {
+            Some(number) => params
+                .push(Param::Number(number as i32))
+                .map_err(AllocError::from)?,
+            None => return Err(not_a_number(alloc, "PARAM", word)),
+        }
+    }
+    Ok(params)
+}
+
+/// A word that stands where a number belongs.
+fn not_a_number(alloc: Global, name: &str, word: &str) -> Failure {
+    let text = format!(in alloc;
+        "error: invalid value '{word}' for {name}: a decimal number up to 2147483647 is wanted\n\n\
+         For more information, try '--help'.\n"
+    );
+    match text {
+        Ok(text) => Failure::Usage(text),
+        Err(_) => Failure::NoMemory,
+    }
+}

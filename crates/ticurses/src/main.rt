@@ -1,0 +1,39 @@
+//! `ticurses`: what a string of a terminal description does, shown and proved.
+#![tactic(auto)]
+
+mod decimal;
+mod expansion;
+mod failure;
+mod files;
+mod run;
+#[cfg(test)]
+mod tests;
+mod words;
+
+use failure::{Failure, told};
+use files::Stored;
+use std::env;
+use std::process::ExitCode;
+use std::rt::Env;
+
+/// `command` over the words of the line, the real files, standard output and standard error.
+fn main(rt: HostRuntime) -> ExitCode {
+    ExitCode::from(match words_of(&rt) {
+        Ok(words) => run::command(
+            rt.alloc(),
+            words.as_slice(),
+            &mut Stored::new(&rt),
+            &mut rt.stdout(),
+            &mut rt.stderr(),
+        ),
+        Err(failure) => told(&failure, &mut rt.stderr()),
+    })
+}
+
+/// The words behind the program's own name.
+fn words_of(rt: &HostRuntime) -> Result<Vec<String>, Failure> {
+    match env::args(rt) {
+        Ok(words) => Ok(words.skip(1).collect(rt.alloc())?),
+        Err(_) => Err(Failure::NoMemory),
+    }
+}

@@ -1,0 +1,294 @@
+//! Whole runs of `command`, with files and writers in memory.
+
+use crate::files::{FileFault, Files};
+use crate::run::command;
+use std::alloc::{AllocError, Global};
+use std::collections::VecDeque;
+use std::io;
+use std::io::{ErrorKind, Write};
+use std::process::Abort;
+use std::test::Fail;
+
+/// No file is there.
+#[derive(Drop)]
+struct NoFiles;
+
+impl Files for NoFiles {
+    type File = VecDeque<u8>;
+
+    fn reader(&mut self, _path: &str) -> Result<VecDeque<u8>, FileFault> {
+        Err(FileFault::Failed)
+    }
+
+    fn store(&mut self, _path: &str, _bytes: &[u8]) -> Result<(), FileFault> {
+        Err(FileFault::Failed)
+    }
+}
+
+/// A writer that takes nothing, as a full disk or a closed pipe.
+#[derive(Drop)]
+struct Closed;
+
+impl Write for Closed {
+    fn write(&mut self, _bytes: &[u8]) -> io::Result<usize> {
+        Err(io::Error::from(ErrorKind::BrokenPipe))
+    }
+
+    fn flush(&mut self) -> io::Result<()> {
+        Ok(())
+    }
+}
+
+/// A writer that takes one byte at a time.
+#[derive(Drop)]
+struct Slow {
+    bytes: Vec<u8>,
+}
+
+impl Write for Slow {
+    fn write(&mut self, bytes: &[u8]) -> io::Result<usize> {
+        match bytes {
+            [] => Ok(0),
+            [byte, ..] => {
+                self.bytes.push(*byte)?;
+                Ok(1)
+            }
+        }
+    }
+
+    fn flush(&mut self) -> io::Result<()> {
+        Ok(())
+    }
+}
+
+fn words_of(alloc: Global, words: &[&str]) -> Result<Vec<String>, AllocError> {
+    let mut found = Vec::new(alloc);
+    for word in words {
+        found.push(String::from_str(alloc, word)?)?;
+    }
+    Ok(found)
+}
+
+const CUP: &str = "\\E[%i%p1%d;%p2%dH";
+
+/// Runs `expand` with these words.
+fn expand<R: AllocGlobal>(rt: &R, words: &[&str]) -> Result<(u8, Vec<u8>, Vec<u8>), AllocError> {
+    let alloc = rt.alloc();
+    let mut line = words_of(alloc, &["expand"])?;
+    line.append(&mut words_of(alloc, words)?)?;
+    let mut out = Vec::new(alloc);
+    let mut err = Vec::new(alloc);
+    let status = command(alloc, line.as_slice(), &mut NoFiles, &mut out, &mut err);
+    Ok((status, out, err))
+}
+
+/// A line, its status, standard output and standard error.
+type Case<'a> = (&'a [&'a str], u8, &'a str, &'a str);
+
+fn compare<R: AllocGlobal + Abort>(rt: &R, cases: &[Case<'_>]) -> Result<(), AllocError> {
+    for (words, status, out, err) in cases {
+        let told = expand(rt, words)?;
+        assert_eq!(rt; told.1.as_slice(), out.as_bytes(), "{words:?}");
+        assert_eq!(rt; told.2.as_slice(), err.as_bytes(), "{words:?}");
+        assert_eq!(rt; told.0, *status, "{words:?}");
+    }
+    Ok(())
+}
+
+#[test]
+fn expands(rt: HostRuntime) -> Result<(), Fail> {
+    let cases: [Case<'_>; 7] = [
+        (
+            &[CUP, "2", "4", "1", "3"],
+            0,
+            "1b5b323b3448\ncursor 1 3\n",
+            "",
+        ),
+        (
+            &[CUP, "002", "04", "1", "3", "7"],
+            0,
+            "1b5b323b3448\ncursor 1 3\n",
+            "",
+        ),
+        (&["%i%i%p1%d", "2", "4", "1"], 0, "33\ncursor 0 1\n", ""),
+        (
+            &["%%%p2%d", "2", "4", "1", "2147483647"],
+            0,
+            "2532313437343833363437\ncursor 1 3\n",
+            "",
+        ),
+        (
+            &["abcdefghi", "2", "4"],
+            0,
+            "616263646566676869\ncursor 1 1\n",
+            "",
+        ),
+        (&["abc\\n\\b", "2", "4"], 0, "6162630a08\ncursor 1 2\n", ""),
+        (&["", "2", "4"], 0, "\ncursor 0 0\n", ""),
+    ];
+    compare(&rt, &cases)?;
+    Ok(())
+}
+
+#[test]
+fn judges_cup(rt: HostRuntime) -> Result<(), Fail> {
+    let cases: [Case<'_>; 5] = [
+        (
+            &["--cup", CUP, "2", "4", "1", "3"],
+            0,
+            "1b5b323b3448\ncursor 1 3\ncup yes\n",
+            "",
+        ),
+        (
+            &[CUP, "200", "500", "9", "99", "--cup"],
+            0,
+            "1b5b31303b31303048\ncursor 9 99\ncup yes\n",
+            "",
+        ),
+        (
+            &["--cup", "\\E[H", "2", "4"],
+            0,
+            "1b5b48\ncursor 0 0\ncup no 0 1\n",
+            "",
+        ),
+        (
+            &["--cup", "\\E[%i%p2%d;%p1%dH", "3", "3"],
+            0,
+            "1b5b313b3148\ncursor 0 0\ncup no 0 1\n",
+            "",
+        ),
+        (
+            &["--cup", "\\E[%p1%d;%p2%dH", "3", "3", "1", "1"],
+            0,
+            "1b5b313b3148\ncursor 0 0\ncup no 0 1\n",
+            "",
+        ),
+    ];
+    compare(&rt, &cases)?;
+    Ok(())
+}
+
+#[test]
+fn refuses(rt: HostRuntime) -> Result<(), Fail> {
+    let cases: [Case<'_>; 9] = [
+        (
+            &["a\\E[1", "2", "4"],
+            1,
+            "611b5b31\n",
+            "refused: Unfinished 1\n",
+        ),
+        (
+            &["--cup", "a\\200b", "2", "4"],
+            1,
+            "618062\n",
+            "refused: Stuck 1\n",
+        ),
+        (&["%q", "2", "4"], 1, "", "refused: BadCode\n"),
+        (&["a%d%q", "2", "4"], 1, "", "refused: BadCode\n"),
+        (&["a%d", "2", "4"], 1, "", "refused: Underflow\n"),
+        (
+            &["%i", "2", "4", "2147483647"],
+            1,
+            "",
+            "refused: Overflow\n",
+        ),
+        (&["a\\", "2", "4"], 1, "", "refused: BadEscape\n"),
+        (&["a\\", "1", "4"], 1, "", "refused: BadSize\n"),
+        (&["a", "2", "501"], 1, "", "refused: BadSize\n"),
+    ];
+    compare(&rt, &cases)?;
+    Ok(())
+}
+
+#[test]
+fn tells_wrong_words(rt: HostRuntime) -> Result<(), Fail> {
+    let lines: [&[&str]; 11] = [
+        &[],
+        &["a", "2"],
+        &["a", "2", "x"],
+        &["a", "", "2"],
+        &["a", "+2", "2"],
+        &["a", "2", "2147483648"],
+        &["a", "2", "4", "2147483648"],
+        &["a", "2", "4", ""],
+        &["a", "2", "4", "1", "0x1"],
+        &["a", "2", "4", "-1"],
+        &["--no", "a", "2", "4"],
+    ];
+    for words in lines {
+        let told = expand(&rt, words)?;
+        assert_eq!(rt; told.0, 2, "{words:?}");
+        assert_eq!(rt; told.1.len(), 0, "{words:?}");
+        assert_ne!(rt; told.2.len(), 0, "{words:?}");
+    }
+    Ok(())
+}
+
+#[test]
+fn helps(rt: HostRuntime) -> Result<(), Fail> {
+    let lines: [&[&str]; 4] = [
+        &["--help"],
+        &["expand", "--help"],
+        &["help", "expand"],
+        &["--version"],
+    ];
+    for words in lines {
+        let alloc = rt.alloc();
+        let line = words_of(alloc, words)?;
+        let mut out = Vec::new(alloc);
+        let mut err = Vec::new(alloc);
+        let status = command(alloc, line.as_slice(), &mut NoFiles, &mut out, &mut err);
+        assert_eq!(rt; status, 0, "{words:?}");
+        assert_ne!(rt; out.len(), 0, "{words:?}");
+        assert_eq!(rt; err.len(), 0, "{words:?}");
+    }
+    Ok(())
+}
+
+#[test]
+fn writes_by_pieces(rt: HostRuntime) -> Result<(), Fail> {
+    let alloc = rt.alloc();
+    let line = words_of(alloc, &["expand", CUP, "2", "4", "1", "3"])?;
+    let mut out = Slow {
+        bytes: Vec::new(alloc),
+    };
+    let mut err = Vec::new(alloc);
+    let status = command(alloc, line.as_slice(), &mut NoFiles, &mut out, &mut err);
+    assert_eq!(rt; status, 0);
+    assert_eq!(rt;
+        out.bytes.as_slice(),
+        b"1b5b323b3448\ncursor 1 3\n".as_slice()
+    );
+    assert_eq!(rt; err.len(), 0);
+    Ok(())
+}
+
+#[test]
+fn tells_a_closed_output(rt: HostRuntime) -> Result<(), Fail> {
+    let alloc = rt.alloc();
+    let lines: [(&[&str], u8, &str); 3] = [
+        (&["expand", "a", "2", "4"], 3, "output\n"),
+        (
+            &["expand", "a\\E", "2", "4"],
+            1,
+            "refused: Unfinished 1\noutput\n",
+        ),
+        (&["--help"], 3, "output\n"),
+    ];
+    for (words, want, text) in lines {
+        let line = words_of(alloc, words)?;
+        let mut err = Vec::new(alloc);
+        let status = command(alloc, line.as_slice(), &mut NoFiles, &mut Closed, &mut err);
+        assert_eq!(rt; status, want, "{words:?}");
+        assert_eq!(rt; err.as_slice(), text.as_bytes(), "{words:?}");
+        let silent = command(
+            alloc,
+            line.as_slice(),
+            &mut NoFiles,
+            &mut Closed,
+            &mut Closed,
+        );
+        assert_eq!(rt; silent, want, "{words:?}");
+    }
+    Ok(())
+}

@@ -1,0 +1,5 @@
+use Rattle.vt_term.proofs.Running.{runs_once}
+use Rattle.vt_term.proofs.laws.one_run.Goals as goal
+
+pub returns : goal.returns
+returns c = runs_once

@@ -1,0 +1,5 @@
+use Rattle.vt_term.proofs.Running.{runs_append}
+use Rattle.vt_term.proofs.laws.runs_join.Goals as goal
+
+pub returns : goal.returns
+returns c = runs_append

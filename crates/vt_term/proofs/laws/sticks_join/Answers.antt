@@ -1,0 +1,5 @@
+use Rattle.vt_term.proofs.Running.{sticks_behind}
+use Rattle.vt_term.proofs.laws.sticks_join.Goals as goal
+
+pub returns : goal.returns
+returns c = sticks_behind

@@ -1,0 +1,23 @@
+use Rattle.std.proofs.Common.{[], ◌∷◌, ◌++◌, refl, sym}
+use Rattle.std.proofs.lemmas.List.{append-nil}
+use Rattle.vt_term.proofs.Sequences.{empty_open}
+use Rattle.vt_term.proofs.Splitting.{fits_nothing}
+use Rattle.vt_term.proofs.stream.Terminal.accept.Goals as goal
+
+pub returns-in-Ends-clause-accepts : goal.returns-in-Ends-clause-accepts
+returns-in-Ends-clause-accepts c =
+    let token = rw c.deref.ensures.value at c.in-Ends.ensures in
+    let taken = rw c.unwrap-in-Ends.ensures at c.push-in-Ends.ensures.items in
+    rw (c.clear.ensures.items, c.act.ensures, c.function_of.ensures, c.deref-in-Ends.ensures.value, taken, ← c.self.view_is) (record {
+      tokens = (c.self.inside.rest.items ++ c.args.byte ∷ []) ∷ [];
+      splits = ([], sym (append-nil (c.self.inside.rest.items ++ c.args.byte ∷ [])), token, (refl, empty_open));
+      screen = refl;
+    })
+
+pub returns-in-Fails-clause-accepts : goal.returns-in-Fails-clause-accepts
+returns-in-Fails-clause-accepts c =
+    let none = rw c.deref.ensures.value at c.in-Fails.ensures in
+    rw (c.clear-in-Fails.ensures.items, ← c.self.view_is) (
+      (λ other k. fits_nothing c.self.inside.rest.items [] c.self.inside.rest.items c.args.byte (refl, c.self.invariant.0) none.0 none.1 (record { tokens = k.tokens; rest = other.rest; splits = k.splits })),
+      refl,
+    )

@@ -1,0 +1,10 @@
+pub mod Size
+pub mod Look
+pub mod Grid
+pub mod Text
+pub mod Screen
+pub mod Numbers
+pub mod Function
+pub mod Step
+pub mod Run
+pub mod Fault

@@ -1,0 +1,114 @@
+ghost use Rattle.std.specs.Prelude.{◌≡◌};
+
+use std::marker::Model;
+
+/// One of the eight colours of ECMA-48's SGR 30 to 37 and 40 to 47, in their order.
+#[derive(Clone, Copy, Debug, PartialEq, Eq)]
+pub enum Color {
+    Black,
+    Red,
+    Green,
+    Yellow,
+    Blue,
+    Magenta,
+    Cyan,
+    White,
+}
+
+/// How characters are shown. A colour of `None` is the terminal's default.
+#[derive(Clone, Copy, Debug, PartialEq, Eq)]
+pub struct Rendition {
+    pub bold: bool,
+    pub faint: bool,
+    pub underline: bool,
+    pub blink: bool,
+    pub negative: bool,
+    pub concealed: bool,
+    pub foreground: Option<Color>,
+    pub background: Option<Color>,
+}
+
+impl Rendition {
+    ghost use Rattle.vt_term.specs.Look.{plain};
+
+    /// No marks and the default colours.
+    pub fn plain() -> Rendition
+        ensures { result ≡ plain }
+    {
+        Rendition {
+            bold: false,
+            faint: false,
+            underline: false,
+            blink: false,
+            negative: false,
+            concealed: false,
+            foreground: None,
+            background: None,
+        }
+    }
+}
+
+/// What stands in one place of the display: a byte of 32 to 126, whether it is taken from the
+/// graphic set, and its rendition.
+#[derive(Clone, Copy)]
+pub struct Cell {
+    byte: u8,
+    graphic: bool,
+    rendition: Rendition,
+}
+
+impl Model for Cell {
+    ghost use Rattle.vt_term.specs.Look.{Look};
+
+    ghost Value = { Look };
+
+    ghost view = { λ c. record { byte = c.byte; graphic = c.graphic; rendition = c.rendition } };
+
+    ghost inverse = { λ x. record { byte = x.byte; graphic = x.graphic; rendition = x.rendition } };
+}
+
+impl Cell {
+    ghost use Rattle.vt_term.specs.Look.{blank};
+
+    pub(crate) fn new(byte: u8, graphic: bool, rendition: Rendition) -> Cell
+        ensures { result ≡ record { byte = byte; graphic = graphic; rendition = rendition } }
+    {
+        Cell {
+            byte,
+            graphic,
+            rendition,
+        }
+    }
+
+    /// What a place becomes that is erased while this rendition is set: a space on its background.
+    pub(crate) fn blank(now: Rendition) -> Cell
+        ensures { result ≡ blank now }
+    {
+        let rendition = Rendition {
+            background: now.background,
+            ..Rendition::plain()
+        };
+        Cell::new(b' ', false, rendition)
+    }
+
+    /// The character.
+    pub fn byte(&self) -> u8
+        ensures { result ≡ self.now.byte }
+    {
+        self.byte
+    }
+
+    /// Whether the character is taken from the graphic set.
+    pub fn is_graphic(&self) -> bool
+        ensures { result ≡ self.now.graphic }
+    {
+        self.graphic
+    }
+
+    /// How the character is shown.
+    pub fn rendition(&self) -> Rendition
+        ensures { result ≡ self.now.rendition }
+    {
+        self.rendition
+    }
+}

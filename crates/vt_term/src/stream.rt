@@ -1,0 +1,126 @@
+ghost use Rattle.std.specs.Prelude.{◌≡◌, ◌+◌, ◌<◌, ◌≤◌, [], ◌∷◌, ◌++◌, length, IfOk, IfErr, OnOk, vec_capacity};
+ghost use Rattle.vt_term.specs.Grid.{look_at};
+
+use crate::functions::function_of;
+use crate::limits::Size;
+use crate::looks::Cell;
+use crate::screens::Display;
+use crate::text::{Fit, SEQUENCE_LIMIT, fit_behind};
+use std::alloc::{AllocError, Global};
+use std::marker::Model;
+use thiserror::Error;
+
+/// A byte of a stream that fits nothing, by its place in what was fed.
+#[derive(Clone, Copy, Debug, PartialEq, Eq, Error)]
+#[error("Stuck {at}")]
+pub struct Stuck {
+    pub at: usize,
+}
+
+/// A terminal: the display with its modes, and what has come of a sequence.
+#[derive(Drop)]
+pub struct Terminal {
+    display: Display,
+    rest: Vec<u8>,
+}
+
+impl Model for Terminal {
+    ghost use Rattle.std.specs.Prelude.{◌≤◌, vec_capacity};
+    ghost use Rattle.vt_term.specs.Screen.{State};
+    ghost use Rattle.vt_term.specs.Text.{IsOpen};
+
+    ghost Value = { State };
+
+    ghost view = { λ t. record { screen = t.display; rest = t.rest.items } };
+
+    ghost invariant = { λ t. IsOpen t.rest.items × (256 ≤ vec_capacity t.rest) };
+}
+
+impl Terminal {
+    ghost use Rattle.vt_term.specs.Screen.{reset, IsState};
+    ghost use Rattle.vt_term.specs.Run.{Runs, Sticks, Accepts};
+
+    /// A terminal in the reset state.
+    pub fn new(alloc: Global, size: Size) -> Result<Terminal, AllocError>
+        ensures { IfOk result (λ terminal. terminal ≡ reset size.rows size.cols) }
+    {
+        let rest = Vec::with_capacity(alloc, SEQUENCE_LIMIT)?;
+        let display = Display::new(alloc, size)?;
+        Ok(Terminal { display, rest })
+    }
+
+    /// Takes more of the stream, in pieces of any length. At a byte that fits nothing it stops: the
+    /// bytes before it were taken, and what was open is dropped.
+    pub fn feed(&mut self, bytes: &[u8]) -> Result<(), Stuck>
+        ensures ok { OnOk result (Runs self.old bytes.now self.new) }
+        ensures stuck { IfErr result (λ e. Sticks self.old bytes.now e.at self.new) }
+        ensures rows { self.new.screen.rows ≡ self.old.screen.rows }
+        ensures cols { self.new.screen.cols ≡ self.old.screen.cols }
+    {
+        let _ = &self.rest;
+        for (at, byte) in bytes.iter().enumerate() {
+            if !self.accept(*byte) {
+                return Err(Stuck { at });
+            }
+        }
+        Ok(())
+    }
+
+    /// Takes one byte. If it fits nothing, what was open is dropped.
+    fn accept(&mut self, byte: u8) -> bool
+        ensures accepts { Accepts self.old byte result self.new }
+        ensures rows { self.new.screen.rows ≡ self.old.screen.rows }
+        ensures cols { self.new.screen.cols ≡ self.old.screen.cols }
+    {
+        match fit_behind(&self.rest, byte) {
+            Fit::Opens => {
+                self.rest.push(byte).unwrap();
+                true
+            }
+            Fit::Ends => {
+                self.rest.push(byte).unwrap();
+                self.display.act(function_of(&self.rest));
+                self.rest.clear();
+                true
+            }
+            Fit::Fails => {
+                self.rest.clear();
+                false
+            }
+        }
+    }
+
+    /// The size. The state is always one of that size.
+    pub fn size(&self) -> Size
+        ensures rows { result.rows ≡ self.now.screen.rows }
+        ensures cols { result.cols ≡ self.now.screen.cols }
+        ensures state { IsState self.now }
+    {
+        let _ = &self.display;
+        self.display.size()
+    }
+
+    /// What stands in a place, whose row and column the caller keeps within the size.
+    pub fn cell(&self, row: usize, col: usize) -> Cell
+        requires row_within { row < self.now.screen.rows }
+        requires col_within { col < self.now.screen.cols }
+        ensures { result ≡ look_at self.now.screen.grid row col }
+    {
+        self.display.cell(row, col)
+    }
+
+    /// The cursor's row and column.
+    pub fn cursor(&self) -> (usize, usize)
+        ensures row { result.0 ≡ self.now.screen.row }
+        ensures col { result.1 ≡ self.now.screen.col }
+    {
+        self.display.cursor()
+    }
+
+    /// Whether the last column was printed, so that the next character goes to the next line.
+    pub fn pending(&self) -> bool
+        ensures { result ≡ self.now.screen.pending }
+    {
+        self.display.pending()
+    }
+}
