@@ -103,13 +103,7 @@ fn reach_place(
 }
 
 /// Whether the bytes are whole tokens of which the last leads to the place.
-fn judge(
-    alloc: Global,
-    sent: &[u8],
-    size: Size,
-    row: usize,
-    col: usize,
-) -> Result<(), MissKind>
+fn judge(alloc: Global, sent: &[u8], size: Size, row: usize, col: usize) -> Result<(), MissKind>
     ensures whole { OnOk result (spec.IsWhole sent.now) }
     ensures leads { OnOk result (run.Reaches size.rows size.cols sent.now row col) }
     ensures why { IfErr result (λ kind. spec.Judges sent.now kind) }

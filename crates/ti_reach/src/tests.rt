@@ -29,7 +29,11 @@ fn misses(rt: HostRuntime) -> Result<(), Fail> {
     ];
     for (string, row, col, kind) in cases {
         let miss = Miss { row, col, kind };
-        assert_eq!(rt; reach_cup(rt.alloc(), string, size), Err(miss), "{string:?}");
+        assert_eq!(rt;
+            reach_cup(rt.alloc(), string, size),
+            Err(miss),
+            "{string:?}"
+        );
     }
     Ok(())
 }

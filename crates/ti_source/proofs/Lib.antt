@@ -1,2 +1,11 @@
 pub mod Decodings
 pub mod Tests
+pub mod Layouts
+pub mod Capping
+pub mod Entries
+pub mod Fitting
+pub mod Spellings
+pub mod Words
+pub mod ReadBack
+pub mod RoundTrip
+pub mod Lengths

@@ -7,7 +7,7 @@ use std::alloc::{AllocError, Global};
 use thiserror::Error;
 
 /// The most bytes that a string has.
-pub const MAX_STRING: usize = 4095;
+pub(crate) const MAX_STRING: usize = 4095;
 
 /// Why a string cannot be taken out of its escapes.
 #[derive(Clone, Copy, Debug, PartialEq, Eq, Error)]

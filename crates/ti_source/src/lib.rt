@@ -1,6 +1,16 @@
 //! terminfo source text: reading, printing, and the escapes of its strings, terminfo(5).
 #![tactic(auto)]
 
+mod draft;
 mod escapes;
+mod layout;
+mod numbers;
+mod parts;
+mod printing;
+mod source;
+mod types;
 
 pub use escapes::{EscapeFault, unescape};
+pub use printing::{print, printing_reads_back};
+pub use source::read;
+pub use types::{FaultKind, Field, Fields, Note, NoteKind, Notes, RawEntry, SourceFault};

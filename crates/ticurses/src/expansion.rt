@@ -2,6 +2,7 @@
 
 use crate::decimal::decimal_number;
 use crate::failure::{Failure, Refusal, Reply};
+use crate::sizes::{not_a_number, number_word, size_of};
 use clap::ArgMatches;
 use smallvec::SmallVec;
 use std::alloc::{AllocError, Global};
@@ -48,16 +49,14 @@ pub fn perform(alloc: Global, matches: &ArgMatches<'_>) -> Result<Reply, Failure
             if request.cup {
                 push_cup(alloc, string.as_slice(), size, &mut text)?;
             }
-            Ok(Reply {
-                text,
-                refusal: None,
-            })
+            Ok(Reply::of_text(alloc, text.into_bytes()))
         }
         Err(fault) => match fault.kind {
             TokenFaultKind::NoMemory => Err(Failure::NoMemory),
             _ => Ok(Reply {
-                text,
-                refusal: Some(Refusal::Token(fault)),
+                notes: Vec::new(alloc),
+                text: text.into_bytes(),
+                failure: Some(Failure::Refused(Refusal::Token(fault))),
             }),
         },
     }
@@ -112,14 +111,6 @@ fn read_request<'a>(alloc: Global, matches: &ArgMatches<'a>) -> Result<Request<'
     })
 }
 
-fn number_word(alloc: Global, matches: &ArgMatches<'_>, name: &str) -> Result<u32, Failure> {
-    let word = matches.get_str(name).unwrap_or("");
-    match decimal_number(word) {
-        Some(number) => Ok(number),
-        None => Err(not_a_number(alloc, name, word)),
-    }
-}
-
 fn read_params(alloc: Global, words: &[&str]) -> Result<Params, Failure> {
     let mut params = SmallVec::new(alloc);
     for word in words {
@@ -131,16 +122,4 @@ fn read_params(alloc: Global, words: &[&str]) -> Result<Params, Failure> {
         }
     }
     Ok(params)
-}
-
-/// A word that stands where a number belongs.
-fn not_a_number(alloc: Global, name: &str, word: &str) -> Failure {
-    let text = format!(in alloc;
-        "error: invalid value '{word}' for {name}: a decimal number up to 2147483647 is wanted\n\n\
-         For more information, try '--help'.\n"
-    );
-    match text {
-        Ok(text) => Failure::Usage(text),
-        Err(_) => Failure::NoMemory,
-    }
 }

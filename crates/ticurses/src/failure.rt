@@ -3,24 +3,40 @@
 ghost use Rattle.std.specs.Prelude.{◌≡◌};
 ghost use Rattle.ticurses.specs.Status.{status_of};
 
-use std::alloc::{AllocError, AllocFailed};
+use std::alloc::{AllocError, AllocFailed, Global};
+use std::io;
 use std::io::Write;
 use thiserror::Error;
+use ti_compiled::PackFault;
 use ti_parm::ParmFault;
-use ti_source::EscapeFault;
-use vt_term::TokenFault;
+use ti_resolve::ResolveFault;
+use ti_source::{EscapeFault, SourceFault};
+use vt_term::{Stuck, TokenFault};
 
-/// What a command has to say on standard output, and its refusal if it has one.
+/// What a command has to say, and why it stopped if it did.
 #[derive(Debug, Drop)]
 pub struct Reply {
-    /// The text of standard output.
-    pub text: String,
-    /// Why the rest is missing.
-    pub refusal: Option<Refusal>,
+    /// What standard error gets first.
+    pub notes: Vec<u8>,
+    /// What standard output gets.
+    pub text: Vec<u8>,
+    /// Why there is no more.
+    pub failure: Option<Failure>,
+}
+
+impl Reply {
+    /// A reply that is all on standard output.
+    pub fn of_text(alloc: Global, text: Vec<u8>) -> Reply {
+        Reply {
+            notes: Vec::new(alloc),
+            text,
+            failure: None,
+        }
+    }
 }
 
 /// What was asked for is understood and can't be done.
-#[derive(Clone, Copy, Debug, Error)]
+#[derive(Debug, Drop, Error)]
 pub enum Refusal {
     /// Rows are 2 to 200, columns 2 to 500.
     #[error("BadSize")]
@@ -34,6 +50,18 @@ pub enum Refusal {
     /// The expanded bytes are no whole text of the terminal.
     #[error("{0}")]
     Token(TokenFault),
+    /// A byte of a stream fits nothing.
+    #[error("{0}")]
+    Stuck(Stuck),
+    /// The source text has a fault.
+    #[error("{0}")]
+    Source(SourceFault),
+    /// The entry can't be had from its source; the name stands behind the kind.
+    #[error("{0}")]
+    Resolve(ResolveFault),
+    /// The compiled file has a fault, or the entry can't be compiled.
+    #[error("{0}")]
+    Pack(PackFault),
 }
 
 /// Why a command ends with another status than 0. The text is what standard error gets.
@@ -48,6 +76,9 @@ pub enum Failure {
     /// The line can't be understood; the text says why.
     #[error("{0}")]
     Usage(String),
+    /// The file of this path can't be read or written, or is too long.
+    #[error("file: {0}\n")]
+    File(String),
     /// Standard output didn't take the answer.
     #[error("output\n")]
     Output,
@@ -64,7 +95,7 @@ impl Failure {
         match self {
             Failure::Refused(_) | Failure::RefusedUnwritten(_) => 1,
             Failure::Usage(_) => 2,
-            Failure::Output => 3,
+            Failure::File(_) | Failure::Output => 3,
             Failure::NoMemory => 4,
         }
     }
@@ -82,11 +113,41 @@ impl<T: Drop> From<AllocFailed<T>> for Failure {
     }
 }
 
+/// The failure of the file at `path`.
+pub fn file_failure(alloc: Global, path: &str) -> Failure {
+    match String::from_str(alloc, path) {
+        Ok(path) => Failure::File(path),
+        Err(_) => Failure::NoMemory,
+    }
+}
+
+/// The failure of a line that this text explains.
+pub fn wrong_line(alloc: Global, text: &str) -> Failure {
+    match String::from_str(alloc, text) {
+        Ok(text) => Failure::Usage(text),
+        Err(_) => Failure::NoMemory,
+    }
+}
+
 /// Tells the failure on `err`, and answers the exit status. A standard error that takes nothing
 /// changes neither.
 pub fn told<E: Write>(failure: &Failure, err: &mut E) -> u8
     ensures { result ≡ status_of failure.now }
 {
-    let _ = write!(err, "{failure}");
+    let _ = match failure {
+        Failure::Refused(Refusal::Resolve(fault)) => tell_name(fault, err),
+        _ => write!(err, "{failure}"),
+    };
     failure.status()
+}
+
+/// A name is told as the bytes that it has in the source.
+fn tell_name<E: Write>(fault: &ResolveFault, err: &mut E) -> io::Result<()> {
+    write!(err, "refused: {fault} ")?;
+    match fault {
+        ResolveFault::NoSuchEntry(name) | ResolveFault::Cycle(name) | ResolveFault::TooMany(name) =>
+            err.write_all(name.as_slice())?,
+        ResolveFault::NoMemory => {}
+    }
+    err.write_all(b"\n")
 }

@@ -2,10 +2,15 @@
 #![tactic(auto)]
 
 mod decimal;
+mod describing;
+mod entries;
 mod expansion;
 mod failure;
+mod feeding;
 mod files;
+mod reading;
 mod run;
+mod sizes;
 #[cfg(test)]
 mod tests;
 mod words;

@@ -5,13 +5,40 @@ use crate::run::command;
 use std::alloc::{AllocError, Global};
 use std::collections::VecDeque;
 use std::io;
-use std::io::{ErrorKind, Write};
+use std::io::{ErrorKind, Read, Write};
 use std::process::Abort;
 use std::test::Fail;
 
 /// No file is there.
 #[derive(Drop)]
 struct NoFiles;
+
+/// One file, with these bytes.
+#[derive(Drop)]
+struct OneFile<'a> {
+    alloc: Global,
+    path: &'a str,
+    bytes: &'a [u8],
+}
+
+impl Files for OneFile<'_> {
+    type File = VecDeque<u8>;
+
+    fn reader(&mut self, path: &str) -> Result<VecDeque<u8>, FileFault> {
+        if path != self.path {
+            return Err(FileFault::Failed);
+        }
+        let mut file = VecDeque::new(self.alloc);
+        for byte in self.bytes {
+            file.push_back(*byte).map_err(|_| FileFault::NoMemory)?;
+        }
+        Ok(file)
+    }
+
+    fn store(&mut self, _path: &str, _bytes: &[u8]) -> Result<(), FileFault> {
+        Err(FileFault::Failed)
+    }
+}
 
 impl Files for NoFiles {
     type File = VecDeque<u8>;
@@ -289,6 +316,138 @@ fn tells_a_closed_output(rt: HostRuntime) -> Result<(), Fail> {
             &mut Closed,
         );
         assert_eq!(rt; silent, want, "{words:?}");
+    }
+    Ok(())
+}
+
+#[test]
+fn feeds(rt: HostRuntime) -> Result<(), Fail> {
+    let alloc = rt.alloc();
+    let cases: [(&str, &[u8], u8, &str, &str); 7] = [
+        ("f", b"abcde", 0, "abcd\ne   \ncursor 1 1\n", ""),
+        ("f", b"abcdefghi", 0, "efgh\ni   \ncursor 1 1\n", ""),
+        ("f", b"", 0, "    \n    \ncursor 0 0\n", ""),
+        ("f", b"\x1b[1", 0, "    \n    \ncursor 0 0\n", ""),
+        ("f", b"ab\x1b[2Jc", 0, "  c \n    \ncursor 0 3\n", ""),
+        ("f", b"\x1b[\x07", 1, "", "refused: Stuck 2\n"),
+        ("g", b"abcde", 3, "", "file: f\n"),
+    ];
+    for (path, bytes, status, out, err) in cases {
+        let line = words_of(alloc, &["feed", "2", "4", "f"])?;
+        let mut files = OneFile { alloc, path, bytes };
+        let mut told = Vec::new(alloc);
+        let mut failed = Vec::new(alloc);
+        let got = command(alloc, line.as_slice(), &mut files, &mut told, &mut failed);
+        assert_eq!(rt; told.as_slice(), out.as_bytes(), "{bytes:?}");
+        assert_eq!(rt; failed.as_slice(), err.as_bytes(), "{bytes:?}");
+        assert_eq!(rt; got, status, "{bytes:?}");
+    }
+    Ok(())
+}
+
+/// A file without end.
+#[derive(Drop)]
+struct Endless;
+
+impl Read for Endless {
+    fn read(&mut self, buffer: &mut [u8]) -> io::Result<usize> {
+        for byte in buffer.iter_mut() {
+            *byte = b'x';
+        }
+        Ok(buffer.len())
+    }
+}
+
+#[derive(Drop)]
+struct EndlessFiles;
+
+impl Files for EndlessFiles {
+    type File = Endless;
+
+    fn reader(&mut self, _path: &str) -> Result<Endless, FileFault> {
+        Ok(Endless)
+    }
+
+    fn store(&mut self, _path: &str, _bytes: &[u8]) -> Result<(), FileFault> {
+        Err(FileFault::Failed)
+    }
+}
+
+#[test]
+fn stops_reading_past_the_limit(rt: HostRuntime) -> Result<(), Fail> {
+    let alloc = rt.alloc();
+    let line = words_of(alloc, &["feed", "2", "4", "f"])?;
+    let mut out = Vec::new(alloc);
+    let mut err = Vec::new(alloc);
+    let status = command(
+        alloc,
+        line.as_slice(),
+        &mut EndlessFiles,
+        &mut out,
+        &mut err,
+    );
+    assert_eq!(rt; status, 3);
+    assert_eq!(rt; err.as_slice(), b"file: f\n".as_slice());
+    assert_eq!(rt; out.len(), 0);
+    Ok(())
+}
+
+/// The lines of the source of these tests.
+const SOURCE: &[u8] = b"# a comment\r
+x|x, use=y, use=z,\r
+y|y, el@,
+z|z, el=\\E[K, am, bogus=1, am,
+\tel1=\\q, cols#80,
+a|a, use=b,
+b|b, use=a,
+q|q, use=r,";
+
+#[test]
+fn describes(rt: HostRuntime) -> Result<(), Fail> {
+    let alloc = rt.alloc();
+    let notes = "note line 4: UnknownName\nnote line 4: Duplicate\nnote line 5: OddEscape\n";
+    let cases: [(&[&str], u8, &str, &str); 12] = [
+        (
+            &["infocmp", "f:x"],
+            0,
+            "x|x,\n\tam,\n\tcols#80,\n\tel1=q,\n",
+            "",
+        ),
+        (
+            &["infocmp", "f:z"],
+            0,
+            "z|z,\n\tam,\n\tcols#80,\n\tel=\\E[K,\n\tel1=q,\n",
+            "",
+        ),
+        (&["infocmp", "f:y"], 0, "y|y,\n", ""),
+        (&["infocmp", "-c", "f:x", "f:z"], 0, "am\ncols\nel1\n", ""),
+        (&["tic", "f:x"], 0, "", notes),
+        (&["infocmp", "f:a"], 1, "", "refused: Cycle a\n"),
+        (&["infocmp", "f:q"], 1, "", "refused: NoSuchEntry r\n"),
+        (&["infocmp", "f:no"], 1, "", "refused: NoSuchEntry no\n"),
+        (&["infocmp", "g:x"], 3, "", "file: g\n"),
+        (&["infocmp", "f"], 1, "", "refused: BadMagic\n"),
+        (
+            &["tic", "f:x", "--out", "full"],
+            3,
+            "",
+            "note line 4: UnknownName\nnote line 4: Duplicate\nnote line 5: OddEscape\nfile: full\n",
+        ),
+        (&["infocmp", "--", "f:"], 1, "", "refused: NoSuchEntry \n"),
+    ];
+    for (words, status, out, err) in cases {
+        let line = words_of(alloc, words)?;
+        let mut files = OneFile {
+            alloc,
+            path: "f",
+            bytes: SOURCE,
+        };
+        let mut told = Vec::new(alloc);
+        let mut failed = Vec::new(alloc);
+        let got = command(alloc, line.as_slice(), &mut files, &mut told, &mut failed);
+        assert_eq!(rt; failed.as_slice(), err.as_bytes(), "{words:?}");
+        assert_eq!(rt; told.as_slice(), out.as_bytes(), "{words:?}");
+        assert_eq!(rt; got, status, "{words:?}");
     }
     Ok(())
 }

@@ -4,5 +4,7 @@ pub mod Sequences
 pub mod Fits
 pub mod Splitting
 pub mod Scanning
-pub mod Numbers
+pub mod Decimals
 pub mod Running
+pub mod Styles
+pub mod Erasing

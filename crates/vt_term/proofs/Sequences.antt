@@ -119,34 +119,37 @@ made_whole x y body ps is f ex ey e hp hi hf short = record {
   short = omega (arith, short, length-append body (f ∷ []));
 }
 
+final_72 : IsFinal 72
+final_72 = (omega arith, omega arith)
+
 -- one byte more
 pub made_open : (x y b : ℕ) (body ps is : List ℕ) → x ≡ 27 → y ≡ 91 → body ++ b ∷ [] ≡ ps ++ is → AllByRecursion IsParameter ps → AllByRecursion IsIntermediate is → length body + 1 ≤ 253
     → IsOpen (x ∷ y ∷ (body ++ b ∷ []))
 made_open x y b body ps is ex ey e hp hi short = record {
   more = 72 ∷ [];
   some = omega arith;
-  whole = made_whole x y (body ++ b ∷ []) ps is 72 ex ey e hp hi refl (omega (arith, short, length-append body (b ∷ [])));
+  whole = made_whole x y (body ++ b ∷ []) ps is 72 ex ey e hp hi final_72 (omega (arith, short, length-append body (b ∷ [])));
 }
 
 pub empty_open : IsOpen []
 empty_open = record {
   more = 27 ∷ 91 ∷ 72 ∷ [];
   some = omega arith;
-  whole = record { parameters = []; intermediates = []; final = 72; spelled = refl; each_parameter = tt; each_intermediate = tt; ends = refl; short = omega arith };
+  whole = record { parameters = []; intermediates = []; final = 72; spelled = refl; each_parameter = tt; each_intermediate = tt; ends = final_72; short = omega arith };
 }
 
 pub escape_open : (b : ℕ) → b ≡ 27 → IsOpen (b ∷ [])
 escape_open b e = record {
   more = 91 ∷ 72 ∷ [];
   some = omega arith;
-  whole = record { parameters = []; intermediates = []; final = 72; spelled = ap (λ (x : ℕ). x ∷ 91 ∷ 72 ∷ []) e; each_parameter = tt; each_intermediate = tt; ends = refl; short = omega arith };
+  whole = record { parameters = []; intermediates = []; final = 72; spelled = ap (λ (x : ℕ). x ∷ 91 ∷ 72 ∷ []) e; each_parameter = tt; each_intermediate = tt; ends = final_72; short = omega arith };
 }
 
 pub introducer_open : (x b : ℕ) → x ≡ 27 → b ≡ 91 → IsOpen (x ∷ b ∷ [])
 introducer_open x b e k = record {
   more = 72 ∷ [];
   some = omega arith;
-  whole = made_whole x b [] [] [] 72 e k refl tt tt refl (omega arith);
+  whole = made_whole x b [] [] [] 72 e k refl tt tt final_72 (omega arith);
 }
 
 pub sequence_escape : (b : ℕ) (bytes : List ℕ) → IsSequence (b ∷ bytes) → b ≡ 27
@@ -162,7 +165,7 @@ pub open_escape : (b : ℕ) (bytes : List ℕ) → IsOpen (b ∷ bytes) → b �
 open_escape b bytes h = sequence_escape b (bytes ++ h.more) h.whole
 
 pub single_escape : (b : ℕ) → b ≡ 27 → IsPrinted b ⊎ IsControl b → ⊥
-single_escape b e h = elim h [ inl p ↦ omega (arith, e, p.0) | inr c ↦ elim c [ inl k ↦ omega (arith, e, k) | inr d ↦ elim d [ inl k ↦ omega (arith, e, k) | inr k ↦ omega (arith, e, k) ] ] ]
+single_escape b e h = elim h [ inl p ↦ omega (arith, e, p.0) | inr c ↦ elim c [ inl k ↦ omega (arith, e, k.1) | inr k ↦ omega (arith, e, k.1) ] ]
 
 pub sequence_final : (x y : ℕ) (body : List ℕ) (b : ℕ) → IsSequence (x ∷ y ∷ (body ++ b ∷ [])) → IsFinal b
 sequence_final x y body b h =
@@ -182,7 +185,7 @@ middle : (ps is : List ℕ) → AllByRecursion IsParameter ps → AllByRecursion
 middle ps is hp hi = all_append (λ b. b < 64) ps is (all_weaker IsParameter (λ b. b < 64) (λ b h. omega (arith, h.1)) ps hp) (all_weaker IsIntermediate (λ b. b < 64) (λ b h. omega (arith, h.1)) is hi)
 
 final_high : (f : ℕ) → IsFinal f → 64 ≤ f
-final_high f e = omega (arith, e)
+final_high f e = e.0
 
 -- no sequence begins another
 sequence_ends : (bytes more : List ℕ) → IsSequence bytes → IsSequence (bytes ++ more) → more ≡ []

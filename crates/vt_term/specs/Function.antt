@@ -1,26 +1,89 @@
--- What a token asks for (ECMA-48 8.3: BS, CR, CUP, LF).
-use Rattle.std.specs.Prelude.{ℕ, ◌-◌, ◌==◌, ◌&&◌, nat_le, List, [], ◌∷◌, length, take, slice_index, if◌then◌else◌, Option}
-use Rattle.std.specs.List.{list_all}
+-- What a token asks for (ECMA-48 8.3; VT100 user guide for DECSTBM, DECAWM and the character sets).
+use Rattle.std.specs.Prelude.{ℕ, ◌-◌, ◌==◌, ◌&&◌, ◌||◌, nat_le, true, false, List, [], ◌∷◌, length, take, if◌then◌else◌, Option}
+use Rattle.std.specs.Option.{unwrap_or}
+use Rattle.std.specs.List.{list_all, slice_index}
+use Rattle.vt_term.specs.declared.functions.Part.TheVariants.{ToEnd, FromStart, Whole}
 use Rattle.vt_term.specs.declared.functions.Function.{Function}
-use Rattle.vt_term.specs.declared.functions.Function.TheVariants.{Print, LineFeed, CarriageReturn, Backspace, CursorPosition, Ignored}
+use Rattle.vt_term.specs.declared.functions.Function.TheVariants.{Print, LineFeed, CarriageReturn, Backspace, Tab, ShiftOut, ShiftIn, CursorUp, CursorDown, CursorForward, CursorBack, CursorColumn, CursorRow, CursorPosition, EraseLine, EraseDisplay, EraseCells, InsertCells, DeleteCells, InsertLines, DeleteLines, ScrollUp, ScrollDown, Margins, SelectRendition, Modes, Ignored}
 use Rattle.vt_term.specs.Numbers.{numbers, is_numeral, counted}
 
 -- a byte outside sequences
 abbrev pub single : ℕ → Function
 single b = if nat_le 32 b && nat_le b 126 then Print b
     else (if b == 8 then Backspace
+    else (if b == 9 then Tab
     else (if b == 10 then LineFeed
     else (if b == 13 then CarriageReturn
-    else Ignored)))
+    else (if b == 14 then ShiftOut
+    else (if b == 15 then ShiftIn
+    else Ignored))))))
 
 abbrev pub cursor_position : List (Option ℕ) → Function
 cursor_position (row ∷ []) = CursorPosition (counted row) 1
 cursor_position (row ∷ col ∷ []) = CursorPosition (counted row) (counted col)
 cursor_position _ = Ignored
 
--- a control sequence, by its final byte and what stands before it; what names no function has no effect
+abbrev pub margins : List (Option ℕ) → Function
+margins (first ∷ []) = Margins (unwrap_or first 0) 0
+margins (first ∷ last ∷ []) = Margins (unwrap_or first 0) (unwrap_or last 0)
+margins _ = Ignored
+
+abbrev pub line_part : ℕ → Function
+line_part n = if n == 0 then EraseLine ToEnd else (if n == 1 then EraseLine FromStart else (if n == 2 then EraseLine Whole else Ignored))
+
+abbrev pub display_part : ℕ → Function
+display_part n = if n == 0 then EraseDisplay ToEnd else (if n == 1 then EraseDisplay FromStart else (if n == 2 then EraseDisplay Whole else Ignored))
+
+-- the functions of one count
+abbrev pub counting : ℕ → ℕ → Function
+counting final n =
+    if final == 64 then InsertCells n
+    else (if final == 65 then CursorUp n
+    else (if final == 66 then CursorDown n
+    else (if final == 67 then CursorForward n
+    else (if final == 68 then CursorBack n
+    else (if final == 71 then CursorColumn n
+    else (if final == 76 then InsertLines n
+    else (if final == 77 then DeleteLines n
+    else (if final == 80 then DeleteCells n
+    else (if final == 83 then ScrollUp n
+    else (if final == 84 then ScrollDown n
+    else (if final == 88 then EraseCells n
+    else (if final == 100 then CursorRow n
+    else Ignored))))))))))))
+
+-- the functions of one number
+abbrev pub by_number : ℕ → Option ℕ → Function
+by_number final n =
+    if final == 74 then display_part (unwrap_or n 0)
+    else (if final == 75 then line_part (unwrap_or n 0)
+    else counting final (counted n))
+
+abbrev pub of_one_number : ℕ → List (Option ℕ) → Function
+of_one_number final (n ∷ []) = by_number final n
+of_one_number final _ = Ignored
+
+-- a control sequence of these numbers, by its final byte; what names no function has no effect
+abbrev pub of_numbers : ℕ → List (Option ℕ) → Function
+of_numbers final ns =
+    if (final == 72) || (final == 102) then cursor_position ns
+    else (if final == 114 then margins ns
+    else (if final == 109 then SelectRendition ns
+    else (if final == 104 then Modes false true ns
+    else (if final == 108 then Modes false false ns
+    else of_one_number final ns))))
+
+abbrev pub of_private_numbers : ℕ → List (Option ℕ) → Function
+of_private_numbers final ns = if final == 104 then Modes true true ns else (if final == 108 then Modes true false ns else Ignored)
+
+-- a question mark and numbers
+abbrev pub marked : ℕ → List ℕ → Function
+marked final [] = Ignored
+marked final (b ∷ bytes) = if (b == 63) && list_all is_numeral bytes then of_private_numbers final (numbers bytes) else Ignored
+
+-- a control sequence by its final byte and what stands before it
 abbrev pub named : ℕ → List ℕ → Function
-named final front = if (final == 72) && list_all is_numeral front then cursor_position (numbers front) else Ignored
+named final front = if list_all is_numeral front then of_numbers final (numbers front) else marked final front
 
 -- what stands behind ESC [
 abbrev pub sequence : List ℕ → Function

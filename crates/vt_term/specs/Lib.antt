@@ -1,4 +1,5 @@
 pub mod Size
+pub mod Color
 pub mod Look
 pub mod Grid
 pub mod Text
@@ -8,3 +9,4 @@ pub mod Function
 pub mod Step
 pub mod Run
 pub mod Fault
+pub mod Printed

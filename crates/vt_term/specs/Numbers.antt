@@ -37,3 +37,8 @@ counted (Some n) = max 1 n
 abbrev pub numbers_left : Option (List ℕ) → List (Option ℕ)
 numbers_left None = []
 numbers_left (Some bytes) = numbers bytes
+
+-- the numbers that are left, if any
+abbrev pub list_left : Option (List (Option ℕ)) → List (Option ℕ)
+list_left None = []
+list_left (Some ns) = ns

@@ -5,9 +5,9 @@ use Rattle.std.specs.List.{AllByRecursion}
 abbrev pub IsPrinted : ℕ → Type 0
 IsPrinted b = (32 ≤ b) × (b ≤ 126)
 
--- backspace, line feed and carriage return: the controls that this terminal takes so far
+-- the controls that this terminal takes so far
 abbrev pub IsControl : ℕ → Type 0
-IsControl b = (b ≡ 8) ⊎ (b ≡ 10) ⊎ (b ≡ 13)
+IsControl b = ((8 ≤ b) × (b ≤ 10)) ⊎ ((13 ≤ b) × (b ≤ 15))
 
 abbrev pub IsParameter : ℕ → Type 0
 IsParameter b = (0x30 ≤ b) × (b ≤ 0x3f)
@@ -15,9 +15,8 @@ IsParameter b = (0x30 ≤ b) × (b ≤ 0x3f)
 abbrev pub IsIntermediate : ℕ → Type 0
 IsIntermediate b = (0x20 ≤ b) × (b ≤ 0x2f)
 
--- the final bytes that this terminal takes so far: H
 abbrev pub IsFinal : ℕ → Type 0
-IsFinal b = b ≡ 0x48
+IsFinal b = (0x40 ≤ b) × (b ≤ 0x7e)
 
 -- ESC [, parameter bytes, intermediate bytes and one final byte; at most 256 bytes
 pub record IsSequence (bytes : List ℕ) : Type 0 where

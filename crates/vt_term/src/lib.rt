@@ -7,11 +7,13 @@ pub mod laws;
 mod limits;
 mod lines;
 mod looks;
+mod printing;
 mod screens;
+mod sheets;
 mod stream;
 mod text;
 
-pub use functions::Function;
+pub use functions::{Function, Numbers, Part};
 pub use limits::Size;
 pub use looks::{Cell, Color, Rendition};
 pub use stream::{Stuck, Terminal};

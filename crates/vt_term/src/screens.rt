@@ -1,12 +1,14 @@
-ghost use Rattle.std.specs.Prelude.{◌≡◌, ◌+◌, ◌-◌, ◌<◌, ◌≤◌, length, replicate, ℕ, IfOk};
-ghost use Rattle.vt_term.specs.Grid.{look_at, line_at, filled, scrolled_up, HasEvenLines};
-ghost use Rattle.vt_term.specs.Look.{space};
+ghost use Rattle.std.specs.Prelude.{◌≡◌, ◌==◌, ◌+◌, ◌-◌, ◌^◌, ◌<◌, ◌≤◌, min, max, nat_le, if◌then◌else◌, IfOk};
+ghost use Rattle.vt_term.specs.Grid.{look_at};
+ghost use Rattle.vt_term.specs.Look.{blank};
+ghost use Rattle.vt_term.specs.Step as spec;
 ghost use Rattle.vt_term.specs.Text.{IsPrinted};
 
-use crate::functions::Function;
+use crate::functions::{Function, Numbers, Part};
 use crate::limits::Size;
-use crate::lines::Line;
-use crate::looks::{Cell, Rendition};
+use crate::looks::{Cell, Rendition, color_of};
+use crate::printing;
+use crate::sheets::Sheet;
 use std::alloc::{AllocError, Global};
 use std::marker::Model;
 
@@ -38,7 +40,7 @@ impl Charset {
 #[derive(Drop)]
 pub(crate) struct Display {
     size: Size,
-    lines: Vec<Line>,
+    sheet: Sheet,
     row: usize,
     col: usize,
     pending: bool,
@@ -59,7 +61,7 @@ impl Model for Display {
     ghost view = { λ d. record {
       rows = d.size.rows;
       cols = d.size.cols;
-      grid = d.lines.items;
+      grid = d.sheet;
       row = d.row;
       col = d.col;
       pending = d.pending;
@@ -75,7 +77,7 @@ impl Model for Display {
     ghost invariant = { λ d. IsScreen (record {
       rows = d.size.rows;
       cols = d.size.cols;
-      grid = d.lines.items;
+      grid = d.sheet;
       row = d.row;
       col = d.col;
       pending = d.pending;
@@ -91,16 +93,16 @@ impl Model for Display {
 
 impl Display {
     ghost use Rattle.vt_term.specs.Screen.{reset_screen, IsScreen};
-    ghost use Rattle.vt_term.specs.Step as spec;
+    ghost use Rattle.vt_term.specs.Printed.{screen_text};
 
     /// The reset state.
     pub fn new(alloc: Global, size: Size) -> Result<Display, AllocError>
         ensures { IfOk result (λ d. d ≡ reset_screen size.rows size.cols) }
     {
-        let lines = blank_lines(alloc, size)?;
+        let sheet = Sheet::new(alloc, size)?;
         Ok(Display {
             size,
-            lines,
+            sheet,
             row: 0,
             col: 0,
             pending: false,
@@ -131,7 +133,7 @@ impl Display {
         requires col_within { col < self.now.cols }
         ensures { result ≡ look_at self.now.grid row col }
     {
-        self.lines[row].get(col)
+        self.sheet.get(row, col)
     }
 
     pub fn cursor(&self) -> (usize, usize)
@@ -147,12 +149,76 @@ impl Display {
         self.pending
     }
 
-    /// The region scrolls up by a line.
-    fn scroll_up(&mut self)
-        ensures { self.new ≡ spec.scrolls 1 self.old }
+    pub fn rendition(&self) -> Rendition
+        ensures { result ≡ self.now.rendition }
+    {
+        self.rendition
+    }
+
+    pub fn visible(&self) -> bool
+        ensures { result ≡ self.now.visible }
+    {
+        self.visible
+    }
+
+    pub fn print_screen(&self, alloc: Global) -> Result<Vec<u8>, AllocError>
+        ensures { IfOk result (λ text. text.items ≡ screen_text self.now) }
+    {
+        let mut text = Vec::new(alloc);
+        printing::push_rows(&mut text, self.sheet.lines())?;
+        printing::push_cursor(alloc, &mut text, self.row, self.col, self.visible)?;
+        printing::push_looks(alloc, &mut text, self.sheet.lines())?;
+        Ok(text)
+    }
+
+    /// What erased cells become now.
+    fn blank(&self) -> Cell
+        ensures { result ≡ blank self.now.rendition }
+    {
+        Cell::blank(self.rendition)
+    }
+
+    /// Moves the cursor, which is no longer behind the last column.
+    fn go_to(&mut self, row: usize, col: usize)
+        requires row_within { row < self.old.rows }
+        requires col_within { col < self.old.cols }
+        ensures { self.new ≡ spec.goes_to row col self.old }
+    {
+        self.row = row;
+        self.col = col;
+        self.pending = false;
+    }
+
+    /// Lines of the region scroll up.
+    fn lines_up(&mut self, top: usize, bottom: usize, n: usize)
+        requires ordered { top ≤ bottom }
+        requires within { bottom < self.old.rows }
+        ensures { self.new ≡ spec.lines_up top bottom n self.old }
     {
         let blank = Cell::blank(self.rendition);
-        lines_up(&mut self.lines, self.top, self.bottom, 1, blank);
+        self.sheet.scroll_up(top, bottom, n, blank);
+    }
+
+    /// Lines of the region scroll down.
+    fn lines_down(&mut self, top: usize, bottom: usize, n: usize)
+        requires ordered { top ≤ bottom }
+        requires within { bottom < self.old.rows }
+        ensures { self.new ≡ spec.lines_down top bottom n self.old }
+    {
+        let blank = Cell::blank(self.rendition);
+        self.sheet.scroll_down(top, bottom, n, blank);
+    }
+
+    fn scroll_up(&mut self, n: u16)
+        ensures { self.new ≡ spec.lines_up self.old.top self.old.bottom n self.old }
+    {
+        self.lines_up(self.top, self.bottom, n as usize);
+    }
+
+    fn scroll_down(&mut self, n: u16)
+        ensures { self.new ≡ spec.lines_down self.old.top self.old.bottom n self.old }
+    {
+        self.lines_down(self.top, self.bottom, n as usize);
     }
 
     fn line_feed(&mut self)
@@ -160,10 +226,28 @@ impl Display {
     {
         self.pending = false;
         if self.row == self.bottom {
-            self.scroll_up();
+            self.scroll_up(1);
         } else if self.row + 1 < self.size.rows {
             self.row += 1;
         }
+    }
+
+    fn reverse_index(&mut self)
+        ensures { self.new ≡ spec.reverse_index self.old }
+    {
+        self.pending = false;
+        if self.row == self.top {
+            self.scroll_down(1);
+        } else {
+            self.row = self.row.saturating_sub(1);
+        }
+    }
+
+    fn next_line(&mut self)
+        ensures { self.new ≡ spec.act Function.NextLine self.old }
+    {
+        self.col = 0;
+        self.line_feed();
     }
 
     /// Goes to the next line if the last column was printed.
@@ -171,108 +255,393 @@ impl Display {
         ensures { self.new ≡ spec.wrapped self.old }
     {
         if self.pending {
-            self.col = 0;
-            self.line_feed();
+            self.next_line();
         }
+    }
+
+    fn insert_cells(&mut self, n: u16)
+        ensures { self.new ≡ spec.inserted n self.old }
+    {
+        let blank = Cell::blank(self.rendition);
+        self.sheet.insert(self.row, self.col, n as usize, blank);
+    }
+
+    fn delete_cells(&mut self, n: u16)
+        ensures { self.new ≡ spec.deleted n self.old }
+    {
+        let blank = Cell::blank(self.rendition);
+        self.sheet.delete(self.row, self.col, n as usize, blank);
+    }
+
+    /// With insertion on makes room for a character.
+    fn open(&mut self)
+        ensures { self.new ≡ spec.opened self.old }
+    {
+        if self.inserting {
+            self.insert_cells(1);
+        }
+    }
+
+    fn place(&mut self, byte: u8)
+        requires { IsPrinted byte }
+        ensures { self.new ≡ spec.placed byte self.old }
+    {
+        let graphic = self.charset.is_graphic() & (byte >= 95);
+        self.sheet.put(self.row, self.col, Cell::new(byte, graphic, self.rendition));
+        self.pending = (self.col + 1 == self.size.cols) & self.autowrap;
+        self.col = (self.col + 1).min(self.size.cols - 1);
     }
 
     fn print(&mut self, byte: u8)
         requires { IsPrinted byte }
         ensures { self.new ≡ spec.printed byte self.old }
     {
-        let graphic = self.charset.is_graphic() & (byte >= 95);
-        self.lines[self.row].set(self.col, Cell::new(byte, graphic, self.rendition));
-        self.pending = (self.col + 1 == self.size.cols) & self.autowrap;
-        self.col = (self.col + 1).min(self.size.cols - 1);
+        self.wrap();
+        self.open();
+        self.place(byte);
     }
 
-    fn go_to(&mut self, row: u16, col: u16)
+    fn tab(&mut self)
+        ensures { self.new ≡ spec.act Function.Tab self.old }
+    {
+        self.go_to(self.row, ((self.col / 8 + 1) * 8).min(self.size.cols - 1));
+    }
+
+    fn cursor_up(&mut self, n: u16)
+        ensures { self.new ≡ spec.act (Function.CursorUp n) self.old }
+    {
+        self.go_to(row_above(self.row, self.top, n as usize), self.col);
+    }
+
+    fn cursor_down(&mut self, n: u16)
+        ensures { self.new ≡ spec.act (Function.CursorDown n) self.old }
+    {
+        let row = row_below(self.row, self.bottom, self.size.rows, n as usize);
+        self.go_to(row, self.col);
+    }
+
+    fn cursor_forward(&mut self, n: u16)
+        ensures { self.new ≡ spec.act (Function.CursorForward n) self.old }
+    {
+        self.go_to(self.row, (self.col + n as usize).min(self.size.cols - 1));
+    }
+
+    fn cursor_back(&mut self, n: u16)
+        ensures { self.new ≡ spec.act (Function.CursorBack n) self.old }
+    {
+        self.go_to(self.row, self.col.saturating_sub(n as usize));
+    }
+
+    fn cursor_column(&mut self, col: u16)
+        ensures { self.new ≡ spec.act (Function.CursorColumn col) self.old }
+    {
+        let col = (col as usize).saturating_sub(1);
+        self.go_to(self.row, col.min(self.size.cols - 1));
+    }
+
+    fn cursor_row(&mut self, row: u16)
+        ensures { self.new ≡ spec.act (Function.CursorRow row) self.old }
+    {
+        let row = (row as usize).saturating_sub(1);
+        self.go_to(row.min(self.size.rows - 1), self.col);
+    }
+
+    fn cursor_position(&mut self, row: u16, col: u16)
         ensures { self.new ≡ spec.act (Function.CursorPosition row col) self.old }
     {
-        self.row = (row as usize).saturating_sub(1).min(self.size.rows - 1);
-        self.col = (col as usize).saturating_sub(1).min(self.size.cols - 1);
-        self.pending = false;
+        let row = (row as usize).saturating_sub(1);
+        let col = (col as usize).saturating_sub(1);
+        self.go_to(row.min(self.size.rows - 1), col.min(self.size.cols - 1));
     }
 
-    fn carriage_return(&mut self)
-        ensures { self.new ≡ spec.act Function.CarriageReturn self.old }
+    /// The cells of the cursor's line from one column up to another become blank.
+    fn erase_part(&mut self, from: usize, to: usize)
+        requires ordered { from ≤ to }
+        requires within { to ≤ self.old.cols }
+        ensures { self.new ≡ spec.part_erased from to self.old }
     {
-        self.col = 0;
-        self.pending = false;
+        let blank = Cell::blank(self.rendition);
+        self.sheet.fill_part(self.row, from, to, blank);
     }
 
-    fn backspace(&mut self)
-        ensures { self.new ≡ spec.act Function.Backspace self.old }
+    /// The lines from one row up to another become blank.
+    fn erase_lines(&mut self, from: usize, to: usize)
+        requires ordered { from ≤ to }
+        requires within { to ≤ self.old.rows }
+        ensures { self.new ≡ spec.lines_erased from to self.old }
     {
-        self.col = self.col.saturating_sub(1);
-        self.pending = false;
+        let blank = Cell::blank(self.rendition);
+        self.sheet.fill_lines(from, to, blank);
+    }
+
+    fn erase_line(&mut self, part: Part)
+        ensures { self.new ≡ spec.line_erased part self.old }
+    {
+        let col = self.col;
+        let cols = self.size.cols;
+        match part {
+            Part::ToEnd => self.erase_part(col, cols),
+            Part::FromStart => self.erase_part(0, col + 1),
+            Part::Whole => self.erase_part(0, cols),
+        }
+    }
+
+    fn erase_display(&mut self, part: Part)
+        ensures { self.new ≡ spec.display_erased part self.old }
+    {
+        let row = self.row;
+        let col = self.col;
+        let size = self.size;
+        match part {
+            Part::ToEnd => {
+                self.erase_part(col, size.cols);
+                self.erase_lines(row + 1, size.rows);
+            }
+            Part::FromStart => {
+                self.erase_part(0, col + 1);
+                self.erase_lines(0, row);
+            }
+            Part::Whole => self.erase_lines(0, size.rows),
+        }
+    }
+
+    fn erase_cells(&mut self, n: u16)
+        ensures { self.new ≡ spec.cells_erased n self.old }
+    {
+        let col = self.col;
+        let to = (col + n as usize).min(self.size.cols);
+        self.erase_part(col, to);
+    }
+
+    fn in_region(&self) -> bool
+        ensures { result ≡ spec.in_region self.now }
+    {
+        (self.top <= self.row) & (self.row <= self.bottom)
+    }
+
+    fn insert_lines(&mut self, n: u16)
+        ensures { self.new ≡ spec.lines_inserted n self.old }
+    {
+        if self.in_region() {
+            self.lines_down(self.row, self.bottom, n as usize);
+            self.go_to(self.row, 0);
+        }
+    }
+
+    fn delete_lines(&mut self, n: u16)
+        ensures { self.new ≡ spec.lines_deleted n self.old }
+    {
+        if self.in_region() {
+            self.lines_up(self.row, self.bottom, n as usize);
+            self.go_to(self.row, 0);
+        }
+    }
+
+    fn set_margins(&mut self, first: u16, last: u16)
+        ensures { self.new ≡ spec.margins_set first last self.old }
+    {
+        let top = (first as usize).saturating_sub(1);
+        let bottom = last_row(last as usize, self.size.rows);
+        if top < bottom {
+            self.top = top;
+            self.bottom = bottom;
+            self.row = 0;
+            self.col = 0;
+            self.pending = false;
+        }
+    }
+
+    fn designate(&mut self, is_g1: bool, graphic: bool)
+        ensures { self.new ≡ spec.act (Function.Designate is_g1 graphic) self.old }
+    {
+        if is_g1 {
+            self.charset.g1_graphic = graphic;
+        } else {
+            self.charset.g0_graphic = graphic;
+        }
+    }
+
+    fn shift(&mut self, out: bool)
+        ensures { self.new ≡ spec.shifted out self.old }
+    {
+        self.charset.shifted_out = out;
+    }
+
+    fn select_rendition(&mut self, numbers: Numbers<'_>)
+        ensures { self.new ≡ spec.act (Function.SelectRendition numbers.entry) self.old }
+    {
+        self.rendition = all_rendered(self.rendition, numbers);
+    }
+
+    fn set_mode(&mut self, private: bool, on: bool, number: u16)
+        ensures { self.new ≡ spec.mode_set private on number self.old }
+    {
+        match (private, number) {
+            (true, 7) => {
+                self.autowrap = on;
+                self.pending = self.pending & on;
+            }
+            (true, 25) => self.visible = on,
+            (false, 4) => self.inserting = on,
+            _ => {}
+        }
+    }
+
+    fn set_modes(&mut self, private: bool, on: bool, numbers: Numbers<'_>)
+        ensures { self.new ≡ spec.all_modes_set private on numbers.entry self.old }
+    {
+        let mut left = Some(numbers);
+        while let Some(numbers) = left {
+            let (number, rest) = numbers.split_first();
+            self.set_mode(private, on, number.unwrap_or(0));
+            left = rest;
+        }
     }
 
     /// Does what a token asks for.
-    pub fn act(&mut self, function: Function)
+    pub fn act(&mut self, function: Function<'_>)
         requires { spec.CanAct function }
-        ensures { self.new ≡ spec.act function self.old }
+        ensures { self.new ≡ spec.act function.entry self.old }
     {
         match function {
-            Function::Print(byte) => {
-                self.wrap();
-                self.print(byte);
-            }
+            Function::Print(byte) => self.print(byte),
             Function::LineFeed => self.line_feed(),
-            Function::CarriageReturn => self.carriage_return(),
-            Function::Backspace => self.backspace(),
-            Function::CursorPosition(row, col) => self.go_to(row, col),
+            Function::CarriageReturn => self.go_to(self.row, 0),
+            Function::Backspace => self.go_to(self.row, self.col.saturating_sub(1)),
+            Function::Tab => self.tab(),
+            Function::ShiftOut => self.shift(true),
+            Function::ShiftIn => self.shift(false),
+            Function::ReverseIndex => self.reverse_index(),
+            Function::NextLine => self.next_line(),
+            Function::CursorUp(n) => self.cursor_up(n),
+            Function::CursorDown(n) => self.cursor_down(n),
+            Function::CursorForward(n) => self.cursor_forward(n),
+            Function::CursorBack(n) => self.cursor_back(n),
+            Function::CursorColumn(col) => self.cursor_column(col),
+            Function::CursorRow(row) => self.cursor_row(row),
+            Function::CursorPosition(row, col) => self.cursor_position(row, col),
+            Function::EraseLine(part) => self.erase_line(part),
+            Function::EraseDisplay(part) => self.erase_display(part),
+            Function::EraseCells(n) => self.erase_cells(n),
+            Function::InsertCells(n) => self.insert_cells(n),
+            Function::DeleteCells(n) => self.delete_cells(n),
+            Function::InsertLines(n) => self.insert_lines(n),
+            Function::DeleteLines(n) => self.delete_lines(n),
+            Function::ScrollUp(n) => self.scroll_up(n),
+            Function::ScrollDown(n) => self.scroll_down(n),
+            Function::Margins(first, last) => self.set_margins(first, last),
+            Function::Designate(is_g1, graphic) => self.designate(is_g1, graphic),
+            Function::SelectRendition(numbers) => self.select_rendition(numbers),
+            Function::Modes(private, on, numbers) => self.set_modes(private, on, numbers),
             Function::Ignored => {}
         }
     }
 }
 
-fn blank_lines(alloc: Global, size: Size) -> Result<Vec<Line>, AllocError>
-    ensures { IfOk result (λ lines. lines.items ≡ filled size.rows size.cols space) }
+/// Up by `n` rows, but not past the top margin from below it.
+fn row_above(row: usize, top: usize, n: usize) -> usize
+    ensures { result ≡ (if nat_le top row then max top (row - n) else row - n) }
 {
-    let blank = Cell::blank(Rendition::plain());
-    let mut lines = Vec::with_capacity(alloc, size.rows)?;
-    for _row in 0..size.rows {
-        lines.push(Line::new(alloc, size.cols, blank)?)?;
-    }
-    Ok(lines)
+    let above = row.saturating_sub(n);
+    if top <= row { above.max(top) } else { above }
 }
 
-/// The lines from `top` to `bottom` go up by `n`, and the last `n` of them become blank.
-fn lines_up(lines: &mut [Line], top: usize, bottom: usize, n: usize, blank: Cell)
-    requires ordered { top ≤ bottom }
-    requires within { bottom < length lines.old }
-    requires even { HasEvenLines lines.old }
-    ensures len { length lines.new ≡ length lines.old }
-    ensures moved { lines.new ≡ scrolled_up top bottom n blank lines.old }
+/// Down by `n` rows, but not past the bottom margin from above it, nor past the last row.
+fn row_below(row: usize, bottom: usize, rows: usize, n: usize) -> usize
+    requires fits { row + n < 2 ^ 64 }
+    requires some { 0 < rows }
+    ensures { result ≡ (if nat_le row bottom then min bottom (row + n) else min (rows - 1) (row + n)) }
 {
-    let n = n.min(bottom + 1 - top);
-    fill_lines(lines, top, top + n, blank);
-    rotate_up(lines, top, bottom + 1, n);
-}
-
-fn fill_lines(lines: &mut [Line], from: usize, to: usize, blank: Cell)
-    requires ordered { from ≤ to }
-    requires within { to ≤ length lines.old }
-    ensures len { length lines.new ≡ length lines.old }
-    ensures filled { (i : ℕ) → from ≤ i → i < to → line_at lines.new i ≡ replicate (length (line_at lines.old i)) blank }
-    ensures before { (i : ℕ) → i < from → line_at lines.new i ≡ line_at lines.old i }
-    ensures behind { (i : ℕ) → to ≤ i → line_at lines.new i ≡ line_at lines.old i }
-{
-    for i in from..to {
-        lines[i].fill(blank);
+    let below = row + n;
+    if row <= bottom {
+        below.min(bottom)
+    } else {
+        below.min(rows - 1)
     }
 }
 
-#[tactic(auto, using(std::proofs::lemmas::List::places))]
-fn rotate_up(lines: &mut [Line], from: usize, to: usize, n: usize)
-    requires ordered { from + n ≤ to }
-    requires within { to ≤ length lines.old }
-    ensures len { length lines.new ≡ length lines.old }
-    ensures moved { (i : ℕ) → from ≤ i → i + n < to → line_at lines.new i ≡ line_at lines.old (i + n) }
-    ensures wrapped { (i : ℕ) → to ≤ i + n → i < to → line_at lines.new i ≡ line_at lines.old (from + (i + n - to)) }
-    ensures before { (i : ℕ) → i < from → line_at lines.new i ≡ line_at lines.old i }
-    ensures behind { (i : ℕ) → to ≤ i → line_at lines.new i ≡ line_at lines.old i }
+/// The last row that DECSTBM names, 0 for the default.
+fn last_row(last: usize, rows: usize) -> usize
+    requires { 0 < rows }
+    ensures { result ≡ (if last == 0 then rows - 1 else min (last - 1) (rows - 1)) }
 {
-    lines[from..to].rotate_left(n);
+    if last == 0 {
+        rows - 1
+    } else {
+        (last - 1).min(rows - 1)
+    }
+}
+
+/// A rendition after one number of SGR.
+fn rendered(now: Rendition, number: u16) -> Rendition
+    ensures { result ≡ spec.rendered number now }
+{
+    match number {
+        0 => Rendition::plain(),
+        1 => Rendition { bold: true, ..now },
+        2 => Rendition { faint: true, ..now },
+        4 => Rendition {
+            underline: true,
+            ..now
+        },
+        5 => Rendition { blink: true, ..now },
+        7 => Rendition {
+            negative: true,
+            ..now
+        },
+        8 => Rendition {
+            concealed: true,
+            ..now
+        },
+        22 => Rendition {
+            bold: false,
+            faint: false,
+            ..now
+        },
+        24 => Rendition {
+            underline: false,
+            ..now
+        },
+        25 => Rendition {
+            blink: false,
+            ..now
+        },
+        27 => Rendition {
+            negative: false,
+            ..now
+        },
+        28 => Rendition {
+            concealed: false,
+            ..now
+        },
+        30..=37 => Rendition {
+            foreground: Some(color_of(number - 30)),
+            ..now
+        },
+        39 => Rendition {
+            foreground: None,
+            ..now
+        },
+        40..=47 => Rendition {
+            background: Some(color_of(number - 40)),
+            ..now
+        },
+        49 => Rendition {
+            background: None,
+            ..now
+        },
+        _ => now,
+    }
+}
+
+fn all_rendered(mut now: Rendition, numbers: Numbers<'_>) -> Rendition
+    ensures { result ≡ spec.all_rendered numbers.entry now }
+{
+    let mut left = Some(numbers);
+    while let Some(numbers) = left {
+        let (number, rest) = numbers.split_first();
+        now = rendered(now, number.unwrap_or(0));
+        left = rest;
+    }
+    now
 }

@@ -3,7 +3,7 @@ ghost use Rattle.vt_term.specs.Grid.{look_at};
 
 use crate::functions::function_of;
 use crate::limits::Size;
-use crate::looks::Cell;
+use crate::looks::{Cell, Rendition};
 use crate::screens::Display;
 use crate::text::{Fit, SEQUENCE_LIMIT, fit_behind};
 use std::alloc::{AllocError, Global};
@@ -39,6 +39,7 @@ impl Model for Terminal {
 impl Terminal {
     ghost use Rattle.vt_term.specs.Screen.{reset, IsState};
     ghost use Rattle.vt_term.specs.Run.{Runs, Sticks, Accepts};
+    ghost use Rattle.vt_term.specs.Printed.{screen_text};
 
     /// A terminal in the reset state.
     pub fn new(alloc: Global, size: Size) -> Result<Terminal, AllocError>
@@ -79,6 +80,7 @@ impl Terminal {
             }
             Fit::Ends => {
                 self.rest.push(byte).unwrap();
+                let _ = self.display.size();
                 self.display.act(function_of(&self.rest));
                 self.rest.clear();
                 true
@@ -122,5 +124,27 @@ impl Terminal {
         ensures { result ≡ self.now.screen.pending }
     {
         self.display.pending()
+    }
+
+    /// The rendition that the next character takes.
+    pub fn rendition(&self) -> Rendition
+        ensures { result ≡ self.now.screen.rendition }
+    {
+        self.display.rendition()
+    }
+
+    /// Whether the cursor can be seen.
+    pub fn visible(&self) -> bool
+        ensures { result ≡ self.now.screen.visible }
+    {
+        self.display.visible()
+    }
+
+    /// The screen as a text: a line for each row, the cursor's line, and a line for each run of cells
+    /// that are shown in one way and not plainly.
+    pub fn print_screen(&self, alloc: Global) -> Result<Vec<u8>, AllocError>
+        ensures { IfOk result (λ text. text.items ≡ screen_text self.now.screen) }
+    {
+        self.display.print_screen(alloc)
     }
 }

@@ -12,6 +12,62 @@ fn line(rt: &impl Abort, terminal: &Terminal, row: usize) -> [u8; 4] {
     bytes
 }
 
+/// The printed screen of what was fed.
+#[test]
+fn prints(rt: HostRuntime) -> Result<(), Fail> {
+    let cases: [(usize, usize, &[u8], &str); 9] = [
+        (2, 4, b"abcde", "abcd\ne   \ncursor 1 1\n"),
+        (
+            3,
+            4,
+            b"\x1b[2;3r\x1b[3;1Hab\nc",
+            "    \nab  \n  c \ncursor 2 3\n",
+        ),
+        (
+            2,
+            4,
+            b"\x1b[1;7ma",
+            "a   \n    \ncursor 0 1\nlook 0 0-0 BR\n",
+        ),
+        (2, 4, b"\x1b[?25l", "    \n    \ncursor 0 0 hidden\n"),
+        (
+            2,
+            4,
+            b"\x1b[44m\x1b[K",
+            "    \n    \ncursor 0 0\nlook 0 0-3 b4\n",
+        ),
+        (2, 4, b"a\x1b[4mb c\x1b[2J", "    \n    \ncursor 0 3\n"),
+        (
+            2,
+            4,
+            b"ab\x1b[31;4mcd\x1b[1;2H\x1b[1P",
+            "acd \n    \ncursor 0 1\nlook 0 1-2 Uf1\n",
+        ),
+        (
+            2,
+            4,
+            b"abcd\x1b[1;2H\x1b[4hx\x1b[2@",
+            "ax  \n    \ncursor 0 2\n",
+        ),
+        (
+            3,
+            4,
+            b"a\nb\nc\x1b[1;1H\x1b[L\x1b[2;2H\x1b[1K",
+            "    \n    \n b  \ncursor 1 1\n",
+        ),
+    ];
+    for (rows, cols, fed, printed) in cases {
+        let size = Size::new(rows, cols).ok_or("a size")?;
+        let mut terminal = Terminal::new(rt.alloc(), size)?;
+        terminal.feed(fed)?;
+        assert_eq!(rt;
+            terminal.print_screen(rt.alloc())?.as_slice(),
+            printed.as_bytes()
+        );
+    }
+    Ok(())
+}
+
 #[test]
 fn feeds(rt: HostRuntime) -> Result<(), Fail> {
     let size = Size::new(2, 4).ok_or("a size")?;
@@ -138,6 +194,24 @@ fn refused_tokens(rt: HostRuntime) {
         Err(fault) => {
             assert_eq!(rt; fault.kind, TokenFaultKind::NoMemory);
             let _ = println!(rt; "refused: tokens");
+        }
+    }
+}
+
+/// Run with each allocation refused in turn.
+#[test]
+fn refused_print_screen(rt: HostRuntime) {
+    let size = Size::new(2, 2).expect(&rt, "a size");
+    if let Ok(mut terminal) = Terminal::new(rt.alloc(), size) {
+        assert!(rt; terminal.feed(b"\x1b[4ma").is_ok());
+        match terminal.print_screen(rt.alloc()) {
+            Ok(text) => {
+                let wanted: &[u8] = b"a \n  \ncursor 0 1\nlook 0 0-0 U\n";
+                assert_eq!(rt; text.as_slice(), wanted);
+            }
+            Err(_) => {
+                let _ = println!(rt; "refused: print_screen");
+            }
         }
     }
 }

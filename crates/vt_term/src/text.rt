@@ -47,7 +47,7 @@ impl Token {
     }
 
     /// What the token asks for.
-    pub fn function(&self) -> Function
+    pub fn function(&self) -> Function<'_>
         ensures { result ≡ function_of self.now }
     {
         functions::function_of(&self.bytes)
@@ -137,7 +137,7 @@ fn fit_outside(byte: u8) -> Fit
     ensures { FitsOutside byte result }
 {
     match byte {
-        32..=126 | 8 | 10 | 13 => Fit::Ends,
+        32..=126 | 8..=10 | 13..=15 => Fit::Ends,
         ESCAPE => Fit::Opens,
         _ => Fit::Fails,
     }
@@ -154,7 +154,7 @@ fn fit_inside(last: u8, byte: u8, has_room: bool) -> Fit
     ensures { FitsInside last byte has_room result }
 {
     match byte {
-        b'H' => Fit::Ends,
+        0x40..=0x7e => Fit::Ends,
         0x20..=0x2f if has_room => Fit::Opens,
         0x30..=0x3f if has_room && !(0x20..=0x2f).contains(&last) => Fit::Opens,
         _ => Fit::Fails,

@@ -14,7 +14,7 @@ returns-in-Ok-clause-reached c =
     let same : given ≡ spec.place c.args.row c.args.col = rw (row, col) refl in
     let meant : (end : Outcome) × (meaning string given c.new-statics.result ≡ Ok end) × (c.expand.new.out.items ≡ c.clear.new.self.items ++ end.output) × (c.expand.new.statics ≡ end.statics) = c.in-Ok.ensures.ok in
     let written : c.deref.result.now ≡ meant.0.output =
-        c.deref.ensures.value ∙ meant.2 ∙ ap (λ (xs : List ℕ). xs ++ meant.0.output) c.clear.ensures.items in
+    c.deref.ensures.value ∙ meant.2 ∙ ap (λ (xs : List ℕ). xs ++ meant.0.output) c.clear.ensures.items in
     let all = sym (ap (λ (ps : List Value). meaning string ps c.new-statics.result) same) ∙ meant.1 in
     place_reached string c.args.size.rows c.args.size.cols c.args.row c.args.col meant.0 c.deref.result.now c.judge.result
     (sym (ap (meaning string (spec.place c.args.row c.args.col)) c.new-statics.ensures) ∙ all) written c.judge.ensures.whole c.judge.ensures.leads

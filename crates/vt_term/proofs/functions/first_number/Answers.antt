@@ -1,7 +1,7 @@
 use Rattle.std.proofs.Common.{◌≡◌, ◌+◌, refl, arith, subst, take}
 use Rattle.std.proofs.lemmas.List.{take_rest, take_more, take_all}
 use Rattle.std.proofs.lemmas.Bool.Decides.{nat_tests}
-use Rattle.vt_term.proofs.Numbers.{IsPiece, numbers_first, numbers_last, numerals_behind, piece_more, number_of_more}
+use Rattle.vt_term.proofs.Decimals.{IsPiece, numbers_first, numbers_last, numerals_behind, piece_more, number_of_more}
 use Rattle.vt_term.proofs.functions.first_number.Goals as goal
 
 pub returns-then-byte-eq59-clause-value : goal.returns-then-byte-eq59-clause-value

@@ -1,7 +1,7 @@
 -- What was gone through is one piece, and the number is its number.
 use Rattle.std.proofs.Common.{◌≡◌, take}
 use Rattle.vt_term.specs.Numbers.{number_of}
-use Rattle.vt_term.proofs.Numbers.{IsPiece}
+use Rattle.vt_term.proofs.Decimals.{IsPiece}
 use Rattle.vt_term.proofs.functions.first_number.Given as goal
 
 abbrev pub invariant-loop-i : goal.invariant-loop-i

@@ -1,6 +1,7 @@
-use Rattle.std.proofs.Common.{[], ◌∷◌, ◌++◌, refl, sym}
+use Rattle.std.proofs.Common.{[], ◌∷◌, ◌++◌, refl, sym, arith}
 use Rattle.std.proofs.lemmas.List.{append-nil}
 use Rattle.vt_term.proofs.Sequences.{empty_open}
+use Rattle.vt_term.proofs.Keeps.{step_kept}
 use Rattle.vt_term.proofs.Splitting.{fits_nothing}
 use Rattle.vt_term.proofs.stream.Terminal.accept.Goals as goal
 
@@ -21,3 +22,12 @@ returns-in-Fails-clause-accepts c =
       (λ other k. fits_nothing c.self.inside.rest.items [] c.self.inside.rest.items c.args.byte (refl, c.self.invariant.0) none.0 none.1 (record { tokens = k.tokens; rest = other.rest; splits = k.splits })),
       refl,
     )
+
+pub invariant_of-self-in-Ends : goal.invariant_of-self-in-Ends
+invariant_of-self-in-Ends c = (rw c.clear.ensures.items empty_open, omega (arith, c.clear.ensures.capacity, c.push-in-Ends.ensures.capacity, c.push-in-Ends.ensures.lower_bound, c.self.invariant.1))
+
+pub returns-in-Ends-clause-rows : goal.returns-in-Ends-clause-rows
+returns-in-Ends-clause-rows c = rw (c.act.ensures, c.function_of.ensures, ← c.self.view_is) (step_kept c.deref-in-Ends.result.now c.self.inside.display c.size.ensures.screen).rows
+
+pub returns-in-Ends-clause-cols : goal.returns-in-Ends-clause-cols
+returns-in-Ends-clause-cols c = rw (c.act.ensures, c.function_of.ensures, ← c.self.view_is) (step_kept c.deref-in-Ends.result.now c.self.inside.display c.size.ensures.screen).cols

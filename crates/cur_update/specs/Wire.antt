@@ -1,0 +1,40 @@
+-- What a wire is: something that bytes are handed to and that may fail (X/Open Curses, refresh: the output device).
+use Rattle.std.specs.Prelude.{ℕ, ◌-◌, ◌^◌, ◌<◌, ◌≤◌, ◌≡◌, ◌⊎◌, List, [], ◌++◌, length, Result, Ok, Err}
+use Rattle.std.proofs.Math.Nat.{le_refl, le_trans}
+
+-- The laws of a wire: over no time nothing went out, what went out one after the other went out together,
+-- and failures are never taken back.
+pub record IsWire {W : Type 0} (went : W → W → List ℕ → Type 0) (failures : W → ℕ) : Type 0 where
+  pub nothing : (w : W) → went w w []
+  pub joins : (a b c : W) (x y : List ℕ) → went a b x → went b c y → went a c (x ++ y)
+  pub counts : (a b : W) (x : List ℕ) → went a b x → failures a ≤ failures b
+
+-- A wire may tell nothing of the bytes. The proof stands here since an impl's law can name nothing of proofs/.
+pub tells_nothing : {W : Type 0} (failures : W → ℕ) → IsWire (λ a b x. failures a ≤ failures b) failures
+tells_nothing failures = record {
+  nothing = λ w. le_refl (failures w);
+  joins = λ a b c x y p q. le_trans p q;
+  counts = λ a b x p. p;
+}
+
+-- the last count that is kept
+abbrev pub last_count : ℕ
+last_count = 2 ^ 128 - 1
+
+-- There is a new failure. At the last count it stays.
+abbrev pub Rose : ℕ → ℕ → Type 0
+Rose old new = (old < new) ⊎ ((old ≡ last_count) × (new ≡ last_count))
+
+-- A front of the bytes went out, then the wire failed.
+pub record StopsIn {W : Type 0} (went : W → W → List ℕ → Type 0) (failures : W → ℕ) (old new : W) (bytes : List ℕ) : Type 0 where
+  pub front : List ℕ
+  pub back : List ℕ
+  pub parts : bytes ≡ front ++ back
+  pub some_left : 0 < length back
+  pub sent : went old new front
+  pub failed : Rose (failures old) (failures new)
+
+-- All bytes went out, or the wire failed on the way.
+abbrev pub Sends : {W T E : Type 0} → (W → W → List ℕ → Type 0) → (W → ℕ) → W → W → List ℕ → Result T E → Type 0
+Sends went failures old new bytes (Ok x) = went old new bytes
+Sends went failures old new bytes (Err e) = StopsIn went failures old new bytes

@@ -1,0 +1,77 @@
+ghost use Rattle.std.specs.Prelude.{◌≡◌, ◌+◌, ◌<◌, ◌≤◌, ◌++◌, [], length, min, take, is_ok, if◌then◌else◌, IfOk, OnErr};
+
+use crate::wires::{Wire, WireFault};
+use std::alloc::{AllocError, Global};
+use std::marker::Model;
+
+/// A wire over memory, which keeps its bytes and fails when it is full.
+#[derive(Drop)]
+pub struct Tape {
+    bytes: Vec<u8>,
+    capacity: usize,
+    failures: u128,
+}
+
+impl Model for Tape {
+    ghost use Rattle.std.specs.Prelude.{◌≤◌, length, vec_capacity};
+    ghost use Rattle.cur_update.specs.Tape.{Taped};
+
+    ghost Value = { Taped };
+
+    ghost view = { λ t. record { bytes = t.bytes.items; capacity = t.capacity; failures = t.failures } };
+
+    ghost invariant = { λ t. (length t.bytes.items ≤ t.capacity) × (t.capacity ≤ vec_capacity t.bytes) };
+}
+
+impl Tape {
+    /// An empty tape for this many bytes.
+    pub fn new(alloc: Global, capacity: usize) -> Result<Tape, AllocError>
+        ensures value { IfOk result (λ tape. tape ≡ record { bytes = []; capacity = capacity; failures = 0 }) }
+    {
+        Ok(Tape {
+            bytes: Vec::with_capacity(alloc, capacity)?,
+            capacity,
+            failures: 0,
+        })
+    }
+
+    /// What went out so far.
+    pub fn bytes(&self) -> &[u8]
+        ensures value { result.now ≡ self.now.bytes }
+    {
+        &self.bytes
+    }
+}
+
+impl Wire for Tape {
+    ghost use Rattle.cur_update.specs.Tape.{Adds, Adds-lawful, room};
+    ghost use Rattle.cur_update.specs.Wire.{last_count, Rose};
+
+    ghost went = { Adds };
+
+    ghost failures = { λ t. t.failures };
+
+    /// Takes what fits of the piece, and fails when nothing does.
+    fn send(&mut self, piece: &[u8]) -> Result<usize, WireFault>
+        requires { 0 < length piece.now }
+        ensures some { IfOk result (λ n. 0 < n) }
+        ensures within { IfOk result (λ n. n ≤ length piece.now) }
+        ensures sent { IfOk result (λ n. Adds self.old self.new (take n piece.now)) }
+        ensures unsent { OnErr result (Adds self.old self.new []) }
+        ensures failed { OnErr result (Rose self.old.failures self.new.failures) }
+        ensures all_that_fits { IfOk result (λ n. n ≡ min (length piece.now) (room self.old)) }
+        ensures fails_only_full { OnErr result (room self.old ≡ 0) }
+        ensures failures { self.new.failures ≡ (if is_ok result then self.old.failures else min (self.old.failures + 1) last_count) }
+    {
+        let room = self.capacity - self.bytes.len();
+        if room == 0 {
+            self.failures = self.failures.saturating_add(1);
+            return Err(WireFault);
+        }
+        let taken = piece.len().min(room);
+        self.bytes.extend_from_slice(&piece[..taken]).unwrap();
+        Ok(taken)
+    }
+
+    ghost lawful = { Adds-lawful };
+}

@@ -1,0 +1,96 @@
+//! What an entry can hold, as tests for its callers.
+
+ghost use Rattle.std.specs.Prelude.{◌≡◌, ◌&&◌, ◌==◌, not, false, nat_le};
+ghost use Rattle.std.specs.List.{list_all};
+ghost use Rattle.ti_caps.specs.Fits as Fits;
+
+/// What stands open before a byte of a source text's field, and takes that byte with it.
+#[derive(Clone, Copy, Debug, PartialEq, Eq)]
+pub enum Opener {
+    Nothing,
+    Backslash,
+    Caret,
+}
+
+impl Opener {
+    /// What stands open behind a byte.
+    pub fn after(self, byte: u8) -> Opener
+        ensures { result ≡ Fits.opener_after self byte }
+    {
+        match (self, byte) {
+            (Opener::Nothing, b'\\') => Opener::Backslash,
+            (Opener::Nothing, b'^') => Opener::Caret,
+            _ => Opener::Nothing,
+        }
+    }
+
+    /// Whether a comma that comes next ends the field: it does unless a backslash stands open.
+    pub fn ends_at_comma(self) -> bool
+        ensures { result ≡ Fits.ends_at_comma self }
+    {
+        match self {
+            Opener::Backslash => false,
+            Opener::Nothing | Opener::Caret => true,
+        }
+    }
+
+    /// Whether this byte is a comma that ends the field.
+    pub fn ends_field(self, byte: u8) -> bool
+        ensures { result ≡ (Fits.ends_at_comma self && (byte == 44)) }
+    {
+        self.ends_at_comma() && byte == b','
+    }
+}
+
+/// Whether no comma in these bytes ends their field, and one behind them does.
+fn is_one_field(field: &[u8]) -> bool
+    ensures { result ≡ Fits.is_one_field Opener.Nothing field.now }
+{
+    let mut opener = Opener::Nothing;
+    for byte in field {
+        if opener.ends_field(*byte) {
+            return false;
+        }
+        opener = opener.after(*byte);
+    }
+    opener.ends_at_comma()
+}
+
+/// Whether these bytes begin as a names field does.
+fn begins_names(names: &[u8]) -> bool
+    ensures { result ≡ Fits.begins_names names.now }
+{
+    match names {
+        [] => false,
+        [first, ..] => *first != b' ' && *first != b'#' && *first != b'|',
+    }
+}
+
+/// Whether no byte is a control character below 32.
+fn has_no_controls(bytes: &[u8]) -> bool
+    ensures { result ≡ list_all (λ b. nat_le 32 b) bytes.now }
+{
+    bytes.iter().all(|byte| *byte >= 32)
+}
+
+/// Whether no byte is 0.
+fn has_no_zero(bytes: &[u8]) -> bool
+    ensures { result ≡ list_all (λ b. not (b == 0)) bytes.now }
+{
+    bytes.iter().all(|byte| *byte != 0)
+}
+
+/// Whether these bytes can be the names field of an entry: a source text of terminfo(5) that has them
+/// in column one, a comma behind them, gives an entry with just these names.
+pub fn names_fit(names: &[u8]) -> bool
+    ensures { result ≡ Fits.names_fit names.now }
+{
+    names.len() <= 4095 && begins_names(names) && has_no_controls(names) && is_one_field(names)
+}
+
+/// Whether these bytes can be the value of a string: none is 0, and there are 4095 at most.
+pub fn string_fits(bytes: &[u8]) -> bool
+    ensures { result ≡ Fits.string_fits bytes.now }
+{
+    bytes.len() <= 4095 && has_no_zero(bytes)
+}

@@ -1,0 +1,17 @@
+//! The capabilities of terminfo(5), and an entry: a terminal's names and the values of its capabilities.
+#![tactic(auto)]
+
+mod entry;
+mod fits;
+mod lookup;
+mod table;
+#[cfg(test)]
+mod tests;
+mod types;
+mod value;
+
+pub use entry::Entry;
+pub use fits::{Opener, names_fit, string_fits};
+pub use lookup::{at, at_rank, by_name, kind, name, position, ranks_order_names};
+pub use types::{Cap, Kind};
+pub use value::{Bytes, Value};

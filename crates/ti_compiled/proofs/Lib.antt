@@ -1,0 +1,11 @@
+pub mod Again
+pub mod Contents
+pub mod Decoded
+pub mod Ends
+pub mod Files
+pub mod Filling
+pub mod Legacies
+pub mod Round
+pub mod Rows
+pub mod Takes
+pub mod Words

@@ -1,0 +1,5 @@
+use Rattle.ti_compiled.proofs.Round as round
+use Rattle.ti_compiled.proofs.laws.written_is_read.Goals as goal
+
+pub returns : goal.returns
+returns c = round.written_is_read

@@ -1,0 +1,7 @@
+use Rattle.ti_compiled.proofs.Filling.{flags_step}
+use Rattle.ti_compiled.specs.Reading.{parts_view}
+use Rattle.ti_compiled.proofs.unpack.put_flags.Goals as goal
+
+pub loop-position-preserved : goal.loop-position-preserved
+loop-position-preserved c =
+    flags_step (parts_view c.args.parts.now) c.loop-position.position c.loop-position.entry c.put_flag.new.entry c.loop-position-test.true c.loop-position.invariant c.put_flag.ensures

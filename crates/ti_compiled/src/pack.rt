@@ -1,0 +1,386 @@
+//! Writing an entry as a compiled file.
+
+ghost use Rattle.std.specs.Prelude.{◌≡◌, ◌+◌, ◌*◌, ◌++◌, ◌<◌, ◌≤◌, ℕ, [], ◌∷◌, Bool, true, false, None, Some, IfOk, IfSome, OnOk, slice_index_or, length, ◌==◌, is_some, flat_map, take, replicate, if◌then◌else◌};
+ghost use Rattle.std.specs.Int.{from_bool};
+ghost use Rattle.std.specs.List.{list_any};
+ghost use Rattle.std.specs.Option.{option_copied};
+ghost use Rattle.ti_caps.specs.declared.types.Kind.TheVariants as kinds;
+ghost use Rattle.ti_caps.specs.Entry.{IsEntry};
+ghost use Rattle.ti_compiled.specs.Layout.{half, width};
+ghost use Rattle.ti_compiled.specs.Contents.{Gives};
+ghost use Rattle.ti_compiled.specs.Packed.{word, long, magic, number_bytes};
+ghost use Rattle.ti_compiled.specs.Written.{flags_of, numbers_of, strings_of, trimmed, itself, number_cell, offsets_from, table_of, string_cell, is_wide, form_for, limit, IsPlan, written, packing_of};
+
+use crate::sections::width;
+use crate::types::{Form, PackFault};
+use crate::unpack::cap_at;
+use std::alloc::{AllocError, Global};
+use ti_caps::{Entry, Kind};
+
+/// What is known of an entry before it is written.
+#[derive(Clone, Copy)]
+pub(crate) struct Plan {
+    pub(crate) form: Form,
+    /// How many flags, numbers and strings stand in the file.
+    pub(crate) flags: usize,
+    pub(crate) numbers: usize,
+    pub(crate) strings: usize,
+    /// How many bytes the table has.
+    pub(crate) table: usize,
+}
+
+fn flag_there(entry: &Entry, position: usize) -> bool
+    requires { position < 44 }
+    ensures { result ≡ slice_index_or (flags_of entry.now) position false }
+{
+    entry.get_flag(cap_at(Kind::Flag, position))
+}
+
+fn number_there(entry: &Entry, position: usize) -> Option<u32>
+    requires { position < 39 }
+    ensures { result ≡ slice_index_or (numbers_of entry.now) position None }
+{
+    entry.get_number(cap_at(Kind::Number, position))
+}
+
+fn string_there(entry: &Entry, position: usize) -> Option<&[u8]>
+    requires entry { IsEntry entry.now }
+    requires place { position < 414 }
+    ensures value { option_copied result ≡ slice_index_or (strings_of entry.now) position None }
+    ensures short { IfSome result (λ string. length string.now ≤ 4095) }
+{
+    entry.get_string(cap_at(Kind::String, position))
+}
+
+/// How many items there are up to this one, if it is there, or up to the last one before it.
+fn counted(there: bool, position: usize, count: usize) -> usize
+    requires { position < 500 }
+    ensures { result ≡ (if there then position + 1 else count) }
+{
+    if there { position + 1 } else { count }
+}
+
+fn count_flags(entry: &Entry) -> usize
+    requires { IsEntry entry.now }
+    ensures value { result ≡ length (trimmed itself (flags_of entry.now)) }
+    ensures range { result ≤ 44 }
+{
+    let mut count = 0;
+    for position in 0..44usize {
+        count = counted(flag_there(entry, position), position, count);
+    }
+    count
+}
+
+fn count_numbers(entry: &Entry) -> usize
+    requires { IsEntry entry.now }
+    ensures value { result ≡ length (trimmed is_some (numbers_of entry.now)) }
+    ensures range { result ≤ 39 }
+{
+    let mut count = 0;
+    for position in 0..39usize {
+        count = counted(number_there(entry, position).is_some(), position, count);
+    }
+    count
+}
+
+fn string_is_there(entry: &Entry, position: usize) -> bool
+    requires entry { IsEntry entry.now }
+    requires place { position < 414 }
+    ensures { result ≡ is_some (slice_index_or (strings_of entry.now) position None) }
+{
+    string_there(entry, position).is_some()
+}
+
+fn count_strings(entry: &Entry) -> usize
+    requires { IsEntry entry.now }
+    ensures value { result ≡ length (trimmed is_some (strings_of entry.now)) }
+    ensures range { result ≤ 414 }
+{
+    let mut count = 0;
+    for position in 0..414usize {
+        count = counted(string_is_there(entry, position), position, count);
+    }
+    count
+}
+
+fn is_wide(number: Option<u32>) -> bool
+    ensures { result ≡ is_wide number }
+{
+    match number {
+        Some(number) => 32767 < number,
+        None => false,
+    }
+}
+
+#[tactic(auto, unfolding(crate::specs::Written::form_for))]
+fn form_for(entry: &Entry) -> Form
+    requires { IsEntry entry.now }
+    ensures { result ≡ form_for entry.now }
+{
+    for position in 0..39usize {
+        if is_wide(number_there(entry, position)) {
+            return Form::Wide;
+        }
+    }
+    Form::Legacy
+}
+
+/// How many bytes of the table the string at a position takes.
+fn string_size(entry: &Entry, position: usize) -> usize
+    requires entry { IsEntry entry.now }
+    requires place { position < 414 }
+    ensures value { result ≡ length (string_cell (slice_index_or (strings_of entry.now) position None)) }
+    ensures range { result ≤ 4096 }
+{
+    match string_there(entry, position) {
+        Some(string) => string.len() + 1,
+        None => 0,
+    }
+}
+
+fn table_size(entry: &Entry, count: usize) -> usize
+    requires entry { IsEntry entry.now }
+    requires count { count ≡ length (trimmed is_some (strings_of entry.now)) }
+    requires few { count ≤ 414 }
+    ensures value { result ≡ length (table_of (trimmed is_some (strings_of entry.now))) }
+    ensures range { result ≤ 414 * 4096 }
+{
+    let mut size = 0;
+    for position in 0..count {
+        size += string_size(entry, position);
+    }
+    size
+}
+
+fn plan_of(entry: &Entry) -> Plan
+    requires { IsEntry entry.now }
+    ensures { IsPlan entry.now result }
+{
+    let strings = count_strings(entry);
+    Plan {
+        form: form_for(entry),
+        flags: count_flags(entry),
+        numbers: count_numbers(entry),
+        strings,
+        table: table_size(entry, strings),
+    }
+}
+
+/// How many bytes the file has.
+fn file_size(entry: &Entry, names: &[u8], plan: &Plan) -> usize
+    requires plan { IsPlan entry.now plan.now }
+    requires names { names.now ≡ entry.now.names }
+    requires short { length names.now ≤ 4095 }
+    ensures value { result ≡ length (written entry.now) }
+    ensures table { plan.now.table ≤ result }
+{
+    let names = names.len() + 1;
+    let padding = (names + plan.flags) % 2;
+    12 + names
+        + plan.flags
+        + padding
+        + width(plan.form) * plan.numbers
+        + 2 * plan.strings
+        + plan.table
+}
+
+fn limit(form: Form) -> usize
+    ensures { result ≡ limit form }
+{
+    match form {
+        Form::Legacy => 4096,
+        Form::Wide => 32768,
+    }
+}
+
+/// Writes a number of 16 bits, low byte first.
+#[tactic(auto, unfolding(crate::specs::Packed::word))]
+fn put_word(out: &mut Vec<u8>, number: usize) -> Result<(), AllocError>
+    requires { number < 65536 }
+    ensures { OnOk result (out.new.items ≡ out.old.items ++ word number) }
+{
+    out.push((number % 256) as u8)?;
+    out.push((number / 256) as u8)?;
+    Ok(())
+}
+
+/// Writes a number of 32 bits, low byte first.
+#[tactic(auto, unfolding(crate::specs::Packed::long))]
+fn put_long(out: &mut Vec<u8>, number: u32) -> Result<(), AllocError>
+    ensures { OnOk result (out.new.items ≡ out.old.items ++ long number) }
+{
+    out.push((number % 256) as u8)?;
+    out.push((number / 256 % 256) as u8)?;
+    out.push((number / 65536 % 256) as u8)?;
+    out.push((number / 16777216) as u8)?;
+    Ok(())
+}
+
+fn put_flags(out: &mut Vec<u8>, entry: &Entry, count: usize) -> Result<(), AllocError>
+    requires entry { IsEntry entry.now }
+    requires count { count ≡ length (trimmed itself (flags_of entry.now)) }
+    requires few { count ≤ 44 }
+    ensures { OnOk result (out.new.items ≡ out.old.items ++ flat_map (λ flag. from_bool flag ∷ []) (trimmed itself (flags_of entry.now))) }
+{
+    for position in 0..count {
+        out.push(u8::from(flag_there(entry, position)))?;
+    }
+    Ok(())
+}
+
+/// Writes a number, or -1 where there is none.
+fn put_number(out: &mut Vec<u8>, form: Form, number: Option<u32>) -> Result<(), AllocError>
+    requires { number_cell form number < 2 * half form }
+    ensures { OnOk result (out.new.items ≡ out.old.items ++ number_bytes form (number_cell form number)) }
+{
+    match form {
+        Form::Legacy => put_word(out, number.unwrap_or(65535) as usize),
+        Form::Wide => put_long(out, number.unwrap_or(4294967295)),
+    }
+}
+
+fn put_numbers(out: &mut Vec<u8>, entry: &Entry, form: Form, count: usize) -> Result<(), AllocError>
+    requires entry { IsEntry entry.now }
+    requires form { form ≡ form_for entry.now }
+    requires count { count ≡ length (trimmed is_some (numbers_of entry.now)) }
+    requires few { count ≤ 39 }
+    ensures { OnOk result (out.new.items ≡ out.old.items ++ flat_map (λ number. number_bytes form (number_cell form number)) (trimmed is_some (numbers_of entry.now))) }
+{
+    for position in 0..count {
+        put_number(out, form, number_there(entry, position))?;
+    }
+    Ok(())
+}
+
+/// The offset of a string of so many bytes with its NUL at this place of the table, or -1 where there is none.
+fn offset_at(place: usize, size: usize) -> usize
+    ensures { result ≡ (if size == 0 then 65535 else place) }
+{
+    if size == 0 { 65535 } else { place }
+}
+
+fn put_offsets(out: &mut Vec<u8>, entry: &Entry, count: usize) -> Result<(), AllocError>
+    requires entry { IsEntry entry.now }
+    requires count { count ≡ length (trimmed is_some (strings_of entry.now)) }
+    requires few { count ≤ 414 }
+    requires small { length (table_of (trimmed is_some (strings_of entry.now))) < 65536 }
+    ensures { OnOk result (out.new.items ≡ out.old.items ++ flat_map word (offsets_from 0 (trimmed is_some (strings_of entry.now)))) }
+{
+    let mut place = 0;
+    for position in 0..count {
+        let size = string_size(entry, position);
+        put_word(out, offset_at(place, size))?;
+        place += size;
+    }
+    Ok(())
+}
+
+/// Writes a string with its NUL, if there is one.
+fn put_string(out: &mut Vec<u8>, string: Option<&[u8]>) -> Result<(), AllocError>
+    ensures { OnOk result (out.new.items ≡ out.old.items ++ string_cell (option_copied string.entry)) }
+{
+    if let Some(string) = string {
+        out.extend_from_slice(string)?;
+        out.push(0)?;
+    }
+    Ok(())
+}
+
+fn put_table(out: &mut Vec<u8>, entry: &Entry, count: usize) -> Result<(), AllocError>
+    requires entry { IsEntry entry.now }
+    requires count { count ≡ length (trimmed is_some (strings_of entry.now)) }
+    requires few { count ≤ 414 }
+    ensures { OnOk result (out.new.items ≡ out.old.items ++ table_of (trimmed is_some (strings_of entry.now))) }
+{
+    for position in 0..count {
+        put_string(out, string_there(entry, position))?;
+    }
+    Ok(())
+}
+
+fn magic(form: Form) -> usize
+    ensures value { result ≡ magic form }
+    ensures range { result < 65536 }
+{
+    match form {
+        Form::Legacy => 282,
+        Form::Wide => 542,
+    }
+}
+
+/// Writes the header, of a file whose names section has so many bytes.
+fn put_header(out: &mut Vec<u8>, names: usize, plan: &Plan) -> Result<(), AllocError>
+    requires names { names < 65536 }
+    requires flags { plan.now.flags < 65536 }
+    requires numbers { plan.now.numbers < 65536 }
+    requires strings { plan.now.strings < 65536 }
+    requires table { plan.now.table < 65536 }
+    ensures { OnOk result (out.new.items ≡ out.old.items ++ word (magic plan.now.form) ++ word names ++ word plan.now.flags ++ word plan.now.numbers ++ word plan.now.strings ++ word plan.now.table) }
+{
+    put_word(out, magic(plan.form))?;
+    put_word(out, names)?;
+    put_word(out, plan.flags)?;
+    put_word(out, plan.numbers)?;
+    put_word(out, plan.strings)?;
+    put_word(out, plan.table)?;
+    Ok(())
+}
+
+/// Writes the byte of padding, where there is one.
+fn put_padding(out: &mut Vec<u8>, count: usize) -> Result<(), AllocError>
+    requires { count < 2 }
+    ensures { OnOk result (out.new.items ≡ out.old.items ++ replicate count 0) }
+{
+    if count == 1 {
+        out.push(0)?;
+    }
+    Ok(())
+}
+
+/// Writes the whole file.
+fn write_file(
+    alloc: Global,
+    entry: &Entry,
+    names: &[u8],
+    plan: &Plan,
+    size: usize,
+) -> Result<Vec<u8>, AllocError>
+    requires entry { IsEntry entry.now }
+    requires plan { IsPlan entry.now plan.now }
+    requires names { names.now ≡ entry.now.names }
+    requires short { length names.now ≤ 4095 }
+    requires table { plan.now.table < 65536 }
+    ensures { IfOk result (λ file. file.items ≡ written entry.now) }
+{
+    let mut out = Vec::with_capacity(alloc, size)?;
+    put_header(&mut out, names.len() + 1, plan)?;
+    out.extend_from_slice(names)?;
+    out.push(0)?;
+    put_flags(&mut out, entry, plan.flags)?;
+    put_padding(&mut out, (names.len() + 1 + plan.flags) % 2)?;
+    put_numbers(&mut out, entry, plan.form, plan.numbers)?;
+    put_offsets(&mut out, entry, plan.strings)?;
+    put_table(&mut out, entry, plan.strings)?;
+    Ok(out)
+}
+
+/// The compiled file of an entry. Its numbers have 32 bits only where one is above 32767.
+///
+/// The faults, in this order: `TooLarge`, where the file would have more than 4096 bytes, or more than 32768
+/// with numbers of 32 bits; `NoMemory`. Trailing absent capabilities of each kind are not written, no strings
+/// share bytes, and the layout is that of term(5).
+pub fn encode(alloc: Global, entry: &Entry) -> Result<Vec<u8>, PackFault>
+    ensures { Gives (λ file. file.items) result (packing_of entry.now) }
+{
+    let names = entry.names();
+    let plan = plan_of(entry);
+    let size = file_size(entry, names, &plan);
+    if limit(plan.form) < size {
+        return Err(PackFault::TooLarge);
+    }
+    match write_file(alloc, entry, names, &plan, size) {
+        Ok(file) => Ok(file),
+        Err(_) => Err(PackFault::NoMemory),
+    }
+}

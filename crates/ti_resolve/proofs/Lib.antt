@@ -1,0 +1,5 @@
+pub mod Law
+pub mod Names
+pub mod Settled
+pub mod Told
+pub mod Whole

@@ -1,0 +1,4 @@
+pub mod Filling
+pub mod Uses
+pub mod Walk
+pub mod Resolved

@@ -1,0 +1,109 @@
+//! Taking fields over into an entry, of which the first about a capability decides.
+
+ghost use Rattle.std.specs.Prelude.{◌≡◌, ◌<◌, Bool, false, List, ℕ, Some, IfOk, OnOk, length, replicate, slice_index_or, slice_set, true, IsTrue};
+ghost use Rattle.std.specs.List.{All, AllByRecursion};
+ghost use Rattle.ti_caps.specs.Entry.{FitsPlace, with_value};
+ghost use Rattle.ti_source.specs.Raw.{FitsField, IsRaw};
+ghost use Rattle.ti_resolve.specs.Filling.{Filled, fields_of_all, settle_all, settle_field, start};
+ghost use Rattle.ti_caps.specs.Fits.{names_fit};
+
+use crate::search::fields_of;
+use std::alloc::{AllocError, Global};
+use ti_caps::{Cap, Entry, Value};
+use ti_source::{Field, RawEntry};
+
+/// Gives the entry a copy of a value.
+fn give(entry: &mut Entry, cap: Cap, value: &Value) -> Result<(), AllocError>
+    requires { FitsPlace cap (Some value.now) }
+    ensures { OnOk result (entry.new ≡ with_value entry.old cap (Some value.now)) }
+{
+    match value {
+        Value::Flag => entry.set_flag(cap),
+        Value::Number(number) => entry.set_number(cap, *number),
+        Value::String(bytes) => entry.set_string(cap, bytes.as_slice())?,
+    }
+    Ok(())
+}
+
+/// Whether a field about the capability came before.
+fn is_decided(decided: &[bool], cap: Cap) -> bool
+    requires { length decided.now ≡ 497 }
+    ensures { result ≡ slice_index_or decided.now cap false }
+{
+    decided[cap.place()]
+}
+
+/// Notes that a field about the capability came.
+fn decide(decided: &mut [bool], cap: Cap)
+    requires { length decided.old ≡ 497 }
+    ensures { decided.new ≡ slice_set decided.old cap true }
+{
+    decided[cap.place()] = true;
+}
+
+/// Takes a field over, unless one about its capability came before.
+#[tactic(auto, unfolding(crate::specs::Filling::settle_field))]
+fn settle(entry: &mut Entry, decided: &mut [bool], field: &Field) -> Result<(), AllocError>
+    requires sized { length decided.old ≡ 497 }
+    requires fits { FitsField field.now }
+    ensures { OnOk result (record { entry = entry.new; decided = decided.new } ≡ settle_field (record { entry = entry.old; decided = decided.old }) field.now) }
+{
+    match field {
+        Field::Include(_) => {}
+        Field::Cancel(cap) => decide(decided, *cap),
+        Field::Set(cap, value) => {
+            if !is_decided(decided, *cap) {
+                give(entry, *cap, value)?;
+                decide(decided, *cap);
+            }
+        }
+    }
+    Ok(())
+}
+
+/// Takes these fields over.
+fn settle_each(entry: &mut Entry, decided: &mut [bool], fields: &[Field]) -> Result<(), AllocError>
+    requires sized { length decided.old ≡ 497 }
+    requires fits { AllByRecursion FitsField fields.now }
+    ensures { OnOk result (record { entry = entry.new; decided = decided.new } ≡ settle_all (record { entry = entry.old; decided = decided.old }) fields.now) }
+{
+    for field in fields {
+        settle(entry, decided, field)?;
+    }
+    Ok(())
+}
+
+/// Takes over the fields of the entries at these places, one entry after another.
+#[tactic(auto, using(crate::proofs::Settled::fields_fit))]
+fn settle_entries(
+    entry: &mut Entry,
+    decided: &mut [bool],
+    raws: &[RawEntry],
+    places: &[usize],
+) -> Result<(), AllocError>
+    requires sized { length decided.old ≡ 497 }
+    requires fit { AllByRecursion IsRaw raws.now }
+    ensures { OnOk result (record { entry = entry.new; decided = decided.new } ≡ settle_all (record { entry = entry.old; decided = decided.old }) (fields_of_all raws.now places.now)) }
+{
+    for place in places {
+        settle_each(entry, decided, fields_of(raws, *place))?;
+    }
+    Ok(())
+}
+
+/// The entry with these names, and with the fields of the entries at these places.
+pub(crate) fn filled(
+    alloc: Global,
+    raws: &[RawEntry],
+    names: &[u8],
+    places: &[usize],
+) -> Result<Entry, AllocError>
+    requires names { IsTrue (names_fit names.now) }
+    requires fit { AllByRecursion IsRaw raws.now }
+    ensures { IfOk result (λ entry. entry ≡ (settle_all (start names.now) (fields_of_all raws.now places.now)).entry) }
+{
+    let mut entry = Entry::new(alloc, names)?;
+    let mut decided = vec![in alloc; false; 497]?;
+    settle_entries(&mut entry, decided.as_mut_slice(), raws, places)?;
+    Ok(entry)
+}

@@ -1,0 +1,13 @@
+//! An entry with all that it uses: terminfo(5)'s `use`.
+#![tactic(auto)]
+
+mod faults;
+mod fill;
+mod resolving;
+mod search;
+#[cfg(test)]
+mod tests;
+mod walk;
+
+pub use faults::ResolveFault;
+pub use resolving::resolve;

@@ -1,0 +1,48 @@
+//! An entry with all that it uses.
+
+ghost use Rattle.std.specs.Prelude.{◌≡◌, ◌<◌, [], IfOk, MatchResult, IsOk, length};
+ghost use Rattle.std.specs.List.{AllByRecursion};
+ghost use Rattle.ti_source.specs.Raw.{IsRaw};
+ghost use Rattle.ti_resolve.specs.Resolved.{IsResolved};
+ghost use Rattle.ti_resolve.specs.Walk.{Answers, FailsBy, enter, walk_of};
+
+use crate::faults::ResolveFault;
+use crate::fill::filled;
+use crate::search::{find, names_of};
+use crate::walk::enter;
+use std::alloc::Global;
+use ti_caps::Entry;
+use ti_source::RawEntry;
+
+/// The places of the entries that the walk from one of them enters, in that order.
+fn entered_from(
+    alloc: Global,
+    raws: &[RawEntry],
+    name: &[u8],
+    root: usize,
+) -> Result<Vec<usize>, ResolveFault>
+    requires { root < length raws.now }
+    ensures { Answers (λ places. places.items) result (enter 65 raws.now [] name.now root []) }
+{
+    let mut chain = Vec::new(alloc);
+    let mut entered = Vec::new(alloc);
+    enter(alloc, raws, 65, name, root, &mut chain, &mut entered)?;
+    Ok(entered)
+}
+
+/// The entry that a name asks for, with all that it uses: depth first and left to right, an entry's own
+/// fields before its uses. Of several fields about a capability the first decides, a cancellation too.
+///
+/// The fault is the first that is met on the way, or want of memory.
+pub fn resolve(alloc: Global, raws: &[RawEntry], name: &[u8]) -> Result<Entry, ResolveFault>
+    requires { AllByRecursion IsRaw raws.now }
+    ensures entry { IfOk result (λ entry. IsResolved raws.now name.now entry) }
+    ensures walk { MatchResult result (λ _. IsOk (walk_of raws.now name.now)) (λ fault. FailsBy fault (walk_of raws.now name.now)) }
+{
+    let Some(root) = find(raws, name) else {
+        return Err(ResolveFault::no_such_entry(alloc, name));
+    };
+    let entered = entered_from(alloc, raws, name, root)?;
+    let entry = filled(alloc, raws, names_of(raws, root), entered.as_slice())?;
+    Ok(entry)
+}

@@ -1,0 +1,126 @@
+//! The walk through the uses of an entry.
+
+ghost use Rattle.std.specs.Prelude.{◌≡◌, ◌<◌, ℕ, List, [], ◌∷◌, ◌++◌, length, IfSome, IfOk, OnOk};
+ghost use Rattle.ti_resolve.specs.Uses.{place_named, uses_in};
+ghost use Rattle.ti_resolve.specs.Walk.{Answers, and_then, enter, follow_field, follow_uses, go_to, target};
+
+use crate::faults::ResolveFault;
+use crate::search::{fields_of, find};
+use std::alloc::Global;
+use ti_source::{Field, RawEntry};
+
+/// Where a use leads: to an entry that is to be entered, or to one that was.
+#[tactic(auto, using(crate::proofs::Told::told_fails), unfolding(crate::specs::Walk::target))]
+fn lead(
+    alloc: Global,
+    raws: &[RawEntry],
+    name: &[u8],
+    chain: &[usize],
+    entered: &[usize],
+) -> Result<Option<usize>, ResolveFault>
+    ensures value { Answers (λ place. place) result (target (place_named raws.now name.now) name.now chain.now entered.now) }
+    ensures range { IfOk result (λ found. IfSome found (λ place. place < length raws.now)) }
+{
+    let Some(place) = find(raws, name) else {
+        return Err(ResolveFault::no_such_entry(alloc, name));
+    };
+    if chain.contains(&place) {
+        return Err(ResolveFault::cycle(alloc, name));
+    }
+    if entered.contains(&place) {
+        return Ok(None);
+    }
+    if entered.len() >= 65 {
+        return Err(ResolveFault::too_many(alloc, name));
+    }
+    Ok(Some(place))
+}
+
+/// Enters the entry at a place, which this name led to, and then all that it uses.
+#[cycle(walk)]
+pub(crate) fn enter(
+    alloc: Global,
+    raws: &[RawEntry],
+    depth: u32,
+    name: &[u8],
+    place: usize,
+    chain: &mut Vec<usize>,
+    entered: &mut Vec<usize>,
+) -> Result<(), ResolveFault>
+    requires { place < length raws.now }
+    ensures walk { Answers (λ _. entered.new.items) result (enter depth raws.now chain.old.items name.now place entered.old.items) }
+    ensures chain { OnOk result (chain.new.items ≡ chain.old.items) }
+{
+    if depth == 0 {
+        return Err(ResolveFault::too_many(alloc, name));
+    }
+    chain.push(place)?;
+    entered.push(place)?;
+    follow_all(
+        alloc,
+        raws,
+        depth - 1,
+        fields_of(raws, place),
+        chain,
+        entered,
+    )?;
+    chain.pop();
+    Ok(())
+}
+
+/// Follows the uses among these fields.
+#[cycle(walk)]
+fn follow_all(
+    alloc: Global,
+    raws: &[RawEntry],
+    depth: u32,
+    fields: &[Field],
+    chain: &mut Vec<usize>,
+    entered: &mut Vec<usize>,
+) -> Result<(), ResolveFault>
+    ensures walk { Answers (λ _. entered.new.items) result (follow_uses (enter depth raws.now chain.old.items) raws.now chain.old.items (uses_in fields.now) entered.old.items) }
+    ensures chain { OnOk result (chain.new.items ≡ chain.old.items) }
+{
+    for field in fields {
+        follow_field(alloc, raws, depth, field, chain, entered)?;
+    }
+    Ok(())
+}
+
+/// Follows the use that a field makes, if it makes one.
+#[cycle(walk)]
+fn follow_field(
+    alloc: Global,
+    raws: &[RawEntry],
+    depth: u32,
+    field: &Field,
+    chain: &mut Vec<usize>,
+    entered: &mut Vec<usize>,
+) -> Result<(), ResolveFault>
+    ensures walk { Answers (λ _. entered.new.items) result (follow_field (enter depth raws.now chain.old.items) raws.now chain.old.items field.now entered.old.items) }
+    ensures chain { OnOk result (chain.new.items ≡ chain.old.items) }
+{
+    match field {
+        Field::Set(_, _) | Field::Cancel(_) => Ok(()),
+        Field::Include(name) => follow(alloc, raws, depth, name.as_slice(), chain, entered),
+    }
+}
+
+/// Follows the use of a name.
+#[cycle(walk)]
+fn follow(
+    alloc: Global,
+    raws: &[RawEntry],
+    depth: u32,
+    name: &[u8],
+    chain: &mut Vec<usize>,
+    entered: &mut Vec<usize>,
+) -> Result<(), ResolveFault>
+    ensures walk { Answers (λ _. entered.new.items) result (and_then (target (place_named raws.now name.now) name.now chain.old.items entered.old.items) (go_to (enter depth raws.now chain.old.items name.now) entered.old.items)) }
+    ensures chain { OnOk result (chain.new.items ≡ chain.old.items) }
+{
+    match lead(alloc, raws, name, chain.as_slice(), entered.as_slice())? {
+        None => Ok(()),
+        Some(place) => enter(alloc, raws, depth, name, place, chain, entered),
+    }
+}

@@ -1,0 +1,53 @@
+-- The numbers of terminfo(5): decimal, hexadecimal behind 0x, octal behind a 0.
+use Rattle.std.specs.Prelude.{ℕ, ◌+◌, ◌*◌, ◌-◌, ◌&&◌, List, [], ◌∷◌, Option, Some, None, Result, Ok, Err, if◌then◌else◌, ◌==◌, nat_le, nat_lt, option_and_then}
+use Rattle.ti_source.specs.declared.types.FaultKind.{FaultKind}
+use Rattle.ti_source.specs.declared.types.FaultKind.TheVariants.{BadNumber, NumberRange}
+use Rattle.ti_source.specs.Layout.{trim_end}
+
+abbrev pub digit_value : ℕ → Option ℕ
+digit_value b =
+    if nat_le 48 b && nat_le b 57 then Some (b - 48)
+    else (if nat_le 97 b && nat_le b 102 then Some (b - 87)
+    else (if nat_le 65 b && nat_le b 70 then Some (b - 55)
+    else None))
+
+-- a digit of this base
+abbrev pub below_base : ℕ → Option ℕ → Option ℕ
+below_base base None = None
+below_base base (Some digit) = if nat_lt digit base then Some digit else None
+
+unfoldable pub digit_in : ℕ → ℕ → Option ℕ
+digit_in base b = below_base base (digit_value b)
+
+-- the number that digits spell behind those of a number before them
+abbrev pub digits_from : ℕ → ℕ → List ℕ → Option ℕ
+digits_from base before [] = Some before
+digits_from base before (b ∷ rest) = option_and_then (λ digit. digits_from base (before * base + digit) rest) (digit_in base b)
+
+-- at least one digit
+abbrev pub digits_of : ℕ → List ℕ → Option ℕ
+digits_of base [] = None
+digits_of base (b ∷ rest) = digits_from base 0 (b ∷ rest)
+
+-- what a 0 begins: 0 itself, hexadecimal, or octal
+abbrev pub behind_zero : List ℕ → Option ℕ
+behind_zero [] = Some 0
+behind_zero (b ∷ rest) = if b == 120 then digits_of 16 rest else digits_from 8 0 (b ∷ rest)
+
+-- what a number's text spells, or None where it is no number
+unfoldable pub spelled_number : List ℕ → Option ℕ
+spelled_number [] = None
+spelled_number (b ∷ rest) = if b == 48 then behind_zero rest else digits_of 10 (b ∷ rest)
+
+-- a number that is too great, whichever it is, as the least of these
+abbrev pub capped : ℕ → ℕ
+capped number = if nat_le number 2147483647 then number else 2147483648
+
+-- 2147483647 is the greatest number
+abbrev pub ranged : Option ℕ → Result ℕ FaultKind
+ranged None = Err BadNumber
+ranged (Some number) = if nat_le number 2147483647 then Ok number else Err NumberRange
+
+-- the number that stands behind a #, or what is wrong with it
+unfoldable pub number_of : List ℕ → Result ℕ FaultKind
+number_of value = ranged (spelled_number (trim_end value))

@@ -1,0 +1,6 @@
+-- Values of the code without where they lie in memory.
+use Rattle.ti_source.specs.declared.source.Reader.{Reader}
+use Rattle.ti_source.specs.Source.{Progress}
+
+abbrev pub progress_view : Reader → Progress
+progress_view reader = record { done = reader.done.items; open_entry = reader.current }

@@ -1,0 +1,169 @@
+//! How a source text is cut: into lines, a line into fields, a field into a name and a value.
+
+ghost use Rattle.std.specs.Prelude.{◌≡◌, ℕ, ◌+◌, ◌<◌, ◌≤◌, ◌==◌, [], ◌∷◌, length, take, drop, IfSome, IfNone, option_map};
+ghost use Rattle.std.specs.List.{list_all};
+ghost use Rattle.ti_source.specs.Layout.{lines_of, is_white, skip_white, trim_end, Cut, put_field, cut_of, mark_of, marked_with, marked_in};
+ghost use Rattle.ti_source.specs.Scan.{comma_in, feed_in, without_return};
+
+use ti_caps::Opener;
+
+/// What stands between a name and a value.
+#[derive(Clone, Copy, PartialEq, Eq)]
+pub(crate) enum Mark {
+    At,
+    Hash,
+    Equals,
+}
+
+/// What stands before a place of a text, and what stands behind the byte there.
+fn around(bytes: &[u8], at: usize) -> (&[u8], &[u8])
+    requires { at < length bytes.now }
+    ensures front { result.0.now ≡ take at bytes.now }
+    ensures back { result.1.now ≡ drop (at + 1) bytes.now }
+{
+    (bytes.split_at(at).0, bytes.split_at(at + 1).1)
+}
+
+/// Where the first line feed stands.
+fn line_end(text: &[u8]) -> Option<usize>
+    ensures place { result ≡ feed_in text.now }
+    ensures range { IfSome result (λ at. at < length text.now) }
+{
+    let mut at = 0;
+    for byte in text {
+        if *byte == b'\n' {
+            return Some(at);
+        }
+        at += 1;
+    }
+    None
+}
+
+/// A line without a carriage return at its end.
+#[tactic(auto, using(crate::proofs::Layouts::returned, crate::proofs::Layouts::not_returned, crate::proofs::Layouts::empty_line))]
+fn without_return(line: &[u8]) -> &[u8]
+    ensures { result.now ≡ without_return line.now }
+{
+    match line {
+        [front @ .., last] if *last == b'\r' => front,
+        _ => line,
+    }
+}
+
+/// The first line of a text, and what stands behind it. None where the text is empty.
+#[tactic(auto, using(crate::proofs::Layouts::line_cut, crate::proofs::Layouts::line_whole, crate::proofs::Tests::filled))]
+pub(crate) fn cut_line(text: &[u8]) -> Option<(&[u8], &[u8])>
+    ensures found { IfSome result (λ x. lines_of text.now ≡ x.0.now ∷ lines_of x.1.now) }
+    ensures shorter { IfSome result (λ x. length x.1.now < length text.now) }
+    ensures none { IfNone result (lines_of text.now ≡ []) }
+{
+    if text.is_empty() {
+        return None;
+    }
+    match line_end(text) {
+        None => Some(text.split_at(text.len())),
+        Some(at) => {
+            let (line, rest) = around(text, at);
+            Some((without_return(line), rest))
+        }
+    }
+}
+
+pub(crate) fn is_white(byte: u8) -> bool
+    ensures { result ≡ is_white byte }
+{
+    byte == b' ' || byte == b'\t'
+}
+
+/// Whether there is nothing but white space.
+pub(crate) fn is_blank(bytes: &[u8]) -> bool
+    ensures { result ≡ list_all is_white bytes.now }
+{
+    bytes.iter().all(|byte| is_white(*byte))
+}
+
+/// The bytes from the first that is no white space.
+pub(crate) fn skip_white(bytes: &[u8]) -> &[u8]
+    ensures { result.now ≡ skip_white bytes.now }
+{
+    let mut rest = bytes;
+    while let [first, behind @ ..] = rest {
+        if !is_white(*first) {
+            break;
+        }
+        rest = behind;
+    }
+    rest
+}
+
+/// The bytes up to the last that is no white space.
+#[tactic(auto, using(crate::proofs::Layouts::trimmed, crate::proofs::Layouts::not_trimmed, crate::proofs::Layouts::empty_trimmed))]
+pub(crate) fn trim_end(bytes: &[u8]) -> &[u8]
+    ensures { result.now ≡ trim_end bytes.now }
+{
+    let mut rest = bytes;
+    while let [front @ .., last] = rest {
+        if !is_white(*last) {
+            break;
+        }
+        rest = front;
+    }
+    rest
+}
+
+/// Where the first comma stands that ends a field.
+#[tactic(auto, unfolding(crate::specs::Scan::comma_in))]
+fn field_end(line: &[u8]) -> Option<usize>
+    ensures place { result ≡ comma_in line.now }
+    ensures range { IfSome result (λ at. at < length line.now) }
+{
+    let mut opener = Opener::Nothing;
+    let mut at = 0;
+    for byte in line {
+        if opener.ends_field(*byte) {
+            return Some(at);
+        }
+        opener = opener.after(*byte);
+        at += 1;
+    }
+    None
+}
+
+/// The first field of a line that ends with a comma, and what stands behind the comma.
+#[tactic(auto, using(crate::proofs::Layouts::field_cut, crate::proofs::Layouts::field_whole))]
+pub(crate) fn cut_field(line: &[u8]) -> Option<(&[u8], &[u8])>
+    ensures found { IfSome result (λ x. cut_of line.now ≡ put_field x.0.now (cut_of x.1.now)) }
+    ensures shorter { IfSome result (λ x. length x.1.now < length line.now) }
+    ensures none { IfNone result (cut_of line.now ≡ record { ended = []; last = line.now }) }
+{
+    match field_end(line) {
+        None => None,
+        Some(at) => Some(around(line, at)),
+    }
+}
+
+fn mark_of(byte: u8) -> Option<Mark>
+    ensures { result ≡ mark_of byte }
+{
+    match byte {
+        b'@' => Some(Mark::At),
+        b'#' => Some(Mark::Hash),
+        b'=' => Some(Mark::Equals),
+        _ => None,
+    }
+}
+
+/// The name in a field, its first mark and what stands behind the mark. None where there is no mark.
+pub(crate) fn marked(field: &[u8]) -> Option<(&[u8], Mark, &[u8])>
+    ensures { option_map (λ m. marked_with m.0.now m.1 m.2.now) result ≡ marked_in field.now }
+{
+    let mut at = 0;
+    for byte in field {
+        if let Some(mark) = mark_of(*byte) {
+            let (name, value) = around(field, at);
+            return Some((name, mark, value));
+        }
+        at += 1;
+    }
+    None
+}
