@@ -70,8 +70,13 @@ fn give<O: Write>(out: &mut O, reply: Reply) -> Result<(), Failure>
     ensures written { OnOk result (Appends (O.contents out.old) (O.contents out.new) reply.text.items) }
     ensures failure { IfErr result (λ failure. FailsAs reply.failure failure) }
 {
-    let written = write_bytes(out, reply.text.as_slice());
-    match reply.failure {
+    let Reply {
+        notes: _notes,
+        text,
+        failure,
+    } = reply;
+    let written = write_bytes(out, text.as_slice());
+    match failure {
         None => written,
         Some(failure) => Err(unwritten(failure, written.is_err())),
     }
