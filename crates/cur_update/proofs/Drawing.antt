@@ -3,15 +3,12 @@ use Rattle.std.proofs.Common.{◌≡◌, ℕ, ◌+◌, ◌-◌, ◌<◌, ◌≤�
 use Rattle.std.proofs.lemmas.Bool.{cases_lt}
 use Rattle.std.proofs.lemmas.List.{append-nil}
 use Rattle.std.proofs.lemmas.Bool.Decides.{nat_tests}
-use Rattle.vt_term.specs.declared.functions.Function.{Function}
-use Rattle.vt_term.specs.declared.functions.Function.TheVariants.{CursorPosition, Print}
-use Rattle.vt_term.specs.declared.looks.Rendition.{Rendition}
-use Rattle.vt_term.specs.Look.{Look, plain}
+use Rattle.vt_term.specs.Look.{Rendition, Look, IsPrinted, plain}
 use Rattle.vt_term.specs.Grid.{look_at, put}
 use Rattle.vt_term.specs.Screen.{Screen, State, IsScreen, is_graphic}
-use Rattle.vt_term.specs.Text.{IsPrinted, IsToken, Splits}
-use Rattle.vt_term.specs.Function.{function_of, single}
-use Rattle.vt_term.specs.Step.{steps, act, shown}
+use Rattle.vt_term.specs.Text.{IsWhole, Splits}
+use Rattle.vt_term.specs.Function.{Function, CursorPosition, Print, function_of, single}
+use Rattle.vt_term.specs.Step.{act, shown, steps}
 use Rattle.vt_term.specs.Run.{Runs}
 use Rattle.vt_term.proofs.Grids.{look_at-drawn}
 use Rattle.vt_term.proofs.Sequences.{empty_open}
@@ -22,10 +19,10 @@ use Rattle.cur_update.specs.Steps.{ShowsAbove, MovedTo, ShowsUpTo}
 use Rattle.cur_update.proofs.Moving.{move_function, move_token}
 
 -- a token is run where nothing is open
-token_runs : (s : State) (token : List ℕ) (t : Screen) → s.rest ≡ [] → IsToken token → act (function_of token) s.screen ≡ t → Runs s token (record { screen = t; rest = [] })
+token_runs : (s : State) (token : List ℕ) (t : Screen) → s.rest ≡ [] → IsWhole token → act (function_of token) s.screen ≡ t → Runs s token (record { screen = t; rest = [] })
 token_runs s token t e h is =
     subst (λ (x : Screen). Runs s token (record { screen = x; rest = [] })) is
-    (text_runs s token (token ∷ []) e ([], sym (append-nil token), h, (refl, empty_open)))
+    (text_runs s token (token ∷ []) e ([], sym (append-nil token), inl h, (refl, empty_open)))
 
 -- the screen with the cursor elsewhere
 at_place : Screen → ℕ → ℕ → Screen
@@ -88,17 +85,17 @@ home = 27 ∷ 91 ∷ 72 ∷ []
 erase : List ℕ
 erase = 27 ∷ 91 ∷ 50 ∷ 74 ∷ []
 
-home_token : IsToken home
+home_token : IsWhole home
 unfolding home
-home_token = inr (record { parameters = []; intermediates = []; final = 72; spelled = refl; each_parameter = tt; each_intermediate = tt; ends = (omega arith, omega arith); short = omega arith })
+home_token = inr (inl (record { parameters = []; intermediates = []; final = 72; spelled = refl; each_parameter = tt; each_intermediate = tt; ends = (omega arith, omega arith); short = omega arith }))
 
-erase_token : IsToken erase
+erase_token : IsWhole erase
 unfolding erase
-erase_token = inr (record { parameters = 50 ∷ []; intermediates = []; final = 74; spelled = refl; each_parameter = ((omega arith, omega arith), tt); each_intermediate = tt; ends = (omega arith, omega arith); short = omega arith })
+erase_token = inr (inl (record { parameters = 50 ∷ []; intermediates = []; final = 74; spelled = refl; each_parameter = ((omega arith, omega arith), tt); each_intermediate = tt; ends = (omega arith, omega arith); short = omega arith }))
 
 clear_splits : Splits clear (home ∷ erase ∷ []) []
 unfolding home erase
-clear_splits = (erase, refl, home_token, ([], refl, erase_token, (refl, empty_open)))
+clear_splits = (erase, refl, inl home_token, ([], refl, inl erase_token, (refl, empty_open)))
 
 pub clear_ends : (size : Extent) (lines : List (List ℕ)) (s : State) → IsReady size s → Ends s clear (ShowsAbove size lines 0)
 unfolding home erase

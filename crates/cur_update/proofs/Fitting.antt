@@ -5,7 +5,7 @@ use Rattle.std.proofs.lemmas.Bool.{cases_lt}
 use Rattle.std.proofs.lemmas.List.{length-map, get_or-map, get_or_append_left, get_or_at}
 use Rattle.std.proofs.lemmas.Nat.{div-mul-add, mod-mul-add}
 use Rattle.std.specs.List.{list_all}
-use Rattle.vt_term.specs.Text.{IsPrinted}
+use Rattle.vt_term.specs.Look.{IsPrinted}
 use Rattle.cur_update.specs.Plain.{Extent, can_print, cursor_to, fits_size}
 use Rattle.cur_update.proofs.Grids.{IsGrid}
 

@@ -4,7 +4,7 @@ use Rattle.std.proofs.lemmas.Bool.{cases_lt}
 use Rattle.vt_term.specs.Grid.{look_at}
 use Rattle.vt_term.specs.Screen.{State}
 use Rattle.vt_term.specs.Size.{IsSize}
-use Rattle.vt_term.specs.Text.{IsPrinted}
+use Rattle.vt_term.specs.Look.{IsPrinted}
 use Rattle.cur_update.specs.Leads.{Leads}
 use Rattle.cur_update.specs.Plain.{Extent, IsPiece, IsSized, IsReady, Shows, clear, clear_limit, cursor_to, move_limit, plainly, wanted, Character, Clear, Move}
 use Rattle.cur_update.specs.Steps.{ShowsAbove, MovedTo, ShowsUpTo}

@@ -1,14 +1,13 @@
 -- What a move to a place of the display does: the digits of its numbers, and the step that it is.
-use Rattle.std.proofs.Common.{◌≡◌, ℕ, ◌+◌, ◌-◌, ◌*◌, ◌/◌, ◌%◌, ◌^◌, ◌<◌, ◌≤◌, ◌==◌, ◌&&◌, Bool, true, false, min, map, List, [], ◌∷◌, ◌++◌, length, take, get_or, refl, sym, ap, ◌∙◌, inr, arith, length-append, append_assoc, Option, Some, lit<, rules}
+use Rattle.std.proofs.Common.{◌≡◌, ℕ, ◌+◌, ◌-◌, ◌*◌, ◌/◌, ◌%◌, ◌^◌, ◌<◌, ◌≤◌, ◌==◌, ◌&&◌, Bool, true, false, min, map, List, [], ◌∷◌, ◌++◌, length, take, get_or, refl, sym, ap, ◌∙◌, inl, inr, arith, length-append, append_assoc, Option, Some, lit<, rules}
 use Rattle.std.proofs.lemmas.Bool.Decides.{nat_tests}
 use Rattle.std.proofs.lemmas.Fmt.{decimal_by_steps, length-decimal-le}
 use Rattle.std.proofs.lemmas.List.{take_at, get_or_at}
 use Rattle.std.specs.List.{AllByRecursion, list_all}
 use Rattle.std.specs.Fmt as std
-use Rattle.vt_term.specs.declared.functions.Function.TheVariants.{CursorPosition}
-use Rattle.vt_term.specs.Text.{IsParameter, IsToken}
-use Rattle.vt_term.specs.Numbers.{decimal, number_of, numbers, is_numeral, counted}
-use Rattle.vt_term.specs.Function.{function_of, named, sequence, cursor_position}
+use Rattle.vt_term.specs.Text.{IsParameter, IsWhole}
+use Rattle.vt_term.specs.Numbers.{decimal, number_of, numbers, is_numeral}
+use Rattle.vt_term.specs.Function.{CursorPosition, counted, function_of, named, sequence, cursor_position}
 use Rattle.vt_term.proofs.Decimals as numerals
 use Rattle.cur_update.specs.Plain.{cursor_to}
 
@@ -141,8 +140,8 @@ unfolding front_of
 front_parameters row col h k =
     all_front IsParameter (std.decimal (row + 1)) (59 ∷ std.decimal (col + 1)) (spells (row + 1) (small row h)).parameters ((omega arith, omega arith), (spells (col + 1) (small col k)).parameters)
 
-pub move_token : (row col : ℕ) → row ≤ 500 → col ≤ 500 → IsToken (cursor_to row col)
-move_token row col h k = inr (record {
+pub move_token : (row col : ℕ) → row ≤ 500 → col ≤ 500 → IsWhole (cursor_to row col)
+move_token row col h k = inr (inl (record {
   parameters = front_of row col;
   intermediates = [];
   final = 72;
@@ -151,4 +150,4 @@ move_token row col h k = inr (record {
   each_intermediate = tt;
   ends = search rules;
   short = omega (arith, move_short row col h k);
-})
+}))

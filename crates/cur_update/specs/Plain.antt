@@ -2,10 +2,9 @@
 use Rattle.std.specs.Prelude.{ℕ, ◌+◌, ◌*◌, ◌<◌, ◌≡◌, ◌==◌, ◌&&◌, nat_le, Bool, false, List, [], ◌∷◌, ◌++◌, length, slice_index, slice_index_or}
 use Rattle.std.specs.List.{list_all}
 use Rattle.std.specs.Fmt.{decimal}
-use Rattle.vt_term.specs.Look.{Look, plain}
+use Rattle.vt_term.specs.Look.{Look, IsPrinted, plain}
 use Rattle.vt_term.specs.Grid.{look_at}
 use Rattle.vt_term.specs.Screen.{State, IsOfSize, IsAtRest}
-use Rattle.vt_term.specs.Text.{IsPrinted}
 
 -- a size in lines and columns
 pub record Extent : Type 0 where

@@ -5,7 +5,7 @@ use Rattle.std.proofs.lemmas.Bool.{cases_eq, cases_lt}
 use Rattle.std.proofs.lemmas.List.{length-replicate, get_or-replicate, get_or_past, ext_get_or}
 use Rattle.ti_caps.specs.Fits.{names_fit}
 use Rattle.ti_caps.specs.declared.value.Value.{Value}
-use Rattle.ti_caps.specs.Entry.{Content, value_at, with_value, bare_entry, FitsPlace, IsEntry, SetsOnly}
+use Rattle.ti_caps.specs.Entry.{Content, value_at, with_value, bare_entry, FitsPlace, HasBytes, IsEntry, SetsOnly}
 
 -- setting the row of a capability sets just that
 pub with_value_sets : (entry : Content) (place : ℕ) (value : Option Value) → length entry.values ≡ 497 → place < 497 → SetsOnly entry (with_value entry place value) place value
@@ -17,9 +17,9 @@ with_value_sets entry place value size inside = record {
 }
 
 -- and leaves an entry, where the value fits
-pub with_value_fits : (entry : Content) (place : ℕ) (value : Option Value) → IsEntry entry → place < 497 → FitsPlace place value → IsEntry (with_value entry place value)
+pub with_value_fits : (entry : Content) (place : ℕ) (value : Option Value) → IsEntry entry → place < 497 → FitsPlace place value → HasBytes value → IsEntry (with_value entry place value)
 unfolding with_value
-with_value_fits entry place value is inside fits =
+with_value_fits entry place value is inside fits bytes =
     let only = with_value_sets entry place value is.size inside in
     record {
       names_fit = is.names_fit;
@@ -27,6 +27,10 @@ with_value_fits entry place value is inside fits =
       fits = λ other. ⊎_elim
           (λ same. subst (λ p. FitsPlace p (value_at (with_value entry place value) p)) (sym same) (subst (FitsPlace place) (sym only.there) fits))
           (λ apart. subst (FitsPlace other) (sym (only.others other apart)) (is.fits other))
+          (cases_eq other place);
+      bytes = λ other. ⊎_elim
+          (λ same. subst (λ p. HasBytes (value_at (with_value entry place value) p)) (sym same) (subst HasBytes (sym only.there) bytes))
+          (λ apart. subst HasBytes (sym (only.others other apart)) (is.bytes other))
           (cases_eq other place);
     }
 
@@ -47,6 +51,7 @@ bare_is_entry names fit = record {
   names_fit = fit;
   size = length-replicate {A = Option Value} 497 None;
   fits = λ place. subst (FitsPlace place) (sym (bare_has_none names place)) tt;
+  bytes = λ place. subst HasBytes (sym (bare_has_none names place)) tt;
 }
 
 -- two entries with the same names and the same map are equal

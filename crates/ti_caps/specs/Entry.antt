@@ -1,5 +1,6 @@
 -- An entry of terminfo(5): its names, and a finite map from capabilities to values.
 use Rattle.std.specs.Prelude.{ℕ, ◌^◌, ◌<◌, ◌≡◌, ◌≢◌, Bool, true, false, IsTrue, List, Option, Some, None, length, replicate, slice_index_or, slice_set}
+use Rattle.std.specs.List.{AllByRecursion}
 use Rattle.ti_caps.specs.declared.types.Kind.TheVariants as kinds
 use Rattle.ti_caps.specs.declared.value.Value.{Value}
 use Rattle.ti_caps.specs.declared.value.Value.TheVariants.{Flag, Number, String}
@@ -53,11 +54,17 @@ FitsPlace place (Some Flag) = kind_of place ≡ kinds.Flag
 FitsPlace place (Some (Number n)) = (kind_of place ≡ kinds.Number) × (n < 2 ^ 31)
 FitsPlace place (Some (String bytes)) = (kind_of place ≡ kinds.String) × IsTrue (string_fits bytes)
 
+-- the bytes of a string, as numbers
+abbrev pub HasBytes : Option Value → Type 0
+HasBytes (Some (String bytes)) = AllByRecursion (λ b. b < 256) bytes
+HasBytes _ = Unit {0}
+
 -- the names can be written, there is a row for each capability, and each value fits its capability
 pub record IsEntry (entry : Content) : Type 0 where
   pub names_fit : IsTrue (names_fit entry.names)
   pub size : length entry.values ≡ 497
   pub fits : (place : ℕ) → FitsPlace place (value_at entry place)
+  pub bytes : (place : ℕ) → HasBytes (value_at entry place)
 
 -- new is old with this value at the place: the names and all other values stay
 pub record SetsOnly (old new : Content) (place : ℕ) (value : Option Value) : Type 0 where

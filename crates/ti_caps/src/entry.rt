@@ -6,10 +6,10 @@ ghost use Rattle.ti_caps.specs.declared.types.Kind.TheVariants as kinds;
 ghost use Rattle.ti_caps.specs.declared.value.Value.TheVariants as values;
 ghost use Rattle.ti_caps.specs.Table.{kind_of};
 ghost use Rattle.ti_caps.specs.Fits.{names_fit, string_fits};
-ghost use Rattle.ti_caps.specs.Entry.{value_at, with_value, bare_entry, flag_at, number_at, string_at, FitsPlace, IsEntry, SetsOnly};
+ghost use Rattle.ti_caps.specs.Entry.{value_at, with_value, bare_entry, flag_at, number_at, string_at, FitsPlace, HasBytes, IsEntry, SetsOnly};
 
 use crate::types::Cap;
-use crate::value::{Bytes, Value};
+use crate::value::{Bytes, Value, are_bytes};
 use std::alloc::{AllocError, Global};
 use std::marker::Model;
 
@@ -126,7 +126,8 @@ impl Entry {
     /// Sets the row of a capability.
     #[tactic(auto, using(crate::proofs::Entries::with_value_fits, crate::proofs::Entries::with_value_sets), unfolding(crate::specs::Entry::with_value))]
     fn put(&mut self, cap: Cap, value: Option<Value>)
-        requires { FitsPlace cap value }
+        requires fits { FitsPlace cap value }
+        requires bytes { HasBytes value }
         ensures value { self.new ≡ with_value self.old cap value }
         ensures only { SetsOnly self.old self.new cap value }
     {
@@ -161,6 +162,7 @@ impl Entry {
         ensures only { OnOk result (SetsOnly self.old self.new cap (Some (values.String bytes.now))) }
         ensures err { OnErr result (self.new ≡ self.old) }
     {
+        are_bytes(bytes);
         let copy = Bytes::from_slice(*self.values.allocator(), bytes)?;
         self.put(cap, Some(Value::String(copy)));
         Ok(())

@@ -1,6 +1,7 @@
 //! The values of capabilities.
 
-ghost use Rattle.std.specs.Prelude.{◌≡◌, IfOk};
+ghost use Rattle.std.specs.Prelude.{◌≡◌, ◌<◌, IfOk};
+ghost use Rattle.std.specs.List.{AllByRecursion};
 
 use std::alloc::{AllocError, Global};
 use std::marker::Model;
@@ -17,6 +18,15 @@ impl Model for Bytes {
     ghost Value = { List ℕ };
 
     ghost view = { λ b. b.bytes.items };
+}
+
+/// The range of a byte's type, read at each: nothing of the loop is left in the program.
+pub(crate) fn are_bytes(bytes: &[u8])
+    ensures { AllByRecursion (λ b. b < 256) bytes.now }
+{
+    for byte in bytes {
+        let _byte = *byte;
+    }
 }
 
 impl Bytes {

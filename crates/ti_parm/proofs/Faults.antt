@@ -12,3 +12,12 @@ Fails-on Overflow p q f h = f h
 Fails-on BadChar p q f h = f h
 Fails-on WrongKind p q f h = f h
 Fails-on NoMemory p q f h = tt
+
+pub Fails-from : {T : Type 0} (e : ParmFault) (q : Result T ParmFault) → q ≡ Err e → Fails e q
+Fails-from Underflow q h = h
+Fails-from BadNest q h = h
+Fails-from BadCode q h = h
+Fails-from Overflow q h = h
+Fails-from BadChar q h = h
+Fails-from WrongKind q h = h
+Fails-from NoMemory q h = tt

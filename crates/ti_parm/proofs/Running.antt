@@ -1,84 +1,133 @@
--- Running a string from a place on, and what was written before that place.
-use Rattle.std.proofs.Common.{◌≡◌, ℕ, ◌<◌, length, List, [], ◌∷◌, ◌++◌, Result, Ok, Err, refl, ap, ◌∙◌, sym, ◌≢◌, ℤ, append_assoc, append-nil, arith}
+-- Running a conditional, and running from the place behind its `%?`.
+use Rattle.std.proofs.Common.{◌≡◌, ◌<◌, cond, length, ℕ, zero, Bool, true, false, List, Result, Ok, Err, refl, sym, ◌∙◌, ap}
 use Rattle.ti_parm.specs.declared.code.Action.{Action}
-use Rattle.ti_parm.specs.declared.code.Action.TheVariants.{Literal}
+use Rattle.ti_parm.specs.declared.code.Code.TheVariants.{Act as ActCode, If, Of}
+use Rattle.ti_parm.specs.declared.code.Mark.TheVariants.{Then as ThenMark, Else as ElseMark, End as EndMark}
 use Rattle.ti_parm.specs.declared.fault.ParmFault.{ParmFault}
 use Rattle.ti_parm.specs.Fault.{◌>>=◌}
-use Rattle.ti_parm.specs.Syntax.{Part, Parts, Then, Done, Act, action_at, syntax, verdict, without_tree, parts_in, HasSyntax, IsPlain, BeginsDelay}
-use Rattle.ti_parm.specs.Meaning.{State, act, meaning, run, run_text, start_of}
-use Rattle.ti_parm.specs.Value.{Value}
-use Rattle.ti_parm.proofs.Syntax.{syntax-code, syntax-fault}
+use Rattle.ti_parm.specs.Meaning.{State, act, choose, pop_test, run, run_otherwise}
+use Rattle.ti_parm.specs.Running.{follow, follow_past, run_ahead, run_before, run_from}
+use Rattle.ti_parm.specs.Skipping.{past}
+use Rattle.ti_parm.specs.Syntax.{Ahead, Behind, Breaks, Closes, Ends, HasEnd, Parts, Rest, ahead, before}
+use Rattle.ti_parm.specs.Codes.{code_at}
+use Rattle.ti_parm.specs.declared.code.Code.{Code}
+use Rattle.ti_parm.proofs.Trees.{ahead-code, ahead-nothing}
+use Rattle.ti_parm.proofs.Binding.{bind-bind, bind-same, choose-bind, choose-same}
+use Rattle.ti_parm.proofs.Rests.{IsConditional, IsRest, conditional-is, elses, ends, goes_on, is_conditional}
 
-without_tree-then : (part : Part) (r : Result Parts ParmFault) → without_tree (r >>= λ parts. Ok (Then part parts)) ≡ without_tree r
-without_tree-then part (Ok x) = refl
-without_tree-then part (Err x) = refl
+-- from the end of a conditional on
+onward : Rest → State → Result State ParmFault
+onward r s = run r.parts s >>= follow r.behind
 
-pub verdict-code : (text rest : List ℕ) (action : Action) → action_at text ≡ Ok (action, rest) → verdict text ≡ verdict rest
-verdict-code text rest action e = ap without_tree (syntax-code text rest action e) ∙ without_tree-then (Act action) (syntax rest)
+left-rest : (b : Behind) (r : Rest) → IsRest b r → (s : State) → follow_past false b s ≡ onward r s
+unfolding onward follow
+left-rest _ _ (ends parts behind) s = refl
+left-rest _ _ (elses first parts behind) s = refl
+left-rest _ _ (goes_on first chosen behind r d) s = left-rest behind r d s
 
-run-from : (parts : Parts) (rest : List ℕ) (r : Result State ParmFault) → syntax rest ≡ Ok parts → (r >>= run parts) ≡ (r >>= run_text rest)
-run-from parts rest (Ok t) e = sym (ap (λ r. r >>= λ parts. run parts t) e)
-run-from parts rest (Err x) e = refl
+follow-rest : (b : Behind) (r : Rest) → IsRest b r → (s : State) → follow b s ≡ onward r s
+unfolding onward follow
+follow-rest _ _ (ends parts behind) s = refl
+follow-rest _ _ (elses first parts behind) s = refl
+follow-rest _ _ (goes_on first chosen behind r d) s = left-rest behind r d s
 
-pub run_text-code : (text rest : List ℕ) (action : Action) (s : State) → HasSyntax rest → action_at text ≡ Ok (action, rest) → run_text text s ≡ (act action s >>= run_text rest)
-unfolding run
-run_text-code text rest action s fine e =
-    ap (λ r. r >>= λ parts. run parts s) (syntax-code text rest action e ∙ ap (λ r. r >>= λ parts. Ok (Then (Act action) parts)) fine.1)
-    ∙ run-from fine.0 rest (act action s) fine.1
+-- behind the condition of a conditional, given what its otherwise does
+chosen-by : (chosen : Parts) (b : Behind) (r : Rest) (s : State) → ((t : State) → follow b t ≡ onward r t) → ((t : State) → follow_past true b t ≡ (run_otherwise r.otherwise t >>= onward r)) → follow (Closes ThenMark chosen b) s ≡ (choose (run chosen) (run_otherwise r.otherwise) s >>= onward r)
+unfolding follow
+chosen-by chosen b r s p q =
+    choose-same _ _ (λ t. run chosen t >>= onward r) (λ t. run_otherwise r.otherwise t >>= onward r) s (λ t. bind-same (run chosen t) (follow b) (onward r) p) q
+    ∙ sym (choose-bind (run chosen) (run_otherwise r.otherwise) (onward r) s)
 
-has_syntax-rest : (r : Result Parts ParmFault) (action : Action) (parts : Parts) → (r >>= λ parts. Ok (Then (Act action) parts)) ≡ Ok parts → (p : Parts) × (r ≡ Ok p)
-has_syntax-rest (Ok p) action parts e = (p, refl)
-has_syntax-rest (Err x) action parts e = cc
+past-rest : (b : Behind) (r : Rest) → IsRest b r → (s : State) → follow_past true b s ≡ (run_otherwise r.otherwise s >>= onward r)
+unfolding onward follow run
+past-rest _ _ (ends parts behind) s = refl
+past-rest _ _ (elses first parts behind) s = refl
+past-rest _ _ (goes_on first chosen behind r d) s =
+    bind-same (run first s) _ _ (λ t. chosen-by chosen behind r t (follow-rest behind r d) (past-rest behind r d))
+    ∙ sym (bind-bind (run first s) (choose (run chosen) (run_otherwise r.otherwise)) (onward r))
 
-pub HasSyntax-code : (text rest : List ℕ) (action : Action) → action_at text ≡ Ok (action, rest) → HasSyntax text → HasSyntax rest
-HasSyntax-code text rest action e fine = has_syntax-rest (syntax rest) action fine.0 (sym (syntax-code text rest action e) ∙ fine.1)
+by_conditional : (condition : Parts) (b : Behind) (a : Ahead) → IsConditional condition b a → (s : State) → run_ahead a s ≡ (run condition s >>= follow b)
+unfolding run_ahead onward run
+by_conditional condition _ _ (is_conditional chosen behind r d) s =
+    bind-bind (run condition s >>= choose (run chosen) (run_otherwise r.otherwise)) (run r.parts) (follow r.behind)
+    ∙ bind-bind (run condition s) (choose (run chosen) (run_otherwise r.otherwise)) (onward r)
+    ∙ sym (bind-same (run condition s) _ _ (λ t. chosen-by chosen behind r t (follow-rest behind r d) (past-rest behind r d)))
 
-pub run_text-goes_on : (text rest : List ℕ) (action : Action) (s t : State) → HasSyntax rest → action_at text ≡ Ok (action, rest) → act action s ≡ Ok t → run_text text s ≡ run_text rest t
-run_text-goes_on text rest action s t fine e p = run_text-code text rest action s fine e ∙ ap (λ r. r >>= run_text rest) p
+-- a `%?` does nothing by itself
+pub run_before-If : (text : List ℕ) (s : State) → HasEnd (before If (ahead text)).behind → run_before If text s ≡ run_from text s
+unfolding run_before run_from run_ahead
+run_before-If text s h = by_conditional (ahead text).parts (ahead text).behind _ (conditional-is (ahead text).parts (ahead text).behind h) s
 
-pub run_text-fault : (text rest : List ℕ) (action : Action) (s : State) (x : ParmFault) → HasSyntax rest → action_at text ≡ Ok (action, rest) → act action s ≡ Err x → run_text text s ≡ Err x
-run_text-fault text rest action s x fine e p = run_text-code text rest action s fine e ∙ ap (λ r. r >>= run_text rest) p
+pub run_before-Act : (action : Action) (text : List ℕ) (s : State) → run_before (ActCode action) text s ≡ (act action s >>= run_from text)
+unfolding run_before run_from run_ahead run
+run_before-Act action text s = bind-bind (act action s) (run (ahead text).parts) (follow (ahead text).behind)
 
-pub verdict-empty : (text : List ℕ) → length text ≡ 0 → verdict text ≡ Ok tt
-unfolding parts_in
-verdict-empty [] e = refl
-verdict-empty (b ∷ text) e = absurd (omega arith)
+-- a `%;` does nothing by itself
+pub run_before-End : (text : List ℕ) (s : State) → run_before (Of EndMark) text s ≡ run_from text s
+unfolding run_before run_from run_ahead run follow
+run_before-End text s = refl
 
-pub verdict-fault : (text : List ℕ) (x : ParmFault) → 0 < length text → action_at text ≡ Err x → verdict text ≡ Err x
-verdict-fault [] x some e = absurd (omega arith)
-verdict-fault (b ∷ text) x some e = ap without_tree (syntax-fault b text x e)
+-- passing over is going on behind what is passed over
+run_ahead-past : (to_else : Bool) (b : Behind) (s : State) → run_ahead (past to_else zero b) s ≡ follow_past to_else b s
+unfolding run_ahead run follow
+run_ahead-past to_else Ends s = refl
+run_ahead-past to_else (Breaks fault) s = refl
+run_ahead-past to_else (Closes ThenMark parts behind) s = run_ahead-past to_else behind s
+run_ahead-past true (Closes ElseMark parts behind) s = refl
+run_ahead-past false (Closes ElseMark parts behind) s = run_ahead-past false behind s
+run_ahead-past to_else (Closes EndMark parts behind) s = refl
 
-pub HasSyntax-no_fault : (text : List ℕ) (x : ParmFault) → 0 < length text → action_at text ≡ Err x → HasSyntax text → ⊥
-HasSyntax-no_fault [] x some e fine = absurd (omega arith)
-HasSyntax-no_fault (b ∷ text) x some e fine = let p : Ok fine.0 ≡ Err x = sym fine.1 ∙ syntax-fault b text x e in cc
+past-from : (to_else : Bool) (text rest : List ℕ) (s : State) → ahead rest ≡ past to_else 0 (ahead text).behind → run_from rest s ≡ follow_past to_else (ahead text).behind s
+unfolding run_from
+past-from to_else text rest s e = ap (λ a. run_ahead a s) e ∙ run_ahead-past to_else (ahead text).behind s
 
-pub run_text-empty : (text : List ℕ) (s : State) → length text ≡ 0 → run_text text s ≡ Ok s
-unfolding parts_in run
-run_text-empty [] s e = refl
-run_text-empty (b ∷ text) s e = absurd (omega arith)
+pub run_before-Else : (text rest : List ℕ) (s : State) → ahead rest ≡ past false 0 (ahead text).behind → run_before (Of ElseMark) text s ≡ run_from rest s
+unfolding run_before run_ahead run follow
+run_before-Else text rest s e = sym (past-from false text rest s e)
 
--- a text without codes: each byte writes itself
-literals : List ℕ → Parts
-literals [] = Done
-literals (b ∷ text) = Then (Act (Literal b)) (literals text)
+-- a `%t` takes the top of the stack
+pub run_before-Then : (text : List ℕ) (s : State) → run_before (Of ThenMark) text s ≡ choose (run_from text) (follow_past true (ahead text).behind) s
+unfolding run_before run_from run_ahead run follow
+run_before-Then text s = refl
 
-literal-at : (b : ℕ) (text : List ℕ) → (b ≢ 37) → (BeginsDelay (b ∷ text) → ⊥) → action_at (b ∷ text) ≡ Ok (Literal b, text)
-unfolding action_at
-literal-at b [] p q = grind arith
-literal-at b (c ∷ text) p q = grind arith
+HasEnd-past_else : (to_else : Bool) (b : Behind) → HasEnd b → HasEnd (past to_else zero b).behind
+HasEnd-past_else to_else Ends h = tt
+HasEnd-past_else to_else (Breaks fault) h = h
+HasEnd-past_else to_else (Closes ThenMark parts behind) h = HasEnd-past_else to_else behind h
+HasEnd-past_else true (Closes ElseMark parts behind) h = h
+HasEnd-past_else false (Closes ElseMark parts behind) h = HasEnd-past_else false behind h
+HasEnd-past_else to_else (Closes EndMark parts behind) h = h
 
-syntax-plain : (text : List ℕ) → IsPlain text → syntax text ≡ Ok (literals text)
-unfolding literals
-syntax-plain [] plain = unfold parts_in in refl
-syntax-plain (b ∷ text) plain = syntax-code (b ∷ text) text (Literal b) (literal-at b text plain.0 plain.1) ∙ ap (λ r. r >>= λ parts. Ok (Then (Act (Literal b)) parts)) (syntax-plain text plain.2)
+-- a `%t` above another number than 0, above 0, and above nothing that can be tested
+pub then-holds : (text : List ℕ) (s t : State) → pop_test s.stack s ≡ Ok (true, t) → run_before (Of ThenMark) text s ≡ run_from text t
+then-holds text s t e = run_before-Then text s ∙ ap (λ m. m >>= λ x. cond x.0 (run_from text x.1) (follow_past true (ahead text).behind x.1)) e
 
-run-literals : (text : List ℕ) (s : State) → run (literals text) s ≡ Ok (record s { output = s.output ++ text })
-unfolding literals run act
-run-literals [] s = ap (λ o. Ok (record s { output = o })) (sym (append-nil s.output))
-run-literals (b ∷ text) s = run-literals text (record s { output = s.output ++ b ∷ [] }) ∙ ap (λ o. Ok (record s { output = o })) (append_assoc s.output (b ∷ []) text)
+pub then-skips : (text rest : List ℕ) (s t : State) → pop_test s.stack s ≡ Ok (false, t) → ahead rest ≡ past true 0 (ahead text).behind → run_before (Of ThenMark) text s ≡ run_from rest t
+then-skips text rest s t e p =
+    run_before-Then text s
+    ∙ ap (λ m. m >>= λ x. cond x.0 (run_from text x.1) (follow_past true (ahead text).behind x.1)) e
+    ∙ sym (past-from true text rest t p)
 
-pub meaning-plain : (string : List ℕ) (given : List Value) (statics : List ℤ) → IsPlain string → meaning string given statics ≡ Ok (record (start_of given statics) { output = string })
-unfolding meaning
-meaning-plain string given statics plain =
-    ap (λ r. r >>= λ parts. run parts (start_of given statics)) (syntax-plain string plain)
-    ∙ run-literals string (start_of given statics)
+pub then-fails : (text : List ℕ) (s : State) (fault : ParmFault) → pop_test s.stack s ≡ Err fault → run_before (Of ThenMark) text s ≡ Err fault
+then-fails text s fault e = run_before-Then text s ∙ ap (λ m. m >>= λ x. cond x.0 (run_from text x.1) (follow_past true (ahead text).behind x.1)) e
+
+pub act-goes_on : (action : Action) (text : List ℕ) (s t : State) → act action s ≡ Ok t → run_before (ActCode action) text s ≡ run_from text t
+act-goes_on action text s t e = run_before-Act action text s ∙ ap (λ m. m >>= run_from text) e
+
+pub act-fails : (action : Action) (text : List ℕ) (s : State) (fault : ParmFault) → act action s ≡ Err fault → run_before (ActCode action) text s ≡ Err fault
+act-fails action text s fault e = run_before-Act action text s ∙ ap (λ m. m >>= run_from text) e
+
+-- running from a code on
+pub run_from-code : (text rest : List ℕ) (code : Code) (s : State) → 0 < length text → code_at text ≡ Ok (code, rest) → run_from text s ≡ run_before code rest s
+unfolding run_from run_before
+run_from-code text rest code s some e = ap (λ a. run_ahead a s) (ahead-code text rest code some e)
+
+pub run_from-nothing : (text : List ℕ) (s : State) → length text ≡ 0 → run_from text s ≡ Ok s
+unfolding run_from run_ahead run follow
+run_from-nothing text s none = ap (λ a. run_ahead a s) (ahead-nothing text none)
+
+has_end-of : (a c : Ahead) → a ≡ c → HasEnd c.behind → HasEnd a.behind
+has_end-of a c e h = rw e h
+
+pub HasEnd-skipped : (to_else : Bool) (text rest : List ℕ) → ahead rest ≡ past to_else 0 (ahead text).behind → HasEnd (ahead text).behind → HasEnd (ahead rest).behind
+HasEnd-skipped to_else text rest e h = has_end-of _ _ e (HasEnd-past_else to_else (ahead text).behind h)

@@ -1,9 +1,9 @@
 -- Answers that may be faults.
-use Rattle.std.specs.Prelude.{◌≡◌, Result, Ok, Err}
+use Rattle.std.specs.Prelude.{◌≡◌, ℕ, List, ◌++◌, Result, Ok, Err}
 use Rattle.ti_parm.specs.declared.fault.ParmFault.{ParmFault}
 use Rattle.ti_parm.specs.declared.fault.ParmFault.TheVariants.{NoMemory}
 
--- where f is right; with an own fault the answer is that
+-- what f makes of it, or its fault
 abbrev pub ◌>>=◌ : {A B : Type 0} → Result A ParmFault → (A → Result B ParmFault) → Result B ParmFault
 Ok x >>= f = f x
 Err e >>= f = Err e
@@ -18,3 +18,12 @@ Fails e meant = meant ≡ Err e
 abbrev pub Gives : {R S : Type 0} → (R → S) → Result R ParmFault → Result S ParmFault → Type 0
 Gives view (Ok x) meant = meant ≡ Ok (view x)
 Gives view (Err e) meant = Fails e meant
+
+-- a call answers what is meant, seen through the view
+abbrev pub Answers : {R S : Type 0} → (R → S) → Result R ParmFault → Result S ParmFault → Type 0
+Answers view (Ok x) meant = meant ≡ Ok (view x)
+Answers view (Err e) meant = meant ≡ Err e
+
+-- the new bytes are the old ones and more
+abbrev pub Extends : List ℕ → List ℕ → Type 0
+Extends old new = (more : List ℕ) × (new ≡ old ++ more)

@@ -1,5 +1,14 @@
+pub mod Codes
+pub mod Delays
 pub mod Fault
+pub mod Formats
 pub mod Value
+pub mod Running
+pub mod Skipping
+pub mod Spelling
 pub mod Syntax
 pub mod Machine
 pub mod Meaning
+pub mod Nesting
+pub mod Operators
+pub mod Uses

@@ -1,62 +1,108 @@
--- What a parameter string is made of (terminfo(5), "Parameterized Strings").
-use Rattle.std.specs.Prelude.{◌≡◌, ◌≢◌, ℕ, zero, suc, ◌-◌, ◌&&◌, Bool, cond, List, [], ◌∷◌, length, Result, Ok, Err, nat_le, ◌==◌}
+-- The syntax tree of a parameter string (terminfo(5), "Parameterized Strings").
+use Rattle.std.specs.Prelude.{◌≡◌, ◌≢◌, ℕ, zero, suc, List, [], ◌∷◌, length, Result, Ok, Err}
 use Rattle.ti_parm.specs.Fault.{◌>>=◌}
+use Rattle.ti_parm.specs.Codes.{code_at}
 use Rattle.ti_parm.specs.declared.code.Action.{Action}
-use Rattle.ti_parm.specs.declared.code.Action.TheVariants.{Literal, Parameter, Increment, Decimal}
+use Rattle.ti_parm.specs.declared.code.Code.{Code}
+use Rattle.ti_parm.specs.declared.code.Code.TheVariants.{Act as ActCode, If as IfCode, Of as MarkCode}
+use Rattle.ti_parm.specs.declared.code.Mark.{Mark}
+use Rattle.ti_parm.specs.declared.code.Mark.TheVariants.{Then as ThenMark, Else as ElseMark, End as EndMark}
 use Rattle.ti_parm.specs.declared.fault.ParmFault.{ParmFault}
-use Rattle.ti_parm.specs.declared.fault.ParmFault.TheVariants.{BadCode}
+use Rattle.ti_parm.specs.declared.fault.ParmFault.TheVariants.{BadNest, BadCode}
 
--- the syntax tree of a string: its parts, one after the other
-pub data Part : Type 0 where
-  Act : Action → Part
+mutual
+  -- a code that acts by itself, or `%? condition %t chosen` and what else there is
+  pub data Part : Type 0 where
+    Act : Action → Part
+    Conditional : Parts → Parts → Otherwise → Part
 
-pub data Parts : Type 0 where
-  Done : Parts
-  Then : Part → Parts → Parts
+  -- parts, one after the other
+  pub data Parts : Type 0 where
+    Done : Parts
+    Next : Part → Parts → Parts
 
--- a digit from `1` to `9`
-abbrev pub is_place : ℕ → Bool
-is_place b = nat_le 49 b && nat_le b 57
+  -- `%;`, or `%e parts %;`, or `%e condition %t chosen` and what else there is
+  pub data Otherwise : Type 0 where
+    Nothing : Otherwise
+    Else : Parts → Otherwise
+    ElseIf : Parts → Parts → Otherwise → Otherwise
 
--- what the codes of two bytes do: `%%`, `%i`, `%d`
-abbrev pub short_action : ℕ → List ℕ → Result (Action × List ℕ) ParmFault
-short_action b rest =
-    cond (b == 37) (Ok (Literal 37, rest))
-    (cond (b == 105) (Ok (Increment, rest))
-    (cond (b == 100) (Ok (Decimal, rest)) (Err BadCode)))
+-- what comes behind the parts that begin at a place: the string's end, or a fault, or a mark of a
+-- conditional that began before the place, the parts behind the mark, and what comes behind those
+pub data Behind : Type 0 where
+  Ends : Behind
+  Breaks : ParmFault → Behind
+  Closes : Mark → Parts → Behind → Behind
 
--- the code behind a `%`: `p` is followed by a digit
-abbrev pub code_action : List ℕ → Result (Action × List ℕ) ParmFault
-code_action [] = Err BadCode
-code_action (b ∷ []) = short_action b []
-code_action (b ∷ c ∷ rest) = cond (b == 112) (cond (is_place c) (Ok (Parameter (c - 49), rest)) (Err BadCode)) (short_action b (c ∷ rest))
+-- what lies ahead of a place in a string: the parts that begin there, and what comes behind them
+pub record Ahead : Type 0 where
+  pub parts : Parts
+  pub behind : Behind
 
--- a delay does not begin here
-abbrev pub literal_action : ℕ → List ℕ → Result (Action × List ℕ) ParmFault
-literal_action b [] = Ok (Literal b, [])
-literal_action b (c ∷ rest) = cond (b == 36 && c == 60) (Err BadCode) (Ok (Literal b, c ∷ rest))
+abbrev pub broken : ParmFault → Ahead
+broken fault = record { parts = Done; behind = Breaks fault }
 
--- the code at the front of a text, and the rest
-unfoldable pub action_at : List ℕ → Result (Action × List ℕ) ParmFault
-action_at [] = Err BadCode
-action_at (b ∷ rest) = cond (b == 37) (code_action rest) (literal_action b rest)
+-- what stands between a conditional's chosen parts and its end, and what lies ahead of the end
+pub record Rest : Type 0 where
+  pub otherwise : Otherwise
+  pub parts : Parts
+  pub behind : Behind
 
--- the parts of a text of at most n bytes, or its first fault
-unfoldable pub parts_in : ℕ → List ℕ → Result Parts ParmFault
-parts_in n [] = Ok Done
-parts_in zero (b ∷ text) = Err BadCode
-parts_in (suc n) (b ∷ text) = do
-  (action, rest) ← action_at (b ∷ text)
-  parts ← parts_in n rest
-  Ok (Then (Act action) parts)
+abbrev pub else_if : Parts → Parts → Rest → Rest
+else_if condition chosen r = record r { otherwise = ElseIf condition chosen r.otherwise }
+
+-- the rest of a conditional from the mark behind its chosen parts on, or the first fault
+abbrev pub rest_of : Behind → Result Rest ParmFault
+rest_of Ends = Err BadNest
+rest_of (Breaks fault) = Err fault
+rest_of (Closes EndMark parts behind) = Ok (record { otherwise = Nothing; parts = parts; behind = behind })
+rest_of (Closes ThenMark parts behind) = Err BadNest
+rest_of (Closes ElseMark first Ends) = Err BadNest
+rest_of (Closes ElseMark first (Breaks fault)) = Err fault
+rest_of (Closes ElseMark first (Closes EndMark parts behind)) = Ok (record { otherwise = Else first; parts = parts; behind = behind })
+rest_of (Closes ElseMark first (Closes ThenMark chosen behind)) = rest_of behind >>= λ r. Ok (else_if first chosen r)
+rest_of (Closes ElseMark first (Closes ElseMark parts behind)) = Err BadNest
+
+abbrev pub closed : Parts → Parts → Result Rest ParmFault → Ahead
+closed condition chosen (Ok r) = record { parts = Next (Conditional condition chosen r.otherwise) r.parts; behind = r.behind }
+closed condition chosen (Err fault) = broken fault
+
+-- what lies ahead of a `%?`, by what lies ahead behind it
+abbrev pub conditional : Parts → Behind → Ahead
+conditional condition Ends = broken BadNest
+conditional condition (Breaks fault) = broken fault
+conditional condition (Closes ThenMark chosen behind) = closed condition chosen (rest_of behind)
+conditional condition (Closes ElseMark parts behind) = broken BadNest
+conditional condition (Closes EndMark parts behind) = broken BadNest
+
+-- what lies ahead of a code, by what lies ahead behind it
+abbrev pub before : Code → Ahead → Ahead
+before (ActCode action) a = record { parts = Next (Act action) a.parts; behind = a.behind }
+before IfCode a = conditional a.parts a.behind
+before (MarkCode mark) a = record { parts = Done; behind = Closes mark a.parts a.behind }
+
+abbrev pub read_before : (List ℕ → Ahead) → Result (Code × List ℕ) ParmFault → Ahead
+read_before further (Ok x) = before x.0 (further x.1)
+read_before further (Err fault) = broken fault
+
+-- what lies ahead in a text of at most n bytes
+unfoldable pub ahead_in : ℕ → List ℕ → Ahead
+ahead_in n [] = record { parts = Done; behind = Ends }
+ahead_in zero (b ∷ text) = broken BadCode
+ahead_in (suc n) (b ∷ text) = read_before (ahead_in n) (code_at (b ∷ text))
+
+abbrev pub ahead : List ℕ → Ahead
+ahead text = ahead_in (length text) text
+
+-- no conditional began before the string does
+abbrev pub whole : Parts → Behind → Result Parts ParmFault
+whole parts Ends = Ok parts
+whole parts (Breaks fault) = Err fault
+whole parts (Closes mark more behind) = Err BadNest
 
 -- the syntax tree of a string, or the first fault of its syntax
-abbrev pub syntax : List ℕ → Result Parts ParmFault
-syntax string = parts_in (length string) string
-
--- the syntax of the string has no fault
-abbrev pub HasSyntax : List ℕ → Type 0
-HasSyntax string = (parts : Parts) × (syntax string ≡ Ok parts)
+unfoldable pub syntax : List ℕ → Result Parts ParmFault
+syntax string = whole (ahead string).parts (ahead string).behind
 
 abbrev pub without_tree : Result Parts ParmFault → Result (Unit {0}) ParmFault
 without_tree (Ok parts) = Ok tt
@@ -66,12 +112,17 @@ without_tree (Err e) = Err e
 abbrev pub verdict : List ℕ → Result (Unit {0}) ParmFault
 verdict string = without_tree (syntax string)
 
--- a delay begins here
-abbrev pub BeginsDelay : List ℕ → Type 0
-BeginsDelay (b ∷ c ∷ rest) = (b ≡ 36) × (c ≡ 60)
-BeginsDelay _ = ⊥
+-- the syntax of the string has no fault
+abbrev pub HasSyntax : List ℕ → Type 0
+HasSyntax string = (parts : Parts) × (syntax string ≡ Ok parts)
 
--- no `%` and no `$<`
+-- no `%`
 abbrev pub IsPlain : List ℕ → Type 0
 IsPlain [] = Unit {0}
-IsPlain (b ∷ rest) = (b ≢ 37) × (BeginsDelay (b ∷ rest) → ⊥) × IsPlain rest
+IsPlain (b ∷ rest) = (b ≢ 37) × IsPlain rest
+
+-- what lies ahead comes to the string's end without a fault
+abbrev pub HasEnd : Behind → Type 0
+HasEnd Ends = Unit {0}
+HasEnd (Breaks fault) = ⊥
+HasEnd (Closes mark parts behind) = HasEnd behind

@@ -1,11 +1,12 @@
 -- The values of parameter strings (terminfo(5), "Parameterized Strings").
-use Rattle.std.specs.Prelude.{ℤ, pos, List, ◌++◌, take, map, replicate}
+use Rattle.std.specs.Prelude.{ℕ, ℤ, pos, List, ◌++◌, take, map, replicate}
 use Rattle.ti_parm.specs.declared.param.Param.{Param}
-use Rattle.ti_parm.specs.declared.param.Param.TheVariants.{Number as NumberParam}
+use Rattle.ti_parm.specs.declared.param.Param.TheVariants.{Number as NumberParam, Text as TextParam}
 
--- a number of 32 bits with sign
+-- a number of 32 bits with sign, or a text
 pub data Value : Type 0 where
   Number : ℤ → Value
+  Text : List ℕ → Value
 
 abbrev pub Values : Type 0
 Values = List Value
@@ -13,6 +14,7 @@ Values = List Value
 -- the value that a parameter hands in
 abbrev pub value_of : Param → Value
 value_of (NumberParam n) = Number n
+value_of (TextParam bytes) = Text bytes.now
 
 abbrev pub values_of : List Param → List Value
 values_of given = map value_of given

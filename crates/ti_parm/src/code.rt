@@ -1,38 +1,253 @@
-// The codes of a parameter string.
-ghost use Rattle.std.specs.Prelude.{◌≡◌, ◌<◌, IfOk, length};
-ghost use Rattle.ti_parm.specs.Syntax.{action_at};
-ghost use Rattle.ti_parm.specs.Fault.{Gives};
+// The codes of a parameter string, one at a time.
+ghost use Rattle.std.specs.Prelude.{◌≡◌, ◌<◌, ◌≤◌, IfOk, length};
+ghost use Rattle.ti_parm.specs.Codes.{character_code, code_at, format_code, number_code, parameter_code, percent_code, short_code, variable, variable_code};
+ghost use Rattle.ti_parm.specs.Fault.{Answers};
 
 use crate::fault::ParmFault;
+use crate::formats::{Format, format_ahead};
+use crate::number::{LARGEST, number};
 
 /// What one code does by itself.
 #[derive(Clone, Copy, Debug, PartialEq, Eq)]
 pub enum Action {
     /// Writes a byte.
     Literal(u8),
+    /// Pushes a number.
+    Push(i32),
     /// Pushes the parameter at an index from 0 on.
     Parameter(u8),
+    /// Takes a number and puts it into a variable.
+    Set(Variable),
+    /// Pushes a variable.
+    Get(Variable),
+    /// Takes two numbers and pushes what an operator makes of them.
+    Operate(Operator),
+    /// Takes a number and pushes what becomes of it.
+    Change(Turn),
+    /// Takes a text and pushes its length.
+    Length,
     /// Adds one to the first two parameters.
     Increment,
-    /// Writes a number in decimal.
-    Decimal,
+    /// Writes a number as one byte.
+    Character,
+    /// Writes a value in a format.
+    Show(Format),
+}
+
+/// A variable, by its letter's place in the alphabet from 0 on.
+#[derive(Clone, Copy, Debug, PartialEq, Eq)]
+pub enum Variable {
+    /// `a` to `z`, 0 at the start of each expansion.
+    Dynamic(u8),
+    /// `A` to `Z`, which last.
+    Static(u8),
+}
+
+/// An operator of two operands.
+#[derive(Clone, Copy, Debug, PartialEq, Eq)]
+pub enum Operator {
+    /// `%+`
+    Add,
+    /// `%-`
+    Subtract,
+    /// `%*`
+    Multiply,
+    /// `%/`, cut toward zero
+    Divide,
+    /// `%m`, with the left operand's sign
+    Remainder,
+    /// `%&`
+    BitAnd,
+    /// `%|`
+    BitOr,
+    /// `%^`
+    BitXor,
+    /// `%=`
+    Equal,
+    /// `%>`
+    Greater,
+    /// `%<`
+    Less,
+    /// `%A`: neither is 0
+    Both,
+    /// `%O`: not both are 0
+    Either,
+}
+
+/// An operator of one operand.
+#[derive(Clone, Copy, Debug, PartialEq, Eq)]
+pub enum Turn {
+    /// `%!`: it is 0
+    Not,
+    /// `%~`: each bit turned over
+    Complement,
+}
+
+/// A mark of a conditional behind its `%?`.
+#[derive(Clone, Copy, Debug, PartialEq, Eq)]
+pub enum Mark {
+    /// `%t`, behind a condition.
+    Then,
+    /// `%e`, behind the parts that are run if the condition holds.
+    Else,
+    /// `%;`, behind everything.
+    End,
+}
+
+/// A code.
+#[derive(Clone, Copy, Debug, PartialEq, Eq)]
+pub enum Code {
+    /// One that acts by itself.
+    Act(Action),
+    /// `%?`, which begins a conditional.
+    If,
+    /// A mark of the conditional that was begun last and has not ended.
+    Of(Mark),
+}
+
+/// What stands behind `%{`.
+fn number_behind(text: &[u8]) -> Result<(Code, &[u8]), ParmFault>
+    ensures code { Answers (λ x. (x.0, x.1.now)) result (number_code text.now) }
+    ensures within { IfOk result (λ x. length x.1.now ≤ length text.now) }
+{
+    let [b'0'..=b'9', ..] = text else {
+        return Err(ParmFault::BadCode);
+    };
+    match number(text) {
+        (value, [b'}', rest @ ..]) if value <= LARGEST => Ok((
+            Code::Act(Action::Push(value as i32)),
+            rest,
+        )),
+        _ => Err(ParmFault::BadCode),
+    }
+}
+
+/// The variable of a letter.
+fn variable_of(letter: u8) -> Option<Variable>
+    ensures { result ≡ variable letter }
+{
+    match letter {
+        b'a'..=b'z' => Some(Variable::Dynamic(letter - b'a')),
+        b'A'..=b'Z' => Some(Variable::Static(letter - b'A')),
+        _ => None,
+    }
+}
+
+/// The variable whose letter stands at the front, and what follows it.
+fn variable_ahead(text: &[u8]) -> Result<(Variable, &[u8]), ParmFault>
+    ensures variable { (f : Variable → Action) → Answers (λ x. (Code.Act (f x.0), x.1.now)) result (variable_code f text.now) }
+    ensures within { IfOk result (λ x. length x.1.now ≤ length text.now) }
+{
+    let [letter, rest @ ..] = text else {
+        return Err(ParmFault::BadCode);
+    };
+    match variable_of(*letter) {
+        Some(variable) => Ok((variable, rest)),
+        None => Err(ParmFault::BadCode),
+    }
+}
+
+/// The code of two bytes that ends in this one.
+#[tactic(auto, unfolding(crate::specs::Codes::short_code))]
+fn short_of(byte: u8) -> Option<Code>
+    ensures { result ≡ short_code byte }
+{
+    let code = match byte {
+        b'%' => Code::Act(Action::Literal(b'%')),
+        b'c' => Code::Act(Action::Character),
+        b'l' => Code::Act(Action::Length),
+        b'+' => Code::Act(Action::Operate(Operator::Add)),
+        b'-' => Code::Act(Action::Operate(Operator::Subtract)),
+        b'*' => Code::Act(Action::Operate(Operator::Multiply)),
+        b'/' => Code::Act(Action::Operate(Operator::Divide)),
+        b'm' => Code::Act(Action::Operate(Operator::Remainder)),
+        b'&' => Code::Act(Action::Operate(Operator::BitAnd)),
+        b'|' => Code::Act(Action::Operate(Operator::BitOr)),
+        b'^' => Code::Act(Action::Operate(Operator::BitXor)),
+        b'=' => Code::Act(Action::Operate(Operator::Equal)),
+        b'>' => Code::Act(Action::Operate(Operator::Greater)),
+        b'<' => Code::Act(Action::Operate(Operator::Less)),
+        b'A' => Code::Act(Action::Operate(Operator::Both)),
+        b'O' => Code::Act(Action::Operate(Operator::Either)),
+        b'!' => Code::Act(Action::Change(Turn::Not)),
+        b'~' => Code::Act(Action::Change(Turn::Complement)),
+        b'i' => Code::Act(Action::Increment),
+        b'?' => Code::If,
+        b't' => Code::Of(Mark::Then),
+        b'e' => Code::Of(Mark::Else),
+        b';' => Code::Of(Mark::End),
+        _ => return None,
+    };
+    Some(code)
+}
+
+/// What stands behind `%p`.
+fn parameter_behind(text: &[u8]) -> Result<(Code, &[u8]), ParmFault>
+    ensures code { Answers (λ x. (x.0, x.1.now)) result (parameter_code text.now) }
+    ensures within { IfOk result (λ x. length x.1.now ≤ length text.now) }
+{
+    match text {
+        [digit @ b'1'..=b'9', rest @ ..] => Ok((Code::Act(Action::Parameter(*digit - b'1')), rest)),
+        _ => Err(ParmFault::BadCode),
+    }
+}
+
+/// What stands behind `%'`.
+fn character_behind(text: &[u8]) -> Result<(Code, &[u8]), ParmFault>
+    ensures code { Answers (λ x. (x.0, x.1.now)) result (character_code text.now) }
+    ensures within { IfOk result (λ x. length x.1.now ≤ length text.now) }
+{
+    match text {
+        [byte, b'\'', rest @ ..] => Ok((Code::Act(Action::Push(i32::from(*byte))), rest)),
+        _ => Err(ParmFault::BadCode),
+    }
+}
+
+/// What stands behind a `%`.
+fn behind_percent(text: &[u8]) -> Result<(Code, &[u8]), ParmFault>
+    ensures code { Answers (λ x. (x.0, x.1.now)) result (percent_code text.now) }
+    ensures within { IfOk result (λ x. length x.1.now ≤ length text.now) }
+{
+    match text {
+        [b'p', rest @ ..] => parameter_behind(rest),
+        [b'P', rest @ ..] => {
+            let (variable, behind) = variable_ahead(rest)?;
+            Ok((Code::Act(Action::Set(variable)), behind))
+        }
+        [b'g', rest @ ..] => {
+            let (variable, behind) = variable_ahead(rest)?;
+            Ok((Code::Act(Action::Get(variable)), behind))
+        }
+        [b'\'', rest @ ..] => character_behind(rest),
+        [b'{', rest @ ..] => number_behind(rest),
+        [b':', rest @ ..] => format_behind(rest),
+        [] => Err(ParmFault::BadCode),
+        [byte, rest @ ..] => match short_of(*byte) {
+            Some(code) => Ok((code, rest)),
+            None => format_behind(text),
+        },
+    }
+}
+
+/// A format, behind its `%` and `:`.
+fn format_behind(text: &[u8]) -> Result<(Code, &[u8]), ParmFault>
+    ensures code { Answers (λ x. (x.0, x.1.now)) result (format_code text.now) }
+    ensures shorter { IfOk result (λ x. length x.1.now < length text.now) }
+{
+    let (format, rest) = format_ahead(text)?;
+    Ok((Code::Act(Action::Show(format)), rest))
 }
 
 /// The code at the front of a text, and what follows it.
-#[tactic(auto, unfolding(crate::specs::Syntax::action_at))]
-pub fn next_action(text: &[u8]) -> Result<(Action, &[u8]), ParmFault>
+#[tactic(auto, unfolding(crate::specs::Codes::code_at))]
+pub fn next_code(text: &[u8]) -> Result<(Code, &[u8]), ParmFault>
     requires { 0 < length text.now }
-    ensures code { Gives (λ x. (x.0, x.1.now)) result (action_at text.now) }
+    ensures code { Answers (λ x. (x.0, x.1.now)) result (code_at text.now) }
     ensures shorter { IfOk result (λ x. length x.1.now < length text.now) }
 {
     match text {
-        [b'%', b'%', rest @ ..] => Ok((Action::Literal(b'%'), rest)),
-        [b'%', b'i', rest @ ..] => Ok((Action::Increment, rest)),
-        [b'%', b'd', rest @ ..] => Ok((Action::Decimal, rest)),
-        [b'%', b'p', digit @ b'1'..=b'9', rest @ ..] => {
-            Ok((Action::Parameter(*digit - b'1'), rest))
-        }
-        [b'%', ..] | [b'$', b'<', ..] | [] => Err(ParmFault::BadCode),
-        [byte, rest @ ..] => Ok((Action::Literal(*byte), rest)),
+        [b'%', rest @ ..] => behind_percent(rest),
+        [byte, rest @ ..] => Ok((Code::Act(Action::Literal(*byte)), rest)),
+        [] => Err(ParmFault::BadCode),
     }
 }

@@ -1,39 +1,39 @@
-// Numbers as text.
-ghost use Rattle.std.specs.Prelude.{◌≡◌, ◌≤◌, ◌++◌, drop, false, length, OnErr, OnOk};
-ghost use Rattle.std.specs.Fmt.{decimal, signed_decimal};
+// The digits of numbers.
+ghost use Rattle.std.specs.Prelude.{◌≡◌, ◌<◌, ◌≤◌, drop};
+ghost use Rattle.std.specs.Fmt.{digit_glyph, digits};
 
-use std::alloc::AllocError;
+/// Places for the digits of a number of 32 bits, in base 8 or more.
+pub const PLACES: usize = 12;
 
-/// Places for a sign and the digits of a number of 32 bits.
-const PLACES: usize = 12;
+/// The digit for a value.
+fn glyph(value: u32, upper: bool) -> u8
+    requires { value < 16 }
+    ensures { result ≡ digit_glyph upper value }
+{
+    let value = value as u8;
+    if value < 10 {
+        b'0' + value
+    } else if upper {
+        b'A' - 10 + value
+    } else {
+        b'a' - 10 + value
+    }
+}
 
-/// Writes the decimal digits of a number at the end of the buffer, and says where they begin.
-fn digits_at_end(number: u32, buffer: &mut [u8; PLACES]) -> usize
-    ensures within { (1 ≤ result) × (result ≤ 12) }
-    ensures digits { drop result buffer.new ≡ decimal number }
+/// Writes the digits of a number at the end of the buffer, and says where they begin.
+pub fn digits_at_end(number: u32, base: u32, upper: bool, buffer: &mut [u8; PLACES]) -> usize
+    requires { (8 ≤ base) × (base ≤ 16) }
+    ensures within { result ≤ 12 }
+    ensures digits { drop result buffer.new ≡ digits base upper number }
 {
     let mut left = number;
     let mut start = PLACES;
     loop {
         start -= 1;
-        buffer[start] = b'0' + (left % 10) as u8;
-        left /= 10;
+        buffer[start] = glyph(left % base, upper);
+        left /= base;
         if left == 0 {
             return start;
         }
     }
-}
-
-/// Writes a number in decimal at the end of `out`.
-pub fn write_number(number: i32, out: &mut Vec<u8>) -> Result<(), AllocError>
-    ensures ok { OnOk result (out.new.items ≡ out.old.items ++ signed_decimal number) }
-    ensures err { OnErr result (out.new.items ≡ out.old.items) }
-{
-    let mut buffer = [0; PLACES];
-    let mut start = digits_at_end(number.unsigned_abs(), &mut buffer);
-    if number < 0 {
-        start -= 1;
-        buffer[start] = b'-';
-    }
-    out.extend_from_slice(&buffer[start..])
 }

@@ -1,42 +1,68 @@
 // What a run has, and what each code does to it.
-ghost use Rattle.std.specs.Prelude.{◌≡◌, ℕ, List, [], IfErr, IfOk, OnErr};
-ghost use Rattle.ti_parm.specs.Fault.{Gives};
+ghost use Rattle.std.specs.Prelude.{◌≡◌, ◌↔◌, ℕ, List, [], ◌≤◌, IfErr, IfOk, IsTrue, length, pos, slice_index_or, slice_set};
+ghost use Rattle.ti_parm.specs.Fault.{Answers, Extends, Fails, Gives};
 ghost use Rattle.ti_parm.specs.Value.{nine, values_of, value_of, zeros};
-ghost use Rattle.ti_parm.specs.Meaning.{act, fitting, one_more, show_top, start_of};
+ghost use Rattle.ti_parm.specs.Meaning.{ReadsUnset, act, character, one_more, pop_test, start_of, writing};
+ghost use Rattle.ti_parm.specs.Formats.{shown};
 ghost use Rattle.ti_parm.specs.Machine.{state_of};
+ghost use Rattle.ti_parm.specs.Running.{run_before, run_from};
+ghost use Rattle.ti_parm.specs.Syntax.{HasEnd, ahead, before};
 
-use crate::code::Action;
-use crate::digits::write_number;
+use crate::code::{Action, Code, Mark, Variable};
 use crate::fault::ParmFault;
+use crate::formats::{Conversion, Format};
+use crate::operators::byte_of;
 use crate::param::{Param, Params};
+use crate::show::{write_number, write_text};
+use crate::skip::skip;
 use crate::stack::Stack;
 use crate::statics::Statics;
+use crate::uses::{FirstUse, note, reads_first};
 use std::alloc::Global;
 
 /// The parameters, variables and stack of a run. The bytes that it writes are handed to it.
 #[derive(Drop)]
-pub struct Machine {
-    params: Params,
+pub struct Machine<'a> {
+    params: Params<'a>,
     dynamics: [i32; 26],
     pub statics: [i32; 26],
-    stack: Stack,
+    first_uses: [FirstUse; 26],
+    stack: Stack<'a>,
 }
 
 /// A parameter and one.
-fn one_more(value: Param) -> Result<Param, ParmFault>
-    ensures { Gives value_of result (one_more (value_of value)) }
+fn one_more(value: Param<'_>) -> Result<Param<'_>, ParmFault>
+    ensures { Answers value_of result (one_more (value_of value.entry)) }
 {
-    let Param::Number(number) = value;
-    number
-        .checked_add(1)
-        .map(Param::Number)
-        .ok_or(ParmFault::Overflow)
+    match value {
+        Param::Number(number) => match number.checked_add(1) {
+            Some(more) => Ok(Param::Number(more)),
+            None => Err(ParmFault::Overflow),
+        },
+        Param::Text(_) => Err(ParmFault::WrongKind),
+    }
 }
 
-impl Machine {
+/// The number in a place of 26, or 0.
+fn number_at(numbers: &[i32; 26], index: u8) -> i32
+    ensures { result ≡ slice_index_or numbers.now index (pos 0) }
+{
+    numbers.get(usize::from(index)).copied().unwrap_or(0)
+}
+
+/// Puts a number into a place of 26.
+fn put_at(numbers: &mut [i32; 26], index: u8, number: i32)
+    ensures { numbers.new ≡ slice_set numbers.old index number }
+{
+    if index < 26 {
+        numbers[usize::from(index)] = number;
+    }
+}
+
+impl<'a> Machine<'a> {
     /// The state in which a run begins.
     #[tactic(auto, unfolding(crate::specs::Value::zeros))]
-    pub fn new(alloc: Global, given: &[Param], statics: &Statics) -> Result<Self, ParmFault>
+    pub fn new(alloc: Global, given: &[Param<'a>], statics: &Statics) -> Result<Self, ParmFault>
         ensures ok { IfOk result (λ m. state_of m [] ≡ start_of (values_of given.now) statics.now) }
         ensures err { IfErr result (λ e. e ≡ ParmFault.NoMemory) }
     {
@@ -45,25 +71,123 @@ impl Machine {
             params,
             dynamics: [0; 26],
             statics: statics.numbers(),
+            first_uses: [FirstUse::Unused; 26],
             stack: Stack::new(alloc),
         })
+    }
+
+    /// Whether a static variable was read that had not been set before.
+    pub fn reads_unset(&self) -> bool
+        ensures { (output : List ℕ) → IsTrue result ↔ ReadsUnset (state_of self.now output) }
+    {
+        reads_first(&self.first_uses)
+    }
+
+    /// Runs the code that stands before a place, and says where to go on.
+    pub fn step<'s>(
+        &mut self,
+        code: Code,
+        behind: &'s [u8],
+        out: &mut Vec<u8>,
+    ) -> Result<&'s [u8], ParmFault>
+        requires { HasEnd (before code (ahead behind.now)).behind }
+        ensures ok { IfOk result (λ rest. run_from rest.now (state_of self.new out.new.items) ≡ run_before code behind.now (state_of self.old out.old.items)) }
+        ensures fault { IfErr result (λ e. Fails e (run_before code behind.now (state_of self.old out.old.items))) }
+        ensures judged { IfOk result (λ rest. HasEnd (ahead rest.now).behind) }
+        ensures within { IfOk result (λ rest. length rest.now ≤ length behind.now) }
+        ensures grows { Extends out.old.items out.new.items }
+    {
+        match code {
+            Code::Act(action) => {
+                self.act(action, out)?;
+                Ok(behind)
+            }
+            Code::If => Ok(behind),
+            Code::Of(mark) => self.pass(mark, behind),
+        }
+    }
+
+    /// Goes on behind a mark, or behind what the mark says to pass over.
+    fn pass<'s>(&mut self, mark: Mark, behind: &'s [u8]) -> Result<&'s [u8], ParmFault>
+        requires { HasEnd (ahead behind.now).behind }
+        ensures ok { IfOk result (λ rest. (output : List ℕ) → run_from rest.now (state_of self.new output) ≡ run_before (Code.Of mark) behind.now (state_of self.old output)) }
+        ensures fault { IfErr result (λ e. (output : List ℕ) → Fails e (run_before (Code.Of mark) behind.now (state_of self.old output))) }
+        ensures judged { IfOk result (λ rest. HasEnd (ahead rest.now).behind) }
+        ensures within { IfOk result (λ rest. length rest.now ≤ length behind.now) }
+    {
+        match mark {
+            Mark::Then => {
+                if self.pop_test()? {
+                    Ok(behind)
+                } else {
+                    Ok(skip(behind, true))
+                }
+            }
+            Mark::Else => Ok(skip(behind, false)),
+            Mark::End => Ok(behind),
+        }
+    }
+
+    /// Takes the top of the stack: whether it is another number than 0.
+    fn pop_test(&mut self) -> Result<bool, ParmFault>
+        ensures { (output : List ℕ) → Gives (λ holds. (holds, state_of self.new output)) result (pop_test self.old.stack (state_of self.old output)) }
+    {
+        let number = self.stack.pop_number()?;
+        Ok(number != 0)
     }
 
     /// Does what one code does.
     #[tactic(auto, unfolding(crate::specs::Meaning::act))]
     pub fn act(&mut self, action: Action, out: &mut Vec<u8>) -> Result<(), ParmFault>
         ensures meant { Gives (λ _. state_of self.new out.new.items) result (act action (state_of self.old out.old.items)) }
-        ensures unwritten { OnErr result (out.new.items ≡ out.old.items) }
+        ensures grows { Extends out.old.items out.new.items }
     {
         match action {
             Action::Literal(byte) => out.push(byte).map_err(|_| ParmFault::NoMemory),
+            Action::Push(number) => self.stack.push_number(number),
             Action::Parameter(index) => self
                 .stack
                 .push(self.params.get(index))
                 .map_err(|_| ParmFault::NoMemory),
+            Action::Set(variable) => self.set(variable),
+            Action::Get(variable) => self.get(variable),
+            Action::Operate(operator) => self.stack.operate(operator),
+            Action::Change(turn) => self.stack.change(turn),
+            Action::Length => self.stack.measure(),
             Action::Increment => self.increment(),
-            Action::Decimal => self.show_top(out),
+            Action::Character => self.write_character(out),
+            Action::Show(format) => self.show(format, out),
         }
+    }
+
+    /// Pushes a variable.
+    #[tactic(auto, unfolding(crate::specs::Meaning::act))]
+    fn get(&mut self, variable: Variable) -> Result<(), ParmFault>
+        ensures { (output : List ℕ) → Gives (λ _. state_of self.new output) result (act (Action.Get variable) (state_of self.old output)) }
+    {
+        match variable {
+            Variable::Dynamic(index) => self.stack.push_number(number_at(&self.dynamics, index)),
+            Variable::Static(index) => {
+                note(&mut self.first_uses, index, FirstUse::ReadFirst);
+                self.stack.push_number(number_at(&self.statics, index))
+            }
+        }
+    }
+
+    /// Takes a number and puts it into a variable.
+    #[tactic(auto, unfolding(crate::specs::Meaning::act))]
+    fn set(&mut self, variable: Variable) -> Result<(), ParmFault>
+        ensures { (output : List ℕ) → Gives (λ _. state_of self.new output) result (act (Action.Set variable) (state_of self.old output)) }
+    {
+        let number = self.stack.pop_number()?;
+        match variable {
+            Variable::Dynamic(index) => put_at(&mut self.dynamics, index, number),
+            Variable::Static(index) => {
+                put_at(&mut self.statics, index, number);
+                note(&mut self.first_uses, index, FirstUse::SetFirst);
+            }
+        }
+        Ok(())
     }
 
     /// Adds one to the first two parameters.
@@ -78,16 +202,32 @@ impl Machine {
         Ok(())
     }
 
-    /// Writes the top of the stack in decimal.
-    fn show_top(&mut self, out: &mut Vec<u8>) -> Result<(), ParmFault>
-        ensures meant { Gives (λ _. state_of self.new out.new.items) result (show_top self.old.stack (state_of self.old out.old.items)) }
-        ensures unwritten { OnErr result (out.new.items ≡ out.old.items) }
+    /// Writes the number on top as one byte.
+    fn write_character(&mut self, out: &mut Vec<u8>) -> Result<(), ParmFault>
+        ensures meant { Gives (λ _. state_of self.new out.new.items) result (writing character (state_of self.old out.old.items)) }
+        ensures grows { Extends out.old.items out.new.items }
     {
-        match self.stack.pop() {
-            None => Err(ParmFault::Underflow),
-            Some(Param::Number(number)) => write_number(number, out).map_err(
-                |_| ParmFault::NoMemory,
-            ),
+        let number = self.stack.pop_number()?;
+        let byte = byte_of(number)?;
+        out.push(byte).map_err(|_| ParmFault::NoMemory)
+    }
+
+    /// Writes the value on top in a format.
+    fn show(&mut self, format: Format, out: &mut Vec<u8>) -> Result<(), ParmFault>
+        ensures meant { Gives (λ _. state_of self.new out.new.items) result (writing (shown format) (state_of self.old out.old.items)) }
+        ensures grows { Extends out.old.items out.new.items }
+    {
+        match (format.conversion, self.stack.pop()) {
+            (_, None) => Err(ParmFault::Underflow),
+            (Conversion::Text, Some(Param::Text(text))) => {
+                write_text(&format, text, out).map_err(|_| ParmFault::NoMemory)
+            }
+            (Conversion::Text, Some(Param::Number(_))) | (_, Some(Param::Text(_))) => {
+                Err(ParmFault::WrongKind)
+            }
+            (_, Some(Param::Number(number))) => {
+                write_number(&format, number, out).map_err(|_| ParmFault::NoMemory)
+            }
         }
     }
 }

@@ -7,24 +7,29 @@ use std::marker::Model;
 
 /// A parameter of an expansion.
 #[derive(Clone, Copy, Debug, PartialEq, Eq)]
-pub enum Param {
+pub enum Param<'a> {
     /// A number, with sign.
     Number(i32),
+    /// A text.
+    Text(&'a [u8]),
 }
 
-impl Default for Param {
-    fn default() -> Self {
+/// The parameter that stands where none is handed in.
+impl Default for Param<'_> {
+    fn default() -> Self
+        ensures { result ≡ Param.Number (pos 0) }
+    {
         Param::Number(0)
     }
 }
 
 /// The nine parameters of a run.
 #[derive(Drop)]
-pub struct Params {
-    values: SmallVec<Param, 9>,
+pub struct Params<'a> {
+    values: SmallVec<Param<'a>, 9>,
 }
 
-impl Model for Params {
+impl<'a> Model for Params<'a> {
     ghost use Rattle.ti_parm.specs.Value.{Values, values_of};
 
     ghost Value = { Values };
@@ -33,18 +38,18 @@ impl Model for Params {
 }
 
 /// The parameter that is handed in at an index, or 0.
-fn given_or_zero(given: &[Param], index: usize) -> Param
+fn given_or_zero<'a>(given: &[Param<'a>], index: usize) -> Param<'a>
     ensures { result ≡ slice_index_or given.now index (Param.Number (pos 0)) }
 {
     given.get(index).copied().unwrap_or(Param::Number(0))
 }
 
-impl Params {
+impl<'a> Params<'a> {
     ghost use Rattle.std.specs.Prelude.{◌≡◌, IfOk, pos, slice_index_or, slice_set};
     ghost use Rattle.ti_parm.specs.Value.{Number, nine, value_of, values_of};
 
     /// The first nine that are handed in, and 0 for those that are not.
-    pub fn new(alloc: Global, given: &[Param]) -> Result<Self, AllocError>
+    pub fn new(alloc: Global, given: &[Param<'a>]) -> Result<Self, AllocError>
         ensures { IfOk result (λ p. p ≡ nine (values_of given.now)) }
     {
         let mut values = SmallVec::new(alloc);
@@ -55,15 +60,15 @@ impl Params {
     }
 
     /// The parameter at an index from 0 on.
-    pub fn get(&self, index: u8) -> Param
+    pub fn get(&self, index: u8) -> Param<'a>
         ensures { value_of result ≡ slice_index_or self.now index (Number (pos 0)) }
     {
         given_or_zero(self.values.as_slice(), usize::from(index))
     }
 
     /// Puts a value in place of the parameter at an index.
-    pub fn set(&mut self, index: usize, value: Param)
-        ensures { self.new ≡ slice_set self.old index (value_of value) }
+    pub fn set(&mut self, index: usize, value: Param<'a>)
+        ensures { self.new ≡ slice_set self.old index (value_of value.entry) }
     {
         if let Some(place) = self.values.get_mut(index) {
             *place = value;

@@ -1,43 +1,72 @@
 // Running a parameter string.
-ghost use Rattle.std.specs.Prelude.{◌≡◌, ◌++◌, ◌⊎◌, ℕ, ℤ, List, IfErr, OnErr, OnOk, Ok, Err, length, take};
+ghost use Rattle.std.specs.Prelude.{◌≡◌, ◌↔◌, ◌++◌, ◌⊎◌, ℕ, ℤ, List, Result, IfErr, IfOk, IsTrue, OnErr, OnOk, Ok, Err, length, take};
+ghost use Rattle.ti_parm.specs.Delays.{HasNoOpening};
 ghost use Rattle.ti_parm.specs.Fault.{Gives};
 ghost use Rattle.ti_parm.specs.Machine.{state_of};
-ghost use Rattle.ti_parm.specs.Meaning.{State, meaning, run_text, start_of};
-ghost use Rattle.ti_parm.specs.Syntax.{HasSyntax, IsPlain, verdict};
-ghost use Rattle.ti_parm.specs.Value.{Value, values_of};
+ghost use Rattle.ti_parm.specs.Meaning.{Agree, ReadsUnset, State, after, meaning, sent_with, start_of};
+ghost use Rattle.ti_parm.specs.Running.{run_from};
+ghost use Rattle.ti_parm.specs.Spelling.{IsAnswer, Spells};
+ghost use Rattle.ti_parm.specs.Syntax.{HasEnd, IsPlain, Parts, ahead, syntax, verdict};
+ghost use Rattle.ti_parm.specs.Value.{Value, values_of, zeros};
 
-use crate::code::next_action;
+use crate::code::next_code;
 use crate::fault::ParmFault;
 use crate::machine::Machine;
+use crate::nest::Nest;
 use crate::param::Param;
+use crate::skip::judged_code;
 use crate::statics::Statics;
 use std::alloc::Global;
 
 /// Finds the first fault of a string's syntax.
-fn judge(string: &[u8]) -> Result<(), ParmFault>
+fn judge(alloc: Global, string: &[u8]) -> Result<(), ParmFault>
     ensures { Gives (λ _. tt) result (verdict string.now) }
 {
     let mut rest = string;
+    let mut nest = Nest::new(alloc);
     while !rest.is_empty() {
-        let (_, behind) = next_action(rest)?;
+        let (code, behind) = next_code(rest)?;
+        nest.pass(code)?;
         rest = behind;
     }
-    Ok(())
+    if nest.is_empty() {
+        Ok(())
+    } else {
+        Err(ParmFault::BadNest)
+    }
 }
 
 /// Runs a string whose syntax has no fault, from the machine's state on.
 fn run(machine: &mut Machine, string: &[u8], out: &mut Vec<u8>) -> Result<(), ParmFault>
-    requires { HasSyntax string.now }
-    ensures meant { Gives (λ _. state_of machine.new out.new.items) result (run_text string.now (state_of machine.old out.old.items)) }
+    requires { HasEnd (ahead string.now).behind }
+    ensures meant { Gives (λ _. state_of machine.new out.new.items) result (run_from string.now (state_of machine.old out.old.items)) }
     ensures kept { OnErr result (take (length out.old.items) out.new.items ≡ out.old.items) }
 {
     let mut rest = string;
     while !rest.is_empty() {
-        let (action, behind) = next_action(rest)?;
-        machine.act(action, out)?;
-        rest = behind;
+        let (code, behind) = judged_code(rest);
+        rest = machine.step(code, behind, out)?;
     }
     Ok(())
+}
+
+/// Judges a string, and runs it from the start on, behind what `out` has already. Where that fails
+/// a part may have been written.
+fn run_whole<'a>(
+    alloc: Global,
+    string: &[u8],
+    params: &[Param<'a>],
+    statics: &Statics,
+    out: &mut Vec<u8>,
+) -> Result<Machine<'a>, ParmFault>
+    ensures ok { IfOk result (λ machine. (end : State) × (meaning string.now (values_of params.now) statics.now ≡ Ok end) × (state_of machine out.new.items ≡ after out.old.items end)) }
+    ensures fault { IfErr result (λ e. (e ≡ ParmFault.NoMemory) ⊎ (meaning string.now (values_of params.now) statics.now ≡ Err e)) }
+    ensures kept { OnErr result (take (length out.old.items) out.new.items ≡ out.old.items) }
+{
+    judge(alloc, string)?;
+    let mut machine = Machine::new(alloc, params, statics)?;
+    run(&mut machine, string, out)?;
+    Ok(machine)
 }
 
 /// Expands a parameter string: appends to `out` the bytes that it sends for these parameters, and
@@ -61,11 +90,9 @@ pub fn expand(
     ensures unwritten { OnErr result (out.new.items ≡ out.old.items) }
     ensures unset { OnErr result (statics.new ≡ statics.old) }
 {
-    judge(string)?;
-    let mut machine = Machine::new(alloc, params, statics)?;
     let written = out.len();
-    match run(&mut machine, string, out) {
-        Ok(()) => {
+    match run_whole(alloc, string, params, statics, out) {
+        Ok(machine) => {
             statics.replace(machine.statics);
             Ok(())
         }
@@ -76,8 +103,46 @@ pub fn expand(
     }
 }
 
-/// A string without `%` and without `$<` is sent as it stands, whatever the parameters, and changes
-/// no static variable.
+/// Whether a string, expanded for these parameters with all static variables 0, reads a static
+/// variable that it has not set before. Where it does not, what it sends is the same whatever the
+/// static variables are.
+///
+/// The errors are those of `expand` for these parameters and static variables.
+///
+/// terminfo(5), "Parameterized Strings".
+pub fn reads_unset(alloc: Global, string: &[u8], params: &[Param]) -> Result<bool, ParmFault>
+    ensures ok { IfOk result (λ reads. (end : State) × (meaning string.now (values_of params.now) zeros ≡ Ok end) × (IsTrue reads ↔ ReadsUnset end)) }
+    ensures fault { IfErr result (λ e. (e ≡ ParmFault.NoMemory) ⊎ (meaning string.now (values_of params.now) zeros ≡ Err e)) }
+{
+    let mut out = Vec::new(alloc);
+    let statics = Statics::new();
+    let machine = run_whole(alloc, string, params, &statics, &mut out)?;
+    Ok(machine.reads_unset())
+}
+
+/// A string without `%` is written as it stands, whatever the parameters, and changes no static
+/// variable; and if it has no `$<` either, it is sent as it stands.
 pub fn plain_text_is_itself()
-    ensures { (string : List ℕ) (given : List Value) (statics : List ℤ) → IsPlain string → meaning string given statics ≡ Ok (record (start_of given statics) { output = string }) }
+    ensures written { (string : List ℕ) (given : List Value) (statics : List ℤ) → IsPlain string → meaning string given statics ≡ Ok (record (start_of given statics) { output = string }) }
+    ensures sent { (string : List ℕ) (given : List Value) (statics : List ℤ) → IsPlain string → HasNoOpening string → sent_with string given statics ≡ Ok string }
+{}
+
+/// Static variables that a string does not read before it sets them have no say in what it sends: from
+/// other ones, if they agree on those that it reads so, it has no fault either, and sends the same.
+pub fn unread_statics_have_no_say()
+    ensures { (string : List ℕ) (given : List Value) (one other : List ℤ) (end : State) → length one ≡ 26 → length other ≡ 26 → meaning string given one ≡ Ok end → Agree end one other → sent_with string given other ≡ sent_with string given one }
+{}
+
+/// A string has a syntax tree exactly if it spells that tree, by the grammar of codes and conditionals;
+/// so it spells one tree at most.
+pub fn strings_spell_trees()
+    ensures read { (string : List ℕ) (parts : Parts) → Spells string parts → syntax string ≡ Ok parts }
+    ensures written { (string : List ℕ) (parts : Parts) → syntax string ≡ Ok parts → Spells string parts }
+{}
+
+/// For each string, parameters and static variables there is one answer and no other: what the tree does
+/// that the string spells, or, if it spells none, the first fault of its syntax.
+pub fn strings_have_one_answer()
+    ensures some { (string : List ℕ) (given : List Value) (statics : List ℤ) → IsAnswer string given statics (meaning string given statics) }
+    ensures one { (string : List ℕ) (given : List Value) (statics : List ℤ) (answer : Result State ParmFault) → IsAnswer string given statics answer → answer ≡ meaning string given statics }
 {}

@@ -1,4 +1,7 @@
 // The stack of an expansion.
+use crate::code::{Operator, Turn};
+use crate::fault::ParmFault;
+use crate::operators::{operate, turned};
 use crate::param::Param;
 use smallvec::SmallVec;
 use std::alloc::{AllocError, Global};
@@ -6,11 +9,11 @@ use std::marker::Model;
 
 /// The stack of values. Contracts see it as a list, its top first.
 #[derive(Drop)]
-pub struct Stack {
-    values: SmallVec<Param, 16>,
+pub struct Stack<'a> {
+    values: SmallVec<Param<'a>, 16>,
 }
 
-impl Model for Stack {
+impl<'a> Model for Stack<'a> {
     ghost use Rattle.std.specs.Prelude.{reverse};
     ghost use Rattle.ti_parm.specs.Value.{Values, values_of};
 
@@ -19,9 +22,11 @@ impl Model for Stack {
     ghost view = { λ s. reverse (values_of s.values.items) };
 }
 
-impl Stack {
-    ghost use Rattle.std.specs.Prelude.{◌≡◌, [], ◌∷◌, OnOk, OnErr, MatchOption};
-    ghost use Rattle.ti_parm.specs.Value.{value_of};
+impl<'a> Stack<'a> {
+    ghost use Rattle.std.specs.Prelude.{◌≡◌, [], ◌∷◌, OnOk, OnErr, Ok, MatchOption};
+    ghost use Rattle.ti_parm.specs.Fault.{Answers, Gives};
+    ghost use Rattle.ti_parm.specs.Operators.{binary, pop_number, text_length, unary};
+    ghost use Rattle.ti_parm.specs.Value.{Number, value_of};
 
     /// The empty stack.
     pub fn new(alloc: Global) -> Self
@@ -33,8 +38,8 @@ impl Stack {
     }
 
     /// Puts a value on top.
-    pub fn push(&mut self, value: Param) -> Result<(), AllocError>
-        ensures ok { OnOk result (self.new ≡ value_of value ∷ self.old) }
+    pub fn push(&mut self, value: Param<'a>) -> Result<(), AllocError>
+        ensures ok { OnOk result (self.new ≡ value_of value.entry ∷ self.old) }
         ensures err { OnErr result (self.new ≡ self.old) }
     {
         self.values.push(value)?;
@@ -42,9 +47,66 @@ impl Stack {
     }
 
     /// Takes the top off, if there is one.
-    pub fn pop(&mut self) -> Option<Param>
+    pub fn pop(&mut self) -> Option<Param<'a>>
         ensures { MatchOption result ((self.old ≡ []) × (self.new ≡ [])) (λ top. self.old ≡ value_of top ∷ self.new) }
     {
         self.values.pop()
+    }
+
+    /// Puts a number on top.
+    pub fn push_number(&mut self, number: i32) -> Result<(), ParmFault>
+        ensures { Gives (λ _. self.new) result (Ok (Number number ∷ self.old)) }
+    {
+        self.push(Param::Number(number))
+            .map_err(|_| ParmFault::NoMemory)
+    }
+
+    /// Takes a number off.
+    pub fn pop_number(&mut self) -> Result<i32, ParmFault>
+        ensures { Answers (λ n. (n, self.new)) result (pop_number self.old) }
+    {
+        match self.pop() {
+            Some(Param::Number(number)) => Ok(number),
+            Some(Param::Text(_)) => Err(ParmFault::WrongKind),
+            None => Err(ParmFault::Underflow),
+        }
+    }
+
+    /// Puts what an operator makes of the two values on top in their place.
+    pub fn operate(&mut self, operator: Operator) -> Result<(), ParmFault>
+        ensures { Gives (λ _. self.new) result (binary operator self.old) }
+    {
+        let (Some(right), Some(left)) = (self.pop(), self.pop()) else {
+            return Err(ParmFault::Underflow);
+        };
+        match (left, right) {
+            (Param::Number(left), Param::Number(right)) => {
+                let number = operate(operator, left, right)?;
+                self.push_number(number)
+            }
+            _ => Err(ParmFault::WrongKind),
+        }
+    }
+
+    /// Puts what becomes of the number on top in its place.
+    pub fn change(&mut self, turn: Turn) -> Result<(), ParmFault>
+        ensures { Gives (λ _. self.new) result (unary turn self.old) }
+    {
+        let number = self.pop_number()?;
+        self.push_number(turned(turn, number))
+    }
+
+    /// Puts the length of the text on top in its place.
+    pub fn measure(&mut self) -> Result<(), ParmFault>
+        ensures { Gives (λ _. self.new) result (text_length self.old) }
+    {
+        match self.pop() {
+            Some(Param::Text(bytes)) => {
+                let length = i32::try_from(bytes.len()).map_err(|_| ParmFault::Overflow)?;
+                self.push_number(length)
+            }
+            Some(Param::Number(_)) => Err(ParmFault::WrongKind),
+            None => Err(ParmFault::Underflow),
+        }
     }
 }

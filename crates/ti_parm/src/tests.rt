@@ -1,5 +1,5 @@
 // Worked examples, and what an expansion does when memory is refused.
-use crate::{Param, ParmFault, Statics, expand};
+use crate::{Param, ParmFault, Statics, expand, reads_unset, strip_delays};
 use std::alloc::Global;
 use std::test::Fail;
 
@@ -50,6 +50,18 @@ fn faults(rt: HostRuntime) -> Result<(), Fail> {
         Some(ParmFault::BadCode)
     );
     assert_eq!(rt;
+        sent(rt.alloc(), b"%{}", &[]).err(),
+        Some(ParmFault::BadCode)
+    );
+    assert_eq!(rt;
+        sent(rt.alloc(), b"%{2147483648}", &[]).err(),
+        Some(ParmFault::BadCode)
+    );
+    assert_eq!(rt;
+        sent(rt.alloc(), b"%{1}%256d", &[]).err(),
+        Some(ParmFault::BadCode)
+    );
+    assert_eq!(rt;
         sent(rt.alloc(), b"%d%q", &[]).err(),
         Some(ParmFault::BadCode)
     );
@@ -58,9 +70,132 @@ fn faults(rt: HostRuntime) -> Result<(), Fail> {
         Some(ParmFault::Underflow)
     );
     assert_eq!(rt;
+        sent(rt.alloc(), b"%+", &[]).err(),
+        Some(ParmFault::Underflow)
+    );
+    assert_eq!(rt;
         sent(rt.alloc(), b"a%i", &largest).err(),
         Some(ParmFault::Overflow)
     );
+    assert_eq!(rt;
+        sent(rt.alloc(), b"%{2147483647}%{1}%+%d", &[]).err(),
+        Some(ParmFault::Overflow)
+    );
+    assert_eq!(rt;
+        sent(rt.alloc(), b"%{300}%c", &[]).err(),
+        Some(ParmFault::BadChar)
+    );
+    assert_eq!(rt;
+        sent(rt.alloc(), b"%{1}%s", &[]).err(),
+        Some(ParmFault::WrongKind)
+    );
+    assert_eq!(rt;
+        sent(rt.alloc(), b"%i", &[Param::Text(b"x")]).err(),
+        Some(ParmFault::WrongKind)
+    );
+    assert_eq!(rt;
+        sent(rt.alloc(), b"%?%p1%t1%e2", &[]).err(),
+        Some(ParmFault::BadNest)
+    );
+    assert_eq!(rt;
+        sent(rt.alloc(), b"%?%p1%e2%;", &[]).err(),
+        Some(ParmFault::BadNest)
+    );
+    assert_eq!(rt;
+        sent(rt.alloc(), b"%e%q", &[]).err(),
+        Some(ParmFault::BadNest)
+    );
+    Ok(())
+}
+
+#[test]
+fn operators(rt: HostRuntime) -> Result<(), Fail> {
+    let both = [Param::Number(5), Param::Number(3)];
+    let bytes = sent(rt.alloc(), b"%p1%p2%-%03d", &both)?;
+    assert_eq!(rt; bytes.as_slice(), b"002".as_slice());
+    let bytes = sent(rt.alloc(), b"%p1%{0}%/%d", &[Param::Number(7)])?;
+    assert_eq!(rt; bytes.as_slice(), b"0".as_slice());
+    let bytes = sent(rt.alloc(), b"%p1%:-3dx", &[Param::Number(5)])?;
+    assert_eq!(rt; bytes.as_slice(), b"5  x".as_slice());
+    let bytes = sent(rt.alloc(), b"%{0}%c%p1%l%d", &[Param::Text(b"abc")])?;
+    assert_eq!(rt; bytes.as_slice(), b"\x803".as_slice());
+    let bytes = sent(
+        rt.alloc(),
+        b"%p1%~%x,%p1%!%d,%p1%p2%m%d",
+        &[Param::Number(-7), Param::Number(2)],
+    )?;
+    assert_eq!(rt; bytes.as_slice(), b"6,0,-1".as_slice());
+    Ok(())
+}
+
+// The texts are what printf(3) of glibc writes.
+#[test]
+fn formats(rt: HostRuntime) -> Result<(), Fail> {
+    let number = [Param::Number(-42)];
+    let bytes = sent(
+        rt.alloc(),
+        b"%p1%5d|%p1%:-5d|%p1%05d|%p1%.3d|%p1%8.3d|%p1%x|%p1%#X|%p1%#o",
+        &number,
+    )?;
+    assert_eq!(rt;
+        bytes.as_slice(),
+        b"  -42|-42  |-0042|-042|    -042|ffffffd6|0XFFFFFFD6|037777777726".as_slice()
+    );
+    let bytes = sent(
+        rt.alloc(),
+        b"%p1%:+d|%p1% d|%p1%.0d|%p1%#x|%p1%#o|%p1%#.0o",
+        &[Param::Number(0)],
+    )?;
+    assert_eq!(rt; bytes.as_slice(), b"+0| 0||0|0|0".as_slice());
+    let bytes = sent(
+        rt.alloc(),
+        b"%p1%s|%p1%5s|%p1%:-5s|%p1%.2s|%p1%05.1s",
+        &[Param::Text(b"abc")],
+    )?;
+    assert_eq!(rt; bytes.as_slice(), b"abc|  abc|abc  |ab|    a".as_slice());
+    Ok(())
+}
+
+#[test]
+fn conditionals(rt: HostRuntime) -> Result<(), Fail> {
+    let chain = b"%?%p1%{1}%=%ta%e%p1%{2}%=%tb%ec%;.";
+    assert_eq!(rt;
+        sent(rt.alloc(), chain, &[Param::Number(1)])?.as_slice(),
+        b"a.".as_slice()
+    );
+    assert_eq!(rt;
+        sent(rt.alloc(), chain, &[Param::Number(2)])?.as_slice(),
+        b"b.".as_slice()
+    );
+    assert_eq!(rt;
+        sent(rt.alloc(), chain, &[Param::Number(3)])?.as_slice(),
+        b"c.".as_slice()
+    );
+    let inner = b"%?%p1%t%?%p2%t1%e2%;%e%?%p2%t3%;%;";
+    let yes_no = [Param::Number(1), Param::Number(0)];
+    let no_yes = [Param::Number(0), Param::Number(1)];
+    assert_eq!(rt;
+        sent(rt.alloc(), inner, &yes_no)?.as_slice(),
+        b"2".as_slice()
+    );
+    assert_eq!(rt;
+        sent(rt.alloc(), inner, &no_yes)?.as_slice(),
+        b"3".as_slice()
+    );
+    Ok(())
+}
+
+#[test]
+fn static_variables_last(rt: HostRuntime) -> Result<(), Fail> {
+    let mut statics = Statics::new();
+    let mut out = Vec::new(rt.alloc());
+    let set = expand(rt.alloc(), b"%{7}%PA%{8}%Pa", &[], &mut statics, &mut out);
+    assert!(rt; set.is_ok());
+    let failed = expand(rt.alloc(), b"%{9}%PA%d", &[], &mut statics, &mut out);
+    assert_eq!(rt; failed.err(), Some(ParmFault::Underflow));
+    let get = expand(rt.alloc(), b"%gA%d%ga%d", &[], &mut statics, &mut out);
+    assert!(rt; get.is_ok());
+    assert_eq!(rt; out.as_slice(), b"70".as_slice());
     Ok(())
 }
 
@@ -85,8 +220,8 @@ fn appends_behind_what_is_there(rt: HostRuntime) -> Result<(), Fail> {
     Ok(())
 }
 
-// Run with each allocation failing in turn: `expand` answers as it should, or `NoMemory` with the
-// output as it was.
+// With one request for memory refused `expand` answers as it should, or `NoMemory` with the output
+// as it was.
 #[test]
 fn refused_expand(rt: HostRuntime) -> Result<(), Fail> {
     let mut statics = Statics::new();
@@ -131,5 +266,53 @@ fn faults_show_as_their_names(rt: HostRuntime) -> Result<(), Fail> {
         text.as_str(),
         "Underflow BadNest BadCode Overflow BadChar WrongKind NoMemory"
     );
+    Ok(())
+}
+
+#[test]
+fn delays(rt: HostRuntime) -> Result<(), Fail> {
+    let sent = strip_delays(rt.alloc(), b"a$<5*>b$<x>$<12.5/*>c$<1.>$<")?;
+    assert_eq!(rt; sent.as_slice(), b"ab$<x>c$<1.>$<".as_slice());
+    Ok(())
+}
+
+// With one request for memory refused `strip_delays` answers as it should, or gives up.
+#[test]
+fn refused_strip_delays(rt: HostRuntime) -> Result<(), Fail> {
+    match strip_delays(rt.alloc(), b"abcdefghi$<5>jklmnopqr") {
+        Ok(sent) => {
+            assert_eq!(rt; sent.as_slice(), b"abcdefghijklmnopqr".as_slice());
+        }
+        Err(_) => {
+            let _ = println!(rt; "refused: strip_delays");
+        }
+    }
+    Ok(())
+}
+
+#[test]
+fn static_reads(rt: HostRuntime) -> Result<(), Fail> {
+    let alloc = rt.alloc();
+    let choice = b"%?%p1%t%gA%e%{1}%;%PA%gA%d";
+    assert_eq!(rt; reads_unset(alloc, choice, &[Param::Number(1)]), Ok(true));
+    assert_eq!(rt; reads_unset(alloc, choice, &[]), Ok(false));
+    assert_eq!(rt; reads_unset(alloc, b"%ga%d", &[]), Ok(false));
+    assert_eq!(rt;
+        reads_unset(alloc, b"%gA%d%d", &[]),
+        Err(ParmFault::Underflow)
+    );
+    Ok(())
+}
+
+// With one request for memory refused `reads_unset` answers as it should, or `NoMemory`.
+#[test]
+fn refused_reads_unset(rt: HostRuntime) -> Result<(), Fail> {
+    match reads_unset(rt.alloc(), b"a long literal text %gZ%d", &[]) {
+        Ok(reads) => assert!(rt; reads),
+        Err(fault) => {
+            assert_eq!(rt; fault, ParmFault::NoMemory);
+            let _ = println!(rt; "refused: reads_unset");
+        }
+    }
     Ok(())
 }

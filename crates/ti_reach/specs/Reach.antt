@@ -1,7 +1,7 @@
 -- When a string serves as `cup` (terminfo(5), "Cursor Motions").
 use Rattle.std.specs.Prelude.{◌≡◌, ◌<◌, ◌⊎◌, ℕ, pos, List, [], ◌∷◌, Ok, Err}
-use Rattle.ti_parm.specs.Meaning.{State as Outcome, meaning}
-use Rattle.ti_parm.specs.Value.{Value, Number, zeros}
+use Rattle.ti_parm.specs.Meaning.{sent}
+use Rattle.ti_parm.specs.Value.{Value, Number}
 use Rattle.ti_parm.specs.declared.fault.ParmFault.{ParmFault}
 use Rattle.vt_term.specs.Text.{Splits, IsStuck, IsUnfinished}
 use Rattle.vt_term.specs.Run as Run
@@ -16,13 +16,13 @@ place row col = Number (pos row) ∷ Number (pos col) ∷ []
 abbrev pub IsWhole : List ℕ → Type 0
 IsWhole bytes = (tokens : List (List ℕ)) × Splits bytes tokens []
 
--- the string can be expanded for this place, its bytes are whole tokens, and from every state at rest
--- they leave the cursor of a terminal of this size there
+-- the string can be expanded for this place, what it sends (its delays are not sent) is whole tokens, and
+-- from every state at rest they leave the cursor of a terminal of this size there
 pub record Reaches (string : List ℕ) (rows cols row col : ℕ) : Type 0 where
-  pub end : Outcome
-  pub meant : meaning string (place row col) zeros ≡ Ok end
-  pub whole : IsWhole end.output
-  pub leads : Run.Reaches rows cols end.output row col
+  pub bytes : List ℕ
+  pub sends : sent string (place row col) ≡ Ok bytes
+  pub whole : IsWhole bytes
+  pub leads : Run.Reaches rows cols bytes row col
 
 -- the places of a row to the left of a column are reached
 abbrev pub ReachesInRow : List ℕ → ℕ → ℕ → ℕ → ℕ → Type 0
@@ -34,7 +34,7 @@ ServesAsCup string rows cols = (row col : ℕ) → row < rows → col < cols →
 
 -- the string can't be expanded for this place
 abbrev pub HasFaultAt : List ℕ → ℕ → ℕ → Type 0
-HasFaultAt string row col = (fault : ParmFault) × (meaning string (place row col) zeros ≡ Err fault)
+HasFaultAt string row col = (fault : ParmFault) × (sent string (place row col) ≡ Err fault)
 
 -- the bytes end inside a sequence, or one of them fits nothing
 abbrev pub IsNoText : List ℕ → Type 0
@@ -42,9 +42,16 @@ IsNoText bytes = (at : ℕ) × (IsUnfinished bytes at ⊎ IsStuck bytes at)
 
 -- the bytes for this place are no whole text
 pub record IsNoTextAt (string : List ℕ) (row col : ℕ) : Type 0 where
-  pub end : Outcome
-  pub meant : meaning string (place row col) zeros ≡ Ok end
-  pub fault : IsNoText end.output
+  pub bytes : List ℕ
+  pub sends : sent string (place row col) ≡ Ok bytes
+  pub fault : IsNoText bytes
+
+-- what it says of a place that nothing is sent for
+abbrev pub TellsWhyUnsent : List ℕ → ℕ → ℕ → MissKind → Type 0
+TellsWhyUnsent string row col Parm = HasFaultAt string row col
+TellsWhyUnsent string row col Token = ⊥
+TellsWhyUnsent string row col Misses = ⊥
+TellsWhyUnsent string row col NoMemory = Unit {0}
 
 -- what an answer says of the bytes for a place
 abbrev pub Judges : List ℕ → MissKind → Type 0

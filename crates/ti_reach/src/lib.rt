@@ -2,7 +2,8 @@
 //! screen, whatever stood there before.
 #![tactic(auto)]
 
-ghost use Rattle.std.specs.Prelude.{◌≡◌, ◌<◌, IfErr, OnOk};
+ghost use Rattle.std.specs.Prelude.{◌≡◌, ◌<◌, IfErr, IfOk, Ok, OnOk};
+ghost use Rattle.ti_parm.specs.Meaning.{sent};
 ghost use Rattle.ti_reach.specs.Reach as spec;
 ghost use Rattle.vt_term.specs.Run as run;
 
@@ -10,7 +11,7 @@ ghost use Rattle.vt_term.specs.Run as run;
 mod tests;
 
 use std::alloc::Global;
-use ti_parm::{Param, ParmFault, Statics, expand};
+use ti_parm::{Param, ParmFault, Statics, expand, strip_delays};
 use vt_term::{Size, TokenFaultKind, place_after, tokens};
 
 /// Why a string doesn't reach a place.
@@ -48,20 +49,20 @@ pub fn reach_cup(alloc: Global, string: &[u8], size: Size) -> Result<(), Miss>
     ensures col { IfErr result (λ miss. miss.col < size.cols) }
     ensures why { IfErr result (λ miss. spec.TellsWhy string.now miss.row miss.col miss.kind) }
 {
-    let mut sent = Vec::new(alloc);
+    let mut expanded = Vec::new(alloc);
     for row in 0..size.rows {
-        reach_row(alloc, string, size, row, &mut sent)?;
+        reach_row(alloc, string, size, row, &mut expanded)?;
     }
     Ok(())
 }
 
-/// Whether the string reaches each place of one row. `sent` is room for the bytes of one place.
+/// Whether the string reaches each place of one row. `expanded` is room for the bytes of one place.
 fn reach_row(
     alloc: Global,
     string: &[u8],
     size: Size,
     row: usize,
-    sent: &mut Vec<u8>,
+    expanded: &mut Vec<u8>,
 ) -> Result<(), Miss>
     requires { row < size.rows }
     ensures reached { OnOk result (spec.ReachesInRow string.now size.rows size.cols row size.cols) }
@@ -70,7 +71,7 @@ fn reach_row(
     ensures why { IfErr result (λ miss. spec.TellsWhy string.now miss.row miss.col miss.kind) }
 {
     for col in 0..size.cols {
-        match reach_place(alloc, string, size, row, col, sent) {
+        match reach_place(alloc, string, size, row, col, expanded) {
             Ok(()) => {}
             Err(kind) => return Err(Miss { row, col, kind }),
         }
@@ -85,18 +86,35 @@ fn reach_place(
     size: Size,
     row: usize,
     col: usize,
-    sent: &mut Vec<u8>,
+    expanded: &mut Vec<u8>,
 ) -> Result<(), MissKind>
     requires row_in { row < size.rows }
     requires col_in { col < size.cols }
     ensures reached { OnOk result (spec.Reaches string.now size.rows size.cols row col) }
     ensures why { IfErr result (λ kind. spec.TellsWhy string.now row col kind) }
 {
+    let bytes = send(alloc, string, row, col, expanded)?;
+    judge(alloc, bytes.as_slice(), size, row, col)
+}
+
+/// What the string sends for one place.
+fn send(
+    alloc: Global,
+    string: &[u8],
+    row: usize,
+    col: usize,
+    expanded: &mut Vec<u8>,
+) -> Result<Vec<u8>, MissKind>
+    requires row_in { row < 500 }
+    requires col_in { col < 500 }
+    ensures sends { IfOk result (λ bytes. sent string.now (spec.place row col) ≡ Ok bytes.items) }
+    ensures why { IfErr result (λ kind. spec.TellsWhyUnsent string.now row col kind) }
+{
     let mut statics = Statics::new();
-    sent.clear();
+    expanded.clear();
     let params = [Param::Number(row as i32), Param::Number(col as i32)];
-    match expand(alloc, string, &params, &mut statics, sent) {
-        Ok(()) => judge(alloc, sent, size, row, col),
+    match expand(alloc, string, &params, &mut statics, expanded) {
+        Ok(()) => strip_delays(alloc, expanded.as_slice()).map_err(|_| MissKind::NoMemory),
         Err(ParmFault::NoMemory) => Err(MissKind::NoMemory),
         Err(_) => Err(MissKind::Parm),
     }

@@ -13,6 +13,8 @@ fn answers(rt: HostRuntime) -> Result<(), Fail> {
     assert_eq!(rt; reach_cup(rt.alloc(), cup, large), Ok(()));
     let through_home = b"\x1b[Hab\r\n\x1b[%i%p1%d;%p2%dH";
     assert_eq!(rt; reach_cup(rt.alloc(), through_home, small), Ok(()));
+    let with_delay = b"\x1b[%i%p1%d;%p2%dH$<5*/>";
+    assert_eq!(rt; reach_cup(rt.alloc(), with_delay, small), Ok(()));
     Ok(())
 }
 

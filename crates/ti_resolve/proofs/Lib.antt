@@ -3,3 +3,4 @@ pub mod Names
 pub mod Settled
 pub mod Told
 pub mod Whole
+pub mod Once

@@ -1,7 +1,7 @@
 -- What an entry is with all that it uses: each use stands for the fields of the entry that it names, and
 -- of several fields about one capability the first decides (terminfo(5), "Similar Terminals").
 use Rattle.std.specs.Prelude.{ℕ, ◌≡◌, ◌<◌, List, [], ◌∷◌, ◌++◌, Some}
-use Rattle.ti_caps.specs.Entry.{Content, value_at}
+use Rattle.ti_caps.specs.Entry.{Content, IsEntry, value_at}
 use Rattle.ti_source.specs.declared.types.Field.{Field}
 use Rattle.ti_source.specs.declared.types.RawEntry.{RawEntry}
 use Rattle.ti_resolve.specs.Uses.{place_named, fields_at, names_at, uses_in, own_in, first_about, value_given}
@@ -26,3 +26,11 @@ pub record IsResolved (raws : List RawEntry) (name : List ℕ) (entry : Content)
   pub whole : IsWhole raws root fields
   pub names : entry.names ≡ names_at raws root
   pub values : (place : ℕ) → place < 497 → value_at entry place ≡ value_given (first_about place fields)
+
+-- uses stand for one list of fields at most
+abbrev pub ExpandsOnce : Type 0
+ExpandsOnce = (raws : List RawEntry) (names : List (List ℕ)) (one other : List Field) → Expands raws names one → Expands raws names other → one ≡ other
+
+-- so a name asks for one entry at most
+abbrev pub ResolvedOnce : Type 0
+ResolvedOnce = (raws : List RawEntry) (name : List ℕ) (one other : Content) → IsEntry one → IsEntry other → IsResolved raws name one → IsResolved raws name other → one ≡ other

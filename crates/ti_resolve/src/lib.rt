@@ -10,4 +10,4 @@ mod tests;
 mod walk;
 
 pub use faults::ResolveFault;
-pub use resolving::resolve;
+pub use resolving::{expands_once, resolve, resolved_once};

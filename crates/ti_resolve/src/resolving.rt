@@ -3,7 +3,7 @@
 ghost use Rattle.std.specs.Prelude.{◌≡◌, ◌<◌, [], IfOk, MatchResult, IsOk, length};
 ghost use Rattle.std.specs.List.{AllByRecursion};
 ghost use Rattle.ti_source.specs.Raw.{IsRaw};
-ghost use Rattle.ti_resolve.specs.Resolved.{IsResolved};
+ghost use Rattle.ti_resolve.specs.Resolved.{ExpandsOnce, IsResolved, ResolvedOnce};
 ghost use Rattle.ti_resolve.specs.Walk.{Answers, FailsBy, enter, walk_of};
 
 use crate::faults::ResolveFault;
@@ -46,3 +46,14 @@ pub fn resolve(alloc: Global, raws: &[RawEntry], name: &[u8]) -> Result<Entry, R
     let entry = filled(alloc, raws, names_of(raws, root), entered.as_slice())?;
     Ok(entry)
 }
+
+/// A law: uses stand for one list of fields.
+#[tactic(auto, using(crate::proofs::Once::expands_once))]
+pub fn expands_once()
+    ensures { ExpandsOnce }
+{}
+
+/// A law: a name asks for one entry.
+pub fn resolved_once()
+    ensures { ResolvedOnce }
+{}

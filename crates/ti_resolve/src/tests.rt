@@ -1,3 +1,9 @@
+//! Entries with what they use, and the tests of ti_source: a crate with tests is proved twice, and that one is long.
+
+mod escapes;
+mod printing;
+mod reading;
+
 use super::*;
 use std::alloc::Global;
 use std::process::Abort;
@@ -85,7 +91,30 @@ fn a_missing_entry_is_told(rt: HostRuntime) {
     );
 }
 
-/// Entries `e0` to `e64`, each but the last with a use of the next, and then this text.
+/// So many entries `e0`, `e1` and so on, each of which uses the next twice, and then this text.
+fn diamonds(rt: &impl Alloc<A = Global>, count: u32, last: &[u8]) -> Option<Vec<u8>> {
+    let mut text = String::new(rt.alloc());
+    for i in 0..count.min(70) {
+        write!(text, "e{i}, use=e{}, use=e{},\n", i + 1, i + 1).ok()?;
+    }
+    let mut bytes = text.into_bytes();
+    bytes.extend_from_slice(last).ok()?;
+    Some(bytes)
+}
+
+/// Walked anew for each use they would take 2 to the power of 64 steps.
+#[test]
+fn diamonds_are_walked_once(rt: HostRuntime) {
+    let Some(text) = diamonds(&rt, 64, b"e64, am,\n") else {
+        return
+    };
+    let Some(answer) = resolved(&rt, text.as_slice(), b"e0") else {
+        return
+    };
+    assert!(rt; has(&rt, &answer.ok().expect(&rt, "no fault"), b"am"));
+}
+
+/// So many entries `e0`, `e1` and so on, each of which uses the next, and then this text.
 fn chain(rt: &impl Alloc<A = Global>, count: u32, last: &[u8]) -> Option<Vec<u8>> {
     let mut text = String::new(rt.alloc());
     for i in 0..count.min(70) {
@@ -144,4 +173,21 @@ fn refused_resolve(rt: HostRuntime) {
         }
     }
     assert_eq!(rt; raws.len(), 2);
+}
+
+/// The name that a fault tells is a copy too.
+#[test]
+fn refused_fault(rt: HostRuntime) {
+    let Ok(raws) = read(rt.alloc(), b"x, use=x,\n") else {
+        let _ = println!(rt; "refused: read");
+        return;
+    };
+    let answer = resolve(rt.alloc(), raws.as_slice(), b"x");
+    if let Err(ResolveFault::NoMemory) = &answer {
+        let _ = println!(rt; "refused: resolve");
+        return;
+    }
+    assert!(rt;
+        matches!(&answer, Err(ResolveFault::Cycle(name)) if name.as_slice() == b"x".as_slice())
+    );
 }

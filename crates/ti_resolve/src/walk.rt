@@ -37,6 +37,9 @@ fn lead(
 }
 
 /// Enters the entry at a place, which this name led to, and then all that it uses.
+///
+/// An entry is entered once, and never more than 65 of them, so that calls nest no deeper than 65 and each
+/// field of an entered entry is looked at once, however often and in whatever diamonds entries are used.
 #[cycle(walk)]
 pub(crate) fn enter(
     alloc: Global,

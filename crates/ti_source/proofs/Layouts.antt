@@ -114,7 +114,7 @@ and_true true = refl
 and_true false = refl
 
 -- no carriage return is dropped
-kept : (b : ℕ) (rest : List ℕ) → (b == 10) ≡ false → begins_feed rest ≡ false → lines_of (b ∷ rest) ≡ onto_line b (lines_of rest)
+pub kept : (b : ℕ) (rest : List ℕ) → (b == 10) ≡ false → begins_feed rest ≡ false → lines_of (b ∷ rest) ≡ onto_line b (lines_of rest)
 kept b rest e f =
     not_feed b rest e ∙ (ap (λ t. if (b == 13) && t then lines_of rest else onto_line b (lines_of rest)) f ∙ ap (λ t. if t then lines_of rest else onto_line b (lines_of rest)) (and_false (b == 13)))
 

@@ -22,7 +22,7 @@ use Rattle.ti_source.specs.Source.{fault_at, lines_behind, read_lines, no_progre
 use Rattle.ti_source.proofs.Decodings.{either_way}
 use Rattle.ti_source.proofs.Fitting.{same_kind}
 use Rattle.ti_source.proofs.ReadBack.{whole_line, line_of, printed}
-use Rattle.ti_source.proofs.RoundTrip.{names_parts, names_read, names_inline, fields_lines, fields_read, text_prints, Held, fine_fields}
+use Rattle.ti_source.proofs.RoundTrip.{names_parts, names_read, names_inline, fields_lines, fields_read, text_prints, fine_fields}
 use Rattle.ti_source.proofs.Spellings.{choose, both_true, is_inline}
 
 spelled_short : (b : ℕ) (letter : Option ℕ) → length (spelled_with b letter) ≤ 4
@@ -110,21 +110,20 @@ text_short entry h =
 within_limit : (n : ℕ) → n ≤ 16777216 → nat_lt 16777216 n ≡ false
 within_limit n h = grind (arith, nat_tests)
 
-text_lines : (entry : Content) → Held entry → lines_of (text_of entry) ≡ (entry.names ++ 44 ∷ []) ∷ map line_of (fields_of entry)
-text_lines entry held =
-    let n = names_parts entry.names held.is.names_fit in
+text_lines : (entry : Content) → IsEntry entry → lines_of (text_of entry) ≡ (entry.names ++ 44 ∷ []) ∷ map line_of (fields_of entry)
+text_lines entry is =
+    let n = names_parts entry.names is.names_fit in
     let line = entry.names ++ 44 ∷ [] in
     let inline : list_all is_inline line ≡ true = list_all-append is_inline entry.names (44 ∷ []) ∙ both_true (list_all is_inline entry.names) true (names_inline entry.names n.controls) refl in
     ap lines_of (text_prints entry)
-    ∙ (whole_line line (flat_map printed (fields_of entry)) inline ∙ ap (λ ls. line ∷ ls) (fields_lines [] (fields_of entry) (fine_fields entry held)))
+    ∙ (whole_line line (flat_map printed (fields_of entry)) inline ∙ ap (λ ls. line ∷ ls) (fields_lines [] (fields_of entry) (fine_fields entry is)))
 
 -- the law
 pub reads_back : ReadsBack
 unfolding source_of
-reads_back entry is bytes =
-    let held : Held entry = record { is = is; bytes = bytes } in
+reads_back entry is =
     let n = names_parts entry.names is.names_fit in
     ap (λ t. if t then Err (fault_at 0 faults.TooLong) else read_lines 1 (lines_of (text_of entry)) no_progress) (within_limit (length (text_of entry)) (text_short entry is))
-    ∙ (ap (λ ls. read_lines 1 ls no_progress) (text_lines entry held)
+    ∙ (ap (λ ls. read_lines 1 ls no_progress) (text_lines entry is)
     ∙ (ap (λ r. lines_behind 1 r (read_lines 2 (map line_of (fields_of entry)))) (names_read entry.names n)
-    ∙ fields_read 2 (new_entry 1 entry.names) (fields_of entry) (fine_fields entry held)))
+    ∙ fields_read 2 (new_entry 1 entry.names) (fields_of entry) (fine_fields entry is)))

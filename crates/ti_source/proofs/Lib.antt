@@ -9,3 +9,6 @@ pub mod Words
 pub mod ReadBack
 pub mod RoundTrip
 pub mod Lengths
+pub mod Cuts
+pub mod Relations
+pub mod Just

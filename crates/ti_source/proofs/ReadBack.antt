@@ -10,7 +10,7 @@ use Rattle.ti_caps.specs.declared.types.Kind.{Kind}
 use Rattle.ti_caps.specs.declared.types.Kind.TheVariants as kinds
 use Rattle.ti_caps.specs.declared.value.Value.{Value}
 use Rattle.ti_caps.specs.declared.value.Value.TheVariants as values
-use Rattle.ti_caps.specs.Entry.{FitsPlace}
+use Rattle.ti_caps.specs.Entry.{FitsPlace, HasBytes}
 use Rattle.ti_caps.specs.Fits.{string_fits}
 use Rattle.ti_caps.specs.Table.{name_at, kind_of, place_in}
 use Rattle.ti_source.specs.declared.layout.Mark.TheVariants.{Hash, Equals}
@@ -23,7 +23,6 @@ use Rattle.ti_source.specs.Escapes.{decoding_of}
 use Rattle.ti_source.specs.Fields.{◌>>=◌, is_kind, flag_reading, number_reading, decoded_reading, string_reading, named_reading, split_reading, trimmed_reading, reading_of, is_long, bounded_reading, ended_reading, is_told, with_notes, with_field, with_said, with_reading, add_field, add_last, add_cut}
 use Rattle.ti_source.specs.Layout.{onto_line, begins_feed, lines_of, is_white, onto_cut, cut_of, marked_in}
 use Rattle.ti_source.specs.Numbers.{number_of}
-use Rattle.ti_source.specs.Printed.{BytesIn}
 use Rattle.ti_source.specs.Printing.{string_text, value_text, field_text}
 use Rattle.ti_source.specs.Source.{Progress, is_passed, begins_white, continued, begun, read_line}
 use Rattle.ti_source.proofs.Entries.{no_notes}
@@ -90,14 +89,14 @@ quiet_word xs e = record { inside = word_inline xs e; passes = word_passes xs e 
 quiet_byte : (b : ℕ) (xs : List ℕ) → IsQuiet (b ∷ []) → IsQuiet xs → IsQuiet (b ∷ xs)
 quiet_byte b xs p q = quiet_both (b ∷ []) xs p q
 
-quiet_value : (place : ℕ) (value : Value) → FitsPlace place (Some value) → BytesIn (Some value) → IsQuiet (value_text value)
+quiet_value : (place : ℕ) (value : Value) → FitsPlace place (Some value) → HasBytes (Some value) → IsQuiet (value_text value)
 quiet_value place values.Flag h k = record { inside = refl; passes = λ rest. refl }
 quiet_value place (values.Number n) h k = quiet_byte 35 (decimal n) (record { inside = refl; passes = λ rest. refl }) (quiet_word (decimal n) (decimal_is n (omega (arith, h.1))).word)
 quiet_value place (values.String bytes) h k =
     let t = string_reads bytes (text_bytes bytes h.1 k) in
     quiet_byte 61 (string_text bytes) (record { inside = refl; passes = λ rest. refl }) (record { inside = t.inside; passes = t.passes })
 
-pub quiet_body : (place : ℕ) (value : Value) → place < 497 → FitsPlace place (Some value) → BytesIn (Some value) → IsQuiet (9 ∷ (name_at place ++ value_text value))
+pub quiet_body : (place : ℕ) (value : Value) → place < 497 → FitsPlace place (Some value) → HasBytes (Some value) → IsQuiet (9 ∷ (name_at place ++ value_text value))
 quiet_body place value inside h k =
     quiet_byte 9 (name_at place ++ value_text value) (record { inside = refl; passes = λ rest. refl })
     (quiet_both (name_at place) (value_text value) (quiet_word (name_at place) (name_word place inside).word) (quiet_value place value h k))
@@ -116,7 +115,7 @@ is_kind_same kinds.Flag = refl
 is_kind_same kinds.Number = refl
 is_kind_same kinds.String = refl
 
-of_kind : (place : ℕ) (kind : Kind) → kind_of place ≡ kind → is_kind (kind_of place) kind ≡ true
+pub of_kind : (place : ℕ) (kind : Kind) → kind_of place ≡ kind → is_kind (kind_of place) kind ≡ true
 of_kind place kind e = ap (λ k. is_kind k kind) e ∙ is_kind_same kind
 
 -- a field's text says that field
@@ -135,7 +134,7 @@ string_says place bytes e h =
     ap (λ t. if t then decoded_reading place (decoding_of (string_text bytes)) else Err faults.WrongKind) (of_kind place kinds.String e)
     ∙ ap (decoded_reading place) (string_reads bytes h).decoding
 
-split_says : (place : ℕ) (value : Value) → place < 497 → FitsPlace place (Some value) → BytesIn (Some value) → split_reading (name_at place ++ value_text value) (marked_in (name_at place ++ value_text value)) ≡ Ok (Says (Set place value) 0)
+split_says : (place : ℕ) (value : Value) → place < 497 → FitsPlace place (Some value) → HasBytes (Some value) → split_reading (name_at place ++ value_text value) (marked_in (name_at place ++ value_text value)) ≡ Ok (Says (Set place value) 0)
 split_says place values.Flag inside h k =
     let w = name_word place inside in
     let whole : name_at place ++ [] ≡ name_at place = append-nil (name_at place) in
@@ -152,7 +151,7 @@ split_says place (values.String bytes) inside h k =
     ∙ (ap (λ t. if t then Ok (Says (Include (string_text bytes)) 0) else named_reading (place_in (name_at place)) Equals (string_text bytes)) w.no_use
     ∙ (ap (λ o. named_reading o Equals (string_text bytes)) (place_in_name place inside) ∙ string_says place bytes h.0 (text_bytes bytes h.1 k)))
 
-body_says : (place : ℕ) (value : Value) → place < 497 → FitsPlace place (Some value) → BytesIn (Some value) → reading_of (9 ∷ (name_at place ++ value_text value)) ≡ Ok (Says (Set place value) 0)
+body_says : (place : ℕ) (value : Value) → place < 497 → FitsPlace place (Some value) → HasBytes (Some value) → reading_of (9 ∷ (name_at place ++ value_text value)) ≡ Ok (Says (Set place value) 0)
 unfolding reading_of
 body_says place value inside h k =
     let w = name_word place inside in
@@ -168,20 +167,20 @@ not_long place values.Flag h = refl
 not_long place (values.Number n) h = refl
 not_long place (values.String bytes) h = short_enough (length bytes) 4095 (and_parts (nat_le (length bytes) 4095) (list_all (λ b. not (b == 0)) bytes) h.1).0
 
-body_ends : (place : ℕ) (value : Value) → place < 497 → FitsPlace place (Some value) → BytesIn (Some value) → ended_reading (9 ∷ (name_at place ++ value_text value)) ≡ Ok (Says (Set place value) 0)
+body_ends : (place : ℕ) (value : Value) → place < 497 → FitsPlace place (Some value) → HasBytes (Some value) → ended_reading (9 ∷ (name_at place ++ value_text value)) ≡ Ok (Says (Set place value) 0)
 unfolding ended_reading
 body_ends place value inside h k =
     ap (λ r. r >>= bounded_reading) (body_says place value inside h k)
     ∙ ap (λ t. if t then Err faults.TooLong else Ok (Says (Set place value) 0)) (not_long place value h)
 
 -- one more field of an entry
-field_added : (number place : ℕ) (value : Value) (raw : RawEntry) → place < 497 → FitsPlace place (Some value) → BytesIn (Some value) → is_told raw.fields place ≡ false → add_field number raw (9 ∷ (name_at place ++ value_text value)) ≡ Ok (with_field raw (Set place value))
+field_added : (number place : ℕ) (value : Value) (raw : RawEntry) → place < 497 → FitsPlace place (Some value) → HasBytes (Some value) → is_told raw.fields place ≡ false → add_field number raw (9 ∷ (name_at place ++ value_text value)) ≡ Ok (with_field raw (Set place value))
 unfolding add_field with_reading
 field_added number place value raw inside h k told =
     ap (λ r. r >>= λ reading. Ok (with_reading number raw reading)) (body_ends place value inside h k)
     ∙ (ap (λ t. Ok (with_notes (with_said t number raw (Set place value)) [])) told ∙ ap Ok (sym (no_notes (with_field raw (Set place value)))))
 
-line_added : (number place : ℕ) (value : Value) (raw : RawEntry) → place < 497 → FitsPlace place (Some value) → BytesIn (Some value) → is_told raw.fields place ≡ false → add_cut number raw (cut_of (line_of (Set place value))) ≡ Ok (with_field raw (Set place value))
+line_added : (number place : ℕ) (value : Value) (raw : RawEntry) → place < 497 → FitsPlace place (Some value) → HasBytes (Some value) → is_told raw.fields place ≡ false → add_cut number raw (cut_of (line_of (Set place value))) ≡ Ok (with_field raw (Set place value))
 unfolding add_cut add_last line_of body_of
 line_added number place value raw inside h k told =
     ap (add_cut number raw) (one_field (9 ∷ (name_at place ++ value_text value)) (quiet_body place value inside h k).passes)
@@ -208,7 +207,7 @@ tab_first : (place : ℕ) (value : Value) → begins_white (line_of (Set place v
 unfolding line_of body_of
 tab_first place value = refl
 
-pub field_read : (number place : ℕ) (value : Value) (raw : RawEntry) → place < 497 → FitsPlace place (Some value) → BytesIn (Some value) → is_told raw.fields place ≡ false → read_line number (line_of (Set place value)) (opened raw) ≡ Ok (opened (with_field raw (Set place value)))
+pub field_read : (number place : ℕ) (value : Value) (raw : RawEntry) → place < 497 → FitsPlace place (Some value) → HasBytes (Some value) → is_told raw.fields place ≡ false → read_line number (line_of (Set place value)) (opened raw) ≡ Ok (opened (with_field raw (Set place value)))
 unfolding read_line
 field_read number place value raw inside h k told =
     ap (λ t. if t then Ok (opened raw) else (if begins_white (line_of (Set place value)) then continued number (line_of (Set place value)) (opened raw) (Some raw) else begun number (line_of (Set place value)) (opened raw))) (passed_line place value inside)

@@ -13,7 +13,7 @@ use Rattle.ti_caps.specs.declared.fits.Opener.TheVariants.{Nothing}
 use Rattle.ti_caps.specs.declared.types.Kind.{Kind}
 use Rattle.ti_caps.specs.declared.types.Kind.TheVariants as kinds
 use Rattle.ti_caps.specs.declared.value.Value.{Value}
-use Rattle.ti_caps.specs.Entry.{Content, IsEntry, FitsPlace, value_at}
+use Rattle.ti_caps.specs.Entry.{Content, IsEntry, FitsPlace, HasBytes, value_at}
 use Rattle.ti_caps.specs.Fits.{opener_after, is_one_field, begins_names, names_fit}
 use Rattle.ti_caps.specs.Table.{name_at, kind_of, place_of_rank, rank_key, row_at}
 use Rattle.ti_source.specs.declared.types.FaultKind.TheVariants as faults
@@ -22,7 +22,7 @@ use Rattle.ti_source.specs.declared.types.Field.TheVariants.{Set, Cancel, Includ
 use Rattle.ti_source.specs.declared.types.RawEntry.{RawEntry}
 use Rattle.ti_source.specs.Fields.{◌>>=◌, is_kind, cap_of, is_cap, is_told, repeats, with_field, add_last, add_cut, begins_unnamed, is_no_name, new_entry, named_entry, begun_by, entry_on}
 use Rattle.ti_source.specs.Layout.{lines_of, is_white, ends_field, put_field, onto_cut, cut_from, cut_of}
-use Rattle.ti_source.specs.Printed.{place_fields, rank_fields, ranks_fields, kind_fields, fields_of, BytesIn}
+use Rattle.ti_source.specs.Printed.{place_fields, rank_fields, ranks_fields, kind_fields, fields_of}
 use Rattle.ti_source.specs.Printing.{value_text, field_text, place_text, rank_text, ranks_text, kind_text, text_of}
 use Rattle.ti_source.specs.Source.{continued, begun, read_line, lines_behind, read_lines, no_progress}
 use Rattle.ti_source.proofs.Fitting.{same_kind}
@@ -109,7 +109,7 @@ names_read (b ∷ rest) h =
 
 -- fields that are new to those before them
 abbrev pub IsHeld : Field → Type 0
-IsHeld (Set place value) = (place < 497) × FitsPlace place (Some value) × BytesIn (Some value)
+IsHeld (Set place value) = (place < 497) × FitsPlace place (Some value) × HasBytes (Some value)
 IsHeld (Cancel place) = ⊥
 IsHeld (Include name) = ⊥
 
@@ -117,7 +117,7 @@ abbrev pub Fine : List Field → List Field → Type 0
 Fine seen [] = Unit {0}
 Fine seen (field ∷ fields) = IsHeld field × (repeats seen (cap_of field) ≡ false) × Fine (seen ++ field ∷ []) fields
 
-line_inline : (place : ℕ) (value : Value) → place < 497 → FitsPlace place (Some value) → BytesIn (Some value) → list_all is_inline (line_of (Set place value)) ≡ true
+line_inline : (place : ℕ) (value : Value) → place < 497 → FitsPlace place (Some value) → HasBytes (Some value) → list_all is_inline (line_of (Set place value)) ≡ true
 unfolding line_of body_of
 line_inline place value inside h k =
     let body = 9 ∷ (name_at place ++ value_text value) in
@@ -216,25 +216,21 @@ fine_both : (seen xs ys : List Field) → Fine seen xs → Fine (seen ++ xs) ys 
 fine_both seen [] ys h k = subst (λ s. Fine s ys) (append-nil seen) k
 fine_both seen (field ∷ xs) ys h k = (h.0, h.1, fine_both (seen ++ field ∷ []) xs ys h.2 (subst (λ s. Fine s ys) (sym (append_assoc seen (field ∷ []) xs)) k))
 
-pub record Held (entry : Content) : Type 0 where
-  pub is : IsEntry entry
-  pub bytes : (place : ℕ) → BytesIn (value_at entry place)
-
-fine_place : (place : ℕ) (value : Option Value) (seen : List Field) → place < 497 → FitsPlace place value → BytesIn value → is_told seen place ≡ false → Fine seen (place_fields place value)
+fine_place : (place : ℕ) (value : Option Value) (seen : List Field) → place < 497 → FitsPlace place value → HasBytes value → is_told seen place ≡ false → Fine seen (place_fields place value)
 fine_place place None seen inside h k told = tt
 fine_place place (Some value) seen inside h k told = ((inside, h, k), told, tt)
 
-fine_rank : (entry : Content) (kind : Kind) (rank : ℕ) (seen : List Field) → Held entry → rank < 497 → (OfKind rank kind → is_told seen (place_of_rank rank) ≡ false) → Fine seen (rank_fields entry kind rank)
+fine_rank : (entry : Content) (kind : Kind) (rank : ℕ) (seen : List Field) → IsEntry entry → rank < 497 → (OfKind rank kind → is_told seen (place_of_rank rank) ≡ false) → Fine seen (rank_fields entry kind rank)
 unfolding rank_fields OfKind
-fine_rank entry kind rank seen held inside told =
+fine_rank entry kind rank seen is inside told =
     choose (Fine seen) (is_kind (kind_of (place_of_rank rank)) kind) (place_fields (place_of_rank rank) (value_at entry (place_of_rank rank))) []
-    (λ e. fine_place (place_of_rank rank) (value_at entry (place_of_rank rank)) seen (place_in_table rank inside) (held.is.fits (place_of_rank rank)) (held.bytes (place_of_rank rank)) (told e)) (λ _. tt)
+    (λ e. fine_place (place_of_rank rank) (value_at entry (place_of_rank rank)) seen (place_in_table rank inside) (is.fits (place_of_rank rank)) (is.bytes (place_of_rank rank)) (told e)) (λ _. tt)
 
-fine_ranks : (entry : Content) (kind : Kind) (n : ℕ) (seen : List Field) → Held entry → n ≤ 497 → ((m : ℕ) → OfKind m kind → is_told seen (place_of_rank m) ≡ false) → Fine seen (ranks_fields entry kind n)
-fine_ranks entry kind zero seen held h told = tt
-fine_ranks entry kind (suc n) seen held h told =
-    fine_both seen (ranks_fields entry kind n) (rank_fields entry kind n) (fine_ranks entry kind n seen held (omega arith) told)
-    (fine_rank entry kind n (seen ++ ranks_fields entry kind n) held (omega arith)
+fine_ranks : (entry : Content) (kind : Kind) (n : ℕ) (seen : List Field) → IsEntry entry → n ≤ 497 → ((m : ℕ) → OfKind m kind → is_told seen (place_of_rank m) ≡ false) → Fine seen (ranks_fields entry kind n)
+fine_ranks entry kind zero seen is h told = tt
+fine_ranks entry kind (suc n) seen is h told =
+    fine_both seen (ranks_fields entry kind n) (rank_fields entry kind n) (fine_ranks entry kind n seen is (omega arith) told)
+    (fine_rank entry kind n (seen ++ ranks_fields entry kind n) is (omega arith)
     (λ e. told_both seen (ranks_fields entry kind n) (place_of_rank n) (told n e) (told_ranks entry kind n (place_of_rank n) (λ m less _. apart m n less (omega arith)))))
 
 other_kind : (entry : Content) (kind other : Kind) (rank : ℕ) → (kind ≡ other → ⊥) → OfKind rank other → is_told (kind_fields entry kind) (place_of_rank rank) ≡ false
@@ -253,12 +249,12 @@ flag_string e = cc
 number_string : kinds.Number ≡ kinds.String → ⊥
 number_string e = cc
 
-pub fine_fields : (entry : Content) → Held entry → Fine [] (fields_of entry)
+pub fine_fields : (entry : Content) → IsEntry entry → Fine [] (fields_of entry)
 unfolding fields_of kind_fields
-fine_fields entry held =
+fine_fields entry is =
     let flags = kind_fields entry kinds.Flag in
     let numbers = kind_fields entry kinds.Number in
-    fine_both [] flags (numbers ++ kind_fields entry kinds.String) (fine_ranks entry kinds.Flag 497 [] held (omega arith) (λ m _. told_none (place_of_rank m)))
-    (fine_both flags numbers (kind_fields entry kinds.String) (fine_ranks entry kinds.Number 497 flags held (omega arith) (λ m e. other_kind entry kinds.Flag kinds.Number m flag_number e))
-    (fine_ranks entry kinds.String 497 (flags ++ numbers) held (omega arith)
+    fine_both [] flags (numbers ++ kind_fields entry kinds.String) (fine_ranks entry kinds.Flag 497 [] is (omega arith) (λ m _. told_none (place_of_rank m)))
+    (fine_both flags numbers (kind_fields entry kinds.String) (fine_ranks entry kinds.Number 497 flags is (omega arith) (λ m e. other_kind entry kinds.Flag kinds.Number m flag_number e))
+    (fine_ranks entry kinds.String 497 (flags ++ numbers) is (omega arith)
     (λ m e. told_both flags numbers (place_of_rank m) (other_kind entry kinds.Flag kinds.String m flag_string e) (other_kind entry kinds.Number kinds.String m number_string e))))

@@ -33,7 +33,7 @@ pub record WordByte (b : ℕ) : Type 0 where
   pub mute : is_mute b ≡ true
   pub inline : is_inline b ≡ true
 
-none_there : {A : Type 0} (o : Option A) → is_some o ≡ false → o ≡ None
+pub none_there : {A : Type 0} (o : Option A) → is_some o ≡ false → o ≡ None
 none_there None e = refl
 none_there (Some x) e = cc
 

@@ -1,14 +1,13 @@
 -- What an entry is as a raw entry: what its printed text is read as.
-use Rattle.std.specs.Prelude.{ℕ, ◌<◌, ◌≡◌, zero, suc, List, [], ◌∷◌, ◌++◌, Option, Some, None, Ok, if◌then◌else◌}
-use Rattle.std.specs.List.{AllByRecursion}
+use Rattle.std.specs.Prelude.{ℕ, ◌≡◌, ◌<◌, zero, suc, List, [], ◌∷◌, ◌++◌, Option, Some, None, Ok, if◌then◌else◌}
+use Rattle.std.specs.List.{AllByRecursion, Contains}
 use Rattle.ti_caps.specs.declared.types.Kind.{Kind}
 use Rattle.ti_caps.specs.declared.types.Kind.TheVariants as kinds
 use Rattle.ti_caps.specs.declared.value.Value.{Value}
-use Rattle.ti_caps.specs.declared.value.Value.TheVariants.{String}
 use Rattle.ti_caps.specs.Entry.{Content, IsEntry, value_at}
 use Rattle.ti_caps.specs.Table.{kind_of, place_of_rank}
 use Rattle.ti_source.specs.declared.types.Field.{Field}
-use Rattle.ti_source.specs.declared.types.Field.TheVariants.{Set}
+use Rattle.ti_source.specs.declared.types.Field.TheVariants.{Set, Cancel, Include}
 use Rattle.ti_source.specs.declared.types.RawEntry.{RawEntry}
 use Rattle.ti_source.specs.Fields.{is_kind}
 use Rattle.ti_source.specs.Printing.{text_of}
@@ -37,11 +36,20 @@ fields_of entry = kind_fields entry kinds.Flag ++ (kind_fields entry kinds.Numbe
 abbrev pub raw_of : Content → RawEntry
 raw_of entry = record { line = 1; names = entry.names; fields = fields_of entry; notes = [] }
 
--- numbers that a byte of memory holds
-abbrev pub BytesIn : Option Value → Type 0
-BytesIn (Some (String bytes)) = AllByRecursion (λ b. b < 256) bytes
-BytesIn _ = Unit {0}
-
 -- the printed text of an entry is read as that entry
 abbrev pub ReadsBack : Type 0
-ReadsBack = (entry : Content) → IsEntry entry → ((place : ℕ) → BytesIn (value_at entry place)) → source_of (text_of entry) ≡ Ok (raw_of entry ∷ [])
+ReadsBack = (entry : Content) → IsEntry entry → source_of (text_of entry) ≡ Ok (raw_of entry ∷ [])
+
+-- a field that sets a capability to its value in the entry
+abbrev pub SetsAsIn : Content → Field → Type 0
+SetsAsIn entry (Set place value) = (place < 497) × (value_at entry place ≡ Some value)
+SetsAsIn entry (Cancel place) = ⊥
+SetsAsIn entry (Include name) = ⊥
+
+-- the fields are just those of the entry's capabilities
+pub record AreJust (entry : Content) (fields : List Field) : Type 0 where
+  pub each : AllByRecursion (SetsAsIn entry) fields
+  pub all : (place : ℕ) (value : Value) → place < 497 → value_at entry place ≡ Some value → Contains fields (Set place value)
+
+abbrev pub PrintsJust : Type 0
+PrintsJust = (entry : Content) → AreJust entry (fields_of entry)

@@ -201,6 +201,3 @@ pub fn unescape(alloc: Global, text: &[u8]) -> Result<Vec<u8>, EscapeFault>
     let Decoded { bytes, odd: _ } = decoded;
     Ok(bytes)
 }
-
-#[cfg(test)]
-mod tests;

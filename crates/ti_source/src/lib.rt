@@ -12,5 +12,5 @@ mod types;
 
 pub use escapes::{EscapeFault, unescape};
 pub use printing::{print, printing_reads_back};
-pub use source::read;
+pub use source::{read, reading_is_the_relation};
 pub use types::{FaultKind, Field, Fields, Note, NoteKind, Notes, RawEntry, SourceFault};

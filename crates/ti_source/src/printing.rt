@@ -1,11 +1,12 @@
 //! Printing an entry.
 
-ghost use Rattle.std.specs.Prelude.{◌≡◌, ◌<◌, ◌/◌, ◌%◌, ◌+◌, ◌++◌, ◌∷◌, [], IfOk, OnOk, decimal, ◌&&◌, nat_le};
+ghost use Rattle.std.specs.Prelude.{◌≡◌, ◌<◌, ◌/◌, ◌%◌, ◌+◌, ◌++◌, ◌∷◌, [], Ok, IfOk, OnOk, decimal, ◌&&◌, nat_le};
 ghost use Rattle.ti_source.specs.Fields.{is_kind};
 ghost use Rattle.ti_caps.specs.declared.types.Kind.TheVariants as kinds;
-ghost use Rattle.ti_caps.specs.Entry.{value_at};
+ghost use Rattle.ti_caps.specs.Entry.{IsEntry, value_at};
 ghost use Rattle.ti_caps.specs.Table.{kind_of, name_at, place_of_rank};
-ghost use Rattle.ti_source.specs.Printed.{ReadsBack};
+ghost use Rattle.ti_source.specs.Printed.{PrintsJust, ReadsBack, raw_of};
+ghost use Rattle.ti_source.specs.Source.{source_of};
 ghost use Rattle.ti_source.specs.Printing.{letter_for, octal, spelled_with, spelled, string_text, value_text, field_text, place_text, rank_text, ranks_text, kind_text, text_of};
 
 use std::alloc::{AllocError, Global};
@@ -151,13 +152,11 @@ fn push_kind(alloc: Global, text: &mut Vec<u8>, entry: &Entry, kind: Kind) -> Re
     Ok(())
 }
 
-/// The entry as a source text of terminfo(5): its names on a line, then a line for each capability, flags,
-/// numbers and strings, each kind in the order of the names' bytes. Reading it gives the entry back.
-///
-/// The error is want of memory.
+/// The names on a line, and behind them flags, numbers and strings.
 #[tactic(auto, unfolding(crate::specs::Printing::text_of))]
-pub fn print(alloc: Global, entry: &Entry) -> Result<Vec<u8>, AllocError>
-    ensures { IfOk result (λ v. v.items ≡ text_of entry.now) }
+fn text(alloc: Global, entry: &Entry) -> Result<Vec<u8>, AllocError>
+    ensures value { IfOk result (λ v. v.items ≡ text_of entry.now) }
+    ensures entry { IsEntry entry.now }
 {
     let mut text = Vec::from_slice(alloc, entry.names())?;
     text.extend_from_slice(b",\n")?;
@@ -167,11 +166,20 @@ pub fn print(alloc: Global, entry: &Entry) -> Result<Vec<u8>, AllocError>
     Ok(text)
 }
 
-/// A law: the printed text of an entry is read as one raw entry with the entry's names and just its fields.
+/// The entry as a source text of terminfo(5): its names on a line, then a line for each capability, flags,
+/// numbers and strings, each kind in the order of the names' bytes. Reading it gives the entry back.
+///
+/// The error is want of memory.
 #[tactic(auto, using(crate::proofs::Lengths::reads_back))]
-pub fn printing_reads_back()
-    ensures { ReadsBack }
-{}
+pub fn print(alloc: Global, entry: &Entry) -> Result<Vec<u8>, AllocError>
+    ensures text { IfOk result (λ v. v.items ≡ text_of entry.now) }
+    ensures reads_back { IfOk result (λ v. source_of v.items ≡ Ok (raw_of entry.now ∷ [])) }
+{
+    text(alloc, entry)
+}
 
-#[cfg(test)]
-mod tests;
+/// A law: the printed text of an entry is read as one raw entry with the entry's names and just its fields.
+pub fn printing_reads_back()
+    ensures read { ReadsBack }
+    ensures just { PrintsJust }
+{}

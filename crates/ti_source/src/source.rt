@@ -3,6 +3,7 @@
 ghost use Rattle.std.specs.Prelude.{◌≡◌, ◌<◌, ◌+◌, ◌++◌, Ok, None, IfOk, IfErr, OnOk};
 ghost use Rattle.ti_source.specs.Source.{Progress, all_of, is_comment, is_passed, begins_white, continued, begun, read_line, source_of, fault_at, Gives, FailsBy};
 ghost use Rattle.ti_source.specs.Raw.{IsRaw};
+ghost use Rattle.ti_source.specs.Related.{FaultHasNone, FaultIsFirst, ReadIsRelated, RelatedIsRead};
 ghost use Rattle.std.specs.List.{AllByRecursion};
 ghost use Rattle.ti_source.specs.Views.{progress_view};
 
@@ -144,5 +145,11 @@ pub fn read(alloc: Global, text: &[u8]) -> Result<Vec<RawEntry>, SourceFault>
     }
 }
 
-#[cfg(test)]
-mod tests;
+/// A law: what reading answers is what the relation between texts and entries allows, and nothing else;
+/// and a fault is told of the first line up to which there are no such entries.
+pub fn reading_is_the_relation()
+    ensures read { ReadIsRelated }
+    ensures related { RelatedIsRead }
+    ensures fault { FaultHasNone }
+    ensures first { FaultIsFirst }
+{}

@@ -127,7 +127,8 @@ impl Fields {
     pub fn into_vec(self) -> Vec<Field>
         ensures { result.items ≡ self }
     {
-        self.fields
+        let Fields { fields } = self;
+        fields
     }
 }
 
@@ -182,7 +183,8 @@ impl Notes {
     pub fn into_vec(self) -> Vec<Note>
         ensures { result.items ≡ self }
     {
-        self.notes
+        let Notes { notes } = self;
+        notes
     }
 }
 

@@ -2,17 +2,17 @@
 
 use crate::decimal::decimal_number;
 use crate::failure::{Failure, Refusal, Reply};
-use crate::sizes::{not_a_number, number_word, size_of};
+use crate::sizes::{number_word, size_of};
 use clap::ArgMatches;
 use smallvec::SmallVec;
 use std::alloc::{AllocError, Global};
-use ti_parm::{Param, ParmFault, Statics, expand};
+use ti_parm::{Param, ParmFault, Statics, expand, strip_delays};
 use ti_reach::{MissKind, reach_cup};
 use ti_source::{EscapeFault, unescape};
 use vt_term::{Size, Terminal, TokenFault, TokenFaultKind, tokens};
 
 /// The parameters of one string: nine and fewer take no memory.
-type Params = SmallVec<Param, 9>;
+type Params<'a> = SmallVec<Param<'a>, 9>;
 
 /// The words of `expand`, read.
 #[derive(Drop)]
@@ -20,7 +20,7 @@ struct Request<'a> {
     string: &'a str,
     rows: u32,
     cols: u32,
-    params: Params,
+    params: Params<'a>,
     cup: bool,
 }
 
@@ -31,16 +31,7 @@ pub fn perform(alloc: Global, matches: &ArgMatches<'_>) -> Result<Reply, Failure
         Refusal::Size,
     ))?;
     let string = unescape(alloc, request.string.as_bytes()).map_err(escape_failure)?;
-    let mut sent = Vec::new(alloc);
-    let mut statics = Statics::new();
-    expand(
-        alloc,
-        string.as_slice(),
-        request.params.as_slice(),
-        &mut statics,
-        &mut sent,
-    )
-    .map_err(parm_failure)?;
+    let sent = send(alloc, string.as_slice(), request.params.as_slice())?;
     let mut text = hex::encode(alloc, sent.as_slice())?;
     text.push('\n')?;
     match tokens(alloc, sent.as_slice()) {
@@ -60,6 +51,15 @@ pub fn perform(alloc: Global, matches: &ArgMatches<'_>) -> Result<Reply, Failure
             }),
         },
     }
+}
+
+/// What the string sends: its expansion without delays.
+fn send(alloc: Global, string: &[u8], params: &[Param<'_>]) -> Result<Vec<u8>, Failure> {
+    let mut expanded = Vec::new(alloc);
+    let mut statics = Statics::new();
+    expand(alloc, string, params, &mut statics, &mut expanded).map_err(parm_failure)?;
+    let sent = strip_delays(alloc, expanded.as_slice())?;
+    Ok(sent)
 }
 
 /// The line that says where the bytes leave the cursor.
@@ -111,15 +111,36 @@ fn read_request<'a>(alloc: Global, matches: &ArgMatches<'a>) -> Result<Request<'
     })
 }
 
-fn read_params(alloc: Global, words: &[&str]) -> Result<Params, Failure> {
+fn read_params<'a>(alloc: Global, words: &[&'a str]) -> Result<Params<'a>, Failure> {
     let mut params = SmallVec::new(alloc);
     for word in words {
-        match decimal_number(word) {
-            Some(number) => params
-                .push(Param::Number(number as i32))
-                .map_err(AllocError::from)?,
-            None => return Err(not_a_number(alloc, "PARAM", word)),
+        match parameter(word) {
+            Some(param) => params.push(param).map_err(AllocError::from)?,
+            None => return Err(not_a_parameter(alloc, word)),
         }
     }
     Ok(params)
+}
+
+/// The parameter that a word gives: the text behind `s:`, or a decimal number.
+fn parameter<'a>(word: &'a str) -> Option<Param<'a>> {
+    match word.strip_prefix("s:") {
+        Some(text) => Some(Param::Text(text.as_bytes())),
+        None => match decimal_number(word) {
+            Some(number) => Some(Param::Number(number as i32)),
+            None => None,
+        },
+    }
+}
+
+/// A word that is no parameter.
+fn not_a_parameter(alloc: Global, word: &str) -> Failure {
+    let text = format!(in alloc;
+        "error: invalid value '{word}' for PARAM: a decimal number up to 2147483647, or s: and a text, is wanted\n\n\
+         For more information, try '--help'.\n"
+    );
+    match text {
+        Ok(text) => Failure::Usage(text),
+        Err(_) => Failure::NoMemory,
+    }
 }

@@ -158,6 +158,76 @@ fn expands(rt: HostRuntime) -> Result<(), Fail> {
 }
 
 #[test]
+fn runs_operators(rt: HostRuntime) -> Result<(), Fail> {
+    let cases: [Case<'_>; 4] = [
+        (
+            &["%p1%p2%-%03d", "2", "4", "5", "3"],
+            0,
+            "303032\ncursor 0 3\n",
+            "",
+        ),
+        (&["%p1%{0}%/%d", "2", "4", "7"], 0, "30\ncursor 0 1\n", ""),
+        (
+            &["%p1%:-3dx", "2", "4", "5"],
+            0,
+            "35202078\ncursor 0 3\n",
+            "",
+        ),
+        (&["%{0}%c", "2", "4"], 1, "80\n", "refused: Stuck 0\n"),
+    ];
+    compare(&rt, &cases)?;
+    Ok(())
+}
+
+#[test]
+fn leaves_delays_out(rt: HostRuntime) -> Result<(), Fail> {
+    let cases: [Case<'_>; 4] = [
+        (
+            &["a$<5*>b$<x>", "2", "4"],
+            0,
+            "6162243c783e\ncursor 1 2\n",
+            "",
+        ),
+        (&["%p1%l%d", "2", "4", "s:abc"], 0, "33\ncursor 0 1\n", ""),
+        (&["%p1%s.", "2", "4", "s:"], 0, "2e\ncursor 0 1\n", ""),
+        (
+            &["--cup", "\\E[%i%p1%d;%p2%dH$<5>", "3", "3"],
+            0,
+            "1b5b313b3148\ncursor 0 0\ncup yes\n",
+            "",
+        ),
+    ];
+    compare(&rt, &cases)?;
+    Ok(())
+}
+
+#[test]
+fn takes_one_branch(rt: HostRuntime) -> Result<(), Fail> {
+    let cases: [Case<'_>; 2] = [
+        (&["%?%p1%t1%e2%;", "2", "4", "0"], 0, "32\ncursor 0 1\n", ""),
+        (&["%?%p1%t1%e2", "2", "4", "0"], 1, "", "refused: BadNest\n"),
+    ];
+    compare(&rt, &cases)?;
+    Ok(())
+}
+
+#[test]
+fn names_the_fault(rt: HostRuntime) -> Result<(), Fail> {
+    let cases: [Case<'_>; 3] = [
+        (
+            &["%{2147483647}%{1}%+%d", "2", "4"],
+            1,
+            "",
+            "refused: Overflow\n",
+        ),
+        (&["%{300}%c", "2", "4"], 1, "", "refused: BadChar\n"),
+        (&["%{1}%s", "2", "4"], 1, "", "refused: WrongKind\n"),
+    ];
+    compare(&rt, &cases)?;
+    Ok(())
+}
+
+#[test]
 fn judges_cup(rt: HostRuntime) -> Result<(), Fail> {
     let cases: [Case<'_>; 5] = [
         (

@@ -10,7 +10,8 @@ const EXPAND_ABOUT: &str =
 
 const EXPAND_MORE: &str = "\
 The string is written in the escapes of terminfo source, as in '\\E[%i%p1%d;%p2%dH'.
-Printed are its bytes in hexadecimal and the line `cursor ROW COLUMN`, both counted from 0.
+Printed are the bytes that it sends, in hexadecimal, and the line `cursor ROW COLUMN`, both counted from 0.
+A delay, as $<5>, is not sent. Of more than nine parameters the first nine are used.
 
 Exit status: 0 done; 1 refused, with the reason on standard error; 2 a wrong word on the line;
 3 output could not be written; 4 no memory.
@@ -134,5 +135,5 @@ fn parameters<'a>(alloc: Global) -> Arg<'a> {
     Arg::new(alloc, "PARAM")
         .action(ArgAction::Append)
         .num_args(0..)
-        .help("The string's parameters: decimal numbers up to 2147483647")
+        .help("The string's parameters: decimal numbers up to 2147483647, or s:TEXT")
 }

@@ -1,10 +1,10 @@
 pub mod Grids
+pub mod Decimals
 pub mod Keeps
+pub mod Counts
 pub mod Sequences
 pub mod Fits
 pub mod Splitting
 pub mod Scanning
-pub mod Decimals
+pub mod Dropping
 pub mod Running
-pub mod Styles
-pub mod Erasing

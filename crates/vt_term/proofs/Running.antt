@@ -2,11 +2,13 @@
 use Rattle.std.proofs.Common.{◌≡◌, ℕ, ◌+◌, ◌<◌, ◌≤◌, List, [], ◌∷◌, ◌++◌, length, take, drop, get_or, ◌-◌, Option, None, Some, IfSome, zero, suc, inl, inr, length-append, refl, sym, ap, subst, ◌∙◌, arith, append_assoc}
 use Rattle.std.proofs.lemmas.Bool.{cases_lt}
 use Rattle.std.proofs.lemmas.List.{append-nil, take-take, take-append-drop, take_all, take_more, get_or_read}
-use Rattle.vt_term.specs.Screen.{Screen, State, IsScreen, IsOfSize}
+use Rattle.vt_screen.specs.Screen.{Screen, IsScreen}
+use Rattle.vt_screen.proofs.Keeps.{Kept}
+use Rattle.vt_term.specs.Screen.{State, IsOfSize}
 use Rattle.vt_term.specs.Text.{IsOpen, Splits, IsSplit}
 use Rattle.vt_term.specs.Step.{step, steps}
 use Rattle.vt_term.specs.Run.{Runs, Sticks, RunsCut, LeadsTo, Reaches}
-use Rattle.vt_term.proofs.Keeps.{Kept, steps_kept}
+use Rattle.vt_term.proofs.Keeps.{steps_kept}
 use Rattle.vt_term.proofs.Splitting.{GoesOn, goes_on, one_splitting, splits_append, splits_front, splits_open}
 
 pub steps_append : (ts us : List (List ℕ)) (s : Screen) → steps (ts ++ us) s ≡ steps us (steps ts s)
@@ -129,3 +131,27 @@ pub reaches_place : (rows cols : ℕ) (tokens : List (List ℕ)) (token : List �
 reaches_place rows cols tokens token None some e h = tt
 reaches_place rows cols tokens token (Some p) some e h = λ bytes s. reaches_last rows cols (take (length tokens - 1) tokens) token p.0 p.1 h bytes
     (subst (λ (ts : List (List ℕ)). Splits bytes ts []) (last_of tokens token some e) s)
+
+-- what sticks sticks before all that stands behind it
+take_within : (a b : List ℕ) (n : ℕ) → n ≤ length a → take n (a ++ b) ≡ take n a
+take_within a b zero le = refl
+take_within [] b (suc n) le = absurd (omega arith)
+take_within (x ∷ a) b (suc n) le = ap (λ (l : List ℕ). x ∷ l) (take_within a b n (omega arith))
+
+pub sticks_first : (s u : State) (a b : List ℕ) (k : ℕ) → Sticks s a k u → Sticks s (a ++ b) k u
+sticks_first s u a b k p = record {
+  within = omega (arith, p.within, length-append a b);
+  reached = p.reached;
+  runs = subst (λ (l : List ℕ). Runs s l p.reached) (sym (take_within a b k (omega (arith, p.within)))) p.runs;
+  fits_nothing = λ v r. p.fits_nothing v (subst (λ (l : List ℕ). Runs s l v) (take_within a b (k + 1) (omega (arith, p.within))) r);
+  dropped = p.dropped;
+}
+
+-- a whole text, and what follows it
+pub whole_text_rests : (s t : State) (a : List ℕ) (ts : List (List ℕ)) → s.rest ≡ [] → Splits a ts [] → Runs s a t → t.rest ≡ []
+whole_text_rests s t a ts e h k = ap (λ (x : State). x.rest) (runs_once s (record { screen = steps ts s.screen; rest = [] }) t a (text_runs s a ts e h) k)
+
+pub whole_text_first : (s t : State) (a b : List ℕ) (ts : List (List ℕ)) → s.rest ≡ [] → Splits a ts [] → Runs s (a ++ b) t → Runs (record { screen = steps ts s.screen; rest = [] }) b t
+whole_text_first s t a b ts e h k =
+    let c : RunsCut s a b t = runs_cut s t a b k in
+    subst (λ (x : State). Runs x b t) (runs_once s (record { screen = steps ts s.screen; rest = [] }) c.between a (text_runs s a ts e h) c.runs_first) c.runs_second

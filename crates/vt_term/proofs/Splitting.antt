@@ -1,8 +1,8 @@
 -- A text falls into tokens in one way at most, and so do its fronts.
-use Rattle.std.proofs.Common.{◌≡◌, ℕ, List, [], ◌∷◌, ◌++◌, refl, sym, ap, subst, ◌∙◌, arith, append_assoc}
+use Rattle.std.proofs.Common.{◌≡◌, ℕ, ◌<◌, ◌⊎◌, length, inl, inr, List, [], ◌∷◌, ◌++◌, refl, sym, ap, subst, ◌∙◌, arith, append_assoc}
 use Rattle.std.proofs.lemmas.List.{append-nil}
-use Rattle.vt_term.specs.Text.{IsOpen, IsToken, Splits, IsSplit}
-use Rattle.vt_term.proofs.Sequences.{token_ends, token_not_open, open_front, token_front, empty_open}
+use Rattle.vt_term.specs.Text.{IsControl, Cuts, IsCutBy, IsOpen, IsWhole, IsToken, Splits, IsSplit}
+use Rattle.vt_term.proofs.Sequences.{token_ends, token_not_open, token_stays, token_before, open_front, token_front, empty_open, escape_open}
 
 -- of two fronts of one list one is a front of the other
 pub data Compared (a b c d : List ℕ) : Type 0 where
@@ -23,11 +23,11 @@ pub record SameFirst (t behind u after : List ℕ) : Type 0 where
   pub token : u ≡ t
   pub rest : after ≡ behind
 
-pub same_first : (t behind u after : List ℕ) → IsToken t → IsToken u → t ++ behind ≡ u ++ after → SameFirst t behind u after
+pub same_first : (t behind u after : List ℕ) → IsToken t behind → IsToken u after → t ++ behind ≡ u ++ after → SameFirst t behind u after
 same_first t behind u after h k e = elim (compare t behind u after e) [
-  | Longer x p q ↦ (let none : x ≡ [] = token_ends t x h (subst IsToken p k) in
+  | Longer x p q ↦ (let none : x ≡ [] = token_ends t x after (subst (IsToken t) q h) (subst (λ (l : List ℕ). IsToken l after) p k) in
       record { token = p ∙ ap (λ (l : List ℕ). t ++ l) none ∙ append-nil t; rest = sym (q ∙ ap (λ (l : List ℕ). l ++ after) none) })
-  | Shorter x p q ↦ (let none : x ≡ [] = token_ends u x k (subst IsToken p h) in
+  | Shorter x p q ↦ (let none : x ≡ [] = token_ends u x behind (subst (IsToken u) q k) (subst (λ (l : List ℕ). IsToken l behind) p h) in
       record { token = sym (p ∙ ap (λ (l : List ℕ). u ++ l) none ∙ append-nil u); rest = q ∙ ap (λ (l : List ℕ). l ++ behind) none })
 ]
 
@@ -50,10 +50,10 @@ pub goes_on : (text : List ℕ) (ts us : List (List ℕ)) (r more q : List ℕ) 
 goes_on text [] us r more q s k = record { later = us; splits = subst (λ (l : List ℕ). Splits (l ++ more) us q) s.0 k; tokens = refl }
 goes_on text (t ∷ ts) [] r more q s k =
     let e : text ++ more ≡ t ++ (s.0 ++ more) = ap (λ (l : List ℕ). l ++ more) s.1 ∙ append_assoc t s.0 more in
-    absurd (token_not_open t (s.0 ++ more) s.2 (subst IsOpen (sym k.0 ∙ e) k.1))
+    absurd (token_not_open t (s.0 ++ more) (token_stays t s.0 more s.2) (subst IsOpen (sym k.0 ∙ e) k.1))
 goes_on text (t ∷ ts) (u ∷ us) r more q s k =
     let e : text ++ more ≡ t ++ (s.0 ++ more) = ap (λ (l : List ℕ). l ++ more) s.1 ∙ append_assoc t s.0 more in
-    let f : SameFirst t (s.0 ++ more) u k.0 = same_first t (s.0 ++ more) u k.0 s.2 k.2 (sym e ∙ k.1) in
+    let f : SameFirst t (s.0 ++ more) u k.0 = same_first t (s.0 ++ more) u k.0 (token_stays t s.0 more s.2) k.2 (sym e ∙ k.1) in
     let g : GoesOn ts us r more q = goes_on s.0 ts us r more q s.3 (subst (λ (l : List ℕ). Splits l us q) f.rest k.3) in
     record { later = g.later; splits = g.splits; tokens = ap (λ (x : List ℕ). x ∷ us) f.token ∙ ap (λ (l : List (List ℕ)). t ∷ l) g.tokens }
 
@@ -67,7 +67,7 @@ one_splitting text ts us r q s k =
 pub splits_append : (text : List ℕ) (ts us : List (List ℕ)) (r more q : List ℕ) → Splits text ts r → Splits (r ++ more) us q → Splits (text ++ more) (ts ++ us) q
 splits_append text [] us r more q s k = subst (λ (l : List ℕ). Splits (l ++ more) us q) (sym s.0) k
 splits_append text (t ∷ ts) us r more q s k =
-    (s.0 ++ more, ap (λ (l : List ℕ). l ++ more) s.1 ∙ append_assoc t s.0 more, s.2, splits_append s.0 ts us r more q s.3 k)
+    (s.0 ++ more, ap (λ (l : List ℕ). l ++ more) s.1 ∙ append_assoc t s.0 more, token_stays t s.0 more s.2, splits_append s.0 ts us r more q s.3 k)
 
 pub empty_splits : Splits [] [] []
 empty_splits = (refl, empty_open)
@@ -76,47 +76,93 @@ empty_splits = (refl, empty_open)
 pub splits_front : (xs ys : List ℕ) (ts : List (List ℕ)) (r : List ℕ) → Splits (xs ++ ys) ts r → IsSplit xs
 splits_front xs ys [] r s = record { tokens = []; rest = xs; splits = (refl, open_front xs ys (subst IsOpen (sym s.0) s.1)) }
 splits_front xs ys (t ∷ ts) r s = elim (compare xs ys t s.0 s.1) [
-  | Longer more p q ↦ within xs ys t more s.2 p
-  | Shorter more p q ↦ (let g : IsSplit more = splits_front more ys ts r (subst (λ (l : List ℕ). Splits l ts r) q s.3) in
-      record { tokens = t ∷ g.tokens; rest = g.rest; splits = (more, p, s.2, g.splits) })
+  | Longer more p q ↦ within xs t more s.0 s.2 p
+  | Shorter more p q ↦ behind xs ys t more s.0 s.2 p q (splits_front more ys ts r (subst (λ (l : List ℕ). Splits l ts r) q s.3))
 ]
   where
-    within : (xs ys t more : List ℕ) → IsToken t → t ≡ xs ++ more → IsSplit xs
-    within xs ys t [] h p = record {
-      tokens = xs ∷ [];
-      rest = [];
-      splits = ([], sym (append-nil xs), subst IsToken (p ∙ append-nil xs) h, (refl, empty_open));
-    }
-    within xs ys t (m ∷ ms) h p = record { tokens = []; rest = xs; splits = (refl, token_front xs (m ∷ ms) (omega arith) (subst IsToken p h)) }
+    one : (xs t after : List ℕ) → IsToken t after → t ≡ xs → IsSplit xs
+    one xs t after h p = elim h [
+      | inl w ↦ record { tokens = xs ∷ []; rest = []; splits = ([], sym (append-nil xs), inl (subst IsWhole p w), (refl, empty_open)) }
+      | inr d ↦ record { tokens = []; rest = xs; splits = (refl, subst IsOpen p d.fits) }
+    ]
+
+    within : (xs t more after : List ℕ) → IsToken t after → t ≡ xs ++ more → IsSplit xs
+    within xs t [] after h p = one xs t after h (p ∙ append-nil xs)
+    within xs t (m ∷ ms) after h p = record { tokens = []; rest = xs; splits = (refl, token_front xs (m ∷ ms) after (omega arith) (subst (λ (l : List ℕ). IsToken l after) p h)) }
+
+    behind : (xs ys t more after : List ℕ) → IsToken t after → xs ≡ t ++ more → after ≡ more ++ ys → IsSplit more → IsSplit xs
+    behind xs ys t [] after h p q g = one xs t after h (sym (p ∙ append-nil t))
+    behind xs ys t (m ∷ ms) after h p q g =
+        record { tokens = t ∷ g.tokens; rest = g.rest; splits = (m ∷ ms, p, token_before t m ms ys (subst (IsToken t) q h), g.splits) }
 
 nothing_before : (xs ys : List ℕ) → xs ++ ys ≡ [] → xs ≡ []
 nothing_before [] ys e = refl
 nothing_before (x ∷ xs) ys e = cc
 
-tail_only : (r : List ℕ) (b : ℕ) (u more behind : List ℕ) → IsOpen r → (IsToken (r ++ b ∷ []) → ⊥) → IsToken u → u ≡ r ++ more → b ∷ [] ≡ more ++ behind → ⊥
-tail_only r b u [] behind o other h p e = token_not_open u [] h (subst IsOpen (sym (append-nil r) ∙ sym p ∙ sym (append-nil u)) o)
-tail_only r b u (m ∷ more) behind o other h p e =
-    let none : more ≡ [] = nothing_before more behind (cc) in
-    let same : u ≡ r ++ b ∷ [] = p ∙ ap (λ (l : List ℕ). r ++ l) (let q : m ∷ more ≡ b ∷ [] = cc in q) in
-    other (subst IsToken same h)
+-- what is open is no token before a byte that doesn't cut it off
+not_cut : (r : List ℕ) (b : ℕ) → IsOpen r → (0 < length r → Cuts b → ⊥) → IsToken r (b ∷ []) → ⊥
+not_cut r b o other h = elim h [ inl w ↦ token_not_open r [] (inl w) (subst IsOpen (sym (append-nil r)) o) | inr d ↦ other d.some d.cut ]
 
-nothing_more : (r : List ℕ) (b : ℕ) (us : List (List ℕ)) (q : List ℕ) → IsOpen r → (IsOpen (r ++ b ∷ []) → ⊥) → (IsToken (r ++ b ∷ []) → ⊥) → Splits (r ++ b ∷ []) us q → ⊥
-nothing_more r b [] q h closed other s = closed (subst IsOpen (sym s.0) s.1)
-nothing_more r b (u ∷ us) q h closed other s = elim (compare r (b ∷ []) u s.0 s.1) [
-  | Longer more p e ↦ tail_only r b u more s.0 h other s.2 p e
-  | Shorter more p e ↦ token_not_open u more s.2 (subst IsOpen p h)
+tail_only : (r : List ℕ) (b : ℕ) (u more behind : List ℕ) → IsOpen r → (IsWhole (r ++ b ∷ []) → ⊥) → (0 < length r → Cuts b → ⊥) → IsToken u behind → u ≡ r ++ more → b ∷ [] ≡ more ++ behind → ⊥
+tail_only r b u [] behind o other goes h p e =
+    not_cut r b o goes (subst (λ (l : List ℕ). IsToken l (b ∷ [])) (p ∙ append-nil r) (subst (IsToken u) (sym e) h))
+tail_only r b u (m ∷ more) behind o other goes h p e =
+    let none : more ≡ [] = nothing_before more behind (cc) in
+    let last : behind ≡ [] = nothing_after more behind (cc) in
+    let same : u ≡ r ++ b ∷ [] = p ∙ ap (λ (l : List ℕ). r ++ l) (let q : m ∷ more ≡ b ∷ [] = cc in q) in
+    elim h [ inl w ↦ other (subst IsWhole same w) | inr d ↦ none_cuts behind last d.cut ]
+  where
+    nothing_after : (xs ys : List ℕ) → [] ≡ xs ++ ys → ys ≡ []
+    nothing_after [] ys e = sym e
+    nothing_after (x ∷ xs) ys e = cc
+
+    none_cuts : (l : List ℕ) → l ≡ [] → IsCutBy l → ⊥
+    none_cuts [] e h = h
+    none_cuts (x ∷ l) e h = cc
+
+-- what is open, and a byte that neither goes on nor ends nor cuts it off
+nothing_more : (r : List ℕ) (b : ℕ) (us : List (List ℕ)) (q : List ℕ) → IsOpen r → (IsOpen (r ++ b ∷ []) → ⊥) → (IsWhole (r ++ b ∷ []) → ⊥) → (0 < length r → Cuts b → ⊥) → Splits (r ++ b ∷ []) us q → ⊥
+nothing_more r b [] q h closed other goes s = closed (subst IsOpen (sym s.0) s.1)
+nothing_more r b (u ∷ us) q h closed other goes s = elim (compare r (b ∷ []) u s.0 s.1) [
+  | Longer more p e ↦ tail_only r b u more s.0 h other goes s.2 p e
+  | Shorter more p e ↦ shorter r b u more s.0 h goes s.2 p e
 ]
+  where
+    shorter : (r : List ℕ) (b : ℕ) (u more behind : List ℕ) → IsOpen r → (0 < length r → Cuts b → ⊥) → IsToken u behind → r ≡ u ++ more → behind ≡ more ++ b ∷ [] → ⊥
+    shorter r b u [] behind o goes h p e =
+        not_cut r b o goes (subst (λ (l : List ℕ). IsToken l (b ∷ [])) (sym (p ∙ append-nil u)) (subst (IsToken u) e h))
+    shorter r b u (m ∷ more) behind o goes h p e =
+        token_not_open u (m ∷ more) (token_before u m more (b ∷ []) (subst (IsToken u) e h)) (subst IsOpen p o)
+
+pub fails : (r : List ℕ) (b : ℕ) → IsOpen r → (IsOpen (r ++ b ∷ []) → ⊥) → (IsWhole (r ++ b ∷ []) → ⊥) → (0 < length r → Cuts b → ⊥) → IsSplit (r ++ b ∷ []) → ⊥
+fails r b o closed other goes k = nothing_more r b k.tokens k.rest o closed other goes k.splits
 
 -- what fits nothing behind the rest leaves nothing that can be split
-pub fits_nothing : (text : List ℕ) (ts : List (List ℕ)) (r : List ℕ) (b : ℕ) → Splits text ts r → (IsOpen (r ++ b ∷ []) → ⊥) → (IsToken (r ++ b ∷ []) → ⊥) → IsSplit (text ++ b ∷ []) → ⊥
-fits_nothing text ts r b s closed other k =
+pub fits_nothing : (text : List ℕ) (ts : List (List ℕ)) (r : List ℕ) (b : ℕ) → Splits text ts r → (IsSplit (r ++ b ∷ []) → ⊥) → IsSplit (text ++ b ∷ []) → ⊥
+fits_nothing text ts r b s none k =
     let g : GoesOn ts k.tokens r (b ∷ []) k.rest = goes_on text ts k.tokens r (b ∷ []) k.rest s k.splits in
-    nothing_more r b g.later k.rest (splits_open text ts r s) closed other g.splits
+    none (record { tokens = g.later; rest = k.rest; splits = g.splits })
 
--- a byte that opens or goes on, and one that ends a token
+-- a byte that opens or goes on, one that ends a token, and one that cuts off what is open
 pub splits_open_byte : (text : List ℕ) (ts : List (List ℕ)) (r : List ℕ) (b : ℕ) → Splits text ts r → IsOpen (r ++ b ∷ []) → Splits (text ++ b ∷ []) ts (r ++ b ∷ [])
 splits_open_byte text ts r b s o =
     subst (λ (l : List (List ℕ)). Splits (text ++ b ∷ []) l (r ++ b ∷ [])) (append-nil ts) (splits_append text ts [] r (b ∷ []) (r ++ b ∷ []) s (refl, o))
 
-pub splits_end_byte : (text : List ℕ) (ts : List (List ℕ)) (r : List ℕ) (b : ℕ) → Splits text ts r → IsToken (r ++ b ∷ []) → Splits (text ++ b ∷ []) (ts ++ (r ++ b ∷ []) ∷ []) []
-splits_end_byte text ts r b s h = splits_append text ts ((r ++ b ∷ []) ∷ []) r (b ∷ []) [] s ([], sym (append-nil (r ++ b ∷ [])), h, (refl, empty_open))
+pub splits_end_byte : (text : List ℕ) (ts : List (List ℕ)) (r : List ℕ) (b : ℕ) → Splits text ts r → IsWhole (r ++ b ∷ []) → Splits (text ++ b ∷ []) (ts ++ (r ++ b ∷ []) ∷ []) []
+splits_end_byte text ts r b s h = splits_append text ts ((r ++ b ∷ []) ∷ []) r (b ∷ []) [] s ([], sym (append-nil (r ++ b ∷ [])), inl h, (refl, empty_open))
+
+pub restarts : (r : List ℕ) (b : ℕ) → IsOpen r → 0 < length r → b ≡ 27 → Splits (r ++ b ∷ []) (r ∷ []) (b ∷ [])
+restarts r b o some e = (b ∷ [], refl, inr (record { some = some; fits = o; cut = inl e }), (refl, escape_open b e))
+
+pub cancels : (r : List ℕ) (b : ℕ) → IsOpen r → 0 < length r → (b ≡ 24) ⊎ (b ≡ 26) → Splits (r ++ b ∷ []) (r ∷ (b ∷ []) ∷ []) []
+cancels r b o some e = (b ∷ [], refl, inr (record { some = some; fits = o; cut = inr e }), ([], refl, inl (inl (inr (control e))), (refl, empty_open)))
+  where
+    control : {b : ℕ} → (b ≡ 24) ⊎ (b ≡ 26) → IsControl b
+    control (inl e) = inl (omega (arith, e), λ n. omega (arith, e, n))
+    control (inr e) = inl (omega (arith, e), λ n. omega (arith, e, n))
+
+pub splits_restart_byte : (text : List ℕ) (ts : List (List ℕ)) (r : List ℕ) (b : ℕ) → Splits text ts r → 0 < length r → b ≡ 27 → Splits (text ++ b ∷ []) (ts ++ r ∷ []) (b ∷ [])
+splits_restart_byte text ts r b s some e = splits_append text ts (r ∷ []) r (b ∷ []) (b ∷ []) s (restarts r b (splits_open text ts r s) some e)
+
+pub splits_cancel_byte : (text : List ℕ) (ts : List (List ℕ)) (r : List ℕ) (b : ℕ) → Splits text ts r → 0 < length r → (b ≡ 24) ⊎ (b ≡ 26) → Splits (text ++ b ∷ []) (ts ++ r ∷ (b ∷ []) ∷ []) []
+splits_cancel_byte text ts r b s some e = splits_append text ts (r ∷ (b ∷ []) ∷ []) r (b ∷ []) [] s (cancels r b (splits_open text ts r s) some e)

@@ -1,34 +1,48 @@
 -- What a byte does behind an open sequence, and which faults a text has.
-use Rattle.std.specs.Prelude.{ℕ, ◌≡◌, ◌≢◌, ◌⊎◌, Bool, true, List, [], ◌∷◌, ◌++◌}
+use Rattle.std.specs.Prelude.{ℕ, ◌≡◌, ◌≢◌, ◌⊎◌, ◌<◌, ◌≤◌, length, Bool, true, List, [], ◌∷◌, ◌++◌}
 use Rattle.vt_term.specs.declared.text.Fit.{Fit}
-use Rattle.vt_term.specs.declared.text.Fit.TheVariants.{Opens, Ends, Fails}
+use Rattle.vt_term.specs.declared.text.Fit.TheVariants.{Opens, Ends, Restarts, Cancels, Fails}
 use Rattle.vt_term.specs.declared.text.TokenFault.{TokenFault}
 use Rattle.vt_term.specs.declared.text.TokenFaultKind.{TokenFaultKind}
 use Rattle.vt_term.specs.declared.text.TokenFaultKind.TheVariants.{Unfinished, Stuck, NoMemory}
-use Rattle.vt_term.specs.Text.{IsPrinted, IsControl, IsParameter, IsIntermediate, IsFinal, IsOpen, IsToken, IsStuck, IsUnfinished}
+use Rattle.vt_screen.specs.Look.{IsPrinted}
+use Rattle.vt_term.specs.Text.{IsControl, IsParameter, IsIntermediate, IsFinal, IsEscapeFinal, IsIntroducer, IsOpen, IsWhole, IsSplit, IsStuck, IsUnfinished}
 
+-- the byte goes on or ends, or what is open is cut off, and the byte is read for itself
 abbrev pub IsFit : List ℕ → ℕ → Fit → Type 0
 IsFit begun b Opens = IsOpen (begun ++ b ∷ [])
-IsFit begun b Ends = IsToken (begun ++ b ∷ [])
-IsFit begun b Fails = (IsOpen (begun ++ b ∷ []) → ⊥) × (IsToken (begun ++ b ∷ []) → ⊥)
+IsFit begun b Ends = IsWhole (begun ++ b ∷ [])
+IsFit begun b Restarts = (0 < length begun) × (b ≡ 27)
+IsFit begun b Cancels = (0 < length begun) × ((b ≡ 24) ⊎ (b ≡ 26))
+IsFit begun b Fails = IsSplit (begun ++ b ∷ []) → ⊥
 
 -- outside sequences
 abbrev pub FitsOutside : ℕ → Fit → Type 0
 FitsOutside b Opens = b ≡ 27
 FitsOutside b Ends = IsPrinted b ⊎ IsControl b
-FitsOutside b Fails = (b ≢ 27) × (IsPrinted b ⊎ IsControl b → ⊥)
+FitsOutside b Fails = 128 ≤ b
+FitsOutside b _ = ⊥
 
 -- behind ESC
 abbrev pub FitsIntroducer : ℕ → Fit → Type 0
-FitsIntroducer b Opens = b ≡ 91
-FitsIntroducer b Ends = ⊥
-FitsIntroducer b Fails = b ≢ 91
+FitsIntroducer b Opens = (b ≡ 91) ⊎ IsIntermediate b
+FitsIntroducer b Ends = IsEscapeFinal b × (IsIntroducer b → ⊥)
+FitsIntroducer b Fails = (b ≢ 91) × (IsIntermediate b → ⊥) × (IsEscapeFinal b → IsIntroducer b)
+FitsIntroducer b _ = ⊥
+
+-- behind ESC and intermediate bytes; room is left for another or not
+abbrev pub FitsEscape : ℕ → Bool → Fit → Type 0
+FitsEscape b room Opens = (room ≡ true) × IsIntermediate b
+FitsEscape b room Ends = IsEscapeFinal b
+FitsEscape b room Fails = (IsEscapeFinal b → ⊥) × (room ≡ true → IsIntermediate b → ⊥)
+FitsEscape b room _ = ⊥
 
 -- behind ESC [ and more, of which this byte is the last; room is left for another or not
 abbrev pub FitsInside : ℕ → ℕ → Bool → Fit → Type 0
 FitsInside last b room Opens = (room ≡ true) × (IsIntermediate b ⊎ (IsParameter b × (IsIntermediate last → ⊥)))
 FitsInside last b room Ends = IsFinal b
 FitsInside last b room Fails = (IsFinal b → ⊥) × (room ≡ true → (IsIntermediate b → ⊥) × (IsParameter b → IsIntermediate last))
+FitsInside last b room _ = ⊥
 
 abbrev pub IsFault : List ℕ → ℕ → TokenFaultKind → Type 0
 IsFault text at Unfinished = IsUnfinished text at

@@ -1,11 +1,16 @@
 -- What a token asks for (ECMA-48 8.3; VT100 user guide for DECSTBM, DECAWM and the character sets).
-use Rattle.std.specs.Prelude.{ℕ, ◌-◌, ◌==◌, ◌&&◌, ◌||◌, nat_le, true, false, List, [], ◌∷◌, length, take, if◌then◌else◌, Option}
+use Rattle.std.specs.Prelude.{ℕ, ◌-◌, ◌==◌, ◌&&◌, ◌||◌, nat_le, max, Bool, true, false, List, [], ◌∷◌, length, take, if◌then◌else◌, Option, None, Some}
 use Rattle.std.specs.Option.{unwrap_or}
 use Rattle.std.specs.List.{list_all, slice_index}
-use Rattle.vt_term.specs.declared.functions.Part.TheVariants.{ToEnd, FromStart, Whole}
-use Rattle.vt_term.specs.declared.functions.Function.{Function}
-use Rattle.vt_term.specs.declared.functions.Function.TheVariants.{Print, LineFeed, CarriageReturn, Backspace, Tab, ShiftOut, ShiftIn, CursorUp, CursorDown, CursorForward, CursorBack, CursorColumn, CursorRow, CursorPosition, EraseLine, EraseDisplay, EraseCells, InsertCells, DeleteCells, InsertLines, DeleteLines, ScrollUp, ScrollDown, Margins, SelectRendition, Modes, Ignored}
-use Rattle.vt_term.specs.Numbers.{numbers, is_numeral, counted}
+pub use Rattle.vt_screen.specs.declared.functions.Part.TheVariants.{ToEnd, FromStart, Whole}
+pub use Rattle.vt_screen.specs.declared.functions.Function.{Function}
+pub use Rattle.vt_screen.specs.declared.functions.Function.TheVariants.{Print, LineFeed, CarriageReturn, Backspace, Tab, ShiftOut, ShiftIn, ReverseIndex, NextLine, CursorUp, CursorDown, CursorForward, CursorBack, CursorColumn, CursorRow, CursorPosition, EraseLine, EraseDisplay, EraseCells, InsertCells, DeleteCells, InsertLines, DeleteLines, ScrollUp, ScrollDown, Margins, Designate, SelectRendition, Modes, Ignored}
+use Rattle.vt_screen.specs.Numbers.{numbers, is_numeral}
+
+-- where the default is 1 and 0 counts as 1
+abbrev pub counted : Option ℕ → ℕ
+counted None = 1
+counted (Some n) = max 1 n
 
 -- a byte outside sequences
 abbrev pub single : ℕ → Function
@@ -89,7 +94,22 @@ named final front = if list_all is_numeral front then of_numbers final (numbers 
 abbrev pub sequence : List ℕ → Function
 sequence body = named (slice_index body (length body - 1)) (take (length body - 1) body)
 
+-- G0 or G1 becomes the graphic set for 0, the plain one for B (VT100 user guide, "Select character set")
+abbrev pub designation : Bool → ℕ → Function
+designation is_g1 final = if final == 48 then Designate is_g1 true else (if final == 66 then Designate is_g1 false else Ignored)
+
+-- an escape sequence of one byte behind ESC: IND, NEL and RI (ECMA-48 8.3)
+abbrev pub escape_final : ℕ → Function
+escape_final final = if final == 68 then LineFeed else (if final == 69 then NextLine else (if final == 77 then ReverseIndex else Ignored))
+
+-- an escape sequence by what stands behind ESC
+abbrev pub escaped : List ℕ → Function
+escaped (final ∷ []) = escape_final final
+escaped (set ∷ final ∷ []) = if set == 40 then designation false final else (if set == 41 then designation true final else Ignored)
+escaped _ = Ignored
+
+-- a dropped sequence has no final byte of a function, and so no effect
 abbrev pub function_of : List ℕ → Function
 function_of [] = Ignored
 function_of (b ∷ []) = single b
-function_of (escape ∷ introducer ∷ body) = sequence body
+function_of (escape ∷ second ∷ body) = if second == 91 then sequence body else escaped (second ∷ body)

@@ -2,9 +2,9 @@ pub mod Size
 pub mod Color
 pub mod Look
 pub mod Grid
+pub mod Numbers
 pub mod Text
 pub mod Screen
-pub mod Numbers
 pub mod Function
 pub mod Step
 pub mod Run

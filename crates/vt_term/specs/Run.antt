@@ -1,9 +1,10 @@
 -- What a terminal becomes over a text, in whatever pieces the text comes.
 use Rattle.std.specs.Prelude.{ℕ, ◌+◌, ◌<◌, ◌≡◌, List, [], ◌∷◌, ◌++◌, length, take, Bool, true, false, Option, None, Some, min, ◌-◌}
-use Rattle.vt_term.specs.Screen.{Screen, State, IsScreen, IsOfSize, IsAtRest}
+use Rattle.vt_screen.specs.Screen.{Screen, IsScreen}
+use Rattle.vt_term.specs.Screen.{State, IsOfSize, IsAtRest}
 use Rattle.vt_term.specs.Text.{Splits}
-use Rattle.vt_term.specs.declared.functions.Function.{Function}
-use Rattle.vt_term.specs.declared.functions.Function.TheVariants.{CursorPosition}
+use Rattle.vt_screen.specs.declared.functions.Function.{Function}
+use Rattle.vt_screen.specs.declared.functions.Function.TheVariants.{CursorPosition}
 use Rattle.vt_term.specs.Function.{function_of}
 use Rattle.vt_term.specs.Step.{step, steps}
 

@@ -1,13 +1,12 @@
--- How a text falls into tokens (ECMA-48 5.4, control sequences; ECMA-35 13.2, escape sequences).
-use Rattle.std.specs.Prelude.{ℕ, ◌+◌, ◌<◌, ◌≤◌, ◌≡◌, ◌⊎◌, List, [], ◌∷◌, ◌++◌, length, take}
+-- How a text falls into tokens (ECMA-48 5.4, control sequences; ECMA-35 13.2, escape sequences; VT100 user guide,
+-- "Control characters": CAN, SUB and ESC end a sequence that isn't whole).
+use Rattle.std.specs.Prelude.{ℕ, ◌+◌, ◌<◌, ◌≤◌, ◌≡◌, ◌≢◌, ◌⊎◌, List, [], ◌∷◌, ◌++◌, length, take}
 use Rattle.std.specs.List.{AllByRecursion}
+pub use Rattle.vt_screen.specs.Look.{IsPrinted}
 
-abbrev pub IsPrinted : ℕ → Type 0
-IsPrinted b = (32 ≤ b) × (b ≤ 126)
-
--- the controls that this terminal takes so far
+-- all controls but ESC
 abbrev pub IsControl : ℕ → Type 0
-IsControl b = ((8 ≤ b) × (b ≤ 10)) ⊎ ((13 ≤ b) × (b ≤ 15))
+IsControl b = ((b ≤ 31) × (b ≢ 27)) ⊎ (b ≡ 127)
 
 abbrev pub IsParameter : ℕ → Type 0
 IsParameter b = (0x30 ≤ b) × (b ≤ 0x3f)
@@ -18,8 +17,16 @@ IsIntermediate b = (0x20 ≤ b) × (b ≤ 0x2f)
 abbrev pub IsFinal : ℕ → Type 0
 IsFinal b = (0x40 ≤ b) × (b ≤ 0x7e)
 
+-- the final bytes of escape sequences
+abbrev pub IsEscapeFinal : ℕ → Type 0
+IsEscapeFinal b = (0x30 ≤ b) × (b ≤ 0x7e)
+
+-- [ and P X ] ^ _, which straight after ESC begin a control sequence or a string
+abbrev pub IsIntroducer : ℕ → Type 0
+IsIntroducer b = (b ≡ 0x50) ⊎ (b ≡ 0x58) ⊎ (b ≡ 0x5b) ⊎ ((0x5d ≤ b) × (b ≤ 0x5f))
+
 -- ESC [, parameter bytes, intermediate bytes and one final byte; at most 256 bytes
-pub record IsSequence (bytes : List ℕ) : Type 0 where
+pub record IsControlSequence (bytes : List ℕ) : Type 0 where
   pub parameters : List ℕ
   pub intermediates : List ℕ
   pub final : ℕ
@@ -28,6 +35,19 @@ pub record IsSequence (bytes : List ℕ) : Type 0 where
   pub each_intermediate : AllByRecursion IsIntermediate intermediates
   pub ends : IsFinal final
   pub short : length bytes ≤ 256
+
+-- ESC, intermediate bytes and one final byte; at most 256 bytes
+pub record IsEscapeSequence (bytes : List ℕ) : Type 0 where
+  pub intermediates : List ℕ
+  pub final : ℕ
+  pub spelled : bytes ≡ 27 ∷ (intermediates ++ final ∷ [])
+  pub each_intermediate : AllByRecursion IsIntermediate intermediates
+  pub ends : IsEscapeFinal final
+  pub introduces_nothing : intermediates ≡ [] → IsIntroducer final → ⊥
+  pub short : length bytes ≤ 256
+
+abbrev pub IsSequence : List ℕ → Type 0
+IsSequence bytes = IsControlSequence bytes ⊎ IsEscapeSequence bytes
 
 -- a proper front of a sequence; the empty one is one
 pub record IsOpen (bytes : List ℕ) : Type 0 where
@@ -40,14 +60,31 @@ IsSingle [] = ⊥
 IsSingle (b ∷ []) = IsPrinted b ⊎ IsControl b
 IsSingle (b ∷ c ∷ bytes) = ⊥
 
-abbrev pub IsToken : List ℕ → Type 0
-IsToken bytes = IsSingle bytes ⊎ IsSequence bytes
+-- ESC, CAN and SUB, which a sequence never has behind its first byte
+abbrev pub Cuts : ℕ → Type 0
+Cuts b = (b ≡ 27) ⊎ (b ≡ 24) ⊎ (b ≡ 26)
 
--- the text is these tokens, one after another, and then a rest that is still open;
--- whether bytes are a token may depend on those behind it
+abbrev pub IsCutBy : List ℕ → Type 0
+IsCutBy [] = ⊥
+IsCutBy (b ∷ bytes) = Cuts b
+
+-- a sequence that is not whole when the bytes behind it cut it off
+pub record IsDropped (bytes behind : List ℕ) : Type 0 where
+  pub some : 0 < length bytes
+  pub fits : IsOpen bytes
+  pub cut : IsCutBy behind
+
+abbrev pub IsWhole : List ℕ → Type 0
+IsWhole bytes = IsSingle bytes ⊎ IsSequence bytes
+
+-- these bytes are a token where those stand behind them
+abbrev pub IsToken : List ℕ → List ℕ → Type 0
+IsToken bytes behind = IsWhole bytes ⊎ IsDropped bytes behind
+
+-- the text is these tokens, one after another, and then a rest that is still open
 abbrev pub Splits : List ℕ → List (List ℕ) → List ℕ → Type 0
 Splits text [] rest = (text ≡ rest) × IsOpen rest
-Splits text (token ∷ tokens) rest = (behind : List ℕ) × (text ≡ token ++ behind) × IsToken token × Splits behind tokens rest
+Splits text (token ∷ tokens) rest = (behind : List ℕ) × (text ≡ token ++ behind) × IsToken token behind × Splits behind tokens rest
 
 -- the text falls into tokens and an open rest
 pub record IsSplit (text : List ℕ) : Type 0 where

@@ -59,3 +59,18 @@ pub fn one_place()
 pub fn runs_or_sticks()
     ensures { (s t u : State) (a : List ℕ) (k : ℕ) → Runs s a t → Sticks s a k u → ⊥ }
 {}
+
+/// What sticks sticks at the same place whatever stands behind it.
+pub fn sticks_first()
+    ensures { (s u : State) (a b : List ℕ) (k : ℕ) → Sticks s a k u → Sticks s (a ++ b) k u }
+{}
+
+/// The run of a whole text ends with nothing open.
+pub fn whole_text_rests()
+    ensures { (s t : State) (a : List ℕ) (ts : List (List ℕ)) → s.rest ≡ [] → Splits a ts [] → Runs s a t → t.rest ≡ [] }
+{}
+
+/// To run a whole text and then another text is to run both as one.
+pub fn whole_text_first()
+    ensures { (s t : State) (a b : List ℕ) (ts : List (List ℕ)) → s.rest ≡ [] → Splits a ts [] → Runs s (a ++ b) t → Runs (record { screen = steps ts s.screen; rest = [] }) b t }
+{}

@@ -4,20 +4,12 @@
 
 mod functions;
 pub mod laws;
-mod limits;
-mod lines;
-mod looks;
-mod printing;
-mod screens;
-mod sheets;
 mod stream;
 mod text;
 
-pub use functions::{Function, Numbers, Part};
-pub use limits::Size;
-pub use looks::{Cell, Color, Rendition};
 pub use stream::{Stuck, Terminal};
 pub use text::{Token, TokenFault, TokenFaultKind, place_after, tokens};
+pub use vt_screen::{Cell, Color, Function, Numbers, Part, Rendition, Size};
 
 #[cfg(test)]
 mod tests;

@@ -1,14 +1,12 @@
 ghost use Rattle.std.specs.Prelude.{◌≡◌, ◌+◌, ◌<◌, ◌≤◌, [], ◌∷◌, ◌++◌, length, IfOk, IfErr, OnOk, vec_capacity};
-ghost use Rattle.vt_term.specs.Grid.{look_at};
+ghost use Rattle.vt_screen.specs.Grid.{look_at};
 
 use crate::functions::function_of;
-use crate::limits::Size;
-use crate::looks::{Cell, Rendition};
-use crate::screens::Display;
 use crate::text::{Fit, SEQUENCE_LIMIT, fit_behind};
 use std::alloc::{AllocError, Global};
 use std::marker::Model;
 use thiserror::Error;
+use vt_screen::{Cell, Display, Rendition, Size};
 
 /// A byte of a stream that fits nothing, by its place in what was fed.
 #[derive(Clone, Copy, Debug, PartialEq, Eq, Error)]
@@ -39,7 +37,7 @@ impl Model for Terminal {
 impl Terminal {
     ghost use Rattle.vt_term.specs.Screen.{reset, IsState};
     ghost use Rattle.vt_term.specs.Run.{Runs, Sticks, Accepts};
-    ghost use Rattle.vt_term.specs.Printed.{screen_text};
+    ghost use Rattle.vt_screen.specs.Printed.{screen_text};
 
     /// A terminal in the reset state.
     pub fn new(alloc: Global, size: Size) -> Result<Terminal, AllocError>
@@ -82,6 +80,15 @@ impl Terminal {
                 self.rest.push(byte).unwrap();
                 let _ = self.display.size();
                 self.display.act(function_of(&self.rest));
+                self.rest.clear();
+                true
+            }
+            Fit::Restarts => {
+                self.rest.clear();
+                self.rest.push(byte).unwrap();
+                true
+            }
+            Fit::Cancels => {
                 self.rest.clear();
                 true
             }

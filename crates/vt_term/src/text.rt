@@ -1,17 +1,21 @@
 ghost use Rattle.std.specs.Prelude.{◌≡◌, ◌+◌, ◌<◌, ◌≤◌, [], ◌∷◌, ◌++◌, length, IfOk, IfErr, OnOk, IfSome, ℕ, List};
-ghost use Rattle.vt_term.specs.Text.{IsOpen, IsToken, Splits};
+ghost use Rattle.vt_term.specs.Text.{IsOpen, Cuts, Splits};
 ghost use Rattle.vt_term.specs.Function.{function_of};
 ghost use Rattle.vt_term.specs.Run.{place_of, LeadsTo, Reaches};
-ghost use Rattle.vt_term.specs.Fault.{IsFit, FitsOutside, FitsIntroducer, FitsInside, TellsFault};
+ghost use Rattle.vt_term.specs.Fault.{IsFit, FitsOutside, FitsIntroducer, FitsEscape, FitsInside, TellsFault};
 
-use crate::functions::{self, Function};
-use crate::limits::Size;
+use crate::functions;
 use std::alloc::{AllocError, Global};
 use std::error::Error;
 use std::fmt;
 use std::marker::Model;
+use vt_screen::{Function, Size};
 
-const ESCAPE: u8 = 27;
+pub(crate) const ESCAPE: u8 = 27;
+
+const CANCEL: u8 = 24;
+
+const SUBSTITUTE: u8 = 26;
 
 /// The most bytes that a sequence has.
 pub(crate) const SEQUENCE_LIMIT: usize = 256;
@@ -118,6 +122,10 @@ pub(crate) enum Fit {
     Opens,
     /// The token is whole.
     Ends,
+    /// What is open is dropped, and the byte begins another sequence.
+    Restarts,
+    /// What is open is dropped, and the byte is a control.
+    Cancels,
     Fails,
 }
 
@@ -128,8 +136,11 @@ pub(crate) fn fit_behind(begun: &[u8], byte: u8) -> Fit
 {
     match begun {
         [] => fit_outside(byte),
-        [_] => fit_introducer(byte),
-        [.., last] => fit_inside(*last, byte, begun.len() + 1 < SEQUENCE_LIMIT),
+        [_, ..] => match byte {
+            ESCAPE => Fit::Restarts,
+            CANCEL | SUBSTITUTE => Fit::Cancels,
+            _ => fit_open(begun, byte),
+        },
     }
 }
 
@@ -137,16 +148,49 @@ fn fit_outside(byte: u8) -> Fit
     ensures { FitsOutside byte result }
 {
     match byte {
-        32..=126 | 8..=10 | 13..=15 => Fit::Ends,
         ESCAPE => Fit::Opens,
+        0..=127 => Fit::Ends,
         _ => Fit::Fails,
+    }
+}
+
+/// What a byte that doesn't cut it off does behind an open sequence.
+fn fit_open(begun: &[u8], byte: u8) -> Fit
+    requires fits { IsOpen begun.now }
+    requires some { 0 < length begun.now }
+    requires goes_on { Cuts byte → ⊥ }
+    ensures { IsFit begun.now byte result }
+{
+    let has_room = begun.len() + 1 < SEQUENCE_LIMIT;
+    if begun.len() == 1 {
+        fit_introducer(byte)
+    } else if begun[1] == b'[' {
+        fit_inside(begun[begun.len() - 1], byte, has_room)
+    } else {
+        fit_escape(byte, has_room)
     }
 }
 
 fn fit_introducer(byte: u8) -> Fit
     ensures { FitsIntroducer byte result }
 {
-    if byte == b'[' { Fit::Opens } else { Fit::Fails }
+    match byte {
+        b'[' | 0x20..=0x2f => Fit::Opens,
+        b'P' | b'X' | b']' | b'^' | b'_' => Fit::Fails,
+        0x30..=0x7e => Fit::Ends,
+        _ => Fit::Fails,
+    }
+}
+
+/// What a byte does behind ESC and intermediate bytes.
+fn fit_escape(byte: u8, has_room: bool) -> Fit
+    ensures { FitsEscape byte has_room result }
+{
+    match byte {
+        0x30..=0x7e => Fit::Ends,
+        0x20..=0x2f if has_room => Fit::Opens,
+        _ => Fit::Fails,
+    }
 }
 
 /// What a byte does behind this one in a control sequence.
@@ -173,6 +217,15 @@ pub fn tokens(alloc: Global, bytes: &[u8]) -> Result<Vec<Token>, TokenFault>
             Fit::Opens => {}
             Fit::Ends => {
                 push_token(alloc, &mut found, &bytes[start..at + 1])?;
+                start = at + 1;
+            }
+            Fit::Restarts => {
+                push_token(alloc, &mut found, &bytes[start..at])?;
+                start = at;
+            }
+            Fit::Cancels => {
+                push_token(alloc, &mut found, &bytes[start..at])?;
+                push_token(alloc, &mut found, &bytes[at..at + 1])?;
                 start = at + 1;
             }
             Fit::Fails => {

@@ -1,5 +1,5 @@
 use Rattle.std.proofs.Common.{sym}
-use Rattle.vt_term.proofs.Decimals.{third_margin}
+use Rattle.vt_term.proofs.Counts.{third_margin}
 use Rattle.vt_term.proofs.functions.margins.Goals as goal
 
 pub returns-in-Some-left : goal.returns-in-Some-left

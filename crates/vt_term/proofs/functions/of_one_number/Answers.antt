@@ -1,5 +1,5 @@
 use Rattle.std.proofs.Common.{sym}
-use Rattle.vt_term.proofs.Decimals.{second_number}
+use Rattle.vt_term.proofs.Counts.{second_number}
 use Rattle.vt_term.proofs.functions.of_one_number.Goals as goal
 
 pub returns-in-Some : goal.returns-in-Some

@@ -10,8 +10,8 @@ before c = record { names = c.self.inside.names; values = c.self.inside.values.i
 pub invariant_of-self : goal.invariant_of-self
 unfolding with_value before
 invariant_of-self c =
-    let fits = subst (λ p. FitsPlace p c.args.value) (sym c.place.ensures.value) c.requires in
-    with_value_fits (before c) c.place.result c.args.value c.self.invariant c.place.ensures.range fits
+    let fits = subst (λ p. FitsPlace p c.args.value) (sym c.place.ensures.value) c.requires.fits in
+    with_value_fits (before c) c.place.result c.args.value c.self.invariant c.place.ensures.range fits c.requires.bytes
 
 pub returns-clause-value : goal.returns-clause-value
 unfolding with_value

@@ -1,0 +1,105 @@
+// The conditionals that a place in a string lies in.
+ghost use Rattle.std.specs.Prelude.{◌≡◌};
+ghost use Rattle.ti_parm.specs.Nesting.{branch_behind};
+
+use crate::code::{Code, Mark};
+use crate::fault::ParmFault;
+use smallvec::SmallVec;
+use std::alloc::Global;
+use std::marker::Model;
+
+/// Which part of a conditional a place lies in.
+#[derive(Clone, Copy, Debug, PartialEq, Eq)]
+pub enum Branch {
+    /// Between `%?` and `%t`.
+    Condition,
+    /// Behind `%t`.
+    Chosen,
+    /// Behind `%e`.
+    Otherwise,
+}
+
+/// The part that a conditional begins with.
+impl Default for Branch {
+    fn default() -> Self
+        ensures { result ≡ Branch.Condition }
+    {
+        Branch::Condition
+    }
+}
+
+/// The conditionals that a place lies in. Contracts see the list of their branches, the innermost first.
+#[derive(Drop)]
+pub struct Nest {
+    branches: SmallVec<Branch, 16>,
+}
+
+impl Model for Nest {
+    ghost use Rattle.std.specs.Prelude.{reverse};
+    ghost use Rattle.ti_parm.specs.Nesting.{Branches};
+
+    ghost Value = { Branches };
+
+    ghost view = { λ n. reverse n.branches.items };
+}
+
+/// The branch behind a mark, if that may stand there, or nothing if the mark ends the conditional.
+fn branch_behind(mark: Mark, branch: Branch) -> Result<Option<Branch>, ParmFault>
+    ensures { result ≡ branch_behind mark branch }
+{
+    match (mark, branch) {
+        (Mark::Then, Branch::Condition | Branch::Otherwise) => Ok(Some(Branch::Chosen)),
+        (Mark::Else, Branch::Chosen) => Ok(Some(Branch::Otherwise)),
+        (Mark::End, Branch::Chosen | Branch::Otherwise) => Ok(None),
+        _ => Err(ParmFault::BadNest),
+    }
+}
+
+impl Nest {
+    ghost use Rattle.std.specs.Prelude.{◌≡◌, [], ◌==◌, IsTrue, ◌↔◌};
+    ghost use Rattle.ti_parm.specs.Fault.{Gives};
+    ghost use Rattle.ti_parm.specs.Nesting.{nest_behind, nest_behind_mark};
+
+    /// Outside any conditional.
+    pub fn new(alloc: Global) -> Self
+        ensures { result ≡ [] }
+    {
+        Nest {
+            branches: SmallVec::new(alloc),
+        }
+    }
+
+    /// Whether the place is outside any conditional.
+    pub fn is_empty(&self) -> bool
+        ensures { IsTrue result ↔ (self.now ≡ []) }
+    {
+        self.branches.is_empty()
+    }
+
+    /// Goes over a code.
+    pub fn pass(&mut self, code: Code) -> Result<(), ParmFault>
+        ensures { Gives (λ _. self.new) result (nest_behind code self.old) }
+    {
+        match code {
+            Code::Act(_) => Ok(()),
+            Code::If => self
+                .branches
+                .push(Branch::Condition)
+                .map_err(|_| ParmFault::NoMemory),
+            Code::Of(mark) => self.pass_mark(mark),
+        }
+    }
+
+    /// Goes over a mark.
+    fn pass_mark(&mut self, mark: Mark) -> Result<(), ParmFault>
+        ensures { Gives (λ _. self.new) result (nest_behind_mark mark self.old) }
+    {
+        let Some(branch) = self.branches.pop() else {
+            return Err(ParmFault::BadNest);
+        };
+        match branch_behind(mark, branch)? {
+            None => Ok(()),
+            Some(next) => self.branches.push(next).map_err(|_| ParmFault::NoMemory),
+        }
+    }
+}

@@ -1,0 +1,6 @@
+pub mod Grids
+pub mod Packing
+pub mod Keeps
+pub mod Decimals
+pub mod Styles
+pub mod Erasing

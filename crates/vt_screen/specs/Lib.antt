@@ -1,0 +1,9 @@
+pub mod Size
+pub mod Color
+pub mod Look
+pub mod Cell
+pub mod Grid
+pub mod Screen
+pub mod Numbers
+pub mod Step
+pub mod Printed

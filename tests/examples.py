@@ -1,0 +1,226 @@
+"""Whole runs of the program: the words, the status, standard output and standard error."""
+
+import os
+import struct
+import sys
+import tempfile
+
+from trying import TOP, Case, run_cases
+
+MINI = b"mini|sample,\n\tclear=\\E[H\\E[2J, cup=\\E[%i%p1%d;%p2%dH, sgr0=\\E[m,\n"
+EVEN = bytes.fromhex("1a01 0400 0200 0100 0000 0000 617c6200 0001 5000")
+STRING = bytes.fromhex("1a01 0200 0000 0000 0700 0400 6d00 ffffffffffffffffffffffff 0000 1b5b4b00")
+WIDE = bytes.fromhex("1e02 0400 0200 0100 0000 0000 617c6200 0001 409c0000")
+
+
+def chain(last, behind, times=1):
+    """Entries e0 and on, each with `use=` of the next, perhaps more than once, and the last one with this field."""
+    lines = [f"e{at}|e{at}," + f" use=e{at + 1}," * times for at in range(last)]
+    return "\n".join([*lines, f"e{last}|e{last}, {behind},"]).encode()
+
+
+def packed(*sizes, number=None):
+    """A compiled file with the names `m`, perhaps the first number, and first strings of so many x."""
+    table = b"".join(b"x" * size + b"\0" for size in sizes)
+    offsets = [sum(sizes[:at]) + at for at in range(len(sizes))]
+    numbers = b"" if number is None else struct.pack("<i", number)
+    header = struct.pack("<6h", 0o1036 if numbers else 0o432, 2, 0, bool(numbers), len(sizes), len(table))
+    return header + b"m\0" + numbers + struct.pack(f"<{len(sizes)}h", *offsets) + table
+
+
+def long_strings(*sizes, more=""):
+    """A source text with the names `m`, these fields, and first strings of so many x."""
+    names = ["cbt", "bel", "cr", "csr", "tbc", "clear", "el", "ed"]
+    return f"m,{more}\n".encode() + b"".join(b"\t%s=%s,\n" % (it.encode(), b"x" * n) for it, n in zip(names, sizes))
+
+
+# what the files hold that the words name
+FILES = {
+    "mini": MINI,
+    "wrong_kind": b"a|a, cols=80,\n",
+    "wrong_octal": b"a|a, cols#08,\n",
+    "past_range": b"a|a, cols#2147483648,\n",
+    "open_field": b"a|a, am\n",
+    "wrong_escape": b"a|a, el=\\\n",
+    "no_name": b" am,\n",
+    "odd": b"a|a, el=\\0\\q,\n",
+    "notes": b"a|a,\n\tam, xyz, am, el=\\q,\n\tzzz=1,\n",
+    "uses": b"x|x, use=y, use=z,\ny|y, el@,\nz|z, el=\\E[K, am,\n",
+    "loop": b"a|a, use=b,\nb|b, use=a,\n",
+    "unknown_use": b"a|a, use=q,\n",
+    "deep": chain(64, "am"),
+    "too_deep": chain(65, "am"),
+    "deep_loop": chain(64, "use=e0"),
+    # if each use were walked, these were 2 to the 64th
+    "twice": chain(64, "am", times=2),
+    "even": b"a|b, am, cols#80,\n",
+    "odd_names": b"ab, am, cols#80,\n",
+    "one_string": b"m, el=\\E[K,\n",
+    "wide": b"a|b, am, cols#40000,\n",
+    "widest": b"a|b, am, cols#2147483647,\n",
+    "not_wide": b"a|b, am, cols#32767,\n",
+    "large": long_strings(4079),
+    "too_large": long_strings(4080),
+    "large_wide": long_strings(*[4095] * 7, 4061, more=" cols#40000,"),
+    "too_large_wide": long_strings(*[4095] * 7, 4062, more=" cols#40000,"),
+    "even.out": EVEN,
+    "even_short": EVEN[:11],
+    "even_swapped": b"\1\x1a" + EVEN[2:],
+    "unpadded": bytes.fromhex("1a01 0300 0200 0100 0000 0000 616200 0001 5000"),
+    "string.out": STRING,
+    "past_table": STRING[:26] + b"\4" + STRING[27:],
+    "open_string": STRING[:-1] + b"\1",
+    "wide.out": WIDE,
+    "wide_negative": WIDE[:-1] + b"\x80",
+    "wide_short": WIDE[:-1],
+    "no_names": EVEN[:12] + b"#" + EVEN[13:],
+    "long_string": packed(4095),
+    "too_long_string": packed(4096),
+    "no_names_long": packed(4096).replace(b"m", b"#", 1),
+    "longest": EVEN + b"x" * (131072 - len(EVEN)),
+    "too_long": EVEN + b"x" * (131073 - len(EVEN)),
+    "wrap": b"abcde",
+    "scroll": b"abcdefghi",
+    "bell": bytes.fromhex("1b5b07"),
+    "unfinished": bytes.fromhex("1b5b31"),
+    "moves": bytes.fromhex("1b5b323b33721b5b333b314861620a63"),
+    "rendition": bytes.fromhex("1b5b313b376d61"),
+    "hidden": bytes.fromhex("1b5b3f32356c"),
+    "background": bytes.fromhex("1b5b34346d1b5b4b"),
+}
+
+CUP = "\\E[%i%p1%d;%p2%dH"
+
+# the words, the status, standard output, standard error
+RUNS = [
+    (["expand", CUP, "2", "4", "1", "3"], 0, "1b5b323b3448\ncursor 1 3\n", ""),
+    (["expand", "--cup", CUP, "2", "4", "1", "3"], 0, "1b5b323b3448\ncursor 1 3\ncup yes\n", ""),
+    (["expand", "a\\E[1", "2", "4"], 1, "611b5b31\n", "refused: Unfinished 1\n"),
+    (["expand", "--cup", "\\E[H", "2", "4"], 0, "1b5b48\ncursor 0 0\ncup no 0 1\n", ""),
+    (["expand", "%i%i%p1%d", "2", "4", "1"], 0, "33\ncursor 0 1\n", ""),
+    (["expand", "%q", "2", "4"], 1, "", "refused: BadCode\n"),
+    (["tic", "wrong_kind:a"], 1, "", "refused: line 1: WrongKind\n"),
+    (["tic", "wrong_octal:a"], 1, "", "refused: line 1: BadNumber\n"),
+    (["tic", "past_range:a"], 1, "", "refused: line 1: NumberRange\n"),
+    (["tic", "open_field:a"], 1, "", "refused: line 1: OpenField\n"),
+    (["tic", "wrong_escape:a"], 1, "", "refused: line 1: BadEscape\n"),
+    (["tic", "no_name:a"], 1, "", "refused: line 1: NoName\n"),
+    (["tic", "odd:a"], 0, "", "note line 1: OddEscape\n"),
+    (["infocmp", "odd:a"], 0, "a|a,\n\tel=\\200q,\n", ""),
+    (
+        ["tic", "notes:a"],
+        0,
+        "",
+        "note line 2: UnknownName\nnote line 2: Duplicate\nnote line 2: OddEscape\nnote line 3: UnknownName\n",
+    ),
+    (["tic", "notes:b"], 1, "", None),
+    (["infocmp", "uses:x"], 0, "x|x,\n\tam,\n", ""),
+    (["infocmp", "-c", "uses:x", "uses:z"], 0, "am\n", ""),
+    (["infocmp", "-c", "uses:z", "uses:z"], 0, "am\nel\n", ""),
+    (["infocmp", "-n", "uses:x", "uses:z"], 0, None, ""),
+    (["infocmp", "-c", "even.out", "even:b"], 0, "am\ncols\n", ""),
+    (["infocmp", "-c", "even.out", "wide.out"], 0, "am\n", ""),
+    (["infocmp", "loop:a"], 1, "", "refused: Cycle a\n"),
+    (["infocmp", "unknown_use:a"], 1, "", "refused: NoSuchEntry q\n"),
+    (["infocmp", "deep:e0"], 0, "e0|e0,\n\tam,\n", ""),
+    (["infocmp", "too_deep:e0"], 1, "", "refused: TooMany e65\n"),
+    (["infocmp", "too_deep:e1"], 0, "e1|e1,\n\tam,\n", ""),
+    (["infocmp", "deep_loop:e0"], 1, "", "refused: Cycle e0\n"),
+    (["infocmp", "twice:e0"], 0, "e0|e0,\n\tam,\n", ""),
+    (["infocmp", "even:b"], 0, "a|b,\n\tam,\n\tcols#80,\n", ""),
+    (["infocmp", "even.out"], 0, "a|b,\n\tam,\n\tcols#80,\n", ""),
+    (["infocmp", "even_short"], 1, "", "refused: Short\n"),
+    (["infocmp", "even_swapped"], 1, "", "refused: BadMagic\n"),
+    (["infocmp", "unpadded"], 1, "", "refused: Short\n"),
+    (["infocmp", "string.out"], 0, "m,\n\tel=\\E[K,\n", ""),
+    (["infocmp", "past_table"], 1, "", "refused: BadOffset\n"),
+    (["infocmp", "open_string"], 1, "", "refused: NoNul\n"),
+    (["infocmp", "wide.out"], 0, "a|b,\n\tam,\n\tcols#40000,\n", ""),
+    (["infocmp", "wide_negative"], 1, "", "refused: BadNumber\n"),
+    (["infocmp", "wide_short"], 1, "", "refused: Short\n"),
+    (["infocmp", "no_names"], 1, "", "refused: BadNames\n"),
+    (["infocmp", "long_string"], 0, "m,\n\tcbt=" + "x" * 4095 + ",\n", ""),
+    (["infocmp", "too_long_string"], 1, "", "refused: TooLarge\n"),
+    (["infocmp", "no_names_long"], 1, "", "refused: BadNames\n"),
+    (["infocmp", "longest"], 0, "a|b,\n\tam,\n\tcols#80,\n", ""),
+    (["infocmp", "too_long"], 3, "", "file: too_long\n"),
+    (["infocmp", "absent"], 3, "", "file: absent\n"),
+    (["infocmp", "absent:a"], 3, "", "file: absent\n"),
+    (["infocmp", "-c", "even_short", "absent"], 1, "", "refused: Short\n"),
+    (["infocmp", "-c", "-n", "even.out", "even.out"], 2, "", None),
+    (["infocmp", "-c", "even.out"], 2, "", None),
+    (["infocmp", "even.out", "even.out"], 2, "", None),
+    (["infocmp"], 2, "", None),
+    (["tic", "too_large:m"], 0, "", ""),
+    (["feed", "2", "4", "wrap"], 0, "abcd\ne   \ncursor 1 1\n", ""),
+    (["feed", "2", "4", "scroll"], 0, "efgh\ni   \ncursor 1 1\n", ""),
+    (["feed", "2", "4", "bell"], 1, "", "refused: Stuck 2\n"),
+    (["feed", "2", "4", "unfinished"], 0, "    \n    \ncursor 0 0\n", ""),
+    (["feed", "3", "4", "moves"], 0, "    \nab  \n  c \ncursor 2 3\n", ""),
+    (["feed", "2", "4", "rendition"], 0, "a   \n    \ncursor 0 1\nlook 0 0-0 BR\n", ""),
+    (["feed", "2", "4", "hidden"], 0, "    \n    \ncursor 0 0 hidden\n", ""),
+    (["feed", "2", "4", "background"], 0, "    \n    \ncursor 0 0\nlook 0 0-3 b4\n", ""),
+    (["feed", "1", "4", "wrap"], 1, "", "refused: BadSize\n"),
+    (["feed", "2", "4", "absent"], 3, "", "file: absent\n"),
+]
+
+# an entry, and the bytes that `tic --out` writes of it; none: it refuses, and writes no file
+WRITTEN = [
+    ("even:a", EVEN),
+    ("even.out", EVEN),
+    ("odd_names:ab", bytes.fromhex("1a01 0300 0200 0100 0000 0000 616200 0001 00 5000")),
+    ("one_string:m", STRING),
+    ("wide:a", WIDE),
+    ("widest:a", WIDE[:-4] + b"\xff\xff\xff\x7f"),
+    ("not_wide:a", EVEN[:-2] + b"\xff\x7f"),
+    (
+        "mini:mini",
+        bytes.fromhex("1a010c000000000028001d00")
+        + b"mini|sample\0"
+        + b"".join(struct.pack("<h", {5: 0, 10: 8, 39: 25}.get(at, -1)) for at in range(40))
+        + b"\x1b[H\x1b[2J\0\x1b[%i%p1%d;%p2%dH\0\x1b[m\0",
+    ),
+    ("large:m", packed(4079)),
+    ("too_large:m", None),
+    ("large_wide:m", packed(*[4095] * 7, 4061, number=40000)),
+    ("too_large_wide:m", None),
+]
+
+
+def judge(words, told, status, out, err):
+    """Ends the script where a run told something else; what is None was not known before."""
+    right = told.status == status
+    right = right and (out is None or told.out == out.encode()) and (err is None or told.err == err.encode())
+    # where the words are wrong, something says so
+    if not right or (status == 2 and not told.err):
+        sys.exit(f"examples: {words}: status {told.status}, {told.out}, {told.err}")
+
+
+def judge_neither(told):
+    """`infocmp -n` of x and z: flags, numbers and strings, each kind in the order of names; `am` and `el` are had."""
+    lines = told.out.decode().splitlines()
+    kinds = [lines[:43], lines[43:82], lines[82:]]
+    if len(lines) != 495 or len(set(lines)) != 495 or {"am", "el"} & set(lines) or "hz" not in kinds[0]:
+        sys.exit("examples: infocmp -n lists other names")
+    if "cols" not in kinds[1] or "clear" not in kinds[2] or any(kind != sorted(kind) for kind in kinds):
+        sys.exit("examples: infocmp -n lists the names in another order")
+
+
+def main():
+    with tempfile.TemporaryDirectory() as work:
+        cases = [Case(words) for words, _, _, _ in RUNS]
+        for at, (entry, _) in enumerate(WRITTEN):
+            cases.append(Case(["tic", entry, "--out", f"{work}/{at}"]))
+        told = run_cases(f"{TOP}/crates/ticurses", cases, FILES)
+        for (words, *wanted), answer in zip(RUNS, told):
+            judge(words, answer, *wanted)
+            if wanted[1] is None:
+                judge_neither(answer)
+        for at, ((entry, file), answer) in enumerate(zip(WRITTEN, told[len(RUNS) :])):
+            judge(["tic", entry, "--out"], answer, 0 if file else 1, "", "" if file else "refused: TooLarge\n")
+            if os.path.exists(f"{work}/{at}") != bool(file) or file and open(f"{work}/{at}", "rb").read() != file:
+                sys.exit(f"examples: tic {entry} --out wrote another file")
+    print(f"examples: {len(RUNS)} runs told what they are to tell, and {len(WRITTEN)} of `tic --out` wrote their file or none")
+
+
+main()

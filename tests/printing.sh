@@ -1,0 +1,64 @@
+#!/bin/sh
+# `infocmp` beside ncurses, on the system's own terminal descriptions: ncurses' tic makes the same file of what
+# we print of an entry of a source text as of the text itself. One build serves all the entries.
+set -eu
+cd -- "$(dirname -- "$0")/.."
+
+for peer in tic infocmp; do
+    if ! command -v "$peer" >/dev/null 2>&1; then
+        echo "printing: skipped, since $peer is missing"
+        exit 0
+    fi
+done
+work=$(mktemp -d)
+trap 'rm -rf "$work"' EXIT
+mkdir "$work/cases" "$work/theirs" "$work/ours" "$work/texts"
+
+# a source text of all entries, and a case for each
+count=0
+for folder in $(infocmp -D 2>/dev/null); do
+    [ -d "$folder" ] || continue
+    for file in "$folder"/?/*; do
+        [ -f "$file" ] || continue
+        infocmp -1 "${file##*/}" 2>/dev/null | grep -v '^#' >"$work/text" || continue
+        # a file may bear a name that its entry does not have
+        name=$(sed -n '1s/[|,].*//p' "$work/text")
+        [ -n "$name" ] && [ ! -e "$work/cases/$name.args" ] || continue
+        cat "$work/text" >>"$work/source"
+        # a compiled file of ncurses may tell a cancellation; for us it is that the capability is not there
+        grep -v '^	[A-Za-z0-9]*@,$' "$work/text" >"$work/texts/$name"
+        : >"$work/cases/$name"
+        printf '%s\n' infocmp "source:$name" >"$work/cases/$name.args"
+        count=$((count + 1))
+    done
+done
+if [ "$count" -eq 0 ]; then
+    echo "printing: skipped, since the system has no descriptions"
+    exit 0
+fi
+if ! (cd crates/ticurses && rt try --data source="$work/source" --cases "$work/cases") >"$work/log" 2>&1; then
+    cat "$work/log" >&2
+    echo "printing: an entry could not be printed" >&2
+    exit 1
+fi
+# what was printed stands under the name of its case
+awk -v folder="$work/ours/" '/^== / { file = folder $2; next } /^case=/ { file = "" } file != "" { print > file }' "$work/log"
+
+same=0
+for text in "$work/texts"/*; do
+    name=${text##*/}
+    mkdir "$work/a" "$work/b"
+    tic -o "$work/a" "$text" 2>"$work/said" || continue
+    if ! tic -o "$work/b" "$work/ours/$name" 2>"$work/said" || ! diff -r "$work/a" "$work/b" >"$work/said" 2>&1; then
+        cat "$work/said" >&2
+        echo "printing: tic makes another file of $name as we print it" >&2
+        exit 1
+    fi
+    rm -r "$work/a" "$work/b"
+    same=$((same + 1))
+done
+if [ "$same" -eq 0 ]; then
+    echo "printing: none of the descriptions could be compared" >&2
+    exit 1
+fi
+echo "printing: $same of the system's descriptions are the same as we print them"

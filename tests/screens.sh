@@ -1,0 +1,51 @@
+#!/bin/sh
+# The streams of screens.txt, fed to the terminal, leave the screens that stand there. Where libvterm and a C
+# compiler are there, the screens that are said to be libvterm's are compared with what it shows.
+set -eu
+cd -- "$(dirname -- "$0")/.."
+work=$(mktemp -d)
+trap 'rm -rf "$work"' EXIT
+mkdir "$work/cases"
+
+count=0
+case=
+while IFS= read -r line; do
+    case $line in
+    '#'*) ;;
+    '') case= ;;
+    *)
+        if [ -n "$case" ]; then
+            printf '%s\n' "$line" >>"$case.stdout"
+            continue
+        fi
+        count=$((count + 1))
+        source=${line%% *}
+        line=${line#* }
+        rows=${line%% *}
+        line=${line#* }
+        case=$work/cases/$count
+        printf '%b' "${line#* }" >"$case"
+        printf '%s\n' feed "$rows" "${line%% *}" '{}' >"$case.args"
+        : >"$case.stdout"
+        if [ "$source" = libvterm ]; then
+            echo "$count $rows ${line%% *}" >>"$work/libvterm"
+        fi
+        ;;
+    esac
+done <tests/screens.txt
+
+if cc -O2 -o "$work/peer" bench/peer.c -lvterm 2>/dev/null; then
+    while read -r name rows cols; do
+        if ! "$work/peer" "$rows" "$cols" "$work/cases/$name" | cmp -s - "$work/cases/$name.stdout"; then
+            echo "screens: stream $name: libvterm shows another screen" >&2
+            exit 1
+        fi
+    done <"$work/libvterm"
+    echo "screens: libvterm shows those that are said to be its own"
+fi
+if ! (cd crates/ticurses && rt try --cases "$work/cases") >"$work/log" 2>&1; then
+    cat "$work/log" >&2
+    echo "screens: the answers differ" >&2
+    exit 1
+fi
+echo "screens: $count streams leave the screens that are known"
