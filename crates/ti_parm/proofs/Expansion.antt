@@ -4,7 +4,7 @@ use Rattle.ti_parm.specs.declared.fault.ParmFault.{ParmFault}
 use Rattle.ti_parm.specs.declared.fault.ParmFault.TheVariants.{Underflow, BadNest, BadCode, Overflow, BadChar, WrongKind, NoMemory}
 use Rattle.ti_parm.specs.Delays.{HasNoOpening, strip}
 use Rattle.ti_parm.specs.Fault.{◌>>=◌, Fails}
-use Rattle.ti_parm.specs.Running.{follow, run_ahead, run_from}
+use Rattle.ti_parm.specs.Running.{follow, judged_run, run_ahead, run_from}
 use Rattle.ti_parm.specs.Syntax.{Behind, Ends, HasEnd, IsPlain, Parts, ahead, syntax, verdict, whole, without_tree}
 use Rattle.ti_parm.specs.Meaning.{State, act, after, meaning, run, sent_with, start_of}
 use Rattle.ti_parm.specs.Value.{Value}
@@ -42,32 +42,30 @@ run_from-meaning string before given statics s fine e =
     ∙ run-after (ahead string).parts before (start_of given statics)
     ∙ sym (ap (all_after before) (whole-meaning string given statics fine))
 
+-- judging and running behind what is there, and the meaning
+judged_run-meaning : (string before : List ℕ) (given : List Value) (statics : List ℤ) (s : State) → s ≡ after before (start_of given statics) → judged_run string s ≡ all_after before (meaning string given statics)
+unfolding meaning
+judged_run-meaning string before given statics s e = along (syntax string) refl
+  where
+    along : (r : Result Parts ParmFault) → syntax string ≡ r → judged_run string s ≡ all_after before (syntax string >>= λ parts. run parts (start_of given statics))
+    along (Ok parts) p = ap (λ r. without_tree r >>= λ _. run_from string s) p ∙ run_from-meaning string before given statics s (ap without_tree p) e
+    along (Err x) p = ap (λ r. without_tree r >>= λ _. run_from string s) p ∙ sym (ap (λ r. all_after before (r >>= λ parts. run parts (start_of given statics))) p)
+
 ends : (r : Result State ParmFault) (before : List ℕ) (t : State) → all_after before r ≡ Ok t → (end : State) × (r ≡ Ok end) × (t ≡ after before end)
 ends (Ok s) before t e = (s, refl, cc)
 ends (Err x) before t e = cc
 
-pub meaning-ends : (string before : List ℕ) (given : List Value) (statics : List ℤ) (s t : State) → verdict string ≡ Ok tt → s ≡ after before (start_of given statics) → run_from string s ≡ Ok t → (end : State) × (meaning string given statics ≡ Ok end) × (t ≡ after before end)
-meaning-ends string before given statics s t fine e runs = ends (meaning string given statics) before t (sym (run_from-meaning string before given statics s fine e) ∙ runs)
+pub meaning-ends : (string before : List ℕ) (given : List Value) (statics : List ℤ) (s t : State) → s ≡ after before (start_of given statics) → judged_run string s ≡ Ok t → (end : State) × (meaning string given statics ≡ Ok end) × (t ≡ after before end)
+meaning-ends string before given statics s t e runs = ends (meaning string given statics) before t (sym (judged_run-meaning string before given statics s e) ∙ runs)
 
 fails-after : (r : Result State ParmFault) (before : List ℕ) (x : ParmFault) → all_after before r ≡ Err x → r ≡ Err x
 fails-after (Ok s) before x e = cc
 fails-after (Err y) before x e = e
 
-pub meaning-fails : (string before : List ℕ) (given : List Value) (statics : List ℤ) (s : State) (x : ParmFault) → verdict string ≡ Ok tt → s ≡ after before (start_of given statics) → Fails x (run_from string s) → (x ≡ NoMemory) ⊎ (meaning string given statics ≡ Err x)
-meaning-fails string before given statics s x fine e fails = elim (fault-or_memory x (run_from string s) fails) [
+pub meaning-fails : (string before : List ℕ) (given : List Value) (statics : List ℤ) (s : State) (x : ParmFault) → s ≡ after before (start_of given statics) → Fails x (judged_run string s) → (x ≡ NoMemory) ⊎ (meaning string given statics ≡ Err x)
+meaning-fails string before given statics s x e fails = elim (fault-or_memory x (judged_run string s) fails) [
   | inl p ↦ inl p
-  | inr p ↦ inr (fails-after (meaning string given statics) before x (sym (run_from-meaning string before given statics s fine e) ∙ p))
-]
-
-without_tree-fails : (r : Result Parts ParmFault) (x : ParmFault) → without_tree r ≡ Err x → r ≡ Err x
-without_tree-fails (Ok parts) x e = cc
-without_tree-fails (Err y) x e = let same : y ≡ x = cc in ap Err same
-
-pub meaning-unread : (string : List ℕ) (given : List Value) (statics : List ℤ) (x : ParmFault) → Fails x (verdict string) → (x ≡ NoMemory) ⊎ (meaning string given statics ≡ Err x)
-unfolding meaning
-meaning-unread string given statics x fails = elim (fault-or_memory x (verdict string) fails) [
-  | inl p ↦ inl p
-  | inr p ↦ inr (ap (λ r. r >>= λ parts. run parts (start_of given statics)) (without_tree-fails (syntax string) x p))
+  | inr p ↦ inr (fails-after (meaning string given statics) before x (sym (judged_run-meaning string before given statics s e) ∙ p))
 ]
 
 pub begin : (m : Machine) (before : List ℕ) (given : List Value) (statics : List ℤ) → state_of m [] ≡ start_of given statics → state_of m before ≡ after before (start_of given statics)

@@ -8,17 +8,10 @@ use Rattle.ti_parm.specs.declared.fault.ParmFault.{ParmFault}
 use Rattle.ti_parm.specs.declared.fault.ParmFault.TheVariants.{BadNest}
 use Rattle.ti_parm.specs.Fault.{◌>>=◌}
 use Rattle.ti_parm.specs.Codes.{code_at}
-use Rattle.ti_parm.specs.Nesting.{Branches, nest_behind, nest_behind_mark}
+use Rattle.ti_parm.specs.Nesting.{Branches, judged, nest_behind, nest_behind_mark}
 use Rattle.ti_parm.specs.Syntax.{Ahead, Behind, Breaks, Closes, Ends, HasEnd, Parts, Rest, ahead, before, closed, conditional, else_if, rest_of, syntax, verdict, whole, without_tree}
 use Rattle.ti_parm.proofs.Binding.{bind-bind}
 use Rattle.ti_parm.proofs.Trees.{ahead-code, ahead-fault, ahead-nothing}
-
--- whether what comes behind a place in these conditionals ends them all, and ends well
-unfoldable pub judged : Behind → Branches → Result (Unit {0}) ParmFault
-judged Ends [] = Ok tt
-judged Ends (branch ∷ outer) = Err BadNest
-judged (Breaks fault) branches = Err fault
-judged (Closes mark parts behind) branches = nest_behind_mark mark branches >>= λ further. judged behind further
 
 judged-rest : (b : Behind) (outer : Branches) → judged b (Chosen ∷ outer) ≡ (rest_of b >>= λ r. judged r.behind outer)
 unfolding judged
@@ -47,7 +40,7 @@ judged-conditional condition (Closes ThenMark chosen behind) outer = judged-clos
 judged-conditional condition (Closes ElseMark parts behind) outer = refl
 judged-conditional condition (Closes EndMark parts behind) outer = refl
 
-judged-before : (code : Code) (a : Ahead) (branches : Branches) → judged (before code a).behind branches ≡ (nest_behind code branches >>= judged a.behind)
+pub judged-before : (code : Code) (a : Ahead) (branches : Branches) → judged (before code a).behind branches ≡ (nest_behind code branches >>= judged a.behind)
 unfolding judged
 judged-before (ActCode action) a branches = refl
 judged-before If a branches = judged-conditional a.parts a.behind branches
@@ -67,17 +60,20 @@ pub judged-fault : (text : List ℕ) (branches : Branches) (fault : ParmFault) �
 unfolding judged
 judged-fault text branches fault some e = ap (λ a. judged a.behind branches) (ahead-fault text fault some e)
 
-pub judged-well : (text : List ℕ) → length text ≡ 0 → judged (ahead text).behind [] ≡ Ok tt
-unfolding judged
-judged-well text none = ap (λ a. judged a.behind []) (ahead-nothing text none)
+pub judged-ended : (text : List ℕ) (branches : Branches) → length text ≡ 0 → judged (ahead text).behind branches ≡ judged Ends branches
+judged-ended text branches none = ap (λ a. judged a.behind branches) (ahead-nothing text none)
 
-ended-inside : (branches : Branches) → (branches ≡ [] → ⊥) → judged Ends branches ≡ Err BadNest
+judged-outside : judged Ends [] ≡ Ok tt
+unfolding judged
+judged-outside = refl
+
+pub ended-outside : (branches : Branches) → branches ≡ [] → judged Ends branches ≡ Ok tt
+ended-outside branches e = ap (judged Ends) e ∙ judged-outside
+
+pub ended-inside : (branches : Branches) → (branches ≡ [] → ⊥) → judged Ends branches ≡ Err BadNest
 unfolding judged
 ended-inside [] h = absurd (h refl)
 ended-inside (branch ∷ outer) h = refl
-
-pub judged-open : (text : List ℕ) (branches : Branches) → length text ≡ 0 → (branches ≡ [] → ⊥) → judged (ahead text).behind branches ≡ Err BadNest
-judged-open text branches none h = ap (λ a. judged a.behind branches) (ahead-nothing text none) ∙ ended-inside branches h
 
 judged-whole : (parts : Parts) (b : Behind) → judged b [] ≡ without_tree (whole parts b)
 unfolding judged
@@ -98,14 +94,26 @@ pub verdict-ended : (string : List ℕ) → verdict string ≡ Ok tt → (ahead 
 unfolding syntax
 verdict-ended string e = ended (ahead string).parts (ahead string).behind e
 
-no_end : (b : Behind) (fault : ParmFault) → b ≡ Breaks fault → HasEnd b → ⊥
-no_end b fault e h = rw e at h
-
-pub HasEnd-no_fault : (text : List ℕ) (fault : ParmFault) → 0 < length text → code_at text ≡ Err fault → HasEnd (ahead text).behind → ⊥
-HasEnd-no_fault text fault some e h = no_end (ahead text).behind fault (ap (λ a. a.behind) (ahead-fault text fault some e)) h
-
 has_end-along : (a c : Ahead) → a ≡ c → HasEnd a.behind → HasEnd c.behind
 has_end-along a c e h = rw e at h
 
 pub HasEnd-code : (text rest : List ℕ) (code : Code) → 0 < length text → code_at text ≡ Ok (code, rest) → HasEnd (ahead text).behind → HasEnd (before code (ahead rest)).behind
 HasEnd-code text rest code some e h = has_end-along _ _ (ahead-code text rest code some e) h
+
+-- what ends well comes to its end
+pub judged-HasEnd : (b : Behind) (n : Branches) → judged b n ≡ Ok tt → HasEnd b
+unfolding judged
+judged-HasEnd Ends n e = tt
+judged-HasEnd (Breaks fault) n e = cc
+judged-HasEnd (Closes mark parts behind) n e = along (nest_behind_mark mark n) (judged-HasEnd behind) e
+  where
+    along : (r : Result Branches ParmFault) → ((m : Branches) → judged behind m ≡ Ok tt → HasEnd behind) → (r >>= λ further. judged behind further) ≡ Ok tt → HasEnd behind
+    along (Ok further) f p = f further p
+    along (Err x) f p = cc
+
+-- passing a code
+pub judged-passed : (code : Code) (a : Ahead) (n m : Branches) → nest_behind code n ≡ Ok m → judged a.behind m ≡ judged (before code a).behind n
+judged-passed code a n m e = sym (judged-before code a n ∙ ap (λ r. r >>= judged a.behind) e)
+
+pub judged-unpassed : (code : Code) (a : Ahead) (n : Branches) (x : ParmFault) → nest_behind code n ≡ Err x → judged (before code a).behind n ≡ Err x
+judged-unpassed code a n x e = judged-before code a n ∙ ap (λ r. r >>= judged a.behind) e

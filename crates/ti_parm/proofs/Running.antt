@@ -1,16 +1,19 @@
 -- Running a conditional, and running from the place behind its `%?`.
-use Rattle.std.proofs.Common.{◌≡◌, ◌<◌, cond, length, ℕ, zero, Bool, true, false, List, Result, Ok, Err, refl, sym, ◌∙◌, ap}
+use Rattle.std.proofs.Common.{◌≡◌, ◌<◌, cond, length, ℕ, zero, Bool, true, false, List, [], ◌⊎◌, inl, inr, Result, Ok, Err, refl, sym, ◌∙◌, ap}
 use Rattle.ti_parm.specs.declared.code.Action.{Action}
 use Rattle.ti_parm.specs.declared.code.Code.TheVariants.{Act as ActCode, If, Of}
 use Rattle.ti_parm.specs.declared.code.Mark.TheVariants.{Then as ThenMark, Else as ElseMark, End as EndMark}
 use Rattle.ti_parm.specs.declared.fault.ParmFault.{ParmFault}
-use Rattle.ti_parm.specs.Fault.{◌>>=◌}
+use Rattle.ti_parm.specs.Fault.{◌>>=◌, Fails}
 use Rattle.ti_parm.specs.Meaning.{State, act, choose, pop_test, run, run_otherwise}
-use Rattle.ti_parm.specs.Running.{follow, follow_past, run_ahead, run_before, run_from}
+use Rattle.ti_parm.specs.Running.{follow, follow_past, judged_ahead, judged_behind, judged_run, run_ahead, run_from}
 use Rattle.ti_parm.specs.Skipping.{past}
-use Rattle.ti_parm.specs.Syntax.{Ahead, Behind, Breaks, Closes, Ends, HasEnd, Parts, Rest, ahead, before}
+use Rattle.ti_parm.specs.Syntax.{Ahead, Behind, Breaks, Closes, Done, Ends, HasEnd, Parts, Rest, ahead, before}
 use Rattle.ti_parm.specs.Codes.{code_at}
 use Rattle.ti_parm.specs.declared.code.Code.{Code}
+use Rattle.ti_parm.specs.Nesting.{Branches, judged}
+use Rattle.ti_parm.proofs.Faults.{Fails-on}
+use Rattle.ti_parm.proofs.Judging.{judged-HasEnd, judged-verdict}
 use Rattle.ti_parm.proofs.Trees.{ahead-code, ahead-nothing}
 use Rattle.ti_parm.proofs.Binding.{bind-bind, bind-same, choose-bind, choose-same}
 use Rattle.ti_parm.proofs.Rests.{IsConditional, IsRest, conditional-is, elses, ends, goes_on, is_conditional}
@@ -54,18 +57,24 @@ by_conditional condition _ _ (is_conditional chosen behind r d) s =
     ∙ sym (bind-same (run condition s) _ _ (λ t. chosen-by chosen behind r t (follow-rest behind r d) (past-rest behind r d)))
 
 -- a `%?` does nothing by itself
-pub run_before-If : (text : List ℕ) (s : State) → HasEnd (before If (ahead text)).behind → run_before If text s ≡ run_from text s
-unfolding run_before run_from run_ahead
-run_before-If text s h = by_conditional (ahead text).parts (ahead text).behind _ (conditional-is (ahead text).parts (ahead text).behind h) s
+pub run-If : (a : Ahead) (s : State) → HasEnd (before If a).behind → run_ahead (before If a) s ≡ run_ahead a s
+unfolding run_ahead
+run-If a s h = by_conditional a.parts a.behind _ (conditional-is a.parts a.behind h) s
 
-pub run_before-Act : (action : Action) (text : List ℕ) (s : State) → run_before (ActCode action) text s ≡ (act action s >>= run_from text)
-unfolding run_before run_from run_ahead run
-run_before-Act action text s = bind-bind (act action s) (run (ahead text).parts) (follow (ahead text).behind)
+run-Act : (action : Action) (a : Ahead) (s : State) → run_ahead (before (ActCode action) a) s ≡ (act action s >>= run_ahead a)
+unfolding run_ahead run
+run-Act action a s = bind-bind (act action s) (run a.parts) (follow a.behind)
+
+pub act-goes_on : (action : Action) (a : Ahead) (s t : State) → act action s ≡ Ok t → run_ahead (before (ActCode action) a) s ≡ run_ahead a t
+act-goes_on action a s t e = run-Act action a s ∙ ap (λ m. m >>= run_ahead a) e
+
+pub act-fails : (action : Action) (a : Ahead) (s : State) (fault : ParmFault) → act action s ≡ Err fault → run_ahead (before (ActCode action) a) s ≡ Err fault
+act-fails action a s fault e = run-Act action a s ∙ ap (λ m. m >>= run_ahead a) e
 
 -- a `%;` does nothing by itself
-pub run_before-End : (text : List ℕ) (s : State) → run_before (Of EndMark) text s ≡ run_from text s
-unfolding run_before run_from run_ahead run follow
-run_before-End text s = refl
+pub run-End : (a : Ahead) (s : State) → run_ahead (before (Of EndMark) a) s ≡ run_ahead a s
+unfolding run_ahead run follow
+run-End a s = refl
 
 -- passing over is going on behind what is passed over
 run_ahead-past : (to_else : Bool) (b : Behind) (s : State) → run_ahead (past to_else zero b) s ≡ follow_past to_else b s
@@ -77,57 +86,62 @@ run_ahead-past true (Closes ElseMark parts behind) s = refl
 run_ahead-past false (Closes ElseMark parts behind) s = run_ahead-past false behind s
 run_ahead-past to_else (Closes EndMark parts behind) s = refl
 
-past-from : (to_else : Bool) (text rest : List ℕ) (s : State) → ahead rest ≡ past to_else 0 (ahead text).behind → run_from rest s ≡ follow_past to_else (ahead text).behind s
-unfolding run_from
-past-from to_else text rest s e = ap (λ a. run_ahead a s) e ∙ run_ahead-past to_else (ahead text).behind s
-
-pub run_before-Else : (text rest : List ℕ) (s : State) → ahead rest ≡ past false 0 (ahead text).behind → run_before (Of ElseMark) text s ≡ run_from rest s
-unfolding run_before run_ahead run follow
-run_before-Else text rest s e = sym (past-from false text rest s e)
+pub run-Else : (a : Ahead) (s : State) → run_ahead (before (Of ElseMark) a) s ≡ run_ahead (past false zero a.behind) s
+unfolding run_ahead run follow
+run-Else a s = sym (run_ahead-past false a.behind s)
 
 -- a `%t` takes the top of the stack
-pub run_before-Then : (text : List ℕ) (s : State) → run_before (Of ThenMark) text s ≡ choose (run_from text) (follow_past true (ahead text).behind) s
-unfolding run_before run_from run_ahead run follow
-run_before-Then text s = refl
-
-HasEnd-past_else : (to_else : Bool) (b : Behind) → HasEnd b → HasEnd (past to_else zero b).behind
-HasEnd-past_else to_else Ends h = tt
-HasEnd-past_else to_else (Breaks fault) h = h
-HasEnd-past_else to_else (Closes ThenMark parts behind) h = HasEnd-past_else to_else behind h
-HasEnd-past_else true (Closes ElseMark parts behind) h = h
-HasEnd-past_else false (Closes ElseMark parts behind) h = HasEnd-past_else false behind h
-HasEnd-past_else to_else (Closes EndMark parts behind) h = h
+run-Then : (a : Ahead) (s : State) → run_ahead (before (Of ThenMark) a) s ≡ choose (run_ahead a) (follow_past true a.behind) s
+unfolding run_ahead run follow
+run-Then a s = refl
 
 -- a `%t` above another number than 0, above 0, and above nothing that can be tested
-pub then-holds : (text : List ℕ) (s t : State) → pop_test s.stack s ≡ Ok (true, t) → run_before (Of ThenMark) text s ≡ run_from text t
-then-holds text s t e = run_before-Then text s ∙ ap (λ m. m >>= λ x. cond x.0 (run_from text x.1) (follow_past true (ahead text).behind x.1)) e
+pub then-holds : (a : Ahead) (s t : State) → pop_test s.stack s ≡ Ok (true, t) → run_ahead (before (Of ThenMark) a) s ≡ run_ahead a t
+then-holds a s t e = run-Then a s ∙ ap (λ m. m >>= λ x. cond x.0 (run_ahead a x.1) (follow_past true a.behind x.1)) e
 
-pub then-skips : (text rest : List ℕ) (s t : State) → pop_test s.stack s ≡ Ok (false, t) → ahead rest ≡ past true 0 (ahead text).behind → run_before (Of ThenMark) text s ≡ run_from rest t
-then-skips text rest s t e p =
-    run_before-Then text s
-    ∙ ap (λ m. m >>= λ x. cond x.0 (run_from text x.1) (follow_past true (ahead text).behind x.1)) e
-    ∙ sym (past-from true text rest t p)
+pub then-skips : (a : Ahead) (s t : State) → pop_test s.stack s ≡ Ok (false, t) → run_ahead (before (Of ThenMark) a) s ≡ run_ahead (past true zero a.behind) t
+then-skips a s t e =
+    run-Then a s
+    ∙ ap (λ m. m >>= λ x. cond x.0 (run_ahead a x.1) (follow_past true a.behind x.1)) e
+    ∙ sym (run_ahead-past true a.behind t)
 
-pub then-fails : (text : List ℕ) (s : State) (fault : ParmFault) → pop_test s.stack s ≡ Err fault → run_before (Of ThenMark) text s ≡ Err fault
-then-fails text s fault e = run_before-Then text s ∙ ap (λ m. m >>= λ x. cond x.0 (run_from text x.1) (follow_past true (ahead text).behind x.1)) e
+pub then-fails : (a : Ahead) (s : State) (fault : ParmFault) → pop_test s.stack s ≡ Err fault → run_ahead (before (Of ThenMark) a) s ≡ Err fault
+then-fails a s fault e = run-Then a s ∙ ap (λ m. m >>= λ x. cond x.0 (run_ahead a x.1) (follow_past true a.behind x.1)) e
 
-pub act-goes_on : (action : Action) (text : List ℕ) (s t : State) → act action s ≡ Ok t → run_before (ActCode action) text s ≡ run_from text t
-act-goes_on action text s t e = run_before-Act action text s ∙ ap (λ m. m >>= run_from text) e
+-- behind what is passed over
+pub passed : (to_else : Bool) (text rest : List ℕ) (s : State) → ahead rest ≡ past to_else zero (ahead text).behind → run_ahead (ahead rest) s ≡ run_ahead (past to_else zero (ahead text).behind) s
+passed to_else text rest s e = ap (λ a. run_ahead a s) e
 
-pub act-fails : (action : Action) (text : List ℕ) (s : State) (fault : ParmFault) → act action s ≡ Err fault → run_before (ActCode action) text s ≡ Err fault
-act-fails action text s fault e = run_before-Act action text s ∙ ap (λ m. m >>= run_from text) e
+-- judged in the same way, and run in the same way where there is no fault
+along-same : (p q : Result (Unit {0}) ParmFault) (x y : Result State ParmFault) → p ≡ q → (q ≡ Ok tt → x ≡ y) → (p >>= λ _. x) ≡ (q >>= λ _. y)
+along-same p (Ok u) x y e f = ap (λ r. r >>= λ _. x) e ∙ f refl
+along-same p (Err z) x y e f = ap (λ r. r >>= λ _. x) e
 
--- running from a code on
-pub run_from-code : (text rest : List ℕ) (code : Code) (s : State) → 0 < length text → code_at text ≡ Ok (code, rest) → run_from text s ≡ run_before code rest s
-unfolding run_from run_before
-run_from-code text rest code s some e = ap (λ a. run_ahead a s) (ahead-code text rest code some e)
+pub judged_ahead-same : (a b : Ahead) (n m : Branches) (s t : State) → judged a.behind n ≡ judged b.behind m → (HasEnd b.behind → run_ahead a s ≡ run_ahead b t) → judged_ahead a n s ≡ judged_ahead b m t
+judged_ahead-same a b n m s t e f = along-same (judged a.behind n) (judged b.behind m) _ _ e (λ q. f (judged-HasEnd b.behind m q))
 
-pub run_from-nothing : (text : List ℕ) (s : State) → length text ≡ 0 → run_from text s ≡ Ok s
-unfolding run_from run_ahead run follow
-run_from-nothing text s none = ap (λ a. run_ahead a s) (ahead-nothing text none)
+pub judged_behind-unread : (v : Result (Unit {0}) ParmFault) (r : Result State ParmFault) (x : ParmFault) → v ≡ Err x → judged_behind v r ≡ Err x
+judged_behind-unread v r x e = ap (λ w. w >>= λ _. r) e
 
-has_end-of : (a c : Ahead) → a ≡ c → HasEnd c.behind → HasEnd a.behind
-has_end-of a c e h = rw e h
+pub judged_behind-read : (v : Result (Unit {0}) ParmFault) (r : Result State ParmFault) → v ≡ Ok tt → judged_behind v r ≡ r
+judged_behind-read v r e = ap (λ w. w >>= λ _. r) e
 
-pub HasEnd-skipped : (to_else : Bool) (text rest : List ℕ) → ahead rest ≡ past to_else 0 (ahead text).behind → HasEnd (ahead text).behind → HasEnd (ahead rest).behind
-HasEnd-skipped to_else text rest e h = has_end-of _ _ e (HasEnd-past_else to_else (ahead text).behind h)
+-- a fault that a run met, unless the syntax has one
+pub Fails-first : (e fault : ParmFault) (v : Result (Unit {0}) ParmFault) (r : Result State ParmFault) → ((v ≡ Ok tt) × (e ≡ fault)) ⊎ Fails e v → (v ≡ Ok tt → Fails fault r) → Fails e (judged_behind v r)
+Fails-first e fault v r (inl p) h = rw p.1 (Fails-on fault r (judged_behind v r) (λ q. judged_behind-read v r p.0 ∙ q) (h p.0))
+Fails-first e fault v r (inr p) h = Fails-on e v (judged_behind v r) (judged_behind-unread v r e) p
+
+pub judged_ahead-code : (text rest : List ℕ) (code : Code) (n : Branches) (s : State) → 0 < length text → code_at text ≡ Ok (code, rest) → judged_ahead (ahead text) n s ≡ judged_ahead (before code (ahead rest)) n s
+judged_ahead-code text rest code n s some e = ap (λ a. judged_ahead a n s) (ahead-code text rest code some e)
+
+-- at the end there is no more to do
+nothing-ahead : (n : Branches) (s : State) → judged_ahead (record { parts = Done; behind = Ends }) n s ≡ (judged Ends n >>= λ _. Ok s)
+unfolding run_ahead run follow
+nothing-ahead n s = refl
+
+pub judged_ahead-nothing : (text : List ℕ) (n : Branches) (s : State) → length text ≡ 0 → judged_ahead (ahead text) n s ≡ (judged Ends n >>= λ _. Ok s)
+judged_ahead-nothing text n s none = ap (λ a. judged_ahead a n s) (ahead-nothing text none) ∙ nothing-ahead n s
+
+pub judged_ahead-run : (string : List ℕ) (s : State) → judged_ahead (ahead string) [] s ≡ judged_run string s
+unfolding run_from
+judged_ahead-run string s = ap (λ v. v >>= λ _. run_ahead (ahead string) s) (judged-verdict string)

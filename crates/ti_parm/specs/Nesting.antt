@@ -9,6 +9,7 @@ use Rattle.ti_parm.specs.declared.nest.Branch.{Branch}
 use Rattle.ti_parm.specs.declared.nest.Branch.TheVariants.{Condition, Chosen, Otherwise}
 use Rattle.ti_parm.specs.declared.fault.ParmFault.{ParmFault}
 use Rattle.ti_parm.specs.declared.fault.ParmFault.TheVariants.{BadNest}
+use Rattle.ti_parm.specs.Syntax.{Behind, Ends, Breaks, Closes}
 
 abbrev pub Branches : Type 0
 Branches = List Branch
@@ -38,3 +39,10 @@ abbrev pub nest_behind : Code → Branches → Result Branches ParmFault
 nest_behind (Act action) branches = Ok branches
 nest_behind If branches = Ok (Condition ∷ branches)
 nest_behind (Of mark) branches = nest_behind_mark mark branches
+
+-- whether what comes behind a place in these conditionals ends them all, and ends well
+unfoldable pub judged : Behind → Branches → Result (Unit {0}) ParmFault
+judged Ends [] = Ok tt
+judged Ends (branch ∷ outer) = Err BadNest
+judged (Breaks fault) branches = Err fault
+judged (Closes mark parts behind) branches = nest_behind_mark mark branches >>= λ further. judged behind further

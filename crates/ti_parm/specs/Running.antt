@@ -1,10 +1,10 @@
 -- Running from a place in a string on.
 use Rattle.std.specs.Prelude.{ℕ, Bool, true, false, List, Result, Ok, Err}
 use Rattle.ti_parm.specs.Fault.{◌>>=◌}
-use Rattle.ti_parm.specs.declared.code.Code.{Code}
 use Rattle.ti_parm.specs.declared.code.Mark.TheVariants.{Then, Else, End}
 use Rattle.ti_parm.specs.declared.fault.ParmFault.{ParmFault}
-use Rattle.ti_parm.specs.Syntax.{Ahead, Behind, Ends, Breaks, Closes, ahead, before}
+use Rattle.ti_parm.specs.Syntax.{Ahead, Behind, Ends, Breaks, Closes, ahead, verdict}
+use Rattle.ti_parm.specs.Nesting.{Branches, judged}
 use Rattle.ti_parm.specs.Meaning.{State, choose, run}
 
 unfoldable mutual
@@ -32,6 +32,15 @@ run_ahead a s = run a.parts s >>= follow a.behind
 unfoldable pub run_from : List ℕ → State → Result State ParmFault
 run_from text s = run_ahead (ahead text) s
 
--- what a string does from a code on
-unfoldable pub run_before : Code → List ℕ → State → Result State ParmFault
-run_before code text s = run_ahead (before code (ahead text)) s
+-- a fault of the syntax, if it has one, and else what a run comes to
+abbrev pub judged_behind : Result (Unit {0}) ParmFault → Result State ParmFault → Result State ParmFault
+judged_behind verdict answer = verdict >>= λ _. answer
+
+-- the first fault of the syntax of what lies ahead of a place in these conditionals, if it has one,
+-- and else what is done there
+abbrev pub judged_ahead : Ahead → Branches → State → Result State ParmFault
+judged_ahead a branches s = judged a.behind branches >>= λ _. run_ahead a s
+
+-- the first fault of a string's syntax, if it has one, and else what the string does from a state on
+abbrev pub judged_run : List ℕ → State → Result State ParmFault
+judged_run string s = verdict string >>= λ _. run_from string s

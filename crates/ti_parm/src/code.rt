@@ -4,7 +4,7 @@ ghost use Rattle.ti_parm.specs.Codes.{character_code, code_at, format_code, numb
 ghost use Rattle.ti_parm.specs.Fault.{Answers};
 
 use crate::fault::ParmFault;
-use crate::formats::{Format, format_ahead};
+use crate::formats::{Format, PLAIN, format_ahead};
 use crate::number::{LARGEST, number};
 
 /// What one code does by itself.
@@ -106,6 +106,7 @@ pub enum Code {
 }
 
 /// What stands behind `%{`.
+#[inline(always)]
 fn number_behind(text: &[u8]) -> Result<(Code, &[u8]), ParmFault>
     ensures code { Answers (λ x. (x.0, x.1.now)) result (number_code text.now) }
     ensures within { IfOk result (λ x. length x.1.now ≤ length text.now) }
@@ -123,6 +124,7 @@ fn number_behind(text: &[u8]) -> Result<(Code, &[u8]), ParmFault>
 }
 
 /// The variable of a letter.
+#[inline(always)]
 fn variable_of(letter: u8) -> Option<Variable>
     ensures { result ≡ variable letter }
 {
@@ -134,6 +136,7 @@ fn variable_of(letter: u8) -> Option<Variable>
 }
 
 /// The variable whose letter stands at the front, and what follows it.
+#[inline(always)]
 fn variable_ahead(text: &[u8]) -> Result<(Variable, &[u8]), ParmFault>
     ensures variable { (f : Variable → Action) → Answers (λ x. (Code.Act (f x.0), x.1.now)) result (variable_code f text.now) }
     ensures within { IfOk result (λ x. length x.1.now ≤ length text.now) }
@@ -149,6 +152,7 @@ fn variable_ahead(text: &[u8]) -> Result<(Variable, &[u8]), ParmFault>
 
 /// The code of two bytes that ends in this one.
 #[tactic(auto, unfolding(crate::specs::Codes::short_code))]
+#[inline(always)]
 fn short_of(byte: u8) -> Option<Code>
     ensures { result ≡ short_code byte }
 {
@@ -182,6 +186,7 @@ fn short_of(byte: u8) -> Option<Code>
 }
 
 /// What stands behind `%p`.
+#[inline(always)]
 fn parameter_behind(text: &[u8]) -> Result<(Code, &[u8]), ParmFault>
     ensures code { Answers (λ x. (x.0, x.1.now)) result (parameter_code text.now) }
     ensures within { IfOk result (λ x. length x.1.now ≤ length text.now) }
@@ -193,6 +198,7 @@ fn parameter_behind(text: &[u8]) -> Result<(Code, &[u8]), ParmFault>
 }
 
 /// What stands behind `%'`.
+#[inline(always)]
 fn character_behind(text: &[u8]) -> Result<(Code, &[u8]), ParmFault>
     ensures code { Answers (λ x. (x.0, x.1.now)) result (character_code text.now) }
     ensures within { IfOk result (λ x. length x.1.now ≤ length text.now) }
@@ -204,6 +210,7 @@ fn character_behind(text: &[u8]) -> Result<(Code, &[u8]), ParmFault>
 }
 
 /// What stands behind a `%`.
+#[inline(always)]
 fn behind_percent(text: &[u8]) -> Result<(Code, &[u8]), ParmFault>
     ensures code { Answers (λ x. (x.0, x.1.now)) result (percent_code text.now) }
     ensures within { IfOk result (λ x. length x.1.now ≤ length text.now) }
@@ -220,6 +227,7 @@ fn behind_percent(text: &[u8]) -> Result<(Code, &[u8]), ParmFault>
         }
         [b'\'', rest @ ..] => character_behind(rest),
         [b'{', rest @ ..] => number_behind(rest),
+        [b'd', rest @ ..] => Ok((Code::Act(Action::Show(PLAIN)), rest)),
         [b':', rest @ ..] => format_behind(rest),
         [] => Err(ParmFault::BadCode),
         [byte, rest @ ..] => match short_of(*byte) {
@@ -230,6 +238,7 @@ fn behind_percent(text: &[u8]) -> Result<(Code, &[u8]), ParmFault>
 }
 
 /// A format, behind its `%` and `:`.
+#[inline(always)]
 fn format_behind(text: &[u8]) -> Result<(Code, &[u8]), ParmFault>
     ensures code { Answers (λ x. (x.0, x.1.now)) result (format_code text.now) }
     ensures shorter { IfOk result (λ x. length x.1.now < length text.now) }
@@ -240,6 +249,7 @@ fn format_behind(text: &[u8]) -> Result<(Code, &[u8]), ParmFault>
 
 /// The code at the front of a text, and what follows it.
 #[tactic(auto, unfolding(crate::specs::Codes::code_at))]
+#[inline(always)]
 pub fn next_code(text: &[u8]) -> Result<(Code, &[u8]), ParmFault>
     requires { 0 < length text.now }
     ensures code { Answers (λ x. (x.0, x.1.now)) result (code_at text.now) }

@@ -57,6 +57,18 @@ pub struct Format {
     pub conversion: Conversion,
 }
 
+/// The format of `%d`: the number as it is.
+pub const PLAIN: Format = Format {
+    left: false,
+    plus: false,
+    alternate: false,
+    zero: false,
+    space: false,
+    width: 0,
+    precision: None,
+    conversion: Conversion::Decimal,
+};
+
 /// The flags with the one at the front of a text, and what follows it.
 fn flag_ahead(flags: Flags, text: &[u8]) -> Option<(Flags, &[u8])>
     ensures flag { MatchOption result (flag_at flags text.now ≡ None) (λ x. flag_at flags text.now ≡ Some (x.0, x.1.now)) }

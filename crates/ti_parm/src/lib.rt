@@ -7,6 +7,7 @@ mod delays;
 mod digits;
 mod fault;
 mod formats;
+mod judge;
 mod machine;
 mod nest;
 mod number;

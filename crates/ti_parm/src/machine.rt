@@ -5,12 +5,15 @@ ghost use Rattle.ti_parm.specs.Value.{nine, values_of, value_of, zeros};
 ghost use Rattle.ti_parm.specs.Meaning.{ReadsUnset, act, character, one_more, pop_test, start_of, writing};
 ghost use Rattle.ti_parm.specs.Formats.{shown};
 ghost use Rattle.ti_parm.specs.Machine.{state_of};
-ghost use Rattle.ti_parm.specs.Running.{run_before, run_from};
+ghost use Rattle.ti_parm.specs.Nesting.{judged};
+ghost use Rattle.ti_parm.specs.Running.{judged_ahead, judged_behind, run_ahead};
 ghost use Rattle.ti_parm.specs.Syntax.{HasEnd, ahead, before};
 
 use crate::code::{Action, Code, Mark, Variable};
 use crate::fault::ParmFault;
 use crate::formats::{Conversion, Format};
+use crate::judge::first_fault;
+use crate::nest::Nest;
 use crate::operators::byte_of;
 use crate::param::{Param, Params};
 use crate::show::{write_number, write_text};
@@ -62,18 +65,17 @@ fn put_at(numbers: &mut [i32; 26], index: u8, number: i32)
 impl<'a> Machine<'a> {
     /// The state in which a run begins.
     #[tactic(auto, unfolding(crate::specs::Value::zeros))]
-    pub fn new(alloc: Global, given: &[Param<'a>], statics: &Statics) -> Result<Self, ParmFault>
-        ensures ok { IfOk result (λ m. state_of m [] ≡ start_of (values_of given.now) statics.now) }
-        ensures err { IfErr result (λ e. e ≡ ParmFault.NoMemory) }
+    #[inline(always)]
+    pub fn new(alloc: Global, given: &[Param<'a>], statics: &Statics) -> Self
+        ensures { state_of result [] ≡ start_of (values_of given.now) statics.now }
     {
-        let params = Params::new(alloc, given).map_err(|_| ParmFault::NoMemory)?;
-        Ok(Machine {
-            params,
+        Machine {
+            params: Params::new(alloc, given),
             dynamics: [0; 26],
             statics: statics.numbers(),
             first_uses: [FirstUse::Unused; 26],
             stack: Stack::new(alloc),
-        })
+        }
     }
 
     /// Whether a static variable was read that had not been set before.
@@ -83,47 +85,56 @@ impl<'a> Machine<'a> {
         reads_first(&self.first_uses)
     }
 
-    /// Runs the code that stands before a place, and says where to go on.
+    /// Runs the code that stands before a place, and says where to go on. The syntax is judged on the
+    /// way, and as a whole where the run meets a fault.
+    #[inline(always)]
     pub fn step<'s>(
         &mut self,
         code: Code,
         behind: &'s [u8],
+        nest: &mut Nest,
         out: &mut Vec<u8>,
     ) -> Result<&'s [u8], ParmFault>
-        requires { HasEnd (before code (ahead behind.now)).behind }
-        ensures ok { IfOk result (λ rest. run_from rest.now (state_of self.new out.new.items) ≡ run_before code behind.now (state_of self.old out.old.items)) }
-        ensures fault { IfErr result (λ e. Fails e (run_before code behind.now (state_of self.old out.old.items))) }
-        ensures judged { IfOk result (λ rest. HasEnd (ahead rest.now).behind) }
+        ensures ok { IfOk result (λ rest. judged_ahead (ahead rest.now) nest.new (state_of self.new out.new.items) ≡ judged_ahead (before code (ahead behind.now)) nest.old (state_of self.old out.old.items)) }
+        ensures fault { IfErr result (λ e. Fails e (judged_ahead (before code (ahead behind.now)) nest.old (state_of self.old out.old.items))) }
         ensures within { IfOk result (λ rest. length rest.now ≤ length behind.now) }
         ensures grows { Extends out.old.items out.new.items }
     {
         match code {
-            Code::Act(action) => {
-                self.act(action, out)?;
+            Code::Act(action) => match self.act(action, out) {
+                Ok(()) => Ok(behind),
+                Err(fault) => Err(first_fault(nest, behind, fault)),
+            },
+            Code::If => {
+                nest.pass(code)?;
                 Ok(behind)
             }
-            Code::If => Ok(behind),
-            Code::Of(mark) => self.pass(mark, behind),
+            Code::Of(mark) => {
+                nest.pass(code)?;
+                self.pass(mark, behind, nest)
+            }
         }
     }
 
     /// Goes on behind a mark, or behind what the mark says to pass over.
-    fn pass<'s>(&mut self, mark: Mark, behind: &'s [u8]) -> Result<&'s [u8], ParmFault>
-        requires { HasEnd (ahead behind.now).behind }
-        ensures ok { IfOk result (λ rest. (output : List ℕ) → run_from rest.now (state_of self.new output) ≡ run_before (Code.Of mark) behind.now (state_of self.old output)) }
-        ensures fault { IfErr result (λ e. (output : List ℕ) → Fails e (run_before (Code.Of mark) behind.now (state_of self.old output))) }
-        ensures judged { IfOk result (λ rest. HasEnd (ahead rest.now).behind) }
+    fn pass<'s>(
+        &mut self,
+        mark: Mark,
+        behind: &'s [u8],
+        nest: &mut Nest,
+    ) -> Result<&'s [u8], ParmFault>
+        ensures judged { IfOk result (λ rest. judged (ahead rest.now).behind nest.new ≡ judged (ahead behind.now).behind nest.old) }
+        ensures ok { IfOk result (λ rest. (output : List ℕ) → HasEnd (ahead behind.now).behind → run_ahead (ahead rest.now) (state_of self.new output) ≡ run_ahead (before (Code.Of mark) (ahead behind.now)) (state_of self.old output)) }
+        ensures fault { IfErr result (λ e. (output : List ℕ) → Fails e (judged_behind (judged (ahead behind.now).behind nest.old) (run_ahead (before (Code.Of mark) (ahead behind.now)) (state_of self.old output)))) }
         ensures within { IfOk result (λ rest. length rest.now ≤ length behind.now) }
     {
         match mark {
-            Mark::Then => {
-                if self.pop_test()? {
-                    Ok(behind)
-                } else {
-                    Ok(skip(behind, true))
-                }
-            }
-            Mark::Else => Ok(skip(behind, false)),
+            Mark::Then => match self.pop_test() {
+                Ok(true) => Ok(behind),
+                Ok(false) => skip(nest, behind, true),
+                Err(fault) => Err(first_fault(nest, behind, fault)),
+            },
+            Mark::Else => skip(nest, behind, false),
             Mark::End => Ok(behind),
         }
     }
@@ -138,6 +149,7 @@ impl<'a> Machine<'a> {
 
     /// Does what one code does.
     #[tactic(auto, unfolding(crate::specs::Meaning::act))]
+    #[inline(always)]
     pub fn act(&mut self, action: Action, out: &mut Vec<u8>) -> Result<(), ParmFault>
         ensures meant { Gives (λ _. state_of self.new out.new.items) result (act action (state_of self.old out.old.items)) }
         ensures grows { Extends out.old.items out.new.items }

@@ -56,9 +56,10 @@ fn branch_behind(mark: Mark, branch: Branch) -> Result<Option<Branch>, ParmFault
 }
 
 impl Nest {
-    ghost use Rattle.std.specs.Prelude.{◌≡◌, [], ◌==◌, IsTrue, ◌↔◌};
-    ghost use Rattle.ti_parm.specs.Fault.{Gives};
-    ghost use Rattle.ti_parm.specs.Nesting.{nest_behind, nest_behind_mark};
+    ghost use Rattle.std.specs.Prelude.{◌≡◌, ◌↔◌, [], IsTrue};
+    ghost use Rattle.ti_parm.specs.Fault.{Answers, Gives};
+    ghost use Rattle.ti_parm.specs.Nesting.{judged, nest_behind, nest_behind_mark};
+    ghost use Rattle.ti_parm.specs.Syntax.{Ends};
 
     /// Outside any conditional.
     pub fn new(alloc: Global) -> Self
@@ -70,13 +71,25 @@ impl Nest {
     }
 
     /// Whether the place is outside any conditional.
-    pub fn is_empty(&self) -> bool
+    fn is_empty(&self) -> bool
         ensures { IsTrue result ↔ (self.now ≡ []) }
     {
         self.branches.is_empty()
     }
 
+    /// Whether a string may end at the place.
+    pub fn end(&self) -> Result<(), ParmFault>
+        ensures { Answers (λ _. tt) result (judged Ends self.now) }
+    {
+        if self.is_empty() {
+            Ok(())
+        } else {
+            Err(ParmFault::BadNest)
+        }
+    }
+
     /// Goes over a code.
+    #[inline(always)]
     pub fn pass(&mut self, code: Code) -> Result<(), ParmFault>
         ensures { Gives (λ _. self.new) result (nest_behind code self.old) }
     {
@@ -91,6 +104,7 @@ impl Nest {
     }
 
     /// Goes over a mark.
+    #[inline(always)]
     fn pass_mark(&mut self, mark: Mark) -> Result<(), ParmFault>
         ensures { Gives (λ _. self.new) result (nest_behind_mark mark self.old) }
     {

@@ -2,7 +2,7 @@
 ghost use Rattle.std.specs.Prelude.{◌≡◌, pos, slice_index_or};
 
 use smallvec::SmallVec;
-use std::alloc::{AllocError, Global};
+use std::alloc::Global;
 use std::marker::Model;
 
 /// A parameter of an expansion.
@@ -38,6 +38,7 @@ impl<'a> Model for Params<'a> {
 }
 
 /// The parameter that is handed in at an index, or 0.
+#[inline(always)]
 fn given_or_zero<'a>(given: &[Param<'a>], index: usize) -> Param<'a>
     ensures { result ≡ slice_index_or given.now index (Param.Number (pos 0)) }
 {
@@ -45,18 +46,30 @@ fn given_or_zero<'a>(given: &[Param<'a>], index: usize) -> Param<'a>
 }
 
 impl<'a> Params<'a> {
-    ghost use Rattle.std.specs.Prelude.{◌≡◌, IfOk, pos, slice_index_or, slice_set};
+    ghost use Rattle.std.specs.Prelude.{◌≡◌, pos, slice_index_or, slice_set};
     ghost use Rattle.ti_parm.specs.Value.{Number, nine, value_of, values_of};
 
     /// The first nine that are handed in, and 0 for those that are not.
-    pub fn new(alloc: Global, given: &[Param<'a>]) -> Result<Self, AllocError>
-        ensures { IfOk result (λ p. p ≡ nine (values_of given.now)) }
+    #[inline(always)]
+    pub fn new(alloc: Global, given: &[Param<'a>]) -> Self
+        ensures { result ≡ nine (values_of given.now) }
     {
-        let mut values = SmallVec::new(alloc);
-        for index in 0..9 {
-            values.push(given_or_zero(given, index))?;
+        Params {
+            values: SmallVec::from_buf(
+                alloc,
+                [
+                    given_or_zero(given, 0),
+                    given_or_zero(given, 1),
+                    given_or_zero(given, 2),
+                    given_or_zero(given, 3),
+                    given_or_zero(given, 4),
+                    given_or_zero(given, 5),
+                    given_or_zero(given, 6),
+                    given_or_zero(given, 7),
+                    given_or_zero(given, 8),
+                ],
+            ),
         }
-        Ok(Params { values })
     }
 
     /// The parameter at an index from 0 on.

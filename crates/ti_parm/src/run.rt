@@ -3,10 +3,10 @@ ghost use Rattle.std.specs.Prelude.{◌≡◌, ◌↔◌, ◌++◌, ◌⊎◌, �
 ghost use Rattle.ti_parm.specs.Delays.{HasNoOpening};
 ghost use Rattle.ti_parm.specs.Fault.{Gives};
 ghost use Rattle.ti_parm.specs.Machine.{state_of};
-ghost use Rattle.ti_parm.specs.Meaning.{Agree, ReadsUnset, State, after, meaning, sent_with, start_of};
-ghost use Rattle.ti_parm.specs.Running.{run_from};
+ghost use Rattle.ti_parm.specs.Meaning.{Agree, ReadsUnset, State, meaning, sent_with, start_of};
+ghost use Rattle.ti_parm.specs.Running.{judged_run};
 ghost use Rattle.ti_parm.specs.Spelling.{IsAnswer, Spells};
-ghost use Rattle.ti_parm.specs.Syntax.{HasEnd, IsPlain, Parts, ahead, syntax, verdict};
+ghost use Rattle.ti_parm.specs.Syntax.{IsPlain, Parts, syntax};
 ghost use Rattle.ti_parm.specs.Value.{Value, values_of, zeros};
 
 use crate::code::next_code;
@@ -14,59 +14,27 @@ use crate::fault::ParmFault;
 use crate::machine::Machine;
 use crate::nest::Nest;
 use crate::param::Param;
-use crate::skip::judged_code;
 use crate::statics::Statics;
 use std::alloc::Global;
 
-/// Finds the first fault of a string's syntax.
-fn judge(alloc: Global, string: &[u8]) -> Result<(), ParmFault>
-    ensures { Gives (λ _. tt) result (verdict string.now) }
-{
-    let mut rest = string;
-    let mut nest = Nest::new(alloc);
-    while !rest.is_empty() {
-        let (code, behind) = next_code(rest)?;
-        nest.pass(code)?;
-        rest = behind;
-    }
-    if nest.is_empty() {
-        Ok(())
-    } else {
-        Err(ParmFault::BadNest)
-    }
-}
-
-/// Runs a string whose syntax has no fault, from the machine's state on.
-fn run(machine: &mut Machine, string: &[u8], out: &mut Vec<u8>) -> Result<(), ParmFault>
-    requires { HasEnd (ahead string.now).behind }
-    ensures meant { Gives (λ _. state_of machine.new out.new.items) result (run_from string.now (state_of machine.old out.old.items)) }
-    ensures kept { OnErr result (take (length out.old.items) out.new.items ≡ out.old.items) }
-{
-    let mut rest = string;
-    while !rest.is_empty() {
-        let (code, behind) = judged_code(rest);
-        rest = machine.step(code, behind, out)?;
-    }
-    Ok(())
-}
-
-/// Judges a string, and runs it from the start on, behind what `out` has already. Where that fails
-/// a part may have been written.
-fn run_whole<'a>(
+/// Judges a string and runs it, from the machine's state on, behind what `out` has already, in one way
+/// over it. Where that fails a part may have been written.
+fn run(
     alloc: Global,
     string: &[u8],
-    params: &[Param<'a>],
-    statics: &Statics,
+    machine: &mut Machine,
     out: &mut Vec<u8>,
-) -> Result<Machine<'a>, ParmFault>
-    ensures ok { IfOk result (λ machine. (end : State) × (meaning string.now (values_of params.now) statics.now ≡ Ok end) × (state_of machine out.new.items ≡ after out.old.items end)) }
-    ensures fault { IfErr result (λ e. (e ≡ ParmFault.NoMemory) ⊎ (meaning string.now (values_of params.now) statics.now ≡ Err e)) }
+) -> Result<(), ParmFault>
+    ensures meant { Gives (λ _. state_of machine.new out.new.items) result (judged_run string.now (state_of machine.old out.old.items)) }
     ensures kept { OnErr result (take (length out.old.items) out.new.items ≡ out.old.items) }
 {
-    judge(alloc, string)?;
-    let mut machine = Machine::new(alloc, params, statics)?;
-    run(&mut machine, string, out)?;
-    Ok(machine)
+    let mut nest = Nest::new(alloc);
+    let mut rest = string;
+    while !rest.is_empty() {
+        let (code, behind) = next_code(rest)?;
+        rest = machine.step(code, behind, &mut nest, out)?;
+    }
+    nest.end()
 }
 
 /// Expands a parameter string: appends to `out` the bytes that it sends for these parameters, and
@@ -91,8 +59,9 @@ pub fn expand(
     ensures unset { OnErr result (statics.new ≡ statics.old) }
 {
     let written = out.len();
-    match run_whole(alloc, string, params, statics, out) {
-        Ok(machine) => {
+    let mut machine = Machine::new(alloc, params, statics);
+    match run(alloc, string, &mut machine, out) {
+        Ok(()) => {
             statics.replace(machine.statics);
             Ok(())
         }
@@ -116,7 +85,8 @@ pub fn reads_unset(alloc: Global, string: &[u8], params: &[Param]) -> Result<boo
 {
     let mut out = Vec::new(alloc);
     let statics = Statics::new();
-    let machine = run_whole(alloc, string, params, &statics, &mut out)?;
+    let mut machine = Machine::new(alloc, params, &statics);
+    run(alloc, string, &mut machine, &mut out)?;
     Ok(machine.reads_unset())
 }
 

@@ -1,26 +1,17 @@
 // Going over the parts of a conditional that are not run.
-ghost use Rattle.std.specs.Prelude.{◌≡◌, ◌+◌, ◌<◌, ◌≤◌, ◌^◌, Ok, length};
-ghost use Rattle.ti_parm.specs.Codes.{code_at};
+ghost use Rattle.std.specs.Prelude.{◌≡◌, ◌<◌, ◌≤◌, ◌^◌, IfErr, IfOk, length};
+ghost use Rattle.ti_parm.specs.Fault.{Fails};
+ghost use Rattle.ti_parm.specs.Nesting.{judged};
 ghost use Rattle.ti_parm.specs.Skipping.{depth_behind, past};
 ghost use Rattle.ti_parm.specs.Syntax.{HasEnd, ahead};
 
 use crate::code::{Code, Mark, next_code};
-
-/// The code at the front of what is left of a string whose syntax has been judged, and what follows.
-pub fn judged_code(text: &[u8]) -> (Code, &[u8])
-    requires some { 0 < length text.now }
-    requires judged { HasEnd (ahead text.now).behind }
-    ensures code { code_at text.now ≡ Ok (result.0, result.1.now) }
-    ensures shorter { length result.1.now < length text.now }
-{
-    match next_code(text) {
-        Ok(read) => read,
-        Err(_) => unreachable!(),
-    }
-}
+use crate::fault::ParmFault;
+use crate::nest::Nest;
 
 /// How many conditionals deep the place behind a code is, or nothing if the way ends there: at the
 /// `%;` of the conditional that it began in, or, if wanted, at its `%e`.
+#[inline(always)]
 fn depth_behind(code: Code, depth: usize, to_else: bool) -> Option<usize>
     requires { depth < 2 ^ 63 }
     ensures { result ≡ depth_behind code depth to_else }
@@ -34,21 +25,25 @@ fn depth_behind(code: Code, depth: usize, to_else: bool) -> Option<usize>
     }
 }
 
-/// What follows the `%;` of the conditional that a text begins in, or, if wanted, its first `%e`.
-pub fn skip(text: &[u8], to_else: bool) -> &[u8]
-    requires { HasEnd (ahead text.now).behind }
-    ensures past { ahead result.now ≡ past to_else 0 (ahead text.now).behind }
-    ensures within { length result.now ≤ length text.now }
+/// What follows the `%;` of the conditional that a text begins in, or, if wanted, its first `%e`. The
+/// syntax is judged on the way.
+#[inline(always)]
+pub fn skip<'s>(nest: &mut Nest, text: &'s [u8], to_else: bool) -> Result<&'s [u8], ParmFault>
+    ensures judged { IfOk result (λ rest. judged (ahead rest.now).behind nest.new ≡ judged (ahead text.now).behind nest.old) }
+    ensures past { IfOk result (λ rest. HasEnd (ahead text.now).behind → ahead rest.now ≡ past to_else 0 (ahead text.now).behind) }
+    ensures within { IfOk result (λ rest. length rest.now ≤ length text.now) }
+    ensures fault { IfErr result (λ e. Fails e (judged (ahead text.now).behind nest.old)) }
 {
     let mut rest = text;
     let mut depth = 0;
     while !rest.is_empty() {
-        let (code, behind) = judged_code(rest);
+        let (code, behind) = next_code(rest)?;
+        nest.pass(code)?;
         rest = behind;
         match depth_behind(code, depth, to_else) {
             Some(further) => depth = further,
-            None => return rest,
+            None => return Ok(rest),
         }
     }
-    rest
+    Ok(rest)
 }

@@ -1,10 +1,26 @@
-use Rattle.std.proofs.Common.{◌≡◌, [], ap, sym, ◌∙◌}
-use Rattle.ti_parm.specs.Meaning.{meaning}
-use Rattle.ti_parm.specs.Value.{values_of}
+use Rattle.std.proofs.Common.{◌≡◌, [], ap, ◌∙◌}
+use Rattle.std.proofs.lemmas.Result.{err_from_is_err_and}
+use Rattle.ti_parm.specs.Machine.{state_of}
+use Rattle.ti_parm.specs.Meaning.{start_of}
+use Rattle.ti_parm.specs.Value.{values_of, zeros}
+use Rattle.ti_parm.proofs.Expansion.{begin, meaning-ends, meaning-fails}
 use Rattle.ti_parm.proofs.run.reads_unset.Goals as goal
 
 pub returns-clause-ok : goal.returns-clause-ok
 returns-clause-ok c =
-    let all = c.in_ok-machine.ensures.ok in
-    let uses : c.in_ok-machine.machine.first_uses ≡ all.0.first_uses = ap (λ s. s.first_uses) all.2 in
-    (all.0, ap (meaning c.args.string.now (values_of c.args.params.now)) (sym c.new-statics.ensures) ∙ all.1, rw (← uses) (c.reads_unset.ensures []))
+    let given = values_of c.args.params.now in
+    let before = c.new-out.result.items in
+    let machine = c.new-machine.result in
+    let start = begin machine before given zeros (c.new-machine.ensures ∙ ap (start_of given) c.new-statics.ensures) in
+    let all = meaning-ends c.args.string.now before given zeros (state_of machine before) _ start c.in_ok-run.ensures.meant in
+    let uses : c.run.new.machine.first_uses ≡ all.0.first_uses = ap (λ s. s.first_uses) all.2 in
+    (all.0, all.1, rw (← uses) (c.reads_unset.ensures []))
+
+pub returns-in_err-run-clause-fault : goal.returns-in_err-run-clause-fault
+returns-in_err-run-clause-fault c =
+    let p = err_from_is_err_and c.from_residual.result c.from_residual.ensures.1 in
+    let given = values_of c.args.params.now in
+    let before = c.new-out.result.items in
+    let machine = c.new-machine.result in
+    let start = begin machine before given zeros (c.new-machine.ensures ∙ ap (start_of given) c.new-statics.ensures) in
+    rw (p.1, p.2) (meaning-fails c.args.string.now before given zeros (state_of machine before) _ start c.in_err-run.ensures.meant)

@@ -1,0 +1,33 @@
+// The faults of a string's syntax.
+ghost use Rattle.std.specs.Prelude.{◌≡◌, ◌⊎◌, Ok};
+ghost use Rattle.ti_parm.specs.Fault.{Fails, Gives};
+ghost use Rattle.ti_parm.specs.Nesting.{judged};
+ghost use Rattle.ti_parm.specs.Syntax.{ahead};
+
+use crate::code::next_code;
+use crate::fault::ParmFault;
+use crate::nest::Nest;
+
+/// Finds the first fault of the syntax from a place on that lies in these conditionals.
+fn judge(nest: &mut Nest, text: &[u8]) -> Result<(), ParmFault>
+    ensures { Gives (λ _. tt) result (judged (ahead text.now).behind nest.old) }
+{
+    let mut rest = text;
+    while !rest.is_empty() {
+        let (code, behind) = next_code(rest)?;
+        nest.pass(code)?;
+        rest = behind;
+    }
+    nest.end()
+}
+
+/// The first fault of the syntax from a place on that lies in these conditionals, or, if it has none,
+/// the fault that a run met before the place.
+pub fn first_fault(nest: &mut Nest, text: &[u8], fault: ParmFault) -> ParmFault
+    ensures { ((judged (ahead text.now).behind nest.old ≡ Ok tt) × (result ≡ fault)) ⊎ Fails result (judged (ahead text.now).behind nest.old) }
+{
+    match judge(nest, text) {
+        Ok(()) => fault,
+        Err(first) => first,
+    }
+}
