@@ -1,0 +1,21 @@
+//! Cells, grids of them, and what a call does to one window and the grid under it.
+#![tactic(auto)]
+
+mod areas;
+mod cells;
+mod grids;
+mod lines;
+mod puts;
+mod refusals;
+mod shifting;
+#[cfg(test)]
+mod tests;
+mod windows;
+mod writing;
+
+pub use areas::{Area, Place};
+pub use cells::{Attrs, Cell};
+pub use grids::Grid;
+pub use puts::{Border, Put};
+pub use refusals::Refusal;
+pub use windows::Window;

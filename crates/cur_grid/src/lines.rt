@@ -1,0 +1,51 @@
+ghost use Rattle.std.specs.Prelude.{◌≡◌, ◌<◌, length, replicate, slice_set, slice_index_or, IfOk};
+ghost use Rattle.cur_grid.specs.Cells.{space};
+
+use crate::cells::Cell;
+use std::alloc::{AllocError, Global};
+use std::marker::Model;
+
+/// One line of a grid.
+#[derive(Drop)]
+pub(crate) struct Line {
+    cells: Vec<Cell>,
+}
+
+impl Model for Line {
+    ghost use Rattle.std.specs.Prelude.{List};
+    ghost use Rattle.cur_grid.specs.Cells.{Content};
+
+    ghost Value = { List Content };
+
+    ghost view = { λ l. l.cells.items };
+}
+
+impl Line {
+    pub fn new(alloc: Global, cols: usize, cell: Cell) -> Result<Line, AllocError>
+        ensures { IfOk result (λ line. line ≡ replicate cols cell) }
+    {
+        Ok(Line {
+            cells: vec![in alloc; cell; cols]?,
+        })
+    }
+
+    pub fn cells(&self) -> &[Cell]
+        ensures { result.now ≡ self.now }
+    {
+        &self.cells
+    }
+
+    pub fn get(&self, col: usize) -> Cell
+        requires { col < length self.now }
+        ensures { result ≡ slice_index_or self.now col space }
+    {
+        self.cells[col]
+    }
+
+    pub fn set(&mut self, col: usize, cell: Cell)
+        requires { col < length self.old }
+        ensures { self.new ≡ slice_set self.old col cell }
+    {
+        self.cells[col] = cell;
+    }
+}

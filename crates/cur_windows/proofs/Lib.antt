@@ -1,0 +1,4 @@
+pub mod Closing
+pub mod Settling
+pub mod Showing
+pub mod Viewing

@@ -1,0 +1,5 @@
+use Rattle.cur_windows.proofs.Closing.{closes_grid}
+use Rattle.cur_windows.proofs.desks.Desk.delch.Goals as goal
+
+pub invariant_of-self : goal.invariant_of-self
+invariant_of-self c = closes_grid _ _ c.args.id _ _ _ c.self.view_is c.self.invariant c.in_ok-slot.ensures.there c.index_mut-grid.ensures.value c.delete_char.ensures.shape

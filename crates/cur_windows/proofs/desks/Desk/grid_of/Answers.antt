@@ -1,0 +1,5 @@
+use Rattle.cur_windows.proofs.Showing.{grid_read}
+use Rattle.cur_windows.proofs.desks.Desk.grid_of.Goals as goal
+
+pub returns : goal.returns
+returns c = grid_read _ _ c.args.slot.now.root c.index.result.now c.self.view_is c.self.invariant c.requires c.index.ensures

@@ -1,0 +1,5 @@
+use Rattle.cur_windows.proofs.Closing.{closes_window}
+use Rattle.cur_windows.proofs.desks.Desk.setscrreg.Goals as goal
+
+pub invariant_of-self : goal.invariant_of-self
+invariant_of-self c = closes_window _ _ c.args.id _ _ c.self.view_is c.self.invariant c.in_ok-slot.ensures.there c.set_region-answer.ensures.area c.set_region-answer.ensures.legal

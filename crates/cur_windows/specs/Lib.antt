@@ -1,0 +1,4 @@
+pub mod Desks
+pub mod Making
+pub mod Screens
+pub mod Views

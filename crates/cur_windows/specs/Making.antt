@@ -1,0 +1,166 @@
+-- Making, moving and deleting windows (X/Open Curses Issue 7, newwin, subwin, derwin, delwin, mvwin).
+use Rattle.std.specs.Prelude.{◌≡◌, ℕ, ◌+◌, ◌-◌, ◌<◌, ◌≤◌, ◌==◌, ◌&&◌, ◌||◌, nat_lt, nat_le, not, List, [], ◌∷◌, length, slice_index_or, slice_set, Bool, true, false, Option, Some, None, IsSome, Result, Ok, Err, if◌then◌else◌, ℤ, pos, negsuc, ◌-ℤ◌}
+use Rattle.cur_grid.specs.declared.areas.Area.{Area}
+use Rattle.cur_grid.specs.declared.refusals.Refusal.{Refusal}
+use Rattle.cur_grid.specs.declared.refusals.Refusal.TheVariants.{NoWindow, Full, NumberUsed, BadRegion, OutOfScreen, OutOfWindow, PadKind, IsScreen, HasChildren, IsSub}
+use Rattle.cur_grid.specs.declared.windows.Window.{Window}
+use Rattle.cur_grid.specs.Grids.{Grid, blank, line_at, copied}
+use Rattle.cur_grid.specs.Windows.{fresh}
+use Rattle.cur_grid.specs.Sheets.{place}
+use Rattle.cur_windows.specs.declared.parts.Stretch.{Stretch}
+use Rattle.cur_windows.specs.declared.slots.Origin.{Origin}
+use Rattle.cur_windows.specs.declared.slots.Slot.{Slot}
+use Rattle.cur_windows.specs.Desks.{State, DeskStep, after, slot_of, grid_at, origin_at, window_at, on_screen, whole_area, new_slot}
+
+abbrev pub is_some_slot : Option Slot → Bool
+is_some_slot (Some s) = true
+is_some_slot None = false
+
+-- a number for a new window
+abbrev pub free : State → ℕ → Result (Unit {0}) Refusal
+free d n = if nat_lt 63 n then Err Full else if is_some_slot (window_at d n) then Err NumberUsed else Ok tt
+
+-- so many lines or columns from a place on, or, where the number is 0, all up to the limit; none if they aren't all there
+abbrev pub span : ℤ → ℤ → ℕ → Option Stretch
+span (pos n) (pos at) limit =
+    if nat_lt at limit then
+    (if n == 0 then Some (record { at = at; size = limit - at })
+    else if nat_le n (limit - at) then Some (record { at = at; size = n })
+    else None)
+    else None
+span (pos n) (negsuc at) limit = None
+span (negsuc n) at limit = None
+
+abbrev pub is_negative : ℤ → Bool
+is_negative (pos n) = false
+is_negative (negsuc n) = true
+
+abbrev pub crossed : Option Stretch → Option Stretch → Refusal → Result Area Refusal
+crossed (Some v) (Some h) outside = Ok (record { top = v.at; left = h.at; rows = v.size; cols = h.size })
+crossed (Some v) None outside = Err outside
+crossed None h outside = Err outside
+
+-- the rectangle of a size at a place, in so many rows and columns
+abbrev pub part : ℕ → ℕ → ℤ → ℤ → ℤ → ℤ → Refusal → Result Area Refusal
+part height width lines cols y x outside =
+    if is_negative lines || is_negative cols then Err BadRegion
+    else crossed (span lines y height) (span cols x width) outside
+
+-- a rectangle with places, within so many rows and columns
+pub record IsPart (height width : ℕ) (a : Area) : Type 0 where
+  pub rows : 0 < a.rows
+  pub cols : 0 < a.cols
+  pub bottom : a.top + a.rows ≤ height
+  pub right : a.left + a.cols ≤ width
+
+-- window n comes to be, with a grid of its own
+abbrev pub settled : State → ℕ → Grid → Origin → Window → State
+settled d n g o w = record d {
+  grids = slice_set d.grids n g;
+  origins = slice_set d.origins n o;
+  windows = slice_set d.windows n (Some (record { root = n; parent = None; window = w }));
+}
+
+-- newwin
+abbrev pub newwin : State → ℕ → ℤ → ℤ → ℤ → ℤ → DeskStep
+newwin d n lines cols y x =
+    after (free d n) d (λ u. after (part d.rows d.cols lines cols y x OutOfScreen) d (λ a.
+    (settled d n (blank a.rows a.cols) (on_screen a.top a.left false) (fresh (whole_area a.rows a.cols)), Ok tt)))
+
+-- a rectangle of a window, in the places of its grid
+abbrev pub inside : Area → Area → Area
+inside outer a = record a { top = outer.top + a.top; left = outer.left + a.left }
+
+-- window n comes to be as a part of another one
+abbrev pub parted : State → ℕ → ℕ → Slot → Area → State
+parted d n parent s a = record d { windows = slice_set d.windows n (Some (record { root = s.root; parent = Some parent; window = fresh (inside s.window.area a) })) }
+
+-- a window that is no pad
+abbrev pub window_only : State → Slot → Result (Unit {0}) Refusal
+window_only d s = if (origin_at d s.root).pad then Err PadKind else Ok tt
+
+-- both numbers name places for windows
+abbrev pub in_range : ℕ → ℕ → Result (Unit {0}) Refusal
+in_range n w = if nat_lt 63 n || nat_lt 63 w then Err Full else Ok tt
+
+-- a part of window w, at a place that counts from (top, left) of it
+abbrev pub part_from : State → ℕ → ℕ → Slot → ℤ → ℤ → ℤ → ℤ → DeskStep
+part_from d n w s lines cols y x =
+    after (part s.window.area.rows s.window.area.cols lines cols y x OutOfWindow) d (λ a. (parted d n w s a, Ok tt))
+
+-- derwin: the place counts from the window's corner
+abbrev pub derwin : State → ℕ → ℕ → ℤ → ℤ → ℤ → ℤ → DeskStep
+derwin d n w lines cols y x =
+    after (in_range n w) d (λ u. after (free d n) d (λ u. after (slot_of d w) d (λ s. after (window_only d s) d (λ u.
+    part_from d n w s lines cols y x))))
+
+-- the place of a window's corner on the screen
+abbrev pub corner : State → Slot → ℕ × ℕ
+corner d s = ((origin_at d s.root).top + s.window.area.top, (origin_at d s.root).left + s.window.area.left)
+
+-- subwin: the place counts from the screen's corner
+abbrev pub subwin : State → ℕ → ℕ → ℤ → ℤ → ℤ → ℤ → DeskStep
+subwin d n w lines cols y x =
+    after (in_range n w) d (λ u. after (free d n) d (λ u. after (slot_of d w) d (λ s. after (window_only d s) d (λ u.
+    part_from d n w s lines cols (y -ℤ pos (corner d s).0) (x -ℤ pos (corner d s).1)))))
+
+-- a window has window n as its parent, or n's grid
+abbrev pub is_parent : ℕ → Option ℕ → Bool
+is_parent n (Some p) = p == n
+is_parent n None = false
+
+abbrev pub is_child : ℕ → ℕ → Option Slot → Bool
+is_child n k (Some s) = not (k == n) && (is_parent n s.parent || (s.root == n))
+is_child n k None = false
+
+-- one of these windows does, the first of which is window k
+abbrev pub has_child : ℕ → ℕ → List (Option Slot) → Bool
+has_child n k [] = false
+has_child n k (o ∷ os) = is_child n k o || has_child n (k + 1) os
+
+abbrev pub childless : State → ℕ → Result (Unit {0}) Refusal
+childless d n = if n == 0 then Err IsScreen else if has_child n 0 d.windows then Err HasChildren else Ok tt
+
+-- delwin
+abbrev pub delwin : State → ℕ → DeskStep
+delwin d n = after (slot_of d n) d (λ s. after (childless d n) d (λ u.
+    (record d { grids = slice_set d.grids n []; windows = slice_set d.windows n None }, Ok tt)))
+
+abbrev pub no_sub : Option ℕ → Result (Unit {0}) Refusal
+no_sub None = Ok tt
+no_sub (Some p) = Err IsSub
+
+-- the place of so many lines or columns, if they are all below the limit
+abbrev pub spot : ℤ → ℕ → ℕ → Option ℕ
+spot (pos at) size limit = if nat_le (at + size) limit then Some at else None
+spot (negsuc at) size limit = None
+
+abbrev pub moved : State → Slot → Option ℕ → Option ℕ → DeskStep
+moved d s (Some y) (Some x) = (record d { origins = slice_set d.origins s.root (on_screen y x false) }, Ok tt)
+moved d s (Some y) None = (d, Err OutOfScreen)
+moved d s None x = (d, Err OutOfScreen)
+
+-- mvwin: its subwindows go with it, since they lie in its grid
+abbrev pub mvwin : State → ℕ → ℤ → ℤ → DeskStep
+mvwin d n y x = after (slot_of d n) d (λ s. after (window_only d s) d (λ u. after (no_sub s.parent) d (λ u.
+    moved d s (spot y s.window.area.rows d.rows) (spot x s.window.area.cols d.cols))))
+
+-- a grid of a window that lies on the screen at a place
+pub record IsInFrame (height width : ℕ) (o : Origin) (g : Grid) : Type 0 where
+  pub high : o.top + length g ≤ height
+  pub wide : (i : ℕ) → i < length g → o.left + length (line_at g i) ≤ width
+
+-- where the copy of a window lies: where the window does; a pad lies nowhere
+abbrev pub copy_origin : State → Slot → Origin
+copy_origin d s = if (origin_at d s.root).pad then on_screen 0 0 true else on_screen (corner d s).0 (corner d s).1 false
+
+-- the copy's grid: the window's cells
+abbrev pub copy_grid : State → Slot → Grid
+copy_grid d s = copied (whole_area s.window.area.rows s.window.area.cols) (place s.window.area.top s.window.area.left) false (grid_at d s.root)
+    (blank s.window.area.rows s.window.area.cols)
+
+-- dupwin: a window of its own with the same cells, cursor, attributes, background and options
+abbrev pub dupwin : State → ℕ → ℕ → DeskStep
+dupwin d n w =
+    after (in_range n w) d (λ u. after (free d n) d (λ u. after (slot_of d w) d (λ s.
+    (settled d n (copy_grid d s) (copy_origin d s) (record s.window { area = whole_area s.window.area.rows s.window.area.cols }), Ok tt))))

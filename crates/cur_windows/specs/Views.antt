@@ -1,0 +1,28 @@
+-- What is seen of a window: its cells, as a grid of its own.
+use Rattle.std.specs.Prelude.{◌≡◌, ◌+◌, ◌≤◌, ℕ, List, map, take, drop, Result, Ok, Err}
+use Rattle.cur_grid.specs.declared.areas.Area.{Area}
+use Rattle.cur_grid.specs.declared.refusals.Refusal.{Refusal}
+use Rattle.cur_grid.specs.Cells.{Content}
+use Rattle.cur_grid.specs.Grids.{Grid, Fits}
+use Rattle.cur_windows.specs.declared.slots.Slot.{Slot}
+use Rattle.cur_windows.specs.Desks.{State, grid_at, slot_of}
+
+-- the places of a line that a rectangle has
+abbrev pub cut : Area → List Content → List Content
+cut a line = take a.cols (drop a.left line)
+
+abbrev pub window_cells : Area → Grid → Grid
+window_cells a g = map (cut a) (take a.rows (drop a.top g))
+
+-- a rectangle that lies in its grid
+pub record IsSeen (a : Area) (g : Grid) : Type 0 where
+  pub fits : Fits a g
+  pub height : a.top + a.rows ≤ 1000
+
+abbrev pub seen_of : State → Result Slot Refusal → Result Grid Refusal
+seen_of d (Ok s) = Ok (window_cells s.window.area (grid_at d s.root))
+seen_of d (Err e) = Err e
+
+-- the cells of the window of a number
+abbrev pub seen : State → ℕ → Result Grid Refusal
+seen d n = seen_of d (slot_of d n)

@@ -1,0 +1,113 @@
+ghost use Rattle.std.specs.Prelude.{◌≡◌, ◌<◌, ◌≤◌, Some, None, IfOk, [], replicate, false};
+ghost use Rattle.cur_windows.specs.Desks as spec;
+ghost use Rattle.cur_windows.specs.Desks.{IsPlaced, IsDesk, IsSize};
+
+use crate::slots::{Origin, Slot};
+use cur_grid::{Area, Grid, Refusal, Window};
+use std::alloc::{AllocError, Global};
+use std::marker::Model;
+
+// How many windows there may be.
+const PLACES: usize = 64;
+
+/// The windows of a screen. Numbers 0 to 63 name them; 0 is the screen's own and always there.
+#[derive(Drop)]
+pub struct Desk {
+    pub(crate) alloc: Global,
+    pub(crate) rows: u16,
+    pub(crate) cols: u16,
+    pub(crate) grids: Vec<Grid>,
+    pub(crate) origins: Vec<Origin>,
+    pub(crate) windows: Vec<Option<Slot>>,
+}
+
+impl Model for Desk {
+    ghost use Rattle.cur_windows.specs.Desks.{State, IsDesk};
+
+    ghost Value = { State };
+
+    ghost view = { λ d. record { rows = d.rows; cols = d.cols; grids = d.grids.items; origins = d.origins.items; windows = d.windows.items } };
+
+    ghost invariant = { λ d. IsDesk (record { rows = d.rows; cols = d.cols; grids = d.grids.items; origins = d.origins.items; windows = d.windows.items }) };
+}
+
+impl Desk {
+    /// A desk with window 0 over a screen of so many rows and columns, of spaces without attributes.
+    pub fn new(alloc: Global, rows: u16, cols: u16) -> Result<Desk, AllocError>
+        requires { IsSize rows cols }
+        ensures { IfOk result (λ desk. desk ≡ spec.new_desk rows cols) }
+    {
+        let whole = Area {
+            top: 0,
+            left: 0,
+            rows,
+            cols,
+        };
+        let mut grids = empty_grids(alloc)?;
+        let mut windows = no_windows(alloc)?;
+        let origins = screen_origins(alloc)?;
+        grids[0] = Grid::new(alloc, rows, cols)?;
+        windows[0] = Some(Slot {
+            root: 0,
+            parent: None,
+            window: Window::new(whole),
+        });
+        Ok(Desk {
+            alloc,
+            rows,
+            cols,
+            grids,
+            origins,
+            windows,
+        })
+    }
+
+    pub(crate) fn find(&self, id: usize) -> Result<Slot, Refusal>
+        ensures value { result ≡ spec.slot_of self.now id }
+        ensures placed { IfOk result (λ s. IsPlaced self.now id s) }
+        ensures there { IfOk result (λ s. (id < 64) × (spec.window_at self.now id ≡ Some s)) }
+    {
+        if id > 63 {
+            return Err(Refusal::Full);
+        }
+        let Some(slot) = self.windows[id] else {
+            return Err(Refusal::NoWindow);
+        };
+        Ok(slot)
+    }
+}
+
+fn empty_grids(alloc: Global) -> Result<Vec<Grid>, AllocError>
+    ensures { IfOk result (λ grids. grids.items ≡ replicate 64 []) }
+{
+    let mut grids = Vec::with_capacity(alloc, PLACES)?;
+    for _k in 0..PLACES {
+        grids.push(Grid::empty(alloc))?;
+    }
+    Ok(grids)
+}
+
+fn screen_origins(alloc: Global) -> Result<Vec<Origin>, AllocError>
+    ensures { IfOk result (λ origins. origins.items ≡ replicate 64 (spec.on_screen 0 0 false)) }
+{
+    let corner = Origin {
+        top: 0,
+        left: 0,
+        pad: false,
+    };
+    let mut origins = Vec::with_capacity(alloc, PLACES)?;
+    for _k in 0..PLACES {
+        origins.push(corner)?;
+    }
+    Ok(origins)
+}
+
+fn no_windows(alloc: Global) -> Result<Vec<Option<Slot>>, AllocError>
+    ensures { IfOk result (λ windows. windows.items ≡ replicate 64 None) }
+{
+    let mut windows = Vec::with_capacity(alloc, PLACES)?;
+    for _k in 0..PLACES {
+        windows.push(None)?;
+    }
+    Ok(windows)
+}

@@ -1,0 +1,165 @@
+ghost use Rattle.std.specs.Prelude.{◌≡◌, ◌<◌, ◌≤◌, ◌+◌, IfOk, IfSome, replicate};
+ghost use Rattle.cur_grid.specs.Grids.{Fits, line_at, moved_to};
+ghost use Rattle.cur_grid.specs.Windows.{place_below};
+ghost use Rattle.cur_windows.specs.Desks.{IsSize};
+ghost use Rattle.cur_windows.specs.Screens as spec;
+
+use cur_grid::{Area, Cell, Grid, Place, Refusal};
+use std::alloc::{AllocError, Global};
+use std::marker::Model;
+
+// How many colour pairs there are.
+const PAIRS: usize = 64;
+
+/// The colours of a pair, 0 to 7 in the order of ECMA-48's SGR. None is the terminal's own.
+#[derive(Clone, Copy)]
+pub struct Colors {
+    pub foreground: Option<u8>,
+    pub background: Option<u8>,
+}
+
+/// What the terminal is to show: cells, a cursor or none, and the colours of the pairs.
+#[derive(Drop)]
+pub struct Virtual {
+    rows: u16,
+    cols: u16,
+    grid: Grid,
+    cursor: Option<Place>,
+    clearok: bool,
+    pairs: Vec<Colors>,
+}
+
+impl Model for Virtual {
+    ghost use Rattle.cur_windows.specs.Screens.{Screen, IsScreen};
+
+    ghost Value = { Screen };
+
+    ghost view = { λ v. record { rows = v.rows; cols = v.cols; grid = v.grid; cursor = v.cursor; clearok = v.clearok; pairs = v.pairs.items } };
+
+    ghost invariant = { λ v. IsScreen (record { rows = v.rows; cols = v.cols; grid = v.grid; cursor = v.cursor; clearok = v.clearok; pairs = v.pairs.items }) };
+}
+
+impl Virtual {
+    /// The first screen: spaces without attributes, the cursor at the corner, all pairs default on default.
+    pub fn new(alloc: Global, rows: u16, cols: u16) -> Result<Virtual, AllocError>
+        requires { IsSize rows cols }
+        ensures { IfOk result (λ screen. screen ≡ spec.new_screen rows cols) }
+    {
+        let pairs = default_pairs(alloc)?;
+        Ok(Virtual {
+            rows,
+            cols,
+            grid: Grid::new(alloc, rows, cols)?,
+            cursor: Some(Place { top: 0, left: 0 }),
+            clearok: false,
+            pairs,
+        })
+    }
+
+    /// One line. That it is on the screen is the caller's condition.
+    pub fn row(&self, y: usize) -> &[Cell]
+        requires { y < (self.now).rows }
+        ensures value { result.now ≡ line_at (self.now).grid y }
+        ensures legal { spec.IsScreen self.now }
+    {
+        self.grid.line(y)
+    }
+
+    /// Where the cursor is to stand, or none where it may stand anywhere.
+    pub fn cursor(&self) -> Option<Place>
+        ensures { result ≡ (self.now).cursor }
+    {
+        self.cursor
+    }
+
+    /// Whether the terminal is to be cleared first.
+    pub fn clearok(&self) -> bool
+        ensures { result ≡ (self.now).clearok }
+    {
+        self.clearok
+    }
+
+    /// To be called after a refresh that was done: nothing is to be cleared any more.
+    pub fn shown(&mut self)
+        ensures { self.new ≡ spec.refreshed self.old }
+    {
+        self.clearok = false;
+    }
+
+    /// The colours of a pair (`init_pair`). `BadPair` for a pair that isn't 1 to 63, or a colour that isn't 0 to 7; then
+    /// nothing has changed.
+    pub fn init_pair(&mut self, pair: i32, foreground: i32, background: i32) -> Result<(), Refusal>
+        ensures { (self.new, result) ≡ spec.init_pair pair foreground background self.old }
+    {
+        let Some(pair) = number_below(pair, 64) else {
+            return Err(Refusal::BadPair);
+        };
+        let Some(foreground) = number_below(foreground, 8) else {
+            return Err(Refusal::BadPair);
+        };
+        let Some(background) = number_below(background, 8) else {
+            return Err(Refusal::BadPair);
+        };
+        if pair == 0 {
+            return Err(Refusal::BadPair);
+        }
+        self.pairs[pair as usize] = Colors {
+            foreground: Some(foreground),
+            background: Some(background),
+        };
+        Ok(())
+    }
+
+    /// The colours of a pair below 64, which is the caller's condition: foreground and background.
+    pub fn pair(&self, pair: usize) -> (Option<u8>, Option<u8>)
+        requires { pair < 64 }
+        ensures { result ≡ ((spec.colors_at self.now pair).foreground, (spec.colors_at self.now pair).background) }
+    {
+        let colors = self.pairs[pair];
+        (colors.foreground, colors.background)
+    }
+
+    // A rectangle gets the cells of a grid from a place on.
+    pub(crate) fn show(
+        &mut self,
+        area: Area,
+        grid: &Grid,
+        from: Place,
+        cursor: Option<Place>,
+        clears: bool,
+    )
+        requires rows { area.top + area.rows ≤ (self.old).rows }
+        requires cols { area.left + area.cols ≤ (self.old).cols }
+        requires source { Fits (moved_to area from) grid.now }
+        requires cursor { IfSome cursor (λ p. (p.top < (self.old).rows) × (p.left < (self.old).cols)) }
+        ensures { self.new ≡ spec.shown area grid.now from cursor clears self.old }
+    {
+        self.grid.copy_from(area, grid, from, false);
+        self.cursor = cursor;
+        self.clearok = self.clearok | clears;
+    }
+}
+
+fn default_pairs(alloc: Global) -> Result<Vec<Colors>, AllocError>
+    ensures { IfOk result (λ pairs. pairs.items ≡ replicate 64 spec.default_colors) }
+{
+    let colors = Colors {
+        foreground: None,
+        background: None,
+    };
+    let mut pairs = Vec::with_capacity(alloc, PAIRS)?;
+    for _k in 0..PAIRS {
+        pairs.push(colors)?;
+    }
+    Ok(pairs)
+}
+
+fn number_below(n: i32, limit: u8) -> Option<u8>
+    ensures value { result ≡ place_below n limit }
+    ensures below { IfSome result (λ number. number < limit) }
+{
+    if n < 0 || n >= limit as i32 {
+        return None;
+    }
+    Some(n as u8)
+}

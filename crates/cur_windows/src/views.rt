@@ -1,0 +1,85 @@
+ghost use Rattle.std.specs.Prelude.{◌≡◌, ◌<◌, ◌≤◌, ◌+◌, ℕ, length};
+ghost use Rattle.cur_grid.specs.Grids.{Grid, line_at};
+ghost use Rattle.cur_windows.specs.Desks as spec;
+ghost use Rattle.cur_windows.specs.Views.{IsSeen, seen, window_cells};
+
+use crate::desks::Desk;
+use crate::slots::Slot;
+use cur_grid::{Area, Cell, Grid, Refusal};
+use std::marker::Model;
+
+/// What is seen of a window, a subwindow or a pad: its cells, line by line.
+pub trait View {
+    /// The cells as a grid.
+    ghost cells: { Self → Grid };
+
+    /// How many lines there are.
+    fn rows(&self) -> usize
+        ensures { result ≡ length (cells self.now) };
+
+    /// How many columns there are.
+    fn cols(&self) -> usize
+        ensures { (y : ℕ) → y < length (cells self.now) → length (line_at (cells self.now) y) ≡ result };
+
+    /// One line. That it is there is the caller's condition.
+    fn row(&self, y: usize) -> &[Cell]
+        requires { y < length (cells self.now) }
+        ensures { result.now ≡ line_at (cells self.now) y };
+}
+
+/// A window's part of its grid.
+#[derive(Drop)]
+pub struct Part<'a> {
+    grid: &'a Grid,
+    area: Area,
+}
+
+impl<'a> Model for Part<'a> {
+    ghost use Rattle.cur_grid.specs.Grids.{Grid};
+    ghost use Rattle.cur_windows.specs.Views.{IsSeen, window_cells};
+
+    ghost Value = { Grid };
+
+    ghost view = { λ p. window_cells p.area p.grid.now };
+
+    ghost invariant = { λ p. IsSeen p.area p.grid.now };
+}
+
+impl<'a> View for Part<'a> {
+    ghost cells = { λ p. p };
+
+    fn rows(&self) -> usize {
+        self.area.rows as usize
+    }
+
+    fn cols(&self) -> usize {
+        self.area.cols as usize
+    }
+
+    fn row(&self, y: usize) -> &[Cell] {
+        let left = self.area.left as usize;
+        let line = self.grid.line(self.area.top as usize + y);
+        &line[left..left + self.area.cols as usize]
+    }
+}
+
+impl Desk {
+    /// The cells of a window. `Full`, `NoWindow`.
+    pub fn view(&self, id: usize) -> Result<Part<'_>, Refusal>
+        ensures { result ≡ seen self.now id }
+    {
+        let slot = self.find(id)?;
+        Ok(self.part(&slot))
+    }
+
+    fn part(&self, slot: &Slot) -> Part<'_>
+        requires root { slot.now.root < 64 }
+        requires seen { IsSeen slot.now.window.area (spec.grid_at self.now slot.now.root) }
+        ensures { result ≡ window_cells slot.now.window.area (spec.grid_at self.now slot.now.root) }
+    {
+        Part {
+            grid: self.grid_of(slot),
+            area: slot.window.area,
+        }
+    }
+}
