@@ -4,19 +4,14 @@
 # The same program with a file that lives long enough is taken, and runs.
 set -eu
 cd -- "$(dirname -- "$0")/.."
+. tests/probing
 
 work=$(mktemp -d)
 trap 'rm -rf "$work"' EXIT
 
 # probe NAME OUTER FIRST SECOND: a program that keeps what was read, and names; the others are lines of it
 probe() {
-    mkdir -p "$work/$1/crates/probe/src"
-    for crate in ti_caps ti_compiled; do
-        mkdir "$work/$1/crates/$crate"
-        cp -r "crates/$crate/src" "crates/$crate/specs" "crates/$crate/proofs" "$work/$1/crates/$crate"
-        grep "^$crate:" crates.txt >>"$work/$1/crates.txt"
-    done
-    echo 'probe: ti_compiled' >>"$work/$1/crates.txt"
+    lay "$work/$1" ti_caps ti_compiled
     cat >"$work/$1/crates/probe/src/main.rt" <<END
 #![tactic(auto)]
 
@@ -39,9 +34,7 @@ fn main(_rt: HostRuntime) -> ExitCode {
     }
 }
 END
-    status=0
-    (cd "$work/$1/crates/probe" && rt try) >"$work/$1.log" 2>&1 || status=$?
-    echo "$status" >"$work/$1.status"
+    attempt "$work/$1"
 }
 
 file='let file = [0x1a_u8, 1, 2, 0, 0, 0, 0, 0, 0, 0, 0, 0, 109, 0];'
@@ -50,17 +43,9 @@ probe packed "$file" "$file" '' &
 probe names "$file" '' "$file" &
 wait
 
-if [ "$(cat "$work/right.status")" -ne 0 ]; then
-    cat "$work/right.log" >&2
-    echo "outlives: a program whose file lives long enough is refused" >&2
-    exit 1
-fi
+must_run "$work/right" "outlives: a program whose file lives long enough is refused"
 for kept in packed names; do
-    if [ "$(cat "$work/$kept.status")" -ne 1 ] ||
-        ! grep -q 'main\.rt:.* error\[borrow-e0597\]: `file` does not live long enough$' "$work/$kept.log"; then
-        cat "$work/$kept.log" >&2
-        echo "outlives: the $kept may live longer than the file" >&2
-        exit 1
-    fi
+    must_not_compile "$work/$kept" 'error\[borrow-e0597\]: `file` does not live long enough$' \
+        "outlives: the $kept may live longer than the file"
 done
 echo "outlives: what was read, and its names, may not live longer than the file"

@@ -1,3 +1,6 @@
 pub mod Drawing
-pub mod Parts
 pub mod Keeping
+pub mod Parts
+pub mod Refusing
+pub mod Scrolling
+pub mod Staying

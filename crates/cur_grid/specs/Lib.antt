@@ -1,5 +1,6 @@
 pub mod Cells
-pub mod Grids
 pub mod Codes
-pub mod Windows
+pub mod Grids
+pub mod Laws
 pub mod Sheets
+pub mod Windows

@@ -4,12 +4,11 @@
 mod areas;
 mod cells;
 mod grids;
+pub mod laws;
 mod lines;
 mod puts;
 mod refusals;
 mod shifting;
-#[cfg(test)]
-mod tests;
 mod windows;
 mod writing;
 

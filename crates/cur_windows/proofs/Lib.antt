@@ -1,4 +1,10 @@
+pub mod Backing
 pub mod Closing
+pub mod Copied
+pub mod Copies
+pub mod Lending
 pub mod Settling
+pub mod Sharing
 pub mod Showing
 pub mod Viewing
+pub mod Within

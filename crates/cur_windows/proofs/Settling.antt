@@ -17,7 +17,7 @@ use Rattle.cur_windows.specs.Desks.{State, grid_at, origin_at, window_at, IsWhol
 use Rattle.cur_windows.specs.Making.{IsInFrame, settled, parted, inside, IsPart, has_child, is_child, is_parent}
 use Rattle.cur_windows.proofs.Closing.{placed_same, whole_same, some_kept, some_inj, is_some}
 
-no_some : (o : Option Slot) → o ≡ None → IsSome o → (A : Type 0) → A
+pub no_some : (o : Option Slot) → o ≡ None → IsSome o → (A : Type 0) → A
 no_some None e is A = absurd cc
 no_some (Some s) e is A = absurd cc
 

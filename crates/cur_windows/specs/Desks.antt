@@ -113,10 +113,6 @@ set d n change = on_cursor d n (λ w. (change w, Ok tt))
 abbrev pub unchanged : State → ℕ → DeskStep
 unchanged d n = after (slot_of d n) d (λ s. (d, Ok tt))
 
--- the sizes that a screen may have
-abbrev pub IsSize : ℕ → ℕ → Type 0
-IsSize rows cols = (2 ≤ rows) × (rows ≤ 200) × (2 ≤ cols) × (cols ≤ 500)
-
 -- the desk at first: window 0 on a grid of the screen's size
 abbrev pub new_slot : ℕ → Area → Slot
 new_slot n a = record { root = n; parent = None; window = fresh a }

@@ -1,4 +1,9 @@
+pub mod Copying
 pub mod Desks
+pub mod Laws
 pub mod Making
+pub mod Padding
+pub mod Rows
 pub mod Screens
+pub mod Sizes
 pub mod Views

@@ -1,11 +1,12 @@
 ghost use Rattle.std.specs.Prelude.{◌≡◌, ◌<◌, ◌≤◌, Some, None, IfOk, [], replicate, false};
 ghost use Rattle.cur_windows.specs.Desks as spec;
-ghost use Rattle.cur_windows.specs.Desks.{IsPlaced, IsDesk, IsSize};
+ghost use Rattle.cur_windows.specs.Desks.{IsPlaced, IsDesk};
 
 use crate::slots::{Origin, Slot};
 use cur_grid::{Area, Grid, Refusal, Window};
 use std::alloc::{AllocError, Global};
 use std::marker::Model;
+use vt_term::Size;
 
 // How many windows there may be.
 const PLACES: usize = 64;
@@ -32,11 +33,11 @@ impl Model for Desk {
 }
 
 impl Desk {
-    /// A desk with window 0 over a screen of so many rows and columns, of spaces without attributes.
-    pub fn new(alloc: Global, rows: u16, cols: u16) -> Result<Desk, AllocError>
-        requires { IsSize rows cols }
-        ensures { IfOk result (λ desk. desk ≡ spec.new_desk rows cols) }
+    /// A desk with window 0 over a screen of this size, of spaces without attributes. An error where a growth was refused.
+    pub fn new(alloc: Global, size: Size) -> Result<Desk, AllocError>
+        ensures { IfOk result (λ desk. desk ≡ spec.new_desk size.rows size.cols) }
     {
+        let (rows, cols) = (size.rows as u16, size.cols as u16);
         let whole = Area {
             top: 0,
             left: 0,

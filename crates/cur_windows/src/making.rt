@@ -230,7 +230,7 @@ impl Desk {
     }
 
     // Window `n` comes to be, with this grid of its own.
-    fn place_new(&mut self, n: usize, grid: Grid, origin: Origin, window: Window)
+    pub(crate) fn place_new(&mut self, n: usize, grid: Grid, origin: Origin, window: Window)
         requires number { n < 64 }
         requires free { spec.window_at self.old n ≡ None }
         requires sheet { IsSheet grid window }
@@ -280,6 +280,20 @@ impl Desk {
     {
         let outer = slot.window.area;
         let area = part(outer.rows, outer.cols, wish, Refusal::OutOfWindow)?;
+        self.place_part(n, id, slot, area);
+        Ok(())
+    }
+
+    // Window `n` comes to be as this part of another one, in places of that one.
+    pub(crate) fn place_part(&mut self, n: usize, id: usize, slot: &Slot, area: Area)
+        requires number { n < 64 }
+        requires free { spec.window_at self.old n ≡ None }
+        requires parent { id < 64 }
+        requires placed { spec.IsPlaced self.old id slot.now }
+        requires part { make.IsPart (slot.now).window.area.rows (slot.now).window.area.cols area }
+        ensures { self.new ≡ make.parted self.old n id slot.now area }
+    {
+        let outer = slot.window.area;
         let inside = Area {
             top: outer.top + area.top,
             left: outer.left + area.left,
@@ -291,11 +305,10 @@ impl Desk {
             parent: Some(id as u8),
             window: Window::new(inside),
         });
-        Ok(())
     }
 }
 
-fn in_range(n: usize, id: usize) -> Result<(), Refusal>
+pub(crate) fn in_range(n: usize, id: usize) -> Result<(), Refusal>
     ensures value { result ≡ make.in_range n id }
     ensures small { OnOk result ((n < 64) × (id < 64)) }
 {

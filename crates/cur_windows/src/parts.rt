@@ -1,4 +1,4 @@
-ghost use Rattle.std.specs.Prelude.{◌≡◌, ◌<◌, ◌≤◌, ◌+◌, IfOk, IfSome};
+ghost use Rattle.std.specs.Prelude.{◌≡◌, ◌<◌, ◌≤◌, ◌+◌, IfOk, IfSome, pos};
 ghost use Rattle.cur_windows.specs.Making.{IsPart, spot, span, part, crossed};
 
 use cur_grid::{Area, Refusal};
@@ -51,6 +51,7 @@ fn crossed(rows: Option<Stretch>, cols: Option<Stretch>, outside: Refusal) -> Re
 /// The place of so many lines or columns, if they are all below the limit.
 pub(crate) fn spot(at: i32, size: u16, limit: u16) -> Option<u16>
     ensures value { result ≡ spot at size limit }
+    ensures number { IfSome result (λ place. at ≡ pos place) }
     ensures within { IfSome result (λ place. place + size ≤ limit) }
 {
     if at < 0 || at as i64 + size as i64 > limit as i64 {

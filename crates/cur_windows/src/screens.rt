@@ -1,12 +1,12 @@
 ghost use Rattle.std.specs.Prelude.{◌≡◌, ◌<◌, ◌≤◌, ◌+◌, IfOk, IfSome, replicate};
 ghost use Rattle.cur_grid.specs.Grids.{Fits, line_at, moved_to};
 ghost use Rattle.cur_grid.specs.Windows.{place_below};
-ghost use Rattle.cur_windows.specs.Desks.{IsSize};
 ghost use Rattle.cur_windows.specs.Screens as spec;
 
 use cur_grid::{Area, Cell, Grid, Place, Refusal};
 use std::alloc::{AllocError, Global};
 use std::marker::Model;
+use vt_term::Size;
 
 // How many colour pairs there are.
 const PAIRS: usize = 64;
@@ -40,11 +40,12 @@ impl Model for Virtual {
 }
 
 impl Virtual {
-    /// The first screen: spaces without attributes, the cursor at the corner, all pairs default on default.
-    pub fn new(alloc: Global, rows: u16, cols: u16) -> Result<Virtual, AllocError>
-        requires { IsSize rows cols }
-        ensures { IfOk result (λ screen. screen ≡ spec.new_screen rows cols) }
+    /// The first screen: spaces without attributes, the cursor at the corner, all pairs default on default. An error where a
+    /// growth was refused.
+    pub fn new(alloc: Global, size: Size) -> Result<Virtual, AllocError>
+        ensures { IfOk result (λ screen. screen ≡ spec.new_screen size.rows size.cols) }
     {
+        let (rows, cols) = (size.rows as u16, size.cols as u16);
         let pairs = default_pairs(alloc)?;
         Ok(Virtual {
             rows,

@@ -272,8 +272,7 @@ impl Desk {
     pub fn idlok(&self, id: usize, _on: bool) -> Result<(), Refusal>
         ensures { spec.step self.now result ≡ spec.unchanged self.now id }
     {
-        self.find(id)?;
-        Ok(())
+        self.find(id).map(|_slot| ())
     }
 
     /// Changes nothing: whole windows are copied.
@@ -288,7 +287,6 @@ impl Desk {
     pub fn touchline(&self, id: usize, _y: i32, _n: i32) -> Result<(), Refusal>
         ensures { spec.step self.now result ≡ spec.unchanged self.now id }
     {
-        self.find(id)?;
-        Ok(())
+        self.touchwin(id)
     }
 }

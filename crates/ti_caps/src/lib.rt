@@ -5,8 +5,6 @@ mod entry;
 mod fits;
 mod lookup;
 mod table;
-#[cfg(test)]
-mod tests;
 mod types;
 mod value;
 

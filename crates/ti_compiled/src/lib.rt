@@ -5,8 +5,6 @@ mod laws;
 mod pack;
 mod packed;
 mod sections;
-#[cfg(test)]
-mod tests;
 mod types;
 mod unpack;
 

@@ -18,8 +18,6 @@ mod show;
 mod skip;
 mod stack;
 mod statics;
-#[cfg(test)]
-mod tests;
 mod uses;
 
 pub use delays::strip_delays;

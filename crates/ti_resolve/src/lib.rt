@@ -5,8 +5,6 @@ mod faults;
 mod fill;
 mod resolving;
 mod search;
-#[cfg(test)]
-mod tests;
 mod walk;
 
 pub use faults::ResolveFault;

@@ -1,25 +1,17 @@
 //! `ticurses`: what a string of a terminal description does, shown and proved.
 #![tactic(auto)]
 
-mod decimal;
-mod describing;
-mod entries;
-mod expansion;
-mod failure;
-mod feeding;
-mod files;
-mod reading;
 mod run;
-mod sizes;
+mod stored;
 #[cfg(test)]
 mod tests;
 mod words;
 
-use failure::{Failure, told};
-use files::Stored;
 use std::env;
 use std::process::ExitCode;
 use std::rt::Env;
+use stored::Stored;
+use ti_commands::{Failure, told};
 
 /// `command` over the words of the line, the real files, standard output and standard error.
 fn main(rt: HostRuntime) -> ExitCode {

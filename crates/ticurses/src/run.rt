@@ -1,17 +1,16 @@
 //! One run of the program.
 
-ghost use Rattle.std.specs.Prelude.{◌≡◌, ◌≤◌, None, Some, IfErr, OnOk};
-ghost use Rattle.std.specs.Io.KnownBytes.{Appends};
-ghost use Rattle.ticurses.specs.Status.{FailsAs};
+ghost use Rattle.std.specs.Prelude.{◌≤◌};
 
-use crate::failure::{Failure, Reply, told};
-use crate::files::Files;
 use crate::words::command_line;
-use crate::{describing, expansion, feeding};
 use clap::ArgMatches;
 use clap::error::{Error, ErrorKind};
 use std::alloc::Global;
 use std::io::Write;
+use ti_commands::{
+    Comparison, Expansion, Failure, Files, Reply, compare_entries, compile_entry, expand_string,
+    feed_file, give, print_entry, told, write_bytes, wrong_line,
+};
 
 /// Does what the words after the program's own ask for: the answer goes to `out`, notes and a
 /// failure's line to `err`, and the result is the exit status: 0 done, 1 refused, 2 a line that can't
@@ -56,50 +55,57 @@ fn reply_to<F: Files>(
     files: &mut F,
 ) -> Result<Reply, Failure> {
     match matches.subcommand() {
-        Some(("expand", words)) => expansion::perform(alloc, words),
-        Some(("feed", words)) => feeding::perform(alloc, words, files),
-        Some(("tic", words)) => describing::perform_tic(alloc, words, files),
-        Some(("infocmp", words)) => describing::perform_infocmp(alloc, words, files),
+        Some(("expand", words)) => expand_string(
+            alloc,
+            &Expansion {
+                string: word(words, "STRING"),
+                rows: word(words, "ROWS"),
+                cols: word(words, "COLS"),
+                params: words.get_strs("PARAM").unwrap_or(&[]),
+                judges_cup: words.get_flag("cup"),
+            },
+        ),
+        Some(("feed", words)) => feed_file(
+            alloc,
+            word(words, "ROWS"),
+            word(words, "COLS"),
+            word(words, "FILE"),
+            files,
+        ),
+        Some(("tic", words)) => {
+            compile_entry(alloc, word(words, "ENTRY"), words.get_str("out"), files)
+        }
+        Some(("infocmp", words)) => reply_to_infocmp(alloc, words, files),
         _ => Err(Failure::Usage(String::new(alloc))),
     }
 }
 
-/// Writes what a reply has for standard output.
-fn give<O: Write>(out: &mut O, reply: Reply) -> Result<(), Failure>
-    ensures done { OnOk result (reply.failure ≡ None) }
-    ensures written { OnOk result (Appends (O.contents out.old) (O.contents out.new) reply.text.items) }
-    ensures failure { IfErr result (λ failure. FailsAs reply.failure failure) }
-{
-    let Reply {
-        notes: _notes,
-        text,
-        failure,
-    } = reply;
-    let written = write_bytes(out, text.as_slice());
-    match failure {
-        None => written,
-        Some(failure) => Err(unwritten(failure, written.is_err())),
+/// One entry is printed, two are compared.
+fn reply_to_infocmp<F: Files>(
+    alloc: Global,
+    words: &ArgMatches<'_>,
+    files: &mut F,
+) -> Result<Reply, Failure> {
+    let entries = words.get_strs("ENTRY").unwrap_or(&[]);
+    match (words.get_flag("c"), words.get_flag("n"), entries) {
+        (false, false, [entry]) => print_entry(alloc, entry, files),
+        (true, false, [first, second]) => {
+            compare_entries(alloc, first, second, Comparison::Common, files)
+        }
+        (false, true, [first, second]) => {
+            compare_entries(alloc, first, second, Comparison::Neither, files)
+        }
+        _ => Err(wrong_line(
+            alloc,
+            "error: one ENTRY is printed, or two are compared by either -c or -n\n\n\
+             For more information, try '--help'.\n",
+        )),
     }
 }
 
-/// The failure, which also says whether the output failed.
-fn unwritten(failure: Failure, is_unwritten: bool) -> Failure
-    ensures { FailsAs (Some failure) result }
-{
-    match failure {
-        Failure::Refused(refusal) if is_unwritten => Failure::RefusedUnwritten(refusal),
-        other => other,
-    }
-}
-
-fn write_bytes<O: Write>(out: &mut O, bytes: &[u8]) -> Result<(), Failure>
-    ensures written { OnOk result (Appends (O.contents out.old) (O.contents out.new) bytes.now) }
-    ensures failure { IfErr result (λ failure. failure ≡ Failure.Output) }
-{
-    match out.write_all(bytes) {
-        Ok(()) => out.flush().map_err(|_| Failure::Output),
-        Err(_) => Err(Failure::Output),
-    }
+/// The word of this name, which the line has.
+fn word<'a>(words: &ArgMatches<'a>, name: &str) -> &'a str {
+    words.get_str(name).unwrap_or("")
 }
 
 /// Help and version are answers; any other word of the parser's is a failure.

@@ -1,6 +1,5 @@
 //! Whole runs of `command`, with files and writers in memory.
 
-use crate::files::{FileFault, Files};
 use crate::run::command;
 use std::alloc::{AllocError, Global};
 use std::collections::VecDeque;
@@ -8,6 +7,7 @@ use std::io;
 use std::io::{ErrorKind, Read, Write};
 use std::process::Abort;
 use std::test::Fail;
+use ti_commands::{FileFault, Files};
 
 /// No file is there.
 #[derive(Drop)]

@@ -1,6 +1,5 @@
 pub mod Grids
 pub mod Packing
 pub mod Keeps
-pub mod Decimals
 pub mod Styles
 pub mod Erasing

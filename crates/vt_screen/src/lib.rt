@@ -15,5 +15,5 @@ mod sheets;
 pub use cells::Cell;
 pub use functions::{Function, Numbers, Part};
 pub use limits::Size;
-pub use looks::{Color, Rendition};
-pub use screens::{Charset, Display};
+pub use looks::{Color, Rendition, color_of};
+pub use screens::{Charset, Display, Settings};

@@ -4,7 +4,7 @@ ghost use Rattle.vt_screen.specs.Step as spec;
 ghost use Rattle.vt_screen.specs.Look.{IsPrinted};
 
 use crate::cells::Cell;
-use crate::functions::{Function, Numbers, Part};
+use crate::functions::{Function, Part};
 use crate::limits::Size;
 use crate::looks::{Rendition, color_of};
 use crate::printing;
@@ -34,6 +34,23 @@ impl Charset {
             self.g0_graphic
         }
     }
+}
+
+/// What a display has beside its size, its cells, autowrap and insertion. Rows and columns count from 0.
+#[derive(Clone, Copy, Debug, PartialEq, Eq)]
+pub struct Settings {
+    /// The cursor's row and column.
+    pub row: usize,
+    pub col: usize,
+    /// The last column was printed, so that the next character goes to the next line.
+    pub pending: bool,
+    pub rendition: Rendition,
+    pub charset: Charset,
+    /// The first and the last line of the region that scrolls.
+    pub top: usize,
+    pub bottom: usize,
+    /// The cursor can be seen.
+    pub visible: bool,
 }
 
 /// The display and all modes: a terminal without what is open of a sequence.
@@ -94,6 +111,7 @@ impl Model for Display {
 impl Display {
     ghost use Rattle.vt_screen.specs.Screen.{reset_screen, IsScreen};
     ghost use Rattle.vt_screen.specs.Printed.{screen_text};
+    ghost use Rattle.vt_screen.specs.Settings.{settings_of, with_settings};
 
     /// The reset state. It fails where a request for memory is refused.
     pub fn new(alloc: Global, size: Size) -> Result<Display, AllocError>
@@ -165,6 +183,40 @@ impl Display {
         ensures { result ≡ self.now.visible }
     {
         self.visible
+    }
+
+    /// What it has beside its cells.
+    pub fn settings(&self) -> Settings
+        ensures { result ≡ settings_of self.now }
+    {
+        Settings {
+            row: self.row,
+            col: self.col,
+            pending: self.pending,
+            rendition: self.rendition,
+            charset: self.charset,
+            top: self.top,
+            bottom: self.bottom,
+            visible: self.visible,
+        }
+    }
+
+    /// Sets what it has beside its cells, whose cursor and margins the caller keeps within the size.
+    pub fn set(&mut self, settings: Settings)
+        requires row_within { settings.row < self.old.rows }
+        requires col_within { settings.col < self.old.cols }
+        requires region { settings.top < settings.bottom }
+        requires bottom_within { settings.bottom < self.old.rows }
+        ensures { self.new ≡ with_settings settings self.old }
+    {
+        self.row = settings.row;
+        self.col = settings.col;
+        self.pending = settings.pending;
+        self.rendition = settings.rendition;
+        self.charset = settings.charset;
+        self.top = settings.top;
+        self.bottom = settings.bottom;
+        self.visible = settings.visible;
     }
 
     /// The screen as a text. It fails where a request for memory is refused.
@@ -467,8 +519,8 @@ impl Display {
         self.charset.shifted_out = out;
     }
 
-    fn select_rendition(&mut self, numbers: Numbers<'_>)
-        ensures { self.new ≡ spec.act (Function.SelectRendition numbers.entry) self.old }
+    fn select_rendition(&mut self, numbers: &[Option<u16>])
+        ensures { self.new ≡ spec.act (Function.SelectRendition numbers.now) self.old }
     {
         self.rendition = all_rendered(self.rendition, numbers);
     }
@@ -487,14 +539,11 @@ impl Display {
         }
     }
 
-    fn set_modes(&mut self, private: bool, on: bool, numbers: Numbers<'_>)
-        ensures { self.new ≡ spec.all_modes_set private on numbers.entry self.old }
+    fn set_modes(&mut self, private: bool, on: bool, numbers: &[Option<u16>])
+        ensures { self.new ≡ spec.all_modes_set private on numbers.now self.old }
     {
-        let mut left = Some(numbers);
-        while let Some(numbers) = left {
-            let (number, rest) = numbers.split_first();
+        for number in numbers {
             self.set_mode(private, on, number.unwrap_or(0));
-            left = rest;
         }
     }
 
@@ -531,8 +580,10 @@ impl Display {
             Function::ScrollDown(n) => self.scroll_down(n),
             Function::Margins(first, last) => self.set_margins(first, last),
             Function::Designate(is_g1, graphic) => self.designate(is_g1, graphic),
-            Function::SelectRendition(numbers) => self.select_rendition(numbers),
-            Function::Modes(private, on, numbers) => self.set_modes(private, on, numbers),
+            Function::SelectRendition(numbers) => self.select_rendition(numbers.as_slice()),
+            Function::Modes(private, on, numbers) => {
+                self.set_modes(private, on, numbers.as_slice())
+            }
             Function::Ignored => {}
         }
     }
@@ -634,14 +685,11 @@ fn rendered(now: Rendition, number: u16) -> Rendition
     }
 }
 
-fn all_rendered(mut now: Rendition, numbers: Numbers<'_>) -> Rendition
-    ensures { result ≡ spec.all_rendered numbers.entry now }
+fn all_rendered(mut now: Rendition, numbers: &[Option<u16>]) -> Rendition
+    ensures { result ≡ spec.all_rendered numbers.now now }
 {
-    let mut left = Some(numbers);
-    while let Some(numbers) = left {
-        let (number, rest) = numbers.split_first();
+    for number in numbers {
         now = rendered(now, number.unwrap_or(0));
-        left = rest;
     }
     now
 }

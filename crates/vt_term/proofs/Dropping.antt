@@ -2,7 +2,7 @@
 use Rattle.std.proofs.Common.{◌≡◌, ℕ, ◌-◌, ◌==◌, ◌<◌, ◌⊎◌, ◌&&◌, Bool, true, false, List, [], ◌∷◌, length, take, refl, sym, ap, subst, ◌∙◌, inl, inr, arith, zero, suc, Option, if◌then◌else◌}
 use Rattle.std.proofs.lemmas.Bool.Decides.{nat_tests}
 use Rattle.std.specs.List.{AllByRecursion, list_all, slice_index}
-use Rattle.vt_screen.specs.Numbers.{numbers, is_numeral}
+use Rattle.vt_term.specs.Numbers.{numbers, is_numeral}
 use Rattle.vt_screen.specs.Screen.{Screen}
 use Rattle.vt_screen.specs.Step.{act}
 use Rattle.vt_screen.specs.declared.functions.Function.{Function}
@@ -83,7 +83,7 @@ by_second y x z h k = chosen (y == 91) (λ e. h (grind (arith, nat_tests))) (λ 
     chosen true h k = h refl
     chosen false h k = k refl
 
-open_ignored : (bytes : List ℕ) → IsOpen bytes → function_of bytes ≡ Ignored
+pub open_ignored : (bytes : List ℕ) → IsOpen bytes → function_of bytes ≡ Ignored
 open_ignored [] o = refl
 open_ignored (b ∷ []) o = ap single (open_escape b [] o)
 open_ignored (x ∷ y ∷ body) o = by_second y (sequence body) (escaped (y ∷ body)) (λ e. body_ignored body (inside x y body e o).body) (λ n. stem_ignored y body (stem x y body n o).each)

@@ -1,12 +1,13 @@
 -- What a byte does behind what is open.
-use Rattle.std.proofs.Common.{◌≡◌, ◌≢◌, refl, ℕ, ◌+◌, ◌-◌, ◌≤◌, Bool, true, List, [], ◌∷◌, ◌++◌, length, sym, ap, subst, ◌∙◌, inl, inr, arith, append_assoc, length-append, get_or, suc, nat_lt}
+use Rattle.std.proofs.Common.{◌≡◌, ◌≢◌, refl, ℕ, ◌+◌, ◌-◌, ◌≤◌, Bool, true, false, List, [], ◌∷◌, ◌++◌, length, sym, ap, subst, ◌∙◌, inl, inr, arith, append_assoc, length-append, get_or, suc, nat_lt}
 use Rattle.std.proofs.lemmas.Bool.Decides.{nat_tests}
 use Rattle.std.proofs.lemmas.List.{append-nil}
 use Rattle.std.specs.List.{AllByRecursion}
-use Rattle.vt_term.specs.declared.text.Fit.{Fit}
-use Rattle.vt_term.specs.declared.text.Fit.TheVariants.{Opens, Ends, Restarts, Cancels, Fails}
-use Rattle.vt_screen.proofs.Decimals.{all_append}
+use Rattle.vt_term.specs.declared.reader.Fit.{Fit}
+use Rattle.vt_term.specs.declared.reader.Fit.TheVariants.{Opens, Ends, Restarts, Cancels, Fails}
+use Rattle.vt_term.proofs.Decimals.{all_append}
 use Rattle.vt_term.specs.Text.{IsParameter, IsIntermediate, IsFinal, IsEscapeFinal, IsIntroducer, IsOpen, IsWhole, Cuts}
+use Rattle.vt_term.specs.Stages.{last_byte}
 use Rattle.vt_term.specs.Fault.{IsFit, FitsOutside, FitsIntroducer, FitsEscape, FitsInside}
 use Rattle.vt_term.proofs.Sequences.{IsBody, IsInside, inside, IsStem, stem, kind_of_last, only_parameters, last_parameter, made_whole, made_escape, made_open, stem_open, all_last, empty_open, escape_open, introducer_open, control_second, escape_second, sequence_long, open_escape, control_final, escape_final}
 use Rattle.vt_term.proofs.Splitting.{fails}
@@ -87,22 +88,22 @@ not_final x y b body bracket final w = elim w [
   | inr q ↦ elim q [ inl c ↦ final (control_final x y body b c) | inr e ↦ escape_second x y (body ++ b ∷ []) e bracket ]
 ]
 
-fits_body : (x y b : ℕ) (body : List ℕ) (room : Bool) (fit : Fit) → IsOpen (x ∷ y ∷ body) → IsInside x y body → (room ≡ true → length body + 1 ≤ 253) → (length body + 1 ≤ 253 → room ≡ true) → (Cuts b → ⊥)
-    → FitsInside (get_or (x ∷ y ∷ body) (length (x ∷ y ∷ body) - 1) 0) b room fit → IsFit (x ∷ y ∷ body) b fit
-fits_body x y b body room Ends o h has needs goes f = inr (inl (made_whole x y body h.body.parameters h.body.intermediates b h.escape h.introducer h.body.spelled h.body.each_parameter h.body.each_intermediate f h.short))
-fits_body x y b body room Opens o h has needs goes f = elim f.1 [
+fits_body : (x y b : ℕ) (body : List ℕ) (closed room : Bool) (fit : Fit) → (closed ≡ true → IsIntermediate (last_byte (x ∷ y ∷ body))) → (closed ≡ false → IsIntermediate (last_byte (x ∷ y ∷ body)) → ⊥) → IsOpen (x ∷ y ∷ body) → IsInside x y body → (room ≡ true → length body + 1 ≤ 253) → (length body + 1 ≤ 253 → room ≡ true) → (Cuts b → ⊥)
+    → FitsInside closed b room fit → IsFit (x ∷ y ∷ body) b fit
+fits_body x y b body closed room Ends late goes_on o h has needs goes f = inr (inl (made_whole x y body h.body.parameters h.body.intermediates b h.escape h.introducer h.body.spelled h.body.each_parameter h.body.each_intermediate f h.short))
+fits_body x y b body closed room Opens late goes_on o h has needs goes f = elim f.1 [
   | inl i ↦ made_open x y b body h.body.parameters (h.body.intermediates ++ b ∷ []) h.escape h.introducer
       (ap (λ (l : List ℕ). l ++ b ∷ []) h.body.spelled ∙ append_assoc h.body.parameters h.body.intermediates (b ∷ []))
       h.body.each_parameter (all_append IsIntermediate h.body.intermediates (b ∷ []) h.body.each_intermediate (i, tt)) (has f.0)
   | inr p ↦ made_open x y b body (body ++ b ∷ []) [] h.escape h.introducer (sym (append-nil (body ++ b ∷ [])))
-      (all_append IsParameter body (b ∷ []) (all_parameters x y body h.body p.1) (p.0, tt)) tt (has f.0)
+      (all_append IsParameter body (b ∷ []) (all_parameters x y body h.body (goes_on p.1)) (p.0, tt)) tt (has f.0)
 ]
-fits_body x y b body room Restarts o h has needs goes f = absurd f
-fits_body x y b body room Cancels o h has needs goes f = absurd f
-fits_body x y b body room Fails o h has needs goes f = fails (x ∷ y ∷ body) b o
+fits_body x y b body closed room Restarts late goes_on o h has needs goes f = absurd f
+fits_body x y b body closed room Cancels late goes_on o h has needs goes f = absurd f
+fits_body x y b body closed room Fails late goes_on o h has needs goes f = fails (x ∷ y ∷ body) b o
     (λ o. (let k : IsInside x y (body ++ b ∷ []) = inside x y (body ++ b ∷ []) h.introducer o in
     let g : room ≡ true = needs (omega (arith, k.short, length-append body (b ∷ []))) in
-    fails_inside x y b body h (f.1 g).0 (f.1 g).1 k.body))
+    fails_inside x y b body h (f.1 g).0 (λ p. late ((f.1 g).1 p)) k.body))
     (not_final x y b body h.introducer f.0) (λ some. goes)
 
 room_is : (room : Bool) (n : ℕ) → room ≡ nat_lt (suc (suc n) + 1) 256 → room ≡ true → n + 1 ≤ 253
@@ -111,11 +112,12 @@ room_is room n e k = grind (arith, nat_tests)
 room_for : (room : Bool) (n : ℕ) → room ≡ nat_lt (suc (suc n) + 1) 256 → n + 1 ≤ 253 → room ≡ true
 room_for room n e k = grind (arith, nat_tests)
 
-pub fits_inside : (bytes : List ℕ) (b : ℕ) (room : Bool) (fit : Fit) → IsOpen bytes → 2 ≤ length bytes → get_or bytes 1 0 ≡ 91 → room ≡ nat_lt (length bytes + 1) 256 → (Cuts b → ⊥)
-    → FitsInside (get_or bytes (length bytes - 1) 0) b room fit → IsFit bytes b fit
-fits_inside [] b room fit o two second e goes h = absurd (omega arith)
-fits_inside (x ∷ []) b room fit o two second e goes h = absurd (omega arith)
-fits_inside (x ∷ y ∷ body) b room fit o two second e goes h = fits_body x y b body room fit o (inside x y body second o) (room_is room (length body) e) (room_for room (length body) e) goes h
+pub fits_inside : (bytes : List ℕ) (b : ℕ) (closed room : Bool) (fit : Fit) → (closed ≡ true → IsIntermediate (last_byte bytes)) → (closed ≡ false → IsIntermediate (last_byte bytes) → ⊥)
+    → IsOpen bytes → 2 ≤ length bytes → get_or bytes 1 0 ≡ 91 → room ≡ nat_lt (length bytes + 1) 256 → (Cuts b → ⊥) → FitsInside closed b room fit → IsFit bytes b fit
+fits_inside [] b closed room fit late goes_on o two second e goes h = absurd (omega arith)
+fits_inside (x ∷ []) b closed room fit late goes_on o two second e goes h = absurd (omega arith)
+fits_inside (x ∷ y ∷ body) b closed room fit late goes_on o two second e goes h =
+    fits_body x y b body closed room fit late goes_on o (inside x y body second o) (room_is room (length body) e) (room_for room (length body) e) goes h
 
 pub fits_escape : (bytes : List ℕ) (b : ℕ) (room : Bool) (fit : Fit) → IsOpen bytes → 2 ≤ length bytes → (get_or bytes 1 0 ≡ 91 → ⊥) → room ≡ nat_lt (length bytes + 1) 256 → (Cuts b → ⊥)
     → FitsEscape b room fit → IsFit bytes b fit

@@ -4,7 +4,7 @@ use Rattle.std.proofs.lemmas.Bool.Decides.{nat_tests}
 use Rattle.std.specs.Option.{unwrap_or}
 use Rattle.std.specs.List.{list_all, slice_index}
 use Rattle.vt_screen.specs.Look.{IsPrinted}
-use Rattle.vt_screen.specs.Numbers.{numbers, is_numeral}
+use Rattle.vt_term.specs.Numbers.{numbers, is_numeral}
 use Rattle.vt_screen.specs.Screen.{Screen, IsScreen}
 use Rattle.vt_screen.specs.Step.{CanAct}
 use Rattle.vt_screen.specs.declared.functions.Function.{Function}

@@ -1,7 +1,8 @@
 pub mod Grids
 pub mod Decimals
 pub mod Keeps
-pub mod Counts
+pub mod Walks
+pub mod Reading
 pub mod Sequences
 pub mod Fits
 pub mod Splitting

@@ -25,10 +25,13 @@ scan_ends xs ts start at h lt s o =
     (let e : 0 ≡ at + 1 - (at + 1) = omega arith in e) (splits_end_byte (take at xs) ts _ (get_or xs at 0) s o)))
 
 -- the one byte at a place
-byte_at : (xs : List ℕ) (at : ℕ) → at < length xs → get_or xs at 0 ∷ [] ≡ take (at + 1 - at) (drop at xs)
+pub byte_at : (xs : List ℕ) (at : ℕ) → at < length xs → get_or xs at 0 ∷ [] ≡ take (at + 1 - at) (drop at xs)
 byte_at xs at lt =
     ap (λ (b : ℕ). b ∷ []) (ap (λ (n : ℕ). get_or xs n 0) (let e : at ≡ at + 0 = omega arith in e) ∙ sym (get_or-drop at xs 0 0)) ∙ sym (take_more (drop at xs) 0 0 (omega (arith, length-drop at xs)))
     ∙ ap (λ (n : ℕ). take n (drop at xs)) (let e : 0 + 1 ≡ at + 1 - at = omega arith in e)
+
+pub nothing_at : (xs : List ℕ) (at : ℕ) → [] ≡ take (at - at) (drop at xs)
+nothing_at xs at = ap (λ (n : ℕ). take n (drop at xs)) (let e : 0 ≡ at - at = omega arith in e)
 
 pub scan_restarts : (xs : List ℕ) (ts : List (List ℕ)) (r : List ℕ) (at : ℕ) → at < length xs → Splits (take at xs) ts r → 0 < length r → get_or xs at 0 ≡ 27
     → Splits (take (at + 1) xs) (ts ++ r ∷ []) (take (at + 1 - at) (drop at xs))

@@ -2,7 +2,7 @@
 use Rattle.std.proofs.Common.{◌≡◌, ℕ, ◌+◌, ◌-◌, ◌<◌, ◌≤◌, ◌⊎◌, List, [], ◌∷◌, ◌++◌, length, refl, sym, ap, subst, ◌∙◌, inl, inr, arith, append_assoc, length-append, get_or, suc, zero}
 use Rattle.std.proofs.lemmas.List.{same_from_push, get_or-append-add}
 use Rattle.std.specs.List.{AllByRecursion}
-use Rattle.vt_screen.proofs.Decimals.{all_append}
+use Rattle.vt_term.proofs.Decimals.{all_append}
 use Rattle.vt_screen.specs.Look.{IsPrinted}
 use Rattle.vt_term.specs.Text.{IsControl, IsParameter, IsIntermediate, IsFinal, IsEscapeFinal, IsIntroducer, IsControlSequence, IsEscapeSequence, IsSequence, IsOpen, IsSingle, Cuts, IsCutBy, IsWhole, IsToken}
 

@@ -1,7 +1,7 @@
 -- A text falls into tokens in one way at most, and so do its fronts.
 use Rattle.std.proofs.Common.{◌≡◌, ℕ, ◌<◌, ◌⊎◌, length, inl, inr, List, [], ◌∷◌, ◌++◌, refl, sym, ap, subst, ◌∙◌, arith, append_assoc}
 use Rattle.std.proofs.lemmas.List.{append-nil}
-use Rattle.vt_term.specs.Text.{IsControl, Cuts, IsCutBy, IsOpen, IsWhole, IsToken, Splits, IsSplit}
+use Rattle.vt_term.specs.Text.{Cuts, IsCutBy, IsOpen, IsWhole, IsToken, Splits, IsSplit}
 use Rattle.vt_term.proofs.Sequences.{token_ends, token_not_open, token_stays, token_before, open_front, token_front, empty_open, escape_open}
 
 -- of two fronts of one list one is a front of the other
@@ -154,12 +154,12 @@ splits_end_byte text ts r b s h = splits_append text ts ((r ++ b ∷ []) ∷ [])
 pub restarts : (r : List ℕ) (b : ℕ) → IsOpen r → 0 < length r → b ≡ 27 → Splits (r ++ b ∷ []) (r ∷ []) (b ∷ [])
 restarts r b o some e = (b ∷ [], refl, inr (record { some = some; fits = o; cut = inl e }), (refl, escape_open b e))
 
+pub cut_whole : {b : ℕ} → (b ≡ 24) ⊎ (b ≡ 26) → IsWhole (b ∷ [])
+cut_whole (inl e) = inl (inr (inl (omega (arith, e), λ n. omega (arith, e, n))))
+cut_whole (inr e) = inl (inr (inl (omega (arith, e), λ n. omega (arith, e, n))))
+
 pub cancels : (r : List ℕ) (b : ℕ) → IsOpen r → 0 < length r → (b ≡ 24) ⊎ (b ≡ 26) → Splits (r ++ b ∷ []) (r ∷ (b ∷ []) ∷ []) []
-cancels r b o some e = (b ∷ [], refl, inr (record { some = some; fits = o; cut = inr e }), ([], refl, inl (inl (inr (control e))), (refl, empty_open)))
-  where
-    control : {b : ℕ} → (b ≡ 24) ⊎ (b ≡ 26) → IsControl b
-    control (inl e) = inl (omega (arith, e), λ n. omega (arith, e, n))
-    control (inr e) = inl (omega (arith, e), λ n. omega (arith, e, n))
+cancels r b o some e = (b ∷ [], refl, inr (record { some = some; fits = o; cut = inr e }), ([], refl, inl (cut_whole e), (refl, empty_open)))
 
 pub splits_restart_byte : (text : List ℕ) (ts : List (List ℕ)) (r : List ℕ) (b : ℕ) → Splits text ts r → 0 < length r → b ≡ 27 → Splits (text ++ b ∷ []) (ts ++ r ∷ []) (b ∷ [])
 splits_restart_byte text ts r b s some e = splits_append text ts (r ∷ []) r (b ∷ []) (b ∷ []) s (restarts r b (splits_open text ts r s) some e)

@@ -1,7 +1,7 @@
 -- What a byte does behind an open sequence, and which faults a text has.
-use Rattle.std.specs.Prelude.{ℕ, ◌≡◌, ◌≢◌, ◌⊎◌, ◌<◌, ◌≤◌, length, Bool, true, List, [], ◌∷◌, ◌++◌}
-use Rattle.vt_term.specs.declared.text.Fit.{Fit}
-use Rattle.vt_term.specs.declared.text.Fit.TheVariants.{Opens, Ends, Restarts, Cancels, Fails}
+use Rattle.std.specs.Prelude.{ℕ, ◌≡◌, ◌≢◌, ◌⊎◌, ◌<◌, ◌≤◌, length, Bool, true, false, List, [], ◌∷◌, ◌++◌}
+use Rattle.vt_term.specs.declared.reader.Fit.{Fit}
+use Rattle.vt_term.specs.declared.reader.Fit.TheVariants.{Opens, Ends, Restarts, Cancels, Fails}
 use Rattle.vt_term.specs.declared.text.TokenFault.{TokenFault}
 use Rattle.vt_term.specs.declared.text.TokenFaultKind.{TokenFaultKind}
 use Rattle.vt_term.specs.declared.text.TokenFaultKind.TheVariants.{Unfinished, Stuck, NoMemory}
@@ -37,12 +37,12 @@ FitsEscape b room Ends = IsEscapeFinal b
 FitsEscape b room Fails = (IsEscapeFinal b → ⊥) × (room ≡ true → IsIntermediate b → ⊥)
 FitsEscape b room _ = ⊥
 
--- behind ESC [ and more, of which this byte is the last; room is left for another or not
-abbrev pub FitsInside : ℕ → ℕ → Bool → Fit → Type 0
-FitsInside last b room Opens = (room ≡ true) × (IsIntermediate b ⊎ (IsParameter b × (IsIntermediate last → ⊥)))
-FitsInside last b room Ends = IsFinal b
-FitsInside last b room Fails = (IsFinal b → ⊥) × (room ≡ true → (IsIntermediate b → ⊥) × (IsParameter b → IsIntermediate last))
-FitsInside last b room _ = ⊥
+-- in a control sequence; intermediate bytes have come or not, and room is left for another byte or not
+abbrev pub FitsInside : Bool → ℕ → Bool → Fit → Type 0
+FitsInside closed b room Opens = (room ≡ true) × (IsIntermediate b ⊎ (IsParameter b × (closed ≡ false)))
+FitsInside closed b room Ends = IsFinal b
+FitsInside closed b room Fails = (IsFinal b → ⊥) × (room ≡ true → (IsIntermediate b → ⊥) × (IsParameter b → closed ≡ true))
+FitsInside closed b room _ = ⊥
 
 abbrev pub IsFault : List ℕ → ℕ → TokenFaultKind → Type 0
 IsFault text at Unfinished = IsUnfinished text at

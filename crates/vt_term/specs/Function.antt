@@ -2,10 +2,11 @@
 use Rattle.std.specs.Prelude.{ℕ, ◌-◌, ◌==◌, ◌&&◌, ◌||◌, nat_le, max, Bool, true, false, List, [], ◌∷◌, length, take, if◌then◌else◌, Option, None, Some}
 use Rattle.std.specs.Option.{unwrap_or}
 use Rattle.std.specs.List.{list_all, slice_index}
+pub use Rattle.vt_screen.specs.declared.functions.Part.{Part}
 pub use Rattle.vt_screen.specs.declared.functions.Part.TheVariants.{ToEnd, FromStart, Whole}
 pub use Rattle.vt_screen.specs.declared.functions.Function.{Function}
 pub use Rattle.vt_screen.specs.declared.functions.Function.TheVariants.{Print, LineFeed, CarriageReturn, Backspace, Tab, ShiftOut, ShiftIn, ReverseIndex, NextLine, CursorUp, CursorDown, CursorForward, CursorBack, CursorColumn, CursorRow, CursorPosition, EraseLine, EraseDisplay, EraseCells, InsertCells, DeleteCells, InsertLines, DeleteLines, ScrollUp, ScrollDown, Margins, Designate, SelectRendition, Modes, Ignored}
-use Rattle.vt_screen.specs.Numbers.{numbers, is_numeral}
+use Rattle.vt_term.specs.Numbers.{numbers, is_numeral}
 
 -- where the default is 1 and 0 counts as 1
 abbrev pub counted : Option ℕ → ℕ

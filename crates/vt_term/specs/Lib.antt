@@ -10,3 +10,4 @@ pub mod Step
 pub mod Run
 pub mod Fault
 pub mod Printed
+pub mod Stages

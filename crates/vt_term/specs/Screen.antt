@@ -2,6 +2,8 @@
 use Rattle.std.specs.Prelude.{ℕ, ◌+◌, ◌≡◌, true, false, List, []}
 pub use Rattle.vt_screen.specs.Screen.{Screen, IsScreen, is_graphic, reset_screen}
 pub use Rattle.vt_screen.specs.declared.screens.Charset.{Charset}
+pub use Rattle.vt_screen.specs.declared.screens.Settings.{Settings}
+pub use Rattle.vt_screen.specs.Settings.{settings_of, with_settings}
 use Rattle.vt_term.specs.Text.{IsOpen}
 
 pub record State : Type 0 where

@@ -1,35 +1,10 @@
-ghost use Rattle.std.specs.Prelude.{◌≡◌, true};
-ghost use Rattle.std.specs.List.{list_all};
-ghost use Rattle.vt_screen.specs.Numbers.{is_numeral};
+ghost use Rattle.std.specs.Prelude.{◌≡◌};
 ghost use Rattle.vt_term.specs.Function as spec;
 
 use vt_screen::{Function, Numbers, Part};
 
-/// What a token asks for, by its bytes.
-pub(crate) fn function_of(token: &[u8]) -> Function<'_>
-    ensures { result ≡ spec.function_of token.now }
-{
-    match token {
-        [] => Function::Ignored,
-        [byte] => single(*byte),
-        [_, b'[', body @ ..] => sequence(body),
-        [_, rest @ ..] => escaped(rest),
-    }
-}
-
-/// What an escape sequence asks for, by the bytes behind ESC.
-fn escaped<'a>(rest: &[u8]) -> Function<'a>
-    ensures { result ≡ spec.escaped rest.now }
-{
-    match rest {
-        [last] => escape_final(*last),
-        [b'(', last] => designation(false, *last),
-        [b')', last] => designation(true, *last),
-        _ => Function::Ignored,
-    }
-}
-
-fn escape_final<'a>(last: u8) -> Function<'a>
+/// What an escape sequence asks for, by the one byte behind ESC.
+pub(crate) fn escape_final<'a>(last: u8) -> Function<'a>
     ensures { result ≡ spec.escape_final last }
 {
     match last {
@@ -40,7 +15,8 @@ fn escape_final<'a>(last: u8) -> Function<'a>
     }
 }
 
-fn designation<'a>(is_g1: bool, last: u8) -> Function<'a>
+/// What becomes of G0 or G1.
+pub(crate) fn designation<'a>(is_g1: bool, last: u8) -> Function<'a>
     ensures { result ≡ spec.designation is_g1 last }
 {
     match last {
@@ -50,7 +26,8 @@ fn designation<'a>(is_g1: bool, last: u8) -> Function<'a>
     }
 }
 
-fn single<'a>(byte: u8) -> Function<'a>
+/// What a byte outside sequences asks for.
+pub(crate) fn single<'a>(byte: u8) -> Function<'a>
     ensures { result ≡ spec.single byte }
 {
     match byte {
@@ -65,93 +42,57 @@ fn single<'a>(byte: u8) -> Function<'a>
     }
 }
 
-/// What a control sequence asks for, by the bytes behind its introducer.
-fn sequence(body: &[u8]) -> Function<'_>
-    ensures { result ≡ spec.sequence body.now }
-{
-    match body {
-        [front @ .., last] => named(*last, front),
-        [] => Function::Ignored,
-    }
-}
-
-fn named(last: u8, front: &[u8]) -> Function<'_>
-    ensures { result ≡ spec.named last front.now }
-{
-    if are_numerals(front) {
-        of_numbers(last, Numbers::new(front))
-    } else {
-        marked(last, front)
-    }
-}
-
-fn marked(last: u8, front: &[u8]) -> Function<'_>
-    ensures { result ≡ spec.marked last front.now }
-{
-    match front {
-        [b'?', rest @ ..] if are_numerals(rest) => of_private_numbers(last, Numbers::new(rest)),
-        _ => Function::Ignored,
-    }
-}
-
-fn of_private_numbers(last: u8, numbers: Numbers<'_>) -> Function<'_>
-    ensures { result ≡ spec.of_private_numbers last numbers.entry }
-{
-    match last {
-        b'h' => Function::Modes(true, true, numbers),
-        b'l' => Function::Modes(true, false, numbers),
-        _ => Function::Ignored,
-    }
-}
-
-fn of_numbers(last: u8, numbers: Numbers<'_>) -> Function<'_>
-    ensures { result ≡ spec.of_numbers last numbers.entry }
+/// What a control sequence of these numbers asks for, by its final byte.
+pub(crate) fn of_numbers(last: u8, numbers: &[Option<u16>]) -> Function<'_>
+    ensures { result ≡ spec.of_numbers last numbers.now }
 {
     match last {
         b'H' | b'f' => cursor_position(numbers),
         b'r' => margins(numbers),
-        b'm' => Function::SelectRendition(numbers),
-        b'h' => Function::Modes(false, true, numbers),
-        b'l' => Function::Modes(false, false, numbers),
+        b'm' => Function::SelectRendition(Numbers::new(numbers)),
+        b'h' => Function::Modes(false, true, Numbers::new(numbers)),
+        b'l' => Function::Modes(false, false, Numbers::new(numbers)),
         _ => of_one_number(last, numbers),
     }
 }
 
-fn cursor_position<'a>(numbers: Numbers<'_>) -> Function<'a>
-    ensures { result ≡ spec.cursor_position numbers.entry }
+/// What a control sequence of a question mark and these numbers asks for, by its final byte.
+pub(crate) fn of_private_numbers(last: u8, numbers: &[Option<u16>]) -> Function<'_>
+    ensures { result ≡ spec.of_private_numbers last numbers.now }
 {
-    let (row, left) = numbers.split_first();
-    let Some(left) = left else {
-        return Function::CursorPosition(counted(row), 1);
-    };
-    let (col, left) = left.split_first();
-    match left {
-        None => Function::CursorPosition(counted(row), counted(col)),
-        Some(_) => Function::Ignored,
+    match last {
+        b'h' => Function::Modes(true, true, Numbers::new(numbers)),
+        b'l' => Function::Modes(true, false, Numbers::new(numbers)),
+        _ => Function::Ignored,
     }
 }
 
-fn margins<'a>(numbers: Numbers<'_>) -> Function<'a>
-    ensures { result ≡ spec.margins numbers.entry }
+fn cursor_position<'a>(numbers: &[Option<u16>]) -> Function<'a>
+    ensures { result ≡ spec.cursor_position numbers.now }
 {
-    let (first, left) = numbers.split_first();
-    let Some(left) = left else {
-        return Function::Margins(first.unwrap_or(0), 0);
-    };
-    let (last, left) = left.split_first();
-    match left {
-        None => Function::Margins(first.unwrap_or(0), last.unwrap_or(0)),
-        Some(_) => Function::Ignored,
+    match numbers {
+        [row] => Function::CursorPosition(counted(*row), 1),
+        [row, col] => Function::CursorPosition(counted(*row), counted(*col)),
+        _ => Function::Ignored,
     }
 }
 
-fn of_one_number<'a>(last: u8, numbers: Numbers<'_>) -> Function<'a>
-    ensures { result ≡ spec.of_one_number last numbers.entry }
+fn margins<'a>(numbers: &[Option<u16>]) -> Function<'a>
+    ensures { result ≡ spec.margins numbers.now }
 {
-    let (number, left) = numbers.split_first();
-    match left {
-        None => by_number(last, number),
-        Some(_) => Function::Ignored,
+    match numbers {
+        [first] => Function::Margins(first.unwrap_or(0), 0),
+        [first, last] => Function::Margins(first.unwrap_or(0), last.unwrap_or(0)),
+        _ => Function::Ignored,
+    }
+}
+
+fn of_one_number<'a>(last: u8, numbers: &[Option<u16>]) -> Function<'a>
+    ensures { result ≡ spec.of_one_number last numbers.now }
+{
+    match numbers {
+        [number] => by_number(last, *number),
+        _ => Function::Ignored,
     }
 }
 
@@ -208,13 +149,6 @@ fn counting<'a>(last: u8, count: u16) -> Function<'a>
         b'd' => Function::CursorRow(count),
         _ => Function::Ignored,
     }
-}
-
-/// Digits and semicolons alone.
-fn are_numerals(bytes: &[u8]) -> bool
-    ensures { result ≡ list_all is_numeral bytes.now }
-{
-    bytes.iter().all(|b| b.is_ascii_digit() || *b == b';')
 }
 
 /// A count whose default is 1, and in which 0 counts as 1.

@@ -4,12 +4,14 @@
 
 mod functions;
 pub mod laws;
+mod reader;
+mod settings;
 mod stream;
 mod text;
+mod trail;
 
 pub use stream::{Stuck, Terminal};
 pub use text::{Token, TokenFault, TokenFaultKind, place_after, tokens};
-pub use vt_screen::{Cell, Color, Function, Numbers, Part, Rendition, Size};
-
-#[cfg(test)]
-mod tests;
+pub use vt_screen::{
+    Cell, Charset, Color, Function, Numbers, Part, Rendition, Settings, Size, color_of,
+};

@@ -1,8 +1,7 @@
-ghost use Rattle.std.specs.Prelude.{◌≡◌, ◌+◌, ◌<◌, ◌≤◌, [], ◌∷◌, ◌++◌, length, IfOk, IfErr, OnOk, vec_capacity};
+ghost use Rattle.std.specs.Prelude.{◌≡◌, ◌<◌, IfOk, IfErr, OnOk};
 ghost use Rattle.vt_screen.specs.Grid.{look_at};
 
-use crate::functions::function_of;
-use crate::text::{Fit, SEQUENCE_LIMIT, fit_behind};
+use crate::reader::{Fit, Reader};
 use std::alloc::{AllocError, Global};
 use std::marker::Model;
 use thiserror::Error;
@@ -18,20 +17,19 @@ pub struct Stuck {
 /// A terminal: the display with its modes, and what has come of a sequence.
 #[derive(Drop)]
 pub struct Terminal {
-    display: Display,
-    rest: Vec<u8>,
+    pub(crate) display: Display,
+    reader: Reader,
 }
 
 impl Model for Terminal {
-    ghost use Rattle.std.specs.Prelude.{◌≤◌, vec_capacity};
     ghost use Rattle.vt_term.specs.Screen.{State};
     ghost use Rattle.vt_term.specs.Text.{IsOpen};
 
     ghost Value = { State };
 
-    ghost view = { λ t. record { screen = t.display; rest = t.rest.items } };
+    ghost view = { λ t. record { screen = t.display; rest = t.reader } };
 
-    ghost invariant = { λ t. IsOpen t.rest.items × (256 ≤ vec_capacity t.rest) };
+    ghost invariant = { λ t. IsOpen t.reader };
 }
 
 impl Terminal {
@@ -43,9 +41,9 @@ impl Terminal {
     pub fn new(alloc: Global, size: Size) -> Result<Terminal, AllocError>
         ensures { IfOk result (λ terminal. terminal ≡ reset size.rows size.cols) }
     {
-        let rest = Vec::with_capacity(alloc, SEQUENCE_LIMIT)?;
+        let reader = Reader::new(alloc)?;
         let display = Display::new(alloc, size)?;
-        Ok(Terminal { display, rest })
+        Ok(Terminal { display, reader })
     }
 
     /// Takes more of the stream, in pieces of any length. At a byte that fits nothing it stops: the
@@ -56,7 +54,7 @@ impl Terminal {
         ensures rows { self.new.screen.rows ≡ self.old.screen.rows }
         ensures cols { self.new.screen.cols ≡ self.old.screen.cols }
     {
-        let _ = &self.rest;
+        let _ = &self.reader;
         for (at, byte) in bytes.iter().enumerate() {
             if !self.accept(*byte) {
                 return Err(Stuck { at });
@@ -71,29 +69,28 @@ impl Terminal {
         ensures rows { self.new.screen.rows ≡ self.old.screen.rows }
         ensures cols { self.new.screen.cols ≡ self.old.screen.cols }
     {
-        match fit_behind(&self.rest, byte) {
+        match self.reader.fit(byte) {
             Fit::Opens => {
-                self.rest.push(byte).unwrap();
+                self.reader.open(byte);
                 true
             }
             Fit::Ends => {
-                self.rest.push(byte).unwrap();
                 let _ = self.display.size();
-                self.display.act(function_of(&self.rest));
-                self.rest.clear();
+                self.display.act(self.reader.function(byte));
+                self.reader.clear();
                 true
             }
             Fit::Restarts => {
-                self.rest.clear();
-                self.rest.push(byte).unwrap();
+                self.reader.clear();
+                self.reader.open(byte);
                 true
             }
             Fit::Cancels => {
-                self.rest.clear();
+                self.reader.clear();
                 true
             }
             Fit::Fails => {
-                self.rest.clear();
+                self.reader.clear();
                 false
             }
         }

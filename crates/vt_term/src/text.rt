@@ -1,45 +1,60 @@
 ghost use Rattle.std.specs.Prelude.{◌≡◌, ◌+◌, ◌<◌, ◌≤◌, [], ◌∷◌, ◌++◌, length, IfOk, IfErr, OnOk, IfSome, ℕ, List};
-ghost use Rattle.vt_term.specs.Text.{IsOpen, Cuts, Splits};
+ghost use Rattle.vt_term.specs.Text.{IsOpen, IsWhole, Splits};
 ghost use Rattle.vt_term.specs.Function.{function_of};
 ghost use Rattle.vt_term.specs.Run.{place_of, LeadsTo, Reaches};
-ghost use Rattle.vt_term.specs.Fault.{IsFit, FitsOutside, FitsIntroducer, FitsEscape, FitsInside, TellsFault};
+ghost use Rattle.vt_term.specs.Fault.{TellsFault};
 
-use crate::functions;
+use crate::reader::{Fit, Reader, Stage, ended};
 use std::alloc::{AllocError, Global};
 use std::error::Error;
 use std::fmt;
 use std::marker::Model;
 use vt_screen::{Function, Size};
 
-pub(crate) const ESCAPE: u8 = 27;
-
-const CANCEL: u8 = 24;
-
-const SUBSTITUTE: u8 = 26;
-
-/// The most bytes that a sequence has.
-pub(crate) const SEQUENCE_LIMIT: usize = 256;
-
 /// One token of a text, as its bytes.
 #[derive(Drop)]
 pub struct Token {
     bytes: Vec<u8>,
+    /// What was read before the last byte, nothing for a sequence that was cut off.
+    stage: Option<Stage>,
+    numbers: Vec<Option<u16>>,
 }
 
 impl Model for Token {
     ghost use Rattle.std.specs.Prelude.{List, ℕ};
+    ghost use Rattle.vt_term.specs.Stages.{IsTold};
 
     ghost Value = { List ℕ };
 
     ghost view = { λ t. t.bytes.items };
+
+    ghost invariant = { λ t. IsTold t.stage t.numbers.items t.bytes.items };
 }
 
 impl Token {
-    fn new(alloc: Global, bytes: &[u8]) -> Result<Token, AllocError>
+    /// The token that its last byte ends.
+    fn ended(alloc: Global, reader: &Reader, bytes: &[u8]) -> Result<Token, AllocError>
+        requires whole { IsWhole bytes.now }
+        requires read { (last : ℕ) × (bytes.now ≡ reader.now ++ last ∷ []) }
+        ensures { IfOk result (λ token. token ≡ bytes.now) }
+    {
+        let (stage, numbers) = reader.parts();
+        Ok(Token {
+            bytes: Vec::from_slice(alloc, bytes)?,
+            stage: Some(stage),
+            numbers: Vec::from_slice(alloc, numbers)?,
+        })
+    }
+
+    /// A sequence that was cut off.
+    fn dropped(alloc: Global, bytes: &[u8]) -> Result<Token, AllocError>
+        requires { IsOpen bytes.now }
         ensures { IfOk result (λ token. token ≡ bytes.now) }
     {
         Ok(Token {
             bytes: Vec::from_slice(alloc, bytes)?,
+            stage: None,
+            numbers: Vec::new(alloc),
         })
     }
 
@@ -54,7 +69,10 @@ impl Token {
     pub fn function(&self) -> Function<'_>
         ensures { result ≡ function_of self.now }
     {
-        functions::function_of(&self.bytes)
+        match (self.stage, self.bytes.as_slice()) {
+            (Some(stage), [.., last]) => ended(stage, &self.numbers, *last),
+            _ => Function::Ignored,
+        }
     }
 
     /// Where the token leaves the cursor of every terminal of this size, in whatever state it was: a
@@ -103,6 +121,12 @@ pub struct TokenFault {
     pub kind: TokenFaultKind,
 }
 
+/// A request for memory was refused; the place says nothing.
+const REFUSED: TokenFault = TokenFault {
+    at: 0,
+    kind: TokenFaultKind::NoMemory,
+};
+
 impl fmt::Display for TokenFault {
     fn fmt<W: fmt::Write>(&self, f: &mut fmt::Formatter<W>) -> fmt::Result {
         let at = self.at;
@@ -116,124 +140,35 @@ impl fmt::Display for TokenFault {
 
 impl Error for TokenFault {}
 
-/// What a byte does behind what is open.
-pub(crate) enum Fit {
-    /// The sequence stays open.
-    Opens,
-    /// The token is whole.
-    Ends,
-    /// What is open is dropped, and the byte begins another sequence.
-    Restarts,
-    /// What is open is dropped, and the byte is a control.
-    Cancels,
-    Fails,
-}
-
-/// What a byte does behind an open sequence, or outside one if nothing is open.
-pub(crate) fn fit_behind(begun: &[u8], byte: u8) -> Fit
-    requires { IsOpen begun.now }
-    ensures { IsFit begun.now byte result }
-{
-    match begun {
-        [] => fit_outside(byte),
-        [_, ..] => match byte {
-            ESCAPE => Fit::Restarts,
-            CANCEL | SUBSTITUTE => Fit::Cancels,
-            _ => fit_open(begun, byte),
-        },
-    }
-}
-
-fn fit_outside(byte: u8) -> Fit
-    ensures { FitsOutside byte result }
-{
-    match byte {
-        ESCAPE => Fit::Opens,
-        0..=127 => Fit::Ends,
-        _ => Fit::Fails,
-    }
-}
-
-/// What a byte that doesn't cut it off does behind an open sequence.
-fn fit_open(begun: &[u8], byte: u8) -> Fit
-    requires fits { IsOpen begun.now }
-    requires some { 0 < length begun.now }
-    requires goes_on { Cuts byte → ⊥ }
-    ensures { IsFit begun.now byte result }
-{
-    let has_room = begun.len() + 1 < SEQUENCE_LIMIT;
-    if begun.len() == 1 {
-        fit_introducer(byte)
-    } else if begun[1] == b'[' {
-        fit_inside(begun[begun.len() - 1], byte, has_room)
-    } else {
-        fit_escape(byte, has_room)
-    }
-}
-
-fn fit_introducer(byte: u8) -> Fit
-    ensures { FitsIntroducer byte result }
-{
-    match byte {
-        b'[' | 0x20..=0x2f => Fit::Opens,
-        b'P' | b'X' | b']' | b'^' | b'_' => Fit::Fails,
-        0x30..=0x7e => Fit::Ends,
-        _ => Fit::Fails,
-    }
-}
-
-/// What a byte does behind ESC and intermediate bytes.
-fn fit_escape(byte: u8, has_room: bool) -> Fit
-    ensures { FitsEscape byte has_room result }
-{
-    match byte {
-        0x30..=0x7e => Fit::Ends,
-        0x20..=0x2f if has_room => Fit::Opens,
-        _ => Fit::Fails,
-    }
-}
-
-/// What a byte does behind this one in a control sequence.
-fn fit_inside(last: u8, byte: u8, has_room: bool) -> Fit
-    ensures { FitsInside last byte has_room result }
-{
-    match byte {
-        0x40..=0x7e => Fit::Ends,
-        0x20..=0x2f if has_room => Fit::Opens,
-        0x30..=0x3f if has_room && !(0x20..=0x2f).contains(&last) => Fit::Opens,
-        _ => Fit::Fails,
-    }
-}
-
 /// The tokens of a whole text.
 pub fn tokens(alloc: Global, bytes: &[u8]) -> Result<Vec<Token>, TokenFault>
     ensures whole { IfOk result (λ ts. Splits bytes.now ts.items []) }
     ensures fault { IfErr result (λ e. TellsFault bytes.now e) }
 {
+    let mut reader = Reader::new(alloc).map_err(|_| REFUSED)?;
     let mut found = Vec::new(alloc);
     let mut start = 0;
     for (at, byte) in bytes.iter().enumerate() {
-        match fit_behind(&bytes[start..at], *byte) {
-            Fit::Opens => {}
+        match reader.fit(*byte) {
+            Fit::Opens => reader.open(*byte),
             Fit::Ends => {
-                push_token(alloc, &mut found, &bytes[start..at + 1])?;
+                push_ended(alloc, &mut found, &reader, &bytes[start..at + 1])?;
+                reader.clear();
                 start = at + 1;
             }
             Fit::Restarts => {
-                push_token(alloc, &mut found, &bytes[start..at])?;
+                push_dropped(alloc, &mut found, &bytes[start..at])?;
+                reader.clear();
+                reader.open(*byte);
                 start = at;
             }
             Fit::Cancels => {
-                push_token(alloc, &mut found, &bytes[start..at])?;
-                push_token(alloc, &mut found, &bytes[at..at + 1])?;
+                push_dropped(alloc, &mut found, &bytes[start..at])?;
+                reader.clear();
+                push_ended(alloc, &mut found, &reader, &bytes[at..at + 1])?;
                 start = at + 1;
             }
-            Fit::Fails => {
-                return Err(TokenFault {
-                    at,
-                    kind: TokenFaultKind::Stuck,
-                });
-            }
+            Fit::Fails => return Err(stuck(at)),
         }
     }
     if start < bytes.len() {
@@ -245,14 +180,35 @@ pub fn tokens(alloc: Global, bytes: &[u8]) -> Result<Vec<Token>, TokenFault>
     Ok(found)
 }
 
-fn push_token(alloc: Global, found: &mut Vec<Token>, bytes: &[u8]) -> Result<(), TokenFault>
+fn stuck(at: usize) -> TokenFault
+    ensures { result ≡ record { at = at; kind = TokenFaultKind.Stuck } }
+{
+    TokenFault {
+        at,
+        kind: TokenFaultKind::Stuck,
+    }
+}
+
+fn push_ended(
+    alloc: Global,
+    found: &mut Vec<Token>,
+    reader: &Reader,
+    bytes: &[u8],
+) -> Result<(), TokenFault>
+    requires whole { IsWhole bytes.now }
+    requires read { (last : ℕ) × (bytes.now ≡ reader.now ++ last ∷ []) }
     ensures ok { OnOk result (found.new.items ≡ found.old.items ++ bytes.now ∷ []) }
     ensures fault { IfErr result (λ e. e.kind ≡ TokenFaultKind.NoMemory) }
 {
-    let refused = TokenFault {
-        at: 0,
-        kind: TokenFaultKind::NoMemory,
-    };
-    let token = Token::new(alloc, bytes).map_err(|_| refused)?;
-    found.push(token).map_err(|_| refused)
+    let token = Token::ended(alloc, reader, bytes).map_err(|_| REFUSED)?;
+    found.push(token).map_err(|_| REFUSED)
+}
+
+fn push_dropped(alloc: Global, found: &mut Vec<Token>, bytes: &[u8]) -> Result<(), TokenFault>
+    requires { IsOpen bytes.now }
+    ensures ok { OnOk result (found.new.items ≡ found.old.items ++ bytes.now ∷ []) }
+    ensures fault { IfErr result (λ e. e.kind ≡ TokenFaultKind.NoMemory) }
+{
+    let token = Token::dropped(alloc, bytes).map_err(|_| REFUSED)?;
+    found.push(token).map_err(|_| REFUSED)
 }

@@ -1,34 +1,57 @@
-use Rattle.std.proofs.Common.{arith}
-use Rattle.vt_term.proofs.Splitting.{splits_open, empty_splits}
-use Rattle.vt_term.proofs.Scanning.{scan_opens, scan_ends, scan_restarts, scan_cancels, scan_fails}
-use Rattle.vt_term.proofs.text.tokens.Goals.{in-Opens, in-Ends+in_ok-push_token-in-Ends, in-Restarts+in_ok-push_token-in-Restarts, in-Cancels+in_ok-push_token-in-Cancels+in_ok-push_token-in-Cancels-2}
+use Rattle.std.proofs.Common.{ℕ, ◌+◌, List, [], ◌∷◌, ◌++◌, ◌∙◌, ap, sym, get_or, arith, rules}
+use Rattle.vt_term.proofs.Sequences.{escape_open}
+use Rattle.vt_term.proofs.Splitting.{empty_splits, cut_whole}
+use Rattle.vt_term.proofs.Scanning.{slice_more, byte_at, nothing_at, scan_opens, scan_ends, scan_restarts, scan_cancels, scan_fails}
+use Rattle.vt_term.proofs.text.tokens.Goals.{in-Opens, in-Ends+in_ok-push_ended-in-Ends, in-Restarts+in_ok-push_dropped-in-Restarts, in-Cancels+in_ok-push_dropped-in-Cancels+in_ok-push_ended-in-Cancels}
 use Rattle.vt_term.proofs.text.tokens.Goals as goal
 
 pub loop-at-init : goal.loop-at-init
-loop-at-init c = rw c.new-found.ensures.items (record { ordered = omega arith; splits = empty_splits })
+loop-at-init c = rw c.new-found.ensures.items (record { ordered = omega arith; read = search rules; splits = empty_splits })
 
-pub fit_behind-requires : goal.fit_behind-requires
-fit_behind-requires c = splits_open _ _ _ c.loop-at.invariant.splits
+pub push_ended-requires-clause-whole : goal.push_ended-requires-clause-whole
+push_ended-requires-clause-whole c = rw (slice_more c.args.bytes.now c.loop-at.start c.loop-at.at c.loop-at.invariant.ordered c.loop-at-test.true, ← c.loop-at.invariant.read) c.in-Ends.ensures.fit
+
+pub push_ended-requires-clause-read : goal.push_ended-requires-clause-read
+push_ended-requires-clause-read c = (
+  get_or c.args.bytes.now c.loop-at.at 0,
+  slice_more c.args.bytes.now c.loop-at.start c.loop-at.at c.loop-at.invariant.ordered c.loop-at-test.true ∙ ap (λ (l : List ℕ). l ++ get_or c.args.bytes.now c.loop-at.at 0 ∷ []) (sym c.loop-at.invariant.read),
+)
+
+pub push_dropped-requires : goal.push_dropped-requires
+push_dropped-requires c = rw (← c.loop-at.invariant.read) c.fit.ensures.begun
+
+pub open-requires-in-Restarts : goal.open-requires-in-Restarts
+open-requires-in-Restarts c = rw c.clear-in-Restarts.ensures (escape_open _ c.in-Restarts.ensures.fit.1)
+
+pub push_ended-requires-in-Cancels-clause-whole : goal.push_ended-requires-in-Cancels-clause-whole
+push_ended-requires-in-Cancels-clause-whole c = rw (← byte_at c.args.bytes.now c.loop-at.at c.loop-at-test.true) (cut_whole c.in-Cancels.ensures.fit.1)
+
+pub push_ended-requires-in-Cancels-clause-read : goal.push_ended-requires-in-Cancels-clause-read
+push_ended-requires-in-Cancels-clause-read c = rw c.clear-in-Cancels.ensures (get_or c.args.bytes.now c.loop-at.at 0, sym (byte_at c.args.bytes.now c.loop-at.at c.loop-at-test.true))
 
 pub returns-in-Fails-clause-fault : goal.returns-in-Fails-clause-fault
-returns-in-Fails-clause-fault c = scan_fails c.args.bytes.now c.loop-at.found.items _ c.loop-at.at c.loop-at-test.true c.loop-at.invariant.splits c.in-Fails.ensures
+returns-in-Fails-clause-fault c = rw c.stuck.ensures (scan_fails c.args.bytes.now c.loop-at.found.items _ c.loop-at.at c.loop-at-test.true c.loop-at.invariant.splits (rw c.loop-at.invariant.read at c.in-Fails.ensures.fit))
 
 pub loop-at-preserved : goal.loop-at-preserved
-loop-at-preserved c = elim c.match-fit_behind.branch [
-  | in-Opens w ↦ rw (w.start-is, w.found-is) (record {
+loop-at-preserved c = elim c.match-fit.branch [
+  | in-Opens w ↦ rw (w.reader-is, w.start-is, w.found-is) (record {
     ordered = omega arith;
-    splits = scan_opens c.args.bytes.now c.loop-at.found.items c.loop-at.start c.loop-at.at c.loop-at.invariant.ordered c.loop-at-test.true c.loop-at.invariant.splits w.in-Opens.ensures;
+    read = w.open.ensures ∙ ap (λ (l : List ℕ). l ++ get_or c.args.bytes.now c.loop-at.at 0 ∷ []) c.loop-at.invariant.read ∙ sym (slice_more c.args.bytes.now c.loop-at.start c.loop-at.at c.loop-at.invariant.ordered c.loop-at-test.true);
+    splits = scan_opens c.args.bytes.now c.loop-at.found.items c.loop-at.start c.loop-at.at c.loop-at.invariant.ordered c.loop-at-test.true c.loop-at.invariant.splits (rw c.loop-at.invariant.read at w.in-Opens.ensures.fit);
   })
-  | in-Ends+in_ok-push_token-in-Ends w ↦ rw (w.start-is, w.found-is, w.in_ok-push_token-in-Ends.ensures.ok) (record {
+  | in-Ends+in_ok-push_ended-in-Ends w ↦ rw (w.reader-is, w.start-is, w.found-is, w.in_ok-push_ended-in-Ends.ensures.ok) (record {
     ordered = omega arith;
-    splits = scan_ends c.args.bytes.now c.loop-at.found.items c.loop-at.start c.loop-at.at c.loop-at.invariant.ordered c.loop-at-test.true c.loop-at.invariant.splits w.in-Ends.ensures;
+    read = w.clear.ensures ∙ nothing_at c.args.bytes.now (c.loop-at.at + 1);
+    splits = scan_ends c.args.bytes.now c.loop-at.found.items c.loop-at.start c.loop-at.at c.loop-at.invariant.ordered c.loop-at-test.true c.loop-at.invariant.splits (rw c.loop-at.invariant.read at w.in-Ends.ensures.fit);
   })
-  | in-Restarts+in_ok-push_token-in-Restarts w ↦ rw (w.start-is, w.found-is, w.in_ok-push_token-in-Restarts.ensures.ok) (record {
+  | in-Restarts+in_ok-push_dropped-in-Restarts w ↦ rw (w.reader-is, w.start-is, w.found-is, w.in_ok-push_dropped-in-Restarts.ensures.ok) (record {
     ordered = omega arith;
-    splits = scan_restarts c.args.bytes.now c.loop-at.found.items _ c.loop-at.at c.loop-at-test.true c.loop-at.invariant.splits w.in-Restarts.ensures.0 w.in-Restarts.ensures.1;
+    read = w.open-in-Restarts.ensures ∙ ap (λ (l : List ℕ). l ++ get_or c.args.bytes.now c.loop-at.at 0 ∷ []) w.clear-in-Restarts.ensures ∙ byte_at c.args.bytes.now c.loop-at.at c.loop-at-test.true;
+    splits = scan_restarts c.args.bytes.now c.loop-at.found.items _ c.loop-at.at c.loop-at-test.true c.loop-at.invariant.splits (rw c.loop-at.invariant.read at w.in-Restarts.ensures.fit.0) w.in-Restarts.ensures.fit.1;
   })
-  | in-Cancels+in_ok-push_token-in-Cancels+in_ok-push_token-in-Cancels-2 w ↦ rw (w.start-is, w.found-is, w.in_ok-push_token-in-Cancels-2.ensures.ok, w.in_ok-push_token-in-Cancels.ensures.ok) (record {
+  | in-Cancels+in_ok-push_dropped-in-Cancels+in_ok-push_ended-in-Cancels w ↦ rw (w.reader-is, w.start-is, w.found-is, w.in_ok-push_ended-in-Cancels.ensures.ok, w.in_ok-push_dropped-in-Cancels.ensures.ok) (record {
     ordered = omega arith;
-    splits = scan_cancels c.args.bytes.now c.loop-at.found.items _ c.loop-at.at c.loop-at-test.true c.loop-at.invariant.splits w.in-Cancels.ensures.0 w.in-Cancels.ensures.1;
+    read = w.clear-in-Cancels.ensures ∙ nothing_at c.args.bytes.now (c.loop-at.at + 1);
+    splits = scan_cancels c.args.bytes.now c.loop-at.found.items _ c.loop-at.at c.loop-at-test.true c.loop-at.invariant.splits (rw c.loop-at.invariant.read at w.in-Cancels.ensures.fit.0) w.in-Cancels.ensures.fit.1;
   })
 ]

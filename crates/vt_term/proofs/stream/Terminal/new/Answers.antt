@@ -1,6 +1,5 @@
-use Rattle.std.proofs.Common.{arith}
 use Rattle.vt_term.proofs.Sequences.{empty_open}
 use Rattle.vt_term.proofs.stream.Terminal.new.Goals as goal
 
 pub invariant_of-result : goal.invariant_of-result
-invariant_of-result c = (rw c.in_ok-rest.ensures.items empty_open, omega (arith, c.in_ok-rest.ensures.exact))
+invariant_of-result c = rw c.in_ok-reader.ensures empty_open

@@ -1,0 +1,4 @@
+pub mod Laws
+pub mod Making
+pub mod Parts
+pub mod Showing

@@ -1,0 +1,22 @@
+-- Lines or columns that follow one another, and rectangles of them.
+use Rattle.std.specs.Prelude.{ℕ, ◌+◌, ◌-◌, nat_le, Option, Some, None, if◌then◌else◌, ℤ}
+use Rattle.cur_grid.specs.Windows.{place_below}
+use Rattle.cur_windows.specs.declared.parts.Stretch.{Stretch}
+use Rattle.cur_pads.specs.declared.parts.Run.{Run}
+
+-- lines or columns of the code, in the words of the windows
+abbrev pub stretch : Option Run → Option Stretch
+stretch (Some r) = Some (record { at = r.first; size = r.count })
+stretch None = None
+
+abbrev pub up_to : ℕ → Option ℕ → Option Stretch
+up_to at (Some last) = Some (record { at = at; size = last - at + 1 })
+up_to at None = None
+
+-- the first one to the last one, if that is below the limit
+abbrev pub between : ℕ → ℤ → ℕ → Option Stretch
+between at last limit = up_to at (place_below last limit)
+
+-- so many from a place on, if they are all below the limit
+abbrev pub from : ℕ → ℕ → ℕ → Option Stretch
+from at size limit = if nat_le (at + size) limit then Some (record { at = at; size = size }) else None

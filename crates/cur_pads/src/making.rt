@@ -1,0 +1,58 @@
+ghost use Rattle.std.specs.Prelude.{◌≡◌, ◌<◌, ◌≤◌, ◌⊎◌, Ok, Err, IfSome};
+ghost use Rattle.cur_windows.specs.Desks.{step};
+ghost use Rattle.cur_pads.specs.Making as spec;
+
+use crate::checks::{check_free, check_range, pad_size};
+use crate::parts::part;
+use cur_windows::{Desk, Refusal};
+
+// How many lines or columns a pad may have.
+const LONGEST: i32 = 1000;
+
+/// A new pad of 1 to 1000 lines and as many columns (X/Open Curses, `newpad`). `Full` for a number above 63,
+/// `NumberUsed`, `BadRegion` for any other size; `NoMemory` where a growth was refused. Then nothing has changed.
+pub fn newpad(desk: &mut Desk, n: usize, lines: i32, cols: i32) -> Result<(), Refusal>
+    ensures { ((result ≡ Err Refusal.NoMemory) × (desk.new ≡ desk.old) × ((spec.newpad desk.old n lines cols).1 ≡ Ok tt)) ⊎ (step desk.new result ≡ spec.newpad desk.old n lines cols) }
+{
+    check_free(desk, n)?;
+    let (Some(rows), Some(cols)) = (side(lines), side(cols)) else {
+        return Err(Refusal::BadRegion);
+    };
+    if desk.add_pad(n, rows, cols).is_err() {
+        return Err(Refusal::NoMemory);
+    }
+    Ok(())
+}
+
+/// A new pad that is a part of another one and shares its cells; the place counts from that one's corner, and 0 lines or
+/// columns mean all up to its edge (`subpad`). `Full`, `NumberUsed`, `NoWindow`, `PadKind` for a window, `BadRegion` for
+/// a negative size, `OutOfWindow` where it isn't a part. Then nothing has changed.
+pub fn subpad(
+    desk: &mut Desk,
+    n: usize,
+    id: usize,
+    lines: i32,
+    cols: i32,
+    y: i32,
+    x: i32,
+) -> Result<(), Refusal>
+    ensures { step desk.new result ≡ spec.subpad desk.old n id lines cols y x }
+{
+    check_range(n, id)?;
+    check_free(desk, n)?;
+    let (height, width) = pad_size(desk, id)?;
+    let area = part(height, width, lines, cols, y, x)?;
+    desk.add_subpad(n, id, area.top, area.left, area.rows, area.cols);
+    Ok(())
+}
+
+// So many lines or columns, if a pad may have them.
+fn side(n: i32) -> Option<u16>
+    ensures value { result ≡ spec.side n }
+    ensures within { IfSome result (λ size. (0 < size) × (size ≤ 1000)) }
+{
+    if n < 1 || n > LONGEST {
+        return None;
+    }
+    Some(n as u16)
+}

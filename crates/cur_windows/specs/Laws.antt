@@ -1,0 +1,25 @@
+-- What holds of the calls, whatever each of them does.
+use Rattle.std.specs.Prelude.{◌≡◌, ◌≢◌, ◌⊎◌, ℕ, ◌+◌, ◌<◌, Bool, true, false, Option, Some, None, Result, Ok, Err}
+use Rattle.cur_grid.specs.declared.refusals.Refusal.{Refusal}
+use Rattle.cur_grid.specs.Grids.{is_in, cell_at}
+use Rattle.cur_windows.specs.declared.slots.Slot.{Slot}
+use Rattle.cur_windows.specs.Desks.{State, DeskStep, grid_at, window_at}
+
+-- from one desk to the other no cell outside window n's rectangle has changed, and no other window
+pub record OnlyWithin (d e : State) (n : ℕ) (s : Slot) : Type 0 where
+  pub cells : (k i j : ℕ) → (k ≢ s.root) ⊎ (is_in s.window.area i j ≡ false) → cell_at (grid_at e k) i j ≡ cell_at (grid_at d k) i j
+  pub windows : (m : ℕ) → m ≢ n → window_at e m ≡ window_at d m
+
+-- two windows have no cell in common
+abbrev pub Apart : Slot → Slot → Type 0
+Apart s t = (t.root ≢ s.root) ⊎ ((i j : ℕ) → is_in t.window.area i j ≡ true → is_in s.window.area i j ≡ false)
+
+-- window t is a part of the other one that begins at its place y x
+pub record IsPartOf (s t : Slot) (y x : ℕ) : Type 0 where
+  pub root : t.root ≡ s.root
+  pub top : t.window.area.top ≡ s.window.area.top + y
+  pub left : t.window.area.left ≡ s.window.area.left + x
+
+-- where the step is a refusal it gives the desk back
+abbrev pub GivesBack : State → DeskStep → Type 0
+GivesBack d x = (e : Refusal) → x.1 ≡ Err e → x.0 ≡ d

@@ -1,0 +1,153 @@
+ghost use Rattle.std.specs.Prelude.{◌≡◌, ◌<◌, ◌≤◌, ◌+◌, None, IfOk, IsOk, IfSome, MatchResult};
+ghost use Rattle.cur_grid.specs.Grids.{is_in};
+ghost use Rattle.cur_grid.specs.Windows.{IsWindow};
+ghost use Rattle.cur_windows.specs.Desks as spec;
+ghost use Rattle.cur_windows.specs.Making as make;
+ghost use Rattle.cur_windows.specs.Padding.{is_pad, padded, area_of, part_cursor, part_shown};
+ghost use Rattle.cur_grid.specs.Sheets.{place};
+
+use crate::desks::Desk;
+use crate::screens::Virtual;
+use crate::slots::Origin;
+use cur_grid::{Area, Grid, Place, Refusal, Window};
+use std::alloc::AllocError;
+
+// What a crate of pads stands on. A pad is a window that lies on no screen; parts of it are shown.
+impl Desk {
+    /// Whether the number names a pad or a part of one. `Full`, `NoWindow`.
+    pub fn is_pad(&self, id: usize) -> Result<bool, Refusal>
+        ensures { result ≡ is_pad self.now id }
+    {
+        let slot = self.find(id)?;
+        Ok(self.origins[slot.root as usize].pad)
+    }
+
+    /// A new pad of 1 to 1000 rows and columns. That the number is free is the caller's condition. An error where a growth
+    /// was refused; then nothing has changed.
+    pub fn add_pad(&mut self, n: usize, rows: u16, cols: u16) -> Result<(), AllocError>
+        requires number { n < 64 }
+        requires free { spec.window_at self.old n ≡ None }
+        requires rows { (0 < rows) × (rows ≤ 1000) }
+        requires cols { (0 < cols) × (cols ≤ 1000) }
+        ensures { MatchResult result (λ u. self.new ≡ padded self.old n rows cols) (λ e. self.new ≡ self.old) }
+    {
+        let grid = Grid::new(self.alloc, rows, cols)?;
+        let origin = Origin {
+            top: 0,
+            left: 0,
+            pad: true,
+        };
+        let whole = Area {
+            top: 0,
+            left: 0,
+            rows,
+            cols,
+        };
+        self.place_new(n, grid, origin, Window::new(whole));
+        Ok(())
+    }
+
+    /// A new window that is a part of another one and shares its cells, at a place of it. That the number is free, that
+    /// there is such a window and that the part lies in it is the caller's condition.
+    pub fn add_subpad(&mut self, n: usize, id: usize, y: u16, x: u16, rows: u16, cols: u16)
+        requires number { n < 64 }
+        requires free { spec.window_at self.old n ≡ None }
+        requires there { IsOk (spec.slot_of self.old id) }
+        requires inside { IfOk (spec.slot_of self.old id) (λ s. make.IsPart s.window.area.rows s.window.area.cols (area_of y x rows cols)) }
+        ensures { IfOk (spec.slot_of self.old id) (λ s. self.new ≡ make.parted self.old n id s (area_of y x rows cols)) }
+    {
+        let Ok(slot) = self.find(id) else {
+            return;
+        };
+        let area = Area {
+            top: y,
+            left: x,
+            rows,
+            cols,
+        };
+        self.place_part(n, id, &slot, area);
+    }
+
+    /// A part of a window is copied to a place of the virtual screen, whose cursor becomes the window's if the window
+    /// doesn't leave it and it lies in that part, else none; the window's `clearok` goes over to the screen. That there is
+    /// such a window, that the part lies in it and, where it is copied to, on the screen, and that the screen has the
+    /// desk's size is the caller's condition.
+    pub fn show_part(
+        &mut self,
+        id: usize,
+        y: u16,
+        x: u16,
+        rows: u16,
+        cols: u16,
+        to_y: u16,
+        to_x: u16,
+        screen: &mut Virtual,
+    )
+        requires there { IsOk (spec.slot_of self.old id) }
+        requires inside { IfOk (spec.slot_of self.old id) (λ s. (y + rows ≤ s.window.area.rows) × (x + cols ≤ s.window.area.cols)) }
+        requires bottom { to_y + rows ≤ (self.old).rows }
+        requires right { to_x + cols ≤ (self.old).cols }
+        requires screen_rows { (screen.old).rows ≡ (self.old).rows }
+        requires screen_cols { (screen.old).cols ≡ (self.old).cols }
+        ensures { IfOk (spec.slot_of self.old id) (λ s. (self.new, screen.new) ≡ part_shown self.old screen.old id s (area_of y x rows cols) (place to_y to_x)) }
+    {
+        let Ok(mut slot) = self.find(id) else {
+            return;
+        };
+        let from = Place {
+            top: slot.window.area.top + y,
+            left: slot.window.area.left + x,
+        };
+        let part = Area {
+            top: y,
+            left: x,
+            rows,
+            cols,
+        };
+        let to = Place {
+            top: to_y,
+            left: to_x,
+        };
+        let area = Area {
+            top: to_y,
+            left: to_x,
+            rows,
+            cols,
+        };
+        // no screen is larger than a window may be
+        let _ = &self.rows;
+        let cursor = cursor_in_part(&slot.window, part, to);
+        screen.show(area, self.grid_of(&slot), from, cursor, slot.window.clears);
+        slot.window.clears = false;
+        self.windows[id] = Some(slot);
+    }
+}
+
+// Where the window's cursor stands if this part of it is shown from a place on.
+fn cursor_in_part(window: &Window, part: Area, to: Place) -> Option<Place>
+    requires window { IsWindow window.now }
+    requires height { to.top + part.rows ≤ 1000 }
+    requires width { to.left + part.cols ≤ 1000 }
+    ensures value { result ≡ part_cursor window.now part to }
+    ensures within { IfSome result (λ p. (p.top < to.top + part.rows) × (p.left < to.left + part.cols)) }
+{
+    if window.leaves {
+        return None;
+    }
+    if !is_in(part, window.row, window.col) {
+        return None;
+    }
+    Some(Place {
+        top: to.top + (window.row - part.top),
+        left: to.left + (window.col - part.left),
+    })
+}
+
+fn is_in(part: Area, row: u16, col: u16) -> bool
+    ensures { result ≡ is_in part row col }
+{
+    let (row, col) = (row as u32, col as u32);
+    let (top, left) = (part.top as u32, part.left as u32);
+    let rows = top <= row && row < top + part.rows as u32;
+    rows && left <= col && col < left + part.cols as u32
+}

@@ -1,0 +1,93 @@
+ghost use Rattle.std.specs.Prelude.{◌≡◌, ◌<◌, ◌+◌, IfOk, slice_set};
+ghost use Rattle.cur_grid.specs.Grids.{Fits, filled, line_at, one};
+ghost use Rattle.cur_windows.specs.Desks as spec;
+ghost use Rattle.cur_windows.specs.Rows.{IsLine, line_of, lent_of, place_written};
+ghost use Rattle.cur_windows.specs.Views.{cut};
+
+use crate::desks::Desk;
+use crate::slots::Slot;
+use cur_grid::{Cell, Refusal};
+
+/// One line of a window that is lent for writing. While it is held, nothing else can be done with the desk.
+#[derive(Drop)]
+pub struct RowMut<'a> {
+    desk: &'a mut Desk,
+    slot: Slot,
+    row: usize,
+}
+
+impl Desk {
+    ghost use Rattle.std.specs.Borrow.{sem, RestsIfErr};
+    ghost use Rattle.cur_windows.specs.contracts.desks.Desk.{the_row};
+
+    /// One line of a window, for writing: what is written through it is in the grid at that place, and nothing else has
+    /// changed. `Full`, `NoWindow`, `OutOfWindow` where the window has no such line; then nothing has changed.
+    pub fn row_mut(&mut self, id: usize, y: usize) -> Result<RowMut<'_>, Refusal>
+        ensures* refused { sem 𝓛 (RestsIfErr the_row self.entry (λ r. r.desk.ghost_name) result (λ d. d ≡ self.old)) }
+        ensures same_reference { IfOk result (λ r. r.desk.ghost_name ≡ self.entry.ghost_name) }
+        ensures answer { lent_of result ≡ line_of self.old id y }
+        ensures lent { IfOk result (λ r. (r.desk.now ≡ self.old) × (r.row ≡ y)) }
+        ensures line { IfOk result (λ r. IsLine r.desk.now r.slot r.row) }
+    {
+        let slot = self.find(id)?;
+        if y >= slot.window.area.rows as usize {
+            return Err(Refusal::OutOfWindow);
+        }
+        Ok(RowMut {
+            desk: self,
+            slot,
+            row: y,
+        })
+    }
+
+    // One cell of a grid becomes this one.
+    fn put_cell(&mut self, root: usize, row: usize, col: usize, cell: Cell)
+        requires root { root < 64 }
+        requires place { Fits (one row col) (spec.grid_at self.old root) }
+        ensures { self.new ≡ record self.old { grids = slice_set (self.old).grids root (filled (one row col) cell (spec.grid_at self.old root)) } }
+    {
+        let grid = &mut self.grids[root];
+        grid.set(row, col, cell);
+    }
+}
+
+impl<'a> RowMut<'a> {
+    /// How many places it has.
+    pub fn cols(&self) -> usize
+        ensures { result ≡ (self.now).slot.window.area.cols }
+    {
+        self.slot.window.area.cols as usize
+    }
+
+    /// Its cells.
+    pub fn cells(&self) -> &[Cell]
+        requires { IsLine (self.now).desk.now (self.now).slot (self.now).row }
+        ensures { result.now ≡ cut (self.now).slot.window.area (line_at (spec.grid_at (self.now).desk.now (self.now).slot.root) ((self.now).slot.window.area.top + (self.now).row)) }
+    {
+        let area = self.slot.window.area;
+        let left = area.left as usize;
+        let line = self
+            .desk
+            .grid_of(&self.slot)
+            .line(area.top as usize + self.row);
+        &line[left..left + area.cols as usize]
+    }
+
+    /// One of its cells becomes this one. That it has such a place is the caller's condition.
+    pub fn set(&mut self, x: usize, cell: Cell)
+        requires line { IsLine (self.old).desk.now (self.old).slot (self.old).row }
+        requires within { x < (self.old).slot.window.area.cols }
+        ensures same_reference { (self.new).desk.ghost_name ≡ (self.old).desk.ghost_name }
+        ensures same_line { ((self.new).slot ≡ (self.old).slot) × ((self.new).row ≡ (self.old).row) }
+        ensures value { (self.new).desk.now ≡ place_written (self.old).desk.now (self.old).slot (self.old).row x cell }
+        ensures line { IsLine (self.new).desk.now (self.new).slot (self.new).row }
+    {
+        let area = self.slot.window.area;
+        self.desk.put_cell(
+            self.slot.root as usize,
+            area.top as usize + self.row,
+            area.left as usize + x,
+            cell,
+        );
+    }
+}

@@ -1,0 +1,24 @@
+//! Numbers as they stand in the words of a command line.
+
+ghost use Rattle.std.specs.Prelude.{◌≡◌, ◌↔◌, ◌<◌, ◌^◌, IsSome, IfSome};
+ghost use Rattle.std.specs.Str.Parse.{digits_value};
+ghost use Rattle.ti_commands.specs.Words.{IsNumberWord};
+
+/// The greatest number that a word can give.
+const GREATEST: u32 = 2_147_483_647;
+
+/// The value of a word of decimal digits, leading zeros allowed, up to 2147483647; `None` for any
+/// other word, also one with a sign.
+pub fn decimal_number(word: &str) -> Option<u32>
+    ensures found { IsSome result ↔ IsNumberWord word.now }
+    ensures value { IfSome result (λ n. n ≡ digits_value 10 word.now) }
+    ensures range { IfSome result (λ n. n < 2 ^ 31) }
+{
+    if word.as_bytes().first() == Some(&b'+') {
+        return None;
+    }
+    match word.parse::<u32>() {
+        Ok(number) if number <= GREATEST => Some(number),
+        _ => None,
+    }
+}

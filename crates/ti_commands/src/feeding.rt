@@ -1,0 +1,31 @@
+//! The command `feed`.
+
+use crate::failure::{Failure, Refusal, Reply};
+use crate::files::Files;
+use crate::reading::read_whole;
+use crate::sizes::{number_word, size_of};
+use std::alloc::Global;
+use vt_term::Terminal;
+
+/// The most bytes of a file that is fed.
+const LIMIT: u32 = 16_777_216;
+
+/// Feeds the file at `path` to a terminal in its reset state, and shows its screen. Rows and columns are words of
+/// the line.
+pub fn feed_file<F: Files>(
+    alloc: Global,
+    rows: &str,
+    cols: &str,
+    path: &str,
+    files: &mut F,
+) -> Result<Reply, Failure> {
+    let rows = number_word(alloc, "ROWS", rows)?;
+    let cols = number_word(alloc, "COLS", cols)?;
+    let size = size_of(rows, cols)?;
+    let bytes = read_whole(alloc, files, path, LIMIT)?;
+    let mut terminal = Terminal::new(alloc, size)?;
+    match terminal.feed(bytes.as_slice()) {
+        Ok(()) => Ok(Reply::of_text(alloc, terminal.print_screen(alloc)?)),
+        Err(stuck) => Err(Failure::Refused(Refusal::Stuck(stuck))),
+    }
+}

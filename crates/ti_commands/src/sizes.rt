@@ -1,0 +1,31 @@
+//! The words that several commands have: numbers, and the terminal's size.
+
+use crate::decimal::decimal_number;
+use crate::failure::{Failure, Refusal};
+use std::alloc::Global;
+use vt_term::Size;
+
+/// The number that a word gives, or why it is none; `name` is what the word stands for.
+pub fn number_word(alloc: Global, name: &str, word: &str) -> Result<u32, Failure> {
+    match decimal_number(word) {
+        Some(number) => Ok(number),
+        None => Err(not_a_number(alloc, name, word)),
+    }
+}
+
+/// A size of a terminal, or its refusal.
+pub fn size_of(rows: u32, cols: u32) -> Result<Size, Failure> {
+    Size::new(rows as usize, cols as usize).ok_or(Failure::Refused(Refusal::Size))
+}
+
+/// A word that stands where a number belongs.
+fn not_a_number(alloc: Global, name: &str, word: &str) -> Failure {
+    let text = format!(in alloc;
+        "error: invalid value '{word}' for {name}: a decimal number up to 2147483647 is wanted\n\n\
+         For more information, try '--help'.\n"
+    );
+    match text {
+        Ok(text) => Failure::Usage(text),
+        Err(_) => Failure::NoMemory,
+    }
+}

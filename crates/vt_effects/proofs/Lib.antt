@@ -1,0 +1,11 @@
+pub mod Moving
+pub mod Cells
+pub mod Staying
+pub mod Marking
+pub mod Extending
+pub mod Feeding
+pub mod Erasing
+pub mod Sounding
+pub mod Joining
+pub mod Placing
+pub mod Basics

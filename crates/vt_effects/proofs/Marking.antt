@@ -1,0 +1,106 @@
+-- What SGR and modes do is what the record says.
+use Rattle.std.proofs.Common.{◌≡◌, ℕ, ◌-◌, ◌==◌, ◌&&◌, nat_le, Bool, true, false, if◌then◌else◌, List, [], ◌∷◌, Option, Some, None, refl, sym, ap, ◌∙◌}
+use Rattle.std.specs.Option.{unwrap_or, option_and_then}
+use Rattle.std.proofs.lemmas.Option.{option_and_then_some}
+use Rattle.vt_term.specs.Look.{Rendition}
+use Rattle.vt_term.specs.Screen.{Screen}
+use Rattle.vt_term.specs.Step as step
+use Rattle.vt_effects.specs.declared.effects.Rendering.{Rendering}
+use Rattle.vt_effects.specs.declared.effects.Effect.{Effect}
+use Rattle.vt_effects.specs.Effect.{rendered, applied}
+use Rattle.vt_effects.specs.Record.{rendering, all_renderings, mode_set, modes_set}
+use Rattle.vt_effects.proofs.Moving.{chosen, given, not_found}
+
+either_rendered : (b : Bool) (p q : Rendering) (x u v : Rendition) → rendered p x ≡ u → rendered q x ≡ v → rendered (if b then p else q) x ≡ (if b then u else v)
+either_rendered true p q x u v h k = h
+either_rendered false p q x u v h k = k
+
+number_rendered : (n : ℕ) (r : Rendering) (x : Rendition) → rendered (rendering n r) x ≡ step.rendered n (rendered r x)
+number_rendered n r x =
+    either_rendered (n == 0) _ _ x _ _ refl (either_rendered (n == 1) _ _ x _ _ refl (either_rendered (n == 2) _ _ x _ _ refl
+    (either_rendered (n == 4) _ _ x _ _ refl (either_rendered (n == 5) _ _ x _ _ refl (either_rendered (n == 7) _ _ x _ _ refl
+    (either_rendered (n == 8) _ _ x _ _ refl (either_rendered (n == 22) _ _ x _ _ refl (either_rendered (n == 24) _ _ x _ _ refl
+    (either_rendered (n == 25) _ _ x _ _ refl (either_rendered (n == 27) _ _ x _ _ refl (either_rendered (n == 28) _ _ x _ _ refl
+    (either_rendered (nat_le 30 n && nat_le n 37) _ _ x _ _ refl (either_rendered (n == 39) _ _ x _ _ refl
+    (either_rendered (nat_le 40 n && nat_le n 47) _ _ x _ _ refl (either_rendered (n == 49) _ _ x _ _ refl refl)))))))))))))))
+
+pub numbers_rendered : (ns : List (Option ℕ)) (r : Rendering) (x : Rendition) → rendered (all_renderings ns r) x ≡ step.all_rendered ns (rendered r x)
+numbers_rendered [] r x = refl
+numbers_rendered (n ∷ ns) r x = numbers_rendered ns (rendering (unwrap_or n 0) r) x ∙ ap (λ (y : Rendition). step.all_rendered ns y) (number_rendered (unwrap_or n 0) r x)
+
+-- a mode that is set moves no cursor
+pub record SamePlace (e f : Effect) : Type 0 where
+  pub row : f.row ≡ e.row
+  pub col : f.col ≡ e.col
+
+-- and it does what the record says, from a screen with autowrap on and insertion off
+abbrev pub Follows : Effect → Effect → Screen → Screen → Type 0
+Follows e f s to = to ≡ applied f s
+
+and_true : (b : Bool) → (b && true) ≡ b
+and_true true = refl
+and_true false = refl
+
+wraps : (s : Screen) → s.autowrap ≡ true → record s { autowrap = true; pending = s.pending && true } ≡ s
+wraps s h = ap (λ (b : Bool). record s { autowrap = true; pending = b }) (and_true s.pending) ∙ ap (λ (b : Bool). record s { autowrap = b }) (sym h)
+
+replaces : (s : Screen) → s.inserting ≡ false → record s { inserting = false } ≡ s
+replaces s h = ap (λ (b : Bool). record s { inserting = b }) (sym h)
+
+pick : {A : Type 0} (b : Bool) (x y z : A) → b ≡ true → x ≡ z → (if b then x else y) ≡ z
+pick true x y z e h = h
+pick false x y z e h = absurd (cc)
+
+skip : {A : Type 0} (b : Bool) (x y z : A) → b ≡ false → y ≡ z → (if b then x else y) ≡ z
+skip true x y z e h = absurd (cc)
+skip false x y z e h = h
+
+same_effect : (e f : Effect) (s to : Screen) → Some e ≡ Some f → to ≡ applied e s → Follows e f s to
+same_effect e f s to h k = given (λ g. Follows e g s to) e f h k
+
+mode_follows : (private on : Bool) (n : ℕ) (e f : Effect) (s : Screen) → s.autowrap ≡ true → s.inserting ≡ false → mode_set private on n e ≡ Some f → Follows e f s (step.mode_set private on n (applied e s))
+mode_follows true true n e f s w i h = chosen (n == 7) _ _ f h
+    (λ b k. same_effect e f s _ k (pick (n == 7) _ _ (applied e s) b (wraps (applied e s) w)))
+    (λ b k. chosen (n == 25) _ _ f k
+    (λ c l. given (λ g. Follows e g s (step.mode_set true true n (applied e s))) _ f l
+    (skip (n == 7) _ _ _ b (pick (n == 25) _ _ _ c refl)))
+    (λ c l. same_effect e f s _ l (skip (n == 7) _ _ _ b (skip (n == 25) _ _ _ c refl))))
+mode_follows true false n e f s w i h = chosen (n == 7) _ _ f h
+    (λ b k. not_found f k)
+    (λ b k. chosen (n == 25) _ _ f k
+    (λ c l. given (λ g. Follows e g s (step.mode_set true false n (applied e s))) _ f l
+    (skip (n == 7) _ _ _ b (pick (n == 25) _ _ _ c refl)))
+    (λ c l. same_effect e f s _ l (skip (n == 7) _ _ _ b (skip (n == 25) _ _ _ c refl))))
+mode_follows false true n e f s w i h = chosen (n == 4) _ _ f h
+    (λ b k. not_found f k)
+    (λ b k. same_effect e f s _ k (skip (n == 4) _ _ _ b refl))
+mode_follows false false n e f s w i h = chosen (n == 4) _ _ f h
+    (λ b k. same_effect e f s _ k (pick (n == 4) _ _ (applied e s) b (replaces (applied e s) i)))
+    (λ b k. same_effect e f s _ k (skip (n == 4) _ _ _ b refl))
+
+pub modes_follow : (private on : Bool) (ns : List (Option ℕ)) (e f : Effect) (s : Screen) → s.autowrap ≡ true → s.inserting ≡ false → modes_set private on ns e ≡ Some f → Follows e f s (step.all_modes_set private on ns (applied e s))
+modes_follow private on [] e f s w i h = same_effect e f s _ h refl
+modes_follow private on (n ∷ ns) e f s w i h = option_and_then_some (modes_set private on ns) (mode_set private on (unwrap_or n 0) e) f h
+    (λ g found left.
+    let one : Follows e g s (step.mode_set private on (unwrap_or n 0) (applied e s)) = mode_follows private on (unwrap_or n 0) e g s w i found in
+    let more : Follows g f s (step.all_modes_set private on ns (applied g s)) = modes_follow private on ns g f s w i left in
+    ap (λ (x : Screen). step.all_modes_set private on ns x) one ∙ more)
+
+stays : (e f : Effect) → Some e ≡ Some f → SamePlace e f
+stays e f h = given (λ g. SamePlace e g) e f h (record { row = refl; col = refl })
+
+mode_stays : (private on : Bool) (n : ℕ) (e f : Effect) → mode_set private on n e ≡ Some f → SamePlace e f
+mode_stays true true n e f h = chosen (n == 7) _ _ f h (λ b k. stays e f k)
+    (λ b k. chosen (n == 25) _ _ f k (λ c l. given (λ g. SamePlace e g) _ f l (record { row = refl; col = refl })) (λ c l. stays e f l))
+mode_stays true false n e f h = chosen (n == 7) _ _ f h (λ b k. not_found f k)
+    (λ b k. chosen (n == 25) _ _ f k (λ c l. given (λ g. SamePlace e g) _ f l (record { row = refl; col = refl })) (λ c l. stays e f l))
+mode_stays false true n e f h = chosen (n == 4) _ _ f h (λ b k. not_found f k) (λ b k. stays e f k)
+mode_stays false false n e f h = chosen (n == 4) _ _ f h (λ b k. stays e f k) (λ b k. stays e f k)
+
+pub modes_stay : (private on : Bool) (ns : List (Option ℕ)) (e f : Effect) → modes_set private on ns e ≡ Some f → SamePlace e f
+modes_stay private on [] e f h = stays e f h
+modes_stay private on (n ∷ ns) e f h = option_and_then_some (modes_set private on ns) (mode_set private on (unwrap_or n 0) e) f h
+    (λ g found left.
+    let one : SamePlace e g = mode_stays private on (unwrap_or n 0) e g found in
+    let more : SamePlace g f = modes_stay private on ns g f left in
+    record { row = more.row ∙ one.row; col = more.col ∙ one.col })

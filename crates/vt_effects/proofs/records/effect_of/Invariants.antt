@@ -1,0 +1,8 @@
+-- The tokens that are left make of the effect now what all of them make of none.
+use Rattle.std.proofs.Common.{◌≡◌, drop}
+use Rattle.vt_effects.specs.Effect.{unchanged}
+use Rattle.vt_effects.specs.Record.{all_extended}
+use Rattle.vt_effects.proofs.records.effect_of.Given as goal
+
+abbrev pub invariant-loop-token : goal.invariant-loop-token
+invariant-loop-token l = all_extended l.size.rows l.size.cols l.start (drop l.token-index l.tokens) l.effect ≡ all_extended l.size.rows l.size.cols l.start l.tokens unchanged

@@ -1,0 +1,7 @@
+-- The numbers that are left make of the effect now what all of them make of the first.
+use Rattle.std.proofs.Common.{◌≡◌, drop}
+use Rattle.vt_effects.specs.Record.{modes_set}
+use Rattle.vt_effects.proofs.records.modes_set.Given as goal
+
+abbrev pub invariant-loop-number : goal.invariant-loop-number
+invariant-loop-number l = modes_set l.private l.on (drop l.number-index l.numbers) l.effect ≡ modes_set l.private l.on l.numbers l.fn.effect

@@ -1,0 +1,7 @@
+pub mod Effect
+pub mod Start
+pub mod Record
+pub mod Sound
+pub mod Compose
+pub mod Basic
+pub mod Fits

@@ -1,0 +1,135 @@
+ghost use Rattle.std.specs.Prelude.{◌≡◌};
+ghost use Rattle.vt_effects.specs.Effect as spec;
+
+use vt_term::Color;
+
+/// Where the cursor's row or column goes.
+#[derive(Clone, Copy, Debug, PartialEq, Eq)]
+pub enum Move {
+    Kept,
+    /// To this row or column, whatever it was.
+    To(u16),
+    /// Up, or left, by so many.
+    Back(u16),
+    /// Down, or right, by so many.
+    Forward(u16),
+}
+
+/// Which cells become blank, by the place where the cursor is before it moves.
+#[derive(Clone, Copy, Debug, PartialEq, Eq)]
+pub enum Erasure {
+    Nothing,
+    /// Every cell.
+    Screen,
+    /// From the cursor to the line's end.
+    Tail,
+    /// From the line's start to the cursor.
+    Head,
+    /// From the cursor to the screen's end.
+    Rest,
+    /// So many cells from the cursor on, at most to the line's end.
+    Next(u16),
+}
+
+/// Which way the region scrolls by one line.
+#[derive(Clone, Copy, Debug, PartialEq, Eq)]
+pub enum Scroll {
+    Still,
+    Up,
+    Down,
+}
+
+/// What becomes of something that is on or off.
+#[derive(Clone, Copy, Debug, PartialEq, Eq)]
+pub enum Switch {
+    Kept,
+    On,
+    Off,
+}
+
+/// What becomes of a colour.
+#[derive(Clone, Copy, Debug, PartialEq, Eq)]
+pub enum Ink {
+    Kept,
+    /// The terminal's default.
+    Default,
+    Color(Color),
+}
+
+/// What becomes of the rendition, part by part (ECMA-48 8.3.117, SGR).
+#[derive(Clone, Copy, Debug, PartialEq, Eq)]
+pub struct Rendering {
+    pub bold: Switch,
+    pub faint: Switch,
+    pub underline: Switch,
+    pub blink: Switch,
+    pub negative: Switch,
+    pub concealed: Switch,
+    pub foreground: Ink,
+    pub background: Ink,
+}
+
+/// What becomes of the character sets: a set is on if it is the graphic one, the shift if G1 is
+/// active.
+#[derive(Clone, Copy, Debug, PartialEq, Eq)]
+pub struct Sets {
+    pub g0_graphic: Switch,
+    pub g1_graphic: Switch,
+    pub shifted_out: Switch,
+}
+
+/// The first and the last line of the region that scrolls, from 0.
+#[derive(Clone, Copy, Debug, PartialEq, Eq)]
+pub struct Region {
+    pub top: u16,
+    pub bottom: u16,
+}
+
+/// What a string does to the terminal. Cells are erased and the region scrolls first, around the
+/// cursor and with the background that were there before; then come all others.
+#[derive(Clone, Copy, Debug, PartialEq, Eq)]
+pub struct Effect {
+    pub row: Move,
+    pub col: Move,
+    /// That the last column was printed is forgotten.
+    pub ends_pending: bool,
+    pub erasure: Erasure,
+    pub scroll: Scroll,
+    pub rendition: Rendering,
+    pub charset: Sets,
+    /// The margins that are set.
+    pub margins: Option<Region>,
+    pub visible: Switch,
+}
+
+impl Effect {
+    /// The effect of nothing: everything stays.
+    pub fn unchanged() -> Effect
+        ensures { result ≡ spec.unchanged }
+    {
+        Effect {
+            row: Move::Kept,
+            col: Move::Kept,
+            ends_pending: false,
+            erasure: Erasure::Nothing,
+            scroll: Scroll::Still,
+            rendition: Rendering {
+                bold: Switch::Kept,
+                faint: Switch::Kept,
+                underline: Switch::Kept,
+                blink: Switch::Kept,
+                negative: Switch::Kept,
+                concealed: Switch::Kept,
+                foreground: Ink::Kept,
+                background: Ink::Kept,
+            },
+            charset: Sets {
+                g0_graphic: Switch::Kept,
+                g1_graphic: Switch::Kept,
+                shifted_out: Switch::Kept,
+            },
+            margins: None,
+            visible: Switch::Kept,
+        }
+    }
+}

@@ -1,0 +1,18 @@
+//! What a string does to the terminal, from every start of a kind at once: a short record in place
+//! of the millions of states that a test would have to try.
+#![tactic(auto)]
+
+mod applying;
+mod composing;
+mod effects;
+pub mod laws;
+mod moves;
+mod records;
+mod renditions;
+mod starts;
+
+pub use applying::apply;
+pub use composing::compose;
+pub use effects::{Effect, Erasure, Ink, Move, Region, Rendering, Scroll, Sets, Switch};
+pub use records::effect_of;
+pub use starts::{Margins, Start};

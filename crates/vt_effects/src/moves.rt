@@ -1,0 +1,84 @@
+ghost use Rattle.std.specs.Prelude.{◌≡◌, ◌+◌, ◌-◌, ◌<◌, ◌≤◌, ◌^◌};
+ghost use Rattle.vt_effects.specs.Effect as meaning;
+ghost use Rattle.vt_effects.specs.Fits.{BackFits, ForwardFits};
+ghost use Rattle.vt_effects.specs.Record as spec;
+
+use crate::effects::Move;
+
+/// Where a move leads from a row or column.
+pub(crate) fn moved(way: Move, from: u16) -> usize
+    ensures { result ≡ meaning.moved way from }
+{
+    let from = usize::from(from);
+    match way {
+        Move::Kept => from,
+        Move::To(k) => usize::from(k),
+        Move::Back(k) => from.saturating_sub(usize::from(k)),
+        Move::Forward(k) => from + usize::from(k),
+    }
+}
+
+/// So much forward and so much back as one move.
+fn net(forward: u16, back: u16) -> Move
+    ensures { result ≡ spec.net forward back }
+{
+    if forward == back {
+        Move::Kept
+    } else if back < forward {
+        Move::Forward(forward - back)
+    } else {
+        Move::Back(back - forward)
+    }
+}
+
+/// A move, and then back by `n`.
+pub(crate) fn and_back(way: Move, n: u16) -> Move
+    requires { BackFits way n }
+    ensures { result ≡ spec.and_back way n }
+{
+    match way {
+        Move::Kept => net(0, n),
+        Move::To(k) => Move::To(k.saturating_sub(n)),
+        Move::Back(k) => net(0, k + n),
+        Move::Forward(k) => net(k, n),
+    }
+}
+
+/// A move, and then forward by `n`.
+pub(crate) fn and_forward(way: Move, n: u16) -> Move
+    requires { ForwardFits way n }
+    ensures { result ≡ spec.and_forward way n }
+{
+    match way {
+        Move::Kept => net(n, 0),
+        Move::To(k) => Move::To(k + n),
+        Move::Back(k) => net(n, k),
+        Move::Forward(k) => net(k + n, 0),
+    }
+}
+
+/// Up or left by `n` where no start is cut at the first row or column, or all are.
+pub(crate) fn back_by(n: u16, low: u16, high: u16, way: Move) -> Option<Move>
+    ensures { result ≡ spec.back_by n low high way }
+{
+    if usize::from(n) <= moved(way, low) {
+        Some(and_back(way, n))
+    } else if moved(way, high) < usize::from(n) {
+        Some(Move::To(0))
+    } else {
+        None
+    }
+}
+
+/// Down or right by `n` where no start is cut at the last row or column, or all are.
+pub(crate) fn forward_by(n: u16, low: u16, high: u16, last: u16, way: Move) -> Option<Move>
+    ensures { result ≡ spec.forward_by n low high last way }
+{
+    if moved(way, high) + usize::from(n) <= usize::from(last) {
+        Some(and_forward(way, n))
+    } else if usize::from(last) < moved(way, low) + usize::from(n) {
+        Some(Move::To(last))
+    } else {
+        None
+    }
+}

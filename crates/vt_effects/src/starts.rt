@@ -1,0 +1,26 @@
+/// What is known of the margins of a start.
+#[derive(Clone, Copy, Debug, PartialEq, Eq)]
+pub enum Margins {
+    /// They are the whole screen.
+    Whole,
+    /// Any two lines, the first above the last.
+    Legal,
+    /// The same, and the cursor is on the last.
+    OnBottom,
+    /// The same, and the cursor is on the first.
+    OnTop,
+}
+
+/// A set of states: all those with nothing open of a sequence, autowrap on and insertion off whose
+/// cursor is in these rows and columns (from 0, the greatest among them). What it says nothing of,
+/// cells, rendition, character sets and visibility, is free.
+#[derive(Clone, Copy, Debug, PartialEq, Eq)]
+pub struct Start {
+    pub row_min: u16,
+    pub row_max: u16,
+    pub col_min: u16,
+    pub col_max: u16,
+    /// The last column may have been printed, so that the next character goes to the next line.
+    pub pending: bool,
+    pub margins: Margins,
+}

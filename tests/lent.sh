@@ -1,0 +1,52 @@
+#!/bin/sh
+# A line that `row_mut` lends holds the desk: a program that makes another call on the desk while the line is still used
+# must not compile. The compiler refuses that before any proof, so no must-fail edit can show it.
+# The same program with the call behind the line's last use is taken, and runs.
+set -eu
+cd -- "$(dirname -- "$0")/.."
+. tests/probing
+
+work=$(mktemp -d)
+trap 'rm -rf "$work"' EXIT
+
+# probe NAME DURING AFTER: a program that writes through a lent line; the others are lines of it
+probe() {
+    lay "$work/$1" vt_screen vt_term cur_grid cur_windows
+    cat >"$work/$1/crates/probe/src/main.rt" <<END
+#![tactic(auto)]
+
+use cur_windows::{Attrs, Cell, Desk, Size, View};
+use std::process::ExitCode;
+
+fn main(rt: HostRuntime) -> ExitCode {
+    let Some(size) = Size::new(2, 4) else {
+        return ExitCode::FAILURE;
+    };
+    let Ok(mut desk) = Desk::new(rt.alloc(), size) else {
+        return ExitCode::FAILURE;
+    };
+    let Ok(mut line) = desk.row_mut(0, 1) else {
+        return ExitCode::FAILURE;
+    };
+    $2
+    line.set(3, Cell::new(b'z', Attrs::none(), 0));
+    $3
+    match desk.view(0) {
+        Ok(window) if window.row(1)[3].byte() == b'z' => ExitCode::SUCCESS,
+        _ => ExitCode::FAILURE,
+    }
+}
+END
+    attempt "$work/$1"
+}
+
+probe right '' 'let _ = desk.touchwin(0);' &
+probe changed 'let _ = desk.erase(0);' '' &
+probe looked_at 'let _ = desk.touchwin(0);' '' &
+wait
+
+must_run "$work/right" "lent: a program that is done with its line is refused"
+for held in changed looked_at; do
+    must_not_compile "$work/$held" 'error\[borrow-e0\(499\|502\)\]' "lent: a desk may be $held while a line of it is held"
+done
+echo "lent: while a line is held, no other call on the desk compiles"
