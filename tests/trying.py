@@ -32,7 +32,7 @@ def run_cases(crate, cases, data=None):
         os.mkdir(f"{work}/cases")
         os.mkdir(f"{work}/data")
         # compiled runs alone: of these long ones the interpreter gives no answer
-        words = ["rt", "try", "--steps", "1", "--cases", f"{work}/cases"]
+        words = ["rt", "try", "--steps", "1", "--seconds", "600", "--cases", f"{work}/cases"]
         for at, (name, held) in enumerate((data or {}).items()):
             write(f"{work}/data/{at}", held)
             words += ["--data", f"{name}={work}/data/{at}"]
