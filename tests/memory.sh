@@ -1,44 +1,52 @@
 #!/bin/sh
-# Each request for memory is refused in turn. A test named refused_.. prints `refused: CALL` where a call
-# answered that memory is wanting (and checks that nothing else has changed). The Nth request is refused
-# for N = 1, 2, .. until no call meets the refusal, and each call named in memory.txt must have met one.
-# Without words: all the crates of memory.txt, as many side by side as there are processors.
+# Each request for memory is refused in turn. A test of refusals/, named refused_.., prints `refused: CALL` where a call answered that
+# memory is wanting (and checks that nothing else has changed). The Nth request is refused for N = 1, 2, .. until no call meets the
+# refusal, and each call named in memory.txt must have met one. As many rounds go side by side as there are processors.
 set -eu
 cd -- "$(dirname -- "$0")/.."
+. tests/probing
 
-if [ $# -eq 0 ]; then
-    grep -v '^#' tests/memory.txt | xargs -L 1 -P "$(nproc)" sh tests/memory.sh
-    exit
-fi
-crate=$1
-shift
 work=$(mktemp -d)
 trap 'rm -rf "$work"' EXIT
 
-: >"$work/refused"
-n=0
-while :; do
-    n=$((n + 1))
-    if [ "$n" -gt 60 ]; then
-        echo "memory: $crate still asks for memory at request $n" >&2
+# rounds FIRST STEP: the rounds FIRST, FIRST + STEP, .. until one meets no refusal; `refused` and `ended` tell what was seen
+rounds() {
+    lane=$work/lane$1
+    n=$1
+    lay "$lane" ti_caps ti_source ti_resolve ti_compiled ti_parm vt_screen vt_term ti_reach cur_update cur_grid cur_windows cur_pads
+    fill "$lane" tests/refusals
+    while [ "$n" -le 60 ]; do
+        # the other tests of a round may fail of it, as they take every want of memory for a failure
+        attempt "$lane" --test --fail-alloc "$n"
+        if ! grep -q '^test .*refused_.* \.\.\. ok$' "$lane.log" || grep '^test .*refused_' "$lane.log" | grep -qv ' \.\.\. ok$'; then
+            cat "$lane.log" >&2
+            echo "memory: a call fails where request $n is refused" >&2
+            return 1
+        fi
+        if ! grep '^ *refused: ' "$lane.log" >>"$lane.refused"; then
+            echo "$n" >"$lane.ended"
+            return 0
+        fi
+        n=$((n + $2))
+    done
+    echo "memory: the tests still ask for memory at request $n" >&2
+    return 1
+}
+
+lanes=$(nproc)
+lane=1
+while [ "$lane" -le "$lanes" ]; do
+    rounds "$lane" "$lanes" &
+    lane=$((lane + 1))
+done
+wait
+if [ "$(cat "$work"/lane*.ended | wc -l)" -ne "$lanes" ]; then
+    exit 1
+fi
+grep -v '^#' tests/memory.txt | while read -r call; do
+    if ! grep -qh "^ *refused: $call\$" "$work"/lane*.refused; then
+        echo "memory: no request of $call was refused" >&2
         exit 1
-    fi
-    # the other tests may fail of it, as they take every want of memory for a failure
-    (cd "crates/$crate" && rt try --test --fail-alloc "$n") >"$work/run" 2>&1 || :
-    if ! grep -q '^test .*refused_.* \.\.\. ok$' "$work/run" ||
-        grep '^test .*refused_' "$work/run" | grep -qv ' \.\.\. ok$'; then
-        cat "$work/run" >&2
-        echo "memory: $crate fails where request $n is refused" >&2
-        exit 1
-    fi
-    if ! grep '^ *refused: ' "$work/run" >>"$work/refused"; then
-        break
     fi
 done
-for call in "$@"; do
-    if ! grep -q "^ *refused: $call\$" "$work/refused"; then
-        echo "memory: no request of $crate's $call was refused" >&2
-        exit 1
-    fi
-done
-echo "memory: $crate: each of $((n - 1)) requests refused in turn ($*)"
+echo "memory: $(grep -vc '^#' tests/memory.txt) calls are refused each of their requests in turn, $(($(sort -n "$work"/lane*.ended | head -n 1) - 1)) at most"

@@ -6,8 +6,6 @@ pub mod laws;
 mod making;
 mod parts;
 mod showing;
-#[cfg(test)]
-mod tests;
 
 pub use making::{newpad, subpad};
 pub use showing::pnoutrefresh;

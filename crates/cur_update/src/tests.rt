@@ -34,24 +34,6 @@ impl Wire for Narrow {
     ghost lawful = { tells_nothing (λ w. w.failures) };
 }
 
-/// A wire that takes all and keeps nothing.
-#[derive(Drop)]
-struct Nowhere;
-
-impl Wire for Nowhere {
-    ghost use Rattle.cur_update.specs.Wire.{tells_nothing};
-
-    ghost went = { λ _ _ _. 0 ≤ 0 };
-
-    ghost failures = { λ _. 0 };
-
-    fn send(&mut self, piece: &[u8]) -> Result<usize, WireFault> {
-        Ok(piece.len())
-    }
-
-    ghost lawful = { tells_nothing (λ _. 0) };
-}
-
 #[test]
 fn a_full_tape_fails(rt: HostRuntime) -> Result<(), Fail> {
     let mut tape = Tape::new(rt.alloc(), 3)?;
@@ -128,27 +110,5 @@ fn a_paint_is_cut(rt: HostRuntime) -> Result<(), Fail> {
     let lines = [b"abcd".as_slice(), b"efgh".as_slice()];
     assert_eq!(rt; plain.paint(&lines, (1, 3), &mut tape), Err(WireFault));
     assert_eq!(rt; tape.bytes(), b"\x1b[H\x1b[2J\x1b[1;1Habc".as_slice());
-    Ok(())
-}
-
-#[test]
-fn refused_tape_new(rt: HostRuntime) {
-    match Tape::new(rt.alloc(), 4) {
-        Ok(tape) => assert!(rt; tape.bytes().is_empty()),
-        Err(_) => {
-            let _ = println!(rt; "refused: Tape::new");
-        }
-    }
-}
-
-#[test]
-fn refused_plain_new(rt: HostRuntime) -> Result<(), Fail> {
-    let size = Size::new(2, 2).ok_or("size")?;
-    match Plain::new(rt.alloc(), size) {
-        Ok(plain) => assert_eq!(rt; plain.paint(&[b"ab", b"cd"], (0, 0), &mut Nowhere), Ok(())),
-        Err(_) => {
-            let _ = println!(rt; "refused: Plain::new");
-        }
-    }
     Ok(())
 }

@@ -7,9 +7,6 @@ ghost use Rattle.ti_parm.specs.Meaning.{sent};
 ghost use Rattle.ti_reach.specs.Reach as spec;
 ghost use Rattle.vt_term.specs.Run as run;
 
-#[cfg(test)]
-mod tests;
-
 use std::alloc::Global;
 use ti_parm::{Param, ParmFault, Statics, expand, strip_delays};
 use vt_term::{Size, TokenFaultKind, place_after, tokens};

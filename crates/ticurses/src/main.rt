@@ -3,8 +3,6 @@
 
 mod run;
 mod stored;
-#[cfg(test)]
-mod tests;
 mod words;
 
 use std::env;
