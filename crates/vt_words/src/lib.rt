@@ -1,0 +1,14 @@
+//! The text of an effect, and the effect of a text.
+#![tactic(auto)]
+
+pub mod laws;
+mod letters;
+mod numbers;
+mod reading;
+mod spelling;
+#[cfg(test)]
+mod tests;
+mod words;
+
+pub use reading::read;
+pub use spelling::text;
