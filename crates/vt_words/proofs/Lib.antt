@@ -5,3 +5,4 @@ pub mod Glyphs
 pub mod Forms
 pub mod Orders
 pub mod Texts
+pub mod Plains

@@ -315,22 +315,31 @@ visible_says switches.Off e k = Spoken (Shows switches.Off) (fixed_read _ _ refl
 -- the first words of an effect
 abbrev moved_row : Effect → Effect
 moved_row e = record unchanged { row = e.row }
+
 abbrev moved : Effect → Effect
 moved e = record (moved_row e) { col = e.col }
+
 abbrev unpended : Effect → Effect
 unpended e = record (moved e) { ends_pending = e.ends_pending }
+
 abbrev erased : Effect → Effect
 erased e = record (unpended e) { erasure = e.erasure }
+
 abbrev scrolled : Effect → Effect
 scrolled e = record (erased e) { scroll = e.scroll }
+
 abbrev marks : Effect → Marks
 marks e = record { bold = e.rendition.bold; faint = e.rendition.faint; underline = e.rendition.underline; blink = e.rendition.blink; negative = e.rendition.negative; concealed = e.rendition.concealed }
+
 abbrev looked : Effect → Effect
 looked e = record (scrolled e) { rendition = marked (marks e) unchanged.rendition }
+
 abbrev inked : Effect → Effect
 inked e = record (scrolled e) { rendition = e.rendition }
+
 abbrev chosen : Effect → Effect
 chosen e = record (inked e) { charset = e.charset }
+
 abbrev framed : Effect → Effect
 framed e = record (chosen e) { margins = e.margins }
 

@@ -8,7 +8,8 @@ use Rattle.std.proofs.lemmas.Option.{same_Some}
 use Rattle.vt_effects.specs.declared.effects.Effect.{Effect}
 use Rattle.vt_effects.specs.Effect.{unchanged}
 use Rattle.vt_words.specs.declared.words.Found.{Found}
-use Rattle.vt_words.specs.Text.{words, joined, spelled, IsPlain, OneText}
+use Rattle.vt_words.specs.Text.{words, joined, spelled, IsPlain}
+use Rattle.vt_words.specs.Laws.{OneText}
 use Rattle.vt_words.specs.Reading.{is_all, word_at, with_word, with_words, parts_of, words_of, read_behind, effect_in}
 use Rattle.vt_words.proofs.Cuts.{parts_joined, some_part, AllLack, split_joined}
 use Rattle.vt_words.proofs.Glyphs.{branch, mapped}
@@ -71,6 +72,7 @@ said_again e (w ∷ ws) l = by_dash (is_all (45 ∷ []) (joined (w ∷ ws))) ref
   where
     same : words_of (joined (w ∷ ws)) ≡ w ∷ ws
     same = split_text w ws l.spaces
+
     by_dash : (t : Bool) → is_all (45 ∷ []) (joined (w ∷ ws)) ≡ t → (if t then Some unchanged else option_map (λ f. f.effect) (with_words none_yet (words_of (joined (w ∷ ws))))) ≡ Some e
     by_dash true t =
         let one : w ∷ ws ≡ (45 ∷ []) ∷ [] = sym same ∙ ap words_of (all_written (45 ∷ []) (joined (w ∷ ws)) t) ∙ dash_alone in

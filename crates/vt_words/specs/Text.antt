@@ -190,7 +190,3 @@ pub record IsPlain (e : Effect) : Type 0 where
   pub col : IsPlainMove e.col
   pub erasure : IsPlainErasure e.erasure
   pub margins : IsPlainRegion e.margins
-
--- the words of a plain effect are its own
-abbrev pub OneText : Type 0
-OneText = (d e : Effect) → IsPlain d → IsPlain e → spelled d ≡ spelled e → d ≡ e

@@ -287,7 +287,11 @@ fn letters_at<'a>(name: &[u8], word: &'a [u8]) -> Option<&'a [u8]>
     ensures { option_map (λ letters. letters.now) result ≡ spec.letters_at name.now word.now }
 {
     let letters = behind(name, word)?;
-    if are_dots(letters) { None } else { Some(letters) }
+    if are_dots(letters) {
+        None
+    } else {
+        Some(letters)
+    }
 }
 
 fn marks_at(word: &[u8]) -> Option<Marks>

@@ -107,7 +107,11 @@ fn push_col(alloc: Global, col: Move, text: &mut Vec<u8>) -> Result<(), AllocErr
 fn push_pending(ends: bool, text: &mut Vec<u8>) -> Result<(), AllocError>
     ensures { OnOk result (text.new.items ≡ with_text text.old.items (spec.pending_text ends)) }
 {
-    if ends { push_word(b"nopend", b"", text) } else { Ok(()) }
+    if ends {
+        push_word(b"nopend", b"", text)
+    } else {
+        Ok(())
+    }
 }
 
 fn push_erasure(alloc: Global, erasure: Erasure, text: &mut Vec<u8>) -> Result<(), AllocError>

@@ -17,10 +17,10 @@ pub returns : goal.returns
 returns c =
     let e : c.push_words.new.text.items ≡ with_texts [] (spec.texts c.args.effect.now) = c.in_ok-push_words.ensures ∙ ap (λ (l : List ℕ). with_texts l (spec.texts c.args.effect.now)) c.new-text.ensures.items in
     elim c.if-is_empty.branch [
-      then-is_empty+in_ok-push w ↦
-        let n : c.push_words.new.text.items ≡ [] = none_left c.push_words.new.text.items c.push_words.new.text.len c.push_words.new.text.ok.0 w.if-is_empty.ensures in
-        ap (λ t. t.items) w.text-is ∙ w.in_ok-push.ensures.items ∙ ap (λ (l : List ℕ). l ++ 45 ∷ []) n ∙ sym (dashed c.args.effect.now (sym e ∙ n))
-    | else-is_empty w ↦
-        let n : 0 < length c.push_words.new.text.items = some_left c.push_words.new.text.items c.push_words.new.text.len c.push_words.new.text.ok.0 w.if-is_empty.ensures in
-        ap (λ t. t.items) w.text-is ∙ e ∙ sym (undashed c.args.effect.now (omega (arith, n, ap length e)))
+      | then-is_empty+in_ok-push w ↦
+          let n : c.push_words.new.text.items ≡ [] = none_left c.push_words.new.text.items c.push_words.new.text.len c.push_words.new.text.ok.0 w.if-is_empty.ensures in
+          ap (λ t. t.items) w.text-is ∙ w.in_ok-push.ensures.items ∙ ap (λ (l : List ℕ). l ++ 45 ∷ []) n ∙ sym (dashed c.args.effect.now (sym e ∙ n))
+      | else-is_empty w ↦
+          let n : 0 < length c.push_words.new.text.items = some_left c.push_words.new.text.items c.push_words.new.text.len c.push_words.new.text.ok.0 w.if-is_empty.ensures in
+          ap (λ t. t.items) w.text-is ∙ e ∙ sym (undashed c.args.effect.now (omega (arith, n, ap length e)))
     ]
