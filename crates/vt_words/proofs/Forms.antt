@@ -1,16 +1,15 @@
 -- Each word is read as it is written, and in no other form.
-use Rattle.std.proofs.Common.{append_assoc, append-nil, ◌≡◌, ℕ, ◌+◌, ◌<◌, ◌≤◌, Bool, true, false, not, ◌&&◌, List, [], ◌∷◌, ◌++◌, length, Option, Some, None, refl, sym, ap, ◌∙◌, subst, arith}
+use Rattle.std.proofs.Common.{◌≡◌, ℕ, ◌<◌, Bool, true, false, not, List, [], ◌∷◌, ◌++◌, length, Option, Some, None, refl, sym, ap, ◌∙◌, subst, arith}
 use Rattle.std.specs.Prelude.{if◌then◌else◌, ◌==◌}
 use Rattle.std.specs.Option.{option_map, option_or, option_and_then}
 use Rattle.std.specs.Fmt.{decimal}
 use Rattle.std.specs.List.{list_all, join_with_byte}
-use Rattle.std.proofs.lemmas.Bool.{and_parts, cond-true, cond-false}
+use Rattle.std.proofs.lemmas.Bool.{cond-false}
 use Rattle.std.proofs.lemmas.Option.{option_and_then_some, same_Some}
 use Rattle.std.proofs.lemmas.Slice.Eq.{bytes_eq-Decides}
 use Rattle.std.proofs.lemmas.List.Folds.{list_all-append}
 use Rattle.vt_effects.specs.declared.effects.Move.{Move}
 use Rattle.vt_effects.specs.declared.effects.Move.TheVariants as moves
-use Rattle.vt_effects.specs.declared.effects.Erasure.{Erasure}
 use Rattle.vt_effects.specs.declared.effects.Erasure.TheVariants as erasures
 use Rattle.vt_effects.specs.declared.effects.Scroll.TheVariants as scrolls
 use Rattle.vt_effects.specs.declared.effects.Switch.{Switch}
@@ -24,10 +23,10 @@ use Rattle.vt_words.specs.declared.words.Word.{Word}
 use Rattle.vt_words.specs.declared.words.Word.TheVariants.{Row, Col, EndsPending, Erases, Scrolls, Looks, Inks, Chooses, Rows, Shows}
 use Rattle.vt_words.specs.declared.words.Marks.{Marks}
 use Rattle.vt_words.specs.Text.{row_name, col_name, nopend, all_name, tail_name, head_name, rest_name, next_name, up_name, down_name, look_name, ink_name, set_name, rows_name, show_name, hide_name, move_text, erasure_text, scroll_text, visible_text, set_text, rows_text, lettered, switch_letter, ink_letter, is_dot, IsPlainMove, IsPlainErasure, IsPlainRegion}
-use Rattle.vt_words.specs.Reading.{behind, number_at, positive, signed, all_signed, move_at, next_at, letters_at, marks_of, inks_of, sets_of, marks_at, inks_at, sets_at, parts_of, region_of, region_at, is_all, fixed_at, numbered_at, lettered_at, word_at}
+use Rattle.vt_words.specs.Reading.{behind, number_at, positive, all_signed, move_at, next_at, letters_at, marks_of, inks_of, sets_of, marks_at, inks_at, sets_at, parts_of, region_of, region_at, is_all, fixed_at, numbered_at, lettered_at, word_at}
 use Rattle.vt_words.proofs.Cuts.{parts_joined, some_part, lacks, split_front, split_whole}
-use Rattle.vt_words.proofs.Digits.{IsNumber, number_reads, number_written, positive_reads, positive_written, decimal_lacks, both_true}
-use Rattle.vt_words.proofs.Glyphs.{branch, mapped, either, equal, behind_written, IsLettered, letters_written, is_lettered, mark_letters, set_letters, marks_written, inks_written, sets_written, marks_read, inks_read, sets_read}
+use Rattle.vt_words.proofs.Digits.{number_reads, number_written, positive_reads, positive_written, decimal_lacks, both_true}
+use Rattle.vt_words.proofs.Glyphs.{branch, mapped, either, equal, behind_written, letters_written, is_lettered, mark_letters, set_letters, marks_written, inks_written, sets_written, marks_read, inks_read, sets_read}
 
 abbrev pub word_text : Word → List ℕ
 word_text (Row m) = move_text row_name m

@@ -1,6 +1,6 @@
 -- Letters are read as they are written.
-use Rattle.std.proofs.Common.{◌≡◌, ℕ, ◌+◌, ◌-◌, ◌<◌, ◌≤◌, zero, suc, Bool, true, false, ◌&&◌, List, [], ◌∷◌, ◌++◌, length, Option, Some, None, MatchOption, Bor, nat_eq, take, drop, refl, sym, ap, ◌∙◌, subst, arith}
-use Rattle.std.specs.Prelude.{if◌then◌else◌, ◌==◌, nat_le, nat_lt}
+use Rattle.std.proofs.Common.{◌≡◌, ℕ, ◌+◌, ◌-◌, ◌<◌, ◌≤◌, zero, suc, Bool, true, false, ◌&&◌, List, [], ◌∷◌, ◌++◌, length, Option, Some, None, MatchOption, Bor, nat_eq, take, drop, refl, sym, ap, ◌∙◌, arith}
+use Rattle.std.specs.Prelude.{if◌then◌else◌, ◌==◌, nat_le}
 use Rattle.std.specs.Option.{option_map, option_or, option_and_then}
 use Rattle.std.specs.List.{list_all}
 use Rattle.std.specs.Cmp.Lexicographic.{pointwise}
@@ -8,7 +8,6 @@ use Rattle.std.proofs.lemmas.Bool.{and_parts, cond-true, cond-false}
 use Rattle.std.proofs.lemmas.Bool.Decides.{nat_tests}
 use Rattle.std.proofs.lemmas.Option.{option_and_then_some, same_Some}
 use Rattle.vt_term.specs.Color.{color, color_number}
-use Rattle.vt_term.specs.Color.{Color}
 use Rattle.vt_term.specs.Color.{Black, Red, Green, Yellow, Blue, Magenta, Cyan, White}
 use Rattle.vt_effects.specs.declared.effects.Switch.{Switch}
 use Rattle.vt_effects.specs.declared.effects.Switch.TheVariants as switches
@@ -17,7 +16,7 @@ use Rattle.vt_effects.specs.declared.effects.Ink.TheVariants as inks
 use Rattle.vt_effects.specs.declared.effects.Sets.{Sets}
 use Rattle.vt_words.specs.declared.words.Marks.{Marks}
 use Rattle.vt_words.specs.Text.{switch_letter, ink_letter, mark_letter, is_dot, lettered}
-use Rattle.vt_words.specs.Reading.{behind, letters_at, switch_at, ink_at, marks_of, inks_of, sets_of, ◌>>=◌}
+use Rattle.vt_words.specs.Reading.{behind, letters_at, switch_at, ink_at, marks_of, inks_of, sets_of}
 
 -- a choice that gives something, by its branches
 pub branch : {A : Type 0} (P : Type 0) (c : Bool) (a b : Option A) (z : A) → (c ≡ true → a ≡ Some z → P) → (b ≡ Some z → P) → (if c then a else b) ≡ Some z → P

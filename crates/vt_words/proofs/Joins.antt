@@ -1,7 +1,6 @@
 -- What is written word by word is the words joined.
 use Rattle.std.proofs.Common.{append_assoc, append-nil, ◌≡◌, ℕ, ◌<◌, List, [], ◌∷◌, ◌++◌, length, refl, sym, ap, ◌∙◌, arith}
 use Rattle.std.specs.List.{join_with_byte}
-use Rattle.std.specs.Fmt.{decimal}
 use Rattle.vt_effects.specs.declared.effects.Effect.{Effect}
 use Rattle.vt_words.specs.Text.{texts, nonempty, joined, spelled, rows_name}
 use Rattle.vt_words.specs.Writing.{begun, with_text, with_texts}

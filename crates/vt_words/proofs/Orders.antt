@@ -1,9 +1,9 @@
 -- Words in their order make the effect that they are the words of, and no other.
-use Rattle.std.proofs.Common.{append_assoc, append-nil, add-one, ◌≡◌, ℕ, ◌+◌, ◌<◌, ◌≤◌, zero, suc, Bool, true, false, ◌&&◌, List, [], ◌∷◌, ◌++◌, length, Option, Some, None, refl, sym, ap, ◌∙◌, subst, arith}
-use Rattle.std.specs.Prelude.{if◌then◌else◌, ◌==◌, nat_le}
-use Rattle.std.specs.Option.{option_map, option_or, option_and_then}
+use Rattle.std.proofs.Common.{append_assoc, append-nil, add-one, ◌≡◌, ℕ, ◌+◌, ◌<◌, ◌≤◌, zero, suc, Bool, true, false, List, [], ◌∷◌, ◌++◌, length, Option, Some, None, refl, sym, ap, ◌∙◌, subst, arith}
+use Rattle.std.specs.Prelude.{nat_le}
+use Rattle.std.specs.Option.{option_and_then}
 use Rattle.std.specs.List.{list_all}
-use Rattle.std.proofs.lemmas.Bool.{and_parts, cond-true, cond-false}
+use Rattle.std.proofs.lemmas.Bool.{and_parts, cond-true}
 use Rattle.std.proofs.lemmas.Bool.Decides.{nat_tests}
 use Rattle.std.proofs.lemmas.Option.{cond_some, option_and_then_some, same_Some}
 use Rattle.vt_term.specs.Color.{Black, Red, Green, Yellow, Blue, Magenta, Cyan, White}
@@ -26,9 +26,9 @@ use Rattle.vt_words.specs.declared.words.Word.{Word}
 use Rattle.vt_words.specs.declared.words.Word.TheVariants.{Row, Col, EndsPending, Erases, Scrolls, Looks, Inks, Chooses, Rows, Shows}
 use Rattle.vt_words.specs.declared.words.Marks.{Marks}
 use Rattle.vt_words.specs.declared.words.Found.{Found}
-use Rattle.vt_words.specs.Text.{row_name, col_name, next_name, ink_name, look_name, set_name, is_dot, switch_letter, ink_letter, move_text, pending_text, erasure_text, scroll_text, look_text, ink_text, set_text, rows_text, visible_text, lettered, texts, nonempty, words, IsPlainMove, IsPlainErasure, IsPlainRegion, IsPlain}
+use Rattle.vt_words.specs.Text.{row_name, col_name, ink_name, look_name, set_name, is_dot, switch_letter, ink_letter, move_text, pending_text, erasure_text, scroll_text, look_text, ink_text, set_text, rows_text, visible_text, lettered, texts, nonempty, words, IsPlainMove, IsPlainErasure, IsPlainRegion, IsPlain}
 use Rattle.vt_words.specs.Reading.{rank, marked, put, put_next, with_word, with_words, word_at}
-use Rattle.vt_words.proofs.Cuts.{lacks, AllLack}
+use Rattle.vt_words.proofs.Cuts.{AllLack}
 use Rattle.vt_words.proofs.Glyphs.{mark_letters, set_letters}
 use Rattle.vt_words.proofs.Forms.{word_text, IsPlainWord, IsWord, word_written, IsRead, fixed_read, row_to, row_back, row_forward, col_to, col_back, col_forward, next_read, region_read, look_read, ink_read, set_read}
 

@@ -1,7 +1,7 @@
 -- Two effects in their one form make one in its one form.
-use Rattle.std.proofs.Common.{◌≡◌, ℕ, ◌+◌, ◌-◌, ◌<◌, ◌≤◌, Bool, true, false, ◌&&◌, Option, Some, None, refl, sym, ap, ◌∙◌, subst, arith}
-use Rattle.std.specs.Prelude.{if◌then◌else◌, ◌==◌, nat_le, nat_lt}
-use Rattle.std.specs.Option.{option_map, option_and_then}
+use Rattle.std.proofs.Common.{◌≡◌, ℕ, ◌+◌, ◌-◌, ◌<◌, ◌≤◌, Bool, true, false, ◌&&◌, Option, Some, None, refl, subst, arith}
+use Rattle.std.specs.Prelude.{if◌then◌else◌, ◌==◌, nat_lt}
+use Rattle.std.specs.Option.{option_map}
 use Rattle.std.proofs.lemmas.Bool.Decides.{nat_tests}
 use Rattle.std.proofs.lemmas.Option.{cond_some, option_and_then_some, same_Some}
 use Rattle.vt_effects.specs.declared.effects.Move.{Move}
@@ -13,7 +13,7 @@ use Rattle.vt_effects.specs.declared.effects.Scroll.TheVariants as scrolls
 use Rattle.vt_effects.specs.declared.effects.Region.{Region}
 use Rattle.vt_effects.specs.declared.effects.Effect.{Effect}
 use Rattle.vt_effects.specs.Record.{net, and_back, and_forward, is_first, is_unmoved, is_still, erases_nothing, erases_screen, keeps_background, screen_erased, cells_erased}
-use Rattle.vt_effects.specs.Compose.{goes_back, goes_forward, then_moved, then_margins, then_erased, scrolls_first, then_scrolled, both_cells, both_else, both_moved, composed}
+use Rattle.vt_effects.specs.Compose.{goes_back, goes_forward, then_moved, then_margins, then_erased, scrolls_first, then_scrolled, both_cells, both_else, both_moved}
 use Rattle.vt_words.specs.Text.{IsPlainMove, IsPlainErasure, IsPlainRegion, IsPlain}
 use Rattle.vt_words.specs.Laws.{ComposedPlain}
 use Rattle.vt_words.proofs.Glyphs.{branch, mapped}

@@ -1,13 +1,11 @@
 -- How a text is read, word by word. Only the reader's own clauses cite this file.
-use Rattle.std.specs.Prelude.{ℕ, ◌+◌, ◌-◌, ◌*◌, ◌==◌, ◌&&◌, nat_le, nat_lt, bytes_eq, Bool, true, false, if◌then◌else◌, List, [], ◌∷◌, Option, None, Some}
+use Rattle.std.specs.Prelude.{ℕ, ◌+◌, ◌-◌, ◌*◌, ◌==◌, ◌&&◌, nat_le, nat_lt, bytes_eq, Bool, true, if◌then◌else◌, List, [], ◌∷◌, Option, None, Some}
 use Rattle.std.specs.Option.{option_map, option_or, option_and_then}
 use Rattle.std.specs.List.{list_all, slice_split}
 use Rattle.vt_term.specs.Color.{color}
 use Rattle.vt_effects.specs.declared.effects.Move.{Move}
 use Rattle.vt_effects.specs.declared.effects.Move.TheVariants as moves
-use Rattle.vt_effects.specs.declared.effects.Erasure.{Erasure}
 use Rattle.vt_effects.specs.declared.effects.Erasure.TheVariants as erasures
-use Rattle.vt_effects.specs.declared.effects.Scroll.{Scroll}
 use Rattle.vt_effects.specs.declared.effects.Scroll.TheVariants as scrolls
 use Rattle.vt_effects.specs.declared.effects.Switch.{Switch}
 use Rattle.vt_effects.specs.declared.effects.Switch.TheVariants as switches
