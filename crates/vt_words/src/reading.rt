@@ -1,7 +1,7 @@
 ghost use Rattle.std.specs.Prelude.{◌≡◌, ◌∷◌, [], ◌<◌, ◌==◌, ℕ, Some, IfSome, IfNone, option_map, length, take, drop, ◌+◌};
-ghost use Rattle.std.specs.List.{list_all, position, slice_split};
+ghost use Rattle.std.specs.List.{position};
 ghost use Rattle.vt_effects.specs.declared.effects.Effect as declared;
-ghost use Rattle.vt_words.specs.Text.{spelled, is_dot, IsPlain};
+ghost use Rattle.vt_words.specs.Text.{spelled, IsPlain};
 ghost use Rattle.vt_words.specs.Reading as spec;
 
 use crate::letters::{are_dots, ink_at, switch_at};
