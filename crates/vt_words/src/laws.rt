@@ -1,0 +1,13 @@
+//! Laws of texts, and of effects in their one form.
+ghost use Rattle.vt_words.specs.Laws.{OneText, ComposedPlain};
+
+/// No two effects in their one form have one text. So what `read` makes of the text of such an
+/// effect is that effect.
+pub fn one_text()
+    ensures { OneText }
+{}
+
+/// Two effects in their one form make one in its one form, if they make one.
+pub fn composed_plain()
+    ensures { ComposedPlain }
+{}
