@@ -9,7 +9,11 @@ trap 'rm -rf "$work"' EXIT
 bytes=16777216
 
 awk -v bytes="$bytes" -f stream.awk >"$work/stream"
-cc -O2 -o "$work/peer" peer.c -lvterm
+if ! cc -O2 -o "$work/peer" peer.c -lvterm 2>"$work/log"; then
+    cat "$work/log" >&2
+    echo "feed: libvterm or a C compiler is missing" >&2
+    exit 1
+fi
 # builds it where it has to be, and leaves that out of the time
 ../ticurses feed 24 80 "$work/stream" >"$work/ours"
 "$work/peer" 24 80 "$work/stream" >"$work/theirs"
