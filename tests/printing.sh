@@ -14,29 +14,37 @@ work=$(mktemp -d)
 trap 'rm -rf "$work"' EXIT
 mkdir "$work/cases" "$work/theirs" "$work/ours" "$work/texts"
 
-# a source text of all entries, and a case for each
-count=0
+# of many descriptions every so many-th
+most=120
 for folder in $(infocmp -D 2>/dev/null); do
     [ -d "$folder" ] || continue
-    for file in "$folder"/?/*; do
-        [ -f "$file" ] || continue
-        infocmp -1 "${file##*/}" 2>/dev/null | grep -v '^#' >"$work/text" || continue
-        # a file may bear a name that its entry does not have
-        name=$(sed -n '1s/[|,].*//p' "$work/text")
-        [ -n "$name" ] && [ ! -e "$work/cases/$name.args" ] || continue
-        cat "$work/text" >>"$work/source"
-        # a compiled file of ncurses may tell a cancellation; for us it is that the capability is not there
-        grep -v '^	[A-Za-z0-9]*@,$' "$work/text" >"$work/texts/$name"
-        : >"$work/cases/$name"
-        printf '%s\n' infocmp "source:$name" >"$work/cases/$name.args"
-        count=$((count + 1))
-    done
-done
+    find "$folder" -type f | sort
+done >"$work/files"
+step=$(($(wc -l <"$work/files") / most + 1))
+awk -v step="$step" 'NR % step == 0' "$work/files" >"$work/chosen"
+
+# source texts of 40 entries, since each run reads its own to the end, and a case for each entry
+count=0
+while read -r file; do
+    infocmp -1 "${file##*/}" 2>/dev/null | grep -v '^#' >"$work/text" || continue
+    # a file may bear a name that its entry does not have
+    name=$(sed -n '1s/[|,].*//p' "$work/text")
+    [ -n "$name" ] && [ ! -e "$work/cases/$name.args" ] || continue
+    source=source$((count / 40))
+    [ $((count % 40)) -ne 0 ] || set -- "$@" --data "$source=$work/$source"
+    cat "$work/text" >>"$work/$source"
+    # a compiled file of ncurses may tell a cancellation; for us it is that the capability is not there
+    grep -v '^	[A-Za-z0-9]*@,$' "$work/text" >"$work/texts/$name"
+    : >"$work/cases/$name"
+    printf '%s\n' infocmp "$source:$name" >"$work/cases/$name.args"
+    count=$((count + 1))
+done <"$work/chosen"
 if [ "$count" -eq 0 ]; then
     echo "printing: skipped, since the system has no descriptions"
     exit 0
 fi
-if ! (cd crates/ticurses && rt try --data source="$work/source" --cases "$work/cases") >"$work/log" 2>&1; then
+# compiled runs alone: of these long ones the interpreter gives no answer
+if ! (cd crates/ticurses && rt try --steps 1 --seconds 600 "$@" --cases "$work/cases") >"$work/log" 2>&1; then
     cat "$work/log" >&2
     echo "printing: an entry could not be printed" >&2
     exit 1
