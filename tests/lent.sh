@@ -9,7 +9,7 @@ cd -- "$(dirname -- "$0")/.."
 work=$(mktemp -d)
 trap 'rm -rf "$work"' EXIT
 
-# probe NAME DURING AFTER: a program that writes through a lent line; the others are lines of it
+# probe NAME DURING WITHIN AFTER: a program that writes through a lent line and then through its cells; the others are lines of it
 probe() {
     lay "$work/$1" vt_screen vt_term cur_grid cur_windows
     cat >"$work/$1/crates/probe/src/main.rt" <<END
@@ -30,9 +30,12 @@ fn main(rt: HostRuntime) -> ExitCode {
     };
     $2
     line.set(3, Cell::new(b'z', Attrs::none(), 0));
+    let cells = line.into_cells();
     $3
+    cells[2] = Cell::new(b'y', Attrs::none(), 0);
+    $4
     match desk.view(0) {
-        Ok(window) if window.row(1)[3].byte() == b'z' => ExitCode::SUCCESS,
+        Ok(window) if window.row(1)[3].byte() == b'z' && window.row(1)[2].byte() == b'y' => ExitCode::SUCCESS,
         _ => ExitCode::FAILURE,
     }
 }
@@ -40,13 +43,14 @@ END
     attempt "$work/$1"
 }
 
-probe right '' 'let _ = desk.touchwin(0);' &
-probe changed 'let _ = desk.erase(0);' '' &
-probe looked_at 'let _ = desk.touchwin(0);' '' &
+probe right '' '' 'let _ = desk.touchwin(0);' &
+probe changed 'let _ = desk.erase(0);' '' '' &
+probe looked_at 'let _ = desk.touchwin(0);' '' '' &
+probe drawn_on '' 'let _ = desk.erase(0);' '' &
 wait
 
 must_run "$work/right" "lent: a program that is done with its line is refused"
-for held in changed looked_at; do
+for held in changed looked_at drawn_on; do
     must_not_compile "$work/$held" 'error\[borrow-e0\(499\|502\)\]' "lent: a desk may be $held while a line of it is held"
 done
 echo "lent: while a line is held, no other call on the desk compiles"

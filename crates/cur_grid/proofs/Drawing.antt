@@ -1,5 +1,5 @@
 -- Drawn grids by their lines and places, and how one drawing after another is one.
-use Rattle.std.proofs.Common.{◌≡◌, ℕ, ◌+◌, ◌<◌, ◌≤◌, ◌&&◌, ◌||◌, ◌==◌, Bool, true, false, List, [], ◌∷◌, length, get_or, set, refl, sym, ap, ◌∙◌, inl, inr, arith, suc, zero, if◌then◌else◌}
+use Rattle.std.proofs.Common.{◌≡◌, ◌≢◌, ℕ, ◌+◌, ◌<◌, ◌≤◌, ◌&&◌, ◌||◌, ◌==◌, Bool, true, false, List, [], ◌∷◌, length, get_or, set, refl, sym, ap, ◌∙◌, inl, inr, arith, suc, zero, if◌then◌else◌}
 use Rattle.std.proofs.lemmas.Bool.{cases_eq, cases_lt}
 use Rattle.std.proofs.lemmas.List.{ext_get_or, get_or-set_same, get_or-set_other, length-set, get_or_past}
 use Rattle.std.proofs.lemmas.Bool.Decides.{nat_tests}
@@ -44,7 +44,7 @@ cell_at-drawn f g i j h =
     ap (λ (l : List Content). get_or l j space) (line_at-drawn f g i) ∙ get_or-line_drawn (f i) 0 (line_at g i) j j space h (omega arith)
 
 -- a line that has at each place what f makes of the other line's is drawn from it
-line_is_drawn : (f : ℕ → Content → Content) (xs ys : List Content) → length ys ≡ length xs → ((k : ℕ) → k < length xs → get_or ys k space ≡ f k (get_or xs k space)) → ys ≡ line_drawn f 0 xs
+pub line_is_drawn : (f : ℕ → Content → Content) (xs ys : List Content) → length ys ≡ length xs → ((k : ℕ) → k < length xs → get_or ys k space ≡ f k (get_or xs k space)) → ys ≡ line_drawn f 0 xs
 line_is_drawn f xs ys e h = ext_get_or space ys (line_drawn f 0 xs) (e ∙ sym (length-line_drawn f 0 xs))
     (λ k lt. let lt2 : k < length xs = omega (arith, e) in h k lt2 ∙ sym (get_or-line_drawn f 0 xs k k space lt2 (omega arith)))
 
@@ -93,6 +93,16 @@ cell_at-drawn_in a f g i j on near =
 pub drawn_in_none : (a : Area) (f : ℕ → ℕ → Content → Content) (g : Grid) → ((i j : ℕ) → is_in a i j ≡ false) → g ≡ drawn_in a f g
 drawn_in_none a f g none = drawn_kept (λ i j old. if is_in a i j then f i j old else old) g
     (λ i j old. ap (λ (b : Bool). if b then f i j old else old) (none i j))
+
+-- one line of a grid, written anew
+written_line : (r i : ℕ) (f : ℕ → ℕ → Content → Content) (l : List Content) (g : Grid) → r < length g → l ≡ line_drawn (f r) 0 (line_at g r) → ((y k : ℕ) (old : Content) → y ≢ r → f y k old ≡ old) → line_at (set g r l) i ≡ line_drawn (f i) 0 (line_at g i)
+written_line r i f l g lt e p = elim (cases_eq i r) [
+  | inl same ↦ rw (same) (get_or-set_same g r l [] lt ∙ e)
+  | inr other ↦ get_or-set_other g r i l [] other ∙ line_is_drawn (f i) (line_at g i) (line_at g i) refl (λ k lt2. sym (p i k (get_or (line_at g i) k space) other))
+]
+
+pub written_line_is_drawn : (r : ℕ) (f : ℕ → ℕ → Content → Content) (l : List Content) (g : Grid) → r < length g → l ≡ line_drawn (f r) 0 (line_at g r) → ((y k : ℕ) (old : Content) → y ≢ r → f y k old ≡ old) → set g r l ≡ drawn f g
+written_line_is_drawn r f l g lt e p = grid_is_drawn f g (set g r l) (length-set g r l) (λ i lt2. written_line r i f l g lt e p)
 
 -- one cell written into a line of a grid
 one_written : (r c i : ℕ) (x : Content) (g : Grid) → r < length g → line_at (set g r (set (line_at g r) c x)) i ≡ line_drawn (λ j old. if is_in (one r c) i j then x else old) 0 (line_at g i)

@@ -1,5 +1,6 @@
 pub mod Drawing
 pub mod Keeping
+pub mod Lending
 pub mod Parts
 pub mod Refusing
 pub mod Scrolling

@@ -69,6 +69,10 @@ row_of a k = record { top = a.top + k; left = a.left; rows = 1; cols = a.cols }
 abbrev pub moved_to : Area → Place → Area
 moved_to a from = record a { top = from.top; left = from.left }
 
+-- as many cells of line i as there are here, from column j on, became these
+abbrev pub part_written : ℕ → ℕ → List Content → Grid → Grid
+part_written i j cells g = drawn_in (record { top = i; left = j; rows = 1; cols = length cells }) (λ y x old. slice_index_or cells (x - j) old) g
+
 -- the rectangle lies in the grid
 pub record Fits (a : Area) (g : Grid) : Type 0 where
   pub rows : a.top + a.rows ≤ length g

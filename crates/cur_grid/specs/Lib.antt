@@ -2,5 +2,6 @@ pub mod Cells
 pub mod Codes
 pub mod Grids
 pub mod Laws
+pub mod Lending
 pub mod Sheets
 pub mod Windows

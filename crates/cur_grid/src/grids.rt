@@ -1,4 +1,4 @@
-ghost use Rattle.std.specs.Prelude.{◌≡◌, ◌<◌, ◌+◌, ◌-◌, ◌==◌, ◌&&◌, [], length, IfOk, if◌then◌else◌};
+ghost use Rattle.std.specs.Prelude.{◌≡◌, ◌<◌, ◌≤◌, take, drop, ◌+◌, ◌-◌, ◌==◌, ◌&&◌, [], length, IfOk, if◌then◌else◌};
 ghost use Rattle.cur_grid.specs.Grids.{Fits, blank, cell_at, line_at, copied, drawn_in, taken, filled, recolored, is_before, moved_to, one, row_of, shape_of, turned};
 
 use crate::areas::{Area, Place};
@@ -22,6 +22,9 @@ impl Model for Grid {
 }
 
 impl Grid {
+    ghost use Rattle.std.specs.Borrow.{sem};
+    ghost use Rattle.cur_grid.specs.Lending.{LendsPart};
+
     /// A grid without lines. It takes no memory.
     pub fn empty(alloc: Global) -> Grid
         ensures { result ≡ [] }
@@ -65,6 +68,17 @@ impl Grid {
         ensures shape { shape_of self.new ≡ shape_of self.old }
     {
         self.lines[row].set(col, cell);
+    }
+
+    /// The cells of one line from one column up to another, for writing.
+    pub fn part_mut(&mut self, row: usize, from: usize, to: usize) -> &mut [Cell]
+        requires row { row < length self.old }
+        requires order { from ≤ to }
+        requires within { to ≤ length (line_at self.old row) }
+        ensures* writes_back { sem 𝓛 (LendsPart self.entry row from result) }
+        ensures value { result.now ≡ take (to - from) (drop from (line_at self.old row)) }
+    {
+        self.lines[row].part_mut(from, to)
     }
 
     /// Each cell of the rectangle becomes this one.

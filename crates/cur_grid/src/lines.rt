@@ -1,4 +1,4 @@
-ghost use Rattle.std.specs.Prelude.{◌≡◌, ◌<◌, length, replicate, slice_set, slice_index_or, IfOk};
+ghost use Rattle.std.specs.Prelude.{◌≡◌, ◌<◌, ◌≤◌, ◌-◌, take, drop, length, replicate, slice_set, slice_index_or, IfOk};
 ghost use Rattle.cur_grid.specs.Cells.{space};
 
 use crate::cells::Cell;
@@ -21,6 +21,9 @@ impl Model for Line {
 }
 
 impl Line {
+    ghost use Rattle.std.specs.Borrow.{sem};
+    ghost use Rattle.cur_grid.specs.Lending.{LendsCells};
+
     pub fn new(alloc: Global, cols: usize, cell: Cell) -> Result<Line, AllocError>
         ensures { IfOk result (λ line. line ≡ replicate cols cell) }
     {
@@ -47,5 +50,14 @@ impl Line {
         ensures { self.new ≡ slice_set self.old col cell }
     {
         self.cells[col] = cell;
+    }
+
+    pub fn part_mut(&mut self, from: usize, to: usize) -> &mut [Cell]
+        requires order { from ≤ to }
+        requires within { to ≤ length self.old }
+        ensures* writes_back { sem 𝓛 (LendsCells self.entry from result) }
+        ensures value { result.now ≡ take (to - from) (drop from self.old) }
+    {
+        self.cells.slice_mut(from..to)
     }
 }

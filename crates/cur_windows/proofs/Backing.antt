@@ -1,7 +1,6 @@
 -- A refused call gives the desk back.
-use Rattle.std.proofs.Common.{◌≡◌, ◌≢◌, ℕ, nat_lt, nat_le, ◌==◌, List, [], Bool, true, false, Option, Some, None, Result, Ok, Err, ℤ, get_or, set, refl, sym, ap, ◌∙◌, if◌then◌else◌}
+use Rattle.std.proofs.Common.{◌≡◌, ◌≢◌, ℕ, nat_lt, nat_le, List, [], Bool, true, false, Option, Some, None, Result, Ok, Err, ℤ, set, refl, sym, ap, ◌∙◌, if◌then◌else◌}
 use Rattle.std.proofs.lemmas.List.{set-get_or}
-use Rattle.cur_grid.specs.declared.areas.Area.{Area}
 use Rattle.cur_grid.specs.declared.puts.Put.{Put}
 use Rattle.cur_grid.specs.declared.refusals.Refusal.{Refusal}
 use Rattle.cur_grid.specs.declared.refusals.Refusal.TheVariants.{NoScroll, Full, BadRegion, OutOfWindow, OutOfScreen}
@@ -17,7 +16,6 @@ use Rattle.cur_windows.specs.Desks as desks
 use Rattle.cur_windows.specs.Desks.{State, DeskStep, after, grid_at, window_at, slot_of, some_slot, with_window, with_sheet}
 use Rattle.cur_windows.specs.Laws.{GivesBack}
 use Rattle.cur_windows.specs.Making as making
-use Rattle.cur_windows.specs.Screens as screens
 
 some_found : (o : Option Slot) (s : Slot) → some_slot o ≡ Ok s → o ≡ Some s
 some_found (Some t) s h = cc

@@ -1,10 +1,10 @@
 -- What a call on one window leaves is a desk.
-use Rattle.std.proofs.Common.{◌≡◌, ◌≢◌, ℕ, ◌+◌, ◌<◌, ◌≤◌, List, [], Option, Some, None, IsSome, length, get_or, set, refl, sym, ap, ◌∙◌, subst, inl, inr, arith, rules, false}
+use Rattle.std.proofs.Common.{◌≡◌, ℕ, ◌<◌, List, [], Option, Some, None, IsSome, length, get_or, set, refl, sym, ap, ◌∙◌, subst, inl, inr, arith, rules}
 use Rattle.std.proofs.lemmas.Bool.{cases_eq}
 use Rattle.std.proofs.lemmas.List.{get_or-set_same, get_or-set_other, length-set, get_or_default}
 use Rattle.cur_grid.specs.declared.areas.Area.{Area}
 use Rattle.cur_grid.specs.declared.windows.Window.{Window}
-use Rattle.cur_grid.specs.Grids.{Grid, Fits, line_at, shape_of}
+use Rattle.cur_grid.specs.Grids.{Grid, Fits, shape_of}
 use Rattle.cur_grid.specs.Windows.{IsWindow}
 use Rattle.cur_grid.specs.Sheets.{IsSheet, IsKept}
 use Rattle.cur_grid.proofs.Drawing.{fits_same, shape_of-line, shape_of-length}

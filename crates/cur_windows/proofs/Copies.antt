@@ -1,5 +1,5 @@
 -- Copying from one grid of a desk to another.
-use Rattle.std.proofs.Common.{ℤ, Option, Result, Ok, Err, ◌≡◌, ◌≢◌, ℕ, ◌<◌, List, [], ◌∷◌, ◌++◌, Bool, length, get_or, set, take, refl, sym, ap, ◌∙◌, subst, arith, if◌then◌else◌}
+use Rattle.std.proofs.Common.{ℤ, Option, Result, Ok, Err, ◌≡◌, ◌≢◌, ℕ, ◌<◌, List, [], ◌++◌, Bool, length, get_or, set, take, sym, ap, ◌∙◌, subst, arith, if◌then◌else◌}
 use Rattle.std.proofs.lemmas.List.{get_or-set_other, length-set, get_or_default, set-set, take_at}
 use Rattle.cur_grid.specs.declared.areas.Area.{Area}
 use Rattle.cur_grid.specs.declared.areas.Place.{Place}
@@ -9,7 +9,7 @@ use Rattle.cur_windows.specs.declared.copying.Strip.{Strip}
 use Rattle.cur_windows.specs.declared.slots.Slot.{Slot}
 use Rattle.cur_grid.specs.declared.refusals.Refusal.{Refusal}
 use Rattle.cur_grid.specs.declared.refusals.Refusal.TheVariants.{OutOfWindow}
-use Rattle.cur_windows.specs.Desks.{State, DeskStep, IsDesk, grid_at, slot_of, after}
+use Rattle.cur_windows.specs.Desks.{State, DeskStep, IsDesk, slot_of, after}
 use Rattle.cur_windows.specs.Making.{in_range}
 use Rattle.cur_windows.specs.Copying.{strips_copied, target_area, source_place, copied_or, copywin, in_order, matched}
 use Rattle.cur_windows.proofs.Closing.{grids_kept, shape_kept}

@@ -1,5 +1,5 @@
 -- Parts of windows, and the cells that they show.
-use Rattle.std.proofs.Common.{◌≡◌, ◌≢◌, ℕ, ◌+◌, ◌-◌, ◌<◌, ◌≤◌, ◌||◌, ◌==◌, nat_lt, nat_le, List, [], Bool, true, false, Option, Some, None, Result, Ok, Err, ℤ, pos, negsuc, ◌-ℤ◌, length, get_or, take, drop, set, refl, sym, ap, ◌∙◌, subst, arith, if◌then◌else◌}
+use Rattle.std.proofs.Common.{◌≡◌, ℕ, ◌+◌, ◌-◌, ◌<◌, ◌||◌, ◌==◌, nat_lt, nat_le, List, [], Bool, true, false, Option, Some, None, Result, Ok, Err, ℤ, pos, negsuc, ◌-ℤ◌, length, get_or, drop, set, refl, sym, ap, ◌∙◌, subst, arith, if◌then◌else◌}
 use Rattle.std.proofs.lemmas.Bool.Decides.{nat_tests}
 use Rattle.std.proofs.lemmas.Int.{ints}
 use Rattle.std.proofs.lemmas.List.{get_or-set_same, get_or-set_other, get_or-take, get_or-drop}
@@ -16,7 +16,7 @@ use Rattle.cur_windows.specs.declared.slots.Slot.{Slot}
 use Rattle.cur_windows.specs.Desks.{State, DeskStep, IsDesk, IsPlaced, after, grid_at, window_at, slot_of, cell}
 use Rattle.cur_windows.specs.Laws.{IsPartOf}
 use Rattle.cur_windows.specs.Making.{in_range, free, part, span, crossed, is_negative, inside, parted, part_from, window_only, derwin, subwin, corner, settled}
-use Rattle.cur_windows.specs.Views.{window_cells, cut}
+use Rattle.cur_windows.specs.Views.{window_cells}
 use Rattle.cur_windows.proofs.Closing.{some_inj}
 use Rattle.cur_windows.proofs.Settling.{no_some}
 use Rattle.cur_windows.proofs.Viewing.{line_seen, rows_seen}

@@ -1,5 +1,5 @@
 -- What a copy to the virtual screen leaves is a screen.
-use Rattle.std.proofs.Common.{◌≡◌, ℕ, ◌<◌, List, [], Option, Bool, IfSome, length, get_or, arith, ap, sym, subst, ◌∙◌}
+use Rattle.std.proofs.Common.{◌≡◌, ℕ, ◌<◌, [], Option, Bool, IfSome, length, get_or, arith, ap, sym, subst, ◌∙◌}
 use Rattle.std.proofs.lemmas.List.{get_or_default}
 use Rattle.cur_grid.specs.declared.areas.Place.{Place}
 use Rattle.cur_grid.specs.Grids.{Grid, shape_of}

@@ -1,16 +1,15 @@
 -- A call changes no cell outside its window's rectangle, and no other window.
-use Rattle.std.proofs.Common.{◌≡◌, ◌≢◌, ◌⊎◌, ℕ, ◌+◌, ◌-◌, ◌<◌, ◌≤◌, ◌&&◌, nat_lt, nat_le, max, min, List, [], Bool, true, false, Option, Some, None, Result, Ok, Err, ℤ, pos, negsuc, length, get_or, set, refl, sym, ap, ◌∙◌, subst, inl, inr, arith, if◌then◌else◌}
+use Rattle.std.proofs.Common.{◌≡◌, ◌≢◌, ◌⊎◌, ℕ, ◌+◌, ◌<◌, [], true, false, Some, None, Result, Ok, length, get_or, set, refl, sym, ap, ◌∙◌, subst, inl, inr, arith}
 use Rattle.std.proofs.lemmas.Bool.{cases_eq}
 use Rattle.std.proofs.lemmas.Bool.Decides.{nat_tests}
 use Rattle.std.proofs.lemmas.List.{get_or-set_same, get_or-set_other}
 use Rattle.cur_grid.specs.declared.areas.Area.{Area}
 use Rattle.cur_grid.specs.declared.refusals.Refusal.{Refusal}
 use Rattle.cur_grid.specs.declared.windows.Window.{Window}
-use Rattle.cur_grid.specs.Grids.{Grid, is_in, cell_at, drawn_in, copied, taken}
+use Rattle.cur_grid.specs.Grids.{Grid, is_in, cell_at}
 use Rattle.cur_grid.specs.Windows.{Turn}
 use Rattle.cur_grid.specs.Sheets.{Sheet, Step, sheet}
 use Rattle.cur_grid.specs.Laws.{IsLocal, Stays}
-use Rattle.cur_grid.proofs.Drawing.{cell_at-drawn_in_off}
 use Rattle.cur_windows.specs.declared.slots.Slot.{Slot}
 use Rattle.cur_windows.specs.Desks as desks
 use Rattle.cur_windows.specs.Desks.{State, DeskStep, IsDesk, IsPlaced, after, grid_at, window_at, slot_of, with_window, with_sheet, cell}

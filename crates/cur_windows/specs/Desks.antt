@@ -1,13 +1,13 @@
 -- A desk: root grids, and windows that are rectangles of them (X/Open Curses Issue 7, "Windows"). A subwindow has its
 -- parent's root, so that it shows and changes its parent's cells.
-use Rattle.std.specs.Prelude.{◌≡◌, ℕ, ◌+◌, ◌<◌, ◌≤◌, nat_lt, List, [], length, slice_index_or, slice_set, Bool, true, false, Option, Some, None, IsSome, Result, Ok, Err, if◌then◌else◌, replicate, ◌∷◌}
+use Rattle.std.specs.Prelude.{◌≡◌, ℕ, ◌+◌, ◌<◌, ◌≤◌, nat_lt, List, [], length, slice_index_or, slice_set, Bool, false, Option, Some, None, IsSome, Result, Ok, Err, if◌then◌else◌, replicate}
 use Rattle.cur_grid.specs.declared.areas.Area.{Area}
 use Rattle.cur_grid.specs.declared.refusals.Refusal.{Refusal}
 use Rattle.cur_grid.specs.declared.refusals.Refusal.TheVariants.{NoWindow, Full}
 use Rattle.cur_grid.specs.declared.windows.Window.{Window}
 use Rattle.cur_grid.specs.Cells.{Content}
 use Rattle.cur_grid.specs.Grids.{Grid, line_at, cell_at, blank}
-use Rattle.cur_grid.specs.Windows.{IsWindow, Turn, fresh}
+use Rattle.cur_grid.specs.Windows.{Turn, fresh}
 use Rattle.cur_grid.specs.Sheets.{Sheet, Step, IsSheet, sheet}
 use Rattle.cur_windows.specs.declared.slots.Origin.{Origin}
 use Rattle.cur_windows.specs.declared.slots.Slot.{Slot}

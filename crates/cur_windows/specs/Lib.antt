@@ -1,6 +1,7 @@
 pub mod Copying
 pub mod Desks
 pub mod Laws
+pub mod Lending
 pub mod Making
 pub mod Padding
 pub mod Rows

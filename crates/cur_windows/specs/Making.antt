@@ -1,8 +1,8 @@
 -- Making, moving and deleting windows (X/Open Curses Issue 7, newwin, subwin, derwin, delwin, mvwin).
-use Rattle.std.specs.Prelude.{◌≡◌, ℕ, ◌+◌, ◌-◌, ◌<◌, ◌≤◌, ◌==◌, ◌&&◌, ◌||◌, nat_lt, nat_le, not, List, [], ◌∷◌, length, slice_index_or, slice_set, Bool, true, false, Option, Some, None, IsSome, Result, Ok, Err, if◌then◌else◌, ℤ, pos, negsuc, ◌-ℤ◌}
+use Rattle.std.specs.Prelude.{ℕ, ◌+◌, ◌-◌, ◌<◌, ◌≤◌, ◌==◌, ◌&&◌, ◌||◌, nat_lt, nat_le, not, List, [], ◌∷◌, length, slice_set, Bool, true, false, Option, Some, None, Result, Ok, Err, if◌then◌else◌, ℤ, pos, negsuc, ◌-ℤ◌}
 use Rattle.cur_grid.specs.declared.areas.Area.{Area}
 use Rattle.cur_grid.specs.declared.refusals.Refusal.{Refusal}
-use Rattle.cur_grid.specs.declared.refusals.Refusal.TheVariants.{NoWindow, Full, NumberUsed, BadRegion, OutOfScreen, OutOfWindow, PadKind, IsScreen, HasChildren, IsSub}
+use Rattle.cur_grid.specs.declared.refusals.Refusal.TheVariants.{Full, NumberUsed, BadRegion, OutOfScreen, OutOfWindow, PadKind, IsScreen, HasChildren, IsSub}
 use Rattle.cur_grid.specs.declared.windows.Window.{Window}
 use Rattle.cur_grid.specs.Grids.{Grid, blank, line_at, copied}
 use Rattle.cur_grid.specs.Windows.{fresh}
@@ -10,7 +10,7 @@ use Rattle.cur_grid.specs.Sheets.{place}
 use Rattle.cur_windows.specs.declared.parts.Stretch.{Stretch}
 use Rattle.cur_windows.specs.declared.slots.Origin.{Origin}
 use Rattle.cur_windows.specs.declared.slots.Slot.{Slot}
-use Rattle.cur_windows.specs.Desks.{State, DeskStep, after, slot_of, grid_at, origin_at, window_at, on_screen, whole_area, new_slot}
+use Rattle.cur_windows.specs.Desks.{State, DeskStep, after, slot_of, grid_at, origin_at, window_at, on_screen, whole_area}
 
 abbrev pub is_some_slot : Option Slot → Bool
 is_some_slot (Some s) = true

@@ -1,9 +1,10 @@
 -- One line of a window that is lent for writing.
-use Rattle.std.specs.Prelude.{◌≡◌, ℕ, ◌+◌, ◌<◌, nat_lt, slice_set, Result, Ok, Err, if◌then◌else◌}
+use Rattle.std.specs.Prelude.{ℕ, List, ◌+◌, ◌<◌, nat_lt, slice_set, Result, Ok, Err, if◌then◌else◌}
+use Rattle.cur_grid.specs.declared.areas.Area.{Area}
 use Rattle.cur_grid.specs.declared.refusals.Refusal.{Refusal}
 use Rattle.cur_grid.specs.declared.refusals.Refusal.TheVariants.{OutOfWindow}
 use Rattle.cur_grid.specs.Cells.{Content}
-use Rattle.cur_grid.specs.Grids.{one, filled}
+use Rattle.cur_grid.specs.Grids.{one, filled, part_written}
 use Rattle.cur_grid.specs.Sheets.{IsSheet}
 use Rattle.cur_windows.specs.declared.rows.RowMut.{RowMut}
 use Rattle.cur_windows.specs.declared.slots.Slot.{Slot}
@@ -26,6 +27,15 @@ line_of d n y = line_in y (slot_of d n)
 abbrev pub lent_of : Result RowMut Refusal → Result Slot Refusal
 lent_of (Ok r) = Ok r.slot
 lent_of (Err e) = Err e
+
+-- the cells of line y of the window became these, and nothing else has changed
+abbrev pub row_written : State → Slot → ℕ → List Content → State
+row_written d s y cells =
+    record d { grids = slice_set d.grids s.root (part_written (s.window.area.top + y) s.window.area.left cells (grid_at d s.root)) }
+
+-- the places of that line's first n cells
+abbrev pub line_area : Slot → ℕ → ℕ → Area
+line_area s y n = record { top = s.window.area.top + y; left = s.window.area.left; rows = 1; cols = n }
 
 -- the cell at place y x of the window became c, and nothing else has changed
 abbrev pub place_written : State → Slot → ℕ → ℕ → Content → State

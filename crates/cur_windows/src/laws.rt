@@ -1,6 +1,7 @@
 //! Laws of the calls, each for all desks.
-ghost use Rattle.std.specs.Prelude.{◌≡◌, ◌≢◌, ℕ, ◌+◌, ◌<◌, Bool, Some, None, Ok, Err, IfOk, ℤ, pos};
-ghost use Rattle.cur_grid.specs.Grids.{Grid, cell_at};
+ghost use Rattle.std.specs.Prelude.{◌≡◌, ◌≢◌, ◌⊎◌, ℕ, ◌+◌, ◌<◌, Bool, false, List, length, slice_index_or, Some, None, Ok, Err, IfOk, ℤ, pos};
+ghost use Rattle.cur_grid.specs.Cells.{Content, space};
+ghost use Rattle.cur_grid.specs.Grids.{Grid, cell_at, is_in};
 ghost use Rattle.cur_grid.specs.Laws.{IsLocal};
 ghost use Rattle.cur_grid.specs.Sheets as sheets;
 ghost use Rattle.cur_grid.specs.Windows as turns;
@@ -8,7 +9,7 @@ ghost use Rattle.cur_windows.specs.Copying as copying;
 ghost use Rattle.cur_windows.specs.Desks.{State, IsDesk, slot_of, window_at, grid_at, cell, on_window, on_grid, on_cursor};
 ghost use Rattle.cur_windows.specs.Laws.{OnlyWithin, Apart, IsPartOf, GivesBack};
 ghost use Rattle.cur_windows.specs.Making as making;
-ghost use Rattle.cur_windows.specs.Rows.{line_of, written_through};
+ghost use Rattle.cur_windows.specs.Rows.{line_of, line_area, row_written, written_through};
 ghost use Rattle.cur_windows.specs.Views.{window_cells};
 
 use crate::desks::Desk;
@@ -100,3 +101,20 @@ pub fn lent_lines_are_written(desk: &mut Desk, id: usize, y: usize, x: usize, ce
         line.set(x, cell);
     }
 }
+
+/// So is what is left in the line's cells where they are lent as a slice.
+pub fn lent_cells_are_written(desk: &mut Desk, id: usize, y: usize, x: usize, cell: Cell)
+    requires { IfOk (line_of desk.old id y) (λ s. x < s.window.area.cols) }
+    ensures { desk.new ≡ written_through (line_of desk.old id y) desk.old y x cell }
+{
+    if let Ok(line) = desk.row_mut(id, y) {
+        line.into_cells()[x] = cell;
+    }
+}
+
+/// A line that was written so has its cells place by place, and no cell outside it has changed, nor a window.
+pub fn lines_are_written_in_place()
+    ensures inside { (d : State) (n : ℕ) (s : Slot) (y x : ℕ) (cells : List Content) → IsDesk d → slot_of d n ≡ Ok s → y < s.window.area.rows → x < s.window.area.cols → x < length cells → cell (row_written d s y cells) s y x ≡ slice_index_or cells x space }
+    ensures outside { (d : State) (n k : ℕ) (s : Slot) (y i j : ℕ) (cells : List Content) → IsDesk d → slot_of d n ≡ Ok s → (k ≢ s.root) ⊎ (is_in (line_area s y (length cells)) i j ≡ false) → cell_at (grid_at (row_written d s y cells) k) i j ≡ cell_at (grid_at d k) i j }
+    ensures windows { (d : State) (s : Slot) (y m : ℕ) (cells : List Content) → window_at (row_written d s y cells) m ≡ window_at d m }
+{}

@@ -1,4 +1,4 @@
-ghost use Rattle.std.specs.Prelude.{◌≡◌, ◌<◌, ◌+◌, IfOk, slice_set};
+ghost use Rattle.std.specs.Prelude.{◌≡◌, ◌<◌, ◌≤◌, ◌+◌, ◌-◌, IfOk, length, take, drop, slice_set};
 ghost use Rattle.cur_grid.specs.Grids.{Fits, filled, line_at, one};
 ghost use Rattle.cur_windows.specs.Desks as spec;
 ghost use Rattle.cur_windows.specs.Rows.{IsLine, line_of, lent_of, place_written};
@@ -18,6 +18,7 @@ pub struct RowMut<'a> {
 
 impl Desk {
     ghost use Rattle.std.specs.Borrow.{sem, RestsIfErr};
+    ghost use Rattle.cur_windows.specs.Lending.{LendsPart};
     ghost use Rattle.cur_windows.specs.contracts.desks.Desk.{the_row};
 
     /// One line of a window, for writing: what is written through it is in the grid at that place, and nothing else has
@@ -40,6 +41,18 @@ impl Desk {
         })
     }
 
+    // The cells of one line of a grid, from one column up to another, for writing.
+    fn part_mut(&mut self, root: usize, row: usize, from: usize, to: usize) -> &mut [Cell]
+        requires root { root < 64 }
+        requires row { row < length (spec.grid_at self.old root) }
+        requires order { from ≤ to }
+        requires within { to ≤ length (line_at (spec.grid_at self.old root) row) }
+        ensures* writes_back { sem 𝓛 (LendsPart self.entry root row from result) }
+        ensures value { result.now ≡ take (to - from) (drop from (line_at (spec.grid_at self.old root) row)) }
+    {
+        self.grids[root].part_mut(row, from, to)
+    }
+
     // One cell of a grid becomes this one.
     fn put_cell(&mut self, root: usize, row: usize, col: usize, cell: Cell)
         requires root { root < 64 }
@@ -52,6 +65,22 @@ impl Desk {
 }
 
 impl<'a> RowMut<'a> {
+    ghost use Rattle.std.specs.Borrow.{sem};
+    ghost use Rattle.cur_windows.specs.Lending.{LendsLine};
+
+    /// Its cells, for writing: what is left in them is in the window's grid at that place, and nothing else has changed.
+    pub fn into_cells(self) -> &'a mut [Cell]
+        requires { IsLine self.desk.now self.slot self.row }
+        ensures* writes_back { sem 𝓛 (LendsLine self.entry result) }
+        ensures value { result.now ≡ cut self.entry.slot.window.area (line_at (spec.grid_at self.entry.desk.now self.entry.slot.root) (self.entry.slot.window.area.top + self.entry.row)) }
+    {
+        let RowMut { desk, slot, row } = self;
+        let area = slot.window.area;
+        let left = area.left as usize;
+        let right = left + area.cols as usize;
+        desk.part_mut(slot.root as usize, area.top as usize + row, left, right)
+    }
+
     /// How many places it has.
     pub fn cols(&self) -> usize
         ensures { result ≡ (self.now).slot.window.area.cols }
