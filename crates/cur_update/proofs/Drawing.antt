@@ -14,9 +14,10 @@ use Rattle.vt_term.proofs.Grids.{look_at-drawn}
 use Rattle.vt_term.proofs.Sequences.{empty_open}
 use Rattle.vt_term.proofs.Running.{text_runs, run_keeps}
 use Rattle.cur_update.specs.Leads.{Ends}
-use Rattle.cur_update.specs.Plain.{Extent, IsSized, IsReady, IsAt, clear, cursor_to, plainly, wanted}
+use Rattle.cur_update.specs.Plain.{Extent, IsSized, IsReady, IsAt, clear, plainly, wanted}
+use Rattle.vt_term.specs.Moving.{cursor_to}
 use Rattle.cur_update.specs.Steps.{ShowsAbove, MovedTo, ShowsUpTo}
-use Rattle.cur_update.proofs.Moving.{move_function, move_token}
+use Rattle.vt_term.proofs.Moving.{move_function, move_token}
 
 -- a token is run where nothing is open
 token_runs : (s : State) (token : List ℕ) (t : Screen) → s.rest ≡ [] → IsWhole token → act (function_of token) s.screen ≡ t → Runs s token (record { screen = t; rest = [] })

@@ -6,7 +6,8 @@ use Rattle.std.proofs.lemmas.List.{length-map, get_or-map, get_or_append_left, g
 use Rattle.std.proofs.lemmas.Nat.{div-mul-add, mod-mul-add}
 use Rattle.std.specs.List.{list_all}
 use Rattle.vt_term.specs.Look.{IsPrinted}
-use Rattle.cur_update.specs.Plain.{Extent, can_print, cursor_to, fits_size}
+use Rattle.cur_update.specs.Plain.{Extent, can_print, fits_size}
+use Rattle.vt_term.specs.Moving.{cursor_to}
 use Rattle.cur_update.proofs.Grids.{IsGrid}
 
 and_first : (a b : Bool) → (a && b) ≡ true → a ≡ true

@@ -2,7 +2,6 @@ pub mod Sending
 pub mod Leading
 pub mod Painting
 pub mod Cutting
-pub mod Moving
 pub mod Drawing
 pub mod Grids
 pub mod Fitting

@@ -1,19 +1,15 @@
 -- A grid of plain characters, what is sent for it, and when a terminal shows it.
-use Rattle.std.specs.Prelude.{ℕ, ◌+◌, ◌*◌, ◌<◌, ◌≡◌, ◌==◌, ◌&&◌, nat_le, Bool, false, List, [], ◌∷◌, ◌++◌, length, slice_index, slice_index_or}
+use Rattle.std.specs.Prelude.{ℕ, ◌+◌, ◌*◌, ◌<◌, ◌≡◌, ◌==◌, ◌&&◌, nat_le, Bool, false, List, [], ◌∷◌, length, slice_index, slice_index_or}
 use Rattle.std.specs.List.{list_all}
-use Rattle.std.specs.Fmt.{decimal}
 use Rattle.vt_term.specs.Look.{Look, IsPrinted, plain}
 use Rattle.vt_term.specs.Grid.{look_at}
+use Rattle.vt_term.specs.Moving.{cursor_to}
 use Rattle.vt_term.specs.Screen.{State, IsOfSize, IsAtRest}
 
 -- a size in lines and columns
 pub record Extent : Type 0 where
   pub rows : ℕ
   pub cols : ℕ
-
--- ESC [ row ; column H, which count from 1 there (ECMA-48 8.3.21, CUP)
-abbrev pub cursor_to : ℕ → ℕ → List ℕ
-cursor_to row col = 27 ∷ 91 ∷ (decimal (row + 1) ++ 59 ∷ (decimal (col + 1) ++ 72 ∷ []))
 
 -- ESC [ H, ESC [ 2 J: to the first place, and all places are erased (ECMA-48 8.3.21, CUP, and 8.3.39, ED)
 abbrev pub clear : List ℕ

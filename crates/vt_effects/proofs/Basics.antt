@@ -1,18 +1,18 @@
 -- The records of the plainest strings.
-use Rattle.std.proofs.Common.{◌≡◌, ℕ, ◌+◌, ◌-◌, ◌<◌, ◌≤◌, min, List, [], ◌∷◌, ◌++◌, length, Option, Some, refl, sym, ap, ◌∙◌, subst, inl, inr, arith, append-nil}
+use Rattle.std.proofs.Common.{◌≡◌, ℕ, ◌+◌, ◌-◌, ◌<◌, min, List, [], ◌∷◌, Some, refl, sym, ap, ◌∙◌, inl, inr, arith, append-nil}
 use Rattle.vt_term.specs.Size.{IsSize}
-use Rattle.vt_term.specs.Text.{Splits, IsWhole, IsParameter}
+use Rattle.vt_term.specs.Text.{Splits, IsWhole}
 use Rattle.vt_term.specs.Function.{Function, CursorPosition, function_of}
 use Rattle.vt_term.proofs.Splitting.{one_splitting}
 use Rattle.vt_term.proofs.Sequences.{empty_open}
-use Rattle.vt_effects.specs.declared.effects.Move.{Move}
 use Rattle.vt_effects.specs.declared.effects.Move.TheVariants as moves
 use Rattle.vt_effects.specs.declared.effects.Effect.{Effect}
 use Rattle.vt_effects.specs.declared.starts.Start.{Start}
 use Rattle.vt_effects.specs.Effect.{unchanged}
 use Rattle.vt_effects.specs.Record.{record_of, extended, with_row, with_col}
-use Rattle.vt_effects.specs.Basic.{HasRecord, home_text, clear_text, cup_text, el_text, sgr0_text, placed_at, cleared, tail_erased, made_plain}
-use Rattle.vt_effects.proofs.Placing.{move_function, move_token}
+use Rattle.vt_term.specs.Moving.{cursor_to}
+use Rattle.vt_effects.specs.Basic.{HasRecord, home_text, clear_text, el_text, sgr0_text, placed_at, cleared, tail_erased, made_plain}
+use Rattle.vt_term.proofs.Moving.{move_function, move_token}
 
 erase : List ℕ
 erase = 27 ∷ 91 ∷ 50 ∷ 74 ∷ []
@@ -53,10 +53,10 @@ placed rows cols start row col h k =
 named : (rows cols : ℕ) (start : Start) (token : List ℕ) (f : Function) (e : Effect) → function_of token ≡ f → extended rows cols start f unchanged ≡ Some e → record_of rows cols start (token ∷ []) ≡ Some e
 named rows cols start token f e h k = rw (h, k) refl
 
-pub cup_record : (rows cols row col : ℕ) (start : Start) → IsSize rows cols → row < rows → col < cols → HasRecord rows cols start (cup_text row col) (placed_at row col)
-cup_record rows cols row col start z h k = of_splitting rows cols start (cup_text row col) (cup_text row col ∷ []) (placed_at row col)
-    (one_token (cup_text row col) (move_token row col (omega (arith, z.1)) (omega (arith, z.3))))
-    (named rows cols start (cup_text row col) (CursorPosition (row + 1) (col + 1)) (placed_at row col) (move_function row col (omega (arith, z.1)) (omega (arith, z.3))) (placed rows cols start row col h k))
+pub cup_record : (rows cols row col : ℕ) (start : Start) → IsSize rows cols → row < rows → col < cols → HasRecord rows cols start (cursor_to row col) (placed_at row col)
+cup_record rows cols row col start z h k = of_splitting rows cols start (cursor_to row col) (cursor_to row col ∷ []) (placed_at row col)
+    (one_token (cursor_to row col) (move_token row col (omega (arith, z.1)) (omega (arith, z.3))))
+    (named rows cols start (cursor_to row col) (CursorPosition (row + 1) (col + 1)) (placed_at row col) (move_function row col (omega (arith, z.1)) (omega (arith, z.3))) (placed rows cols start row col h k))
 
 home_function : function_of home_text ≡ CursorPosition (0 + 1) (0 + 1)
 home_function = refl

@@ -1,5 +1,5 @@
 -- Cells that are erased twice.
-use Rattle.std.proofs.Common.{◌≡◌, ℕ, ◌+◌, ◌<◌, ◌≤◌, ◌&&◌, ◌==◌, nat_le, nat_lt, Bool, true, false, min, if◌then◌else◌, List, [], ◌∷◌, length, refl, sym, ap, ◌∙◌, arith, zero, suc}
+use Rattle.std.proofs.Common.{◌≡◌, ℕ, ◌+◌, ◌<◌, ◌≤◌, ◌&&◌, ◌==◌, nat_le, nat_lt, Bool, true, false, min, if◌then◌else◌, List, [], ◌∷◌, length, refl, ap, ◌∙◌, arith, suc}
 use Rattle.std.proofs.lemmas.Bool.Decides.{nat_tests}
 use Rattle.vt_term.specs.Look.{Look}
 use Rattle.vt_term.specs.Grid.{Grid, line_at, line_drawn, drawn_from, drawn}

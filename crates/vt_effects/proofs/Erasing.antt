@@ -1,11 +1,11 @@
 -- Cells erased around the cursor, or all of them.
-use Rattle.std.proofs.Common.{◌≡◌, ℕ, ◌+◌, ◌<◌, ◌≤◌, ◌==◌, ◌&&◌, ◌||◌, nat_le, nat_lt, min, Bool, true, false, if◌then◌else◌, length, Option, Some, None, refl, sym, ap, ◌∙◌, subst, arith, ◌⊎◌, inl, inr}
+use Rattle.std.proofs.Common.{◌≡◌, ℕ, ◌+◌, ◌<◌, ◌≤◌, ◌==◌, ◌&&◌, ◌||◌, nat_le, nat_lt, min, Bool, true, length, Some, None, refl, sym, ap, ◌∙◌, arith}
 use Rattle.std.proofs.Math.Path.{fun_ext}
-use Rattle.std.proofs.lemmas.Bool.{and_parts, cases_lt}
+use Rattle.std.proofs.lemmas.Bool.{and_parts}
 use Rattle.std.proofs.lemmas.Bool.Decides.{nat_tests}
 use Rattle.vt_term.specs.Look.{Look, blank}
 use Rattle.vt_term.specs.Grid.{Grid, line_at}
-use Rattle.vt_term.specs.Screen.{Screen, IsScreen}
+use Rattle.vt_term.specs.Screen.{Screen}
 use Rattle.vt_term.specs.Step.{act}
 use Rattle.vt_term.specs.Function as functions
 use Rattle.vt_term.specs.Function.{Function, Part}

@@ -1,11 +1,10 @@
 -- Each token's record is right, kind by kind.
-use Rattle.std.proofs.Common.{◌≡◌, ℕ, ◌+◌, ◌-◌, ◌*◌, ◌/◌, ◌<◌, ◌≤◌, ◌==◌, ◌&&◌, ◌||◌, nat_le, nat_lt, min, max, Bool, true, false, if◌then◌else◌, List, [], ◌∷◌, length, Option, Some, None, refl, sym, ap, ◌∙◌, subst, arith}
-use Rattle.std.proofs.lemmas.Bool.{and_parts, eqb-true, leb-true, ltb-true, lt-ltb, ne_eqb, eq-eqb}
+use Rattle.std.proofs.Common.{◌≡◌, ℕ, ◌+◌, ◌-◌, ◌*◌, ◌/◌, ◌==◌, nat_le, min, max, true, if◌then◌else◌, Option, Some, None, refl, sym, ap, ◌∙◌, arith}
+use Rattle.std.proofs.lemmas.Bool.{and_parts, eqb-true}
 use Rattle.std.proofs.lemmas.Bool.Decides.{nat_tests}
-use Rattle.vt_term.specs.Look.{Look, blank, Rendition}
-use Rattle.vt_term.specs.Grid.{Grid, line_at, scrolled_up, scrolled_down}
+use Rattle.vt_term.specs.Look.{blank}
 use Rattle.vt_term.specs.Screen.{Screen, IsScreen}
-use Rattle.vt_term.specs.Step.{goes_to, lines_up, lines_down, line_feed, reverse_index, act}
+use Rattle.vt_term.specs.Step.{goes_to, act}
 use Rattle.vt_term.specs.Function as functions
 use Rattle.vt_term.specs.Function.{Function}
 use Rattle.vt_effects.specs.declared.effects.Move.{Move}
@@ -21,13 +20,12 @@ use Rattle.vt_effects.specs.declared.effects.Effect.{Effect}
 use Rattle.vt_effects.specs.declared.starts.Start.{Start}
 use Rattle.vt_effects.specs.declared.starts.Margins.{Margins}
 use Rattle.vt_effects.specs.declared.starts.Margins.TheVariants as margins
-use Rattle.vt_effects.specs.Effect.{moved, blanked, erased, scrolled, inked, top_of, bottom_of, applied}
+use Rattle.vt_effects.specs.Effect.{moved, inked, top_of, bottom_of, applied}
 use Rattle.vt_effects.specs.Start.{Allows, HasMargins}
 use Rattle.vt_effects.specs.Sound.{Extends}
 use Rattle.vt_effects.specs.Record as spec
 use Rattle.vt_effects.specs.Record.{is_kept, is_first, keeps_ink, keeps_margins, erases_nothing, erases_screen, is_still, back_by, forward_by, with_col, with_row, if_some, knows_whole, are_whole, on_bottom, on_top, keeps_background, is_unmoved, may_scroll, scrolling}
-use Rattle.vt_effects.proofs.Moving.{chosen, given, not_found, IsBack, Leads, back_leads, forward_leads, back_kept, forward_kept, one_back, one_forward, moved_in_order}
-use Rattle.vt_effects.proofs.Cells.{blanked_again, erased_before, scrolled_before, next_held}
+use Rattle.vt_effects.proofs.Moving.{chosen, given, not_found, IsBack, back_leads, forward_leads, back_kept, forward_kept}
 
 -- no start is cut at the first row or column
 pub record IsGood (start : Start) (e : Effect) : Type 0 where

@@ -1,10 +1,10 @@
 -- Lines fed and reversed.
-use Rattle.std.proofs.Common.{◌≡◌, ℕ, ◌+◌, ◌-◌, ◌<◌, ◌≤◌, ◌==◌, ◌&&◌, nat_le, nat_lt, Bool, true, false, if◌then◌else◌, Option, Some, None, refl, sym, ap, ◌∙◌, subst, arith}
+use Rattle.std.proofs.Common.{◌≡◌, ℕ, ◌+◌, ◌-◌, ◌<◌, ◌≤◌, ◌==◌, ◌&&◌, nat_le, nat_lt, true, false, Option, Some, None, refl, sym, ap, ◌∙◌, arith}
 use Rattle.std.proofs.lemmas.Bool.{and_parts, eqb-true, leb-true, ltb-true, lt-ltb, ne_eqb, eq-eqb}
 use Rattle.vt_term.specs.Look.{Look, blank}
 use Rattle.vt_term.specs.Grid.{Grid, scrolled_up, scrolled_down}
 use Rattle.vt_term.specs.Screen.{Screen, IsScreen}
-use Rattle.vt_term.specs.Step.{goes_to, line_feed, reverse_index, act}
+use Rattle.vt_term.specs.Step.{goes_to, line_feed, reverse_index}
 use Rattle.vt_term.specs.Function as functions
 use Rattle.vt_effects.specs.declared.effects.Move.{Move}
 use Rattle.vt_effects.specs.declared.effects.Move.TheVariants as moves
@@ -19,7 +19,7 @@ use Rattle.vt_effects.specs.Effect.{moved, erased, scrolled, top_of, bottom_of, 
 use Rattle.vt_effects.specs.Start.{Allows, HasMargins}
 use Rattle.vt_effects.specs.Record as spec
 use Rattle.vt_effects.specs.Record.{is_kept, keeps_margins, erases_nothing, is_still, with_col, with_row, knows_whole, are_whole, on_bottom, on_top, keeps_background, may_scroll, scrolling, and_back, and_forward}
-use Rattle.vt_effects.proofs.Moving.{chosen, given, not_found, IsBack, Leads, one_back, one_forward, moved_in_order}
+use Rattle.vt_effects.proofs.Moving.{chosen, given, not_found, one_back, one_forward, moved_in_order}
 use Rattle.vt_effects.proofs.Extending.{IsGood, Right, kept_is, margins_are, still_is, same_blank, AreWhole, known_whole, whole_here}
 
 -- a region may scroll where these hold

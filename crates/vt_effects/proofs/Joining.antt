@@ -1,13 +1,12 @@
 -- Two effects, one after the other.
-use Rattle.std.proofs.Common.{IfSome, ◌≡◌, ℕ, ◌+◌, ◌-◌, ◌<◌, ◌≤◌, ◌==◌, ◌&&◌, ◌||◌, nat_le, nat_lt, Bool, true, false, if◌then◌else◌, Option, Some, None, refl, sym, ap, ◌∙◌, subst, arith}
-use Rattle.std.specs.Option.{option_and_then, option_map}
-use Rattle.std.proofs.lemmas.Bool.{and_parts, leb-true}
+use Rattle.std.proofs.Common.{IfSome, ◌≡◌, ℕ, ◌+◌, ◌-◌, ◌<◌, ◌==◌, ◌&&◌, ◌||◌, nat_le, nat_lt, Bool, true, false, if◌then◌else◌, Option, Some, None, refl, sym, ap, ◌∙◌, subst, arith}
+use Rattle.std.specs.Option.{option_map}
+use Rattle.std.proofs.lemmas.Bool.{and_parts}
 use Rattle.std.proofs.lemmas.Option.{option_and_then_some}
 use Rattle.vt_term.specs.Color.{Color}
 use Rattle.vt_term.specs.Look.{Look, blank, Rendition}
 use Rattle.vt_term.specs.Grid.{Grid}
 use Rattle.vt_term.specs.Screen.{Screen, IsScreen, Charset}
-use Rattle.vt_term.specs.Function as functions
 use Rattle.vt_effects.specs.declared.effects.Move.{Move}
 use Rattle.vt_effects.specs.declared.effects.Move.TheVariants as moves
 use Rattle.vt_effects.specs.declared.effects.Erasure.{Erasure}
@@ -23,7 +22,7 @@ use Rattle.vt_effects.specs.declared.effects.Sets.{Sets}
 use Rattle.vt_effects.specs.declared.effects.Region.{Region}
 use Rattle.vt_effects.specs.declared.effects.Effect.{Effect}
 use Rattle.vt_effects.specs.Effect.{moved, switched, inked, rendered, designated, blanked, erased, scrolled, top_of, bottom_of, applied, StaysIn, IsLegal, Applies}
-use Rattle.vt_effects.specs.Record.{and_back, and_forward, cells_erased, screen_erased, display_erased, keeps_margins, is_still, keeps_background, erases_screen, erases_nothing, is_unmoved, is_kept, is_first}
+use Rattle.vt_effects.specs.Record.{and_back, and_forward, cells_erased, screen_erased, keeps_margins, is_still, keeps_background, erases_screen, erases_nothing, is_unmoved, is_kept, is_first}
 use Rattle.vt_effects.specs.Compose.{goes_back, goes_forward, then_moved, then_switched, then_inked, then_rendered, then_designated, then_margins, then_erased, scrolls_first, then_scrolled, both_cells, both_else, both_moved, composed, Joins, Composes}
 use Rattle.vt_effects.proofs.Moving.{chosen, given, not_found, IsBack, Leads, and_back_leads, one_forward}
 use Rattle.vt_effects.proofs.Extending.{margins_are, still_is, same_blank, kept_is, first_is, screen_is, nothing_is}

@@ -7,5 +7,4 @@ pub mod Feeding
 pub mod Erasing
 pub mod Sounding
 pub mod Joining
-pub mod Placing
 pub mod Basics

@@ -1,22 +1,20 @@
 -- The record of a string is right from every state of the start.
-use Rattle.std.proofs.Common.{◌≤◌, zero, suc, arith, drop, length, ◌≡◌, ℕ, ◌+◌, ◌-◌, ◌==◌, nat_lt, min, Bool, true, false, if◌then◌else◌, List, [], ◌∷◌, Option, Some, None, refl, sym, ap, ◌∙◌, subst, IfSome}
+use Rattle.std.proofs.Common.{◌≤◌, drop, length, ◌≡◌, ℕ, ◌-◌, ◌==◌, nat_lt, min, Bool, true, false, if◌then◌else◌, List, [], ◌∷◌, Option, Some, refl, sym, ap, ◌∙◌, subst}
 use Rattle.std.proofs.lemmas.List.{drop_all}
 use Rattle.std.proofs.lemmas.Option.{option_and_then_some, same_Some}
 use Rattle.vt_term.specs.Look.{Rendition}
-use Rattle.vt_term.specs.Screen.{Screen, State}
-use Rattle.vt_term.specs.Text.{Splits}
+use Rattle.vt_term.specs.Screen.{Screen}
 use Rattle.vt_term.specs.Step.{act, steps}
 use Rattle.vt_term.specs.Step as step
 use Rattle.vt_term.specs.Run.{Runs}
 use Rattle.vt_term.specs.Function as functions
 use Rattle.vt_term.specs.Function.{Function, function_of}
 use Rattle.vt_effects.specs.declared.effects.Move.{Move}
-use Rattle.vt_effects.specs.declared.effects.Move.TheVariants as moves
 use Rattle.vt_effects.specs.declared.effects.Effect.{Effect}
 use Rattle.vt_effects.specs.declared.starts.Start.{Start}
 use Rattle.vt_effects.specs.Effect.{applied, unchanged}
 use Rattle.vt_effects.specs.Start.{Allows}
-use Rattle.vt_effects.specs.Sound.{Extends, StepsAs, RunsAs}
+use Rattle.vt_effects.specs.Sound.{StepsAs, RunsAs}
 use Rattle.vt_effects.specs.Record as spec
 use Rattle.vt_effects.specs.Record.{extended, all_extended, record_of, with_col, with_row}
 use Rattle.vt_term.proofs.Running.{text_runs}

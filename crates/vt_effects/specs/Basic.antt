@@ -1,6 +1,5 @@
 -- The strings of the plainest terminals, and the effect that each has from every start.
-use Rattle.std.specs.Prelude.{ℕ, ◌+◌, ◌≡◌, true, false, List, [], ◌∷◌, ◌++◌, Option, Some}
-use Rattle.std.specs.Fmt.{decimal}
+use Rattle.std.specs.Prelude.{ℕ, ◌≡◌, true, List, [], ◌∷◌, Some}
 use Rattle.vt_term.specs.Text.{Splits}
 use Rattle.vt_effects.specs.declared.effects.Move.TheVariants as moves
 use Rattle.vt_effects.specs.declared.effects.Erasure.TheVariants as erasures
@@ -20,10 +19,6 @@ home_text = 27 ∷ 91 ∷ 72 ∷ []
 -- ESC [ H, ESC [ 2 J (and 8.3.39, ED)
 abbrev pub clear_text : List ℕ
 clear_text = 27 ∷ 91 ∷ 72 ∷ 27 ∷ 91 ∷ 50 ∷ 74 ∷ []
-
--- ESC [ row ; column H, which count from 1 there
-abbrev pub cup_text : ℕ → ℕ → List ℕ
-cup_text row col = 27 ∷ 91 ∷ (decimal (row + 1) ++ 59 ∷ (decimal (col + 1) ++ 72 ∷ []))
 
 -- ESC [ K (8.3.41, EL)
 abbrev pub el_text : List ℕ

@@ -1,5 +1,5 @@
 -- The states that a start allows.
-use Rattle.std.specs.Prelude.{ℕ, ◌+◌, ◌≤◌, ◌≡◌, Bool, true, false}
+use Rattle.std.specs.Prelude.{ℕ, ◌+◌, ◌≤◌, ◌≡◌, true, false}
 use Rattle.vt_term.specs.Screen.{Screen, IsScreen}
 use Rattle.vt_effects.specs.declared.starts.Start.{Start}
 use Rattle.vt_effects.specs.declared.starts.Margins.{Margins}

@@ -2,13 +2,14 @@
 ghost use Rattle.std.specs.Prelude.{ℕ, ◌<◌};
 ghost use Rattle.vt_term.specs.Size.{IsSize};
 ghost use Rattle.vt_effects.specs.declared.starts.Start.{Start};
-ghost use Rattle.vt_effects.specs.Basic.{HasRecord, home_text, clear_text, cup_text, el_text, sgr0_text, placed_at, cleared, tail_erased, made_plain};
+ghost use Rattle.vt_term.specs.Moving.{cursor_to};
+ghost use Rattle.vt_effects.specs.Basic.{HasRecord, home_text, clear_text, el_text, sgr0_text, placed_at, cleared, tail_erased, made_plain};
 
 /// The strings of the plainest terminals have their records from every start: to clear, to go to a
 /// place, to make the rendition plain, to go home, and to erase to the line's end.
 pub fn basic_records()
     ensures clear { (rows cols : ℕ) (start : Start) → IsSize rows cols → HasRecord rows cols start clear_text cleared }
-    ensures cup { (rows cols row col : ℕ) (start : Start) → IsSize rows cols → row < rows → col < cols → HasRecord rows cols start (cup_text row col) (placed_at row col) }
+    ensures cup { (rows cols row col : ℕ) (start : Start) → IsSize rows cols → row < rows → col < cols → HasRecord rows cols start (cursor_to row col) (placed_at row col) }
     ensures sgr0 { (rows cols : ℕ) (start : Start) → IsSize rows cols → HasRecord rows cols start sgr0_text made_plain }
     ensures home { (rows cols : ℕ) (start : Start) → IsSize rows cols → HasRecord rows cols start home_text (placed_at 0 0) }
     ensures el { (rows cols : ℕ) (start : Start) → IsSize rows cols → HasRecord rows cols start el_text tail_erased }

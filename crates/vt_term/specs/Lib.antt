@@ -11,3 +11,4 @@ pub mod Run
 pub mod Fault
 pub mod Printed
 pub mod Stages
+pub mod Moving

@@ -1,6 +1,7 @@
 use Rattle.std.proofs.Common.{◌≡◌, ℕ, ◌∙◌, List, ap, subst, arith}
 use Rattle.vt_term.specs.Size.{IsSize}
-use Rattle.cur_update.specs.Plain.{Extent, cursor_to}
+use Rattle.cur_update.specs.Plain.{Extent}
+use Rattle.vt_term.specs.Moving.{cursor_to}
 use Rattle.cur_update.specs.Wire.{Sends}
 use Rattle.cur_update.proofs.Grids.{move_leads}
 use Rattle.cur_update.proofs.Fitting.{place_string}

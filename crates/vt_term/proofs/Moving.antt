@@ -9,7 +9,7 @@ use Rattle.vt_term.specs.Text.{IsParameter, IsWhole}
 use Rattle.vt_term.specs.Numbers.{decimal, number_of, numbers, is_numeral}
 use Rattle.vt_term.specs.Function.{CursorPosition, counted, function_of, named, sequence, cursor_position}
 use Rattle.vt_term.proofs.Decimals as numerals
-use Rattle.cur_update.specs.Plain.{cursor_to}
+use Rattle.vt_term.specs.Moving.{cursor_to}
 
 -- what the digits of a number are to a terminal
 pub record SpellsNumber (n : ℕ) (ds : List ℕ) : Type 0 where
