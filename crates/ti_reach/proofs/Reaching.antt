@@ -1,9 +1,10 @@
 -- One place that is reached.
-use Rattle.std.proofs.Common.{◌≡◌, ◌<◌, ℕ, List, Ok, Err, Result, OnOk, arith, to_z, w32, pos}
+use Rattle.std.proofs.Common.{◌≡◌, ◌<◌, ℕ, List, Ok, Err, Result, OnOk, subst, sym, arith, to_z, w32, pos}
 use Rattle.std.proofs.lemmas.Int.{ints}
 use Rattle.ti_parm.specs.Meaning.{sent}
 use Rattle.vt_term.specs.Run as Run
 use Rattle.ti_reach.specs.Reach as spec
+use Rattle.ti_reach.specs.declared.Miss.{Miss}
 use Rattle.ti_reach.specs.declared.MissKind.{MissKind}
 
 -- bytes that the string sends, judged
@@ -16,3 +17,11 @@ place_reached string rows cols row col bytes (Err _) sends whole leads = tt
 -- a row or a column as a number with sign
 pub number_of_place : (n : ℕ) → n < 500 → to_z w32 n ≡ pos n
 number_of_place n below = omega (arith, ints)
+
+-- the first place that is missed lies in this row
+pub first_missed : (string : List ℕ) (rows cols row : ℕ) (miss : Miss) → ((i : ℕ) → i < row → spec.ReachesInRow string rows cols i cols) → miss.row ≡ row
+    → spec.ReachesInRow string rows cols row miss.col → spec.ReachesBefore string rows cols miss.row miss.col
+first_missed string rows cols row miss above same left = record {
+  above = λ i lt. above i (omega (arith, same));
+  left = subst (λ (n : ℕ). spec.ReachesInRow string rows cols n miss.col) (sym same) left;
+}

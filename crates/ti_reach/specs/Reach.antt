@@ -1,5 +1,5 @@
 -- When a string serves as `cup` (terminfo(5), "Cursor Motions").
-use Rattle.std.specs.Prelude.{◌≡◌, ◌<◌, ◌⊎◌, ℕ, pos, List, [], ◌∷◌, Ok, Err}
+use Rattle.std.specs.Prelude.{◌≡◌, ◌≢◌, ◌<◌, ◌⊎◌, ℕ, pos, List, [], ◌∷◌, ◌++◌, Some, Ok, Err}
 use Rattle.ti_parm.specs.Meaning.{sent}
 use Rattle.ti_parm.specs.Value.{Value, Number}
 use Rattle.ti_parm.specs.declared.fault.ParmFault.{ParmFault}
@@ -46,6 +46,18 @@ pub record IsNoTextAt (string : List ℕ) (row col : ℕ) : Type 0 where
   pub sends : sent string (place row col) ≡ Ok bytes
   pub fault : IsNoText bytes
 
+-- the bytes are tokens to their end, and the last of them is no move to this place
+pub record EndsElsewhere (rows cols : ℕ) (bytes : List ℕ) (row col : ℕ) : Type 0 where
+  pub tokens : List (List ℕ)
+  pub splits : Splits bytes tokens []
+  pub last : (front : List (List ℕ)) (token : List ℕ) → tokens ≡ front ++ token ∷ [] → Run.place_of rows cols token ≢ Some (row, col)
+
+-- the bytes for this place end in no move to it
+pub record MissesAt (string : List ℕ) (rows cols row col : ℕ) : Type 0 where
+  pub bytes : List ℕ
+  pub sends : sent string (place row col) ≡ Ok bytes
+  pub misses : EndsElsewhere rows cols bytes row col
+
 -- what it says of a place that nothing is sent for
 abbrev pub TellsWhyUnsent : List ℕ → ℕ → ℕ → MissKind → Type 0
 TellsWhyUnsent string row col Parm = HasFaultAt string row col
@@ -54,15 +66,20 @@ TellsWhyUnsent string row col Misses = ⊥
 TellsWhyUnsent string row col NoMemory = Unit {0}
 
 -- what an answer says of the bytes for a place
-abbrev pub Judges : List ℕ → MissKind → Type 0
-Judges bytes Parm = ⊥
-Judges bytes Token = IsNoText bytes
-Judges bytes Misses = Unit {0}
-Judges bytes NoMemory = Unit {0}
+abbrev pub Judges : ℕ → ℕ → List ℕ → ℕ → ℕ → MissKind → Type 0
+Judges rows cols bytes row col Parm = ⊥
+Judges rows cols bytes row col Token = IsNoText bytes
+Judges rows cols bytes row col Misses = EndsElsewhere rows cols bytes row col
+Judges rows cols bytes row col NoMemory = Unit {0}
 
--- what an answer says of a place: where no CUP was found or memory was refused it says nothing
-abbrev pub TellsWhy : List ℕ → ℕ → ℕ → MissKind → Type 0
-TellsWhy string row col Parm = HasFaultAt string row col
-TellsWhy string row col Token = IsNoTextAt string row col
-TellsWhy string row col Misses = Unit {0}
-TellsWhy string row col NoMemory = Unit {0}
+-- what an answer says of a place; where memory was refused it says nothing
+abbrev pub TellsWhy : List ℕ → ℕ → ℕ → ℕ → ℕ → MissKind → Type 0
+TellsWhy string rows cols row col Parm = HasFaultAt string row col
+TellsWhy string rows cols row col Token = IsNoTextAt string row col
+TellsWhy string rows cols row col Misses = MissesAt string rows cols row col
+TellsWhy string rows cols row col NoMemory = Unit {0}
+
+-- the places before this one, row by row, are reached
+pub record ReachesBefore (string : List ℕ) (rows cols row col : ℕ) : Type 0 where
+  pub above : (i : ℕ) → i < row → ReachesInRow string rows cols i cols
+  pub left : ReachesInRow string rows cols row col

@@ -18,7 +18,7 @@ pub enum MissKind {
     Parm,
     /// The expanded bytes end inside a sequence, or one of them fits nothing.
     Token,
-    /// The bytes aren't seen to leave the cursor there.
+    /// The last of the tokens is no CUP to the place.
     Misses,
     /// A request for memory was refused.
     NoMemory,
@@ -39,12 +39,14 @@ pub struct Miss {
 ///
 /// Ok is a theorem: for each row and column the string expands to whole tokens, and from every state
 /// at rest they leave the cursor there. It is found by looking at the last token, which has to be a
-/// CUP. Of the errors `Parm` and `Token` are so; `Misses` says only that no such token was found.
+/// CUP. Of the errors `Parm` and `Token` are so; `Misses` says that the last token is no such one, which is no
+/// proof that the cursor ends elsewhere. All places before the one that is told are reached.
 pub fn reach_cup(alloc: Global, string: &[u8], size: Size) -> Result<(), Miss>
     ensures reached { OnOk result (spec.ServesAsCup string.now size.rows size.cols) }
     ensures row { IfErr result (λ miss. miss.row < size.rows) }
     ensures col { IfErr result (λ miss. miss.col < size.cols) }
-    ensures why { IfErr result (λ miss. spec.TellsWhy string.now miss.row miss.col miss.kind) }
+    ensures first { IfErr result (λ miss. spec.ReachesBefore string.now size.rows size.cols miss.row miss.col) }
+    ensures why { IfErr result (λ miss. spec.TellsWhy string.now size.rows size.cols miss.row miss.col miss.kind) }
 {
     let mut expanded = Vec::new(alloc);
     for row in 0..size.rows {
@@ -63,9 +65,10 @@ fn reach_row(
 ) -> Result<(), Miss>
     requires { row < size.rows }
     ensures reached { OnOk result (spec.ReachesInRow string.now size.rows size.cols row size.cols) }
-    ensures row { IfErr result (λ miss. miss.row < size.rows) }
+    ensures row { IfErr result (λ miss. miss.row ≡ row) }
     ensures col { IfErr result (λ miss. miss.col < size.cols) }
-    ensures why { IfErr result (λ miss. spec.TellsWhy string.now miss.row miss.col miss.kind) }
+    ensures first { IfErr result (λ miss. spec.ReachesInRow string.now size.rows size.cols row miss.col) }
+    ensures why { IfErr result (λ miss. spec.TellsWhy string.now size.rows size.cols row miss.col miss.kind) }
 {
     for col in 0..size.cols {
         match reach_place(alloc, string, size, row, col, expanded) {
@@ -88,7 +91,7 @@ fn reach_place(
     requires row_in { row < size.rows }
     requires col_in { col < size.cols }
     ensures reached { OnOk result (spec.Reaches string.now size.rows size.cols row col) }
-    ensures why { IfErr result (λ kind. spec.TellsWhy string.now row col kind) }
+    ensures why { IfErr result (λ kind. spec.TellsWhy string.now size.rows size.cols row col kind) }
 {
     let bytes = send(alloc, string, row, col, expanded)?;
     judge(alloc, bytes.as_slice(), size, row, col)
@@ -121,7 +124,7 @@ fn send(
 fn judge(alloc: Global, sent: &[u8], size: Size, row: usize, col: usize) -> Result<(), MissKind>
     ensures whole { OnOk result (spec.IsWhole sent.now) }
     ensures leads { OnOk result (run.Reaches size.rows size.cols sent.now row col) }
-    ensures why { IfErr result (λ kind. spec.Judges sent.now kind) }
+    ensures why { IfErr result (λ kind. spec.Judges size.rows size.cols sent.now row col kind) }
 {
     match tokens(alloc, sent) {
         Ok(found) => match place_after(&found, size) {

@@ -1,4 +1,4 @@
-use Rattle.std.proofs.Common.{◌≡◌, OnOk, subst, sym, List, ℕ}
+use Rattle.std.proofs.Common.{OnOk, subst, List, ℕ}
 use Rattle.vt_term.specs.Run as Run
 use Rattle.ti_reach.specs.Reach as spec
 use Rattle.ti_reach.proofs.Reaching.{place_reached}

@@ -1,4 +1,3 @@
-use Rattle.std.proofs.Common.{ℕ, ◌<◌}
 use Rattle.ti_reach.specs.Reach as spec
 use Rattle.ti_reach.proofs.reach_row.Given as goal
 
