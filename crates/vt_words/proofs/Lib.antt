@@ -6,3 +6,4 @@ pub mod Forms
 pub mod Orders
 pub mod Texts
 pub mod Plains
+pub mod Recorded

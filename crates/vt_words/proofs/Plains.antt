@@ -18,17 +18,21 @@ use Rattle.vt_words.specs.Text.{IsPlainMove, IsPlainErasure, IsPlainRegion, IsPl
 use Rattle.vt_words.specs.Laws.{ComposedPlain}
 use Rattle.vt_words.proofs.Glyphs.{branch, mapped}
 
-net_plain : (forward back : ℕ) → forward < 65536 → back < 65536 → IsPlainMove (net forward back)
-net_plain forward back h k = by_order (forward == back) (nat_lt back forward) refl refl
+-- two counts that are less than 65536 apart
+pub net_near : (forward back : ℕ) → forward < back + 65536 → back < forward + 65536 → IsPlainMove (net forward back)
+net_near forward back h k = by_order (forward == back) (nat_lt back forward) refl refl
   where
     by_order : (t u : Bool) → (forward == back) ≡ t → nat_lt back forward ≡ u → IsPlainMove (if t then moves.Kept else (if u then moves.Forward (forward - back) else moves.Back (back - forward)))
     by_order true u e f = tt
     by_order false true e f =
         let more : back < forward = grind (arith, nat_tests) in
-        (omega (arith, more), omega (arith, h))
+        (omega (arith, more), omega (arith, h, more))
     by_order false false e f =
         let less : forward < back = grind (arith, nat_tests) in
-        (omega (arith, less), omega (arith, k))
+        (omega (arith, less), omega (arith, k, less))
+
+net_plain : (forward back : ℕ) → forward < 65536 → back < 65536 → IsPlainMove (net forward back)
+net_plain forward back h k = net_near forward back (omega (arith, h)) (omega (arith, k))
 
 back_plain : (m : Move) (n : ℕ) → IsPlainMove m → n < 65536 → goes_back m n ≡ true → IsPlainMove (and_back m n)
 back_plain moves.Kept n p h t = net_plain 0 n (omega arith) h
