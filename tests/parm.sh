@@ -4,13 +4,9 @@
 # conditionals 454 deep. What is expected comes from those programs. One build serves all the cases.
 set -eu
 cd -- "$(dirname -- "$0")/.."
+. tests/probing
 
-for peer in od tr cut awk; do
-    if ! command -v "$peer" >/dev/null 2>&1; then
-        echo "parm: skipped, since $peer is missing"
-        exit 0
-    fi
-done
+needs parm od tr cut awk
 work=$(mktemp -d)
 trap 'rm -rf "$work"' EXIT
 mkdir "$work/cases"

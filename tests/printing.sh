@@ -3,13 +3,9 @@
 # we print of an entry of a source text as of the text itself. One build serves all the entries.
 set -eu
 cd -- "$(dirname -- "$0")/.."
+. tests/probing
 
-for peer in tic infocmp; do
-    if ! command -v "$peer" >/dev/null 2>&1; then
-        echo "printing: skipped, since $peer is missing"
-        exit 0
-    fi
-done
+needs printing tic infocmp
 work=$(mktemp -d)
 trap 'rm -rf "$work"' EXIT
 mkdir "$work/cases" "$work/theirs" "$work/ours" "$work/texts"

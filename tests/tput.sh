@@ -3,13 +3,9 @@
 # bytes for the same row and column. One build serves all the cases.
 set -eu
 cd -- "$(dirname -- "$0")/.."
+. tests/probing
 
-for peer in tput infocmp od; do
-    if ! command -v "$peer" >/dev/null 2>&1; then
-        echo "tput: skipped, since $peer is missing"
-        exit 0
-    fi
-done
+needs tput tput infocmp od
 work=$(mktemp -d)
 trap 'rm -rf "$work"' EXIT
 mkdir "$work/cases"
