@@ -9,6 +9,7 @@ mod lines;
 mod puts;
 mod refusals;
 mod shifting;
+mod stretches;
 mod windows;
 mod writing;
 
@@ -17,4 +18,5 @@ pub use cells::{Attrs, Cell};
 pub use grids::Grid;
 pub use puts::{Border, Put};
 pub use refusals::Refusal;
+pub use stretches::{Stretch, Wish, crossed, part, spot};
 pub use windows::Window;

@@ -6,7 +6,8 @@ use Rattle.cur_grid.specs.Sheets.{place}
 use Rattle.cur_windows.specs.Copying.{in_order}
 use Rattle.cur_windows.specs.Desks.{State, DeskStep, after}
 use Rattle.cur_windows.specs.Laws.{GivesBack}
-use Rattle.cur_windows.specs.Making.{crossed, free, in_range, part, parted}
+use Rattle.cur_windows.specs.Making.{free, in_range, parted}
+use Rattle.cur_grid.specs.Stretches.{crossed, part}
 use Rattle.cur_windows.specs.Padding.{padded, part_shown}
 use Rattle.cur_windows.specs.Screens.{Screen, Refresh, if_shown}
 use Rattle.cur_pads.specs.Laws.{GivesBoth}

@@ -6,11 +6,11 @@ use Rattle.cur_grid.specs.declared.refusals.Refusal.{Refusal}
 use Rattle.cur_grid.specs.declared.refusals.Refusal.TheVariants.{BadRegion, PadKind, OutOfScreen, OutOfWindow}
 use Rattle.cur_grid.specs.Grids.{Grid, cell_at, copied, moved_to}
 use Rattle.cur_grid.specs.Sheets.{place}
-use Rattle.cur_windows.specs.declared.parts.Stretch.{Stretch}
+use Rattle.cur_grid.specs.declared.stretches.Stretch.{Stretch}
 use Rattle.cur_windows.specs.declared.slots.Slot.{Slot}
 use Rattle.cur_windows.specs.Copying.{in_order}
 use Rattle.cur_windows.specs.Desks.{State, slot_of, grid_at, origin_at}
-use Rattle.cur_windows.specs.Making.{crossed}
+use Rattle.cur_grid.specs.Stretches.{crossed}
 use Rattle.cur_windows.specs.Padding.{part_shown, area_of}
 use Rattle.cur_windows.specs.Screens.{Screen, Refresh, if_shown, refresh}
 use Rattle.cur_pads.specs.Laws.{IsShown, ShowsCells}

@@ -1,13 +1,7 @@
 -- Lines or columns that follow one another, and rectangles of them.
 use Rattle.std.specs.Prelude.{ℕ, ◌+◌, ◌-◌, nat_le, Option, Some, None, if◌then◌else◌, ℤ}
 use Rattle.cur_grid.specs.Windows.{place_below}
-use Rattle.cur_windows.specs.declared.parts.Stretch.{Stretch}
-use Rattle.cur_pads.specs.declared.parts.Run.{Run}
-
--- lines or columns of the code, in the words of the windows
-abbrev pub stretch : Option Run → Option Stretch
-stretch (Some r) = Some (record { at = r.first; size = r.count })
-stretch None = None
+use Rattle.cur_grid.specs.declared.stretches.Stretch.{Stretch}
 
 abbrev pub up_to : ℕ → Option ℕ → Option Stretch
 up_to at (Some last) = Some (record { at = at; size = last - at + 1 })

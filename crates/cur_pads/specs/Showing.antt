@@ -4,7 +4,7 @@ use Rattle.cur_grid.specs.declared.refusals.Refusal.TheVariants.{OutOfScreen, Ou
 use Rattle.cur_grid.specs.Sheets.{place}
 use Rattle.cur_windows.specs.Copying.{in_order}
 use Rattle.cur_windows.specs.Desks.{State}
-use Rattle.cur_windows.specs.Making.{crossed}
+use Rattle.cur_grid.specs.Stretches.{crossed}
 use Rattle.cur_windows.specs.Padding.{part_shown}
 use Rattle.cur_windows.specs.Screens.{Screen, Refresh, if_shown}
 use Rattle.cur_pads.specs.Making.{pad_of}

@@ -3,7 +3,7 @@ ghost use Rattle.cur_windows.specs.Desks.{step};
 ghost use Rattle.cur_pads.specs.Making as spec;
 
 use crate::checks::{check_free, check_range, pad_size};
-use crate::parts::part;
+use cur_grid::{Wish, part};
 use cur_windows::{Desk, Refusal};
 
 // How many lines or columns a pad may have.
@@ -41,7 +41,13 @@ pub fn subpad(
     check_range(n, id)?;
     check_free(desk, n)?;
     let (height, width) = pad_size(desk, id)?;
-    let area = part(height, width, lines, cols, y, x)?;
+    let wish = Wish {
+        lines,
+        cols,
+        y: y as i64,
+        x: x as i64,
+    };
+    let area = part(height, width, wish, Refusal::OutOfWindow)?;
     desk.add_subpad(n, id, area.top, area.left, area.rows, area.cols);
     Ok(())
 }

@@ -3,7 +3,8 @@ ghost use Rattle.cur_windows.specs.Screens.{refresh};
 ghost use Rattle.cur_pads.specs.Showing.{pnoutrefresh};
 
 use crate::checks::pad_size;
-use crate::parts::{between, crossed, from, in_order, start};
+use crate::parts::{between, from, in_order, start};
+use cur_grid::crossed;
 use cur_windows::{Desk, Refusal, Virtual};
 
 /// The pad's cells from a row and a column on are copied to the rows `top` to `bottom` and columns `left` to `right` of the

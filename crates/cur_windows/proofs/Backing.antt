@@ -15,6 +15,7 @@ use Rattle.cur_windows.specs.Copying as copying
 use Rattle.cur_windows.specs.Desks as desks
 use Rattle.cur_windows.specs.Desks.{State, DeskStep, after, grid_at, window_at, slot_of, some_slot, with_window, with_sheet}
 use Rattle.cur_windows.specs.Laws.{GivesBack}
+use Rattle.cur_grid.specs.Stretches as parts
 use Rattle.cur_windows.specs.Making as making
 
 some_found : (o : Option Slot) (s : Slot) → some_slot o ≡ Ok s → o ≡ Some s
@@ -118,10 +119,10 @@ set_background d n p = on_cursor d n (turns.set_background p) (λ w. if_ok_back 
 
 -- ---- making, moving and deleting
 pub newwin : (d : State) (n : ℕ) (lines cols y x : ℤ) → GivesBack d (making.newwin d n lines cols y x)
-newwin d n lines cols y x = back_after d (making.free d n) _ (λ u. back_after d (making.part d.rows d.cols lines cols y x OutOfScreen) _ (λ a. back_done d _))
+newwin d n lines cols y x = back_after d (making.free d n) _ (λ u. back_after d (parts.part d.rows d.cols lines cols y x OutOfScreen) _ (λ a. back_done d _))
 
 part_from : (d : State) (n w : ℕ) (s : Slot) (lines cols y x : ℤ) → GivesBack d (making.part_from d n w s lines cols y x)
-part_from d n w s lines cols y x = back_after d (making.part s.window.area.rows s.window.area.cols lines cols y x OutOfWindow) _ (λ a. back_done d _)
+part_from d n w s lines cols y x = back_after d (parts.part s.window.area.rows s.window.area.cols lines cols y x OutOfWindow) _ (λ a. back_done d _)
 
 pub derwin : (d : State) (n w : ℕ) (lines cols y x : ℤ) → GivesBack d (making.derwin d n w lines cols y x)
 derwin d n w lines cols y x = back_after d (making.in_range n w) _ (λ u. back_after d (making.free d n) _ (λ u. back_after d (slot_of d w) _ (λ s. back_after d (making.window_only d s) _ (λ u. part_from d n w s lines cols y x))))
@@ -142,7 +143,7 @@ placed_back d s None x e h = refl
 
 pub mvwin : (d : State) (n : ℕ) (y x : ℤ) → GivesBack d (making.mvwin d n y x)
 mvwin d n y x = back_after d (slot_of d n) _ (λ s. back_after d (making.window_only d s) _ (λ u. back_after d (making.no_sub s.parent) _
-    (λ u. placed_back d s (making.spot y s.window.area.rows d.rows) (making.spot x s.window.area.cols d.cols))))
+    (λ u. placed_back d s (parts.spot y s.window.area.rows d.rows) (parts.spot x s.window.area.cols d.cols))))
 
 -- ---- copying
 copied_back : (o : Result (Unit {0}) Refusal) (d : State) (s t : Slot) (skip : Bool) (v h : Option Strip) → GivesBack d (copying.copied_or o d s t skip v h)

@@ -10,7 +10,8 @@ use Rattle.cur_windows.specs.declared.slots.Slot.{Slot}
 use Rattle.cur_windows.specs.Copying.{target_area, source_place, strips_copied, copied_or, matched, common, strip_at, strip_between, common_part, common_copied, copywin, in_order}
 use Rattle.cur_windows.specs.Desks.{State, DeskStep, IsDesk, IsPlaced, after, grid_at, window_at, slot_of}
 use Rattle.cur_windows.specs.Laws.{OnlyWithin}
-use Rattle.cur_windows.specs.Making.{in_range, window_only, spot}
+use Rattle.cur_windows.specs.Making.{in_range, window_only}
+use Rattle.cur_grid.specs.Stretches.{spot}
 use Rattle.cur_windows.specs.Screens.{area_on_screen}
 use Rattle.cur_windows.proofs.Backing.{found_there}
 use Rattle.cur_windows.proofs.Sharing.{ok_inj}

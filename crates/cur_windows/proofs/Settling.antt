@@ -14,7 +14,8 @@ use Rattle.cur_grid.proofs.Drawing.{fits_same}
 use Rattle.cur_windows.specs.declared.slots.Slot.{Slot}
 use Rattle.cur_windows.specs.declared.slots.Origin.{Origin}
 use Rattle.cur_windows.specs.Desks.{State, grid_at, origin_at, window_at, IsWhole, IsPlaced, IsFramed, IsDesk, whole_area, on_screen}
-use Rattle.cur_windows.specs.Making.{IsInFrame, settled, inside, IsPart, has_child, is_child, is_parent}
+use Rattle.cur_windows.specs.Making.{IsInFrame, settled, inside, has_child, is_child, is_parent}
+use Rattle.cur_grid.specs.Stretches.{IsPart}
 use Rattle.cur_windows.proofs.Closing.{placed_same, whole_same, some_kept, some_inj, is_some}
 
 pub no_some : (o : Option Slot) → o ≡ None → IsSome o → (A : Type 0) → A

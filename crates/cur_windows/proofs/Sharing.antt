@@ -10,12 +10,13 @@ use Rattle.cur_grid.specs.declared.windows.Window.{Window}
 use Rattle.cur_grid.specs.Cells.{Content, space}
 use Rattle.cur_grid.specs.Grids.{Grid, Fits, cell_at, line_at}
 use Rattle.cur_grid.specs.Windows.{fresh}
-use Rattle.cur_windows.specs.declared.parts.Stretch.{Stretch}
+use Rattle.cur_grid.specs.declared.stretches.Stretch.{Stretch}
 use Rattle.cur_windows.specs.declared.slots.Origin.{Origin}
 use Rattle.cur_windows.specs.declared.slots.Slot.{Slot}
 use Rattle.cur_windows.specs.Desks.{State, DeskStep, IsDesk, IsPlaced, after, grid_at, window_at, slot_of, cell}
 use Rattle.cur_windows.specs.Laws.{IsPartOf}
-use Rattle.cur_windows.specs.Making.{in_range, free, part, span, crossed, is_negative, inside, parted, part_from, window_only, derwin, subwin, corner, settled}
+use Rattle.cur_windows.specs.Making.{in_range, free, inside, parted, part_from, window_only, derwin, subwin, corner, settled}
+use Rattle.cur_grid.specs.Stretches.{part, span, crossed, is_negative}
 use Rattle.cur_windows.specs.Views.{window_cells}
 use Rattle.cur_windows.proofs.Closing.{some_inj}
 use Rattle.cur_windows.proofs.Settling.{no_some}

@@ -10,7 +10,8 @@ use Rattle.cur_grid.specs.Sheets.{place}
 use Rattle.cur_windows.specs.declared.copying.Strip.{Strip}
 use Rattle.cur_windows.specs.declared.slots.Slot.{Slot}
 use Rattle.cur_windows.specs.Desks.{State, DeskStep, after, slot_of, grid_at}
-use Rattle.cur_windows.specs.Making.{in_range, window_only, spot}
+use Rattle.cur_windows.specs.Making.{in_range, window_only}
+use Rattle.cur_grid.specs.Stretches.{spot}
 use Rattle.cur_windows.specs.Screens.{area_on_screen}
 
 -- the lines or columns lie in a source and a destination of so many

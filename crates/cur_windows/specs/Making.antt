@@ -1,13 +1,13 @@
 -- Making, moving and deleting windows (X/Open Curses Issue 7, newwin, subwin, derwin, delwin, mvwin).
-use Rattle.std.specs.Prelude.{ℕ, ◌+◌, ◌-◌, ◌<◌, ◌≤◌, ◌==◌, ◌&&◌, ◌||◌, nat_lt, nat_le, not, List, [], ◌∷◌, length, slice_set, Bool, true, false, Option, Some, None, Result, Ok, Err, if◌then◌else◌, ℤ, pos, negsuc, ◌-ℤ◌}
+use Rattle.std.specs.Prelude.{ℕ, ◌+◌, ◌<◌, ◌≤◌, ◌==◌, ◌&&◌, ◌||◌, nat_lt, not, List, [], ◌∷◌, length, slice_set, Bool, true, false, Option, Some, None, Result, Ok, Err, if◌then◌else◌, ℤ, pos, ◌-ℤ◌}
 use Rattle.cur_grid.specs.declared.areas.Area.{Area}
 use Rattle.cur_grid.specs.declared.refusals.Refusal.{Refusal}
-use Rattle.cur_grid.specs.declared.refusals.Refusal.TheVariants.{Full, NumberUsed, BadRegion, OutOfScreen, OutOfWindow, PadKind, IsScreen, HasChildren, IsSub}
+use Rattle.cur_grid.specs.declared.refusals.Refusal.TheVariants.{Full, NumberUsed, OutOfScreen, OutOfWindow, PadKind, IsScreen, HasChildren, IsSub}
 use Rattle.cur_grid.specs.declared.windows.Window.{Window}
 use Rattle.cur_grid.specs.Grids.{Grid, blank, line_at, copied}
 use Rattle.cur_grid.specs.Windows.{fresh}
 use Rattle.cur_grid.specs.Sheets.{place}
-use Rattle.cur_windows.specs.declared.parts.Stretch.{Stretch}
+use Rattle.cur_grid.specs.Stretches.{part, spot}
 use Rattle.cur_windows.specs.declared.slots.Origin.{Origin}
 use Rattle.cur_windows.specs.declared.slots.Slot.{Slot}
 use Rattle.cur_windows.specs.Desks.{State, DeskStep, after, slot_of, grid_at, origin_at, window_at, on_screen, whole_area}
@@ -19,39 +19,6 @@ is_some_slot None = false
 -- a number for a new window
 abbrev pub free : State → ℕ → Result (Unit {0}) Refusal
 free d n = if nat_lt 63 n then Err Full else if is_some_slot (window_at d n) then Err NumberUsed else Ok tt
-
--- so many lines or columns from a place on, or, where the number is 0, all up to the limit; none if they aren't all there
-abbrev pub span : ℤ → ℤ → ℕ → Option Stretch
-span (pos n) (pos at) limit =
-    if nat_lt at limit then
-    (if n == 0 then Some (record { at = at; size = limit - at })
-    else if nat_le n (limit - at) then Some (record { at = at; size = n })
-    else None)
-    else None
-span (pos n) (negsuc at) limit = None
-span (negsuc n) at limit = None
-
-abbrev pub is_negative : ℤ → Bool
-is_negative (pos n) = false
-is_negative (negsuc n) = true
-
-abbrev pub crossed : Option Stretch → Option Stretch → Refusal → Result Area Refusal
-crossed (Some v) (Some h) outside = Ok (record { top = v.at; left = h.at; rows = v.size; cols = h.size })
-crossed (Some v) None outside = Err outside
-crossed None h outside = Err outside
-
--- the rectangle of a size at a place, in so many rows and columns
-abbrev pub part : ℕ → ℕ → ℤ → ℤ → ℤ → ℤ → Refusal → Result Area Refusal
-part height width lines cols y x outside =
-    if is_negative lines || is_negative cols then Err BadRegion
-    else crossed (span lines y height) (span cols x width) outside
-
--- a rectangle with places, within so many rows and columns
-pub record IsPart (height width : ℕ) (a : Area) : Type 0 where
-  pub rows : 0 < a.rows
-  pub cols : 0 < a.cols
-  pub bottom : a.top + a.rows ≤ height
-  pub right : a.left + a.cols ≤ width
 
 -- window n comes to be, with a grid of its own
 abbrev pub settled : State → ℕ → Grid → Origin → Window → State
@@ -129,11 +96,6 @@ delwin d n = after (slot_of d n) d (λ s. after (childless d n) d (λ u.
 abbrev pub no_sub : Option ℕ → Result (Unit {0}) Refusal
 no_sub None = Ok tt
 no_sub (Some p) = Err IsSub
-
--- the place of so many lines or columns, if they are all below the limit
-abbrev pub spot : ℤ → ℕ → ℕ → Option ℕ
-spot (pos at) size limit = if nat_le (at + size) limit then Some at else None
-spot (negsuc at) size limit = None
 
 abbrev pub moved : State → Slot → Option ℕ → Option ℕ → DeskStep
 moved d s (Some y) (Some x) = (record d { origins = slice_set d.origins s.root (on_screen y x false) }, Ok tt)

@@ -6,9 +6,8 @@ ghost use Rattle.cur_windows.specs.Copying.{IsWithin, common, common_part, copie
 
 use crate::desks::Desk;
 use crate::making::in_range;
-use crate::parts::spot;
 use crate::slots::Slot;
-use cur_grid::{Area, Grid, Place, Refusal};
+use cur_grid::{Area, Grid, Place, Refusal, spot};
 use std::mem;
 
 /// Lines or columns that are copied: the first one in the source, the first one in the destination, and how many.

@@ -6,7 +6,6 @@ mod desks;
 pub mod laws;
 mod making;
 mod padding;
-mod parts;
 mod refreshing;
 mod rows;
 mod screens;

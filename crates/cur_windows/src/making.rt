@@ -2,13 +2,13 @@ ghost use Rattle.std.specs.Prelude.{◌≡◌, ◌<◌, ◌≤◌, ◌+◌, ◌�
 ghost use Rattle.cur_grid.specs.Grids.{blank};
 ghost use Rattle.cur_grid.specs.Windows.{fresh};
 ghost use Rattle.cur_grid.specs.Sheets.{IsSheet};
+ghost use Rattle.cur_grid.specs.Stretches.{IsPart};
 ghost use Rattle.cur_windows.specs.Desks as spec;
 ghost use Rattle.cur_windows.specs.Making as make;
 
 use crate::desks::Desk;
-use crate::parts::{Wish, part, spot};
 use crate::slots::{Origin, Slot};
-use cur_grid::{Area, Grid, Place, Refusal, Window};
+use cur_grid::{Area, Grid, Place, Refusal, Window, Wish, part, spot};
 
 // Making, moving and deleting windows. A refusal changes nothing.
 impl Desk {
@@ -210,7 +210,7 @@ impl Desk {
         requires number { n < 64 }
         requires free { spec.window_at self.old n ≡ None }
         requires grid { grid ≡ blank area.rows area.cols }
-        requires within { make.IsPart self.old.rows self.old.cols area }
+        requires within { IsPart self.old.rows self.old.cols area }
         ensures { self.new ≡ make.settled self.old n grid (spec.on_screen area.top area.left false) (fresh (spec.whole_area area.rows area.cols)) }
     {
         let whole = Area {
@@ -290,7 +290,7 @@ impl Desk {
         requires free { spec.window_at self.old n ≡ None }
         requires parent { id < 64 }
         requires placed { spec.IsPlaced self.old id slot.now }
-        requires part { make.IsPart (slot.now).window.area.rows (slot.now).window.area.cols area }
+        requires part { IsPart (slot.now).window.area.rows (slot.now).window.area.cols area }
         ensures { self.new ≡ make.parted self.old n id slot.now area }
     {
         let outer = slot.window.area;

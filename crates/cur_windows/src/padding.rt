@@ -1,6 +1,7 @@
 ghost use Rattle.std.specs.Prelude.{◌≡◌, ◌<◌, ◌≤◌, ◌+◌, None, IfOk, IsOk, IfSome, MatchResult};
 ghost use Rattle.cur_grid.specs.Grids.{is_in};
 ghost use Rattle.cur_grid.specs.Windows.{IsWindow};
+ghost use Rattle.cur_grid.specs.Stretches.{IsPart};
 ghost use Rattle.cur_windows.specs.Desks as spec;
 ghost use Rattle.cur_windows.specs.Making as make;
 ghost use Rattle.cur_windows.specs.Padding.{is_pad, padded, area_of, part_cursor, part_shown};
@@ -53,7 +54,7 @@ impl Desk {
         requires number { n < 64 }
         requires free { spec.window_at self.old n ≡ None }
         requires there { IsOk (spec.slot_of self.old id) }
-        requires inside { IfOk (spec.slot_of self.old id) (λ s. make.IsPart s.window.area.rows s.window.area.cols (area_of y x rows cols)) }
+        requires inside { IfOk (spec.slot_of self.old id) (λ s. IsPart s.window.area.rows s.window.area.cols (area_of y x rows cols)) }
         ensures { IfOk (spec.slot_of self.old id) (λ s. self.new ≡ make.parted self.old n id s (area_of y x rows cols)) }
     {
         let Ok(slot) = self.find(id) else {

@@ -1,7 +1,8 @@
 ghost use Rattle.std.specs.Prelude.{◌≡◌, ◌<◌, ◌≤◌, ◌+◌, IfOk, IfSome, pos};
-ghost use Rattle.cur_windows.specs.Making.{IsPart, spot, span, part, crossed};
+ghost use Rattle.cur_grid.specs.Stretches.{IsPart, spot, span, part, crossed};
 
-use cur_grid::{Area, Refusal};
+use crate::areas::Area;
+use crate::refusals::Refusal;
 
 /// So many lines or columns, from a place on.
 #[derive(Clone, Copy)]
@@ -34,7 +35,11 @@ fn span(size: i32, at: i64, limit: u16) -> Option<Stretch>
 }
 
 /// The rectangle of these lines and columns.
-fn crossed(rows: Option<Stretch>, cols: Option<Stretch>, outside: Refusal) -> Result<Area, Refusal>
+pub fn crossed(
+    rows: Option<Stretch>,
+    cols: Option<Stretch>,
+    outside: Refusal,
+) -> Result<Area, Refusal>
     ensures { result ≡ crossed rows cols outside }
 {
     let (Some(rows), Some(cols)) = (rows, cols) else {
@@ -49,7 +54,7 @@ fn crossed(rows: Option<Stretch>, cols: Option<Stretch>, outside: Refusal) -> Re
 }
 
 /// The place of so many lines or columns, if they are all below the limit.
-pub(crate) fn spot(at: i32, size: u16, limit: u16) -> Option<u16>
+pub fn spot(at: i32, size: u16, limit: u16) -> Option<u16>
     ensures value { result ≡ spot at size limit }
     ensures number { IfSome result (λ place. at ≡ pos place) }
     ensures within { IfSome result (λ place. place + size ≤ limit) }
@@ -71,7 +76,7 @@ pub struct Wish {
 
 /// The rectangle of a size at a place, in so many rows and columns. `BadRegion` for a negative size, else the given
 /// refusal where it doesn't lie in them.
-pub(crate) fn part(height: u16, width: u16, wish: Wish, outside: Refusal) -> Result<Area, Refusal>
+pub fn part(height: u16, width: u16, wish: Wish, outside: Refusal) -> Result<Area, Refusal>
     ensures value { result ≡ part height width wish.lines wish.cols wish.y wish.x outside }
     ensures within { IfOk result (IsPart height width) }
 {
