@@ -1,6 +1,6 @@
 #!/bin/sh
 # How many expansions a second `expand` does, and ncurses' tparm beside it in the same run; and how the time
-# grows with a string's length. Each time is the least of five runs. Wants a C compiler and ncurses' headers.
+# grows with a string's length. Each is the least processor time of five runs. Wants bash, a C compiler and ncurses' headers.
 set -eu
 cd -- "$(dirname -- "$0")/.."
 
@@ -18,18 +18,11 @@ else
     echo "bench: tparm is not measured, since cc or ncurses' headers are missing"
 fi
 
-# least PROGRAM WORD..: the least time of five runs, in nanoseconds
+# least PROGRAM WORD..: the least processor time of five runs, in nanoseconds
 least() {
-    best=
     for _ in 1 2 3 4 5; do
-        begun=$(date +%s%N)
-        "$@" >"$work/out"
-        spent=$(($(date +%s%N) - begun))
-        if [ -z "$best" ] || [ "$spent" -lt "$best" ]; then
-            best=$spent
-        fi
-    done
-    echo "$best"
+        { LC_ALL=C bash -c 'TIMEFORMAT="%U %S"; time "$@" >/dev/null' bash "$@"; } 2>&1
+    done | awk '{ spent = $1 + $2; if (NR == 1 || spent < best) best = spent } END { printf "%d\n", best * 1000000000 }'
 }
 
 # beside NAME COUNT STRING PARAM..
