@@ -1,2 +1,8 @@
 pub mod Words
 pub mod Status
+pub mod Failing
+pub mod Listing
+pub mod Expanding
+pub mod Feeding
+pub mod Finding
+pub mod Replying

@@ -1,10 +1,16 @@
 //! The commands `tic` and `infocmp`.
 
+ghost use Rattle.std.specs.Prelude.{◌≡◌, ◌<◌, ◌++◌, [], IfOk, OnOk, ◌&&◌, if◌then◌else◌};
+ghost use Rattle.ti_caps.specs.Entry.{value_at};
+ghost use Rattle.ti_caps.specs.Table.{kind_of, place_of_rank};
+ghost use Rattle.ti_source.specs.Fields.{is_kind};
+ghost use Rattle.ti_commands.specs.Listing.{comparison_text, is_listed, is_listed_at, kind_lines, name_line, same_value};
+
 use crate::entries::{Found, find_entry};
 use crate::failure::{Failure, Refusal, Reply, file_failure};
 use crate::files::{FileFault, Files};
 use std::alloc::{AllocError, Global};
-use ti_caps::{Cap, Entry, Kind, at_rank, kind, name};
+use ti_caps::{Cap, Entry, Kind, Value, at_rank, kind, name};
 use ti_compiled::{PackFault, encode};
 use ti_source::print;
 
@@ -88,47 +94,85 @@ fn compare(
     first: &Entry,
     second: &Entry,
     comparison: Comparison,
-) -> Result<Vec<u8>, AllocError> {
+) -> Result<Vec<u8>, AllocError>
+    ensures { IfOk result (λ lines. lines.items ≡ comparison_text comparison first.now second.now) }
+{
     let mut lines = Vec::new(alloc);
-    for wanted in [Kind::Flag, Kind::Number, Kind::String] {
-        compare_kind(first, second, comparison, wanted, &mut lines)?;
-    }
+    push_kind(first, second, comparison, Kind::Flag, &mut lines)?;
+    push_kind(first, second, comparison, Kind::Number, &mut lines)?;
+    push_kind(first, second, comparison, Kind::String, &mut lines)?;
     Ok(lines)
 }
 
-fn compare_kind(
+/// The names of one kind.
+fn push_kind(
     first: &Entry,
     second: &Entry,
     comparison: Comparison,
     wanted: Kind,
     lines: &mut Vec<u8>,
-) -> Result<(), AllocError> {
+) -> Result<(), AllocError>
+    ensures { OnOk result (lines.new.items ≡ lines.old.items ++ kind_lines comparison first.now second.now wanted) }
+{
     for rank in 0..497 {
-        if let Some(cap) = at_rank(rank)
-            && kind(cap) == wanted
-            && is_listed(first, second, comparison, cap)
-        {
-            lines.extend_from_slice(name(cap))?;
-            lines.push(b'\n')?;
-        }
+        push_rank(first, second, comparison, wanted, rank, lines)?;
     }
     Ok(())
 }
 
+/// The name of this rank, if its capability is of the kind and listed.
+#[tactic(auto, unfolding(ti_caps::specs::Table::place_ranked))]
+fn push_rank(
+    first: &Entry,
+    second: &Entry,
+    comparison: Comparison,
+    wanted: Kind,
+    rank: usize,
+    lines: &mut Vec<u8>,
+) -> Result<(), AllocError>
+    requires { rank < 497 }
+    ensures { let cap = place_of_rank rank in OnOk result (lines.new.items ≡ lines.old.items ++ (if is_listed_at comparison first.now second.now wanted cap then name_line cap else [])) }
+{
+    match at_rank(rank) {
+        Some(cap) if is_of_kind(cap, wanted) && is_listed(first, second, comparison, cap) => {
+            push_name(cap, lines)
+        }
+        _ => Ok(()),
+    }
+}
+
+fn is_of_kind(cap: Cap, wanted: Kind) -> bool
+    ensures { result ≡ is_kind (kind_of cap) wanted }
+{
+    kind(cap) == wanted
+}
+
+fn push_name(cap: Cap, lines: &mut Vec<u8>) -> Result<(), AllocError>
+    ensures { OnOk result (lines.new.items ≡ lines.old.items ++ name_line cap) }
+{
+    lines.extend_from_slice(name(cap))?;
+    lines.push(b'\n')?;
+    Ok(())
+}
+
 /// Whether both entries have the capability with equal values, or neither has it.
-fn is_listed(first: &Entry, second: &Entry, comparison: Comparison, cap: Cap) -> bool {
-    match (first.value(cap).is_some(), second.value(cap).is_some()) {
-        (true, true) => comparison == Comparison::Common && has_equal(first, second, cap),
-        (false, false) => comparison == Comparison::Neither,
+fn is_listed(first: &Entry, second: &Entry, comparison: Comparison, cap: Cap) -> bool
+    ensures { result ≡ is_listed comparison (value_at first.now cap) (value_at second.now cap) }
+{
+    match (first.value(cap), second.value(cap)) {
+        (Some(one), Some(other)) => comparison == Comparison::Common && are_equal(one, other),
+        (None, None) => comparison == Comparison::Neither,
         _ => false,
     }
 }
 
-/// Whether two entries that have the capability have equal values of it.
-fn has_equal(first: &Entry, second: &Entry, cap: Cap) -> bool {
-    match kind(cap) {
-        Kind::Flag => true,
-        Kind::Number => first.get_number(cap) == second.get_number(cap),
-        Kind::String => first.get_string(cap) == second.get_string(cap),
+fn are_equal(one: &Value, other: &Value) -> bool
+    ensures { result ≡ same_value one.now other.now }
+{
+    match (one, other) {
+        (Value::Flag, Value::Flag) => true,
+        (Value::Number(one), Value::Number(other)) => one == other,
+        (Value::String(one), Value::String(other)) => one.as_slice() == other.as_slice(),
+        _ => false,
     }
 }

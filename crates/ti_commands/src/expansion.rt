@@ -1,5 +1,14 @@
 //! The command `expand`.
 
+ghost use Rattle.std.specs.Prelude.{◌≡◌, List, IfErr, IfNone, IfOk, IfSome};
+ghost use Rattle.std.specs.String.{string_bytes};
+ghost use Rattle.ti_parm.specs.Meaning.{sent};
+ghost use Rattle.ti_reach.specs.Reach.{IsWhole};
+ghost use Rattle.ti_parm.specs.Value.{Value, value_of, values_of};
+ghost use Rattle.ti_commands.specs.Expanding.{FailsToExpand, IsExpanded, JudgesCup, Shows, ShowsAll, ShowsCursor, TellsParm, cursor_line, escape_failure, hex_line, no_line};
+ghost use Rattle.ti_commands.specs.Failing.{IsUsage};
+ghost use Rattle.ti_commands.specs.Words.{GiveParams, GivesParam, texts_of};
+
 use crate::decimal::decimal_number;
 use crate::failure::{Failure, Refusal, Reply};
 use crate::sizes::{number_word, size_of};
@@ -29,86 +38,152 @@ pub struct Expansion<'a> {
 }
 
 /// Expands the string and shows where it leaves the cursor of a blank terminal.
-pub fn expand_string(alloc: Global, words: &Expansion<'_>) -> Result<Reply, Failure> {
+pub fn expand_string(alloc: Global, words: &Expansion<'_>) -> Result<Reply, Failure>
+    ensures reply { IfOk result (λ reply. IsExpanded words.now reply) }
+    ensures failure { IfErr result (λ e. FailsToExpand words.now e) }
+{
     let rows = number_word(alloc, "ROWS", words.rows)?;
     let cols = number_word(alloc, "COLS", words.cols)?;
     let params = read_params(alloc, words.params)?;
     let size = size_of(rows, cols)?;
-    let string = unescape(alloc, words.string.as_bytes()).map_err(escape_failure)?;
+    let string = match unescape(alloc, words.string.as_bytes()) {
+        Ok(string) => string,
+        Err(fault) => return Err(escape_failure(fault)),
+    };
     let sent = send(alloc, string.as_slice(), params.as_slice())?;
-    let mut text = hex::encode(alloc, sent.as_slice())?;
-    text.push('\n')?;
-    match tokens(alloc, sent.as_slice()) {
-        Ok(_) => {
-            push_cursor(alloc, size, sent.as_slice(), &mut text)?;
-            if words.judges_cup {
-                push_cup(alloc, string.as_slice(), size, &mut text)?;
-            }
-            Ok(Reply::of_text(alloc, text.into_bytes()))
-        }
+    let shown = show(
+        alloc,
+        size,
+        string.as_slice(),
+        sent.as_slice(),
+        words.judges_cup,
+    )?;
+    Ok(shown)
+}
+
+/// What is said of the bytes that a string sent.
+fn show(
+    alloc: Global,
+    size: Size,
+    string: &[u8],
+    sent: &[u8],
+    judges_cup: bool,
+) -> Result<Reply, AllocError>
+    ensures { IfOk result (λ reply. Shows judges_cup size.rows size.cols string.now sent.now reply) }
+{
+    match tokens(alloc, sent) {
+        Ok(_) => Ok(Reply::of_text(alloc, whole_text(alloc, size, string, sent, judges_cup)?)),
         Err(fault) => match fault.kind {
-            TokenFaultKind::NoMemory => Err(Failure::NoMemory),
+            TokenFaultKind::NoMemory => Err(AllocError),
             _ => Ok(Reply {
                 notes: Vec::new(alloc),
-                text: text.into_bytes(),
+                text: hex_line(alloc, sent)?,
                 failure: Some(Failure::Refused(Refusal::Token(fault))),
             }),
         },
     }
 }
 
+/// The lines for a whole text.
+fn whole_text(
+    alloc: Global,
+    size: Size,
+    string: &[u8],
+    sent: &[u8],
+    judges_cup: bool,
+) -> Result<Vec<u8>, AllocError>
+    requires { IsWhole sent.now }
+    ensures { IfOk result (λ text. ShowsAll judges_cup size.rows size.cols string.now sent.now text.items) }
+{
+    let mut text = hex_line(alloc, sent)?;
+    let cursor = cursor_line(alloc, size, sent)?;
+    text.extend_from_slice(cursor.as_bytes())?;
+    if judges_cup {
+        let cup = cup_line(alloc, string, size)?;
+        text.extend_from_slice(cup.as_bytes())?;
+    }
+    Ok(text)
+}
+
+/// The bytes in hexadecimal, on a line.
+fn hex_line(alloc: Global, sent: &[u8]) -> Result<Vec<u8>, AllocError>
+    ensures { IfOk result (λ text. text.items ≡ hex_line sent.now) }
+{
+    let mut text = hex::encode(alloc, sent)?;
+    text.push('\n')?;
+    Ok(text.into_bytes())
+}
+
 /// What the string sends: its expansion without delays.
-fn send(alloc: Global, string: &[u8], params: &[Param<'_>]) -> Result<Vec<u8>, Failure> {
+fn send(alloc: Global, string: &[u8], params: &[Param<'_>]) -> Result<Vec<u8>, Failure>
+    ensures bytes { IfOk result (λ bytes. sent string.now (values_of params.now) ≡ Ok bytes.items) }
+    ensures failure { IfErr result (λ e. TellsParm string.now (values_of params.now) e) }
+{
     let mut expanded = Vec::new(alloc);
     let mut statics = Statics::new();
-    expand(alloc, string, params, &mut statics, &mut expanded).map_err(parm_failure)?;
+    match expand(alloc, string, params, &mut statics, &mut expanded) {
+        Ok(()) => {}
+        Err(ParmFault::NoMemory) => return Err(Failure::NoMemory),
+        Err(fault) => return Err(Failure::Refused(Refusal::Parm(fault))),
+    }
     let sent = strip_delays(alloc, expanded.as_slice())?;
     Ok(sent)
 }
 
 /// The line that says where the bytes leave the cursor.
-fn push_cursor(alloc: Global, size: Size, sent: &[u8], text: &mut String) -> Result<(), Failure> {
+fn cursor_line(alloc: Global, size: Size, sent: &[u8]) -> Result<String, AllocError>
+    requires { IsWhole sent.now }
+    ensures { IfOk result (λ line. ShowsCursor size.rows size.cols sent.now (string_bytes line)) }
+{
     let mut terminal = Terminal::new(alloc, size)?;
     let _whole = terminal.feed(sent);
     let (row, col) = terminal.cursor();
-    text.push_str(format!(in alloc; "cursor {row} {col}\n")?.as_str())?;
-    Ok(())
+    place_line(alloc, row, col)
+}
+
+fn place_line(alloc: Global, row: usize, col: usize) -> Result<String, AllocError>
+    ensures { IfOk result (λ line. string_bytes line ≡ cursor_line row col) }
+{
+    format!(in alloc; "cursor {row} {col}\n")
 }
 
 /// The line that says whether the string serves as `cup`.
-fn push_cup(alloc: Global, string: &[u8], size: Size, text: &mut String) -> Result<(), Failure> {
+fn cup_line(alloc: Global, string: &[u8], size: Size) -> Result<String, AllocError>
+    ensures { IfOk result (λ line. JudgesCup string.now size.rows size.cols (string_bytes line)) }
+{
     match reach_cup(alloc, string, size) {
-        Ok(()) => text.push_str("cup yes\n")?,
+        Ok(()) => String::from_str(alloc, "cup yes\n"),
         Err(miss) => match miss.kind {
-            MissKind::NoMemory => return Err(Failure::NoMemory),
-            _ => {
-                let line = format!(in alloc; "cup no {} {}\n", miss.row, miss.col)?;
-                text.push_str(line.as_str())?;
-            }
+            MissKind::NoMemory => Err(AllocError),
+            _ => miss_line(alloc, miss.row, miss.col),
         },
     }
-    Ok(())
 }
 
-fn escape_failure(fault: EscapeFault) -> Failure {
+fn miss_line(alloc: Global, row: usize, col: usize) -> Result<String, AllocError>
+    ensures { IfOk result (λ line. string_bytes line ≡ no_line row col) }
+{
+    format!(in alloc; "cup no {row} {col}\n")
+}
+
+fn escape_failure(fault: EscapeFault) -> Failure
+    ensures { result ≡ escape_failure fault }
+{
     match fault {
         EscapeFault::NoMemory => Failure::NoMemory,
         _ => Failure::Refused(Refusal::Escape(fault)),
     }
 }
 
-fn parm_failure(fault: ParmFault) -> Failure {
-    match fault {
-        ParmFault::NoMemory => Failure::NoMemory,
-        _ => Failure::Refused(Refusal::Parm(fault)),
-    }
-}
-
-fn read_params<'a>(alloc: Global, words: &[&'a str]) -> Result<Params<'a>, Failure> {
+/// The parameters that the words give.
+fn read_params<'a>(alloc: Global, words: &[&'a str]) -> Result<Params<'a>, Failure>
+    ensures params { IfOk result (λ params. GiveParams (texts_of words.now) (values_of params.items)) }
+    ensures failure { IfErr result (λ e. IsUsage ((values : List Value) → GiveParams (texts_of words.now) values → ⊥) e) }
+{
     let mut params = SmallVec::new(alloc);
     for word in words {
         match parameter(word) {
-            Some(param) => params.push(param).map_err(AllocError::from)?,
+            Some(param) => params.push(param)?,
             None => return Err(not_a_parameter(alloc, word)),
         }
     }
@@ -116,7 +191,10 @@ fn read_params<'a>(alloc: Global, words: &[&'a str]) -> Result<Params<'a>, Failu
 }
 
 /// The parameter that a word gives: the text behind `s:`, or a decimal number.
-fn parameter<'a>(word: &'a str) -> Option<Param<'a>> {
+fn parameter<'a>(word: &'a str) -> Option<Param<'a>>
+    ensures param { IfSome result (λ param. GivesParam word.now (value_of param)) }
+    ensures none { IfNone result ((value : Value) → GivesParam word.now value → ⊥) }
+{
     match word.strip_prefix("s:") {
         Some(text) => Some(Param::Text(text.as_bytes())),
         None => match decimal_number(word) {
@@ -127,7 +205,9 @@ fn parameter<'a>(word: &'a str) -> Option<Param<'a>> {
 }
 
 /// A word that is no parameter.
-fn not_a_parameter(alloc: Global, word: &str) -> Failure {
+fn not_a_parameter(alloc: Global, word: &str) -> Failure
+    ensures { IsUsage (Unit {0}) result }
+{
     let text = format!(in alloc;
         "error: invalid value '{word}' for PARAM: a decimal number up to 2147483647, or s: and a text, is wanted\n\n\
          For more information, try '--help'.\n"

@@ -1,7 +1,9 @@
 //! What a command answers, why it may stop, and the status that says so.
 
-ghost use Rattle.std.specs.Prelude.{◌≡◌};
+ghost use Rattle.std.specs.Prelude.{◌≡◌, [], None};
 ghost use Rattle.ti_commands.specs.Status.{status_of};
+ghost use Rattle.ti_commands.specs.Failing.{TellsFile, TellsUsage};
+ghost use Rattle.ti_commands.specs.declared.failure.Failure.TheVariants.{NoMemory};
 
 use std::alloc::{AllocError, AllocFailed, Global};
 use std::io;
@@ -26,7 +28,11 @@ pub struct Reply {
 
 impl Reply {
     /// A reply that is all on standard output.
-    pub fn of_text(alloc: Global, text: Vec<u8>) -> Reply {
+    pub fn of_text(alloc: Global, text: Vec<u8>) -> Reply
+        ensures notes { result.notes.items ≡ [] }
+        ensures text { result.text ≡ text }
+        ensures failure { result.failure ≡ None }
+    {
         Reply {
             notes: Vec::new(alloc),
             text,
@@ -102,19 +108,25 @@ impl Failure {
 }
 
 impl From<AllocError> for Failure {
+    ghost from_gives = { λ _ e. e ≡ NoMemory };
+
     fn from(_refused: AllocError) -> Failure {
         Failure::NoMemory
     }
 }
 
 impl<T: Drop> From<AllocFailed<T>> for Failure {
+    ghost from_gives = { λ _ e. e ≡ NoMemory };
+
     fn from(_refused: AllocFailed<T>) -> Failure {
         Failure::NoMemory
     }
 }
 
 /// The failure of the file at `path`.
-pub fn file_failure(alloc: Global, path: &str) -> Failure {
+pub fn file_failure(alloc: Global, path: &str) -> Failure
+    ensures { TellsFile path.now result }
+{
     match String::from_str(alloc, path) {
         Ok(path) => Failure::File(path),
         Err(_) => Failure::NoMemory,
@@ -122,7 +134,9 @@ pub fn file_failure(alloc: Global, path: &str) -> Failure {
 }
 
 /// The failure of a line that this text explains.
-pub fn wrong_line(alloc: Global, text: &str) -> Failure {
+pub fn wrong_line(alloc: Global, text: &str) -> Failure
+    ensures { TellsUsage text.now result }
+{
     match String::from_str(alloc, text) {
         Ok(text) => Failure::Usage(text),
         Err(_) => Failure::NoMemory,

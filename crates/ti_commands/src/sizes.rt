@@ -1,12 +1,20 @@
 //! The words that several commands have: numbers, and the terminal's size.
 
+ghost use Rattle.std.specs.Prelude.{◌≡◌, ◌↔◌, IfErr, IfOk, IsOk};
+ghost use Rattle.vt_term.specs.Size.{IsSize};
+ghost use Rattle.ti_commands.specs.Failing.{IsUsage};
+ghost use Rattle.ti_commands.specs.Words.{GivesNumber, IsNumberWord};
+
 use crate::decimal::decimal_number;
 use crate::failure::{Failure, Refusal};
 use std::alloc::Global;
 use vt_term::Size;
 
 /// The number that a word gives, or why it is none; `name` is what the word stands for.
-pub fn number_word(alloc: Global, name: &str, word: &str) -> Result<u32, Failure> {
+pub fn number_word(alloc: Global, name: &str, word: &str) -> Result<u32, Failure>
+    ensures number { IfOk result (λ n. GivesNumber word.now n) }
+    ensures failure { IfErr result (λ e. IsUsage (IsNumberWord word.now → ⊥) e) }
+{
     match decimal_number(word) {
         Some(number) => Ok(number),
         None => Err(not_a_number(alloc, name, word)),
@@ -14,12 +22,18 @@ pub fn number_word(alloc: Global, name: &str, word: &str) -> Result<u32, Failure
 }
 
 /// A size of a terminal, or its refusal.
-pub fn size_of(rows: u32, cols: u32) -> Result<Size, Failure> {
+pub fn size_of(rows: u32, cols: u32) -> Result<Size, Failure>
+    ensures size { IfOk result (λ size. (size.rows ≡ rows) × (size.cols ≡ cols)) }
+    ensures within { IsOk result ↔ IsSize rows cols }
+    ensures refusal { IfErr result (λ e. e ≡ Failure.Refused Refusal.Size) }
+{
     Size::new(rows as usize, cols as usize).ok_or(Failure::Refused(Refusal::Size))
 }
 
 /// A word that stands where a number belongs.
-fn not_a_number(alloc: Global, name: &str, word: &str) -> Failure {
+fn not_a_number(alloc: Global, name: &str, word: &str) -> Failure
+    ensures { IsUsage (Unit {0}) result }
+{
     let text = format!(in alloc;
         "error: invalid value '{word}' for {name}: a decimal number up to 2147483647 is wanted\n\n\
          For more information, try '--help'.\n"

@@ -1,0 +1,4 @@
+pub mod Params
+pub mod Listings
+pub mod Failures
+pub mod Expansions

@@ -1,0 +1,62 @@
+-- What the commands that take entries reply.
+use Rattle.std.specs.Prelude.{◌≡◌, ◌⊎◌, ℕ, List, [], Option, Some, None, Ok, Err}
+use Rattle.std.specs.String.{string_bytes}
+use Rattle.ti_caps.specs.Entry.{Content}
+use Rattle.ti_compiled.specs.Written.{packing_of}
+use Rattle.ti_compiled.specs.declared.types.PackFault.{PackFault}
+use Rattle.ti_source.specs.Printing.{text_of}
+use Rattle.ti_commands.specs.Finding.{Finds, LacksEntry}
+use Rattle.ti_commands.specs.Listing.{comparison_text}
+use Rattle.ti_commands.specs.declared.describing.Comparison.{Comparison}
+use Rattle.ti_commands.specs.declared.failure.Failure.{Failure}
+use Rattle.ti_commands.specs.declared.failure.Failure.TheVariants.{Refused, RefusedUnwritten, Usage, File, Output, NoMemory}
+use Rattle.ti_commands.specs.declared.failure.Refusal.{Refusal}
+use Rattle.ti_commands.specs.declared.failure.Refusal.TheVariants.{Pack}
+use Rattle.ti_commands.specs.declared.failure.Reply.{Reply}
+use denote.Ref.{Bor}
+
+-- the word gives this entry
+abbrev pub GivesEntry : List ℕ → Content → Type 0
+GivesEntry word entry = (notes : List ℕ) × Finds word notes (Ok entry)
+
+-- the reply is this text alone
+pub record IsText (text : List ℕ) (reply : Reply) : Type 0 where
+  pub no_notes : reply.notes.items ≡ []
+  pub says : reply.text.items ≡ text
+  pub done : reply.failure ≡ None
+
+-- the entry's text
+pub record IsPrinted (word : List ℕ) (reply : Reply) : Type 0 where
+  pub entry : Content
+  pub gives : GivesEntry word entry
+  pub prints : IsText (text_of entry) reply
+
+-- the list of what is common to two entries, or in neither
+pub record IsCompared (first second : List ℕ) (comparison : Comparison) (reply : Reply) : Type 0 where
+  pub one : Content
+  pub other : Content
+  pub gives_one : GivesEntry first one
+  pub gives_other : GivesEntry second other
+  pub lists : IsText (comparison_text comparison one other) reply
+
+-- what is lacking for a comparison: the first word comes first
+pub record LacksSecond (first second : List ℕ) (failure : Failure) : Type 0 where
+  pub one : Content
+  pub gives_one : GivesEntry first one
+  pub lacks : LacksEntry second failure
+
+-- how an entry's compiled file is stored at a path
+abbrev pub Stores : Content → List ℕ → Option Failure → Type 0
+Stores entry path None = (file : List ℕ) × (packing_of entry ≡ Ok file)
+Stores entry path (Some (File told)) = ((file : List ℕ) × (packing_of entry ≡ Ok file)) × (string_bytes told ≡ path)
+Stores entry path (Some (Refused (Pack fault))) = packing_of entry ≡ Err fault
+Stores entry path (Some _) = ⊥
+
+abbrev pub StoresIf : Content → Option (Bor (List ℕ)) → Option Failure → Type 0
+StoresIf entry None failure = failure ≡ None
+StoresIf entry (Some path) failure = Stores entry path.now failure
+
+-- the notes, and how it went: the entry's refusal, or its file's
+pub data IsCompiled (word : List ℕ) (out : Option (Bor (List ℕ))) (reply : Reply) : Type 0 where
+  refused : (refusal : Refusal) → Finds word reply.notes.items (Err refusal) → reply.text.items ≡ [] → reply.failure ≡ Some (Refused refusal) → IsCompiled word out reply
+  found : (entry : Content) → Finds word reply.notes.items (Ok entry) → reply.text.items ≡ [] → StoresIf entry out reply.failure → IsCompiled word out reply
