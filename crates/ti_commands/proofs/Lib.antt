@@ -2,3 +2,6 @@ pub mod Params
 pub mod Listings
 pub mod Failures
 pub mod Expansions
+pub mod Colons
+pub mod Feeds
+pub mod Compiling

@@ -50,6 +50,7 @@ abbrev pub Stores : Content → List ℕ → Option Failure → Type 0
 Stores entry path None = (file : List ℕ) × (packing_of entry ≡ Ok file)
 Stores entry path (Some (File told)) = ((file : List ℕ) × (packing_of entry ≡ Ok file)) × (string_bytes told ≡ path)
 Stores entry path (Some (Refused (Pack fault))) = packing_of entry ≡ Err fault
+Stores entry path (Some NoMemory) = Unit {0}
 Stores entry path (Some _) = ⊥
 
 abbrev pub StoresIf : Content → Option (Bor (List ℕ)) → Option Failure → Type 0

@@ -1,10 +1,12 @@
 //! The commands `tic` and `infocmp`.
 
-ghost use Rattle.std.specs.Prelude.{◌≡◌, ◌<◌, ◌++◌, [], IfOk, OnOk, ◌&&◌, if◌then◌else◌};
+ghost use Rattle.std.specs.Prelude.{◌≡◌, ◌⊎◌, ◌<◌, ◌++◌, [], IfErr, IfOk, OnOk, if◌then◌else◌};
 ghost use Rattle.ti_caps.specs.Entry.{value_at};
 ghost use Rattle.ti_caps.specs.Table.{kind_of, place_of_rank};
 ghost use Rattle.ti_source.specs.Fields.{is_kind};
 ghost use Rattle.ti_commands.specs.Listing.{comparison_text, is_listed, is_listed_at, kind_lines, name_line, same_value};
+ghost use Rattle.ti_commands.specs.Finding.{FailsToFind, LacksEntry};
+ghost use Rattle.ti_commands.specs.Replying.{GivesEntry, IsCompared, IsCompiled, IsPrinted, LacksSecond, Stores, StoresIf};
 
 use crate::entries::{Found, find_entry};
 use crate::failure::{Failure, Refusal, Reply, file_failure};
@@ -20,18 +22,35 @@ pub fn compile_entry<F: Files>(
     word: &str,
     out: Option<&str>,
     files: &mut F,
-) -> Result<Reply, Failure> {
+) -> Result<Reply, Failure>
+    ensures reply { IfOk result (λ reply. IsCompiled word.now out.entry reply) }
+    ensures failure { IfErr result (λ e. FailsToFind word.now e ⊎ (e ≡ Failure.NoMemory)) }
+{
     let Found { notes, entry } = find_entry(alloc, files, word)?;
-    let stored = match (entry, out) {
-        (Ok(entry), Some(path)) => store_entry(alloc, files, path, &entry)?,
-        (Ok(_), None) => None,
-        (Err(refusal), _) => Some(Failure::Refused(refusal)),
+    let failure = match entry {
+        Ok(entry) => store_if(alloc, files, out, &entry)?,
+        Err(refusal) => Some(Failure::Refused(refusal)),
     };
     Ok(Reply {
         notes,
         text: Vec::new(alloc),
-        failure: stored,
+        failure,
     })
+}
+
+/// Writes the compiled form of an entry if there is a path for it.
+fn store_if<F: Files>(
+    alloc: Global,
+    files: &mut F,
+    out: Option<&str>,
+    entry: &Entry,
+) -> Result<Option<Failure>, AllocError>
+    ensures { IfOk result (λ failure. StoresIf entry.now out.entry failure) }
+{
+    match out {
+        Some(path) => store_entry(alloc, files, path, entry),
+        None => Ok(None),
+    }
 }
 
 /// Writes the compiled form of an entry to the file at `path`.
@@ -40,23 +59,29 @@ fn store_entry<F: Files>(
     files: &mut F,
     path: &str,
     entry: &Entry,
-) -> Result<Option<Failure>, Failure> {
+) -> Result<Option<Failure>, AllocError>
+    ensures { IfOk result (λ failure. Stores entry.now path.now failure) }
+{
     let file = match encode(alloc, entry) {
         Ok(file) => file,
-        Err(PackFault::NoMemory) => return Err(Failure::NoMemory),
+        Err(PackFault::NoMemory) => return Err(AllocError),
         Err(fault) => return Ok(Some(Failure::Refused(Refusal::Pack(fault)))),
     };
     match files.store(path, file.as_slice()) {
         Ok(()) => Ok(None),
-        Err(FileFault::NoMemory) => Err(Failure::NoMemory),
+        Err(FileFault::NoMemory) => Err(AllocError),
         Err(FileFault::Failed) => Ok(Some(file_failure(alloc, path))),
     }
 }
 
 /// Prints an entry.
-pub fn print_entry<F: Files>(alloc: Global, word: &str, files: &mut F) -> Result<Reply, Failure> {
+pub fn print_entry<F: Files>(alloc: Global, word: &str, files: &mut F) -> Result<Reply, Failure>
+    ensures reply { IfOk result (λ reply. IsPrinted word.now reply) }
+    ensures failure { IfErr result (λ e. LacksEntry word.now e ⊎ (e ≡ Failure.NoMemory)) }
+{
     let entry = entry_of(alloc, files, word)?;
-    Ok(Reply::of_text(alloc, print(alloc, &entry)?))
+    let text = print(alloc, &entry)?;
+    Ok(Reply::of_text(alloc, text))
 }
 
 /// Which capabilities of two entries are listed.
@@ -75,16 +100,29 @@ pub fn compare_entries<F: Files>(
     second: &str,
     comparison: Comparison,
     files: &mut F,
-) -> Result<Reply, Failure> {
-    let first = entry_of(alloc, files, first)?;
-    let second = entry_of(alloc, files, second)?;
-    Ok(Reply::of_text(alloc, compare(alloc, &first, &second, comparison)?))
+) -> Result<Reply, Failure>
+    ensures reply { IfOk result (λ reply. IsCompared first.now second.now comparison reply) }
+    ensures failure { IfErr result (λ e. LacksEntry first.now e ⊎ LacksSecond first.now second.now e ⊎ (e ≡ Failure.NoMemory)) }
+{
+    let one = entry_of(alloc, files, first)?;
+    let other = entry_of(alloc, files, second)?;
+    let text = compare(alloc, &one, &other, comparison)?;
+    Ok(Reply::of_text(alloc, text))
 }
 
-fn entry_of<F: Files>(alloc: Global, files: &mut F, word: &str) -> Result<Entry, Failure> {
-    find_entry(alloc, files, word)?
-        .entry
-        .map_err(Failure::Refused)
+/// The entry that the word gives.
+fn entry_of<F: Files>(alloc: Global, files: &mut F, word: &str) -> Result<Entry, Failure>
+    ensures entry { IfOk result (λ entry. GivesEntry word.now entry) }
+    ensures failure { IfErr result (λ e. LacksEntry word.now e) }
+{
+    let Found {
+        notes: _notes,
+        entry,
+    } = find_entry(alloc, files, word)?;
+    match entry {
+        Ok(entry) => Ok(entry),
+        Err(refusal) => Err(Failure::Refused(refusal)),
+    }
 }
 
 /// The names of the capabilities that both entries have with equal values, or that neither has: the

@@ -1,13 +1,18 @@
 //! The ENTRY words of a line: an entry of a source file, or a compiled file.
 
+ghost use Rattle.std.specs.Prelude.{◌≡◌, ◌++◌, IfErr, IfOk, OnOk};
+ghost use Rattle.std.specs.List.{AllByRecursion, flat_map};
+ghost use Rattle.ti_source.specs.Raw.{IsRaw};
+ghost use Rattle.ti_commands.specs.Finding.{FailsInFile, FailsInSource, FailsToFind, Finds, FitsTo, IsOfFile, IsOfSource, ResolvesTo, note_line, note_name, notes_text};
+
 use crate::failure::{Failure, Refusal};
 use crate::files::Files;
 use crate::reading::read_whole;
 use std::alloc::{AllocError, Global};
 use ti_caps::Entry;
-use ti_compiled::{PackFault, decode};
+use ti_compiled::{PackFault, Packed, decode};
 use ti_resolve::{ResolveFault, resolve};
-use ti_source::{FaultKind, RawEntry, read};
+use ti_source::{FaultKind, Note, NoteKind, RawEntry, read};
 
 /// The most bytes of a source file.
 const SOURCE_LIMIT: u32 = 16_777_216;
@@ -25,7 +30,10 @@ pub struct Found {
 }
 
 /// Reads the file that the word names, and finds or unpacks its entry.
-pub fn find_entry<F: Files>(alloc: Global, files: &mut F, word: &str) -> Result<Found, Failure> {
+pub fn find_entry<F: Files>(alloc: Global, files: &mut F, word: &str) -> Result<Found, Failure>
+    ensures found { IfOk result (λ found. Finds word.now found.notes.items found.entry) }
+    ensures failure { IfErr result (λ e. FailsToFind word.now e) }
+{
     match word.rsplit_once(':') {
         Some((path, name)) => find_in_source(alloc, files, path, name),
         None => unpack(alloc, files, word),
@@ -37,17 +45,17 @@ fn find_in_source<F: Files>(
     files: &mut F,
     path: &str,
     name: &str,
-) -> Result<Found, Failure> {
+) -> Result<Found, Failure>
+    ensures found { IfOk result (λ found. IsOfSource name.now found.notes.items found.entry) }
+    ensures failure { IfErr result (λ e. FailsInSource path.now e) }
+{
     let text = read_whole(alloc, files, path, SOURCE_LIMIT)?;
     match read(alloc, text.as_slice()) {
-        Ok(raws) => Ok(Found {
-            notes: note_lines(alloc, raws.as_slice())?,
-            entry: match resolve(alloc, raws.as_slice(), name.as_bytes()) {
-                Ok(entry) => Ok(entry),
-                Err(ResolveFault::NoMemory) => return Err(Failure::NoMemory),
-                Err(fault) => Err(Refusal::Resolve(fault)),
-            },
-        }),
+        Ok(raws) => {
+            let notes = note_lines(alloc, raws.as_slice())?;
+            let entry = resolved(alloc, raws.as_slice(), name)?;
+            Ok(Found { notes, entry })
+        }
         Err(fault) => match fault.kind {
             FaultKind::NoMemory => Err(Failure::NoMemory),
             _ => Err(Failure::Refused(Refusal::Source(fault))),
@@ -55,33 +63,83 @@ fn find_in_source<F: Files>(
     }
 }
 
+/// The entry of this name, or why it can't be had.
+fn resolved(
+    alloc: Global,
+    raws: &[RawEntry],
+    name: &str,
+) -> Result<Result<Entry, Refusal>, AllocError>
+    requires { AllByRecursion IsRaw raws.now }
+    ensures { IfOk result (λ entry. ResolvesTo raws.now name.now entry) }
+{
+    match resolve(alloc, raws, name.as_bytes()) {
+        Ok(entry) => Ok(Ok(entry)),
+        Err(ResolveFault::NoMemory) => Err(AllocError),
+        Err(fault) => Ok(Err(Refusal::Resolve(fault))),
+    }
+}
+
 /// A line for each note, in the order of the file.
-fn note_lines(alloc: Global, raws: &[RawEntry]) -> Result<Vec<u8>, AllocError> {
+fn note_lines(alloc: Global, raws: &[RawEntry]) -> Result<Vec<u8>, AllocError>
+    ensures { IfOk result (λ lines. lines.items ≡ notes_text raws.now) }
+{
     let mut lines = Vec::new(alloc);
     for raw in raws {
-        push_notes(alloc, raw, &mut lines)?;
+        push_notes(alloc, raw.notes.as_slice(), &mut lines)?;
     }
     Ok(lines)
 }
 
-fn push_notes(alloc: Global, raw: &RawEntry, lines: &mut Vec<u8>) -> Result<(), AllocError> {
-    for note in raw.notes.as_slice() {
-        let line = format!(in alloc; "note line {}: {}\n", note.line, note.kind)?;
-        lines.extend_from_slice(line.as_bytes())?;
+fn push_notes(alloc: Global, notes: &[Note], lines: &mut Vec<u8>) -> Result<(), AllocError>
+    ensures { OnOk result (lines.new.items ≡ lines.old.items ++ flat_map note_line notes.now) }
+{
+    for note in notes {
+        push_note(alloc, *note, lines)?;
     }
     Ok(())
 }
 
-fn unpack<F: Files>(alloc: Global, files: &mut F, path: &str) -> Result<Found, Failure> {
+fn push_note(alloc: Global, note: Note, lines: &mut Vec<u8>) -> Result<(), AllocError>
+    ensures { OnOk result (lines.new.items ≡ lines.old.items ++ note_line note) }
+{
+    let number = note.line;
+    let name = note_name(note.kind);
+    let line = format!(in alloc; "note line {number}: {name}\n")?;
+    lines.extend_from_slice(line.as_bytes())
+}
+
+/// The kind's name, as it shows itself.
+fn note_name(kind: NoteKind) -> &'static str
+    ensures { result.now ≡ note_name kind }
+{
+    match kind {
+        NoteKind::UnknownName => "UnknownName",
+        NoteKind::Duplicate => "Duplicate",
+        NoteKind::OddEscape => "OddEscape",
+    }
+}
+
+fn unpack<F: Files>(alloc: Global, files: &mut F, path: &str) -> Result<Found, Failure>
+    ensures found { IfOk result (λ found. IsOfFile found.notes.items found.entry) }
+    ensures failure { IfErr result (λ e. FailsInFile path.now e) }
+{
     let file = read_whole(alloc, files, path, COMPILED_LIMIT)?;
-    let packed = decode(file.as_slice()).map_err(|fault| Failure::Refused(Refusal::Pack(fault)))?;
-    let entry = match packed.to_entry(alloc) {
-        Ok(entry) => Ok(entry),
-        Err(PackFault::NoMemory) => return Err(Failure::NoMemory),
-        Err(fault) => Err(Refusal::Pack(fault)),
-    };
-    Ok(Found {
-        notes: Vec::new(alloc),
-        entry,
-    })
+    match decode(file.as_slice()) {
+        Ok(packed) => Ok(Found {
+            notes: Vec::new(alloc),
+            entry: unpacked(alloc, &packed)?,
+        }),
+        Err(fault) => Err(Failure::Refused(Refusal::Pack(fault))),
+    }
+}
+
+/// The entry of a file that was read, or why it can't be had.
+fn unpacked(alloc: Global, packed: &Packed<'_>) -> Result<Result<Entry, Refusal>, AllocError>
+    ensures { IfOk result (λ entry. FitsTo packed.now entry) }
+{
+    match packed.to_entry(alloc) {
+        Ok(entry) => Ok(Ok(entry)),
+        Err(PackFault::NoMemory) => Err(AllocError),
+        Err(fault) => Ok(Err(Refusal::Pack(fault))),
+    }
 }

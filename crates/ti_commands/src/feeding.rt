@@ -1,5 +1,8 @@
 //! The command `feed`.
 
+ghost use Rattle.std.specs.Prelude.{IfErr, IfOk};
+ghost use Rattle.ti_commands.specs.Feeding.{FailsToFeed, ShowsScreen};
+
 use crate::failure::{Failure, Refusal, Reply};
 use crate::files::Files;
 use crate::reading::read_whole;
@@ -18,7 +21,10 @@ pub fn feed_file<F: Files>(
     cols: &str,
     path: &str,
     files: &mut F,
-) -> Result<Reply, Failure> {
+) -> Result<Reply, Failure>
+    ensures reply { IfOk result (λ reply. ShowsScreen rows.now cols.now reply) }
+    ensures failure { IfErr result (λ e. FailsToFeed rows.now cols.now path.now e) }
+{
     let rows = number_word(alloc, "ROWS", rows)?;
     let cols = number_word(alloc, "COLS", cols)?;
     let size = size_of(rows, cols)?;

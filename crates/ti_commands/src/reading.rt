@@ -1,6 +1,7 @@
 //! Whole files, up to a limit.
 
-ghost use Rattle.std.specs.Prelude.{◌≤◌, IfOk, vec_len};
+ghost use Rattle.std.specs.Prelude.{◌≤◌, IfErr, IfOk, vec_len};
+ghost use Rattle.ti_commands.specs.Failing.{TellsFile};
 
 use crate::failure::{Failure, file_failure};
 use crate::files::{FileFault, Files};
@@ -15,7 +16,8 @@ pub fn read_whole<F: Files>(
     path: &str,
     limit: u32,
 ) -> Result<Vec<u8>, Failure>
-    ensures { IfOk result (λ bytes. vec_len bytes ≤ limit) }
+    ensures short { IfOk result (λ bytes. vec_len bytes ≤ limit) }
+    ensures failure { IfErr result (λ e. TellsFile path.now e) }
 {
     let file = match files.reader(path) {
         Ok(file) => file,
