@@ -4,7 +4,7 @@ use Rattle.std.proofs.lemmas.List.{take-append-drop}
 use Rattle.std.proofs.lemmas.Result.{IfOk-weaker}
 use Rattle.std.proofs.lemmas.Str.Pattern.{NoCharPasses-char, drop_at_char}
 use Rattle.std.specs.Str.Pattern.{RFindsChar, SplitsAroundMatch}
-use Rattle.ti_commands.specs.Finding.{FailsInFile, FailsInSource, FailsToFind, Finds, IsOfFile, IsOfSource, IsPath, IsPathAndName}
+use Rattle.ti_commands.specs.Finding.{FailsInFile, FailsInSource, FailsToFind, Finds, HasBytes, IsOfFile, IsOfSource, IsPath, IsPathAndName}
 use Rattle.ti_commands.specs.declared.entries.Found.{Found}
 use Rattle.ti_commands.specs.declared.failure.Failure.{Failure}
 
@@ -17,7 +17,7 @@ split_word word path name h = record {
 pub whole_word : (word : List ℕ) → RFindsChar 58 word None → IsPath word
 whole_word word h = λ i lt. NoCharPasses-char 58 word i h (lit< tt) lt
 
-pub source_found : {E : Type 0} (word path name : List ℕ) (r : Result Found E) → SplitsAroundMatch (RFindsChar 58) word path name → IfOk r (λ found. IsOfSource name found.notes.items found.entry) → IfOk r (λ found. Finds word found.notes.items found.entry)
+pub source_found : {E : Type 0} (word path name : List ℕ) (r : Result Found E) → SplitsAroundMatch (RFindsChar 58) word path name → IfOk r (λ found. HasBytes 16777216 (λ bytes. IsOfSource bytes name found.notes.items found.entry)) → IfOk r (λ found. Finds word found.notes.items found.entry)
 source_found word path name (Ok found) s h = inl (path, name, split_word word path name s, h)
 source_found word path name (Err e) s h = tt
 
@@ -25,7 +25,7 @@ pub source_fails : {T : Type 0} (word path name : List ℕ) (r : Result T Failur
 source_fails word path name (Ok t) s h = tt
 source_fails word path name (Err e) s h = inl (path, name, split_word word path name s, h)
 
-pub file_found : {E : Type 0} (word : List ℕ) (r : Result Found E) → RFindsChar 58 word None → IfOk r (λ found. IsOfFile found.notes.items found.entry) → IfOk r (λ found. Finds word found.notes.items found.entry)
+pub file_found : {E : Type 0} (word : List ℕ) (r : Result Found E) → RFindsChar 58 word None → IfOk r (λ found. HasBytes 131072 (λ bytes. IsOfFile bytes found.notes.items found.entry)) → IfOk r (λ found. Finds word found.notes.items found.entry)
 file_found word (Ok found) s h = inr (whole_word word s, h)
 file_found word (Err e) s h = tt
 

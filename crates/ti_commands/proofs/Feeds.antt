@@ -5,7 +5,7 @@ use Rattle.vt_term.specs.Run.{Runs, Sticks}
 use Rattle.vt_term.specs.Screen.{State, reset}
 use Rattle.vt_term.specs.Size.{IsSize}
 use Rattle.ti_commands.specs.Failing.{TellsFile}
-use Rattle.ti_commands.specs.Feeding.{FailsToFeed, ShowsScreen, SizeAsked, SizeGiven, SticksAt}
+use Rattle.ti_commands.specs.Feeding.{FailsToFeed, ShowsAfter, ShowsScreen, SizeAsked, SizeGiven, TellsStuck}
 use Rattle.ti_commands.specs.declared.failure.Failure.{Failure}
 use Rattle.ti_commands.specs.declared.failure.Failure.TheVariants.{Refused, RefusedUnwritten, Usage, File, Output, NoMemory}
 use Rattle.ti_commands.specs.declared.failure.Refusal.TheVariants as refusals
@@ -22,29 +22,35 @@ file_told rows cols path given (File told) h = (given, h)
 file_told rows cols path given Output h = absurd h
 file_told rows cols path given NoMemory h = tt
 
-pub screen_shown : (rows cols : List ℕ) (given : SizeGiven rows cols) (height width : ℕ) (bytes slice : List ℕ) (before after : State) (reply : Reply) → length bytes ≤ 16777216 → height ≡ given.asked.height → width ≡ given.asked.width → before ≡ reset height width → slice ≡ bytes → Runs before slice after → reply.notes.items ≡ [] → reply.text.items ≡ screen_text after.screen → reply.failure ≡ None → ShowsScreen rows cols reply
-screen_shown rows cols given height width bytes slice before after reply short h w b s runs notes text done = record {
-  given = given;
-  bytes = bytes;
-  short = short;
-  after = after;
-  runs = subst (λ (n : ℕ). Runs (reset n given.asked.width) bytes after) h
-      (subst (λ (n : ℕ). Runs (reset height n) bytes after) w
-      (subst (λ (t : State). Runs t bytes after) b
-      (subst (λ (l : List ℕ). Runs before l after) s runs)));
-  notes = notes;
-  text = text;
-  done = done;
-}
+stuck_at : (rows cols path : List ℕ) (given : SizeGiven rows cols) (bytes : List ℕ) (e : Failure) → length bytes ≤ 16777216 → TellsStuck given.asked.height given.asked.width bytes e → FailsToFeed rows cols path e
+stuck_at rows cols path given bytes (Refused (refusals.Stuck stuck)) short h = record { given = given; bytes = bytes; short = short; sticks = h }
+stuck_at rows cols path given bytes (Refused refusals.Size) short h = absurd h
+stuck_at rows cols path given bytes (Refused (refusals.Escape fault)) short h = absurd h
+stuck_at rows cols path given bytes (Refused (refusals.Parm fault)) short h = absurd h
+stuck_at rows cols path given bytes (Refused (refusals.Token fault)) short h = absurd h
+stuck_at rows cols path given bytes (Refused (refusals.Source fault)) short h = absurd h
+stuck_at rows cols path given bytes (Refused (refusals.Resolve fault)) short h = absurd h
+stuck_at rows cols path given bytes (Refused (refusals.Pack fault)) short h = absurd h
+stuck_at rows cols path given bytes (RefusedUnwritten refusal) short h = absurd h
+stuck_at rows cols path given bytes (Usage text) short h = absurd h
+stuck_at rows cols path given bytes (File told) short h = absurd h
+stuck_at rows cols path given bytes Output short h = absurd h
+stuck_at rows cols path given bytes NoMemory short h = tt
 
-pub stuck_told : (rows cols : List ℕ) (given : SizeGiven rows cols) (height width at : ℕ) (bytes slice : List ℕ) (before after : State) → length bytes ≤ 16777216 → height ≡ given.asked.height → width ≡ given.asked.width → before ≡ reset height width → slice ≡ bytes → Sticks before slice at after → SticksAt rows cols at
-stuck_told rows cols given height width at bytes slice before after short h w b s sticks = record {
+pub stuck_told : (rows cols path : List ℕ) (given : SizeGiven rows cols) (height width : ℕ) (bytes slice : List ℕ) (e : Failure) → length bytes ≤ 16777216 → height ≡ given.asked.height → width ≡ given.asked.width → slice ≡ bytes → TellsStuck height width slice e → FailsToFeed rows cols path e
+stuck_told rows cols path given height width bytes slice e short h w s told =
+    stuck_at rows cols path given bytes e short
+    (subst (λ (n : ℕ). TellsStuck n given.asked.width bytes e) h (subst (λ (n : ℕ). TellsStuck height n bytes e) w (subst (λ (l : List ℕ). TellsStuck height width l e) s told)))
+
+pub screen_shown : (rows cols : List ℕ) (given : SizeGiven rows cols) (height width : ℕ) (bytes slice text : List ℕ) (reply : Reply) → length bytes ≤ 16777216 → height ≡ given.asked.height → width ≡ given.asked.width → slice ≡ bytes → ShowsAfter height width slice text → reply.notes.items ≡ [] → reply.text.items ≡ text → reply.failure ≡ None → ShowsScreen rows cols reply
+screen_shown rows cols given height width bytes slice text reply short h w s shows notes t done = record {
   given = given;
   bytes = bytes;
   short = short;
-  after = after;
-  sticks = subst (λ (n : ℕ). Sticks (reset n given.asked.width) bytes at after) h
-      (subst (λ (n : ℕ). Sticks (reset height n) bytes at after) w
-      (subst (λ (t : State). Sticks t bytes at after) b
-      (subst (λ (l : List ℕ). Sticks before l at after) s sticks)));
+  shows = subst (λ (n : ℕ). ShowsAfter n given.asked.width bytes reply.text.items) h
+      (subst (λ (n : ℕ). ShowsAfter height n bytes reply.text.items) w
+      (subst (λ (l : List ℕ). ShowsAfter height width l reply.text.items) s
+      (subst (λ (l : List ℕ). ShowsAfter height width slice l) (sym t) shows)));
+  notes = notes;
+  done = done;
 }

@@ -24,15 +24,29 @@ pub record SizeGiven (rows cols : List ℕ) : Type 0 where
   pub asked : SizeAsked rows cols
   pub size : IsSize asked.height asked.width
 
--- the reply is the screen after the run of a file's bytes from the reset state
+-- the text is the screen after the run of these bytes from the reset state
+pub record ShowsAfter (rows cols : ℕ) (bytes text : List ℕ) : Type 0 where
+  pub after : State
+  pub runs : Runs (reset rows cols) bytes after
+  pub spelled : text ≡ screen_text after.screen
+
+-- the bytes stick at this place
+pub record SticksIn (rows cols : ℕ) (bytes : List ℕ) (at : ℕ) : Type 0 where
+  pub after : State
+  pub sticks : Sticks (reset rows cols) bytes at after
+
+abbrev pub TellsStuck : ℕ → ℕ → List ℕ → Failure → Type 0
+TellsStuck rows cols bytes (Refused (Stuck stuck)) = SticksIn rows cols bytes stuck.at
+TellsStuck rows cols bytes NoMemory = Unit {0}
+TellsStuck rows cols bytes _ = ⊥
+
+-- the reply is the screen after a file's bytes
 pub record ShowsScreen (rows cols : List ℕ) (reply : Reply) : Type 0 where
   pub given : SizeGiven rows cols
   pub bytes : List ℕ
   pub short : length bytes ≤ 16777216
-  pub after : State
-  pub runs : Runs (reset given.asked.height given.asked.width) bytes after
+  pub shows : ShowsAfter given.asked.height given.asked.width bytes reply.text.items
   pub notes : reply.notes.items ≡ []
-  pub text : reply.text.items ≡ screen_text after.screen
   pub done : reply.failure ≡ None
 
 -- a file's bytes stick at this place
@@ -40,8 +54,7 @@ pub record SticksAt (rows cols : List ℕ) (at : ℕ) : Type 0 where
   pub given : SizeGiven rows cols
   pub bytes : List ℕ
   pub short : length bytes ≤ 16777216
-  pub after : State
-  pub sticks : Sticks (reset given.asked.height given.asked.width) bytes at after
+  pub sticks : SticksIn given.asked.height given.asked.width bytes at
 
 abbrev pub RefusesFeeding : List ℕ → List ℕ → Refusal → Type 0
 RefusesFeeding rows cols Size = (asked : SizeAsked rows cols) × (IsSize asked.height asked.width → ⊥)

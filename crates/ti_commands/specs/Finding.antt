@@ -5,7 +5,6 @@ use Rattle.std.specs.List.{flat_map}
 use Rattle.std.specs.String.{string_bytes}
 use Rattle.ti_caps.specs.Entry.{Content}
 use Rattle.ti_compiled.specs.Contents.{fit_of, read_of}
-use Rattle.ti_compiled.specs.declared.types.PackFault.{PackFault}
 use Rattle.ti_resolve.specs.Resolved.{IsResolved}
 use Rattle.ti_resolve.specs.Walk.{walk_of}
 use Rattle.ti_resolve.specs.declared.faults.ResolveFault.TheVariants as resolve_faults
@@ -15,7 +14,7 @@ use Rattle.ti_source.specs.declared.types.Note.{Note}
 use Rattle.ti_source.specs.declared.types.NoteKind.{NoteKind}
 use Rattle.ti_source.specs.declared.types.NoteKind.TheVariants.{UnknownName, Duplicate, OddEscape}
 use Rattle.ti_source.specs.declared.types.RawEntry.{RawEntry}
-use Rattle.ti_source.specs.declared.types.SourceFault.{SourceFault}
+use Rattle.ti_commands.specs.Failing.{TellsFile}
 use Rattle.ti_commands.specs.declared.failure.Failure.{Failure}
 use Rattle.ti_commands.specs.declared.failure.Failure.TheVariants.{Refused, RefusedUnwritten, Usage, File, Output, NoMemory}
 use Rattle.ti_commands.specs.declared.failure.Refusal.{Refusal}
@@ -53,54 +52,51 @@ FitsTo packed (Ok entry) = fit_of packed ≡ Ok entry
 FitsTo packed (Err (Pack fault)) = fit_of packed ≡ Err fault
 FitsTo packed (Err _) = ⊥
 
--- the entry of this name in a source
-pub record IsOfSource (name notes : List ℕ) (entry : Result Content Refusal) : Type 0 where
-  pub bytes : List ℕ
-  pub short : length bytes ≤ 16777216
+-- the entry of this name in a source text, and the notes of the whole text
+pub record IsOfSource (bytes name notes : List ℕ) (entry : Result Content Refusal) : Type 0 where
   pub raws : List RawEntry
   pub reads : source_of bytes ≡ Ok raws
   pub tells : notes ≡ notes_text raws
   pub gives : ResolvesTo raws name entry
 
 -- the entry of a compiled file
-pub record IsOfFile (notes : List ℕ) (entry : Result Content Refusal) : Type 0 where
-  pub bytes : List ℕ
-  pub short : length bytes ≤ 131072
+pub record IsOfFile (bytes notes : List ℕ) (entry : Result Content Refusal) : Type 0 where
   pub packed : Content
   pub reads : read_of bytes ≡ Ok packed
   pub tells : notes ≡ []
   pub gives : FitsTo packed entry
 
--- what the word gives: its notes, and the entry or its refusal
+-- a file's bytes, of at most so many, of which this holds
+pub record HasBytes (limit : ℕ) (P : List ℕ → Type 0) : Type 0 where
+  pub bytes : List ℕ
+  pub short : length bytes ≤ limit
+  pub holds : P bytes
+
+-- the word's notes, and its entry or the entry's refusal
 abbrev pub Finds : List ℕ → List ℕ → Result Content Refusal → Type 0
-Finds word notes entry = ((path : List ℕ) × (name : List ℕ) × IsPathAndName word path name × IsOfSource name notes entry) ⊎ (IsPath word × IsOfFile notes entry)
+Finds word notes entry =
+    ((path : List ℕ) × (name : List ℕ) × IsPathAndName word path name × HasBytes 16777216 (λ bytes. IsOfSource bytes name notes entry))
+    ⊎ (IsPath word × HasBytes 131072 (λ bytes. IsOfFile bytes notes entry))
 
--- a source text has this fault
-pub record IsBadSource (fault : SourceFault) : Type 0 where
-  pub bytes : List ℕ
-  pub short : length bytes ≤ 16777216
-  pub told : FailsBy fault.kind fault (source_of bytes)
-  pub known : fault.kind ≢ fault_kinds.NoMemory
+-- the source text has a fault
+abbrev pub TellsSource : List ℕ → Failure → Type 0
+TellsSource bytes (Refused (Source fault)) = FailsBy fault.kind fault (source_of bytes) × (fault.kind ≢ fault_kinds.NoMemory)
+TellsSource bytes NoMemory = Unit {0}
+TellsSource bytes _ = ⊥
 
--- a compiled file has this fault
-pub record IsBadFile (fault : PackFault) : Type 0 where
-  pub bytes : List ℕ
-  pub short : length bytes ≤ 131072
-  pub told : read_of bytes ≡ Err fault
+-- the compiled file has a fault
+abbrev pub TellsPacked : List ℕ → Failure → Type 0
+TellsPacked bytes (Refused (Pack fault)) = read_of bytes ≡ Err fault
+TellsPacked bytes NoMemory = Unit {0}
+TellsPacked bytes _ = ⊥
 
+-- the file at a path can't be had, or can't be read
 abbrev pub FailsInSource : List ℕ → Failure → Type 0
-FailsInSource path (File told) = string_bytes told ≡ path
-FailsInSource path (Refused (Source fault)) = IsBadSource fault
-FailsInSource path NoMemory = Unit {0}
-FailsInSource path _ = ⊥
+FailsInSource path failure = TellsFile path failure ⊎ HasBytes 16777216 (λ bytes. TellsSource bytes failure)
 
 abbrev pub FailsInFile : List ℕ → Failure → Type 0
-FailsInFile path (File told) = string_bytes told ≡ path
-FailsInFile path (Refused (Pack fault)) = IsBadFile fault
-FailsInFile path NoMemory = Unit {0}
-FailsInFile path _ = ⊥
+FailsInFile path failure = TellsFile path failure ⊎ HasBytes 131072 (λ bytes. TellsPacked bytes failure)
 
--- the file of the word can't be had, or can't be read
 abbrev pub FailsToFind : List ℕ → Failure → Type 0
 FailsToFind word failure = ((path : List ℕ) × (name : List ℕ) × IsPathAndName word path name × FailsInSource path failure) ⊎ (IsPath word × FailsInFile word failure)
 

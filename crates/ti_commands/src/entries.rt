@@ -3,7 +3,7 @@
 ghost use Rattle.std.specs.Prelude.{◌≡◌, ◌++◌, IfErr, IfOk, OnOk};
 ghost use Rattle.std.specs.List.{AllByRecursion, flat_map};
 ghost use Rattle.ti_source.specs.Raw.{IsRaw};
-ghost use Rattle.ti_commands.specs.Finding.{FailsInFile, FailsInSource, FailsToFind, Finds, FitsTo, IsOfFile, IsOfSource, ResolvesTo, note_line, note_name, notes_text};
+ghost use Rattle.ti_commands.specs.Finding.{FailsInFile, FailsInSource, FailsToFind, Finds, FitsTo, HasBytes, IsOfFile, IsOfSource, ResolvesTo, TellsPacked, TellsSource, note_line, note_name, notes_text};
 
 use crate::failure::{Failure, Refusal};
 use crate::files::Files;
@@ -46,11 +46,20 @@ fn find_in_source<F: Files>(
     path: &str,
     name: &str,
 ) -> Result<Found, Failure>
-    ensures found { IfOk result (λ found. IsOfSource name.now found.notes.items found.entry) }
+    ensures found { IfOk result (λ found. HasBytes 16777216 (λ bytes. IsOfSource bytes name.now found.notes.items found.entry)) }
     ensures failure { IfErr result (λ e. FailsInSource path.now e) }
 {
     let text = read_whole(alloc, files, path, SOURCE_LIMIT)?;
-    match read(alloc, text.as_slice()) {
+    let found = find_in_text(alloc, text.as_slice(), name)?;
+    Ok(found)
+}
+
+/// The entry of this name in a source text.
+fn find_in_text(alloc: Global, text: &[u8], name: &str) -> Result<Found, Failure>
+    ensures found { IfOk result (λ found. IsOfSource text.now name.now found.notes.items found.entry) }
+    ensures failure { IfErr result (λ e. TellsSource text.now e) }
+{
+    match read(alloc, text) {
         Ok(raws) => {
             let notes = note_lines(alloc, raws.as_slice())?;
             let entry = resolved(alloc, raws.as_slice(), name)?;
@@ -120,11 +129,20 @@ fn note_name(kind: NoteKind) -> &'static str
 }
 
 fn unpack<F: Files>(alloc: Global, files: &mut F, path: &str) -> Result<Found, Failure>
-    ensures found { IfOk result (λ found. IsOfFile found.notes.items found.entry) }
+    ensures found { IfOk result (λ found. HasBytes 131072 (λ bytes. IsOfFile bytes found.notes.items found.entry)) }
     ensures failure { IfErr result (λ e. FailsInFile path.now e) }
 {
     let file = read_whole(alloc, files, path, COMPILED_LIMIT)?;
-    match decode(file.as_slice()) {
+    let found = unpack_file(alloc, file.as_slice())?;
+    Ok(found)
+}
+
+/// The entry of a compiled file.
+fn unpack_file(alloc: Global, file: &[u8]) -> Result<Found, Failure>
+    ensures found { IfOk result (λ found. IsOfFile file.now found.notes.items found.entry) }
+    ensures failure { IfErr result (λ e. TellsPacked file.now e) }
+{
+    match decode(file) {
         Ok(packed) => Ok(Found {
             notes: Vec::new(alloc),
             entry: unpacked(alloc, &packed)?,

@@ -1,14 +1,14 @@
 //! The command `feed`.
 
 ghost use Rattle.std.specs.Prelude.{IfErr, IfOk};
-ghost use Rattle.ti_commands.specs.Feeding.{FailsToFeed, ShowsScreen};
+ghost use Rattle.ti_commands.specs.Feeding.{FailsToFeed, ShowsAfter, ShowsScreen, TellsStuck};
 
 use crate::failure::{Failure, Refusal, Reply};
 use crate::files::Files;
 use crate::reading::read_whole;
 use crate::sizes::{number_word, size_of};
 use std::alloc::Global;
-use vt_term::Terminal;
+use vt_term::{Size, Terminal};
 
 /// The most bytes of a file that is fed.
 const LIMIT: u32 = 16_777_216;
@@ -29,9 +29,18 @@ pub fn feed_file<F: Files>(
     let cols = number_word(alloc, "COLS", cols)?;
     let size = size_of(rows, cols)?;
     let bytes = read_whole(alloc, files, path, LIMIT)?;
+    let text = screen_after(alloc, size, bytes.as_slice())?;
+    Ok(Reply::of_text(alloc, text))
+}
+
+/// The screen of a terminal after these bytes.
+fn screen_after(alloc: Global, size: Size, bytes: &[u8]) -> Result<Vec<u8>, Failure>
+    ensures text { IfOk result (λ text. ShowsAfter size.rows size.cols bytes.now text.items) }
+    ensures failure { IfErr result (λ e. TellsStuck size.rows size.cols bytes.now e) }
+{
     let mut terminal = Terminal::new(alloc, size)?;
-    match terminal.feed(bytes.as_slice()) {
-        Ok(()) => Ok(Reply::of_text(alloc, terminal.print_screen(alloc)?)),
+    match terminal.feed(bytes) {
+        Ok(()) => Ok(terminal.print_screen(alloc)?),
         Err(stuck) => Err(Failure::Refused(Refusal::Stuck(stuck))),
     }
 }

@@ -17,16 +17,17 @@ returns-in_err-bytes-clause-failure g c =
     let p = err_from_is_err_and c.from_residual-in_err-bytes.result c.from_residual-in_err-bytes.ensures.1 in
     rw (p.1, p.2) (file_told c.args.rows.now c.args.cols.now c.args.path.now given c.in_err-bytes.field-0.0 c.in_err-bytes.ensures.failure)
 
-pub returns-in-Ok-clause-reply : goal.returns-in-Ok-clause-reply
-returns-in-Ok-clause-reply g c =
+pub returns-in_err-text-clause-failure : goal.returns-in_err-text-clause-failure
+returns-in_err-text-clause-failure g c =
     let asked : SizeAsked c.args.rows.now c.args.cols.now = record { height = c.in_ok-rows.rows; width = c.in_ok-cols.cols; gives_height = c.in_ok-rows.ensures.number; gives_width = c.in_ok-cols.ensures.number } in
     let given : SizeGiven c.args.rows.now c.args.cols.now = record { asked = asked; size = c.in_ok-size.ensures.within.0 refl } in
-    screen_shown c.args.rows.now c.args.cols.now given c.in_ok-size.size.rows c.in_ok-size.size.cols c.in_ok-bytes.bytes.items c.as_slice.result.now c.in_ok-terminal.terminal c.feed.new.self c.of_text.result
-    (omega (arith, c.in_ok-bytes.ensures.short)) c.in_ok-size.ensures.size.0 c.in_ok-size.ensures.size.1 c.in_ok-terminal.ensures c.as_slice.ensures.value c.in-Ok.ensures.ok c.of_text.ensures.notes (ap (λ v. v.items) c.of_text.ensures.text ∙ c.in_ok-print_screen-in-Ok.ensures) c.of_text.ensures.failure
+    let p = err_from_is_err_and c.from_residual-in_err-text.result c.from_residual-in_err-text.ensures.1 in
+    rw (p.1, p.2) (stuck_told c.args.rows.now c.args.cols.now c.args.path.now given c.in_ok-size.size.rows c.in_ok-size.size.cols c.in_ok-bytes.bytes.items c.as_slice.result.now c.in_err-text.field-0.0
+    (omega (arith, c.in_ok-bytes.ensures.short)) c.in_ok-size.ensures.size.0 c.in_ok-size.ensures.size.1 c.as_slice.ensures.value c.in_err-text.ensures.failure)
 
-pub returns-clause-failure : goal.returns-clause-failure
-returns-clause-failure g c =
+pub returns-clause-reply : goal.returns-clause-reply
+returns-clause-reply g c =
     let asked : SizeAsked c.args.rows.now c.args.cols.now = record { height = c.in_ok-rows.rows; width = c.in_ok-cols.cols; gives_height = c.in_ok-rows.ensures.number; gives_width = c.in_ok-cols.ensures.number } in
     let given : SizeGiven c.args.rows.now c.args.cols.now = record { asked = asked; size = c.in_ok-size.ensures.within.0 refl } in
-    stuck_told c.args.rows.now c.args.cols.now given c.in_ok-size.size.rows c.in_ok-size.size.cols c.in-Err.stuck.at c.in_ok-bytes.bytes.items c.as_slice.result.now c.in_ok-terminal.terminal c.feed.new.self
-    (omega (arith, c.in_ok-bytes.ensures.short)) c.in_ok-size.ensures.size.0 c.in_ok-size.ensures.size.1 c.in_ok-terminal.ensures c.as_slice.ensures.value c.in-Err.ensures.stuck
+    screen_shown c.args.rows.now c.args.cols.now given c.in_ok-size.size.rows c.in_ok-size.size.cols c.in_ok-bytes.bytes.items c.as_slice.result.now c.in_ok-text.text.items c.of_text.result
+    (omega (arith, c.in_ok-bytes.ensures.short)) c.in_ok-size.ensures.size.0 c.in_ok-size.ensures.size.1 c.as_slice.ensures.value c.in_ok-text.ensures.text c.of_text.ensures.notes (ap (λ v. v.items) c.of_text.ensures.text) c.of_text.ensures.failure
