@@ -1,7 +1,6 @@
 -- A word that is split at its last colon.
-use Rattle.std.proofs.Common.{◌≡◌, ◌<◌, ◌∷◌, ◌++◌, ℕ, List, Result, Ok, Err, IfErr, IfOk, None, inl, inr, take, drop, sym, ap, ◌∙◌, subst, length, get_or, lit<}
+use Rattle.std.proofs.Common.{◌∷◌, ◌++◌, ℕ, List, Result, Ok, Err, IfErr, IfOk, None, inl, inr, take, drop, sym, ap, ◌∙◌, subst, lit<}
 use Rattle.std.proofs.lemmas.List.{take-append-drop}
-use Rattle.std.proofs.lemmas.Result.{IfOk-weaker}
 use Rattle.std.proofs.lemmas.Str.Pattern.{NoCharPasses-char, drop_at_char}
 use Rattle.std.specs.Str.Pattern.{RFindsChar, SplitsAroundMatch}
 use Rattle.ti_commands.specs.Finding.{FailsInFile, FailsInSource, FailsToFind, Finds, HasBytes, IsOfFile, IsOfSource, IsPath, IsPathAndName}

@@ -1,5 +1,5 @@
 -- What is shown of a string, and why it isn't.
-use Rattle.std.proofs.Common.{◌≡◌, ◌≢◌, ◌<◌, ◌↔◌, refl, List, [], ℕ, Result, Ok, Err, IfErr, IfOk, OnOk, IsOk, Bool, true, false, subst, sym, ap, ◌∙◌, codes}
+use Rattle.std.proofs.Common.{◌≡◌, ◌≢◌, ◌<◌, List, [], ℕ, Result, Ok, Err, IfErr, IfOk, OnOk, true, false, subst, sym, ap, ◌∙◌, codes}
 use Rattle.ti_parm.specs.Meaning.{sent}
 use Rattle.ti_parm.specs.Value.{Value, values_of}
 use Rattle.ti_parm.specs.declared.param.Param.{Param}
@@ -15,7 +15,6 @@ use Rattle.vt_term.specs.Screen.{State, reset}
 use Rattle.vt_term.specs.Size.{IsSize}
 use Rattle.vt_term.specs.declared.stream.Stuck.{Stuck}
 use Rattle.ti_commands.specs.Expanding.{Asked, FailsToExpand, IsExpanded, JudgesCup, Shows, ShowsCursor, TellsParm, cursor_line, escape_failure, no_line, serves, misses}
-use Rattle.ti_commands.specs.Failing.{IsUsage}
 use Rattle.ti_commands.specs.declared.expansion.Expansion.{Expansion}
 use Rattle.ti_commands.specs.declared.failure.Failure.{Failure}
 use Rattle.ti_commands.specs.declared.failure.Failure.TheVariants.{Refused, RefusedUnwritten, Usage, File, Output, NoMemory}

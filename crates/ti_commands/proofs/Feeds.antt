@@ -1,8 +1,5 @@
 -- How `feed` ends.
-use Rattle.std.proofs.Common.{◌≡◌, ◌≤◌, [], ℕ, List, Bool, true, false, None, subst, sym, ap, ◌∙◌, length}
-use Rattle.vt_term.specs.Printed.{screen_text}
-use Rattle.vt_term.specs.Run.{Runs, Sticks}
-use Rattle.vt_term.specs.Screen.{State, reset}
+use Rattle.std.proofs.Common.{◌≡◌, ◌≤◌, [], ℕ, List, true, false, None, subst, sym, length}
 use Rattle.vt_term.specs.Size.{IsSize}
 use Rattle.ti_commands.specs.Failing.{TellsFile}
 use Rattle.ti_commands.specs.Feeding.{FailsToFeed, ShowsAfter, ShowsScreen, SizeAsked, SizeGiven, TellsStuck}

@@ -1,6 +1,5 @@
 pub mod Params
 pub mod Listings
-pub mod Failures
 pub mod Expansions
 pub mod Colons
 pub mod Feeds

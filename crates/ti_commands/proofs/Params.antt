@@ -1,6 +1,6 @@
 -- Parameters, word by word.
-use Rattle.std.proofs.Common.{◌≡◌, ◌<◌, ◌+◌, ℕ, zero, suc, List, [], ◌∷◌, ◌++◌, length, get_or, take, map, subst, sym, ap, ◌∙◌, arith}
-use Rattle.std.proofs.lemmas.List.{take_more, map-append}
+use Rattle.std.proofs.Common.{◌≡◌, ◌<◌, ◌+◌, ℕ, suc, List, [], ◌∷◌, ◌++◌, length, get_or, take, drop, drop-cons, subst, sym, ap, ◌∙◌}
+use Rattle.std.proofs.lemmas.List.{map-append, take-append-drop, take_more}
 use Rattle.ti_parm.specs.Value.{Value, value_of, values_of}
 use Rattle.ti_parm.specs.declared.param.Param.{Param}
 use Rattle.ti_commands.specs.Words.{GivesParam, GiveParams, texts_of}
@@ -12,12 +12,12 @@ give_more [] (v ∷ values) word value g h = absurd g
 give_more (w ∷ words) [] word value g h = absurd g
 give_more (w ∷ words) (v ∷ values) word value g h = (g.0, give_more words values word value g.1 h)
 
--- a word that gives nothing
-pub none_given : (words : List (Bor (List ℕ))) (i : ℕ) (d : Bor (List ℕ)) → i < length words → ((value : Value) → GivesParam (get_or words i d).now value → ⊥) → (values : List Value) → GiveParams (texts_of words) values → ⊥
-none_given [] i d lt none values g = absurd (omega (arith, lt))
-none_given (w ∷ words) i d lt none [] g = g
-none_given (w ∷ words) zero d lt none (v ∷ values) g = none v g.0
-none_given (w ∷ words) (suc i) d lt none (v ∷ values) g = none_given words i d (omega (arith, lt)) none values g.1
+-- the words before one, it, and those behind it
+pub texts_around : (words : List (Bor (List ℕ))) (i : ℕ) (d : Bor (List ℕ)) → i < length words → texts_of words ≡ texts_of (take i words) ++ (get_or words i d).now ∷ texts_of (drop (suc i) words)
+texts_around words i d lt =
+    ap texts_of (sym (take-append-drop i words))
+    ∙ map-append (λ (w : Bor (List ℕ)). w.now) (take i words) (drop i words)
+    ∙ ap (λ (l : List (Bor (List ℕ))). texts_of (take i words) ++ texts_of l) (drop-cons words i d lt)
 
 -- one more word that gives a value
 pub params_more : (words : List (Bor (List ℕ))) (i : ℕ) (d : Bor (List ℕ)) (before after : List Param) (param : Param) → i < length words → GiveParams (texts_of (take i words)) (values_of before) → after ≡ before ++ param ∷ [] → GivesParam (get_or words i d).now (value_of param) → GiveParams (texts_of (take (i + 1) words)) (values_of after)

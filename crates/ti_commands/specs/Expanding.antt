@@ -4,8 +4,6 @@ use Rattle.std.specs.Fmt.{decimal}
 use Rattle.hex.specs.Hex.{encode_lower}
 use Rattle.ti_parm.specs.Meaning.{sent}
 use Rattle.ti_parm.specs.Value.{Value}
-use Rattle.ti_parm.specs.declared.fault.ParmFault.{ParmFault}
-use Rattle.ti_parm.specs.declared.fault.ParmFault.TheVariants as parm_faults
 use Rattle.ti_source.specs.Escapes.{unescaped}
 use Rattle.ti_source.specs.declared.escapes.EscapeFault.{EscapeFault}
 use Rattle.ti_source.specs.declared.escapes.EscapeFault.TheVariants as escape_faults
@@ -18,12 +16,13 @@ use Rattle.vt_term.specs.Screen.{State, reset}
 use Rattle.vt_term.specs.Size.{IsSize}
 use Rattle.vt_term.specs.declared.text.TokenFault.{TokenFault}
 use Rattle.vt_term.specs.declared.text.TokenFaultKind.TheVariants as token_faults
-use Rattle.ti_commands.specs.Words.{GivesNumber, GiveParams, texts_of}
+use Rattle.ti_commands.specs.Failing.{WrongParam, WrongSize}
+use Rattle.ti_commands.specs.Words.{GivesNumber, GiveParams, IsNumberWord, texts_of}
 use Rattle.ti_commands.specs.declared.expansion.Expansion.{Expansion}
 use Rattle.ti_commands.specs.declared.failure.Failure.{Failure}
-use Rattle.ti_commands.specs.declared.failure.Failure.TheVariants.{Refused, RefusedUnwritten, Usage, File, Output, NoMemory}
+use Rattle.ti_commands.specs.declared.failure.Failure.TheVariants.{Refused, Usage, NoMemory}
 use Rattle.ti_commands.specs.declared.failure.Refusal.{Refusal}
-use Rattle.ti_commands.specs.declared.failure.Refusal.TheVariants.{Size, Escape, Parm, Token, Stuck, Source, Resolve, Pack}
+use Rattle.ti_commands.specs.declared.failure.Refusal.TheVariants.{Size, Escape, Parm, Token}
 use Rattle.ti_commands.specs.declared.failure.Reply.{Reply}
 
 -- the words of the line can be read: they give numbers for the size, and values for the parameters
@@ -106,6 +105,10 @@ TellsParm string values (Refused (Parm fault)) = sent string values ≡ Err faul
 TellsParm string values NoMemory = Unit {0}
 TellsParm string values _ = ⊥
 
+-- a word is wrong: first the rows, then the columns, then the parameters
+abbrev pub WrongWords : Expansion → Failure → Type 0
+WrongWords words failure = WrongSize words.rows.now words.cols.now failure ⊎ (IsNumberWord words.rows.now × IsNumberWord words.cols.now × WrongParam (texts_of words.params.now) failure)
+
 -- what is refused, in this order
 abbrev pub RefusesExpansion : Expansion → Refusal → Type 0
 RefusesExpansion words Size = (asked : Asked words) × (IsSize asked.rows asked.cols → ⊥)
@@ -114,7 +117,7 @@ RefusesExpansion words (Parm fault) = (asked : Asked words) × IsSize asked.rows
 RefusesExpansion words _ = ⊥
 
 abbrev pub FailsToExpand : Expansion → Failure → Type 0
-FailsToExpand words (Usage told) = Asked words → ⊥
+FailsToExpand words (Usage told) = WrongWords words (Usage told)
 FailsToExpand words (Refused refusal) = RefusesExpansion words refusal
 FailsToExpand words NoMemory = Unit {0}
 FailsToExpand words _ = ⊥

@@ -1,8 +1,10 @@
--- How a command fails. Want of memory can come at any time and says nothing.
-use Rattle.std.specs.Prelude.{◌≡◌, ℕ, List, Option, Some, None}
+-- What is told of a word that is wrong, and of a file. Want of memory can come at any time and says nothing.
+use Rattle.std.specs.Prelude.{◌≡◌, ◌⊎◌, ℕ, List, ◌∷◌, ◌++◌, codes}
 use Rattle.std.specs.String.{string_bytes}
+use Rattle.ti_parm.specs.Value.{Value}
+use Rattle.ti_commands.specs.Words.{GiveParams, GivesParam, IsNumberWord}
 use Rattle.ti_commands.specs.declared.failure.Failure.{Failure}
-use Rattle.ti_commands.specs.declared.failure.Failure.TheVariants.{Refused, RefusedUnwritten, Usage, File, Output, NoMemory}
+use Rattle.ti_commands.specs.declared.failure.Failure.TheVariants.{Usage, File, NoMemory}
 
 -- the line is wrong, and this text says why
 abbrev pub TellsUsage : List ℕ → Failure → Type 0
@@ -10,14 +12,36 @@ TellsUsage text (Usage told) = string_bytes told ≡ text
 TellsUsage text NoMemory = Unit {0}
 TellsUsage text _ = ⊥
 
--- the line is wrong, as this fact says
-abbrev pub IsUsage : Type 0 → Failure → Type 0
-IsUsage wrong (Usage told) = wrong
-IsUsage wrong NoMemory = Unit {0}
-IsUsage wrong _ = ⊥
-
 -- the file at this path can't be had
 abbrev pub TellsFile : List ℕ → Failure → Type 0
 TellsFile path (File told) = string_bytes told ≡ path
 TellsFile path NoMemory = Unit {0}
 TellsFile path _ = ⊥
+
+-- what a word is told that stands where a number belongs, or a parameter
+abbrev pub number_usage : List ℕ → List ℕ → List ℕ
+number_usage name word =
+    codes "error: invalid value '" ++ (word ++ (codes "' for " ++ (name ++ codes ": a decimal number up to 2147483647 is wanted\n\nFor more information, try '--help'.\n")))
+
+abbrev pub param_usage : List ℕ → List ℕ
+param_usage word =
+    codes "error: invalid value '" ++ (word ++ codes "' for PARAM: a decimal number up to 2147483647, or s: and a text, is wanted\n\nFor more information, try '--help'.\n")
+
+-- the word of this name is no number
+abbrev pub WrongNumber : List ℕ → List ℕ → Failure → Type 0
+WrongNumber name word failure = (IsNumberWord word → ⊥) × TellsUsage (number_usage name word) failure
+
+-- a word of the size is none: the rows come first
+abbrev pub WrongSize : List ℕ → List ℕ → Failure → Type 0
+WrongSize rows cols failure = WrongNumber (codes "ROWS") rows failure ⊎ (IsNumberWord rows × WrongNumber (codes "COLS") cols failure)
+
+-- the first word that gives no parameter
+pub record WrongParam (words : List (List ℕ)) (failure : Failure) : Type 0 where
+  pub front : List (List ℕ)
+  pub word : List ℕ
+  pub behind : List (List ℕ)
+  pub spelled : words ≡ front ++ word ∷ behind
+  pub values : List Value
+  pub before : GiveParams front values
+  pub nothing : (value : Value) → GivesParam word value → ⊥
+  pub told : TellsUsage (param_usage word) failure

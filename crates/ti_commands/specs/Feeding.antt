@@ -1,13 +1,14 @@
 -- What `feed` answers. What a path holds is not known here: there are bytes of which the reply tells.
-use Rattle.std.specs.Prelude.{◌≡◌, ◌≤◌, ℕ, List, [], Option, None, length}
+use Rattle.std.specs.Prelude.{◌≡◌, ◌≤◌, ℕ, List, [], None, length}
 use Rattle.std.specs.String.{string_bytes}
 use Rattle.vt_term.specs.Printed.{screen_text}
 use Rattle.vt_term.specs.Run.{Runs, Sticks}
 use Rattle.vt_term.specs.Screen.{State, reset}
 use Rattle.vt_term.specs.Size.{IsSize}
+use Rattle.ti_commands.specs.Failing.{WrongSize}
 use Rattle.ti_commands.specs.Words.{GivesNumber}
 use Rattle.ti_commands.specs.declared.failure.Failure.{Failure}
-use Rattle.ti_commands.specs.declared.failure.Failure.TheVariants.{Refused, RefusedUnwritten, Usage, File, Output, NoMemory}
+use Rattle.ti_commands.specs.declared.failure.Failure.TheVariants.{Refused, Usage, File, NoMemory}
 use Rattle.ti_commands.specs.declared.failure.Refusal.{Refusal}
 use Rattle.ti_commands.specs.declared.failure.Refusal.TheVariants.{Size, Stuck}
 use Rattle.ti_commands.specs.declared.failure.Reply.{Reply}
@@ -63,7 +64,7 @@ RefusesFeeding rows cols _ = ⊥
 
 -- the words come first, then the size, then the file, then its bytes
 abbrev pub FailsToFeed : List ℕ → List ℕ → List ℕ → Failure → Type 0
-FailsToFeed rows cols path (Usage told) = SizeAsked rows cols → ⊥
+FailsToFeed rows cols path (Usage told) = WrongSize rows cols (Usage told)
 FailsToFeed rows cols path (Refused refusal) = RefusesFeeding rows cols refusal
 FailsToFeed rows cols path (File told) = SizeGiven rows cols × (string_bytes told ≡ path)
 FailsToFeed rows cols path NoMemory = Unit {0}

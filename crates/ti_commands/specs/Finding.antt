@@ -1,8 +1,7 @@
 -- What an ENTRY word gives. What a path holds is not known here: there are bytes of which the answer tells.
-use Rattle.std.specs.Prelude.{◌≡◌, ◌≢◌, ◌<◌, ◌≤◌, ◌⊎◌, ℕ, List, [], ◌∷◌, ◌++◌, Option, Some, None, Result, Ok, Err, codes, length, slice_index}
+use Rattle.std.specs.Prelude.{◌≡◌, ◌≢◌, ◌<◌, ◌≤◌, ◌⊎◌, ℕ, List, [], ◌∷◌, ◌++◌, Result, Ok, Err, codes, length, slice_index}
 use Rattle.std.specs.Fmt.{decimal}
 use Rattle.std.specs.List.{flat_map}
-use Rattle.std.specs.String.{string_bytes}
 use Rattle.ti_caps.specs.Entry.{Content}
 use Rattle.ti_compiled.specs.Contents.{fit_of, read_of}
 use Rattle.ti_resolve.specs.Resolved.{IsResolved}
@@ -16,7 +15,7 @@ use Rattle.ti_source.specs.declared.types.NoteKind.TheVariants.{UnknownName, Dup
 use Rattle.ti_source.specs.declared.types.RawEntry.{RawEntry}
 use Rattle.ti_commands.specs.Failing.{TellsFile}
 use Rattle.ti_commands.specs.declared.failure.Failure.{Failure}
-use Rattle.ti_commands.specs.declared.failure.Failure.TheVariants.{Refused, RefusedUnwritten, Usage, File, Output, NoMemory}
+use Rattle.ti_commands.specs.declared.failure.Failure.TheVariants.{Refused, NoMemory}
 use Rattle.ti_commands.specs.declared.failure.Refusal.{Refusal}
 use Rattle.ti_commands.specs.declared.failure.Refusal.TheVariants.{Source, Resolve, Pack}
 

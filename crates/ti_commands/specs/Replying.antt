@@ -1,15 +1,14 @@
 -- What the commands that take entries reply.
-use Rattle.std.specs.Prelude.{◌≡◌, ◌⊎◌, ℕ, List, [], Option, Some, None, Ok, Err}
+use Rattle.std.specs.Prelude.{◌≡◌, ℕ, List, [], Option, Some, None, Ok, Err}
 use Rattle.std.specs.String.{string_bytes}
 use Rattle.ti_caps.specs.Entry.{Content}
 use Rattle.ti_compiled.specs.Written.{packing_of}
-use Rattle.ti_compiled.specs.declared.types.PackFault.{PackFault}
 use Rattle.ti_source.specs.Printing.{text_of}
 use Rattle.ti_commands.specs.Finding.{Finds, LacksEntry}
 use Rattle.ti_commands.specs.Listing.{comparison_text}
 use Rattle.ti_commands.specs.declared.describing.Comparison.{Comparison}
 use Rattle.ti_commands.specs.declared.failure.Failure.{Failure}
-use Rattle.ti_commands.specs.declared.failure.Failure.TheVariants.{Refused, RefusedUnwritten, Usage, File, Output, NoMemory}
+use Rattle.ti_commands.specs.declared.failure.Failure.TheVariants.{Refused, File, NoMemory}
 use Rattle.ti_commands.specs.declared.failure.Refusal.{Refusal}
 use Rattle.ti_commands.specs.declared.failure.Refusal.TheVariants.{Pack}
 use Rattle.ti_commands.specs.declared.failure.Reply.{Reply}

@@ -1,12 +1,12 @@
 //! The command `expand`.
 
-ghost use Rattle.std.specs.Prelude.{◌≡◌, List, IfErr, IfNone, IfOk, IfSome};
+ghost use Rattle.std.specs.Prelude.{◌≡◌, ◌⊎◌, IfErr, IfNone, IfOk, IfSome};
 ghost use Rattle.std.specs.String.{string_bytes};
 ghost use Rattle.ti_parm.specs.Meaning.{sent};
 ghost use Rattle.ti_reach.specs.Reach.{IsWhole};
 ghost use Rattle.ti_parm.specs.Value.{Value, value_of, values_of};
 ghost use Rattle.ti_commands.specs.Expanding.{FailsToExpand, IsExpanded, JudgesCup, Shows, ShowsAll, ShowsCursor, TellsParm, cursor_line, escape_failure, hex_line, no_line};
-ghost use Rattle.ti_commands.specs.Failing.{IsUsage};
+ghost use Rattle.ti_commands.specs.Failing.{TellsUsage, WrongParam, param_usage};
 ghost use Rattle.ti_commands.specs.Words.{GiveParams, GivesParam, texts_of};
 
 use crate::decimal::decimal_number;
@@ -178,7 +178,7 @@ fn escape_failure(fault: EscapeFault) -> Failure
 /// The parameters that the words give.
 fn read_params<'a>(alloc: Global, words: &[&'a str]) -> Result<Params<'a>, Failure>
     ensures params { IfOk result (λ params. GiveParams (texts_of words.now) (values_of params.items)) }
-    ensures failure { IfErr result (λ e. IsUsage ((values : List Value) → GiveParams (texts_of words.now) values → ⊥) e) }
+    ensures failure { IfErr result (λ e. WrongParam (texts_of words.now) e ⊎ (e ≡ Failure.NoMemory)) }
 {
     let mut params = SmallVec::new(alloc);
     for word in words {
@@ -206,7 +206,7 @@ fn parameter<'a>(word: &'a str) -> Option<Param<'a>>
 
 /// A word that is no parameter.
 fn not_a_parameter(alloc: Global, word: &str) -> Failure
-    ensures { IsUsage (Unit {0}) result }
+    ensures { TellsUsage (param_usage word.now) result }
 {
     let text = format!(in alloc;
         "error: invalid value '{word}' for PARAM: a decimal number up to 2147483647, or s: and a text, is wanted\n\n\

@@ -2,8 +2,8 @@
 
 ghost use Rattle.std.specs.Prelude.{◌≡◌, ◌↔◌, IfErr, IfOk, IsOk};
 ghost use Rattle.vt_term.specs.Size.{IsSize};
-ghost use Rattle.ti_commands.specs.Failing.{IsUsage};
-ghost use Rattle.ti_commands.specs.Words.{GivesNumber, IsNumberWord};
+ghost use Rattle.ti_commands.specs.Failing.{TellsUsage, WrongNumber, number_usage};
+ghost use Rattle.ti_commands.specs.Words.{GivesNumber};
 
 use crate::decimal::decimal_number;
 use crate::failure::{Failure, Refusal};
@@ -13,7 +13,7 @@ use vt_term::Size;
 /// The number that a word gives, or why it is none; `name` is what the word stands for.
 pub fn number_word(alloc: Global, name: &str, word: &str) -> Result<u32, Failure>
     ensures number { IfOk result (λ n. GivesNumber word.now n) }
-    ensures failure { IfErr result (λ e. IsUsage (IsNumberWord word.now → ⊥) e) }
+    ensures failure { IfErr result (λ e. WrongNumber name.now word.now e) }
 {
     match decimal_number(word) {
         Some(number) => Ok(number),
@@ -32,7 +32,7 @@ pub fn size_of(rows: u32, cols: u32) -> Result<Size, Failure>
 
 /// A word that stands where a number belongs.
 fn not_a_number(alloc: Global, name: &str, word: &str) -> Failure
-    ensures { IsUsage (Unit {0}) result }
+    ensures { TellsUsage (number_usage name.now word.now) result }
 {
     let text = format!(in alloc;
         "error: invalid value '{word}' for {name}: a decimal number up to 2147483647 is wanted\n\n\

@@ -1,4 +1,4 @@
-use Rattle.std.proofs.Common.{◌≡◌, ◌++◌, if◌then◌else◌, [], ap, sym, ◌∙◌, append-nil, append_assoc, List, ℕ, flat_map}
+use Rattle.std.proofs.Common.{◌++◌, if◌then◌else◌, [], ap, sym, ◌∙◌, append-nil, append_assoc, List, ℕ, flat_map}
 use Rattle.ti_caps.specs.Table.{place_of_rank}
 use Rattle.ti_commands.specs.Listing.{is_listed_at, listed, name_line}
 use Rattle.ti_commands.proofs.Listings.{listed_more, none_listed}

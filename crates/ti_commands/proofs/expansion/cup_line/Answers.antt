@@ -1,4 +1,3 @@
-use Rattle.std.proofs.Common.{refl}
 use Rattle.std.specs.String.{string_bytes}
 use Rattle.ti_commands.proofs.Expansions.{line_missed, line_served}
 use Rattle.ti_commands.proofs.expansion.cup_line.Goals as goal

@@ -1,14 +1,23 @@
-use Rattle.std.proofs.Common.{List, arith}
-use Rattle.ti_parm.specs.Value.{Value}
-use Rattle.ti_commands.specs.Words.{GiveParams, texts_of}
-use Rattle.ti_commands.proofs.Failures.{usage_for}
-use Rattle.ti_commands.proofs.Params.{none_given, params_more}
+use Rattle.std.proofs.Common.{arith, drop, inl, suc, take}
+use Rattle.ti_parm.specs.Value.{values_of}
+use Rattle.ti_commands.specs.Words.{texts_of}
+use Rattle.ti_commands.proofs.Params.{params_more, texts_around}
 use Rattle.ti_commands.proofs.expansion.read_params.Goals as goal
 
 pub returns-in-None-clause-failure : goal.returns-in-None-clause-failure
 returns-in-None-clause-failure c =
-    usage_for (Unit {0}) ((values : List Value) → GiveParams (texts_of c.args.words.now) values → ⊥) c.not_a_parameter.result
-    (λ _. none_given c.args.words.now c.loop-word.word-index _ (omega arith) c.in-None.ensures.none) c.not_a_parameter.ensures
+    let words = c.args.words.now in
+    let index = c.loop-word.word-index in
+    inl (record {
+      front = texts_of (take index words);
+      word = _;
+      behind = texts_of (drop (suc index) words);
+      spelled = texts_around words index _ (omega arith);
+      values = values_of c.loop-word.params.items;
+      before = c.loop-word.invariant;
+      nothing = c.in-None.ensures.none;
+      told = c.not_a_parameter.ensures;
+    })
 
 pub loop-word-preserved : goal.loop-word-preserved
 loop-word-preserved c =

@@ -1,4 +1,4 @@
-use Rattle.std.proofs.Common.{ap, arith, refl, ◌∙◌}
+use Rattle.std.proofs.Common.{ap, arith, refl}
 use Rattle.std.proofs.lemmas.Result.{err_from_is_err_and}
 use Rattle.ti_commands.specs.Feeding.{SizeAsked, SizeGiven}
 use Rattle.ti_commands.proofs.Feeds.{file_told, screen_shown, size_fails, stuck_told}
