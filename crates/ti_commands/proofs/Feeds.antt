@@ -1,5 +1,5 @@
 -- How `feed` ends.
-use Rattle.std.proofs.Common.{◌≡◌, ◌≤◌, [], ℕ, List, true, false, None, subst, sym, length}
+use Rattle.std.proofs.Common.{arith, ◌≡◌, ◌≤◌, [], ℕ, List, true, false, None, subst, sym, length}
 use Rattle.vt_term.specs.Size.{IsSize}
 use Rattle.ti_commands.specs.Failing.{TellsFile}
 use Rattle.ti_commands.specs.Feeding.{FailsToFeed, ShowsAfter, ShowsScreen, SizeAsked, SizeGiven, TellsStuck}
@@ -12,12 +12,7 @@ pub size_fails : (rows cols path : List ℕ) (asked : SizeAsked rows cols) (e : 
 size_fails rows cols path asked e h q = subst (λ (f : Failure). FailsToFeed rows cols path f) (sym q) (asked, λ s. (let k : false ≡ true = h s in cc))
 
 pub file_told : (rows cols path : List ℕ) (given : SizeGiven rows cols) (e : Failure) → TellsFile path e → FailsToFeed rows cols path e
-file_told rows cols path given (Refused refusal) h = absurd h
-file_told rows cols path given (RefusedUnwritten refusal) h = absurd h
-file_told rows cols path given (Usage text) h = absurd h
-file_told rows cols path given (File told) h = (given, h)
-file_told rows cols path given Output h = absurd h
-file_told rows cols path given NoMemory h = tt
+file_told rows cols path given e h = grind arith
 
 stuck_at : (rows cols path : List ℕ) (given : SizeGiven rows cols) (bytes : List ℕ) (e : Failure) → length bytes ≤ 16777216 → TellsStuck given.asked.height given.asked.width bytes e → FailsToFeed rows cols path e
 stuck_at rows cols path given bytes (Refused (refusals.Stuck stuck)) short h = record { given = given; bytes = bytes; short = short; sticks = h }

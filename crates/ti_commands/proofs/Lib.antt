@@ -3,4 +3,3 @@ pub mod Listings
 pub mod Expansions
 pub mod Colons
 pub mod Feeds
-pub mod Compiling

@@ -38,8 +38,12 @@ pub record Asked (words : Expansion) : Type 0 where
 abbrev pub hex_line : List ℕ → List ℕ
 hex_line bytes = encode_lower bytes ++ 10 ∷ []
 
+-- where the cursor is, and a place at which a string wasn't seen to lead it
 abbrev pub cursor_line : ℕ → ℕ → List ℕ
 cursor_line row col = codes "cursor " ++ (decimal row ++ (codes " " ++ (decimal col ++ 10 ∷ [])))
+
+abbrev pub no_line : ℕ → ℕ → List ℕ
+no_line row col = codes "cup no " ++ (decimal row ++ (codes " " ++ (decimal col ++ 10 ∷ [])))
 
 -- the line that says where the bytes leave the cursor of a terminal in its reset state
 pub record ShowsCursor (rows cols : ℕ) (bytes line : List ℕ) : Type 0 where
@@ -47,14 +51,12 @@ pub record ShowsCursor (rows cols : ℕ) (bytes line : List ℕ) : Type 0 where
   pub runs : Runs (reset rows cols) bytes after
   pub spelled : line ≡ cursor_line after.screen.row after.screen.col
 
-abbrev pub no_line : ℕ → ℕ → List ℕ
-no_line row col = codes "cup no " ++ (decimal row ++ (codes " " ++ (decimal col ++ 10 ∷ [])))
-
 -- the line that says whether a string serves as `cup`, and else a place at which it wasn't seen to
 pub data JudgesCup (string : List ℕ) (rows cols : ℕ) : List ℕ → Type 0 where
   serves : ServesAsCup string rows cols → JudgesCup string rows cols (codes "cup yes\n")
   misses : (row col : ℕ) (kind : MissKind) → row < rows → col < cols → kind ≢ miss_kinds.NoMemory → TellsWhy string row col kind → JudgesCup string rows cols (no_line row col)
 
+-- no line where it isn't asked for
 abbrev pub JudgesIf : Bool → List ℕ → ℕ → ℕ → List ℕ → Type 0
 JudgesIf true string rows cols line = JudgesCup string rows cols line
 JudgesIf false string rows cols line = line ≡ []
@@ -74,6 +76,7 @@ pub record ShowsHex (bytes text : List ℕ) (fault : TokenFault) : Type 0 where
   pub told : TellsFault bytes fault
   pub known : fault.kind ≢ token_faults.NoMemory
 
+-- a reply that failed is one to bytes that are none
 abbrev pub ShowsUpTo : Bool → ℕ → ℕ → List ℕ → List ℕ → List ℕ → Option Failure → Type 0
 ShowsUpTo judges rows cols string bytes text None = ShowsAll judges rows cols string bytes text
 ShowsUpTo judges rows cols string bytes text (Some (Refused (Token fault))) = ShowsHex bytes text fault
@@ -94,12 +97,13 @@ pub record IsExpanded (words : Expansion) (reply : Reply) : Type 0 where
   pub sends : sent string asked.values ≡ Ok bytes
   pub shows : Shows words.judges_cup asked.rows asked.cols string bytes reply
 
--- the faults that are told as they are
+-- the escapes' fault
 abbrev pub escape_failure : EscapeFault → Failure
 escape_failure escape_faults.NoMemory = NoMemory
 escape_failure escape_faults.BadEscape = Refused (Escape escape_faults.BadEscape)
 escape_failure escape_faults.TooLong = Refused (Escape escape_faults.TooLong)
 
+-- the expansion's fault
 abbrev pub TellsParm : List ℕ → List Value → Failure → Type 0
 TellsParm string values (Refused (Parm fault)) = sent string values ≡ Err fault
 TellsParm string values NoMemory = Unit {0}
@@ -116,6 +120,7 @@ RefusesExpansion words (Escape fault) = (asked : Asked words) × IsSize asked.ro
 RefusesExpansion words (Parm fault) = (asked : Asked words) × IsSize asked.rows asked.cols × ((string : List ℕ) × (unescaped words.string.now ≡ Ok string) × (sent string asked.values ≡ Err fault))
 RefusesExpansion words _ = ⊥
 
+-- the words come first, then what is refused
 abbrev pub FailsToExpand : Expansion → Failure → Type 0
 FailsToExpand words (Usage told) = WrongWords words (Usage told)
 FailsToExpand words (Refused refusal) = RefusesExpansion words refusal

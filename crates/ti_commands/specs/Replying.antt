@@ -1,5 +1,5 @@
 -- What the commands that take entries reply.
-use Rattle.std.specs.Prelude.{◌≡◌, ℕ, List, [], Option, Some, None, Ok, Err}
+use Rattle.std.specs.Prelude.{◌≡◌, ℕ, List, [], Option, Some, None, Result, Ok, Err}
 use Rattle.std.specs.String.{string_bytes}
 use Rattle.ti_caps.specs.Entry.{Content}
 use Rattle.ti_compiled.specs.Written.{packing_of}
@@ -52,11 +52,15 @@ Stores entry path (Some (Refused (Pack fault))) = packing_of entry ≡ Err fault
 Stores entry path (Some NoMemory) = Unit {0}
 Stores entry path (Some _) = ⊥
 
-abbrev pub StoresIf : Content → Option (Bor (List ℕ)) → Option Failure → Type 0
-StoresIf entry None failure = failure ≡ None
-StoresIf entry (Some path) failure = Stores entry path.now failure
+-- how a command ends that was to compile an entry: it may not have one, or not want its file
+abbrev pub Outcome : Result Content Refusal → Option (Bor (List ℕ)) → Option Failure → Type 0
+Outcome (Err refusal) out failure = failure ≡ Some (Refused refusal)
+Outcome (Ok entry) None failure = failure ≡ None
+Outcome (Ok entry) (Some path) failure = Stores entry path.now failure
 
--- the notes, and how it went: the entry's refusal, or its file's
-pub data IsCompiled (word : List ℕ) (out : Option (Bor (List ℕ))) (reply : Reply) : Type 0 where
-  refused : (refusal : Refusal) → Finds word reply.notes.items (Err refusal) → reply.text.items ≡ [] → reply.failure ≡ Some (Refused refusal) → IsCompiled word out reply
-  found : (entry : Content) → Finds word reply.notes.items (Ok entry) → reply.text.items ≡ [] → StoresIf entry out reply.failure → IsCompiled word out reply
+-- the notes of what the word gives, and its outcome
+pub record IsCompiled (word : List ℕ) (out : Option (Bor (List ℕ))) (reply : Reply) : Type 0 where
+  pub entry : Result Content Refusal
+  pub finds : Finds word reply.notes.items entry
+  pub no_text : reply.text.items ≡ []
+  pub outcome : Outcome entry out reply.failure

@@ -6,7 +6,7 @@ ghost use Rattle.ti_caps.specs.Table.{kind_of, place_of_rank};
 ghost use Rattle.ti_source.specs.Fields.{is_kind};
 ghost use Rattle.ti_commands.specs.Listing.{comparison_text, is_listed, is_listed_at, kind_lines, name_line, same_value};
 ghost use Rattle.ti_commands.specs.Finding.{FailsToFind, LacksEntry};
-ghost use Rattle.ti_commands.specs.Replying.{GivesEntry, IsCompared, IsCompiled, IsPrinted, LacksSecond, Stores, StoresIf};
+ghost use Rattle.ti_commands.specs.Replying.{GivesEntry, IsCompared, IsCompiled, IsPrinted, LacksSecond, Outcome, Stores};
 
 use crate::entries::{Found, find_entry};
 use crate::failure::{Failure, Refusal, Reply, file_failure};
@@ -27,10 +27,7 @@ pub fn compile_entry<F: Files>(
     ensures failure { IfErr result (λ e. FailsToFind word.now e ⊎ (e ≡ Failure.NoMemory)) }
 {
     let Found { notes, entry } = find_entry(alloc, files, word)?;
-    let failure = match entry {
-        Ok(entry) => store_if(alloc, files, out, &entry)?,
-        Err(refusal) => Some(Failure::Refused(refusal)),
-    };
+    let failure = stored(alloc, files, out, entry)?;
     Ok(Reply {
         notes,
         text: Vec::new(alloc),
@@ -38,18 +35,19 @@ pub fn compile_entry<F: Files>(
     })
 }
 
-/// Writes the compiled form of an entry if there is a path for it.
-fn store_if<F: Files>(
+/// Writes the compiled form of an entry if there is a path for it, or tells the entry's refusal.
+fn stored<F: Files>(
     alloc: Global,
     files: &mut F,
     out: Option<&str>,
-    entry: &Entry,
+    entry: Result<Entry, Refusal>,
 ) -> Result<Option<Failure>, AllocError>
-    ensures { IfOk result (λ failure. StoresIf entry.now out.entry failure) }
+    ensures { IfOk result (λ failure. Outcome entry out.entry failure) }
 {
-    match out {
-        Some(path) => store_entry(alloc, files, path, entry),
-        None => Ok(None),
+    match (entry, out) {
+        (Ok(entry), Some(path)) => store_entry(alloc, files, path, &entry),
+        (Ok(_), None) => Ok(None),
+        (Err(refusal), _) => Ok(Some(Failure::Refused(refusal))),
     }
 }
 

@@ -1,9 +1,9 @@
 //! The ENTRY words of a line: an entry of a source file, or a compiled file.
 
-ghost use Rattle.std.specs.Prelude.{◌≡◌, ◌++◌, IfErr, IfOk, OnOk};
+ghost use Rattle.std.specs.Prelude.{◌≡◌, ◌++◌, IfErr, IfNone, IfOk, IfSome, OnOk};
 ghost use Rattle.std.specs.List.{AllByRecursion, flat_map};
 ghost use Rattle.ti_source.specs.Raw.{IsRaw};
-ghost use Rattle.ti_commands.specs.Finding.{FailsInFile, FailsInSource, FailsToFind, Finds, FitsTo, HasBytes, IsOfFile, IsOfSource, ResolvesTo, TellsPacked, TellsSource, note_line, note_name, notes_text};
+ghost use Rattle.ti_commands.specs.Finding.{FailsInFile, FailsInSource, FailsToFind, Finds, FitsTo, HasBytes, IsOfFile, IsOfSource, IsPath, IsPathAndName, ResolvesTo, TellsPacked, TellsSource, note_line, note_name, notes_text};
 
 use crate::failure::{Failure, Refusal};
 use crate::files::Files;
@@ -34,10 +34,18 @@ pub fn find_entry<F: Files>(alloc: Global, files: &mut F, word: &str) -> Result<
     ensures found { IfOk result (λ found. Finds word.now found.notes.items found.entry) }
     ensures failure { IfErr result (λ e. FailsToFind word.now e) }
 {
-    match word.rsplit_once(':') {
+    match path_and_name(word) {
         Some((path, name)) => find_in_source(alloc, files, path, name),
         None => unpack(alloc, files, word),
     }
+}
+
+/// The parts of FILE:NAME, split at its last colon.
+fn path_and_name(word: &str) -> Option<(&str, &str)>
+    ensures parts { IfSome result (λ parts. IsPathAndName word.now parts.0.now parts.1.now) }
+    ensures whole { IfNone result (IsPath word.now) }
+{
+    word.rsplit_once(':')
 }
 
 fn find_in_source<F: Files>(
