@@ -51,7 +51,7 @@ pub line_served : {T E : Type 0} (view : T → List ℕ) (string : List ℕ) (ro
 line_served view string rows cols (Ok t) h e = subst (λ (l : List ℕ). JudgesCup string rows cols l) (sym e) (serves h)
 line_served view string rows cols (Err x) h e = tt
 
-pub line_missed : {T E : Type 0} (view : T → List ℕ) (string : List ℕ) (rows cols row col : ℕ) (kind : MissKind) (r : Result T E) → row < rows → col < cols → kind ≢ miss_kinds.NoMemory → TellsWhy string row col kind → IfOk r (λ t. view t ≡ no_line row col) → IfOk r (λ t. JudgesCup string rows cols (view t))
+pub line_missed : {T E : Type 0} (view : T → List ℕ) (string : List ℕ) (rows cols row col : ℕ) (kind : MissKind) (r : Result T E) → row < rows → col < cols → kind ≢ miss_kinds.NoMemory → TellsWhy string rows cols row col kind → IfOk r (λ t. view t ≡ no_line row col) → IfOk r (λ t. JudgesCup string rows cols (view t))
 line_missed view string rows cols row col kind (Ok t) a b n h e = subst (λ (l : List ℕ). JudgesCup string rows cols l) (sym e) (misses row col kind a b n h)
 line_missed view string rows cols row col kind (Err x) a b n h e = tt
 

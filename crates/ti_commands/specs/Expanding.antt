@@ -54,7 +54,7 @@ pub record ShowsCursor (rows cols : ℕ) (bytes line : List ℕ) : Type 0 where
 -- the line that says whether a string serves as `cup`, and else a place at which it wasn't seen to
 pub data JudgesCup (string : List ℕ) (rows cols : ℕ) : List ℕ → Type 0 where
   serves : ServesAsCup string rows cols → JudgesCup string rows cols (codes "cup yes\n")
-  misses : (row col : ℕ) (kind : MissKind) → row < rows → col < cols → kind ≢ miss_kinds.NoMemory → TellsWhy string row col kind → JudgesCup string rows cols (no_line row col)
+  misses : (row col : ℕ) (kind : MissKind) → row < rows → col < cols → kind ≢ miss_kinds.NoMemory → TellsWhy string rows cols row col kind → JudgesCup string rows cols (no_line row col)
 
 -- no line where it isn't asked for
 abbrev pub JudgesIf : Bool → List ℕ → ℕ → ℕ → List ℕ → Type 0
