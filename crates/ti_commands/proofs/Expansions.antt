@@ -3,7 +3,7 @@ use Rattle.std.proofs.Common.{◌≡◌, ◌≢◌, ◌<◌, List, [], ℕ, Resu
 use Rattle.ti_parm.specs.Meaning.{sent}
 use Rattle.ti_parm.specs.Value.{Value, values_of}
 use Rattle.ti_parm.specs.declared.param.Param.{Param}
-use Rattle.ti_reach.specs.Reach.{IsWhole, ServesAsCup, TellsWhy}
+use Rattle.ti_reach.specs.Reach.{IsWhole, ReachesBefore, ServesAsCup, TellsWhy}
 use Rattle.ti_reach.specs.declared.MissKind.{MissKind}
 use Rattle.ti_reach.specs.declared.MissKind.TheVariants as miss_kinds
 use Rattle.ti_source.specs.Escapes.{FailsBy, unescaped}
@@ -51,9 +51,9 @@ pub line_served : {T E : Type 0} (view : T → List ℕ) (string : List ℕ) (ro
 line_served view string rows cols (Ok t) h e = subst (λ (l : List ℕ). JudgesCup string rows cols l) (sym e) (serves h)
 line_served view string rows cols (Err x) h e = tt
 
-pub line_missed : {T E : Type 0} (view : T → List ℕ) (string : List ℕ) (rows cols row col : ℕ) (kind : MissKind) (r : Result T E) → row < rows → col < cols → kind ≢ miss_kinds.NoMemory → TellsWhy string rows cols row col kind → IfOk r (λ t. view t ≡ no_line row col) → IfOk r (λ t. JudgesCup string rows cols (view t))
-line_missed view string rows cols row col kind (Ok t) a b n h e = subst (λ (l : List ℕ). JudgesCup string rows cols l) (sym e) (misses row col kind a b n h)
-line_missed view string rows cols row col kind (Err x) a b n h e = tt
+pub line_missed : {T E : Type 0} (view : T → List ℕ) (string : List ℕ) (rows cols row col : ℕ) (kind : MissKind) (r : Result T E) → row < rows → col < cols → kind ≢ miss_kinds.NoMemory → ReachesBefore string rows cols row col → TellsWhy string rows cols row col kind → IfOk r (λ t. view t ≡ no_line row col) → IfOk r (λ t. JudgesCup string rows cols (view t))
+line_missed view string rows cols row col kind (Ok t) a b n f h e = subst (λ (l : List ℕ). JudgesCup string rows cols l) (sym e) (misses row col kind a b n f h)
+line_missed view string rows cols row col kind (Err x) a b n f h e = tt
 
 pub cursor_shown : {T E : Type 0} (view : T → List ℕ) (rows cols : ℕ) (bytes : List ℕ) (before after : State) (fed : Result (Unit {0}) Stuck) (row col : ℕ) (r : Result T E) → before ≡ reset rows cols → IsWhole bytes → OnOk fed (Runs before bytes after) → IfErr fed (λ e. Sticks before bytes e.at after) → row ≡ after.screen.row → col ≡ after.screen.col → IfOk r (λ t. view t ≡ cursor_line row col) → IfOk r (λ t. ShowsCursor rows cols bytes (view t))
 cursor_shown view rows cols bytes before after fed row col (Ok t) b whole ok stuck p q e =

@@ -7,7 +7,7 @@ use Rattle.ti_parm.specs.Value.{Value}
 use Rattle.ti_source.specs.Escapes.{unescaped}
 use Rattle.ti_source.specs.declared.escapes.EscapeFault.{EscapeFault}
 use Rattle.ti_source.specs.declared.escapes.EscapeFault.TheVariants as escape_faults
-use Rattle.ti_reach.specs.Reach.{IsWhole, ServesAsCup, TellsWhy}
+use Rattle.ti_reach.specs.Reach.{IsWhole, ReachesBefore, ServesAsCup, TellsWhy}
 use Rattle.ti_reach.specs.declared.MissKind.{MissKind}
 use Rattle.ti_reach.specs.declared.MissKind.TheVariants as miss_kinds
 use Rattle.vt_term.specs.Fault.{TellsFault}
@@ -51,10 +51,10 @@ pub record ShowsCursor (rows cols : ℕ) (bytes line : List ℕ) : Type 0 where
   pub runs : Runs (reset rows cols) bytes after
   pub spelled : line ≡ cursor_line after.screen.row after.screen.col
 
--- the line that says whether a string serves as `cup`, and else a place at which it wasn't seen to
+-- the line that says whether a string serves as `cup`, and else the first place at which it isn't seen to
 pub data JudgesCup (string : List ℕ) (rows cols : ℕ) : List ℕ → Type 0 where
   serves : ServesAsCup string rows cols → JudgesCup string rows cols (codes "cup yes\n")
-  misses : (row col : ℕ) (kind : MissKind) → row < rows → col < cols → kind ≢ miss_kinds.NoMemory → TellsWhy string rows cols row col kind → JudgesCup string rows cols (no_line row col)
+  misses : (row col : ℕ) (kind : MissKind) → row < rows → col < cols → kind ≢ miss_kinds.NoMemory → ReachesBefore string rows cols row col → TellsWhy string rows cols row col kind → JudgesCup string rows cols (no_line row col)
 
 -- no line where it isn't asked for
 abbrev pub JudgesIf : Bool → List ℕ → ℕ → ℕ → List ℕ → Type 0

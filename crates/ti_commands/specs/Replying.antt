@@ -44,23 +44,33 @@ pub record LacksSecond (first second : List ℕ) (failure : Failure) : Type 0 wh
   pub gives_one : GivesEntry first one
   pub lacks : LacksEntry second failure
 
--- how an entry's compiled file is stored at a path
-abbrev pub Stores : Content → List ℕ → Option Failure → Type 0
-Stores entry path None = (file : List ℕ) × (packing_of entry ≡ Ok file)
-Stores entry path (Some (File told)) = ((file : List ℕ) × (packing_of entry ≡ Ok file)) × (string_bytes told ≡ path)
-Stores entry path (Some (Refused (Pack fault))) = packing_of entry ≡ Err fault
-Stores entry path (Some NoMemory) = Unit {0}
-Stores entry path (Some _) = ⊥
+-- that a path holds these bytes
+abbrev pub Keeps : Type 1
+Keeps = List ℕ → List ℕ → Type 0
+
+-- the entry's compiled file was stored at a path
+pub record IsStored (entry : Content) (path : List ℕ) (keeps : Keeps) : Type 0 where
+  pub file : List ℕ
+  pub packs : packing_of entry ≡ Ok file
+  pub kept : keeps path file
+
+-- how the storing of an entry's compiled file ends
+abbrev pub Stores : Content → List ℕ → Keeps → Option Failure → Type 0
+Stores entry path keeps None = IsStored entry path keeps
+Stores entry path keeps (Some (File told)) = ((file : List ℕ) × (packing_of entry ≡ Ok file)) × (string_bytes told ≡ path)
+Stores entry path keeps (Some (Refused (Pack fault))) = packing_of entry ≡ Err fault
+Stores entry path keeps (Some NoMemory) = Unit {0}
+Stores entry path keeps (Some _) = ⊥
 
 -- how a command ends that was to compile an entry: it may not have one, or not want its file
-abbrev pub Outcome : Result Content Refusal → Option (Bor (List ℕ)) → Option Failure → Type 0
-Outcome (Err refusal) out failure = failure ≡ Some (Refused refusal)
-Outcome (Ok entry) None failure = failure ≡ None
-Outcome (Ok entry) (Some path) failure = Stores entry path.now failure
+abbrev pub Outcome : Result Content Refusal → Option (Bor (List ℕ)) → Keeps → Option Failure → Type 0
+Outcome (Err refusal) out keeps failure = failure ≡ Some (Refused refusal)
+Outcome (Ok entry) None keeps failure = failure ≡ None
+Outcome (Ok entry) (Some path) keeps failure = Stores entry path.now keeps failure
 
 -- the notes of what the word gives, and its outcome
-pub record IsCompiled (word : List ℕ) (out : Option (Bor (List ℕ))) (reply : Reply) : Type 0 where
+pub record IsCompiled (word : List ℕ) (out : Option (Bor (List ℕ))) (keeps : Keeps) (reply : Reply) : Type 0 where
   pub entry : Result Content Refusal
   pub finds : Finds word reply.notes.items entry
   pub no_text : reply.text.items ≡ []
-  pub outcome : Outcome entry out reply.failure
+  pub outcome : Outcome entry out keeps reply.failure

@@ -23,7 +23,7 @@ pub fn compile_entry<F: Files>(
     out: Option<&str>,
     files: &mut F,
 ) -> Result<Reply, Failure>
-    ensures reply { IfOk result (λ reply. IsCompiled word.now out.entry reply) }
+    ensures reply { IfOk result (λ reply. IsCompiled word.now out.entry (F.keeps files.new) reply) }
     ensures failure { IfErr result (λ e. FailsToFind word.now e ⊎ (e ≡ Failure.NoMemory)) }
 {
     let Found { notes, entry } = find_entry(alloc, files, word)?;
@@ -42,7 +42,7 @@ fn stored<F: Files>(
     out: Option<&str>,
     entry: Result<Entry, Refusal>,
 ) -> Result<Option<Failure>, AllocError>
-    ensures { IfOk result (λ failure. Outcome entry out.entry failure) }
+    ensures { IfOk result (λ failure. Outcome entry out.entry (F.keeps files.new) failure) }
 {
     match (entry, out) {
         (Ok(entry), Some(path)) => store_entry(alloc, files, path, &entry),
@@ -58,7 +58,7 @@ fn store_entry<F: Files>(
     path: &str,
     entry: &Entry,
 ) -> Result<Option<Failure>, AllocError>
-    ensures { IfOk result (λ failure. Stores entry.now path.now failure) }
+    ensures { IfOk result (λ failure. Stores entry.now path.now (F.keeps files.new) failure) }
 {
     let file = match encode(alloc, entry) {
         Ok(file) => file,
