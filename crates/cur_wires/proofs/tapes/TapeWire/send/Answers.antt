@@ -1,6 +1,6 @@
 use Rattle.std.proofs.Common.{refl, arith}
 use Rattle.std.proofs.lemmas.Grind.{common_steps}
-use Rattle.cur_update.proofs.tapes.TapeWire.send.Goals as goal
+use Rattle.cur_wires.proofs.tapes.TapeWire.send.Goals as goal
 
 pub returns-clause-sent : goal.returns-clause-sent
 returns-clause-sent c =

@@ -1,5 +1,5 @@
 use Rattle.std.proofs.Common.{length, ◌-◌, ◌≤◌, take}
-use Rattle.cur_update.proofs.wires.send_all.Given as goal
+use Rattle.cur_wires.proofs.wires.send_all.Given as goal
 
 -- the bytes before this place went out
 abbrev pub invariant-loop-sent : goal.invariant-loop-sent

@@ -2,7 +2,7 @@
 use Rattle.std.proofs.Common.{◌≡◌, ℕ, ◌+◌, ◌-◌, ◌<◌, ◌≤◌, ◌⊎◌, List, [], length, take, drop, sym, subst, ◌∙◌, inl, inr, arith}
 use Rattle.std.proofs.Math.Seq.{take-add}
 use Rattle.std.proofs.lemmas.List.{take_rest, take-append-drop, length-drop, append-nil}
-use Rattle.cur_update.specs.Wire.{IsWire, Rose, StopsIn, last_count}
+use Rattle.cur_wires.specs.Wire.{IsWire, Rose, StopsIn, last_count}
 use Rattle.std.proofs.lemmas.Bool.{cases_lt}
 
 -- the first bytes went out, and then some of the rest

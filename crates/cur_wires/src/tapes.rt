@@ -1,4 +1,7 @@
+//! A wire over memory.
 ghost use Rattle.std.specs.Prelude.{◌≡◌, ◌+◌, ◌<◌, ◌≤◌, ◌++◌, [], length, min, take, is_ok, if◌then◌else◌, IfOk, OnErr};
+ghost use Rattle.cur_wires.specs.Tape.{Adds, failed_once, after_send, room};
+ghost use Rattle.cur_wires.specs.Wire.{Rose};
 
 use crate::wires::{Wire, WireFault};
 use std::alloc::{AllocError, Global};
@@ -14,7 +17,7 @@ pub struct Tape {
 
 impl Model for Tape {
     ghost use Rattle.std.specs.Prelude.{◌≤◌, length, vec_capacity};
-    ghost use Rattle.cur_update.specs.Tape.{Taped};
+    ghost use Rattle.cur_wires.specs.Tape.{Taped};
 
     ghost Value = { Taped };
 
@@ -24,7 +27,7 @@ impl Model for Tape {
 }
 
 impl Tape {
-    /// An empty tape for this many bytes.
+    /// An empty tape with room for this many bytes, or out of memory.
     pub fn new(alloc: Global, capacity: usize) -> Result<Tape, AllocError>
         ensures value { IfOk result (λ tape. tape ≡ record { bytes = []; capacity = capacity; failures = 0 }) }
     {
@@ -41,11 +44,26 @@ impl Tape {
     {
         &self.bytes
     }
+
+    /// How often it failed.
+    pub fn failures(&self) -> u128
+        ensures value { result ≡ self.now.failures }
+    {
+        self.failures
+    }
+
+    /// One failure more.
+    pub(crate) fn fail(&mut self)
+        ensures value { self.new ≡ failed_once self.old }
+        ensures unsent { Adds self.old self.new [] }
+        ensures failed { Rose self.old.failures self.new.failures }
+    {
+        self.failures = self.failures.saturating_add(1);
+    }
 }
 
 impl Wire for Tape {
-    ghost use Rattle.cur_update.specs.Tape.{Adds, Adds-lawful, room};
-    ghost use Rattle.cur_update.specs.Wire.{last_count, Rose};
+    ghost use Rattle.cur_wires.specs.Tape.{Adds, Adds-lawful};
 
     ghost went = { Adds };
 
@@ -61,11 +79,11 @@ impl Wire for Tape {
         ensures failed { OnErr result (Rose self.old.failures self.new.failures) }
         ensures all_that_fits { IfOk result (λ n. n ≡ min (length piece.now) (room self.old)) }
         ensures fails_only_full { OnErr result (room self.old ≡ 0) }
-        ensures failures { self.new.failures ≡ (if is_ok result then self.old.failures else min (self.old.failures + 1) last_count) }
+        ensures exactly { self.new ≡ after_send self.old piece.now (is_ok result) }
     {
         let room = self.capacity - self.bytes.len();
         if room == 0 {
-            self.failures = self.failures.saturating_add(1);
+            self.fail();
             return Err(WireFault);
         }
         let taken = piece.len().min(room);
