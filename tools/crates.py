@@ -1,0 +1,36 @@
+"""What crates.txt says: the crates of this repository, and what each stands on.
+
+    python3 -B tools/crates.py NAME..     prints these crates and those that they stand on, each after those below it"""
+
+import os
+import sys
+
+TOP = os.path.dirname(os.path.dirname(os.path.abspath(__file__)))
+
+
+def listed(top=TOP):
+    """The libraries that each crate's line names, by the crate's name."""
+    with open(f"{top}/crates.txt", encoding="utf-8") as file:
+        lines = [line.partition("#")[0] for line in file]
+    rows = [line.partition(":") for line in lines if line.strip()]
+    return {name.split()[0]: uses.replace(",", " ").split() for name, _, uses in rows}
+
+
+def below(names, uses=None):
+    """The crates of the repository that these stand on, and these, each after those that it stands on."""
+    uses, found = uses or listed(), []
+
+    def visit(name):
+        for it in uses[name]:
+            if it in uses:
+                visit(it)
+        if name not in found:
+            found.append(name)
+
+    for name in names:
+        visit(name)
+    return found
+
+
+if __name__ == "__main__":
+    print(*below(sys.argv[1:]), sep="\n")
