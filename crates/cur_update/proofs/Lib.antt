@@ -1,4 +1,3 @@
-pub mod Sending
 pub mod Leading
 pub mod Painting
 pub mod Cutting

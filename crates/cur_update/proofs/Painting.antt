@@ -1,10 +1,10 @@
 -- What goes out in one step of a painter after another.
 use Rattle.std.proofs.Common.{ℕ, ◌+◌, ◌≤◌, List, ◌++◌, sym, ap, ◌∙◌, arith, append_assoc, length-append, Result, Ok, Err}
 use Rattle.vt_term.specs.Screen.{State}
-use Rattle.cur_update.specs.Wire.{IsWire, StopsIn, Sends}
+use Rattle.cur_wires.specs.Wire.{IsWire, StopsIn, Sends}
 use Rattle.cur_update.specs.Leads.{Leads}
 use Rattle.cur_update.specs.Paints.{Paints}
-use Rattle.cur_update.proofs.Sending.{rose_later}
+use Rattle.cur_wires.proofs.Sending.{rose_later}
 use Rattle.cur_update.proofs.Leading.{leads_then, leads_wider}
 
 pub sends_then : {W T E : Type 0} (went : W → W → List ℕ → Type 0) (failures : W → ℕ) → IsWire went failures → (a b c : W) (x y : List ℕ) (answer : Result T E)

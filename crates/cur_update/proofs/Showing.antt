@@ -4,7 +4,7 @@ use Rattle.vt_term.specs.Size.{IsSize}
 use Rattle.vt_term.specs.Screen.{State, IsState, reset}
 use Rattle.vt_term.specs.Run.{Runs}
 use Rattle.vt_term.proofs.Running.{runs_once}
-use Rattle.cur_update.specs.Tape.{Taped, Adds}
+use Rattle.cur_wires.specs.Tape.{Taped, Adds}
 use Rattle.cur_update.specs.Leads.{Ends}
 use Rattle.cur_update.specs.Paints.{Paints}
 use Rattle.cur_update.specs.Plain.{IsReady}

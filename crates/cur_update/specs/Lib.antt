@@ -1,5 +1,3 @@
-pub mod Wire
-pub mod Tape
 pub mod Leads
 pub mod Paints
 pub mod Strings

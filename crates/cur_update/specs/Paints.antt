@@ -1,7 +1,7 @@
 -- What a painter sends: bytes that lead from one kind of state to another, or a front of them where the wire fails.
 use Rattle.std.specs.Prelude.{ℕ, List, Result}
 use Rattle.vt_term.specs.Screen.{State}
-use Rattle.cur_update.specs.Wire.{Sends}
+use Rattle.cur_wires.specs.Wire.{Sends}
 use Rattle.cur_update.specs.Leads.{Leads}
 
 pub record Paints {W T E : Type 0} (went : W → W → List ℕ → Type 0) (failures : W → ℕ) (old new : W) (answer : Result T E)

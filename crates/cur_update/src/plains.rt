@@ -7,7 +7,7 @@ ghost use Rattle.cur_update.specs.Steps.{ShowsAbove, MovedTo};
 ghost use Rattle.vt_term.specs.Size.{IsSize};
 
 use crate::strings::Strings;
-use crate::wires::{Wire, WireFault, send_all};
+use cur_wires::{Wire, WireFault, send_all};
 use std::alloc::{AllocError, Global};
 use std::marker::Model;
 use vt_term::Size;

@@ -1,9 +1,8 @@
 ghost use Rattle.std.specs.Prelude.{◌≡◌, ◌≤◌};
 
 use crate::plains::Plain;
-use crate::tapes::Tape;
 use crate::whole::shown;
-use crate::wires::{Wire, WireFault, send_all};
+use cur_wires::{Tape, Wire, WireFault};
 use std::alloc::Global;
 use std::process::Abort;
 use std::test::Fail;
@@ -17,7 +16,7 @@ struct Narrow {
 }
 
 impl Wire for Narrow {
-    ghost use Rattle.cur_update.specs.Wire.{tells_nothing};
+    ghost use Rattle.cur_wires.specs.Wire.{tells_nothing};
 
     ghost went = { λ a b _. a.failures ≤ b.failures };
 
@@ -32,24 +31,6 @@ impl Wire for Narrow {
     }
 
     ghost lawful = { tells_nothing (λ w. w.failures) };
-}
-
-#[test]
-fn a_full_tape_fails(rt: HostRuntime) -> Result<(), Fail> {
-    let mut tape = Tape::new(rt.alloc(), 3)?;
-    assert_eq!(rt; tape.send(b"abcd"), Ok(3));
-    assert_eq!(rt; tape.send(b"d"), Err(WireFault));
-    assert_eq!(rt; tape.bytes(), b"abc".as_slice());
-    Ok(())
-}
-
-#[test]
-fn a_front_goes_out(rt: HostRuntime) -> Result<(), Fail> {
-    let mut tape = Tape::new(rt.alloc(), 5)?;
-    assert_eq!(rt; send_all(&mut tape, b"abc"), Ok(()));
-    assert_eq!(rt; send_all(&mut tape, b"def"), Err(WireFault));
-    assert_eq!(rt; tape.bytes(), b"abcde".as_slice());
-    Ok(())
 }
 
 /// Asserts that a terminal of 2 by 4, fed with these bytes, shows `abcd`, `efgh` and the cursor in 1 3.

@@ -2,7 +2,7 @@ ghost use Rattle.std.specs.Prelude.{◌<◌, map, IsTrue, IfSome};
 ghost use Rattle.cur_update.specs.Plain.{Shows, fits_size};
 
 use crate::plains::Plain;
-use crate::tapes::Tape;
+use cur_wires::Tape;
 use std::alloc::Global;
 use vt_term::{Size, Terminal};
 

@@ -1,5 +1,5 @@
 -- The nine parameters, one after the other.
-use Rattle.std.proofs.Common.{◌≡◌, List, [], ◌∷◌, ◌++◌, get_or, take, replicate, pos, refl, ap}
+use Rattle.std.proofs.Common.{◌≡◌, List, [], ◌∷◌, ◌++◌, get_or, take, replicate, pos, refl}
 use Rattle.ti_parm.specs.declared.param.Param.{Param}
 use Rattle.ti_parm.specs.declared.param.Param.TheVariants.{Number as NumberParam}
 use Rattle.ti_parm.specs.Value.{Value, Number, values_of}

@@ -1,5 +1,5 @@
-// Delays in what is sent.
-ghost use Rattle.std.specs.Prelude.{◌≡◌, ◌<◌, ◌≤◌, ◌++◌, IfOk, IfSome, MatchOption, None, Some, length};
+//! Delays in what is sent (terminfo(5), "Delays and Padding").
+ghost use Rattle.std.specs.Prelude.{◌≡◌, ◌<◌, ◌≤◌, ◌++◌, IfNone, IfOk, IfSome, MatchOption, None, Some, drop, length, take};
 ghost use Rattle.ti_parm.specs.Delays.{behind_delay, behind_mark, behind_marks, behind_number, behind_opening, behind_tenth, strip};
 
 use crate::number::number;
@@ -79,32 +79,47 @@ fn behind_delay(text: &[u8]) -> Option<&[u8]>
     }
 }
 
-/// Leaves a delay out, or copies a byte, and says where to go on.
-fn strip_one<'t>(text: &'t [u8], out: &mut Vec<u8>) -> Result<&'t [u8], AllocError>
-    requires { 0 < length text.now }
-    ensures stripped { IfOk result (λ rest. out.new.items ++ strip rest.now ≡ out.old.items ++ strip text.now) }
-    ensures shorter { IfOk result (λ rest. length rest.now < length text.now) }
+/// The place after the delay that begins at a place, if one begins there.
+fn after_delay(bytes: &[u8], at: usize) -> Option<usize>
+    requires { at ≤ length bytes.now }
+    ensures none { IfNone result (behind_delay (drop at bytes.now) ≡ None) }
+    ensures delay { IfSome result (λ after. behind_delay (drop at bytes.now) ≡ Some (drop after bytes.now)) }
+    ensures within { IfSome result (λ after. (at < after) × (after ≤ length bytes.now)) }
 {
-    match behind_delay(text) {
-        Some(rest) => Ok(rest),
-        None => {
-            out.push(text[0])?;
-            Ok(&text[1..])
+    match behind_delay(&bytes[at..]) {
+        Some(rest) => Some(bytes.len() - rest.len()),
+        None => None,
+    }
+}
+
+/// Leaves the delays out of the bytes from a place on. It takes no memory.
+pub fn strip_from(bytes: &mut Vec<u8>, start: usize)
+    requires { start ≤ length bytes.old.items }
+    ensures { bytes.new.items ≡ take start bytes.old.items ++ strip (drop start bytes.old.items) }
+{
+    let mut kept = start;
+    let mut read = start;
+    while read < bytes.len() {
+        match after_delay(bytes.as_slice(), read) {
+            Some(after) => read = after,
+            None => {
+                bytes[kept] = bytes[read];
+                kept += 1;
+                read += 1;
+            }
         }
     }
+    bytes.truncate(kept);
 }
 
 /// The bytes without their delays: each `$<`, one digit or more, perhaps `.` and one digit, any number
 /// of `*` and `/`, and `>` is left out, from left to right. What only looks like a delay stays.
 ///
-/// terminfo(5), "Delays and Padding".
+/// The error is that a growth of memory was refused. terminfo(5), "Delays and Padding".
 pub fn strip_delays(alloc: Global, bytes: &[u8]) -> Result<Vec<u8>, AllocError>
     ensures { IfOk result (λ sent. sent.items ≡ strip bytes.now) }
 {
-    let mut out = Vec::new(alloc);
-    let mut rest = bytes;
-    while !rest.is_empty() {
-        rest = strip_one(rest, &mut out)?;
-    }
-    Ok(out)
+    let mut sent = Vec::from_slice(alloc, bytes)?;
+    strip_from(&mut sent, 0);
+    Ok(sent)
 }

@@ -3,13 +3,14 @@ ghost use Rattle.std.specs.Prelude.{◌≡◌, ◌↔◌, ◌++◌, ◌⊎◌, �
 ghost use Rattle.ti_parm.specs.Delays.{HasNoOpening};
 ghost use Rattle.ti_parm.specs.Fault.{Gives};
 ghost use Rattle.ti_parm.specs.Machine.{state_of};
-ghost use Rattle.ti_parm.specs.Meaning.{Agree, ReadsUnset, State, meaning, sent_with, start_of};
+ghost use Rattle.ti_parm.specs.Meaning.{Agree, ReadsUnset, State, meaning, sent, sent_with, start_of};
 ghost use Rattle.ti_parm.specs.Running.{judged_run};
 ghost use Rattle.ti_parm.specs.Spelling.{IsAnswer, Spells};
 ghost use Rattle.ti_parm.specs.Syntax.{IsPlain, Parts, syntax};
 ghost use Rattle.ti_parm.specs.Value.{Value, values_of, zeros};
 
 use crate::code::next_code;
+use crate::delays::strip_from;
 use crate::fault::ParmFault;
 use crate::machine::Machine;
 use crate::nest::Nest;
@@ -70,6 +71,30 @@ pub fn expand(
             Err(fault)
         }
     }
+}
+
+/// Appends to `out` the bytes that a string sends to a terminal for these parameters: its expansion
+/// from an empty stack and from variables that are all 0, without its delays.
+///
+/// It takes no other memory than `out` needs to grow and what `expand` takes for a deep stack. The
+/// errors are those of `expand`, and on every error `out` stays as it was.
+///
+/// terminfo(5), "Parameterized Strings", "Delays and Padding".
+pub fn sent(
+    alloc: Global,
+    string: &[u8],
+    params: &[Param],
+    out: &mut Vec<u8>,
+) -> Result<(), ParmFault>
+    ensures ok { OnOk result ((bytes : List ℕ) × (sent string.now (values_of params.now) ≡ Ok bytes) × (out.new.items ≡ out.old.items ++ bytes)) }
+    ensures fault { IfErr result (λ e. (e ≡ ParmFault.NoMemory) ⊎ (sent string.now (values_of params.now) ≡ Err e)) }
+    ensures unwritten { OnErr result (out.new.items ≡ out.old.items) }
+{
+    let written = out.len();
+    let mut statics = Statics::new();
+    expand(alloc, string, params, &mut statics, out)?;
+    strip_from(out, written);
+    Ok(())
 }
 
 /// Whether a string, expanded for these parameters with all static variables 0, reads a static

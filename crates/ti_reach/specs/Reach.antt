@@ -1,12 +1,19 @@
 -- When a string serves as `cup` (terminfo(5), "Cursor Motions").
-use Rattle.std.specs.Prelude.{◌≡◌, ◌≢◌, ◌<◌, ◌⊎◌, ℕ, pos, List, [], ◌∷◌, ◌++◌, Some, Ok, Err}
+use Rattle.std.specs.Prelude.{◌≡◌, ◌<◌, ◌-◌, ◌⊎◌, ℕ, pos, true, List, [], ◌∷◌, ◌++◌, None, Ok, Err}
 use Rattle.ti_parm.specs.Meaning.{sent}
 use Rattle.ti_parm.specs.Value.{Value, Number}
 use Rattle.ti_parm.specs.declared.fault.ParmFault.{ParmFault}
 use Rattle.vt_term.specs.Text.{Splits, IsStuck, IsUnfinished}
 use Rattle.vt_term.specs.Run as Run
+use Rattle.vt_term.specs.Screen.{State, IsOfSize, IsAtRest}
+use Rattle.vt_effects.specs.declared.effects.Effect.{Effect}
+use Rattle.vt_effects.specs.declared.effects.Move.{Move}
+use Rattle.vt_effects.specs.declared.starts.Start.{Start}
+use Rattle.vt_effects.specs.declared.starts.Margins.TheVariants.{Whole}
+use Rattle.vt_effects.specs.Effect.{moved}
+use Rattle.vt_effects.specs.Record.{record_of}
 use Rattle.ti_reach.specs.declared.MissKind.{MissKind}
-use Rattle.ti_reach.specs.declared.MissKind.TheVariants.{Parm, Token, Misses, NoMemory}
+use Rattle.ti_reach.specs.declared.MissKind.TheVariants.{Parm, Token, Misses, Undecided, NoMemory}
 
 -- a row and a column as a string's parameters
 abbrev pub place : ℕ → ℕ → List Value
@@ -46,37 +53,84 @@ pub record IsNoTextAt (string : List ℕ) (row col : ℕ) : Type 0 where
   pub sends : sent string (place row col) ≡ Ok bytes
   pub fault : IsNoText bytes
 
--- the bytes are tokens to their end, and the last of them is no move to this place
-pub record EndsElsewhere (rows cols : ℕ) (bytes : List ℕ) (row col : ℕ) : Type 0 where
-  pub tokens : List (List ℕ)
-  pub splits : Splits bytes tokens []
-  pub last : (front : List (List ℕ)) (token : List ℕ) → tokens ≡ front ++ token ∷ [] → Run.place_of rows cols token ≢ Some (row, col)
+-- from some state at rest the bytes leave the cursor elsewhere
+pub record LeavesElsewhere (rows cols : ℕ) (bytes : List ℕ) (row col : ℕ) : Type 0 where
+  pub before : State
+  pub size : IsOfSize rows cols before
+  pub rest : IsAtRest before
+  pub after : State
+  pub runs : Run.Runs before bytes after
+  pub elsewhere : after.screen.row ≡ row → after.screen.col ≡ col → ⊥
 
--- the bytes for this place end in no move to it
+-- the bytes for this place leave the cursor elsewhere
 pub record MissesAt (string : List ℕ) (rows cols row col : ℕ) : Type 0 where
   pub bytes : List ℕ
   pub sends : sent string (place row col) ≡ Ok bytes
-  pub misses : EndsElsewhere rows cols bytes row col
+  pub misses : LeavesElsewhere rows cols bytes row col
+
+-- every state at rest: any cursor, and the whole screen as margins
+abbrev pub at_rest : ℕ → ℕ → Start
+at_rest rows cols = record { row_min = 0; row_max = rows - 1; col_min = 0; col_max = cols - 1; pending = true; margins = Whole }
+
+-- the tokens of the bytes have no record from rest, and the last of them is no CUP
+pub record IsUndecided (rows cols : ℕ) (bytes : List ℕ) : Type 0 where
+  pub tokens : List (List ℕ)
+  pub splits : Splits bytes tokens []
+  pub unrecorded : record_of rows cols (at_rest rows cols) tokens ≡ None
+  pub last : (front : List (List ℕ)) (token : List ℕ) → tokens ≡ front ++ token ∷ [] → Run.place_of rows cols token ≡ None
+
+pub record IsUndecidedAt (string : List ℕ) (rows cols row col : ℕ) : Type 0 where
+  pub bytes : List ℕ
+  pub sends : sent string (place row col) ≡ Ok bytes
+  pub undecided : IsUndecided rows cols bytes
 
 -- what it says of a place that nothing is sent for
 abbrev pub TellsWhyUnsent : List ℕ → ℕ → ℕ → MissKind → Type 0
 TellsWhyUnsent string row col Parm = HasFaultAt string row col
 TellsWhyUnsent string row col Token = ⊥
 TellsWhyUnsent string row col Misses = ⊥
+TellsWhyUnsent string row col Undecided = ⊥
 TellsWhyUnsent string row col NoMemory = Unit {0}
 
 -- what an answer says of the bytes for a place
-abbrev pub Judges : ℕ → ℕ → List ℕ → ℕ → ℕ → MissKind → Type 0
-Judges rows cols bytes row col Parm = ⊥
-Judges rows cols bytes row col Token = IsNoText bytes
-Judges rows cols bytes row col Misses = EndsElsewhere rows cols bytes row col
-Judges rows cols bytes row col NoMemory = Unit {0}
+abbrev pub IsMiss : ℕ → ℕ → List ℕ → ℕ → ℕ → MissKind → Type 0
+IsMiss rows cols bytes row col Parm = ⊥
+IsMiss rows cols bytes row col Token = IsNoText bytes
+IsMiss rows cols bytes row col Misses = LeavesElsewhere rows cols bytes row col
+IsMiss rows cols bytes row col Undecided = IsUndecided rows cols bytes
+IsMiss rows cols bytes row col NoMemory = Unit {0}
+
+-- every text of these tokens reaches the place, or misses it
+abbrev pub TokensReach : ℕ → ℕ → List (List ℕ) → ℕ → ℕ → Type 0
+TokensReach rows cols tokens row col = (bytes : List ℕ) → Splits bytes tokens [] → Run.Reaches rows cols bytes row col
+
+abbrev pub TokensMiss : ℕ → ℕ → List (List ℕ) → ℕ → ℕ → MissKind → Type 0
+TokensMiss rows cols tokens row col kind = (bytes : List ℕ) → Splits bytes tokens [] → IsMiss rows cols bytes row col kind
+
+-- a move leads from each of so many rows or columns to this one, or from one of them elsewhere
+abbrev pub LeadsAll : Move → ℕ → ℕ → Type 0
+LeadsAll way count to = (from : ℕ) → from < count → moved way from ≡ to
+
+pub record MissesFromSome (way : Move) (count to : ℕ) : Type 0 where
+  pub from : ℕ
+  pub within : from < count
+  pub misses : moved way from ≡ to → ⊥
+
+-- an effect leaves every cursor at this place, or one of them elsewhere
+pub record EndsThere (rows cols : ℕ) (e : Effect) (row col : ℕ) : Type 0 where
+  pub row_there : LeadsAll e.row rows row
+  pub col_there : LeadsAll e.col cols col
+
+abbrev pub EndsElsewhere : ℕ → ℕ → Effect → ℕ → ℕ → MissKind → Type 0
+EndsElsewhere rows cols e row col Misses = MissesFromSome e.row rows row ⊎ MissesFromSome e.col cols col
+EndsElsewhere rows cols e row col _ = ⊥
 
 -- what an answer says of a place; where memory was refused it says nothing
 abbrev pub TellsWhy : List ℕ → ℕ → ℕ → ℕ → ℕ → MissKind → Type 0
 TellsWhy string rows cols row col Parm = HasFaultAt string row col
 TellsWhy string rows cols row col Token = IsNoTextAt string row col
 TellsWhy string rows cols row col Misses = MissesAt string rows cols row col
+TellsWhy string rows cols row col Undecided = IsUndecidedAt string rows cols row col
 TellsWhy string rows cols row col NoMemory = Unit {0}
 
 -- the places before this one, row by row, are reached

@@ -2,14 +2,15 @@
 //! screen, whatever stood there before.
 #![tactic(auto)]
 
-ghost use Rattle.std.specs.Prelude.{◌≡◌, ◌<◌, IfErr, IfOk, Ok, OnOk};
+ghost use Rattle.std.specs.Prelude.{◌≡◌, ◌<◌, ◌≤◌, false, IfErr, IfOk, IsTrue, Ok, OnOk};
 ghost use Rattle.ti_parm.specs.Meaning.{sent};
 ghost use Rattle.ti_reach.specs.Reach as spec;
 ghost use Rattle.vt_term.specs.Run as run;
 
 use std::alloc::Global;
 use ti_parm::{Param, ParmFault, Statics, expand, strip_delays};
-use vt_term::{Size, TokenFaultKind, place_after, tokens};
+use vt_effects::{Effect, Margins, Move, Start, effect_of};
+use vt_term::{Size, Token, TokenFaultKind, place_after, tokens};
 
 /// Why a string doesn't reach a place.
 #[derive(Clone, Copy, Debug, PartialEq, Eq)]
@@ -18,8 +19,10 @@ pub enum MissKind {
     Parm,
     /// The expanded bytes end inside a sequence, or one of them fits nothing.
     Token,
-    /// The last of the tokens is no CUP to the place.
+    /// There is a state at rest from which the bytes leave the cursor elsewhere.
     Misses,
+    /// Neither: the bytes have no one effect from all states at rest, and they don't end in CUP.
+    Undecided,
     /// A request for memory was refused.
     NoMemory,
 }
@@ -38,9 +41,9 @@ pub struct Miss {
 /// Whether the string serves as `cup` on a terminal of this size (terminfo(5), "Cursor Motions").
 ///
 /// Ok is a theorem: for each row and column the string expands to whole tokens, and from every state
-/// at rest they leave the cursor there. It is found by looking at the last token, which has to be a
-/// CUP. Of the errors `Parm` and `Token` are so; `Misses` says that the last token is no such one, which is no
-/// proof that the cursor ends elsewhere. All places before the one that is told are reached.
+/// at rest they leave the cursor there. So are the errors `Parm`, `Token` and `Misses`, each of its
+/// place, and all places before that one are reached. `Undecided` is the answer where the tokens have no
+/// one effect from all states at rest, and the last of them is no CUP.
 pub fn reach_cup(alloc: Global, string: &[u8], size: Size) -> Result<(), Miss>
     ensures reached { OnOk result (spec.ServesAsCup string.now size.rows size.cols) }
     ensures row { IfErr result (λ miss. miss.row < size.rows) }
@@ -94,7 +97,7 @@ fn reach_place(
     ensures why { IfErr result (λ kind. spec.TellsWhy string.now size.rows size.cols row col kind) }
 {
     let bytes = send(alloc, string, row, col, expanded)?;
-    judge(alloc, bytes.as_slice(), size, row, col)
+    check_bytes(alloc, bytes.as_slice(), size, row, col)
 }
 
 /// What the string sends for one place.
@@ -120,20 +123,77 @@ fn send(
     }
 }
 
-/// Whether the bytes are whole tokens of which the last leads to the place.
-fn judge(alloc: Global, sent: &[u8], size: Size, row: usize, col: usize) -> Result<(), MissKind>
+/// Whether the bytes are whole tokens that leave the cursor at the place.
+fn check_bytes(
+    alloc: Global,
+    sent: &[u8],
+    size: Size,
+    row: usize,
+    col: usize,
+) -> Result<(), MissKind>
+    requires row_in { row < size.rows }
+    requires col_in { col < size.cols }
     ensures whole { OnOk result (spec.IsWhole sent.now) }
     ensures leads { OnOk result (run.Reaches size.rows size.cols sent.now row col) }
-    ensures why { IfErr result (λ kind. spec.Judges size.rows size.cols sent.now row col kind) }
+    ensures why { IfErr result (λ kind. spec.IsMiss size.rows size.cols sent.now row col kind) }
 {
     match tokens(alloc, sent) {
-        Ok(found) => match place_after(&found, size) {
-            Some(place) if place == (row, col) => Ok(()),
-            _ => Err(MissKind::Misses),
-        },
+        Ok(found) => check_tokens(&found, size, row, col),
         Err(fault) => Err(match fault.kind {
             TokenFaultKind::NoMemory => MissKind::NoMemory,
             TokenFaultKind::Unfinished | TokenFaultKind::Stuck => MissKind::Token,
         }),
+    }
+}
+
+/// Whether these tokens leave the cursor at the place: by their effect from rest, or else by the last.
+fn check_tokens(tokens: &[Token], size: Size, row: usize, col: usize) -> Result<(), MissKind>
+    ensures leads { OnOk result (spec.TokensReach size.rows size.cols tokens.now row col) }
+    ensures why { IfErr result (λ kind. spec.TokensMiss size.rows size.cols tokens.now row col kind) }
+{
+    match effect_of(tokens, size, &at_rest(size)) {
+        Some(effect) => check_effect(&effect, size, row, col),
+        None => match place_after(tokens, size) {
+            Some(place) if place == (row, col) => Ok(()),
+            Some(_) => Err(MissKind::Misses),
+            None => Err(MissKind::Undecided),
+        },
+    }
+}
+
+/// Whether an effect leaves the cursor at the place, from wherever it stands.
+fn check_effect(effect: &Effect, size: Size, row: usize, col: usize) -> Result<(), MissKind>
+    ensures reached { OnOk result (spec.EndsThere size.rows size.cols effect.now row col) }
+    ensures why { IfErr result (λ kind. spec.EndsElsewhere size.rows size.cols effect.now row col kind) }
+{
+    if leads_all(effect.row, size.rows, row) && leads_all(effect.col, size.cols, col) {
+        Ok(())
+    } else {
+        Err(MissKind::Misses)
+    }
+}
+
+/// Whether a move leads from each of so many rows or columns to this one. It does where it does from
+/// the first and from the last.
+fn leads_all(way: Move, count: usize, to: usize) -> bool
+    requires some { 1 ≤ count }
+    requires small { count ≤ 500 }
+    ensures all { IsTrue result → spec.LeadsAll way count to }
+    ensures some { result ≡ false → spec.MissesFromSome way count to }
+{
+    way.leads_from(0) == to && way.leads_from((count - 1) as u16) == to
+}
+
+/// All states at rest.
+fn at_rest(size: Size) -> Start
+    ensures { result ≡ spec.at_rest size.rows size.cols }
+{
+    Start {
+        row_min: 0,
+        row_max: (size.rows - 1) as u16,
+        col_min: 0,
+        col_max: (size.cols - 1) as u16,
+        pending: true,
+        margins: Margins::Whole,
     }
 }

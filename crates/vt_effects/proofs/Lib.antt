@@ -8,3 +8,5 @@ pub mod Erasing
 pub mod Sounding
 pub mod Joining
 pub mod Basics
+pub mod Settling
+pub mod Saying

@@ -5,3 +5,4 @@ pub mod Sound
 pub mod Compose
 pub mod Basic
 pub mod Fits
+pub mod Settings

@@ -3,6 +3,7 @@ ghost use Rattle.std.specs.Prelude.{ℕ, ◌<◌};
 ghost use Rattle.vt_term.specs.Size.{IsSize};
 ghost use Rattle.vt_effects.specs.declared.starts.Start.{Start};
 ghost use Rattle.vt_term.specs.Moving.{cursor_to};
+ghost use Rattle.vt_effects.specs.Settings.{RecordsTellSettings};
 ghost use Rattle.vt_effects.specs.Basic.{HasRecord, home_text, clear_text, el_text, sgr0_text, placed_at, cleared, tail_erased, made_plain};
 
 /// The strings of the plainest terminals have their records from every start: to clear, to go to a
@@ -13,4 +14,12 @@ pub fn basic_records()
     ensures sgr0 { (rows cols : ℕ) (start : Start) → IsSize rows cols → HasRecord rows cols start sgr0_text made_plain }
     ensures home { (rows cols : ℕ) (start : Start) → IsSize rows cols → HasRecord rows cols start home_text (placed_at 0 0) }
     ensures el { (rows cols : ℕ) (start : Start) → IsSize rows cols → HasRecord rows cols start el_text tail_erased }
+{}
+
+/// What a record says of rendition, character sets, margins and visibility holds from every screen
+/// with autowrap on and insertion off, whatever its cursor and margins: also from one that the
+/// start doesn't allow. Each step by itself leaves autowrap on and insertion off, and keeps the
+/// margins and the visibility where the record does.
+pub fn record_settings()
+    ensures { RecordsTellSettings }
 {}

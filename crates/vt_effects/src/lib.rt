@@ -5,6 +5,7 @@
 mod applying;
 mod composing;
 mod effects;
+mod equality;
 pub mod laws;
 mod moves;
 mod records;

@@ -5,16 +5,18 @@ ghost use Rattle.vt_effects.specs.Record as spec;
 
 use crate::effects::Move;
 
-/// Where a move leads from a row or column.
-pub(crate) fn moved(way: Move, from: u16) -> usize
-    ensures { result ≡ meaning.moved way from }
-{
-    let from = usize::from(from);
-    match way {
-        Move::Kept => from,
-        Move::To(k) => usize::from(k),
-        Move::Back(k) => from.saturating_sub(usize::from(k)),
-        Move::Forward(k) => from + usize::from(k),
+impl Move {
+    /// Where it leads from a row or column: no further up or left than to the first.
+    pub fn leads_from(self, from: u16) -> usize
+        ensures { result ≡ meaning.moved self from }
+    {
+        let from = usize::from(from);
+        match self {
+            Move::Kept => from,
+            Move::To(k) => usize::from(k),
+            Move::Back(k) => from.saturating_sub(usize::from(k)),
+            Move::Forward(k) => from + usize::from(k),
+        }
     }
 }
 
@@ -61,9 +63,9 @@ pub(crate) fn and_forward(way: Move, n: u16) -> Move
 pub(crate) fn back_by(n: u16, low: u16, high: u16, way: Move) -> Option<Move>
     ensures { result ≡ spec.back_by n low high way }
 {
-    if usize::from(n) <= moved(way, low) {
+    if usize::from(n) <= way.leads_from(low) {
         Some(and_back(way, n))
-    } else if moved(way, high) < usize::from(n) {
+    } else if way.leads_from(high) < usize::from(n) {
         Some(Move::To(0))
     } else {
         None
@@ -74,9 +76,9 @@ pub(crate) fn back_by(n: u16, low: u16, high: u16, way: Move) -> Option<Move>
 pub(crate) fn forward_by(n: u16, low: u16, high: u16, last: u16, way: Move) -> Option<Move>
     ensures { result ≡ spec.forward_by n low high last way }
 {
-    if moved(way, high) + usize::from(n) <= usize::from(last) {
+    if way.leads_from(high) + usize::from(n) <= usize::from(last) {
         Some(and_forward(way, n))
-    } else if usize::from(last) < moved(way, low) + usize::from(n) {
+    } else if usize::from(last) < way.leads_from(low) + usize::from(n) {
         Some(Move::To(last))
     } else {
         None

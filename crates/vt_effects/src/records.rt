@@ -3,7 +3,7 @@ ghost use Rattle.std.specs.Prelude.{◌≡◌, IfSome, ◌<◌, ◌≤◌, ◌-�
 ghost use Rattle.vt_effects.specs.Record as spec;
 
 use crate::effects::{Effect, Erasure, Ink, Move, Region, Scroll, Sets, Switch};
-use crate::moves::{and_back, and_forward, back_by, forward_by, moved};
+use crate::moves::{and_back, and_forward, back_by, forward_by};
 use crate::renditions::{all_renderings, switch_of};
 use crate::starts::{Margins, Start};
 use vt_term::{Function, Part, Size, Token};
@@ -207,7 +207,7 @@ fn line_fed(effect: Effect, size: Size, start: &Start) -> Option<Effect>
     ensures { result ≡ spec.line_fed size.rows start.now effect }
 {
     if are_whole(size, start.margins, effect.margins)
-        && moved(effect.row, start.row_max) + 1 < size.rows
+        && effect.row.leads_from(start.row_max) + 1 < size.rows
     {
         Some(with_row(effect, and_forward(effect.row, 1)))
     } else if on_bottom(size, start.row_min, start.margins) && may_scroll(&effect) {
@@ -221,7 +221,7 @@ fn line_fed(effect: Effect, size: Size, start: &Start) -> Option<Effect>
 fn line_reversed(effect: Effect, size: Size, start: &Start) -> Option<Effect>
     ensures { result ≡ spec.line_reversed size.rows start.now effect }
 {
-    if are_whole(size, start.margins, effect.margins) && 1 <= moved(effect.row, start.row_min) {
+    if are_whole(size, start.margins, effect.margins) && 1 <= effect.row.leads_from(start.row_min) {
         Some(with_row(effect, and_back(effect.row, 1)))
     } else if on_top(size, start.row_max, start.margins) && may_scroll(&effect) {
         Some(scrolling(effect, Scroll::Down))

@@ -1,7 +1,7 @@
 use Rattle.std.proofs.Common.{◌≡◌, ℕ, List, map, Bor, ap, subst}
 use Rattle.vt_term.specs.Screen.{State, IsState, reset}
 use Rattle.vt_term.specs.Run.{Runs}
-use Rattle.cur_update.specs.Tape.{Taped}
+use Rattle.cur_wires.specs.Tape.{Taped}
 use Rattle.cur_update.specs.Plain.{Extent, IsPiece, IsSized, IsReady, Shows, paint_limit}
 use Rattle.cur_update.proofs.Showing.{reset_ready, fed_shows}
 use Rattle.cur_update.proofs.whole.shown.Goals as goal

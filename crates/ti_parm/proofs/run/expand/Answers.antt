@@ -1,4 +1,4 @@
-use Rattle.std.proofs.Common.{◌≡◌, ap, ◌∙◌}
+use Rattle.std.proofs.Common.{ap, ◌∙◌}
 use Rattle.ti_parm.specs.Machine.{state_of}
 use Rattle.ti_parm.specs.Value.{values_of}
 use Rattle.ti_parm.proofs.Expansion.{begin, meaning-ends, meaning-fails}

@@ -2,7 +2,7 @@ use Rattle.std.proofs.Common.{◌≡◌, ℕ, ◌∙◌, List, ap, subst, arith}
 use Rattle.vt_term.specs.Size.{IsSize}
 use Rattle.cur_update.specs.Plain.{Extent}
 use Rattle.vt_term.specs.Moving.{cursor_to}
-use Rattle.cur_update.specs.Wire.{Sends}
+use Rattle.cur_wires.specs.Wire.{Sends}
 use Rattle.cur_update.proofs.Grids.{move_leads}
 use Rattle.cur_update.proofs.Fitting.{place_string}
 use Rattle.cur_update.proofs.plains.Plain.move_to.Goals as goal
@@ -19,5 +19,5 @@ returns-clause-paints g c lines above =
     record {
       bytes = cursor_to c.args.row c.args.col;
       leads = move_leads c.args.self.now lines above c.args.row c.args.col (subst Q c.self.view_is c.self.inside.size.limits) c.requires.row_within c.requires.col_within;
-      sends = subst P string c.send_all.ensures;
+      sends = subst P string c.send_all.ensures.sends;
     }

@@ -25,5 +25,5 @@ returns-clause-paints g c lines is =
     (record {
       bytes = c.args.line.now;
       leads = line_leads size lines c.args.row c.args.line.now c.requires.row_within c.requires.columns (stands_itself c.args.line.now _ is (all_printed c.args.line.now c.requires.printed));
-      sends = c.send_all.ensures;
+      sends = c.send_all.ensures.sends;
     })

@@ -2,7 +2,7 @@ use Rattle.std.proofs.Common.{◌≡◌, ℕ, ◌+◌, ◌-◌, ◌*◌, [], Lis
 use Rattle.std.proofs.lemmas.Result.{err_from_is_err_and}
 use Rattle.cur_update.specs.Plain.{IsPiece, IsSized, Shows, move_limit}
 use Rattle.cur_update.specs.Steps.{ShowsAbove, MovedTo}
-use Rattle.cur_update.specs.declared.wires.WireFault.{WireFault}
+use Rattle.cur_wires.specs.declared.wires.WireFault.{WireFault}
 use Rattle.cur_update.specs.Paints.{Paints}
 use Rattle.cur_update.proofs.Leading.{leads_nothing}
 use Rattle.cur_update.proofs.Painting.{paints_then, paints_cut, paints_wider}

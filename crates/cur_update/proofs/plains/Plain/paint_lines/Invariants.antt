@@ -1,5 +1,5 @@
 use Rattle.std.proofs.Common.{◌+◌, ◌*◌, ℕ, List, map, Bor, Ok}
-use Rattle.cur_update.specs.declared.wires.WireFault.{WireFault}
+use Rattle.cur_wires.specs.declared.wires.WireFault.{WireFault}
 use Rattle.cur_update.specs.Paints.{Paints}
 use Rattle.cur_update.specs.Plain.{IsPiece, IsSized, move_limit}
 use Rattle.cur_update.specs.Steps.{ShowsAbove}

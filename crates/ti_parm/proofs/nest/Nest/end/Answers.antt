@@ -1,4 +1,4 @@
-use Rattle.std.proofs.Common.{◌≡◌, Bool, true, false, refl}
+use Rattle.std.proofs.Common.{◌≡◌, Bool, true, false}
 use Rattle.ti_parm.proofs.Judging.{ended-inside, ended-outside}
 use Rattle.ti_parm.proofs.nest.Nest.end.Goals as goal
 

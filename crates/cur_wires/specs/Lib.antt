@@ -1,0 +1,4 @@
+pub mod Wire
+pub mod Tape
+pub mod Fuse
+pub mod Counted
