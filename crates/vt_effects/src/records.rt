@@ -4,7 +4,7 @@ ghost use Rattle.vt_effects.specs.Record as spec;
 
 use crate::effects::{Effect, Erasure, Ink, Move, Region, Scroll, Sets, Switch};
 use crate::moves::{and_back, and_forward, back_by, forward_by};
-use crate::renditions::{all_renderings, switch_of};
+use crate::renditions::all_renderings;
 use crate::starts::{Margins, Start};
 use vt_term::{Function, Part, Size, Token};
 
@@ -310,12 +310,12 @@ fn designating(effect: Effect, is_g1: bool, graphic: bool) -> Effect
 {
     let charset = if is_g1 {
         Sets {
-            g1_graphic: switch_of(graphic),
+            g1_graphic: Switch::set_to(graphic),
             ..effect.charset
         }
     } else {
         Sets {
-            g0_graphic: switch_of(graphic),
+            g0_graphic: Switch::set_to(graphic),
             ..effect.charset
         }
     };
@@ -327,7 +327,7 @@ fn shifting(effect: Effect, out: bool) -> Effect
 {
     Effect {
         charset: Sets {
-            shifted_out: switch_of(out),
+            shifted_out: Switch::set_to(out),
             ..effect.charset
         },
         ..effect
@@ -341,7 +341,7 @@ fn mode_set(effect: Effect, private: bool, on: bool, number: u16) -> Option<Effe
     match (private, number) {
         (true, 7) if !on => None,
         (true, 25) => Some(Effect {
-            visible: switch_of(on),
+            visible: Switch::set_to(on),
             ..effect
         }),
         (false, 4) if on => None,
