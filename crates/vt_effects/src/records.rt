@@ -4,7 +4,7 @@ ghost use Rattle.vt_effects.specs.Record as spec;
 
 use crate::effects::{Effect, Erasure, Ink, Move, Region, Scroll, Sets, Switch};
 use crate::moves::{and_back, and_forward, back_by, forward_by};
-use crate::renditions::{all_renderings, switch_of};
+use crate::renditions::all_renderings;
 use crate::starts::{Margins, Start};
 use vt_term::{CodeElement, EraseExtent, Function, ModeKind, Size, Token};
 
@@ -310,11 +310,11 @@ fn designating(effect: Effect, set: CodeElement, graphic: bool) -> Effect
 {
     let charset = match set {
         CodeElement::G0 => Sets {
-            g0_graphic: switch_of(graphic),
+            g0_graphic: Switch::set_to(graphic),
             ..effect.charset
         },
         CodeElement::G1 => Sets {
-            g1_graphic: switch_of(graphic),
+            g1_graphic: Switch::set_to(graphic),
             ..effect.charset
         },
     };
@@ -326,7 +326,7 @@ fn shifting(effect: Effect, out: bool) -> Effect
 {
     Effect {
         charset: Sets {
-            shifted_out: switch_of(out),
+            shifted_out: Switch::set_to(out),
             ..effect.charset
         },
         ..effect
@@ -340,7 +340,7 @@ fn mode_set(effect: Effect, kind: ModeKind, on: bool, number: u16) -> Option<Eff
     match (kind, number) {
         (ModeKind::Private, 7) if !on => None,
         (ModeKind::Private, 25) => Some(Effect {
-            visible: switch_of(on),
+            visible: Switch::set_to(on),
             ..effect
         }),
         (ModeKind::Standard, 4) if on => None,
