@@ -4,9 +4,11 @@
 #
 #   bench/source.sh [RUNS]
 #
-# The text is made of the system's own entries (infocmp -1), copied under other names, and behind each copy
+# The text is made of the system's own entries (infocmp -1), copied under other names, and after each copy
 # come four short entries that use it, as in the source that ncurses is shipped with: 2,800 entries have
-# 1.2 MB. Each time is the least of RUNS runs (5), in milliseconds of wall clock.
+# 1.2 MB. The entry that is printed is the last one that uses another. ncurses does the same work by `tic -I -1 -e NAME`, which
+# prints that entry with its `use=`, and with `-r`, which resolves them; beside it, what it takes to compile the whole text.
+# Each time is the least of RUNS runs (5), in milliseconds of wall clock.
 set -eu
 cd -- "$(dirname -- "$0")/.."
 runs=${1:-5}
@@ -61,29 +63,42 @@ ratio() {
     echo "$1 $2" | awk '{ printf "%.3f", $1 / $2 }'
 }
 
+# last FILE: the name of the last entry that uses another
+last() {
+    sed -n 's/^\(t[0-9]*-[0-9]*-4\)|.*/\1/p' "$1" | tail -n 1
+}
+
+for program in tic infocmp; do
+    command -v "$program" >/dev/null 2>&1 || {
+        echo "source: $program is missing" >&2
+        exit 1
+    }
+done
 make 1200000 >"$work/source"
 mkdir "$work/compiled"
+name=$(last "$work/source")
 entries=$(grep -c '^[^ 	#]' "$work/source")
-echo "text: $(wc -c <"$work/source") bytes, $entries entries"
+echo "text: $(wc -c <"$work/source") bytes, $entries entries, made of $(wc -l <"$work/names") of the system's; printed: $name"
 
-./ticurses infocmp "$work/source:t3-7-2" >"$work/printed"
+./ticurses infocmp "$work/source:$name" >"$work/printed"
 echo "printed: $(wc -l <"$work/printed") lines"
 
 start=$(least ./ticurses --version)
-ours=$(least ./ticurses infocmp "$work/source:t3-7-2")
+ours=$(least ./ticurses infocmp "$work/source:$name")
+one=$(least tic -I -1 -x -e "$name" "$work/source")
+resolved=$(least tic -I -1 -x -r -e "$name" "$work/source")
 check=$(least tic -c -x "$work/source")
 compile=$(least tic -x -o "$work/compiled" "$work/source")
-show=$(least infocmp -1 -x -A "$work/compiled" t3-7-2)
-both=$(echo "$compile $show" | awk '{ printf "%.2f", $1 + $2 }')
-checked=$(echo "$check $show" | awk '{ printf "%.2f", $1 + $2 }')
 echo "ticurses infocmp FILE:NAME: $ours ms (ticurses --version: $start ms)"
-echo "ncurses tic -o, infocmp: $compile + $show ms; ratio $(ratio "$ours" "$both")"
-echo "ncurses tic -c, infocmp: $check + $show ms; ratio $(ratio "$ours" "$checked")"
+echo "ncurses, one entry, tic -I -1 -e NAME: $one ms; ratio $(ratio "$ours" "$one")"
+echo "ncurses, one entry resolved, tic -I -1 -r -e NAME: $resolved ms; ratio $(ratio "$ours" "$resolved")"
+echo "ncurses, the whole text checked, tic -c: $check ms; ratio $(ratio "$ours" "$check")"
+echo "ncurses, the whole text compiled, tic -o: $compile ms; ratio $(ratio "$ours" "$compile")"
 
 # a source has at most 16777216 bytes
 for size in 1000000 4000000 16000000; do
     make "$size" >"$work/long"
     size=$(wc -c <"$work/long")
-    took=$(least ./ticurses infocmp "$work/long:t3-7-2")
+    took=$(least ./ticurses infocmp "$work/long:$(last "$work/long")")
     echo "$size bytes: $took ms, $(echo "$took $start $size" | awk '{ printf "%.2f", ($1 - $2) * 1000000 / $3 }') ns a byte beyond the start"
 done

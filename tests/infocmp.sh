@@ -1,6 +1,67 @@
 #!/bin/sh
-# The compiled form beside ncurses' own program: files of the system's database are read here, and files
-# that are written here are read there, each with the same capabilities. One build serves all of them.
+# `ticurses infocmp` beside ncurses, on the system's own descriptions: ncurses' tic makes the same file of what is printed of an
+# entry of a source text as of the text itself.
 set -eu
-cd -- "$(dirname -- "$0")"
-exec python3 -B infocmp.py
+cd -- "$(dirname -- "$0")/.."
+. tests/probing
+
+needs infocmp tic infocmp
+work=$(mktemp -d)
+trap 'rm -rf "$work"' EXIT
+mkdir "$work/cases" "$work/theirs" "$work/ours" "$work/texts"
+
+# of many descriptions every so many-th
+most=120
+for folder in $(infocmp -D 2>/dev/null); do
+    [ -d "$folder" ] || continue
+    find "$folder" -type f | sort
+done >"$work/files"
+step=$(($(wc -l <"$work/files") / most + 1))
+awk -v step="$step" 'NR % step == 0' "$work/files" >"$work/chosen"
+
+# source texts of 40 entries, since each run reads its own to the end, and a case for each entry
+count=0
+while read -r file; do
+    infocmp -1 "${file##*/}" 2>/dev/null | grep -v '^#' >"$work/text" || continue
+    # a file may bear a name that its entry does not have
+    name=$(sed -n '1s/[|,].*//p' "$work/text")
+    [ -n "$name" ] && [ ! -e "$work/cases/$name.args" ] || continue
+    source=source$((count / 40))
+    [ $((count % 40)) -ne 0 ] || set -- "$@" "$source=$work/$source"
+    cat "$work/text" >>"$work/$source"
+    # a compiled file of ncurses may tell a cancellation; for us it is that the capability is not there
+    grep -v '^	[A-Za-z0-9]*@,$' "$work/text" >"$work/texts/$name"
+    : >"$work/cases/$name"
+    printf '%s\n' infocmp "$source:$name" >"$work/cases/$name.args"
+    count=$((count + 1))
+done <"$work/chosen"
+if [ "$count" -eq 0 ]; then
+    echo "infocmp: skipped, since the system has no descriptions"
+    exit 0
+fi
+if ! python3 -B tests/trying.py "$work/cases" "$@" >"$work/log" 2>"$work/said"; then
+    cat "$work/said" >&2
+    echo "infocmp: an entry could not be printed" >&2
+    exit 1
+fi
+# what was printed stands under the name of its case
+awk -v folder="$work/ours/" '/^== / { file = folder $2; next } file != "" { print > file }' "$work/log"
+
+same=0
+for text in "$work/texts"/*; do
+    name=${text##*/}
+    mkdir "$work/a" "$work/b"
+    tic -o "$work/a" "$text" 2>"$work/said" || continue
+    if ! tic -o "$work/b" "$work/ours/$name" 2>"$work/said" || ! diff -r "$work/a" "$work/b" >"$work/said" 2>&1; then
+        cat "$work/said" >&2
+        echo "infocmp: tic makes another file of $name as we print it" >&2
+        exit 1
+    fi
+    rm -r "$work/a" "$work/b"
+    same=$((same + 1))
+done
+if [ "$same" -eq 0 ]; then
+    echo "infocmp: none of the descriptions could be compared" >&2
+    exit 1
+fi
+echo "infocmp: $same of the system's descriptions are the same as we print them"

@@ -43,7 +43,7 @@ if cc -O2 -o "$work/peer" bench/peer.c -lvterm 2>/dev/null; then
     done <"$work/libvterm"
     echo "screens: libvterm shows those that are said to be its own"
 fi
-if ! (cd crates/ticurses && rt try --cases "$work/cases") >"$work/log" 2>&1; then
+if ! python3 -B tests/trying.py "$work/cases" >"$work/log" 2>&1; then
     cat "$work/log" >&2
     echo "screens: the answers differ" >&2
     exit 1

@@ -1,4 +1,10 @@
-"""Many runs of a program of this repository with one build, by `rt try --cases`."""
+"""Many runs of a program with one build: of ticurses itself, as ./ticurses builds it, or of a test's own, by `rt try`.
+
+    python3 -B tests/trying.py FOLDER [NAME=FILE..]
+
+runs ticurses for each case of the folder: its words stand in NAME.args, one a line, its standard input in NAME, what it has
+to print in NAME.stdout, and its status in NAME.status (0 where that file is not there). Without NAME.stdout the output is printed
+below a line `== NAME`. Each run begins in an empty folder with copies of the files that are given by name."""
 
 import os
 import re
@@ -8,6 +14,10 @@ import sys
 import tempfile
 
 TOP = os.path.dirname(os.path.dirname(os.path.abspath(__file__)))
+sys.path.append(f"{TOP}/tools")
+PROGRAM = f"{TOP}/crates/ticurses"
+
+import crates as listing
 
 
 class Case:
@@ -18,8 +28,8 @@ class Case:
 
 
 class Told:
-    """What a run told: its status, standard output with its last line ended, and standard error. Of a case whose
-    output was wanted, and came, only the status is known."""
+    """What a run told: its status, standard output and standard error. Of a case of `rt try` whose output was wanted,
+    and came, only the status is known."""
 
     def __init__(self, status, out, err):
         self.status, self.out, self.err = status, out, err
@@ -28,6 +38,34 @@ class Told:
 def run_cases(crate, cases, data=None):
     """Runs the program of the crate's folder for each case, in a folder with the data: bytes by name. An output
     that is not the wanted one ends the script."""
+    return run_built(cases, data) if crate == PROGRAM else run_unproved(crate, cases, data)
+
+
+def run_built(cases, data):
+    """Runs ticurses, which is built where it has to be, once for all scripts. A word `{}` is the path of the case's file."""
+    subprocess.run([f"{TOP}/ticurses", "--version"], stdout=subprocess.DEVNULL, check=True)
+    return [run_in_room(case, data or {}) for case in cases]
+
+
+def run_in_room(case, data):
+    with tempfile.TemporaryDirectory() as room:
+        os.mkdir(f"{room}/here")
+        write(f"{room}/given", case.given)
+        words = [f"{room}/given" if word == "{}" else word for word in case.words]
+        for name, held in data.items():
+            if any(name in word for word in words):
+                write(f"{room}/here/{name}", held)
+        pipe = subprocess.PIPE
+        how = {"cwd": f"{room}/here", "env": {}, "input": case.given, "stdout": pipe, "stderr": pipe, "timeout": 600}
+        ran = subprocess.run([f"{PROGRAM}/out/ticurses", *words], **how)
+    if case.wanted is not None and ran.stdout != case.wanted:
+        print(f"ticurses {' '.join(map(str, case.words))}: it printed\n{ran.stdout!r}\nand was to print", file=sys.stderr)
+        sys.exit(repr(case.wanted))
+    return Told(ran.returncode, ran.stdout, ran.stderr)
+
+
+def run_unproved(crate, cases, data):
+    """The same for the program of a test, by `rt try --cases`."""
     with tempfile.TemporaryDirectory() as work:
         os.mkdir(f"{work}/cases")
         os.mkdir(f"{work}/data")
@@ -58,20 +96,53 @@ def write_case(path, case):
         write(f"{path}.stdout", case.wanted)
 
 
-def probe(work, source, crates):
-    """Makes a program of the source text, a file of this folder, over copies of these crates, and returns the
-    folder of its crate. Nothing of it stands in the repository, so that no check reads it."""
-    with open(f"{TOP}/crates.txt", encoding="utf-8") as file:
-        lines = [line for line in file if line.split(":")[0] in crates]
-    for crate in crates:
+def probe(work, source, names):
+    """Makes a program of the source text, a file of this folder, over copies of these crates and those that they stand
+    on, and returns the folder of its crate. Nothing of it stands in the repository, so that no check reads it."""
+    uses = listing.listed()
+    laid = listing.below(names, uses)
+    for crate in laid:
         for part in ("src", "specs", "proofs"):
-            shutil.copytree(f"{TOP}/crates/{crate}/{part}", f"{work}/crates/{crate}/{part}")
+            if os.path.isdir(f"{TOP}/crates/{crate}/{part}"):
+                shutil.copytree(f"{TOP}/crates/{crate}/{part}", f"{work}/crates/{crate}/{part}")
     os.makedirs(f"{work}/crates/probe/src")
     shutil.copy(f"{TOP}/tests/{source}", f"{work}/crates/probe/src/main.rt")
-    write(f"{work}/crates.txt", "".join([*lines, f"probe: {' '.join(crates)}\n"]).encode())
+    lines = [f"{crate}: {' '.join(uses[crate])}\n" for crate in laid]
+    write(f"{work}/crates.txt", "".join([*lines, f"probe: {' '.join(laid)}\n"]).encode())
     return f"{work}/crates/probe"
 
 
 def write(path, held):
     with open(path, "wb") as file:
         file.write(held)
+
+
+def held_in(path, otherwise=None):
+    """What a file holds, or this where it is not there."""
+    if not os.path.isfile(path):
+        return otherwise
+    with open(path, "rb") as file:
+        return file.read()
+
+
+def main(folder, *given):
+    """Runs the cases of a folder."""
+    data = {name: held_in(path) for name, _, path in (it.partition("=") for it in given)}
+    names = sorted(it[: -len(".args")] for it in os.listdir(folder) if it.endswith(".args"))
+    cases = []
+    for name in names:
+        words = held_in(f"{folder}/{name}.args").decode("utf-8", "surrogateescape").split("\n")[:-1]
+        cases.append(Case(words, held_in(f"{folder}/{name}", b""), held_in(f"{folder}/{name}.stdout")))
+    bad = 0
+    for name, case, told in zip(names, cases, run_cases(PROGRAM, cases, data)):
+        wanted = int(held_in(f"{folder}/{name}.status", b"0"))
+        if told.status != wanted:
+            print(f"{name}: the status is {told.status}, and {wanted} was wanted: {told.err!r}", file=sys.stderr)
+            bad += 1
+        if case.wanted is None:
+            print(f"== {name}\n{told.out.decode('latin-1')}", end="")
+    return min(bad, 1)
+
+
+if __name__ == "__main__":
+    sys.exit(main(*sys.argv[1:]))

@@ -133,7 +133,7 @@ def compare(label, mine, other):
         for it in names:
             if mine[1].get(it) != other[1].get(it):
                 print(f"  {it}: {mine[1].get(it)} and {other[1].get(it)}", file=sys.stderr)
-        sys.exit(f"infocmp: {label}: ncurses tells {other and other[0]}, and here it is {mine and mine[0]}")
+        sys.exit(f"compiled: {label}: ncurses tells {other and other[0]}, and here it is {mine and mine[0]}")
 
 
 def compiled_there(folder, name, text):
@@ -146,7 +146,7 @@ def compiled_there(folder, name, text):
         if os.path.exists(f"{folder}/{letter}/{name}"):
             with open(f"{folder}/{letter}/{name}", "rb") as file:
                 return folder, name, file.read()
-    sys.exit(f"infocmp: tic compiled no entry {name}")
+    sys.exit(f"compiled: tic compiled no entry {name}")
 
 
 def place_for(folder, name):
@@ -168,7 +168,7 @@ def version():
 def main():
     # numbers of 32 bits came with 6.1
     if version() < (6, 1) or not system_entries():
-        print("infocmp: skipped, since the system has no infocmp and tic of ncurses 6.1 or later, or no compiled entries")
+        print("compiled: skipped, since the system has no infocmp and tic of ncurses 6.1 or later, or no compiled entries")
         return
     entries = system_entries()
     kinds, _ = table_of(*entries[0][:2])
@@ -193,9 +193,9 @@ def main():
         compare(f"{name} written here", wanted, written[at])
     extended = sum(is_extended(held) for _, _, held in entries)
     every = sum(map(len, kinds))
-    print(f"infocmp: {len(entries)} files of ncurses are read here as it reads them; {extended} have an extended section,")
-    print(f"infocmp: which is left unread. {len(sources)} files written here are read by ncurses as their sources say. 2 files")
-    print(f"infocmp: each way have all {every} capabilities, 1 of these numbers of 32 bits. The order in acsc isn't compared")
+    print(f"compiled: {len(entries)} files of ncurses are read here as it reads them; {extended} have an extended section,")
+    print(f"compiled: which is left unread. {len(sources)} files written here are read by ncurses as their sources say. 2 files")
+    print(f"compiled: each way have all {every} capabilities, 1 of these numbers of 32 bits. The order in acsc isn't compared")
 
 
 main()

@@ -3,4 +3,4 @@
 # goes by places in the file. One build serves all of them, without proof: what is proved is proved elsewhere.
 set -eu
 cd -- "$(dirname -- "$0")"
-exec python3 -B altered.py
+exec python3 -B compiled_altered.py

@@ -1,12 +1,11 @@
 #!/bin/sh
-# `expand` beside other programs, on strings that both read alike: formats beside printf(1), arithmetic
-# beside the shell's own, conditionals, variables and the system's colour strings beside ncurses' tput; and
-# conditionals 454 deep. What is expected comes from those programs. One build serves all the cases.
+# `ticurses expand` beside other programs: formats beside printf(1), arithmetic beside the shell's own, conditionals, variables
+# and the system's cursor and colour strings beside ncurses' tput; and conditionals 454 deep, which no other program judges.
 set -eu
 cd -- "$(dirname -- "$0")/.."
 . tests/probing
 
-needs parm od tr cut awk
+needs expansions od tr cut awk
 work=$(mktemp -d)
 trap 'rm -rf "$work"' EXIT
 mkdir "$work/cases"
@@ -86,7 +85,7 @@ arithmetic() {
 by_tput() {
     for peer in tput tic; do
         if ! command -v "$peer" >/dev/null 2>&1; then
-            echo "parm: conditionals and variables beside tput skipped, since $peer is missing"
+            echo "expansions: conditionals and variables beside tput skipped, since $peer is missing"
             return
         fi
     done
@@ -123,7 +122,7 @@ STRINGS
 # the system's colour strings by tput, as far as they are one SGR sequence, which leaves the cursor
 system() {
     command -v tput >/dev/null 2>&1 && command -v infocmp >/dev/null 2>&1 || {
-        echo "parm: the system's colours skipped, since tput or infocmp is missing"
+        echo "expansions: the system's colours skipped, since tput or infocmp is missing"
         return
     }
     for name in ansi linux screen screen-256color tmux-256color xterm xterm-256color vt220 rxvt putty; do
@@ -147,6 +146,23 @@ system() {
     done
 }
 
+# the cursor addresses of the system's terminals by tput, at a few places
+addresses() {
+    command -v tput >/dev/null 2>&1 && command -v infocmp >/dev/null 2>&1 || return 0
+    for name in ansi linux screen tmux vt220 xterm; do
+        string=$(infocmp -1 "$name" 2>/dev/null | sed -n 's/^\tcup=\(.*\),$/\1/p')
+        # tput sends delays as padding
+        case $string in '' | *'$<'*) continue ;; esac
+        for place in '0 0' '1 3' '9 99' '23 79'; do
+            # shellcheck disable=SC2086
+            tput -T "$name" cup $place >"$work/bytes"
+            # shellcheck disable=SC2086
+            wanted 0 "$string" $place
+            printf '%s\ncursor %s\n' "$hex" "$place" >"$case.stdout"
+        done
+    done
+}
+
 # conditionals 454 deep round a letter, 4,087 bytes
 deep() {
     nest=$(awk 'BEGIN { for (i = 0; i < 454; i++) printf "%%?%%p1%%t"; printf "x"; for (i = 0; i < 454; i++) printf "%%;" }')
@@ -165,10 +181,11 @@ formats
 arithmetic
 by_tput
 system
+addresses
 deep
-if ! (cd crates/ticurses && rt try --cases "$work/cases") >"$work/log" 2>&1; then
-    grep -v '\.\.\. ok$' "$work/log" | head -40 >&2
-    echo "parm: the answers differ" >&2
+if ! python3 -B tests/trying.py "$work/cases" >"$work/log" 2>&1; then
+    head -40 "$work/log" >&2
+    echo "expansions: the answers differ" >&2
     exit 1
 fi
-echo "parm: $count expansions are the same as those of printf, the shell, tput and the nest"
+echo "expansions: $count expansions are the same as those of printf, the shell, tput and the nest"

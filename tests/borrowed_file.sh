@@ -11,7 +11,7 @@ trap 'rm -rf "$work"' EXIT
 
 # probe NAME OUTER FIRST SECOND: a program that keeps what was read, and names; the others are lines of it
 probe() {
-    lay "$work/$1" ti_caps ti_compiled
+    lay "$work/$1" ti_compiled
     cat >"$work/$1/crates/probe/src/main.rt" <<END
 #![tactic(auto)]
 
@@ -43,9 +43,9 @@ probe packed "$file" "$file" '' &
 probe names "$file" '' "$file" &
 wait
 
-must_run "$work/right" "outlives: a program whose file lives long enough is refused"
+must_run "$work/right" "borrowed_file: a program whose file lives long enough is refused"
 for kept in packed names; do
     must_not_compile "$work/$kept" 'error\[borrow-e0597\]: `file` does not live long enough$' \
-        "outlives: the $kept may live longer than the file"
+        "borrowed_file: the $kept may live longer than the file"
 done
-echo "outlives: what was read, and its names, may not live longer than the file"
+echo "borrowed_file: what was read, and its names, may not live longer than the file"

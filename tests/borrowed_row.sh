@@ -11,7 +11,7 @@ trap 'rm -rf "$work"' EXIT
 
 # probe NAME DURING WITHIN AFTER: a program that writes through a lent line and then through its cells; the others are lines of it
 probe() {
-    lay "$work/$1" vt_screen vt_term cur_grid cur_windows
+    lay "$work/$1" cur_windows
     cat >"$work/$1/crates/probe/src/main.rt" <<END
 #![tactic(auto)]
 
@@ -49,8 +49,8 @@ probe looked_at 'let _ = desk.touchwin(0);' '' '' &
 probe drawn_on '' 'let _ = desk.erase(0);' '' &
 wait
 
-must_run "$work/right" "lent: a program that is done with its line is refused"
+must_run "$work/right" "borrowed_row: a program that is done with its line is refused"
 for held in changed looked_at drawn_on; do
-    must_not_compile "$work/$held" 'error\[borrow-e0\(499\|502\)\]' "lent: a desk may be $held while a line of it is held"
+    must_not_compile "$work/$held" 'error\[borrow-e0\(499\|502\)\]' "borrowed_row: a desk may be $held while a line of it is held"
 done
-echo "lent: while a line is held, no other call on the desk compiles"
+echo "borrowed_row: while a line is held, no other call on the desk compiles"

@@ -1,0 +1,15 @@
+#!/bin/sh
+# Tests of the libraries' public calls (libraries/): worked examples, texts, screens and refusals, worked out by hand. What they call
+# is proved. As tests of a crate they would be proved too, which takes many minutes and shows no more; so they are run without.
+set -eu
+cd -- "$(dirname -- "$0")/.."
+. tests/probing
+
+work=$(mktemp -d)
+trap 'rm -rf "$work"' EXIT
+lay "$work/libraries" $(libraries)
+fill "$work/libraries" tests/libraries
+attempt "$work/libraries" --test
+must_run "$work/libraries" "libraries: not each test of the libraries' calls passes"
+must_pass "$work/libraries" tests/libraries/*.txt
+echo "libraries: $wanted tests of the libraries' calls pass"

@@ -1,0 +1,31 @@
+#!/bin/sh
+# The calls that are to take no memory take none: a program that makes all of them asks for memory as often as the same program
+# without them. A contract can't say this, since a body that asks for memory and gives it back meets it too.
+set -eu
+cd -- "$(dirname -- "$0")/.."
+. tests/probing
+
+work=$(mktemp -d)
+trap 'rm -rf "$work"' EXIT
+
+# count NAME CALLS: runs the program with these calls, true or false; `allocations` of NAME.log is how often it asked
+count() {
+    # shellcheck disable=SC2046
+    lay "$work/$1" $(libraries)
+    sed "s/^const CALLS: bool = true;/const CALLS: bool = $2;/" tests/no_memory_probe.txt >"$work/$1/crates/probe/src/main.rt"
+    # no program asks so often, so no request is refused, and they are counted
+    attempt "$work/$1" --fail-alloc 1000000
+}
+
+count with true &
+count without false &
+wait
+for probe in with without; do
+    must_run "$work/$probe" "no_memory: the program $probe the calls fails"
+    sed -n 's/^allocations: //p' "$work/$probe.log" >"$work/$probe.count"
+done
+if [ ! -s "$work/with.count" ] || ! cmp -s "$work/with.count" "$work/without.count"; then
+    echo "no_memory: $(cat "$work/with.count") requests with the calls, and $(cat "$work/without.count") without" >&2
+    exit 1
+fi
+echo "no_memory: the calls that are to take no memory ask for none; what they work on was made with $(cat "$work/with.count") requests"

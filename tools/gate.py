@@ -1,0 +1,117 @@
+#!/usr/bin/env python3
+"""The whole gate: what the toolchain can't check (the scripts of tests/), and then the toolchain's own gate, `rt ci`.
+
+Before each script and each crate it says what comes, and after it how long that took. The last line is that of `rt ci`."""
+
+import os
+import re
+import subprocess
+import sys
+import threading
+import time
+from concurrent.futures import ThreadPoolExecutor
+
+from crates import TOP, listed
+
+# measured: on four processors that did nothing else
+MINUTES = "MEASURED"
+
+
+def minutes(since):
+    return f"{(time.monotonic() - since) / 60:.1f} minutes"
+
+
+def say(text):
+    print(f"test: {text}", flush=True)
+
+
+def subject(script):
+    """What a script is about: the first sentence of its second line."""
+    with open(script, encoding="utf-8") as file:
+        text = "".join(line[2:].replace("\n", " ") for line in file.readlines()[1:4] if line.startswith("# "))
+    return re.split(r"(?<=[^.])[.:](?: |$)", text)[0].strip()
+
+
+class Scripts:
+    """The scripts of tests/, as many side by side as there are processors."""
+
+    def __init__(self):
+        names = sorted(it for it in os.listdir(f"{TOP}/tests") if it.endswith(".sh"))
+        self.paths = [f"tests/{it}" for it in names]
+        self.printing, self.begun = threading.Lock(), 0
+
+    def run(self, path):
+        """Runs one script; returns whether it passed."""
+        with self.printing:
+            self.begun += 1
+            say(f"begins {path} ({self.begun} of {len(self.paths)}): {subject(path)}")
+        began = time.monotonic()
+        pipe = subprocess.PIPE
+        ran = subprocess.run(["sh", path], stdin=subprocess.DEVNULL, stdout=pipe, stderr=subprocess.STDOUT)
+        with self.printing:
+            ending = "passed" if ran.returncode == 0 else "FAILED"
+            print(f"== {path}: {ending} after {time.monotonic() - began:.0f} s")
+            print(ran.stdout.decode(errors="replace"), end="", flush=True)
+        return ran.returncode == 0
+
+    def run_all(self):
+        began = time.monotonic()
+        say(f"{len(self.paths)} scripts come first, side by side; several run the program, which is built for them")
+        built = subprocess.run(["./ticurses", "--version"], stdout=subprocess.DEVNULL).returncode == 0
+        with ThreadPoolExecutor(len(os.sched_getaffinity(0))) as pool:
+            passed = list(pool.map(self.run, self.paths)) if built else []
+        failed = [path for path, well in zip(self.paths, passed) if not well]
+        say(f"{len(self.paths) - len(failed)} of {len(self.paths)} scripts passed, {minutes(began)}")
+        return built and not failed
+
+
+class Crates:
+    """What `rt ci` has done so far, by what it prints."""
+
+    def __init__(self):
+        self.uses = listed()
+        self.proved, self.announced, self.edits = set(), set(), 0
+        self.all_edits = sum(it.endswith(".edit") for at, _, names in os.walk(f"{TOP}/crates") for it in names)
+
+    def come(self):
+        """The crates whose libraries are all proved, and that were not announced before."""
+        own = {name: {it for it in uses if it in self.uses} for name, uses in self.uses.items()}
+        names = [it for it in own if own[it] <= self.proved and it not in self.announced]
+        self.announced |= set(names)
+        return f"; next: {', '.join(names)}" if names else ""
+
+    def after(self, line, began):
+        """What is said after a line of `rt ci`, if anything is."""
+        proved = re.match(r"rt: (\w+) proved$", line)
+        edits = re.match(r"rt: (\w+): trying its must-fail edits \((\d+)\)$", line)
+        if proved:
+            self.proved.add(proved[1])
+            say(f"{len(self.proved)} of {len(self.uses)} crates proved, {minutes(began)}{self.come()}")
+        if edits:
+            self.edits += int(edits[2])
+            say(f"{self.edits} of {self.all_edits} edits begun, {minutes(began)}")
+
+    def run(self):
+        """Runs `rt ci`; its last line is held back until all else is said."""
+        began, last = time.monotonic(), ""
+        say(f"rt ci: {len(self.uses)} crates, each proved from nothing, and {self.all_edits} must-fail edits{self.come()}")
+        with subprocess.Popen(["rt", "ci"], stdout=subprocess.PIPE, text=True, errors="replace") as gate:
+            for line in gate.stdout:
+                print(last, end="", flush=True)
+                self.after(last.rstrip("\n"), began)
+                last = line
+        say(f"rt ci ended after {minutes(began)}")
+        print(last, end="", flush=True)
+        return gate.returncode
+
+
+def main():
+    os.chdir(TOP)
+    say(f"the whole takes about {MINUTES} minutes on four processors")
+    if not Scripts().run_all():
+        return 1
+    return Crates().run()
+
+
+if __name__ == "__main__":
+    sys.exit(main())
