@@ -14,7 +14,7 @@ use Rattle.grids.specs.Grids.{is_in, one}
 use Rattle.grids.proofs.Drawing.{cell_at-drawn}
 use Rattle.vt_term.proofs.Sequences.{empty_open}
 use Rattle.vt_term.proofs.Running.{text_runs, run_keeps}
-use Rattle.cur_update.specs.Leads.{Ends}
+use Rattle.cur_steps.specs.Leads.{Ends}
 use Rattle.cur_update.specs.Plain.{Extent, IsSized, IsReady, IsAt, clear, plainly, wanted}
 use Rattle.vt_term.specs.Moving.{cursor_to}
 use Rattle.cur_update.specs.Steps.{ShowsAbove, MovedTo, ShowsUpTo}

@@ -7,7 +7,7 @@ use Rattle.vt_term.specs.Run.{Runs, RunsCut}
 use Rattle.vt_term.specs.Text.{IsOpen}
 use Rattle.vt_term.proofs.Sequences.{empty_open}
 use Rattle.vt_term.proofs.Running.{runs_append, runs_nothing, runs_cut, run_keeps}
-use Rattle.cur_update.specs.Leads.{Ends, Leads}
+use Rattle.cur_steps.specs.Leads.{Ends, Leads, Meets, Within, Past}
 
 pub concat-append : (xs ys : List (List ℕ)) → concat (xs ++ ys) ≡ concat xs ++ concat ys
 concat-append [] ys = refl
@@ -19,11 +19,6 @@ all_append P (x ∷ xs) ys h k = (h.0, all_append P xs ys h.1 k)
 
 pub ends_then : (A B : State → Type 0) (s : State) (x y : List ℕ) → Ends s x A → ((t : State) → A t → Ends t y B) → Ends s (x ++ y) B
 ends_then A B s x y e f = let g = f e.after e.there in record { after = g.after; runs = runs_append s e.after g.after x y e.runs g.runs; there = g.there }
-
--- of two fronts of one list one is a front of the other
-pub data Meets (a b c d : List ℕ) : Type 0 where
-  Within : (x : List ℕ) → a ≡ c ++ x → d ≡ x ++ b → Meets a b c d
-  Past : (x : List ℕ) → c ≡ a ++ x → b ≡ x ++ d → Meets a b c d
 
 pub meet : (a b c d : List ℕ) → a ++ b ≡ c ++ d → Meets a b c d
 meet [] b c d e = Past c refl e

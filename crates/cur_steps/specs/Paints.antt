@@ -2,7 +2,7 @@
 use Rattle.std.specs.Prelude.{ℕ, List, Result}
 use Rattle.vt_term.specs.Screen.{State}
 use Rattle.cur_wires.specs.Wire.{Sends}
-use Rattle.cur_update.specs.Leads.{Leads}
+use Rattle.cur_steps.specs.Leads.{Leads}
 
 pub record Paints {W T E : Type 0} (went : W → W → List ℕ → Type 0) (failures : W → ℕ) (old new : W) (answer : Result T E)
     (IsPiece : List ℕ → Type 0) (limit : ℕ) (between before after : State → Type 0) : Type 0 where

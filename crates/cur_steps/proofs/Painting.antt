@@ -2,10 +2,10 @@
 use Rattle.std.proofs.Common.{ℕ, ◌+◌, ◌≤◌, List, ◌++◌, sym, ap, ◌∙◌, arith, append_assoc, length-append, Result, Ok, Err}
 use Rattle.vt_term.specs.Screen.{State}
 use Rattle.cur_wires.specs.Wire.{IsWire, StopsIn, Sends}
-use Rattle.cur_update.specs.Leads.{Leads}
-use Rattle.cur_update.specs.Paints.{Paints}
+use Rattle.cur_steps.specs.Leads.{Leads}
+use Rattle.cur_steps.specs.Paints.{Paints}
 use Rattle.cur_wires.proofs.Sending.{rose_later}
-use Rattle.cur_update.proofs.Leading.{leads_then, leads_wider}
+use Rattle.cur_steps.proofs.Leading.{leads_then, leads_wider}
 
 pub sends_then : {W T E : Type 0} (went : W → W → List ℕ → Type 0) (failures : W → ℕ) → IsWire went failures → (a b c : W) (x y : List ℕ) (answer : Result T E)
     → went a b x → Sends went failures b c y answer → Sends went failures a c (x ++ y) answer

@@ -20,3 +20,8 @@ pub record Leads (IsPiece : List ℕ → Type 0) (limit : ℕ) (between before :
   pub bound : length bytes ≤ limit
   pub ends : (s : State) → before s → Ends s bytes after
   pub cut : (front back : List ℕ) → bytes ≡ front ++ back → (s : State) → before s → Ends s front between
+
+-- of two fronts of one list one is a front of the other
+pub data Meets (a b c d : List ℕ) : Type 0 where
+  Within : (x : List ℕ) → a ≡ c ++ x → d ≡ x ++ b → Meets a b c d
+  Past : (x : List ℕ) → c ≡ a ++ x → b ≡ x ++ d → Meets a b c d
