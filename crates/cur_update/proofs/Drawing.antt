@@ -3,17 +3,18 @@ use Rattle.std.proofs.Common.{◌≡◌, ℕ, ◌+◌, ◌-◌, ◌<◌, ◌≤�
 use Rattle.std.proofs.lemmas.Bool.{cases_lt}
 use Rattle.std.proofs.lemmas.List.{append-nil}
 use Rattle.std.proofs.lemmas.Bool.Decides.{nat_tests}
-use Rattle.vt_term.specs.Look.{Rendition, Look, IsPrinted, plain}
+use Rattle.vt_term.specs.Look.{Rendition, Look, IsPrinted, plain, space}
 use Rattle.vt_term.specs.Grid.{look_at, put}
 use Rattle.vt_term.specs.Screen.{Screen, State, IsScreen, is_graphic}
 use Rattle.vt_term.specs.Text.{IsWhole, Splits}
 use Rattle.vt_term.specs.Function.{Function, CursorPosition, Print, function_of, single}
 use Rattle.vt_term.specs.Step.{act, shown, steps}
 use Rattle.vt_term.specs.Run.{Runs}
-use Rattle.vt_term.proofs.Grids.{look_at-drawn}
+use Rattle.grids.specs.Grids.{is_in, one}
+use Rattle.grids.proofs.Drawing.{cell_at-drawn}
 use Rattle.vt_term.proofs.Sequences.{empty_open}
 use Rattle.vt_term.proofs.Running.{text_runs, run_keeps}
-use Rattle.cur_update.specs.Leads.{Ends}
+use Rattle.cur_steps.specs.Leads.{Ends}
 use Rattle.cur_update.specs.Plain.{Extent, IsSized, IsReady, IsAt, clear, plainly, wanted}
 use Rattle.vt_term.specs.Moving.{cursor_to}
 use Rattle.cur_update.specs.Steps.{ShowsAbove, MovedTo, ShowsUpTo}
@@ -114,13 +115,13 @@ clear_ends size lines s a =
     }
 
 look_at-put : (s : Screen) → IsScreen s → (r c : ℕ) (x : Look) (i j : ℕ) → i < s.rows → j < s.cols
-    → look_at (put r c x s.grid) i j ≡ (if (i == r) && (j == c) then x else look_at s.grid i j)
-look_at-put s h r c x i j lt k = look_at-drawn (λ i j old. if (i == r) && (j == c) then x else old) s.grid i j (omega (arith, h.columns i lt))
+    → look_at (put r c x s.grid) i j ≡ (if is_in (one r c) i j then x else look_at s.grid i j)
+look_at-put s h r c x i j lt k = cell_at-drawn (λ i j old. if is_in (one r c) i j then x else old) space s.grid i j (omega (arith, h.columns i lt))
 
-put_there : (i j r c : ℕ) (x y : Look) → i ≡ r → j ≡ c → (if (i == r) && (j == c) then x else y) ≡ x
+put_there : (i j r c : ℕ) (x y : Look) → i ≡ r → j ≡ c → (if is_in (one r c) i j then x else y) ≡ x
 put_there i j r c x y p q = grind (arith, nat_tests)
 
-put_elsewhere : (i j r c : ℕ) (x y : Look) → (i < r) ⊎ (j < c) → (if (i == r) && (j == c) then x else y) ≡ y
+put_elsewhere : (i j r c : ℕ) (x y : Look) → (i < r) ⊎ (j < c) → (if is_in (one r c) i j then x else y) ≡ y
 put_elsewhere i j r c x y (inl lt) = grind (arith, nat_tests)
 put_elsewhere i j r c x y (inr lt) = grind (arith, nat_tests)
 

@@ -5,11 +5,11 @@ use Rattle.vt_term.specs.Grid.{look_at}
 use Rattle.vt_term.specs.Screen.{State}
 use Rattle.vt_term.specs.Size.{IsSize}
 use Rattle.vt_term.specs.Look.{IsPrinted}
-use Rattle.cur_update.specs.Leads.{Leads}
+use Rattle.cur_steps.specs.Leads.{Leads}
 use Rattle.cur_update.specs.Plain.{Extent, IsPiece, IsSized, IsReady, Shows, clear, clear_limit, move_limit, plainly, wanted, Character, Clear, Move}
 use Rattle.vt_term.specs.Moving.{cursor_to}
 use Rattle.cur_update.specs.Steps.{ShowsAbove, MovedTo, ShowsUpTo}
-use Rattle.cur_update.proofs.Leading.{leads_then, leads_wider, leads_piece, leads_nothing}
+use Rattle.cur_steps.proofs.Leading.{leads_then, leads_wider, leads_piece, leads_nothing}
 use Rattle.vt_term.proofs.Moving.{move_short}
 use Rattle.cur_update.proofs.Drawing.{clear_ends, move_ends, print_ends}
 

@@ -1,5 +1,3 @@
-pub mod Leading
-pub mod Painting
 pub mod Cutting
 pub mod Drawing
 pub mod Grids

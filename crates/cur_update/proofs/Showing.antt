@@ -5,8 +5,8 @@ use Rattle.vt_term.specs.Screen.{State, IsState, reset}
 use Rattle.vt_term.specs.Run.{Runs}
 use Rattle.vt_term.proofs.Running.{runs_once}
 use Rattle.cur_wires.specs.Tape.{Taped, Adds}
-use Rattle.cur_update.specs.Leads.{Ends}
-use Rattle.cur_update.specs.Paints.{Paints}
+use Rattle.cur_steps.specs.Leads.{Ends}
+use Rattle.cur_steps.specs.Paints.{Paints}
 use Rattle.cur_update.specs.Plain.{IsReady}
 
 pub reset_ready : (rows cols : ℕ) → IsSize rows cols → IsState (reset rows cols) → IsReady (record { rows = rows; cols = cols }) (reset rows cols)

@@ -1,5 +1,3 @@
-pub mod Leads
-pub mod Paints
 pub mod Strings
 pub mod Plain
 pub mod Steps

@@ -1,6 +1,6 @@
 ghost use Rattle.std.specs.Prelude.{◌≡◌, ◌+◌, ◌<◌, [], List, ℕ, length, map, slice_index_or, string_bytes, IsTrue, IfOk};
 ghost use Rattle.std.specs.List.{list_all};
-ghost use Rattle.cur_update.specs.Paints.{Paints};
+ghost use Rattle.cur_steps.specs.Paints.{Paints};
 ghost use Rattle.cur_update.specs.Plain.{IsPiece, IsSized, IsReady, Shows, can_print, clear_limit, fits_size, lines_limit, move_limit, paint_limit};
 ghost use Rattle.vt_term.specs.Moving.{cursor_to};
 ghost use Rattle.cur_update.specs.Steps.{ShowsAbove, MovedTo};

@@ -1,8 +1,7 @@
 -- A wire over memory that fails where it is told.
-use Rattle.std.specs.Prelude.{ℕ, ◌-◌, ◌≤◌, ◌≡◌, min, Bool, true, false, zero, suc, List, [], ◌∷◌, length, Option, Some, None}
-use Rattle.std.proofs.Math.Nat.{le_refl, le_trans}
+use Rattle.std.specs.Prelude.{ℕ, ◌-◌, min, zero, suc, List, [], ◌∷◌, Option, Some, None}
 use Rattle.cur_wires.specs.Wire.{IsWire}
-use Rattle.cur_wires.specs.Tape.{Taped, Adds, Adds-lawful, room, failed_once, after_send}
+use Rattle.cur_wires.specs.Tape.{Taped, Adds, Adds-lawful}
 
 pub record Fused : Type 0 where
   pub tape : Taped

@@ -13,7 +13,7 @@ use Rattle.vt_term.proofs.Running.{runs_or_sticks, text_runs}
 use Rattle.vt_term.specs.Run.{Runs, Sticks}
 use Rattle.vt_term.specs.Screen.{State, reset}
 use Rattle.vt_term.specs.Size.{IsSize}
-use Rattle.vt_term.specs.declared.stream.Stuck.{Stuck}
+use Rattle.vt_term.specs.declared.terminals.Stuck.{Stuck}
 use Rattle.ti_commands.specs.Expanding.{Asked, FailsToExpand, IsExpanded, JudgesCup, Shows, ShowsCursor, TellsParm, cursor_line, escape_failure, no_line, serves, misses}
 use Rattle.ti_commands.specs.declared.expansion.Expansion.{Expansion}
 use Rattle.ti_commands.specs.declared.failure.Failure.{Failure}

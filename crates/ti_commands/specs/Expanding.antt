@@ -14,8 +14,8 @@ use Rattle.vt_term.specs.Fault.{TellsFault}
 use Rattle.vt_term.specs.Run.{Runs}
 use Rattle.vt_term.specs.Screen.{State, reset}
 use Rattle.vt_term.specs.Size.{IsSize}
-use Rattle.vt_term.specs.declared.text.TokenFault.{TokenFault}
-use Rattle.vt_term.specs.declared.text.TokenFaultKind.TheVariants as token_faults
+use Rattle.vt_term.specs.declared.tokenizing.TokenFault.{TokenFault}
+use Rattle.vt_term.specs.declared.tokenizing.TokenFaultKind.TheVariants as token_faults
 use Rattle.ti_commands.specs.Failing.{WrongParam, WrongSize}
 use Rattle.ti_commands.specs.Words.{GivesNumber, GiveParams, IsNumberWord, texts_of}
 use Rattle.ti_commands.specs.declared.expansion.Expansion.{Expansion}

@@ -5,7 +5,7 @@ use Rattle.std.specs.Prelude.{replicate, slice_index_or}
 use Rattle.std.proofs.lemmas.Bool.{cases_lt}
 use Rattle.vt_term.specs.Size.{IsSize}
 use Rattle.vt_term.specs.Look.{Look, IsPrinted, space}
-use Rattle.vt_term.specs.Grid.{look_at, filled}
+use Rattle.vt_term.specs.Grid.{look_at, uniform}
 use Rattle.vt_term.specs.Screen.{State, IsOfSize, IsAtRest, reset_screen}
 use Rattle.vt_term.specs.Text.{Splits}
 use Rattle.vt_term.specs.Run as Run
@@ -64,10 +64,10 @@ space_in_line cols j = elim (cases_lt j cols) [
   | inr le ↦ get_or_past (replicate cols space) j space (omega (arith, length-replicate cols space, le))
 ]
 
-space_everywhere : (rows cols i j : ℕ) → look_at (filled rows cols space) i j ≡ space
+space_everywhere : (rows cols i j : ℕ) → look_at (uniform rows cols space) i j ≡ space
 space_everywhere rows cols i j = elim (cases_lt i rows) [
   | inl lt ↦ ap (λ (l : List Look). slice_index_or l j space) (get_or-replicate rows i (replicate cols space) [] lt) ∙ space_in_line cols j
-  | inr le ↦ ap (λ (l : List Look). slice_index_or l j space) (get_or_past (filled rows cols space) i [] (omega (arith, length-replicate rows (replicate cols space), le)))
+  | inr le ↦ ap (λ (l : List Look). slice_index_or l j space) (get_or_past (uniform rows cols space) i [] (omega (arith, length-replicate rows (replicate cols space), le)))
 ]
 
 standing_of_size : (rows cols row col : ℕ) → IsSize rows cols → row < rows → col < cols → IsOfSize rows cols (standing rows cols row col)

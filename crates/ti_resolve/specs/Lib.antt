@@ -1,4 +1,5 @@
 pub mod Filling
 pub mod Uses
+pub mod Index
 pub mod Walk
 pub mod Resolved

@@ -8,7 +8,7 @@ ghost use Rattle.ti_resolve.specs.Walk.{Answers, FailsBy, enter, walk_of};
 
 use crate::faults::ResolveFault;
 use crate::fill::filled;
-use crate::search::{find, names_of};
+use crate::search::{Index, names_of};
 use crate::walk::enter;
 use std::alloc::Global;
 use ti_caps::Entry;
@@ -17,34 +17,52 @@ use ti_source::RawEntry;
 /// The places of the entries that the walk from one of them enters, in that order.
 fn entered_from(
     alloc: Global,
-    raws: &[RawEntry],
+    index: &Index<'_>,
     name: &[u8],
     root: usize,
 ) -> Result<Vec<usize>, ResolveFault>
-    requires { root < length raws.now }
-    ensures { Answers (λ places. places.items) result (enter 65 raws.now [] name.now root []) }
+    requires { root < length index.now.raws.now }
+    ensures { Answers (λ places. places.items) result (enter 65 index.now.raws.now [] name.now root []) }
 {
     let mut chain = Vec::new(alloc);
     let mut entered = Vec::new(alloc);
-    enter(alloc, raws, 65, name, root, &mut chain, &mut entered)?;
+    enter(alloc, index, 65, name, root, &mut chain, &mut entered)?;
     Ok(entered)
+}
+
+/// The entry that a name asks for, in entries with their index.
+fn resolve_in(alloc: Global, index: &Index<'_>, name: &[u8]) -> Result<Entry, ResolveFault>
+    requires { AllByRecursion IsRaw index.now.raws.now }
+    ensures entry { IfOk result (λ entry. IsResolved index.now.raws.now name.now entry) }
+    ensures walk { MatchResult result (λ _. IsOk (walk_of index.now.raws.now name.now)) (λ fault. FailsBy fault (walk_of index.now.raws.now name.now)) }
+{
+    let Some(root) = index.find(name) else {
+        return Err(ResolveFault::no_such_entry(alloc, name));
+    };
+    let entered = entered_from(alloc, index, name, root)?;
+    let entry = filled(
+        alloc,
+        index.raws,
+        names_of(index.raws, root),
+        entered.as_slice(),
+    )?;
+    Ok(entry)
 }
 
 /// The entry that a name asks for, with all that it uses: depth first and left to right, an entry's own
 /// fields before its uses. Of several fields about a capability the first decides, a cancellation too.
 ///
-/// The fault is the first that is met on the way, or want of memory.
+/// The fault is the first that is met on the way, or out of memory.
+///
+/// With N names in all entries, and M uses in those that are entered, at most 65, it takes
+/// (N + M) log N comparisons of names, and one pass over the fields that are entered.
 pub fn resolve(alloc: Global, raws: &[RawEntry], name: &[u8]) -> Result<Entry, ResolveFault>
     requires { AllByRecursion IsRaw raws.now }
     ensures entry { IfOk result (λ entry. IsResolved raws.now name.now entry) }
     ensures walk { MatchResult result (λ _. IsOk (walk_of raws.now name.now)) (λ fault. FailsBy fault (walk_of raws.now name.now)) }
 {
-    let Some(root) = find(raws, name) else {
-        return Err(ResolveFault::no_such_entry(alloc, name));
-    };
-    let entered = entered_from(alloc, raws, name, root)?;
-    let entry = filled(alloc, raws, names_of(raws, root), entered.as_slice())?;
-    Ok(entry)
+    let index = Index::new(alloc, raws)?;
+    resolve_in(alloc, &index, name)
 }
 
 /// A law: uses stand for one list of fields.

@@ -1,21 +1,15 @@
 //! Entries by their names and places.
 
-ghost use Rattle.std.specs.Prelude.{◌≡◌, ◌==◌, ◌+◌, ◌<◌, [], ◌∷◌, length, take, drop, IfSome, IfNone};
+ghost use Rattle.std.specs.Prelude.{◌≡◌, ◌==◌, ◌<◌, [], ◌∷◌, length, IfNone, IfOk, IfSome, OnOk};
 ghost use Rattle.std.specs.List as List;
+ghost use Rattle.std.specs.Str.{bytes_eq};
 ghost use Rattle.ti_caps.specs.Fits.{names_in};
+ghost use Rattle.ti_resolve.specs.Index.{Adds, IsIndexOf};
 ghost use Rattle.ti_resolve.specs.Uses.{is_name_in, place_named, fields_at, names_at};
 
+use std::alloc::{AllocError, Global};
+use std::collections::BTreeMap;
 use ti_source::{Field, RawEntry};
-
-/// What stands before and behind the byte at a place.
-#[tactic(auto, using(std::proofs::lemmas::List::take_rest))]
-fn around(bytes: &[u8], at: usize) -> (&[u8], &[u8])
-    requires { at < length bytes.now }
-    ensures before { result.0.now ≡ take at bytes.now }
-    ensures behind { result.1.now ≡ drop (at + 1) bytes.now }
-{
-    (&bytes[..at], &bytes[at + 1..])
-}
 
 /// The place of the first bar.
 fn bar_in(names: &[u8]) -> Option<usize>
@@ -34,32 +28,84 @@ fn cut_name(names: &[u8]) -> Option<(&[u8], &[u8])>
 {
     match bar_in(names) {
         None => None,
-        Some(at) => Some(around(names, at)),
+        Some(at) => Some((&names[..at], &names[at + 1..])),
     }
 }
 
-/// Whether a name is one of those in a field of names.
-fn has_name(names: &[u8], name: &[u8]) -> bool
-    ensures { result ≡ is_name_in names.now name.now }
+/// Adds a name to the index, unless an entry before has it.
+fn add_name<'r>(
+    places: &mut BTreeMap<&'r [u8], usize>,
+    name: &'r [u8],
+    place: usize,
+) -> Result<(), AllocError>
+    ensures { OnOk result (Adds places.old places.new (λ asked. bytes_eq name.now asked) place) }
+{
+    if !places.contains_key(name) {
+        places.insert(name, place)?;
+    }
+    Ok(())
+}
+
+/// Adds the names of the entry at a place.
+fn add_names<'r>(
+    places: &mut BTreeMap<&'r [u8], usize>,
+    names: &'r [u8],
+    place: usize,
+) -> Result<(), AllocError>
+    ensures { OnOk result (Adds places.old places.new (is_name_in names.now) place) }
 {
     let mut rest = names;
     while let Some((own, behind)) = cut_name(rest) {
-        if own == name {
-            return true;
-        }
+        add_name(places, own, place)?;
         rest = behind;
     }
-    rest == name
+    add_name(places, rest, place)
 }
 
-/// The place of the first entry with this name.
-#[tactic(auto, unfolding(crate::specs::Uses::place_named))]
-pub(crate) fn find(raws: &[RawEntry], name: &[u8]) -> Option<usize>
-    ensures value { result ≡ place_named raws.now name.now }
-    ensures range { IfSome result (λ place. place < length raws.now) }
+/// The place of the first entry with each name.
+fn places_of(alloc: Global, raws: &[RawEntry]) -> Result<BTreeMap<&[u8], usize>, AllocError>
+    ensures { IfOk result (λ places. IsIndexOf raws.now places) }
 {
-    raws.iter()
-        .position(|raw| has_name(raw.names.as_slice(), name))
+    let mut places = BTreeMap::new(alloc);
+    for place in 0..raws.len() {
+        add_names(&mut places, names_of(raws, place), place)?;
+    }
+    Ok(places)
+}
+
+/// Entries with the index of their names, of which the first entry with a name has it.
+///
+/// It is made in N log N comparisons of names, N being the number of names, and then a name is found
+/// in log N.
+#[derive(Drop)]
+pub(crate) struct Index<'r> {
+    pub(crate) raws: &'r [RawEntry],
+    places: BTreeMap<&'r [u8], usize>,
+    ghost indexed: { IsIndexOf raws.now places },
+}
+
+impl<'r> Index<'r> {
+    pub(crate) fn new(alloc: Global, raws: &'r [RawEntry]) -> Result<Self, AllocError>
+        ensures { IfOk result (λ index. index.raws.now ≡ raws.now) }
+    {
+        let places = places_of(alloc, raws)?;
+        Ok(Index { raws, places })
+    }
+
+    /// The place of the first entry with this name.
+    pub(crate) fn find(&self, name: &[u8]) -> Option<usize>
+        ensures value { result ≡ place_named self.now.raws.now name.now }
+        ensures range { IfSome result (λ place. place < length self.now.raws.now) }
+    {
+        self.places.get(name).copied()
+    }
+
+    /// The fields of the entry at a place, if there is one.
+    pub(crate) fn fields_of(&self, place: usize) -> &'r [Field]
+        ensures { result.now ≡ fields_at self.now.raws.now place }
+    {
+        fields_of(self.raws, place)
+    }
 }
 
 /// The fields of the entry at a place, if there is one.

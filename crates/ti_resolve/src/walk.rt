@@ -5,23 +5,23 @@ ghost use Rattle.ti_resolve.specs.Uses.{place_named, uses_in};
 ghost use Rattle.ti_resolve.specs.Walk.{Answers, and_then, enter, follow_field, follow_uses, go_to, target};
 
 use crate::faults::ResolveFault;
-use crate::search::{fields_of, find};
+use crate::search::Index;
 use std::alloc::Global;
-use ti_source::{Field, RawEntry};
+use ti_source::Field;
 
 /// Where a use leads: to an entry that is to be entered, or to one that was.
 #[tactic(auto, using(crate::proofs::Told::told_fails), unfolding(crate::specs::Walk::target))]
 fn lead(
     alloc: Global,
-    raws: &[RawEntry],
+    index: &Index<'_>,
     name: &[u8],
     chain: &[usize],
     entered: &[usize],
 ) -> Result<Option<usize>, ResolveFault>
-    ensures value { Answers (λ place. place) result (target (place_named raws.now name.now) name.now chain.now entered.now) }
-    ensures range { IfOk result (λ found. IfSome found (λ place. place < length raws.now)) }
+    ensures value { Answers (λ place. place) result (target (place_named index.now.raws.now name.now) name.now chain.now entered.now) }
+    ensures range { IfOk result (λ found. IfSome found (λ place. place < length index.now.raws.now)) }
 {
-    let Some(place) = find(raws, name) else {
+    let Some(place) = index.find(name) else {
         return Err(ResolveFault::no_such_entry(alloc, name));
     };
     if chain.contains(&place) {
@@ -43,15 +43,15 @@ fn lead(
 #[cycle(walk)]
 pub(crate) fn enter(
     alloc: Global,
-    raws: &[RawEntry],
+    index: &Index<'_>,
     depth: u32,
     name: &[u8],
     place: usize,
     chain: &mut Vec<usize>,
     entered: &mut Vec<usize>,
 ) -> Result<(), ResolveFault>
-    requires { place < length raws.now }
-    ensures walk { Answers (λ _. entered.new.items) result (enter depth raws.now chain.old.items name.now place entered.old.items) }
+    requires { place < length index.now.raws.now }
+    ensures walk { Answers (λ _. entered.new.items) result (enter depth index.now.raws.now chain.old.items name.now place entered.old.items) }
     ensures chain { OnOk result (chain.new.items ≡ chain.old.items) }
 {
     if depth == 0 {
@@ -61,9 +61,9 @@ pub(crate) fn enter(
     entered.push(place)?;
     follow_all(
         alloc,
-        raws,
+        index,
         depth - 1,
-        fields_of(raws, place),
+        index.fields_of(place),
         chain,
         entered,
     )?;
@@ -75,17 +75,17 @@ pub(crate) fn enter(
 #[cycle(walk)]
 fn follow_all(
     alloc: Global,
-    raws: &[RawEntry],
+    index: &Index<'_>,
     depth: u32,
     fields: &[Field],
     chain: &mut Vec<usize>,
     entered: &mut Vec<usize>,
 ) -> Result<(), ResolveFault>
-    ensures walk { Answers (λ _. entered.new.items) result (follow_uses (enter depth raws.now chain.old.items) raws.now chain.old.items (uses_in fields.now) entered.old.items) }
+    ensures walk { Answers (λ _. entered.new.items) result (follow_uses (enter depth index.now.raws.now chain.old.items) index.now.raws.now chain.old.items (uses_in fields.now) entered.old.items) }
     ensures chain { OnOk result (chain.new.items ≡ chain.old.items) }
 {
     for field in fields {
-        follow_field(alloc, raws, depth, field, chain, entered)?;
+        follow_field(alloc, index, depth, field, chain, entered)?;
     }
     Ok(())
 }
@@ -94,18 +94,18 @@ fn follow_all(
 #[cycle(walk)]
 fn follow_field(
     alloc: Global,
-    raws: &[RawEntry],
+    index: &Index<'_>,
     depth: u32,
     field: &Field,
     chain: &mut Vec<usize>,
     entered: &mut Vec<usize>,
 ) -> Result<(), ResolveFault>
-    ensures walk { Answers (λ _. entered.new.items) result (follow_field (enter depth raws.now chain.old.items) raws.now chain.old.items field.now entered.old.items) }
+    ensures walk { Answers (λ _. entered.new.items) result (follow_field (enter depth index.now.raws.now chain.old.items) index.now.raws.now chain.old.items field.now entered.old.items) }
     ensures chain { OnOk result (chain.new.items ≡ chain.old.items) }
 {
     match field {
         Field::Set(_, _) | Field::Cancel(_) => Ok(()),
-        Field::Include(name) => follow(alloc, raws, depth, name.as_slice(), chain, entered),
+        Field::Include(name) => follow(alloc, index, depth, name.as_slice(), chain, entered),
     }
 }
 
@@ -113,17 +113,17 @@ fn follow_field(
 #[cycle(walk)]
 fn follow(
     alloc: Global,
-    raws: &[RawEntry],
+    index: &Index<'_>,
     depth: u32,
     name: &[u8],
     chain: &mut Vec<usize>,
     entered: &mut Vec<usize>,
 ) -> Result<(), ResolveFault>
-    ensures walk { Answers (λ _. entered.new.items) result (and_then (target (place_named raws.now name.now) name.now chain.old.items entered.old.items) (go_to (enter depth raws.now chain.old.items name.now) entered.old.items)) }
+    ensures walk { Answers (λ _. entered.new.items) result (and_then (target (place_named index.now.raws.now name.now) name.now chain.old.items entered.old.items) (go_to (enter depth index.now.raws.now chain.old.items name.now) entered.old.items)) }
     ensures chain { OnOk result (chain.new.items ≡ chain.old.items) }
 {
-    match lead(alloc, raws, name, chain.as_slice(), entered.as_slice())? {
+    match lead(alloc, index, name, chain.as_slice(), entered.as_slice())? {
         None => Ok(()),
-        Some(place) => enter(alloc, raws, depth, name, place, chain, entered),
+        Some(place) => enter(alloc, index, depth, name, place, chain, entered),
     }
 }

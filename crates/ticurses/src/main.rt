@@ -1,17 +1,17 @@
-//! `ticurses`: what a string of a terminal description does, shown and proved.
+//! `ticurses`: checks terminal descriptions.
 #![tactic(auto)]
 
 mod run;
 mod stored;
-mod words;
 
 use std::env;
+use std::io::ErrorKind;
 use std::process::ExitCode;
 use std::rt::Env;
 use stored::Stored;
-use ti_commands::{Failure, told};
+use ti_commands::{Failure, told, wrong_line};
 
-/// `command` over the words of the line, the real files, standard output and standard error.
+/// `command` over the words of the line, the system's files, standard output and standard error.
 fn main(rt: HostRuntime) -> ExitCode {
     ExitCode::from(match words_of(&rt) {
         Ok(words) => run::command(
@@ -25,10 +25,17 @@ fn main(rt: HostRuntime) -> ExitCode {
     })
 }
 
-/// The words behind the program's own name.
+/// The words after the program's own name. A word that isn't UTF-8 is a usage error: the parser of the line and the
+/// calls on files take text alone.
 fn words_of(rt: &HostRuntime) -> Result<Vec<String>, Failure> {
     match env::args(rt) {
         Ok(words) => Ok(words.skip(1).collect(rt.alloc())?),
+        Err(error) if error.kind() == ErrorKind::InvalidData => {
+            Err(wrong_line(rt.alloc(), NOT_UTF_8))
+        }
         Err(_) => Err(Failure::NoMemory),
     }
 }
+
+const NOT_UTF_8: &str = "error: a word of the command line is not UTF-8 text\n\n\
+                         For more information, try '--help'.\n";

@@ -8,7 +8,7 @@ use Rattle.vt_term.specs.Grid.{Grid, line_at}
 use Rattle.vt_term.specs.Screen.{Screen}
 use Rattle.vt_term.specs.Step.{act}
 use Rattle.vt_term.specs.Function as functions
-use Rattle.vt_term.specs.Function.{Function, Part}
+use Rattle.vt_term.specs.Function.{Function, EraseExtent}
 use Rattle.vt_effects.specs.declared.effects.Move.{Move}
 use Rattle.vt_effects.specs.declared.effects.Move.TheVariants as moves
 use Rattle.vt_effects.specs.declared.effects.Erasure.{Erasure}
@@ -124,12 +124,12 @@ pub count_right : (rows cols : ℕ) (start : Start) (n : ℕ) (e f : Effect) →
 count_right rows cols start n e f g h = cells_right rows cols start (functions.EraseCells n) (λ r c i j. (i == r) && (nat_le c j && nat_lt j (c + n))) (erasures.Next (min n cols)) e f g
     (λ s. refl) (λ s y a. next_held s.row s.col n cols y s.grid (lines_within rows cols start s a)) h
 
-pub line_part_right : (rows cols : ℕ) (start : Start) (part : Part) (e f : Effect) → IsGood start e → spec.line_erased part e ≡ Some f → Right rows cols start (functions.EraseLine part) e f
+pub line_part_right : (rows cols : ℕ) (start : Start) (part : EraseExtent) (e f : Effect) → IsGood start e → spec.line_erased part e ≡ Some f → Right rows cols start (functions.EraseLine part) e f
 line_part_right rows cols start functions.ToEnd e f g h = cells_right rows cols start (functions.EraseLine functions.ToEnd) (λ r c i j. (i == r) && nat_le c j) erasures.Tail e f g (λ s. refl) (λ s y a. refl) h
 line_part_right rows cols start functions.FromStart e f g h = cells_right rows cols start (functions.EraseLine functions.FromStart) (λ r c i j. (i == r) && nat_le j c) erasures.Head e f g (λ s. refl) (λ s y a. refl) h
 line_part_right rows cols start functions.Whole e f g h = not_found f h
 
-pub display_part_right : (rows cols : ℕ) (start : Start) (part : Part) (e f : Effect) → IsGood start e → spec.display_erased part e ≡ Some f → Right rows cols start (functions.EraseDisplay part) e f
+pub display_part_right : (rows cols : ℕ) (start : Start) (part : EraseExtent) (e f : Effect) → IsGood start e → spec.display_erased part e ≡ Some f → Right rows cols start (functions.EraseDisplay part) e f
 display_part_right rows cols start functions.ToEnd e f g h = rest_right rows cols start e f g h
 display_part_right rows cols start functions.FromStart e f g h = not_found f h
 display_part_right rows cols start functions.Whole e f g h = screen_right rows cols start (functions.EraseDisplay functions.Whole) e f g (λ s a. refl) h

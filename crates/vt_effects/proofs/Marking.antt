@@ -2,6 +2,7 @@
 use Rattle.std.proofs.Common.{◌≡◌, ℕ, ◌==◌, ◌&&◌, nat_le, Bool, true, false, if◌then◌else◌, List, [], ◌∷◌, Option, Some, refl, sym, ap, ◌∙◌}
 use Rattle.std.specs.Option.{unwrap_or}
 use Rattle.std.proofs.lemmas.Option.{option_and_then_some}
+use Rattle.vt_term.specs.Function.{ModeKind, Standard, Private}
 use Rattle.vt_term.specs.Look.{Rendition}
 use Rattle.vt_term.specs.Screen.{Screen}
 use Rattle.vt_term.specs.Step as step
@@ -58,49 +59,49 @@ skip false x y z e h = h
 same_effect : (e f : Effect) (s to : Screen) → Some e ≡ Some f → to ≡ applied e s → Follows e f s to
 same_effect e f s to h k = given (λ g. Follows e g s to) e f h k
 
-mode_follows : (private on : Bool) (n : ℕ) (e f : Effect) (s : Screen) → s.autowrap ≡ true → s.inserting ≡ false → mode_set private on n e ≡ Some f → Follows e f s (step.mode_set private on n (applied e s))
-mode_follows true true n e f s w i h = chosen (n == 7) _ _ f h
+mode_follows : (kind : ModeKind) (on : Bool) (n : ℕ) (e f : Effect) (s : Screen) → s.autowrap ≡ true → s.inserting ≡ false → mode_set kind on n e ≡ Some f → Follows e f s (step.mode_set kind on n (applied e s))
+mode_follows Private true n e f s w i h = chosen (n == 7) _ _ f h
     (λ b k. same_effect e f s _ k (pick (n == 7) _ _ (applied e s) b (wraps (applied e s) w)))
     (λ b k. chosen (n == 25) _ _ f k
-    (λ c l. given (λ g. Follows e g s (step.mode_set true true n (applied e s))) _ f l
+    (λ c l. given (λ g. Follows e g s (step.mode_set Private true n (applied e s))) _ f l
     (skip (n == 7) _ _ _ b (pick (n == 25) _ _ _ c refl)))
     (λ c l. same_effect e f s _ l (skip (n == 7) _ _ _ b (skip (n == 25) _ _ _ c refl))))
-mode_follows true false n e f s w i h = chosen (n == 7) _ _ f h
+mode_follows Private false n e f s w i h = chosen (n == 7) _ _ f h
     (λ b k. not_found f k)
     (λ b k. chosen (n == 25) _ _ f k
-    (λ c l. given (λ g. Follows e g s (step.mode_set true false n (applied e s))) _ f l
+    (λ c l. given (λ g. Follows e g s (step.mode_set Private false n (applied e s))) _ f l
     (skip (n == 7) _ _ _ b (pick (n == 25) _ _ _ c refl)))
     (λ c l. same_effect e f s _ l (skip (n == 7) _ _ _ b (skip (n == 25) _ _ _ c refl))))
-mode_follows false true n e f s w i h = chosen (n == 4) _ _ f h
+mode_follows Standard true n e f s w i h = chosen (n == 4) _ _ f h
     (λ b k. not_found f k)
     (λ b k. same_effect e f s _ k (skip (n == 4) _ _ _ b refl))
-mode_follows false false n e f s w i h = chosen (n == 4) _ _ f h
+mode_follows Standard false n e f s w i h = chosen (n == 4) _ _ f h
     (λ b k. same_effect e f s _ k (pick (n == 4) _ _ (applied e s) b (replaces (applied e s) i)))
     (λ b k. same_effect e f s _ k (skip (n == 4) _ _ _ b refl))
 
-pub modes_follow : (private on : Bool) (ns : List (Option ℕ)) (e f : Effect) (s : Screen) → s.autowrap ≡ true → s.inserting ≡ false → modes_set private on ns e ≡ Some f → Follows e f s (step.all_modes_set private on ns (applied e s))
-modes_follow private on [] e f s w i h = same_effect e f s _ h refl
-modes_follow private on (n ∷ ns) e f s w i h = option_and_then_some (modes_set private on ns) (mode_set private on (unwrap_or n 0) e) f h
+pub modes_follow : (kind : ModeKind) (on : Bool) (ns : List (Option ℕ)) (e f : Effect) (s : Screen) → s.autowrap ≡ true → s.inserting ≡ false → modes_set kind on ns e ≡ Some f → Follows e f s (step.all_modes_set kind on ns (applied e s))
+modes_follow kind on [] e f s w i h = same_effect e f s _ h refl
+modes_follow kind on (n ∷ ns) e f s w i h = option_and_then_some (modes_set kind on ns) (mode_set kind on (unwrap_or n 0) e) f h
     (λ g found left.
-    let one : Follows e g s (step.mode_set private on (unwrap_or n 0) (applied e s)) = mode_follows private on (unwrap_or n 0) e g s w i found in
-    let more : Follows g f s (step.all_modes_set private on ns (applied g s)) = modes_follow private on ns g f s w i left in
-    ap (λ (x : Screen). step.all_modes_set private on ns x) one ∙ more)
+    let one : Follows e g s (step.mode_set kind on (unwrap_or n 0) (applied e s)) = mode_follows kind on (unwrap_or n 0) e g s w i found in
+    let more : Follows g f s (step.all_modes_set kind on ns (applied g s)) = modes_follow kind on ns g f s w i left in
+    ap (λ (x : Screen). step.all_modes_set kind on ns x) one ∙ more)
 
 stays : (e f : Effect) → Some e ≡ Some f → SamePlace e f
 stays e f h = given (λ g. SamePlace e g) e f h (record { row = refl; col = refl })
 
-mode_stays : (private on : Bool) (n : ℕ) (e f : Effect) → mode_set private on n e ≡ Some f → SamePlace e f
-mode_stays true true n e f h = chosen (n == 7) _ _ f h (λ b k. stays e f k)
+mode_stays : (kind : ModeKind) (on : Bool) (n : ℕ) (e f : Effect) → mode_set kind on n e ≡ Some f → SamePlace e f
+mode_stays Private true n e f h = chosen (n == 7) _ _ f h (λ b k. stays e f k)
     (λ b k. chosen (n == 25) _ _ f k (λ c l. given (λ g. SamePlace e g) _ f l (record { row = refl; col = refl })) (λ c l. stays e f l))
-mode_stays true false n e f h = chosen (n == 7) _ _ f h (λ b k. not_found f k)
+mode_stays Private false n e f h = chosen (n == 7) _ _ f h (λ b k. not_found f k)
     (λ b k. chosen (n == 25) _ _ f k (λ c l. given (λ g. SamePlace e g) _ f l (record { row = refl; col = refl })) (λ c l. stays e f l))
-mode_stays false true n e f h = chosen (n == 4) _ _ f h (λ b k. not_found f k) (λ b k. stays e f k)
-mode_stays false false n e f h = chosen (n == 4) _ _ f h (λ b k. stays e f k) (λ b k. stays e f k)
+mode_stays Standard true n e f h = chosen (n == 4) _ _ f h (λ b k. not_found f k) (λ b k. stays e f k)
+mode_stays Standard false n e f h = chosen (n == 4) _ _ f h (λ b k. stays e f k) (λ b k. stays e f k)
 
-pub modes_stay : (private on : Bool) (ns : List (Option ℕ)) (e f : Effect) → modes_set private on ns e ≡ Some f → SamePlace e f
-modes_stay private on [] e f h = stays e f h
-modes_stay private on (n ∷ ns) e f h = option_and_then_some (modes_set private on ns) (mode_set private on (unwrap_or n 0) e) f h
+pub modes_stay : (kind : ModeKind) (on : Bool) (ns : List (Option ℕ)) (e f : Effect) → modes_set kind on ns e ≡ Some f → SamePlace e f
+modes_stay kind on [] e f h = stays e f h
+modes_stay kind on (n ∷ ns) e f h = option_and_then_some (modes_set kind on ns) (mode_set kind on (unwrap_or n 0) e) f h
     (λ g found left.
-    let one : SamePlace e g = mode_stays private on (unwrap_or n 0) e g found in
-    let more : SamePlace g f = modes_stay private on ns g f left in
+    let one : SamePlace e g = mode_stays kind on (unwrap_or n 0) e g found in
+    let more : SamePlace g f = modes_stay kind on ns g f left in
     record { row = more.row ∙ one.row; col = more.col ∙ one.col })

@@ -7,7 +7,7 @@ use Rattle.vt_term.specs.Screen.{Screen, Charset}
 use Rattle.vt_term.specs.Step.{act, step, steps}
 use Rattle.vt_term.specs.Step as step
 use Rattle.vt_term.specs.Function as functions
-use Rattle.vt_term.specs.Function.{Function, function_of}
+use Rattle.vt_term.specs.Function.{CodeElement, G0, G1, ModeKind, Standard, Private, Function, function_of}
 use Rattle.vt_effects.specs.declared.effects.Move.TheVariants as moves
 use Rattle.vt_effects.specs.declared.effects.Erasure.TheVariants as erasures
 use Rattle.vt_effects.specs.declared.effects.Switch.TheVariants as switches
@@ -125,18 +125,18 @@ shown_said rows false d = record {
 nothing_said : (rows : ℕ) (d : Effect) → Says rows (λ s. s) d d
 nothing_said rows d = says_kept rows (λ s. s) d d (λ t. record { rows = refl; rendition = refl; charset = refl; visible = refl; top = refl; bottom = refl; autowrap = refl; inserting = refl }) (alike d)
 
-mode_said : (rows : ℕ) (private on : Bool) (n : ℕ) (d g : Effect) → spec.mode_set private on n d ≡ Some g → Says rows (λ s. step.mode_set private on n s) d g
-mode_said rows true true n d g h = says_if rows (n == 7) _ _ _ _ d g h (λ i. says_given rows _ d d g i (autowrap_said rows d))
+mode_said : (rows : ℕ) (kind : ModeKind) (on : Bool) (n : ℕ) (d g : Effect) → spec.mode_set kind on n d ≡ Some g → Says rows (λ s. step.mode_set kind on n s) d g
+mode_said rows Private true n d g h = says_if rows (n == 7) _ _ _ _ d g h (λ i. says_given rows _ d d g i (autowrap_said rows d))
     (λ i. says_if rows (n == 25) _ _ _ _ d g i (λ j. says_given rows _ d _ g j (shown_said rows true d)) (λ j. says_given rows _ d d g j (nothing_said rows d)))
-mode_said rows true false n d g h = says_if rows (n == 7) _ _ _ _ d g h (λ i. not_found g i)
+mode_said rows Private false n d g h = says_if rows (n == 7) _ _ _ _ d g h (λ i. not_found g i)
     (λ i. says_if rows (n == 25) _ _ _ _ d g i (λ j. says_given rows _ d _ g j (shown_said rows false d)) (λ j. says_given rows _ d d g j (nothing_said rows d)))
-mode_said rows false true n d g h = says_if rows (n == 4) _ _ _ _ d g h (λ i. not_found g i) (λ i. says_given rows _ d d g i (nothing_said rows d))
-mode_said rows false false n d g h = says_if rows (n == 4) _ _ _ _ d g h (λ i. says_given rows _ d d g i (replacing_said rows d)) (λ i. says_given rows _ d d g i (nothing_said rows d))
+mode_said rows Standard true n d g h = says_if rows (n == 4) _ _ _ _ d g h (λ i. not_found g i) (λ i. says_given rows _ d d g i (nothing_said rows d))
+mode_said rows Standard false n d g h = says_if rows (n == 4) _ _ _ _ d g h (λ i. says_given rows _ d d g i (replacing_said rows d)) (λ i. says_given rows _ d d g i (nothing_said rows d))
 
-modes_said : (rows : ℕ) (private on : Bool) (ns : List (Option ℕ)) (d g : Effect) → spec.modes_set private on ns d ≡ Some g → Says rows (λ s. step.all_modes_set private on ns s) d g
-modes_said rows private on [] d g h = says_given rows _ d d g h (nothing_said rows d)
-modes_said rows private on (n ∷ ns) d g h = option_and_then_some (spec.modes_set private on ns) (spec.mode_set private on (unwrap_or n 0) d) g h
-    (λ m found left. says_then rows (λ s. step.mode_set private on (unwrap_or n 0) s) (λ s. step.all_modes_set private on ns s) d m g (mode_said rows private on (unwrap_or n 0) d m found) (modes_said rows private on ns m g left))
+modes_said : (rows : ℕ) (kind : ModeKind) (on : Bool) (ns : List (Option ℕ)) (d g : Effect) → spec.modes_set kind on ns d ≡ Some g → Says rows (λ s. step.all_modes_set kind on ns s) d g
+modes_said rows kind on [] d g h = says_given rows _ d d g h (nothing_said rows d)
+modes_said rows kind on (n ∷ ns) d g h = option_and_then_some (spec.modes_set kind on ns) (spec.mode_set kind on (unwrap_or n 0) d) g h
+    (λ m found left. says_then rows (λ s. step.mode_set kind on (unwrap_or n 0) s) (λ s. step.all_modes_set kind on ns s) d m g (mode_said rows kind on (unwrap_or n 0) d m found) (modes_said rows kind on ns m g left))
 
 -- character sets and rendition
 sets_said : (rows : ℕ) (a : Charset → Charset) (d g : Effect) → ((s t : Screen) → SetsAs d s t → SetsAs g s (record t { charset = a t.charset })) → g.margins ≡ d.margins → g.visible ≡ d.visible
@@ -160,13 +160,13 @@ charset_set d g s t c h r m v e = record {
   tame = record { autowrap = h.tame.autowrap; inserting = h.tame.inserting };
 }
 
-designated_said : (rows : ℕ) (is_g1 graphic : Bool) (d : Effect) → Says rows (λ s. act (functions.Designate is_g1 graphic) s) d (spec.designating is_g1 graphic d)
-designated_said rows false false d = sets_said rows (λ c. record c { g0_graphic = false }) d _ (λ s t h. charset_set d _ s t _ h refl refl refl (ap (λ (c : Charset). record c { g0_graphic = false }) h.charset)) refl refl
-designated_said rows false true d = sets_said rows (λ c. record c { g0_graphic = true }) d _ (λ s t h. charset_set d _ s t _ h refl refl refl (ap (λ (c : Charset). record c { g0_graphic = true }) h.charset)) refl refl
-designated_said rows true false d = sets_said rows (λ c. record c { g1_graphic = false }) d _ (λ s t h. charset_set d _ s t _ h refl refl refl (ap (λ (c : Charset). record c { g1_graphic = false }) h.charset)) refl refl
-designated_said rows true true d = sets_said rows (λ c. record c { g1_graphic = true }) d _ (λ s t h. charset_set d _ s t _ h refl refl refl (ap (λ (c : Charset). record c { g1_graphic = true }) h.charset)) refl refl
+designated_said : (rows : ℕ) (set : CodeElement) (graphic : Bool) (d : Effect) → Says rows (λ s. act (functions.Designate set graphic) s) d (spec.designating set graphic d)
+designated_said rows G0 false d = sets_said rows (λ c. record c { g0_graphic = false }) d _ (λ s t h. charset_set d _ s t _ h refl refl refl (ap (λ (c : Charset). record c { g0_graphic = false }) h.charset)) refl refl
+designated_said rows G0 true d = sets_said rows (λ c. record c { g0_graphic = true }) d _ (λ s t h. charset_set d _ s t _ h refl refl refl (ap (λ (c : Charset). record c { g0_graphic = true }) h.charset)) refl refl
+designated_said rows G1 false d = sets_said rows (λ c. record c { g1_graphic = false }) d _ (λ s t h. charset_set d _ s t _ h refl refl refl (ap (λ (c : Charset). record c { g1_graphic = false }) h.charset)) refl refl
+designated_said rows G1 true d = sets_said rows (λ c. record c { g1_graphic = true }) d _ (λ s t h. charset_set d _ s t _ h refl refl refl (ap (λ (c : Charset). record c { g1_graphic = true }) h.charset)) refl refl
 
-shifted_said : (rows : ℕ) (out : Bool) (d : Effect) → Says rows (λ s. step.shifted out s) d (spec.shifting out d)
+shifted_said : (rows : ℕ) (out : Bool) (d : Effect) → Says rows (λ s. step.invoked out s) d (spec.shifting out d)
 shifted_said rows false d = sets_said rows (λ c. record c { shifted_out = false }) d _ (λ s t h. charset_set d _ s t _ h refl refl refl (ap (λ (c : Charset). record c { shifted_out = false }) h.charset)) refl refl
 shifted_said rows true d = sets_said rows (λ c. record c { shifted_out = true }) d _ (λ s t h. charset_set d _ s t _ h refl refl refl (ap (λ (c : Charset). record c { shifted_out = true }) h.charset)) refl refl
 
@@ -222,9 +222,9 @@ function_said rows cols start (functions.EraseDisplay functions.FromStart) d g h
 function_said rows cols start (functions.EraseDisplay functions.Whole) d g h = erased_said rows (λ s i j. true) d g (same_screen d g h)
 function_said rows cols start (functions.EraseCells n) d g h = erased_said rows _ d g (same_cells (erasures.Next (min n cols)) d g h)
 function_said rows cols start (functions.Margins first last) d g h = says_given rows _ d _ g h (margins_said rows first last d)
-function_said rows cols start (functions.Designate is_g1 graphic) d g h = says_given rows _ d _ g h (designated_said rows is_g1 graphic d)
+function_said rows cols start (functions.Designate set graphic) d g h = says_given rows _ d _ g h (designated_said rows set graphic d)
 function_said rows cols start (functions.SelectRendition ns) d g h = says_given rows _ d _ g h (rendered_said rows ns d)
-function_said rows cols start (functions.Modes private on ns) d g h = modes_said rows private on ns d g h
+function_said rows cols start (functions.Modes kind on ns) d g h = modes_said rows kind on ns d g h
 function_said rows cols start functions.Ignored d g h = says_given rows _ d d g h (nothing_said rows d)
 function_said rows cols start (functions.Print b) d g h = not_found g h
 function_said rows cols start (functions.InsertCells n) d g h = not_found g h

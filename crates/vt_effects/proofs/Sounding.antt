@@ -8,7 +8,7 @@ use Rattle.vt_term.specs.Step.{act, steps}
 use Rattle.vt_term.specs.Step as step
 use Rattle.vt_term.specs.Run.{Runs}
 use Rattle.vt_term.specs.Function as functions
-use Rattle.vt_term.specs.Function.{Function, function_of}
+use Rattle.vt_term.specs.Function.{CodeElement, G0, G1, ModeKind, Function, function_of}
 use Rattle.vt_effects.specs.declared.effects.Move.{Move}
 use Rattle.vt_effects.specs.declared.effects.Effect.{Effect}
 use Rattle.vt_effects.specs.declared.starts.Start.{Start}
@@ -45,11 +45,11 @@ margins_right rows cols start first last e g = record {
   leads = λ s a. margins_lead first last e s ∙ ap (λ (r : ℕ). applied (spec.margins_set r first last e) s) a.rows;
 }
 
-designated_right : (rows cols : ℕ) (start : Start) (is_g1 graphic : Bool) (e : Effect) → IsGood start e → Right rows cols start (functions.Designate is_g1 graphic) e (spec.designating is_g1 graphic e)
-designated_right rows cols start false false e g = record { good = record { row = g.row; col = g.col }; leads = λ s a. refl }
-designated_right rows cols start false true e g = record { good = record { row = g.row; col = g.col }; leads = λ s a. refl }
-designated_right rows cols start true false e g = record { good = record { row = g.row; col = g.col }; leads = λ s a. refl }
-designated_right rows cols start true true e g = record { good = record { row = g.row; col = g.col }; leads = λ s a. refl }
+designated_right : (rows cols : ℕ) (start : Start) (set : CodeElement) (graphic : Bool) (e : Effect) → IsGood start e → Right rows cols start (functions.Designate set graphic) e (spec.designating set graphic e)
+designated_right rows cols start G0 false e g = record { good = record { row = g.row; col = g.col }; leads = λ s a. refl }
+designated_right rows cols start G0 true e g = record { good = record { row = g.row; col = g.col }; leads = λ s a. refl }
+designated_right rows cols start G1 false e g = record { good = record { row = g.row; col = g.col }; leads = λ s a. refl }
+designated_right rows cols start G1 true e g = record { good = record { row = g.row; col = g.col }; leads = λ s a. refl }
 
 rendered_right : (rows cols : ℕ) (start : Start) (ns : List (Option ℕ)) (e : Effect) → IsGood start e
     → Right rows cols start (functions.SelectRendition ns) e (record e { rendition = spec.all_renderings ns e.rendition })
@@ -58,9 +58,9 @@ rendered_right rows cols start ns e g = record {
   leads = λ s a. ap (λ (r : Rendition). record (applied e s) { rendition = r }) (sym (numbers_rendered ns e.rendition s.rendition));
 }
 
-modes_right : (rows cols : ℕ) (start : Start) (private on : Bool) (ns : List (Option ℕ)) (e f : Effect) → IsGood start e → spec.modes_set private on ns e ≡ Some f → (s : Screen) → Allows rows cols start s
-    → step.all_modes_set private on ns (applied e s) ≡ applied f s
-modes_right rows cols start private on ns e f g h s a = modes_follow private on ns e f s a.autowrap a.inserting h
+modes_right : (rows cols : ℕ) (start : Start) (kind : ModeKind) (on : Bool) (ns : List (Option ℕ)) (e f : Effect) → IsGood start e → spec.modes_set kind on ns e ≡ Some f → (s : Screen) → Allows rows cols start s
+    → step.all_modes_set kind on ns (applied e s) ≡ applied f s
+modes_right rows cols start kind on ns e f g h s a = modes_follow kind on ns e f s a.autowrap a.inserting h
 
 same_place : (start : Start) (e f : Effect) → SamePlace e f → IsGood start e → IsGood start f
 same_place start e f h g = record { row = subst (λ (m : Move). IsBack m start.row_min) (sym h.row) g.row; col = subst (λ (m : Move). IsBack m start.col_min) (sym h.col) g.col }
@@ -85,11 +85,11 @@ extended_right rows cols start (functions.EraseLine part) e f g h = line_part_ri
 extended_right rows cols start (functions.EraseDisplay part) e f g h = display_part_right rows cols start part e f g h
 extended_right rows cols start (functions.EraseCells n) e f g h = count_right rows cols start n e f g h
 extended_right rows cols start (functions.Margins first last) e f g h = always rows cols start (functions.Margins first last) e _ f h (margins_right rows cols start first last e g)
-extended_right rows cols start (functions.Designate is_g1 graphic) e f g h = always rows cols start (functions.Designate is_g1 graphic) e _ f h (designated_right rows cols start is_g1 graphic e g)
+extended_right rows cols start (functions.Designate set graphic) e f g h = always rows cols start (functions.Designate set graphic) e _ f h (designated_right rows cols start set graphic e g)
 extended_right rows cols start (functions.SelectRendition ns) e f g h = always rows cols start (functions.SelectRendition ns) e _ f h (rendered_right rows cols start ns e g)
-extended_right rows cols start (functions.Modes private on ns) e f g h = record {
-  good = same_place start e f (modes_stay private on ns e f h) g;
-  leads = λ s a. modes_right rows cols start private on ns e f g h s a;
+extended_right rows cols start (functions.Modes kind on ns) e f g h = record {
+  good = same_place start e f (modes_stay kind on ns e f h) g;
+  leads = λ s a. modes_right rows cols start kind on ns e f g h s a;
 }
 extended_right rows cols start functions.Ignored e f g h = always rows cols start functions.Ignored e _ f h (record { good = g; leads = λ s a. refl })
 extended_right rows cols start (functions.Print b) e f g h = not_found f h

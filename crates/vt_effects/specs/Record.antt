@@ -3,7 +3,7 @@
 use Rattle.std.specs.Prelude.{ℕ, ◌+◌, ◌-◌, ◌*◌, ◌/◌, ◌==◌, ◌&&◌, nat_le, nat_lt, min, Bool, true, false, List, [], ◌∷◌, if◌then◌else◌, Option, None, Some}
 use Rattle.std.specs.Option.{unwrap_or, option_and_then}
 use Rattle.vt_term.specs.Color.{color}
-use Rattle.vt_term.specs.Function.{Part, ToEnd, FromStart, function_of, Function, Print, LineFeed, CarriageReturn, Backspace, Tab, ShiftOut, ShiftIn, ReverseIndex, NextLine, CursorUp, CursorDown, CursorForward, CursorBack, CursorColumn, CursorRow, CursorPosition, EraseLine, EraseDisplay, EraseCells, InsertCells, DeleteCells, InsertLines, DeleteLines, ScrollUp, ScrollDown, Designate, SelectRendition, Modes, Ignored}
+use Rattle.vt_term.specs.Function.{CodeElement, G0, G1, ModeKind, Standard, Private, EraseExtent, ToEnd, FromStart, function_of, Function, Print, LineFeed, CarriageReturn, Backspace, Tab, ShiftOut, ShiftIn, ReverseIndex, NextLine, CursorUp, CursorDown, CursorForward, CursorBack, CursorColumn, CursorRow, CursorPosition, EraseLine, EraseDisplay, EraseCells, InsertCells, DeleteCells, InsertLines, DeleteLines, ScrollUp, ScrollDown, Designate, SelectRendition, Modes, Ignored}
 use Rattle.vt_term.specs.Function as functions
 use Rattle.vt_effects.specs.declared.effects.Move.{Move}
 use Rattle.vt_effects.specs.declared.effects.Move.TheVariants as moves
@@ -153,12 +153,12 @@ cells_erased x e =
     (if erases_screen e.erasure then Some e else (if is_unmoved e && erases_nothing e.erasure then Some (record e { erasure = x }) else None))
     else None
 
-abbrev pub line_erased : Part → Effect → Option Effect
+abbrev pub line_erased : EraseExtent → Effect → Option Effect
 line_erased ToEnd e = cells_erased erasures.Tail e
 line_erased FromStart e = cells_erased erasures.Head e
 line_erased functions.Whole e = None
 
-abbrev pub display_erased : Part → Effect → Option Effect
+abbrev pub display_erased : EraseExtent → Effect → Option Effect
 display_erased ToEnd e = if is_first e.row && is_first e.col then screen_erased e else cells_erased erasures.Rest e
 display_erased FromStart e = None
 display_erased functions.Whole e = screen_erased e
@@ -210,15 +210,15 @@ all_renderings [] r = r
 all_renderings (n ∷ ns) r = all_renderings ns (rendering (unwrap_or n 0) r)
 
 -- autowrap stays on and insertion off, or there is no record (VT100 DECAWM, ECMA-48 7.2.10 IRM); VT220 DECTCEM is 25
-abbrev pub mode_set : Bool → Bool → ℕ → Effect → Option Effect
-mode_set true on n e =
+abbrev pub mode_set : ModeKind → Bool → ℕ → Effect → Option Effect
+mode_set Private on n e =
     if n == 7 then (if on then Some e else None)
     else (if n == 25 then Some (record e { visible = if on then switches.On else switches.Off }) else Some e)
-mode_set false on n e = if n == 4 then (if on then None else Some e) else Some e
+mode_set Standard on n e = if n == 4 then (if on then None else Some e) else Some e
 
-abbrev pub modes_set : Bool → Bool → List (Option ℕ) → Effect → Option Effect
-modes_set private on [] e = Some e
-modes_set private on (n ∷ ns) e = option_and_then (modes_set private on ns) (mode_set private on (unwrap_or n 0) e)
+abbrev pub modes_set : ModeKind → Bool → List (Option ℕ) → Effect → Option Effect
+modes_set kind on [] e = Some e
+modes_set kind on (n ∷ ns) e = option_and_then (modes_set kind on ns) (mode_set kind on (unwrap_or n 0) e)
 
 -- DECSTBM acts where the first line is above the last, and does nothing else
 abbrev pub margins_set : ℕ → ℕ → ℕ → Effect → Effect
@@ -231,9 +231,9 @@ abbrev pub switch_of : Bool → Switch
 switch_of true = switches.On
 switch_of false = switches.Off
 
-abbrev pub designating : Bool → Bool → Effect → Effect
-designating false graphic e = record e { charset = record e.charset { g0_graphic = switch_of graphic } }
-designating true graphic e = record e { charset = record e.charset { g1_graphic = switch_of graphic } }
+abbrev pub designating : CodeElement → Bool → Effect → Effect
+designating G0 graphic e = record e { charset = record e.charset { g0_graphic = switch_of graphic } }
+designating G1 graphic e = record e { charset = record e.charset { g1_graphic = switch_of graphic } }
 
 abbrev pub shifting : Bool → Effect → Effect
 shifting out e = record e { charset = record e.charset { shifted_out = switch_of out } }
@@ -272,9 +272,9 @@ extended rows cols start (EraseLine part) e = line_erased part e
 extended rows cols start (EraseDisplay part) e = display_erased part e
 extended rows cols start (EraseCells n) e = cells_erased (erasures.Next (min n cols)) e
 extended rows cols start (functions.Margins first last) e = Some (margins_set rows first last e)
-extended rows cols start (Designate is_g1 graphic) e = Some (designating is_g1 graphic e)
+extended rows cols start (Designate set graphic) e = Some (designating set graphic e)
 extended rows cols start (SelectRendition ns) e = Some (record e { rendition = all_renderings ns e.rendition })
-extended rows cols start (Modes private on ns) e = modes_set private on ns e
+extended rows cols start (Modes kind on ns) e = modes_set kind on ns e
 extended rows cols start Ignored e = Some e
 extended rows cols start (Print b) e = None
 extended rows cols start (InsertCells n) e = None

@@ -3,7 +3,7 @@ ghost use Rattle.vt_effects.specs.Effect as spec;
 ghost use Rattle.vt_term.specs.Look.{blank};
 
 use crate::effects::{Effect, Erasure, Ink, Move, Region, Rendering, Scroll, Sets, Switch};
-use vt_term::{Charset, Color, Function, Part, Rendition, Settings, Terminal};
+use vt_term::{Charset, Color, Function, EraseExtent, Rendition, Settings, Terminal};
 
 /// Applies an effect to a terminal. That the moves stay on the screen, and that the margins, if it
 /// sets them, are in order and on the screen, is the caller's condition. What is open of a sequence
@@ -34,10 +34,10 @@ fn erase(erasure: Erasure, terminal: &mut Terminal)
 {
     match erasure {
         Erasure::Nothing => {}
-        Erasure::Screen => terminal.act(Function::EraseDisplay(Part::Whole)),
-        Erasure::Tail => terminal.act(Function::EraseLine(Part::ToEnd)),
-        Erasure::Head => terminal.act(Function::EraseLine(Part::FromStart)),
-        Erasure::Rest => terminal.act(Function::EraseDisplay(Part::ToEnd)),
+        Erasure::Screen => terminal.act(Function::EraseDisplay(EraseExtent::Whole)),
+        Erasure::Tail => terminal.act(Function::EraseLine(EraseExtent::ToEnd)),
+        Erasure::Head => terminal.act(Function::EraseLine(EraseExtent::FromStart)),
+        Erasure::Rest => terminal.act(Function::EraseDisplay(EraseExtent::ToEnd)),
         Erasure::Next(n) => terminal.act(Function::EraseCells(n)),
     }
 }

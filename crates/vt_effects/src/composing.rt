@@ -4,7 +4,7 @@ ghost use Rattle.vt_effects.specs.Compose as spec;
 use crate::effects::{Effect, Erasure, Ink, Move, Rendering, Scroll, Sets, Switch};
 use crate::moves::{and_back, and_forward};
 use crate::records::{cells_erased, display_erased, is_still, keeps_background, screen_erased};
-use vt_term::Part;
+use vt_term::EraseExtent;
 
 /// One effect and then another, as one: from every state on which the first applies, and then the
 /// second, it does what they do. `None` where no such record is found: where cells are erased after
@@ -44,7 +44,7 @@ fn then_erased(effect: Effect, erasure: Erasure) -> Option<Effect>
     match erasure {
         Erasure::Nothing => Some(effect),
         Erasure::Screen => screen_erased(effect),
-        Erasure::Rest => display_erased(effect, Part::ToEnd),
+        Erasure::Rest => display_erased(effect, EraseExtent::ToEnd),
         Erasure::Tail | Erasure::Head | Erasure::Next(_) => cells_erased(effect, erasure),
     }
 }

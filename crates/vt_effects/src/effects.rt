@@ -1,5 +1,6 @@
 ghost use Rattle.std.specs.Prelude.{◌≡◌};
 ghost use Rattle.vt_effects.specs.Effect as spec;
+ghost use Rattle.vt_effects.specs.Record as records;
 
 use vt_term::Color;
 
@@ -102,6 +103,49 @@ pub struct Effect {
     pub visible: Switch,
 }
 
+impl Switch {
+    /// On or off.
+    pub fn set_to(on: bool) -> Switch
+        ensures { result ≡ records.switch_of on }
+    {
+        if on { Switch::On } else { Switch::Off }
+    }
+}
+
+impl Rendering {
+    /// Everything stays.
+    pub fn kept() -> Rendering
+        ensures { result ≡ spec.nothing_rendered }
+    {
+        Rendering {
+            bold: Switch::Kept,
+            faint: Switch::Kept,
+            underline: Switch::Kept,
+            blink: Switch::Kept,
+            negative: Switch::Kept,
+            concealed: Switch::Kept,
+            foreground: Ink::Kept,
+            background: Ink::Kept,
+        }
+    }
+
+    /// All marks off, and the default colours.
+    pub fn all_off() -> Rendering
+        ensures { result ≡ records.all_off }
+    {
+        Rendering {
+            bold: Switch::Off,
+            faint: Switch::Off,
+            underline: Switch::Off,
+            blink: Switch::Off,
+            negative: Switch::Off,
+            concealed: Switch::Off,
+            foreground: Ink::Default,
+            background: Ink::Default,
+        }
+    }
+}
+
 impl Effect {
     /// The effect of nothing: everything stays.
     pub fn unchanged() -> Effect
@@ -113,16 +157,7 @@ impl Effect {
             ends_pending: false,
             erasure: Erasure::Nothing,
             scroll: Scroll::Still,
-            rendition: Rendering {
-                bold: Switch::Kept,
-                faint: Switch::Kept,
-                underline: Switch::Kept,
-                blink: Switch::Kept,
-                negative: Switch::Kept,
-                concealed: Switch::Kept,
-                foreground: Ink::Kept,
-                background: Ink::Kept,
-            },
+            rendition: Rendering::kept(),
             charset: Sets {
                 g0_graphic: Switch::Kept,
                 g1_graphic: Switch::Kept,

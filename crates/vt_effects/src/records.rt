@@ -4,9 +4,9 @@ ghost use Rattle.vt_effects.specs.Record as spec;
 
 use crate::effects::{Effect, Erasure, Ink, Move, Region, Scroll, Sets, Switch};
 use crate::moves::{and_back, and_forward, back_by, forward_by};
-use crate::renditions::{all_renderings, switch_of};
+use crate::renditions::all_renderings;
 use crate::starts::{Margins, Start};
-use vt_term::{Function, Part, Size, Token};
+use vt_term::{CodeElement, EraseExtent, Function, ModeKind, Size, Token};
 
 /// The effect of these tokens from every state that the start allows. `None` where a token has no
 /// one effect from all of them that a record can tell. From each of those states, whatever its
@@ -51,12 +51,12 @@ fn extended(effect: Effect, function: Function<'_>, size: Size, start: &Start) -
         Function::EraseDisplay(part) => display_erased(effect, part),
         Function::EraseCells(n) => cells_erased(effect, Erasure::Next(n.min(size.cols as u16))),
         Function::Margins(first, last) => Some(margins_set(effect, first, last, size)),
-        Function::Designate(is_g1, graphic) => Some(designating(effect, is_g1, graphic)),
+        Function::Designate(set, graphic) => Some(designating(effect, set, graphic)),
         Function::SelectRendition(numbers) => Some(Effect {
             rendition: all_renderings(effect.rendition, numbers.as_slice()),
             ..effect
         }),
-        Function::Modes(private, on, numbers) => modes_set(effect, private, on, numbers.as_slice()),
+        Function::Modes(kind, on, numbers) => modes_set(effect, kind, on, numbers.as_slice()),
         Function::Ignored => Some(effect),
         Function::Print(_)
         | Function::InsertCells(_)
@@ -230,24 +230,24 @@ fn line_reversed(effect: Effect, size: Size, start: &Start) -> Option<Effect>
     }
 }
 
-fn line_erased(effect: Effect, part: Part) -> Option<Effect>
+fn line_erased(effect: Effect, part: EraseExtent) -> Option<Effect>
     ensures { result ≡ spec.line_erased part effect }
 {
     match part {
-        Part::ToEnd => cells_erased(effect, Erasure::Tail),
-        Part::FromStart => cells_erased(effect, Erasure::Head),
-        Part::Whole => None,
+        EraseExtent::ToEnd => cells_erased(effect, Erasure::Tail),
+        EraseExtent::FromStart => cells_erased(effect, Erasure::Head),
+        EraseExtent::Whole => None,
     }
 }
 
-pub(crate) fn display_erased(effect: Effect, part: Part) -> Option<Effect>
+pub(crate) fn display_erased(effect: Effect, part: EraseExtent) -> Option<Effect>
     ensures { result ≡ spec.display_erased part effect }
 {
     match part {
-        Part::ToEnd if is_first(effect.row) && is_first(effect.col) => screen_erased(effect),
-        Part::ToEnd => cells_erased(effect, Erasure::Rest),
-        Part::FromStart => None,
-        Part::Whole => screen_erased(effect),
+        EraseExtent::ToEnd if is_first(effect.row) && is_first(effect.col) => screen_erased(effect),
+        EraseExtent::ToEnd => cells_erased(effect, Erasure::Rest),
+        EraseExtent::FromStart => None,
+        EraseExtent::Whole => screen_erased(effect),
     }
 }
 
@@ -305,19 +305,18 @@ fn margins_set(effect: Effect, first: u16, last: u16, size: Size) -> Effect
     }
 }
 
-fn designating(effect: Effect, is_g1: bool, graphic: bool) -> Effect
-    ensures { result ≡ spec.designating is_g1 graphic effect }
+fn designating(effect: Effect, set: CodeElement, graphic: bool) -> Effect
+    ensures { result ≡ spec.designating set graphic effect }
 {
-    let charset = if is_g1 {
-        Sets {
-            g1_graphic: switch_of(graphic),
+    let charset = match set {
+        CodeElement::G0 => Sets {
+            g0_graphic: Switch::set_to(graphic),
             ..effect.charset
-        }
-    } else {
-        Sets {
-            g0_graphic: switch_of(graphic),
+        },
+        CodeElement::G1 => Sets {
+            g1_graphic: Switch::set_to(graphic),
             ..effect.charset
-        }
+        },
     };
     Effect { charset, ..effect }
 }
@@ -327,7 +326,7 @@ fn shifting(effect: Effect, out: bool) -> Effect
 {
     Effect {
         charset: Sets {
-            shifted_out: switch_of(out),
+            shifted_out: Switch::set_to(out),
             ..effect.charset
         },
         ..effect
@@ -335,25 +334,25 @@ fn shifting(effect: Effect, out: bool) -> Effect
 }
 
 /// One mode on or off: autowrap stays on and insertion off, or there is no record.
-fn mode_set(effect: Effect, private: bool, on: bool, number: u16) -> Option<Effect>
-    ensures { result ≡ spec.mode_set private on number effect }
+fn mode_set(effect: Effect, kind: ModeKind, on: bool, number: u16) -> Option<Effect>
+    ensures { result ≡ spec.mode_set kind on number effect }
 {
-    match (private, number) {
-        (true, 7) if !on => None,
-        (true, 25) => Some(Effect {
-            visible: switch_of(on),
+    match (kind, number) {
+        (ModeKind::Private, 7) if !on => None,
+        (ModeKind::Private, 25) => Some(Effect {
+            visible: Switch::set_to(on),
             ..effect
         }),
-        (false, 4) if on => None,
+        (ModeKind::Standard, 4) if on => None,
         _ => Some(effect),
     }
 }
 
-fn modes_set(mut effect: Effect, private: bool, on: bool, numbers: &[Option<u16>]) -> Option<Effect>
-    ensures { result ≡ spec.modes_set private on numbers.now effect }
+fn modes_set(mut effect: Effect, kind: ModeKind, on: bool, numbers: &[Option<u16>]) -> Option<Effect>
+    ensures { result ≡ spec.modes_set kind on numbers.now effect }
 {
     for number in numbers {
-        effect = mode_set(effect, private, on, number.unwrap_or(0))?;
+        effect = mode_set(effect, kind, on, number.unwrap_or(0))?;
     }
     Some(effect)
 }

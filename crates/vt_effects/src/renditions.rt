@@ -4,35 +4,12 @@ ghost use Rattle.vt_effects.specs.Record as spec;
 use crate::effects::{Ink, Rendering, Switch};
 use vt_term::color_of;
 
-/// On or off.
-pub(crate) fn switch_of(on: bool) -> Switch
-    ensures { result ≡ spec.switch_of on }
-{
-    if on { Switch::On } else { Switch::Off }
-}
-
-/// All marks off, and the default colours.
-fn all_off() -> Rendering
-    ensures { result ≡ spec.all_off }
-{
-    Rendering {
-        bold: Switch::Off,
-        faint: Switch::Off,
-        underline: Switch::Off,
-        blink: Switch::Off,
-        negative: Switch::Off,
-        concealed: Switch::Off,
-        foreground: Ink::Default,
-        background: Ink::Default,
-    }
-}
-
 /// A rendering, and then one number of SGR.
 fn rendering(now: Rendering, number: u16) -> Rendering
     ensures { result ≡ spec.rendering number now }
 {
     match number {
-        0 => all_off(),
+        0 => Rendering::all_off(),
         1 => Rendering {
             bold: Switch::On,
             ..now

@@ -1,12 +1,12 @@
 -- Erasures by parts.
 use Rattle.std.proofs.Common.{◌≡◌, ℕ, ◌+◌, ◌<◌, ◌≤◌, ◌&&◌, ◌||◌, ◌==◌, nat_le, nat_lt, min, List, [], ◌∷◌, length, refl, ap, ◌∙◌, arith, if◌then◌else◌}
 use Rattle.std.proofs.lemmas.Bool.Decides.{nat_tests}
-use Rattle.vt_screen.specs.declared.functions.Part.TheVariants.{ToEnd, FromStart, Whole}
+use Rattle.vt_screen.specs.declared.functions.EraseExtent.TheVariants.{ToEnd, FromStart, Whole}
 use Rattle.vt_screen.specs.Look.{Look, blank}
-use Rattle.vt_screen.specs.Grid.{Grid, line_at, line_drawn, drawn_from, drawn}
+use Rattle.vt_screen.specs.Grid.{Grid, line_at, line_drawn, drawn}
 use Rattle.vt_screen.specs.Screen.{Screen, IsScreen}
 use Rattle.vt_screen.specs.Step.{part_erased, lines_erased, line_erased, display_erased, cells_erased}
-use Rattle.vt_screen.proofs.Grids.{grid_is_drawn, length-drawn, line_at-drawn}
+use Rattle.grids.proofs.Drawing.{grid_is_drawn, length-drawn, line_at-drawn, drawn_drawn}
 
 line_same_within : (n : ℕ) (f h : ℕ → Look → Look) (j : ℕ) (xs : List Look) → j + length xs ≤ n → ((k : ℕ) (x : Look) → k < n → f k x ≡ h k x) → line_drawn f j xs ≡ line_drawn h j xs
 line_same_within n f h j [] fits e = refl
@@ -18,19 +18,6 @@ pub drawn_same : (s : Screen) (f h : ℕ → ℕ → Look → Look) → IsScreen
 drawn_same s f h p e = grid_is_drawn h s.grid (drawn f s.grid) (length-drawn f s.grid)
     (λ i lt. let within : i < s.rows = omega (arith, p.lines) in
     line_at-drawn f s.grid i ∙ line_same_within s.cols (f i) (h i) 0 (line_at s.grid i) (omega (arith, p.columns i within)) (λ j x lj. e i j x within lj))
-
-line_fused : (f h : ℕ → Look → Look) (j : ℕ) (xs : List Look) → line_drawn f j (line_drawn h j xs) ≡ line_drawn (λ k x. f k (h k x)) j xs
-line_fused f h j [] = refl
-line_fused f h j (x ∷ xs) = ap (λ (l : List Look). f j (h j x) ∷ l) (line_fused f h (j + 1) xs)
-
-fused_from : (f h : ℕ → ℕ → Look → Look) (i : ℕ) (g : Grid) → drawn_from f i (drawn_from h i g) ≡ drawn_from (λ k j x. f k j (h k j x)) i g
-fused_from f h i [] = refl
-fused_from f h i (l ∷ ls) = ap (λ (x : List Look). x ∷ drawn_from f (i + 1) (drawn_from h (i + 1) ls)) (line_fused (f i) (h i) 0 l)
-    ∙ ap (λ (g : Grid). line_drawn (λ j x. f i j (h i j x)) 0 l ∷ g) (fused_from f h (i + 1) ls)
-
--- two drawings one after another are one
-pub drawn_twice : (f h : ℕ → ℕ → Look → Look) (g : Grid) → drawn f (drawn h g) ≡ drawn (λ i j x. f i j (h i j x)) g
-drawn_twice f h g = fused_from f h 0 g
 
 line_to_end : (row col cols i j : ℕ) (b x : Look) → j < cols → (if i == row then (if nat_le col j && nat_lt j cols then b else x) else x) ≡ (if (i == row) && nat_le col j then b else x)
 line_to_end row col cols i j b x h = grind (arith, nat_tests)
@@ -71,10 +58,10 @@ pub some_cells_erased : (n : ℕ) (s : Screen) → IsScreen s → part_erased s.
 some_cells_erased n s p = with_grid s _ _ (drawn_same s _ _ p (λ i j x li lj. line_some s.row s.col n s.cols i j (blank s.rendition) x lj))
 
 pub display_to_end_erased : (s : Screen) → IsScreen s → lines_erased (s.row + 1) s.rows (part_erased s.col s.cols s) ≡ display_erased ToEnd s
-display_to_end_erased s p = with_grid s _ _ (drawn_twice _ _ s.grid ∙ drawn_same s _ _ p (λ i j x li lj. display_to_end s.row s.col s.rows s.cols i j (blank s.rendition) x li lj))
+display_to_end_erased s p = with_grid s _ _ (drawn_drawn _ _ s.grid ∙ drawn_same s _ _ p (λ i j x li lj. display_to_end s.row s.col s.rows s.cols i j (blank s.rendition) x li lj))
 
 pub display_from_start_erased : (s : Screen) → IsScreen s → lines_erased 0 s.row (part_erased 0 (s.col + 1) s) ≡ display_erased FromStart s
-display_from_start_erased s p = with_grid s _ _ (drawn_twice _ _ s.grid ∙ drawn_same s _ _ p (λ i j x li lj. display_from_start s.row s.col i j (blank s.rendition) x))
+display_from_start_erased s p = with_grid s _ _ (drawn_drawn _ _ s.grid ∙ drawn_same s _ _ p (λ i j x li lj. display_from_start s.row s.col i j (blank s.rendition) x))
 
 pub display_whole_erased : (s : Screen) → IsScreen s → lines_erased 0 s.rows s ≡ display_erased Whole s
 display_whole_erased s p = with_grid s _ _ (drawn_same s _ _ p (λ i j x li lj. display_whole s.rows i (blank s.rendition) x li))

@@ -1,26 +1,31 @@
 -- The steps keep the screen's size and its order.
-use Rattle.std.proofs.Common.{◌≤◌, Option, ◌-◌, ◌==◌, nat_lt, min, ◌≡◌, ℕ, ◌+◌, ◌<◌, Bool, true, false, List, [], ◌∷◌, length, take, refl, sym, subst, ◌∙◌, inl, inr, arith, if◌then◌else◌, nat_le, ◌&&◌, max, ◌*◌, ◌/◌, ◌||◌}
+use Rattle.std.proofs.Common.{◌≤◌, Option, ◌-◌, ◌==◌, nat_lt, min, ◌≡◌, ℕ, ◌+◌, ◌<◌, Bool, true, false, List, [], ◌∷◌, length, refl, sym, subst, ◌∙◌, inl, inr, arith, if◌then◌else◌, nat_le, ◌&&◌, max, ◌*◌, ◌/◌}
 use Rattle.std.proofs.lemmas.Bool.{cases_lt}
 use Rattle.std.proofs.lemmas.Bool.Decides.{nat_tests}
 use Rattle.vt_screen.specs.Look.{Look, IsPrinted, blank}
 use Rattle.vt_screen.specs.Grid.{Grid, line_at, look_at, drawn, put, HasEvenLines}
 use Rattle.vt_screen.specs.Screen.{Screen, IsScreen}
+use Rattle.vt_screen.specs.declared.functions.CodeElement.TheVariants.{G0, G1}
+use Rattle.vt_screen.specs.declared.functions.ModeKind.{ModeKind}
+use Rattle.vt_screen.specs.declared.functions.ModeKind.TheVariants.{Standard, Private}
 use Rattle.vt_screen.specs.declared.functions.Function.{Function}
 use Rattle.vt_screen.specs.declared.functions.Function.TheVariants.{Print, LineFeed, CarriageReturn, Backspace, Tab, ShiftOut, ShiftIn, ReverseIndex, NextLine, CursorUp, CursorDown, CursorForward, CursorBack, CursorColumn, CursorRow, CursorPosition, EraseLine, EraseDisplay, EraseCells, InsertCells, DeleteCells, InsertLines, DeleteLines, ScrollUp, ScrollDown, Margins, Designate, SelectRendition, Modes, Ignored}
-use Rattle.vt_screen.specs.declared.functions.Part.{Part}
-use Rattle.vt_screen.specs.declared.functions.Part.TheVariants.{ToEnd, FromStart, Whole}
-use Rattle.vt_screen.specs.declared.looks.Rendition.{Rendition}
-use Rattle.vt_screen.specs.declared.screens.Charset.{Charset}
+use Rattle.vt_screen.specs.declared.functions.EraseExtent.{EraseExtent}
+use Rattle.vt_screen.specs.declared.functions.EraseExtent.TheVariants.{ToEnd, FromStart, Whole}
+use Rattle.vt_screen.specs.declared.renditions.Rendition.{Rendition}
+use Rattle.vt_screen.specs.declared.displays.Charset.{Charset}
 use Rattle.std.specs.Option.{unwrap_or}
-use Rattle.std.specs.List.{list_all, slice_index}
 use Rattle.vt_screen.specs.Step.{lines_up, lines_down, inserted, deleted, opened, shown, placed, printed, wrapped, goes_to, goes_down, goes_up, line_feed, reverse_index, erased, part_erased, lines_erased, line_erased, display_erased, in_region, lines_inserted, lines_deleted, margins_set, all_rendered, mode_set, all_modes_set, act, CanAct}
-use Rattle.vt_screen.proofs.Grids.{length-drawn, length-line_at-drawn, look_at-drawn, look_at-past}
+use Rattle.std.proofs.lemmas.List.{get_or_default, get_or_past}
+use Rattle.grids.specs.Grids.{cell_at, is_in, one}
+use Rattle.grids.proofs.Drawing.{length-drawn, length-line_at-drawn, cell_at-drawn}
+use Rattle.vt_screen.specs.Look.{space}
 
 characters_drawn : (f : ℕ → ℕ → Look → Look) (g : Grid) → ((i j : ℕ) → IsPrinted (look_at g i j).byte) → ((i j : ℕ) (x : Look) → IsPrinted x.byte → IsPrinted (f i j x).byte)
     → (i j : ℕ) → IsPrinted (look_at (drawn f g) i j).byte
 characters_drawn f g h p i j = elim (cases_lt j (length (line_at g i))) [
-  | inl lt ↦ subst (λ (x : Look). IsPrinted x.byte) (sym (look_at-drawn f g i j lt)) (p i j (look_at g i j) (h i j))
-  | inr ge ↦ subst (λ (x : Look). IsPrinted x.byte) (sym (look_at-past (drawn f g) i j (omega (arith, length-line_at-drawn f g i)))) (omega arith, omega arith)
+  | inl lt ↦ subst (λ (x : Look). IsPrinted x.byte) (sym (cell_at-drawn f space g i j lt)) (p i j (look_at g i j) (h i j))
+  | inr ge ↦ subst (λ (x : Look). IsPrinted x.byte) (sym (get_or_past (line_at (drawn f g) i) j space (omega (arith, length-line_at-drawn f g i)))) (omega arith, omega arith)
 ]
 
 -- a grid that is drawn anew
@@ -42,6 +47,13 @@ even_lines s h i lt = h.columns i (omega (arith, h.lines)) ∙ sym (h.columns 0 
 either_printed : (b : Bool) (x y : Look) → IsPrinted x.byte → IsPrinted y.byte → IsPrinted (if b then x else y).byte
 either_printed true x y h k = h
 either_printed false x y h k = k
+
+-- a cell of the screen, or one that is printed as well where there is none
+cell_printed : (s : Screen) → IsScreen s → (i j : ℕ) (x : Look) → IsPrinted x.byte → IsPrinted (cell_at x s.grid i j).byte
+cell_printed s h i j x p = elim (cases_lt j (length (line_at s.grid i))) [
+  | inl near ↦ subst (λ (y : Look). IsPrinted y.byte) (get_or_default (line_at s.grid i) j space x near) (h.characters i j)
+  | inr past ↦ subst (λ (y : Look). IsPrinted y.byte) (sym (get_or_past (line_at s.grid i) j x past)) p
+]
 
 -- a screen of the same size
 pub record Kept (s t : Screen) : Type 0 where
@@ -80,19 +92,19 @@ drawn_kept s f h p = record { screen = drawn_keeps s f h p; rows = refl; cols = 
 
 pub lines_up_kept : (top bottom n : ℕ) (s : Screen) → IsScreen s → Kept s (lines_up top bottom n s)
 lines_up_kept top bottom n s h = drawn_kept s _ h
-    (λ i j x p. either_printed (nat_le top i && nat_le i bottom) _ _ (either_printed (nat_le (i + n) bottom) _ _ (h.characters (i + n) j) (blank_printed s)) p)
+    (λ i j x p. either_printed (nat_le top i && nat_le i bottom) _ _ (either_printed (nat_le (i + n) bottom) _ _ (cell_printed s h (i + n) j x p) (blank_printed s)) p)
 
 pub lines_down_kept : (top bottom n : ℕ) (s : Screen) → IsScreen s → Kept s (lines_down top bottom n s)
 lines_down_kept top bottom n s h = drawn_kept s _ h
-    (λ i j x p. either_printed (nat_le top i && nat_le i bottom) _ _ (either_printed (nat_le (top + n) i) _ _ (h.characters (i - n) j) (blank_printed s)) p)
+    (λ i j x p. either_printed (nat_le top i && nat_le i bottom) _ _ (either_printed (nat_le (top + n) i) _ _ (cell_printed s h (i - n) j x p) (blank_printed s)) p)
 
 pub inserted_kept : (n : ℕ) (s : Screen) → IsScreen s → Kept s (inserted n s)
 inserted_kept n s h = drawn_kept s _ h
-    (λ i j x p. either_printed (i == s.row) _ _ (either_printed (nat_le s.col j) _ _ (either_printed (nat_lt j (s.col + n)) _ _ (blank_printed s) (h.characters s.row (j - n))) p) p)
+    (λ i j x p. either_printed (i == s.row) _ _ (either_printed (nat_le s.col j) _ _ (either_printed (nat_lt j (s.col + n)) _ _ (blank_printed s) (cell_printed s h s.row (j - n) x p)) p) p)
 
 pub deleted_kept : (n : ℕ) (s : Screen) → IsScreen s → Kept s (deleted n s)
 deleted_kept n s h = drawn_kept s _ h
-    (λ i j x p. either_printed (i == s.row) _ _ (either_printed (nat_le s.col j) _ _ (either_printed (nat_lt (j + n) (length (line_at s.grid s.row))) _ _ (h.characters s.row (j + n)) (blank_printed s)) p) p)
+    (λ i j x p. either_printed (i == s.row) _ _ (either_printed (nat_le s.col j) _ _ (either_printed (nat_lt (j + n) (length (line_at s.grid s.row))) _ _ (cell_printed s h s.row (j + n) x p) (blank_printed s)) p) p)
 
 pub part_erased_kept : (from to : ℕ) (s : Screen) → IsScreen s → Kept s (part_erased from to s)
 part_erased_kept from to s h = drawn_kept s _ h
@@ -142,7 +154,7 @@ opened_kept s h = either_kept s.inserting s _ _ (λ e. inserted_kept 1 s h) (λ 
 
 pub placed_kept : (b : ℕ) (s : Screen) → IsPrinted b → IsScreen s → Kept s (placed b s)
 placed_kept b s p h =
-    let g : IsScreen (record s { grid = put s.row s.col (shown s b) s.grid }) = drawn_keeps s _ h (λ i j x q. either_printed ((i == s.row) && (j == s.col)) (shown s b) x p q) in
+    let g : IsScreen (record s { grid = put s.row s.col (shown s b) s.grid }) = drawn_keeps s _ h (λ i j x q. either_printed (is_in (one s.row s.col) i j) (shown s b) x p q) in
     let k = moved_kept (record s { grid = put s.row s.col (shown s b) s.grid }) s.row (min (s.col + 1) (s.cols - 1)) ((s.col + 1 == s.cols) && s.autowrap) g h.row (omega (arith, h.col)) in
     record { screen = k.screen; rows = refl; cols = refl }
 
@@ -186,17 +198,17 @@ switched_kept s p a v i r c h = record {
   screen = record { size = h.size; lines = h.lines; columns = h.columns; characters = h.characters; row = h.row; col = h.col; region = h.region; bottom = h.bottom };
 }
 
-mode_kept : (private on : Bool) (n : ℕ) (s : Screen) → IsScreen s → Kept s (mode_set private on n s)
-mode_kept true on n s h = either_kept (n == 7) s _ _
+mode_kept : (kind : ModeKind) (on : Bool) (n : ℕ) (s : Screen) → IsScreen s → Kept s (mode_set kind on n s)
+mode_kept Private on n s h = either_kept (n == 7) s _ _
     (λ e. switched_kept s (s.pending && on) on s.visible s.inserting s.rendition s.charset h)
     (λ e. either_kept (n == 25) s _ _ (λ e. switched_kept s s.pending s.autowrap on s.inserting s.rendition s.charset h) (λ e. same_kept s h))
-mode_kept false on n s h = either_kept (n == 4) s _ _ (λ e. switched_kept s s.pending s.autowrap s.visible on s.rendition s.charset h) (λ e. same_kept s h)
+mode_kept Standard on n s h = either_kept (n == 4) s _ _ (λ e. switched_kept s s.pending s.autowrap s.visible on s.rendition s.charset h) (λ e. same_kept s h)
 
-modes_kept : (private on : Bool) (ns : List (Option ℕ)) (s : Screen) → IsScreen s → Kept s (all_modes_set private on ns s)
-modes_kept private on [] s h = same_kept s h
-modes_kept private on (n ∷ ns) s h =
-    let k : Kept s (mode_set private on (unwrap_or n 0) s) = mode_kept private on (unwrap_or n 0) s h in
-    kept_again s (mode_set private on (unwrap_or n 0) s) (all_modes_set private on (n ∷ ns) s) k (modes_kept private on ns (mode_set private on (unwrap_or n 0) s) k.screen)
+modes_kept : (kind : ModeKind) (on : Bool) (ns : List (Option ℕ)) (s : Screen) → IsScreen s → Kept s (all_modes_set kind on ns s)
+modes_kept kind on [] s h = same_kept s h
+modes_kept kind on (n ∷ ns) s h =
+    let k : Kept s (mode_set kind on (unwrap_or n 0) s) = mode_kept kind on (unwrap_or n 0) s h in
+    kept_again s (mode_set kind on (unwrap_or n 0) s) (all_modes_set kind on (n ∷ ns) s) k (modes_kept kind on ns (mode_set kind on (unwrap_or n 0) s) k.screen)
 
 row_above_below : (row top n rows : ℕ) → row < rows → (if nat_le top row then max top (row - n) else row - n) < rows
 row_above_below row top n rows h = grind (arith, nat_tests)
@@ -204,12 +216,12 @@ row_above_below row top n rows h = grind (arith, nat_tests)
 row_below_below : (row bottom n rows : ℕ) → row < rows → bottom < rows → (if nat_le row bottom then min bottom (row + n) else min (rows - 1) (row + n)) < rows
 row_below_below row bottom n rows h k = grind (arith, nat_tests)
 
-line_erased_kept : (part : Part) (s : Screen) → IsScreen s → Kept s (line_erased part s)
+line_erased_kept : (part : EraseExtent) (s : Screen) → IsScreen s → Kept s (line_erased part s)
 line_erased_kept ToEnd s h = erased_kept _ s h
 line_erased_kept FromStart s h = erased_kept _ s h
 line_erased_kept Whole s h = erased_kept _ s h
 
-display_erased_kept : (part : Part) (s : Screen) → IsScreen s → Kept s (display_erased part s)
+display_erased_kept : (part : EraseExtent) (s : Screen) → IsScreen s → Kept s (display_erased part s)
 display_erased_kept ToEnd s h = erased_kept _ s h
 display_erased_kept FromStart s h = erased_kept _ s h
 display_erased_kept Whole s h = erased_kept (λ i j. true) s h
@@ -241,8 +253,8 @@ act_kept (DeleteLines n) s p h = lines_deleted_kept n s h
 act_kept (ScrollUp n) s p h = lines_up_kept s.top s.bottom n s h
 act_kept (ScrollDown n) s p h = lines_down_kept s.top s.bottom n s h
 act_kept (Margins first last) s p h = margins_kept first last s h
-act_kept (Designate false graphic) s p h = switched_kept s s.pending s.autowrap s.visible s.inserting s.rendition (record s.charset { g0_graphic = graphic }) h
-act_kept (Designate true graphic) s p h = switched_kept s s.pending s.autowrap s.visible s.inserting s.rendition (record s.charset { g1_graphic = graphic }) h
+act_kept (Designate G0 graphic) s p h = switched_kept s s.pending s.autowrap s.visible s.inserting s.rendition (record s.charset { g0_graphic = graphic }) h
+act_kept (Designate G1 graphic) s p h = switched_kept s s.pending s.autowrap s.visible s.inserting s.rendition (record s.charset { g1_graphic = graphic }) h
 act_kept (SelectRendition ns) s p h = switched_kept s s.pending s.autowrap s.visible s.inserting (all_rendered ns s.rendition) s.charset h
-act_kept (Modes private on ns) s p h = modes_kept private on ns s h
+act_kept (Modes kind on ns) s p h = modes_kept kind on ns s h
 act_kept Ignored s p h = same_kept s h

@@ -2,10 +2,10 @@
 use Rattle.std.specs.Prelude.{ℕ, ◌+◌, ◌*◌, ◌<◌, ◌==◌, ◌≡◌, Bool, true, false, Option, None, Some, refl}
 use Rattle.std.specs.Int.RustNames.{bit_and}
 use Rattle.std.proofs.Common.{ap, ◌∙◌}
-use Rattle.std.proofs.lemmas.Bool.{agree_below, agree_below_at, eqb-true}
-use Rattle.vt_screen.specs.declared.looks.Color.{Color}
-use Rattle.vt_screen.specs.declared.looks.Color.TheVariants.{Black, Red, Green, Yellow, Blue, Magenta, Cyan, White}
-use Rattle.vt_screen.specs.declared.looks.Rendition.{Rendition}
+use Rattle.std.proofs.lemmas.Bool.{agree_below_at, eqb-true}
+use Rattle.vt_screen.specs.declared.renditions.Color.{Color}
+use Rattle.vt_screen.specs.declared.renditions.Color.TheVariants.{Black, Red, Green, Yellow, Blue, Magenta, Cyan, White}
+use Rattle.vt_screen.specs.declared.renditions.Rendition.{Rendition}
 use Rattle.vt_screen.specs.declared.marks.Shade.{Shade}
 use Rattle.vt_screen.specs.declared.marks.Shade.TheVariants as shades
 

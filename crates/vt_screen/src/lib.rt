@@ -3,17 +3,15 @@
 #![tactic(auto)]
 
 mod cells;
+mod displays;
 mod functions;
-mod limits;
-mod lines;
-mod looks;
 mod marks;
 mod printing;
-mod screens;
-mod sheets;
+mod renditions;
+mod sizes;
 
 pub use cells::Cell;
-pub use functions::{Function, Numbers, Part};
-pub use limits::Size;
-pub use looks::{Color, Rendition, color_of};
-pub use screens::{Charset, Display, Settings};
+pub use displays::{Charset, Display, Settings};
+pub use functions::{CodeElement, EraseExtent, Function, ModeKind, Parameters};
+pub use renditions::{Color, Rendition, color_of};
+pub use sizes::{MAX_COLS, MAX_ROWS, Size};

@@ -4,12 +4,12 @@ ghost use Rattle.std.specs.List.{flat_map};
 ghost use Rattle.vt_screen.specs.Printed as spec;
 
 use crate::cells::Cell;
-use crate::lines::Line;
-use crate::looks::Color;
+use crate::renditions::Color;
+use grids::Line;
 use std::alloc::{AllocError, Global};
 
 /// Each row's characters, a line for each row.
-pub(crate) fn push_rows(text: &mut Vec<u8>, lines: &[Line]) -> Result<(), AllocError>
+pub(crate) fn push_rows(text: &mut Vec<u8>, lines: &[Line<Cell>]) -> Result<(), AllocError>
     ensures { OnOk result (text.new.items ≡ text.old.items ++ flat_map spec.row_text lines.now) }
 {
     for line in lines {
@@ -18,7 +18,7 @@ pub(crate) fn push_rows(text: &mut Vec<u8>, lines: &[Line]) -> Result<(), AllocE
     Ok(())
 }
 
-fn push_row(text: &mut Vec<u8>, line: &Line) -> Result<(), AllocError>
+fn push_row(text: &mut Vec<u8>, line: &Line<Cell>) -> Result<(), AllocError>
     ensures { OnOk result (text.new.items ≡ text.old.items ++ spec.row_text line.now) }
 {
     push_characters(text, line.cells())?;
@@ -54,7 +54,7 @@ pub(crate) fn push_cursor(
 pub(crate) fn push_looks(
     alloc: Global,
     text: &mut Vec<u8>,
-    lines: &[Line],
+    lines: &[Line<Cell>],
 ) -> Result<(), AllocError>
     ensures { OnOk result (text.new.items ≡ text.old.items ++ spec.looks_text 0 lines.now) }
 {

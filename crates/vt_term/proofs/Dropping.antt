@@ -2,12 +2,12 @@
 use Rattle.std.proofs.Common.{◌≡◌, ℕ, ◌-◌, ◌==◌, ◌<◌, ◌⊎◌, ◌&&◌, Bool, true, false, List, [], ◌∷◌, length, take, refl, sym, ap, subst, ◌∙◌, inl, inr, arith, zero, suc, Option, if◌then◌else◌}
 use Rattle.std.proofs.lemmas.Bool.Decides.{nat_tests}
 use Rattle.std.specs.List.{AllByRecursion, list_all, slice_index}
-use Rattle.vt_term.specs.Numbers.{numbers, is_numeral}
+use Rattle.vt_term.specs.Parameters.{numbers, is_numeral}
 use Rattle.vt_screen.specs.Screen.{Screen}
 use Rattle.vt_screen.specs.Step.{act}
 use Rattle.vt_screen.specs.declared.functions.Function.{Function}
 use Rattle.vt_screen.specs.declared.functions.Function.TheVariants.{Ignored}
-use Rattle.vt_term.specs.Function.{counted, single, counting, of_one_number, of_numbers, of_private_numbers, marked, named, sequence, designation, escaped, function_of}
+use Rattle.vt_term.specs.Function.{CodeElement, G0, G1, counted, single, counting, of_one_number, of_numbers, of_private_numbers, marked, named, sequence, designation, escaped, function_of}
 use Rattle.vt_term.specs.Run.{Runs}
 use Rattle.vt_term.specs.Screen.{State}
 use Rattle.vt_term.specs.Step.{step}
@@ -67,13 +67,13 @@ body_ignored : (body : List ℕ) → IsBody body → sequence body ≡ Ignored
 body_ignored body h = low_named (slice_index body (length body - 1)) (take (length body - 1) body)
     (low_at body (length body - 1) (subst (AllByRecursion (λ b. b < 64)) (sym h.spelled) (middle h.parameters h.intermediates h.each_parameter h.each_intermediate)))
 
-low_designation : (g : Bool) (f : ℕ) → f < 48 → designation g f ≡ Ignored
+low_designation : (g : CodeElement) (f : ℕ) → f < 48 → designation g f ≡ Ignored
 low_designation g f h = rw (ne f 48 h, ne f 66 (omega arith)) refl
 
 stem_ignored : (y : ℕ) (body : List ℕ) → AllByRecursion IsIntermediate (y ∷ body) → escaped (y ∷ body) ≡ Ignored
 stem_ignored y [] h = rw (ne y 68 (omega (arith, h.0.1)), ne y 69 (omega (arith, h.0.1)), ne y 77 (omega (arith, h.0.1))) refl
-stem_ignored y (f ∷ []) h = either_ignored (y == 40) (designation false f) _ (low_designation false f (omega (arith, h.1.0.1)))
-    (either_ignored (y == 41) (designation true f) Ignored (low_designation true f (omega (arith, h.1.0.1))) refl)
+stem_ignored y (f ∷ []) h = either_ignored (y == 40) (designation G0 f) _ (low_designation G0 f (omega (arith, h.1.0.1)))
+    (either_ignored (y == 41) (designation G1 f) Ignored (low_designation G1 f (omega (arith, h.1.0.1))) refl)
 stem_ignored y (f ∷ g ∷ body) h = refl
 
 by_second : (y : ℕ) (x z : Function) → (y ≡ 91 → x ≡ Ignored) → ((y ≡ 91 → ⊥) → z ≡ Ignored) → (if y == 91 then x else z) ≡ Ignored

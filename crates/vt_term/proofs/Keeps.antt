@@ -4,13 +4,13 @@ use Rattle.std.proofs.lemmas.Bool.Decides.{nat_tests}
 use Rattle.std.specs.Option.{unwrap_or}
 use Rattle.std.specs.List.{list_all, slice_index}
 use Rattle.vt_screen.specs.Look.{IsPrinted}
-use Rattle.vt_term.specs.Numbers.{numbers, is_numeral}
+use Rattle.vt_term.specs.Parameters.{numbers, is_numeral}
 use Rattle.vt_screen.specs.Screen.{Screen, IsScreen}
 use Rattle.vt_screen.specs.Step.{CanAct}
 use Rattle.vt_screen.specs.declared.functions.Function.{Function}
 use Rattle.vt_screen.specs.declared.functions.Function.TheVariants.{Print, LineFeed, CarriageReturn, Backspace, Tab, ShiftOut, ShiftIn, ReverseIndex, NextLine, CursorUp, CursorDown, CursorForward, CursorBack, CursorColumn, CursorRow, EraseCells, InsertCells, DeleteCells, InsertLines, DeleteLines, ScrollUp, ScrollDown, Designate, SelectRendition, Modes, Ignored}
 use Rattle.vt_screen.proofs.Keeps.{Kept, kept_again, same_kept, act_kept}
-use Rattle.vt_term.specs.Function.{counted, single, cursor_position, margins, display_part, line_part, counting, by_number, of_one_number, of_numbers, of_private_numbers, marked, named, sequence, designation, escaped, function_of}
+use Rattle.vt_term.specs.Function.{CodeElement, G0, G1, Standard, Private, counted, single, cursor_position, margins, display_part, line_part, counting, by_number, of_one_number, of_numbers, of_private_numbers, marked, named, sequence, designation, escaped, function_of}
 use Rattle.vt_term.specs.Step.{step, steps}
 
 either_acts : (b : Bool) (f g : Function) → (b ≡ true → CanAct f) → CanAct g → CanAct (if b then f else g)
@@ -58,10 +58,10 @@ of_one_number_acts f (n ∷ m ∷ ns) = tt
 
 of_numbers_acts : (f : ℕ) (ns : List (Option ℕ)) → CanAct (of_numbers f ns)
 of_numbers_acts f ns = either_acts ((f == 72) || (f == 102)) (cursor_position ns) _ (λ e. cursor_position_acts ns) (either_acts (f == 114) (margins ns) _ (λ e. margins_acts ns)
-    (either_acts (f == 109) (SelectRendition ns) _ (λ e. tt) (either_acts (f == 104) (Modes false true ns) _ (λ e. tt) (either_acts (f == 108) (Modes false false ns) _ (λ e. tt) (of_one_number_acts f ns)))))
+    (either_acts (f == 109) (SelectRendition ns) _ (λ e. tt) (either_acts (f == 104) (Modes Standard true ns) _ (λ e. tt) (either_acts (f == 108) (Modes Standard false ns) _ (λ e. tt) (of_one_number_acts f ns)))))
 
 of_private_acts : (f : ℕ) (ns : List (Option ℕ)) → CanAct (of_private_numbers f ns)
-of_private_acts f ns = either_acts (f == 104) (Modes true true ns) _ (λ e. tt) (either_acts (f == 108) (Modes true false ns) Ignored (λ e. tt) tt)
+of_private_acts f ns = either_acts (f == 104) (Modes Private true ns) _ (λ e. tt) (either_acts (f == 108) (Modes Private false ns) Ignored (λ e. tt) tt)
 
 marked_acts : (f : ℕ) (front : List ℕ) → CanAct (marked f front)
 marked_acts f [] = tt
@@ -70,13 +70,13 @@ marked_acts f (b ∷ bytes) = either_acts ((b == 63) && list_all is_numeral byte
 named_acts : (f : ℕ) (front : List ℕ) → CanAct (named f front)
 named_acts f front = either_acts (list_all is_numeral front) (of_numbers f (numbers front)) (marked f front) (λ e. of_numbers_acts f (numbers front)) (marked_acts f front)
 
-designation_acts : (g : Bool) (f : ℕ) → CanAct (designation g f)
+designation_acts : (g : CodeElement) (f : ℕ) → CanAct (designation g f)
 designation_acts g f = either_acts (f == 48) (Designate g true) _ (λ e. tt) (either_acts (f == 66) (Designate g false) Ignored (λ e. tt) tt)
 
 escaped_acts : (bytes : List ℕ) → CanAct (escaped bytes)
 escaped_acts [] = tt
 escaped_acts (f ∷ []) = either_acts (f == 68) LineFeed _ (λ e. tt) (either_acts (f == 69) NextLine _ (λ e. tt) (either_acts (f == 77) ReverseIndex Ignored (λ e. tt) tt))
-escaped_acts (s ∷ f ∷ []) = either_acts (s == 40) (designation false f) _ (λ e. designation_acts false f) (either_acts (s == 41) (designation true f) Ignored (λ e. designation_acts true f) tt)
+escaped_acts (s ∷ f ∷ []) = either_acts (s == 40) (designation G0 f) _ (λ e. designation_acts G0 f) (either_acts (s == 41) (designation G1 f) Ignored (λ e. designation_acts G1 f) tt)
 escaped_acts (s ∷ f ∷ b ∷ bytes) = tt
 
 pub token_acts : (token : List ℕ) → CanAct (function_of token)

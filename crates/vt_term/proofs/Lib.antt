@@ -1,10 +1,9 @@
-pub mod Grids
 pub mod Decimals
 pub mod Keeps
 pub mod Walks
 pub mod Reading
 pub mod Sequences
-pub mod Fits
+pub mod Transitions
 pub mod Splitting
 pub mod Scanning
 pub mod Dropping

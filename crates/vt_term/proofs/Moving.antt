@@ -6,7 +6,7 @@ use Rattle.std.proofs.lemmas.List.{take_at, get_or_at}
 use Rattle.std.specs.List.{AllByRecursion, list_all}
 use Rattle.std.specs.Fmt as std
 use Rattle.vt_term.specs.Text.{IsParameter, IsWhole}
-use Rattle.vt_term.specs.Numbers.{decimal, number_of, numbers, is_numeral}
+use Rattle.vt_term.specs.Parameters.{decimal, number_of, numbers, is_numeral}
 use Rattle.vt_term.specs.Function.{CursorPosition, counted, function_of, named, sequence, cursor_position}
 use Rattle.vt_term.proofs.Decimals as numerals
 use Rattle.vt_term.specs.Moving.{cursor_to}

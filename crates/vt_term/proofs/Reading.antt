@@ -1,19 +1,19 @@
--- What the reader makes of a byte.
+-- What the parser makes of a byte.
 use Rattle.std.proofs.Common.{◌≡◌, ◌≢◌, ℕ, ◌+◌, ◌-◌, ◌<◌, ◌≤◌, ◌==◌, ◌&&◌, ◌⊎◌, Bool, true, false, List, [], ◌∷◌, ◌++◌, length, take, refl, sym, ap, subst, ◌∙◌, inl, inr, arith, length-append, get_or, Option, None, Some, nat_lt}
 use Rattle.std.proofs.lemmas.Bool.Decides.{nat_tests}
 use Rattle.std.proofs.lemmas.List.{take_at, get_or_at}
 use Rattle.std.specs.List.{list_all, slice_index}
-use Rattle.vt_term.specs.declared.reader.Fit.{Fit}
-use Rattle.vt_term.specs.declared.reader.Stage.{Stage}
-use Rattle.vt_term.specs.declared.reader.Stage.TheVariants.{Outside, Escape, DesignatesG0, DesignatesG1, Intermediate, Introduced, Numbers, PrivateNumbers, OtherParameters, Closed}
-use Rattle.vt_term.specs.Numbers.{numbers, is_numeral}
+use Rattle.vt_term.specs.declared.parser.Transition.{Transition}
+use Rattle.vt_term.specs.declared.parser.ParserState.{ParserState}
+use Rattle.vt_term.specs.declared.parser.ParserState.TheVariants.{Outside, Escape, DesignatesG0, DesignatesG1, Intermediate, Introduced, Parameters, PrivateParameters, OtherParameters, Closed}
+use Rattle.vt_term.specs.Parameters.{numbers, is_numeral}
 use Rattle.vt_term.specs.Text.{IsIntermediate, IsOpen, IsWhole, Cuts}
-use Rattle.vt_term.specs.Fault.{IsFit, FitsEscape, FitsInside}
-use Rattle.vt_term.specs.Function.{Function, Ignored, designation, escape_final, escaped, of_numbers, of_private_numbers, marked, named, sequence, function_of}
-use Rattle.vt_term.specs.Stages.{last_byte, is_marked, ChoosesNothing, IsNumbered, IsPrivate, NamesNothing, IsAt, IsTold}
+use Rattle.vt_term.specs.Fault.{IsTransition, IsEscapeTransition, IsInsideTransition}
+use Rattle.vt_term.specs.Function.{G0, G1, Function, Ignored, designation, escape_final, escaped, of_numbers, of_private_numbers, marked, named, sequence, function_of}
+use Rattle.vt_term.specs.ParserStates.{last_byte, is_marked, ChoosesNothing, IsNumbered, IsPrivate, NamesNothing, IsAt, IsTold}
 use Rattle.vt_term.proofs.Sequences.{introducer_open, open_escape}
 use Rattle.vt_term.proofs.Sequences.{token_not_open}
-use Rattle.vt_term.proofs.Fits.{fits_inside, fits_escape}
+use Rattle.vt_term.proofs.Transitions.{transition_inside_holds, transition_escape_holds}
 
 pub last_push : (xs : List ℕ) (b : ℕ) → last_byte (xs ++ b ∷ []) ≡ b
 last_push xs b =
@@ -21,28 +21,28 @@ last_push xs b =
     get_or_at xs b [] 0 _ (sym n)
 
 -- a sequence is not empty, once something is read of it
-pub some_read : (stage : Stage) (ns : List (Option ℕ)) (bytes : List ℕ) → IsAt stage ns bytes → stage ≢ Outside → 0 < length bytes
+pub some_read : (stage : ParserState) (ns : List (Option ℕ)) (bytes : List ℕ) → IsAt stage ns bytes → stage ≢ Outside → 0 < length bytes
 some_read Outside ns bytes h n = absurd (n refl)
 some_read Escape ns bytes h n = omega (arith, ap length h)
 some_read DesignatesG0 ns bytes h n = omega (arith, ap length h)
 some_read DesignatesG1 ns bytes h n = omega (arith, ap length h)
 some_read Intermediate ns bytes h n = omega (arith, ap length h.spelled)
 some_read Introduced ns bytes h n = omega (arith, ap length h.0)
-some_read Numbers ns bytes h n = omega (arith, ap length h.spelled)
-some_read PrivateNumbers ns bytes h n = omega (arith, ap length h.spelled)
+some_read Parameters ns bytes h n = omega (arith, ap length h.spelled)
+some_read PrivateParameters ns bytes h n = omega (arith, ap length h.spelled)
 some_read OtherParameters ns bytes h n = omega (arith, ap length h.0.spelled)
 some_read Closed ns bytes h n = omega (arith, ap length h.0.spelled)
 
 -- what a byte does in an escape sequence, and in a control sequence
-pub fit_in_escape : (bytes more : List ℕ) (second b : ℕ) (room : Bool) (fit : Fit) → bytes ≡ 27 ∷ second ∷ more → second ≢ 91 → IsOpen bytes → room ≡ nat_lt (length bytes + 1) 256 → (Cuts b → ⊥)
-    → FitsEscape b room fit → IsFit bytes b fit
-fit_in_escape bytes more second b room fit e other o r goes h =
-    fits_escape bytes b room fit o (omega (arith, ap length e)) (λ k. other (sym (ap (λ (l : List ℕ). get_or l 1 0) e) ∙ k)) r goes h
+pub transition_in_escape : (bytes more : List ℕ) (second b : ℕ) (room : Bool) (transition : Transition) → bytes ≡ 27 ∷ second ∷ more → second ≢ 91 → IsOpen bytes → room ≡ nat_lt (length bytes + 1) 256 → (Cuts b → ⊥)
+    → IsEscapeTransition b room transition → IsTransition bytes b transition
+transition_in_escape bytes more second b room transition e other o r goes h =
+    transition_escape_holds bytes b room transition o (omega (arith, ap length e)) (λ k. other (sym (ap (λ (l : List ℕ). get_or l 1 0) e) ∙ k)) r goes h
 
-pub fit_in_control : (bytes more : List ℕ) (b : ℕ) (closed room : Bool) (fit : Fit) → bytes ≡ 27 ∷ 91 ∷ more → (closed ≡ true → IsIntermediate (last_byte bytes)) → (closed ≡ false → IsIntermediate (last_byte bytes) → ⊥)
-    → IsOpen bytes → room ≡ nat_lt (length bytes + 1) 256 → (Cuts b → ⊥) → FitsInside closed b room fit → IsFit bytes b fit
-fit_in_control bytes more b closed room fit e late goes_on o r goes h =
-    fits_inside bytes b closed room fit late goes_on o (omega (arith, ap length e)) (ap (λ (l : List ℕ). get_or l 1 0) e) r goes h
+pub transition_in_control : (bytes more : List ℕ) (b : ℕ) (closed room : Bool) (transition : Transition) → bytes ≡ 27 ∷ 91 ∷ more → (closed ≡ true → IsIntermediate (last_byte bytes)) → (closed ≡ false → IsIntermediate (last_byte bytes) → ⊥)
+    → IsOpen bytes → room ≡ nat_lt (length bytes + 1) 256 → (Cuts b → ⊥) → IsInsideTransition closed b room transition → IsTransition bytes b transition
+transition_in_control bytes more b closed room transition e late goes_on o r goes h =
+    transition_inside_holds bytes b closed room transition late goes_on o (omega (arith, ap length e)) (ap (λ (l : List ℕ). get_or l 1 0) e) r goes h
 
 pub record IsStemmed (bytes : List ℕ) : Type 0 where
   pub second : ℕ
@@ -50,12 +50,12 @@ pub record IsStemmed (bytes : List ℕ) : Type 0 where
   pub spelled : bytes ≡ 27 ∷ second ∷ more
   pub no_introducer : second ≢ 91
 
-pub stemmed : (stage : Stage) (ns : List (Option ℕ)) (bytes : List ℕ) → (stage ≡ DesignatesG0) ⊎ (stage ≡ DesignatesG1) ⊎ (stage ≡ Intermediate) → IsAt stage ns bytes → IsStemmed bytes
+pub stemmed : (stage : ParserState) (ns : List (Option ℕ)) (bytes : List ℕ) → (stage ≡ DesignatesG0) ⊎ (stage ≡ DesignatesG1) ⊎ (stage ≡ Intermediate) → IsAt stage ns bytes → IsStemmed bytes
 stemmed stage ns bytes e h = elim e [
-  | inl e ↦ record { second = 40; more = []; spelled = subst (λ (s : Stage). IsAt s ns bytes) e h; no_introducer = λ k. omega (arith, k) }
+  | inl e ↦ record { second = 40; more = []; spelled = subst (λ (s : ParserState). IsAt s ns bytes) e h; no_introducer = λ k. omega (arith, k) }
   | inr e ↦ elim e [
-    | inl e ↦ record { second = 41; more = []; spelled = subst (λ (s : Stage). IsAt s ns bytes) e h; no_introducer = λ k. omega (arith, k) }
-    | inr e ↦ (let n : ChoosesNothing bytes = subst (λ (s : Stage). IsAt s ns bytes) e h in record { second = n.second; more = n.more; spelled = n.spelled; no_introducer = n.no_introducer })
+    | inl e ↦ record { second = 41; more = []; spelled = subst (λ (s : ParserState). IsAt s ns bytes) e h; no_introducer = λ k. omega (arith, k) }
+    | inr e ↦ (let n : ChoosesNothing bytes = subst (λ (s : ParserState). IsAt s ns bytes) e h in record { second = n.second; more = n.more; spelled = n.spelled; no_introducer = n.no_introducer })
   ]
 ]
 
@@ -65,15 +65,15 @@ pub record IsParted (bytes : List ℕ) : Type 0 where
   pub spelled : bytes ≡ 27 ∷ 91 ∷ more
   pub goes_on : IsIntermediate (last_byte bytes) → ⊥
 
-pub parted : (stage : Stage) (ns : List (Option ℕ)) (bytes : List ℕ) → (stage ≡ Introduced) ⊎ (stage ≡ Numbers) ⊎ (stage ≡ PrivateNumbers) ⊎ (stage ≡ OtherParameters) → IsAt stage ns bytes → IsParted bytes
+pub parted : (stage : ParserState) (ns : List (Option ℕ)) (bytes : List ℕ) → (stage ≡ Introduced) ⊎ (stage ≡ Parameters) ⊎ (stage ≡ PrivateParameters) ⊎ (stage ≡ OtherParameters) → IsAt stage ns bytes → IsParted bytes
 parted stage ns bytes e h = elim e [
-  | inl e ↦ (let k : (bytes ≡ 27 ∷ 91 ∷ []) × (ns ≡ None ∷ []) = subst (λ (s : Stage). IsAt s ns bytes) e h in
+  | inl e ↦ (let k : (bytes ≡ 27 ∷ 91 ∷ []) × (ns ≡ None ∷ []) = subst (λ (s : ParserState). IsAt s ns bytes) e h in
       record { more = []; spelled = k.0; goes_on = λ i. (let j : IsIntermediate 91 = subst (λ (l : List ℕ). IsIntermediate (last_byte l)) k.0 i in omega (arith, j.1)) })
   | inr e ↦ elim e [
-    | inl e ↦ (let k : IsNumbered ns bytes = subst (λ (s : Stage). IsAt s ns bytes) e h in record { more = k.front; spelled = k.spelled; goes_on = k.goes_on })
+    | inl e ↦ (let k : IsNumbered ns bytes = subst (λ (s : ParserState). IsAt s ns bytes) e h in record { more = k.front; spelled = k.spelled; goes_on = k.goes_on })
     | inr e ↦ elim e [
-      | inl e ↦ (let k : IsPrivate ns bytes = subst (λ (s : Stage). IsAt s ns bytes) e h in record { more = 63 ∷ k.front; spelled = k.spelled; goes_on = k.goes_on })
-      | inr e ↦ (let k : NamesNothing bytes × (IsIntermediate (last_byte bytes) → ⊥) = subst (λ (s : Stage). IsAt s ns bytes) e h in record { more = k.0.front; spelled = k.0.spelled; goes_on = k.1 })
+      | inl e ↦ (let k : IsPrivate ns bytes = subst (λ (s : ParserState). IsAt s ns bytes) e h in record { more = 63 ∷ k.front; spelled = k.spelled; goes_on = k.goes_on })
+      | inr e ↦ (let k : NamesNothing bytes × (IsIntermediate (last_byte bytes) → ⊥) = subst (λ (s : ParserState). IsAt s ns bytes) e h in record { more = k.0.front; spelled = k.0.spelled; goes_on = k.1 })
     ]
   ]
 ]
@@ -103,11 +103,11 @@ pub ended_escape : (begun : List ℕ) (b : ℕ) → begun ≡ 27 ∷ [] → IsWh
 ended_escape begun b e w =
     from_spelled begun (27 ∷ []) b (escape_final b) e (rw (not_91 b (not_introducer b (subst (λ (l : List ℕ). IsWhole (l ++ b ∷ [])) e w))) refl)
 
-pub ended_g0 : (begun : List ℕ) (b : ℕ) → begun ≡ 27 ∷ 40 ∷ [] → EndsAs begun b (designation false b)
-ended_g0 begun b e = from_spelled begun (27 ∷ 40 ∷ []) b (designation false b) e refl
+pub ended_g0 : (begun : List ℕ) (b : ℕ) → begun ≡ 27 ∷ 40 ∷ [] → EndsAs begun b (designation G0 b)
+ended_g0 begun b e = from_spelled begun (27 ∷ 40 ∷ []) b (designation G0 b) e refl
 
-pub ended_g1 : (begun : List ℕ) (b : ℕ) → begun ≡ 27 ∷ 41 ∷ [] → EndsAs begun b (designation true b)
-ended_g1 begun b e = from_spelled begun (27 ∷ 41 ∷ []) b (designation true b) e refl
+pub ended_g1 : (begun : List ℕ) (b : ℕ) → begun ≡ 27 ∷ 41 ∷ [] → EndsAs begun b (designation G1 b)
+ended_g1 begun b e = from_spelled begun (27 ∷ 41 ∷ []) b (designation G1 b) e refl
 
 not_equal : (n k : ℕ) → n ≢ k → (n == k) ≡ false
 not_equal n k h = grind (arith, nat_tests)
@@ -139,17 +139,17 @@ pub ended_unnamed : (begun : List ℕ) (b : ℕ) → NamesNothing begun → Ends
 ended_unnamed begun b h = from_spelled begun (27 ∷ 91 ∷ h.front) b Ignored h.spelled
     (sym (sequence_push h.front b ∙ rw (h.plain) (marked_nothing b h.front h.marked)))
 
-pub ended_ignored : (stage : Stage) (begun : List ℕ) (ns : List (Option ℕ)) (b : ℕ) → (stage ≡ Intermediate) ⊎ (stage ≡ OtherParameters) ⊎ (stage ≡ Closed) → IsAt stage ns begun → EndsAs begun b Ignored
+pub ended_ignored : (stage : ParserState) (begun : List ℕ) (ns : List (Option ℕ)) (b : ℕ) → (stage ≡ Intermediate) ⊎ (stage ≡ OtherParameters) ⊎ (stage ≡ Closed) → IsAt stage ns begun → EndsAs begun b Ignored
 ended_ignored stage begun ns b e h = elim e [
-  | inl e ↦ ended_nothing begun b (subst (λ (s : Stage). IsAt s ns begun) e h)
+  | inl e ↦ ended_nothing begun b (subst (λ (s : ParserState). IsAt s ns begun) e h)
   | inr e ↦ elim e [
-    | inl e ↦ (let k : NamesNothing begun × (IsIntermediate (last_byte begun) → ⊥) = subst (λ (s : Stage). IsAt s ns begun) e h in ended_unnamed begun b k.0)
-    | inr e ↦ (let k : NamesNothing begun × IsIntermediate (last_byte begun) = subst (λ (s : Stage). IsAt s ns begun) e h in ended_unnamed begun b k.0)
+    | inl e ↦ (let k : NamesNothing begun × (IsIntermediate (last_byte begun) → ⊥) = subst (λ (s : ParserState). IsAt s ns begun) e h in ended_unnamed begun b k.0)
+    | inr e ↦ (let k : NamesNothing begun × IsIntermediate (last_byte begun) = subst (λ (s : ParserState). IsAt s ns begun) e h in ended_unnamed begun b k.0)
   ]
 ]
 
 -- what is kept of a token tells its function
-pub told : (stage : Stage) (ns : List (Option ℕ)) (bytes seen : List ℕ) (f : Function) → IsTold (Some stage) ns bytes → seen ≡ bytes
+pub told : (stage : ParserState) (ns : List (Option ℕ)) (bytes seen : List ℕ) (f : Function) → IsTold (Some stage) ns bytes → seen ≡ bytes
     → ((begun : List ℕ) → IsAt stage ns begun → IsWhole (begun ++ last_byte seen ∷ []) → EndsAs begun (last_byte seen) f) → f ≡ function_of bytes
 told stage ns bytes seen f t e h =
     let b : last_byte seen ≡ t.1 = ap last_byte (e ∙ t.2) ∙ last_push t.0 t.1 in
@@ -189,7 +189,7 @@ push_spelled begun spelled b e = ap (λ (l : List ℕ). l ++ b ∷ []) e
 pub behind_outside : (begun : List ℕ) (b : ℕ) → begun ≡ [] → IsOpen (begun ++ b ∷ []) → begun ++ b ∷ [] ≡ 27 ∷ []
 behind_outside begun b e o = push_spelled begun [] b e ∙ ap (λ (n : ℕ). n ∷ []) (open_escape b [] (subst IsOpen (push_spelled begun [] b e) o))
 
-pub behind_stem : (stage : Stage) (ns : List (Option ℕ)) (begun : List ℕ) (b : ℕ) → (stage ≡ DesignatesG0) ⊎ (stage ≡ DesignatesG1) ⊎ (stage ≡ Intermediate) → IsAt stage ns begun → ChoosesNothing (begun ++ b ∷ [])
+pub behind_stem : (stage : ParserState) (ns : List (Option ℕ)) (begun : List ℕ) (b : ℕ) → (stage ≡ DesignatesG0) ⊎ (stage ≡ DesignatesG1) ⊎ (stage ≡ Intermediate) → IsAt stage ns begun → ChoosesNothing (begun ++ b ∷ [])
 behind_stem stage ns begun b e h = let s : IsStemmed begun = stemmed stage ns begun e h in record {
   second = s.second;
   more = s.more ++ b ∷ [];
@@ -220,12 +220,12 @@ unnumbered begun (c ∷ front) b e some h k = record {
     unmarked c x y h = grind (arith, nat_tests)
 
 -- behind numbers
-pub more_numbers : (stage : Stage) (old new : List (Option ℕ)) (begun : List ℕ) (b : ℕ) → IsNumbered old begun → (is_numeral b ≡ true → stage ≡ Numbers)
+pub more_numbers : (stage : ParserState) (old new : List (Option ℕ)) (begun : List ℕ) (b : ℕ) → IsNumbered old begun → (is_numeral b ≡ true → stage ≡ Parameters)
     → (is_numeral b ≡ true → (front : List ℕ) → old ≡ numbers front → new ≡ numbers (front ++ b ∷ [])) → (is_numeral b ≡ false → NamesNothing (begun ++ b ∷ []) → IsAt stage new (begun ++ b ∷ [])) → IsAt stage new (begun ++ b ∷ [])
 more_numbers stage old new begun b h at more other = by_test (is_numeral b) refl
   where
     by_test : (c : Bool) → is_numeral b ≡ c → IsAt stage new (begun ++ b ∷ [])
-    by_test true e = subst (λ (s : Stage). IsAt s new (begun ++ b ∷ [])) (sym (at e)) (record {
+    by_test true e = subst (λ (s : ParserState). IsAt s new (begun ++ b ∷ [])) (sym (at e)) (record {
       front = h.front ++ b ∷ [];
       spelled = push_spelled begun (27 ∷ 91 ∷ h.front) b h.spelled;
       some = omega (arith, length-append h.front (b ∷ []));
@@ -243,12 +243,12 @@ unmarked begun b e n k = record {
   marked = rw (not_equal b 63 n) refl;
 }
 
-pub first_number : (stage : Stage) (old new : List (Option ℕ)) (begun : List ℕ) (b : ℕ) → begun ≡ 27 ∷ 91 ∷ [] → old ≡ None ∷ [] → (b ≡ 63 → ⊥) → (is_numeral b ≡ true → stage ≡ Numbers)
+pub first_number : (stage : ParserState) (old new : List (Option ℕ)) (begun : List ℕ) (b : ℕ) → begun ≡ 27 ∷ 91 ∷ [] → old ≡ None ∷ [] → (b ≡ 63 → ⊥) → (is_numeral b ≡ true → stage ≡ Parameters)
     → (is_numeral b ≡ true → (front : List ℕ) → old ≡ numbers front → new ≡ numbers (front ++ b ∷ [])) → (is_numeral b ≡ false → NamesNothing (begun ++ b ∷ []) → IsAt stage new (begun ++ b ∷ [])) → IsAt stage new (begun ++ b ∷ [])
 first_number stage old new begun b s n mark at more other = by_test (is_numeral b) refl
   where
     by_test : (c : Bool) → is_numeral b ≡ c → IsAt stage new (begun ++ b ∷ [])
-    by_test true e = subst (λ (s : Stage). IsAt s new (begun ++ b ∷ [])) (sym (at e)) (record {
+    by_test true e = subst (λ (s : ParserState). IsAt s new (begun ++ b ∷ [])) (sym (at e)) (record {
       front = b ∷ [];
       spelled = push_spelled begun (27 ∷ 91 ∷ []) b s;
       some = omega arith;
@@ -266,12 +266,12 @@ unprivate begun front b e h k = record {
   marked = list_all_push front b false k h;
 }
 
-pub more_private : (stage : Stage) (old new : List (Option ℕ)) (begun : List ℕ) (b : ℕ) → IsPrivate old begun → (is_numeral b ≡ true → stage ≡ PrivateNumbers)
+pub more_private : (stage : ParserState) (old new : List (Option ℕ)) (begun : List ℕ) (b : ℕ) → IsPrivate old begun → (is_numeral b ≡ true → stage ≡ PrivateParameters)
     → (is_numeral b ≡ true → (front : List ℕ) → old ≡ numbers front → new ≡ numbers (front ++ b ∷ [])) → (is_numeral b ≡ false → NamesNothing (begun ++ b ∷ []) → IsAt stage new (begun ++ b ∷ [])) → IsAt stage new (begun ++ b ∷ [])
 more_private stage old new begun b h at more other = by_test (is_numeral b) refl
   where
     by_test : (c : Bool) → is_numeral b ≡ c → IsAt stage new (begun ++ b ∷ [])
-    by_test true e = subst (λ (s : Stage). IsAt s new (begun ++ b ∷ [])) (sym (at e)) (record {
+    by_test true e = subst (λ (s : ParserState). IsAt s new (begun ++ b ∷ [])) (sym (at e)) (record {
       front = h.front ++ b ∷ [];
       spelled = push_spelled begun (27 ∷ 91 ∷ 63 ∷ h.front) b h.spelled;
       numeral = list_all_push h.front b true e h.numeral;
@@ -296,8 +296,8 @@ still_unnamed begun b h = record {
     marked_kept [] b p h = absurd (cc)
     marked_kept (c ∷ front) b p h = kept (c == 63) (list_all is_numeral front) (list_all is_numeral (front ++ b ∷ [])) h (λ k. list_all_kept front b k)
 
-pub more_unnamed : (stage : Stage) (ns : List (Option ℕ)) (begun : List ℕ) (b : ℕ) → (stage ≡ OtherParameters) ⊎ (stage ≡ Closed) → IsAt stage ns begun → NamesNothing (begun ++ b ∷ [])
+pub more_unnamed : (stage : ParserState) (ns : List (Option ℕ)) (begun : List ℕ) (b : ℕ) → (stage ≡ OtherParameters) ⊎ (stage ≡ Closed) → IsAt stage ns begun → NamesNothing (begun ++ b ∷ [])
 more_unnamed stage ns begun b e h = elim e [
-  | inl e ↦ (let k : NamesNothing begun × (IsIntermediate (last_byte begun) → ⊥) = subst (λ (s : Stage). IsAt s ns begun) e h in still_unnamed begun b k.0)
-  | inr e ↦ (let k : NamesNothing begun × IsIntermediate (last_byte begun) = subst (λ (s : Stage). IsAt s ns begun) e h in still_unnamed begun b k.0)
+  | inl e ↦ (let k : NamesNothing begun × (IsIntermediate (last_byte begun) → ⊥) = subst (λ (s : ParserState). IsAt s ns begun) e h in still_unnamed begun b k.0)
+  | inr e ↦ (let k : NamesNothing begun × IsIntermediate (last_byte begun) = subst (λ (s : ParserState). IsAt s ns begun) e h in still_unnamed begun b k.0)
 ]

@@ -1,12 +1,16 @@
 -- What a token asks for (ECMA-48 8.3; VT100 user guide for DECSTBM, DECAWM and the character sets).
-use Rattle.std.specs.Prelude.{ℕ, ◌-◌, ◌==◌, ◌&&◌, ◌||◌, nat_le, max, Bool, true, false, List, [], ◌∷◌, length, take, if◌then◌else◌, Option, None, Some}
+use Rattle.std.specs.Prelude.{ℕ, ◌-◌, ◌==◌, ◌&&◌, ◌||◌, nat_le, max, true, false, List, [], ◌∷◌, length, take, if◌then◌else◌, Option, None, Some}
 use Rattle.std.specs.Option.{unwrap_or}
 use Rattle.std.specs.List.{list_all, slice_index}
-pub use Rattle.vt_screen.specs.declared.functions.Part.{Part}
-pub use Rattle.vt_screen.specs.declared.functions.Part.TheVariants.{ToEnd, FromStart, Whole}
+pub use Rattle.vt_screen.specs.declared.functions.EraseExtent.{EraseExtent}
+pub use Rattle.vt_screen.specs.declared.functions.EraseExtent.TheVariants.{ToEnd, FromStart, Whole}
+pub use Rattle.vt_screen.specs.declared.functions.CodeElement.{CodeElement}
+pub use Rattle.vt_screen.specs.declared.functions.CodeElement.TheVariants.{G0, G1}
+pub use Rattle.vt_screen.specs.declared.functions.ModeKind.{ModeKind}
+pub use Rattle.vt_screen.specs.declared.functions.ModeKind.TheVariants.{Standard, Private}
 pub use Rattle.vt_screen.specs.declared.functions.Function.{Function}
 pub use Rattle.vt_screen.specs.declared.functions.Function.TheVariants.{Print, LineFeed, CarriageReturn, Backspace, Tab, ShiftOut, ShiftIn, ReverseIndex, NextLine, CursorUp, CursorDown, CursorForward, CursorBack, CursorColumn, CursorRow, CursorPosition, EraseLine, EraseDisplay, EraseCells, InsertCells, DeleteCells, InsertLines, DeleteLines, ScrollUp, ScrollDown, Margins, Designate, SelectRendition, Modes, Ignored}
-use Rattle.vt_term.specs.Numbers.{numbers, is_numeral}
+use Rattle.vt_term.specs.Parameters.{numbers, is_numeral}
 
 -- where the default is 1 and 0 counts as 1
 abbrev pub counted : Option ℕ → ℕ
@@ -75,12 +79,12 @@ of_numbers final ns =
     if (final == 72) || (final == 102) then cursor_position ns
     else (if final == 114 then margins ns
     else (if final == 109 then SelectRendition ns
-    else (if final == 104 then Modes false true ns
-    else (if final == 108 then Modes false false ns
+    else (if final == 104 then Modes Standard true ns
+    else (if final == 108 then Modes Standard false ns
     else of_one_number final ns))))
 
 abbrev pub of_private_numbers : ℕ → List (Option ℕ) → Function
-of_private_numbers final ns = if final == 104 then Modes true true ns else (if final == 108 then Modes true false ns else Ignored)
+of_private_numbers final ns = if final == 104 then Modes Private true ns else (if final == 108 then Modes Private false ns else Ignored)
 
 -- a question mark and numbers
 abbrev pub marked : ℕ → List ℕ → Function
@@ -96,8 +100,8 @@ abbrev pub sequence : List ℕ → Function
 sequence body = named (slice_index body (length body - 1)) (take (length body - 1) body)
 
 -- G0 or G1 becomes the graphic set for 0, the plain one for B (VT100 user guide, "Select character set")
-abbrev pub designation : Bool → ℕ → Function
-designation is_g1 final = if final == 48 then Designate is_g1 true else (if final == 66 then Designate is_g1 false else Ignored)
+abbrev pub designation : CodeElement → ℕ → Function
+designation set final = if final == 48 then Designate set true else (if final == 66 then Designate set false else Ignored)
 
 -- an escape sequence of one byte behind ESC: IND, NEL and RI (ECMA-48 8.3)
 abbrev pub escape_final : ℕ → Function
@@ -106,7 +110,7 @@ escape_final final = if final == 68 then LineFeed else (if final == 69 then Next
 -- an escape sequence by what stands behind ESC
 abbrev pub escaped : List ℕ → Function
 escaped (final ∷ []) = escape_final final
-escaped (set ∷ final ∷ []) = if set == 40 then designation false final else (if set == 41 then designation true final else Ignored)
+escaped (set ∷ final ∷ []) = if set == 40 then designation G0 final else (if set == 41 then designation G1 final else Ignored)
 escaped _ = Ignored
 
 -- a dropped sequence has no final byte of a function, and so no effect

@@ -2,7 +2,7 @@ pub mod Size
 pub mod Color
 pub mod Look
 pub mod Grid
-pub mod Numbers
+pub mod Parameters
 pub mod Text
 pub mod Screen
 pub mod Function
@@ -10,5 +10,5 @@ pub mod Step
 pub mod Run
 pub mod Fault
 pub mod Printed
-pub mod Stages
+pub mod ParserStates
 pub mod Moving

@@ -1,8 +1,8 @@
 -- The state of the terminal: the display with its modes, and what has come of a sequence that isn't whole yet.
 use Rattle.std.specs.Prelude.{ℕ, ◌+◌, ◌≡◌, true, false, List, []}
 pub use Rattle.vt_screen.specs.Screen.{Screen, IsScreen, is_graphic, reset_screen}
-pub use Rattle.vt_screen.specs.declared.screens.Charset.{Charset}
-pub use Rattle.vt_screen.specs.declared.screens.Settings.{Settings}
+pub use Rattle.vt_screen.specs.declared.displays.Charset.{Charset}
+pub use Rattle.vt_screen.specs.declared.displays.Settings.{Settings}
 pub use Rattle.vt_screen.specs.Settings.{settings_of, with_settings}
 use Rattle.vt_term.specs.Text.{IsOpen}
 

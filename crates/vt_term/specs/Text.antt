@@ -25,7 +25,11 @@ IsEscapeFinal b = (0x30 ≤ b) × (b ≤ 0x7e)
 abbrev pub IsIntroducer : ℕ → Type 0
 IsIntroducer b = (b ≡ 0x50) ⊎ (b ≡ 0x58) ⊎ (b ≡ 0x5b) ⊎ ((0x5d ≤ b) × (b ≤ 0x5f))
 
--- ESC [, parameter bytes, intermediate bytes and one final byte; at most 256 bytes
+-- the most bytes that a sequence has
+abbrev pub sequence_limit : ℕ
+sequence_limit = 256
+
+-- ESC [, parameter bytes, intermediate bytes and one final byte; at most sequence_limit bytes
 pub record IsControlSequence (bytes : List ℕ) : Type 0 where
   pub parameters : List ℕ
   pub intermediates : List ℕ
@@ -34,9 +38,9 @@ pub record IsControlSequence (bytes : List ℕ) : Type 0 where
   pub each_parameter : AllByRecursion IsParameter parameters
   pub each_intermediate : AllByRecursion IsIntermediate intermediates
   pub ends : IsFinal final
-  pub short : length bytes ≤ 256
+  pub short : length bytes ≤ sequence_limit
 
--- ESC, intermediate bytes and one final byte; at most 256 bytes
+-- ESC, intermediate bytes and one final byte; at most sequence_limit bytes
 pub record IsEscapeSequence (bytes : List ℕ) : Type 0 where
   pub intermediates : List ℕ
   pub final : ℕ
@@ -44,7 +48,7 @@ pub record IsEscapeSequence (bytes : List ℕ) : Type 0 where
   pub each_intermediate : AllByRecursion IsIntermediate intermediates
   pub ends : IsEscapeFinal final
   pub introduces_nothing : intermediates ≡ [] → IsIntroducer final → ⊥
-  pub short : length bytes ≤ 256
+  pub short : length bytes ≤ sequence_limit
 
 abbrev pub IsSequence : List ℕ → Type 0
 IsSequence bytes = IsControlSequence bytes ⊎ IsEscapeSequence bytes

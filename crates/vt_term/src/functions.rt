@@ -1,7 +1,9 @@
+//! Which function a whole token names.
+
 ghost use Rattle.std.specs.Prelude.{◌≡◌};
 ghost use Rattle.vt_term.specs.Function as spec;
 
-use vt_screen::{Function, Numbers, Part};
+use vt_screen::{CodeElement, EraseExtent, Function, ModeKind, Parameters};
 
 /// What an escape sequence asks for, by the one byte behind ESC.
 pub(crate) fn escape_final<'a>(last: u8) -> Function<'a>
@@ -16,12 +18,12 @@ pub(crate) fn escape_final<'a>(last: u8) -> Function<'a>
 }
 
 /// What becomes of G0 or G1.
-pub(crate) fn designation<'a>(is_g1: bool, last: u8) -> Function<'a>
-    ensures { result ≡ spec.designation is_g1 last }
+pub(crate) fn designation<'a>(set: CodeElement, last: u8) -> Function<'a>
+    ensures { result ≡ spec.designation set last }
 {
     match last {
-        b'0' => Function::Designate(is_g1, true),
-        b'B' => Function::Designate(is_g1, false),
+        b'0' => Function::Designate(set, true),
+        b'B' => Function::Designate(set, false),
         _ => Function::Ignored,
     }
 }
@@ -49,9 +51,9 @@ pub(crate) fn of_numbers(last: u8, numbers: &[Option<u16>]) -> Function<'_>
     match last {
         b'H' | b'f' => cursor_position(numbers),
         b'r' => margins(numbers),
-        b'm' => Function::SelectRendition(Numbers::new(numbers)),
-        b'h' => Function::Modes(false, true, Numbers::new(numbers)),
-        b'l' => Function::Modes(false, false, Numbers::new(numbers)),
+        b'm' => Function::SelectRendition(Parameters::new(numbers)),
+        b'h' => Function::Modes(ModeKind::Standard, true, Parameters::new(numbers)),
+        b'l' => Function::Modes(ModeKind::Standard, false, Parameters::new(numbers)),
         _ => of_one_number(last, numbers),
     }
 }
@@ -61,8 +63,8 @@ pub(crate) fn of_private_numbers(last: u8, numbers: &[Option<u16>]) -> Function<
     ensures { result ≡ spec.of_private_numbers last numbers.now }
 {
     match last {
-        b'h' => Function::Modes(true, true, Numbers::new(numbers)),
-        b'l' => Function::Modes(true, false, Numbers::new(numbers)),
+        b'h' => Function::Modes(ModeKind::Private, true, Parameters::new(numbers)),
+        b'l' => Function::Modes(ModeKind::Private, false, Parameters::new(numbers)),
         _ => Function::Ignored,
     }
 }
@@ -111,9 +113,9 @@ fn display_part<'a>(number: u16) -> Function<'a>
     ensures { result ≡ spec.display_part number }
 {
     match number {
-        0 => Function::EraseDisplay(Part::ToEnd),
-        1 => Function::EraseDisplay(Part::FromStart),
-        2 => Function::EraseDisplay(Part::Whole),
+        0 => Function::EraseDisplay(EraseExtent::ToEnd),
+        1 => Function::EraseDisplay(EraseExtent::FromStart),
+        2 => Function::EraseDisplay(EraseExtent::Whole),
         _ => Function::Ignored,
     }
 }
@@ -122,9 +124,9 @@ fn line_part<'a>(number: u16) -> Function<'a>
     ensures { result ≡ spec.line_part number }
 {
     match number {
-        0 => Function::EraseLine(Part::ToEnd),
-        1 => Function::EraseLine(Part::FromStart),
-        2 => Function::EraseLine(Part::Whole),
+        0 => Function::EraseLine(EraseExtent::ToEnd),
+        1 => Function::EraseLine(EraseExtent::FromStart),
+        2 => Function::EraseLine(EraseExtent::Whole),
         _ => Function::Ignored,
     }
 }

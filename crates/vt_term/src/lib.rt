@@ -4,14 +4,15 @@
 
 mod functions;
 pub mod laws;
-mod reader;
+mod open_bytes;
+mod parser;
 mod settings;
-mod stream;
-mod text;
-mod trail;
+mod terminals;
+mod tokenizing;
 
-pub use stream::{Stuck, Terminal};
-pub use text::{Token, TokenFault, TokenFaultKind, place_after, tokens};
+pub use terminals::{Stuck, Terminal};
+pub use tokenizing::{Token, TokenFault, TokenFaultKind, place_after, tokens};
 pub use vt_screen::{
-    Cell, Charset, Color, Function, Numbers, Part, Rendition, Settings, Size, color_of,
+    Cell, Charset, CodeElement, Color, EraseExtent, Function, MAX_COLS, MAX_ROWS, ModeKind,
+    Parameters, Rendition, Settings, Size, color_of,
 };

@@ -1,6 +1,8 @@
+//! Functions and settings applied directly, without bytes.
+
 ghost use Rattle.std.specs.Prelude.{◌≡◌, ◌<◌};
 
-use crate::stream::Terminal;
+use crate::terminals::Terminal;
 use vt_screen::{Function, Settings};
 
 impl Terminal {

@@ -7,8 +7,8 @@ use Rattle.std.proofs.lemmas.Bool.{and_parts, leb-true, ltb-true}
 use Rattle.std.proofs.lemmas.Option.{cond_some, option_and_then_some, same_Some}
 use Rattle.vt_term.specs.Size.{IsSize}
 use Rattle.vt_term.specs.Function as functions
-use Rattle.vt_term.specs.Function.{Function, Part, ToEnd, FromStart, Print, LineFeed, CarriageReturn, Backspace, Tab, ShiftOut, ShiftIn, ReverseIndex, NextLine, CursorUp, CursorDown, CursorForward, CursorBack, CursorColumn, CursorRow, CursorPosition, EraseLine, EraseDisplay, EraseCells, InsertCells, DeleteCells, InsertLines, DeleteLines, ScrollUp, ScrollDown, Designate, SelectRendition, Modes, Ignored, counted, single, counting, by_number, of_one_number, of_numbers, of_private_numbers, marked, named, sequence, designation, escape_final, escaped, function_of, line_part, display_part, cursor_position}
-use Rattle.vt_term.specs.Numbers.{numbers}
+use Rattle.vt_term.specs.Function.{Function, CodeElement, G0, G1, ModeKind, Standard, Private, EraseExtent, ToEnd, FromStart, Print, LineFeed, CarriageReturn, Backspace, Tab, ShiftOut, ShiftIn, ReverseIndex, NextLine, CursorUp, CursorDown, CursorForward, CursorBack, CursorColumn, CursorRow, CursorPosition, EraseLine, EraseDisplay, EraseCells, InsertCells, DeleteCells, InsertLines, DeleteLines, ScrollUp, ScrollDown, Designate, SelectRendition, Modes, Ignored, counted, single, counting, by_number, of_one_number, of_numbers, of_private_numbers, marked, named, sequence, designation, escape_final, escaped, function_of, line_part, display_part, cursor_position}
+use Rattle.vt_term.specs.Parameters.{numbers}
 use Rattle.vt_effects.specs.declared.effects.Move.{Move}
 use Rattle.vt_effects.specs.declared.effects.Move.TheVariants as moves
 use Rattle.vt_effects.specs.declared.effects.Erasure.{Erasure}
@@ -98,34 +98,34 @@ cells_plain x e f q p h =
     (λ h. subst IsPlain (cond_some (is_unmoved e && erases_nothing e.erasure) (record e { erasure = x }) f h).1 (record { row = p.row; col = p.col; erasure = q; margins = p.margins })) h)
     (λ h. absurd (cc)) h
 
-line_erased_plain : (part : Part) (e f : Effect) → IsPlain e → line_erased part e ≡ Some f → IsPlain f
+line_erased_plain : (part : EraseExtent) (e f : Effect) → IsPlain e → line_erased part e ≡ Some f → IsPlain f
 line_erased_plain ToEnd e f p h = cells_plain erasures.Tail e f tt p h
 line_erased_plain FromStart e f p h = cells_plain erasures.Head e f tt p h
 line_erased_plain functions.Whole e f p h = absurd (cc)
 
-display_erased_plain : (part : Part) (e f : Effect) → IsPlain e → display_erased part e ≡ Some f → IsPlain f
+display_erased_plain : (part : EraseExtent) (e f : Effect) → IsPlain e → display_erased part e ≡ Some f → IsPlain f
 display_erased_plain ToEnd e f p h =
     branch (IsPlain f) (is_first e.row && is_first e.col) (screen_erased e) (cells_erased erasures.Rest e) f (λ t g. screen_plain e f p g) (λ g. cells_plain erasures.Rest e f tt p g) h
 display_erased_plain FromStart e f p h = absurd (cc)
 display_erased_plain functions.Whole e f p h = screen_plain e f p h
 
-mode_plain : (private on : Bool) (n : ℕ) (e f : Effect) → IsPlain e → mode_set private on n e ≡ Some f → IsPlain f
-mode_plain true on n e f p h =
+mode_plain : (kind : ModeKind) (on : Bool) (n : ℕ) (e f : Effect) → IsPlain e → mode_set kind on n e ≡ Some f → IsPlain f
+mode_plain Private on n e f p h =
     branch (IsPlain f) (n == 7) (if on then Some e else None) (if n == 25 then Some (record e { visible = if on then switches.On else switches.Off }) else Some e) f
     (λ t x. subst IsPlain (cond_some on e f x).1 p)
     (λ x. branch (IsPlain f) (n == 25) (Some (record e { visible = if on then switches.On else switches.Off })) (Some e) f
     (λ t y. subst IsPlain (same_Some (record e { visible = if on then switches.On else switches.Off }) f y) (record { row = p.row; col = p.col; erasure = p.erasure; margins = p.margins }))
     (λ y. subst IsPlain (same_Some e f y) p) x) h
-mode_plain false on n e f p h =
+mode_plain Standard on n e f p h =
     branch (IsPlain f) (n == 4) (if on then None else Some e) (Some e) f
     (λ t x. branch (IsPlain f) on None (Some e) f (λ u y. absurd (cc)) (λ y. subst IsPlain (same_Some e f y) p) x)
     (λ x. subst IsPlain (same_Some e f x) p) h
 
-modes_plain : (private on : Bool) (ns : List (Option ℕ)) (e f : Effect) → IsPlain e → modes_set private on ns e ≡ Some f → IsPlain f
-modes_plain private on [] e f p h = subst IsPlain (same_Some e f h) p
-modes_plain private on (n ∷ ns) e f p h =
-    option_and_then_some (modes_set private on ns) (mode_set private on (unwrap_or n 0) e) f h
-    (λ g x y. modes_plain private on ns g f (mode_plain private on (unwrap_or n 0) e g p x) y)
+modes_plain : (kind : ModeKind) (on : Bool) (ns : List (Option ℕ)) (e f : Effect) → IsPlain e → modes_set kind on ns e ≡ Some f → IsPlain f
+modes_plain kind on [] e f p h = subst IsPlain (same_Some e f h) p
+modes_plain kind on (n ∷ ns) e f p h =
+    option_and_then_some (modes_set kind on ns) (mode_set kind on (unwrap_or n 0) e) f h
+    (λ g x y. modes_plain kind on ns g f (mode_plain kind on (unwrap_or n 0) e g p x) y)
 
 chosen_plain : (b : Bool) (x y : Effect) → (b ≡ true → IsPlain x) → IsPlain y → IsPlain (if b then x else y)
 chosen_plain true x y p q = p refl
@@ -142,9 +142,9 @@ margins_plain rows first last e r p =
     chosen_plain (nat_lt (first - 1) bottom) _ e
     (λ t. record { row = omega arith; col = omega arith; erasure = p.erasure; margins = (let below = ltb-true (first - 1) bottom t in (omega (arith, below, low), low)) }) p
 
-designating_plain : (is_g1 graphic : Bool) (e : Effect) → IsPlain e → IsPlain (designating is_g1 graphic e)
-designating_plain false graphic e p = record { row = p.row; col = p.col; erasure = p.erasure; margins = p.margins }
-designating_plain true graphic e p = record { row = p.row; col = p.col; erasure = p.erasure; margins = p.margins }
+designating_plain : (set : CodeElement) (graphic : Bool) (e : Effect) → IsPlain e → IsPlain (designating set graphic e)
+designating_plain G0 graphic e p = record { row = p.row; col = p.col; erasure = p.erasure; margins = p.margins }
+designating_plain G1 graphic e p = record { row = p.row; col = p.col; erasure = p.erasure; margins = p.margins }
 
 -- an erasure of cells erases one at least
 record IsCounted (t : Function) : Type 0 where
@@ -197,10 +197,10 @@ extended_plain rows cols start (EraseLine part) e f z r c k p h = line_erased_pl
 extended_plain rows cols start (EraseDisplay part) e f z r c k p h = display_erased_plain part e f p h
 extended_plain rows cols start (EraseCells n) e f z r c k p h = cells_plain (erasures.Next (min n cols)) e f (let some = k.cells n refl in let wide = z.2 in let narrow = z.3 in (omega (arith, some, wide), omega (arith, narrow))) p h
 extended_plain rows cols start (functions.Margins first last) e f z r c k p h = subst IsPlain (same_Some (margins_set rows first last e) f h) (margins_plain rows first last e z.1 p)
-extended_plain rows cols start (Designate is_g1 graphic) e f z r c k p h = subst IsPlain (same_Some (designating is_g1 graphic e) f h) (designating_plain is_g1 graphic e p)
+extended_plain rows cols start (Designate set graphic) e f z r c k p h = subst IsPlain (same_Some (designating set graphic e) f h) (designating_plain set graphic e p)
 extended_plain rows cols start (SelectRendition ns) e f z r c k p h =
     subst IsPlain (same_Some (record e { rendition = all_renderings ns e.rendition }) f h) (record { row = p.row; col = p.col; erasure = p.erasure; margins = p.margins })
-extended_plain rows cols start (Modes private on ns) e f z r c k p h = modes_plain private on ns e f p h
+extended_plain rows cols start (Modes kind on ns) e f z r c k p h = modes_plain kind on ns e f p h
 extended_plain rows cols start Ignored e f z r c k p h = subst IsPlain (same_Some e f h) p
 extended_plain rows cols start (Print b) e f z r c k p h = absurd (cc)
 extended_plain rows cols start (InsertCells n) e f z r c k p h = absurd (cc)
@@ -267,13 +267,13 @@ margins_counted (first ∷ last ∷ n ∷ ns) = ignored
 numbers_counted : (final : ℕ) (ns : List (Option ℕ)) → IsCounted (of_numbers final ns)
 numbers_counted final ns =
     pick _ _ _ (position_counted ns) (pick _ _ _ (margins_counted ns) (pick _ _ _ (other (SelectRendition ns) (λ n e. cc))
-    (pick _ _ _ (other (Modes false true ns) (λ n e. cc)) (pick _ _ _ (other (Modes false false ns) (λ n e. cc)) (one_number_counted final ns)))))
+    (pick _ _ _ (other (Modes Standard true ns) (λ n e. cc)) (pick _ _ _ (other (Modes Standard false ns) (λ n e. cc)) (one_number_counted final ns)))))
 
 marked_counted : (final : ℕ) (front : List ℕ) → IsCounted (marked final front)
 marked_counted final [] = ignored
 marked_counted final (b ∷ bytes) =
     let ns : List (Option ℕ) = numbers bytes in
-    pick _ _ _ (pick _ _ _ (other (Modes true true ns) (λ n e. cc)) (pick _ _ _ (other (Modes true false ns) (λ n e. cc)) ignored)) ignored
+    pick _ _ _ (pick _ _ _ (other (Modes Private true ns) (λ n e. cc)) (pick _ _ _ (other (Modes Private false ns) (λ n e. cc)) ignored)) ignored
 
 sequence_counted : (body : List ℕ) → IsCounted (sequence body)
 sequence_counted body =
@@ -281,13 +281,13 @@ sequence_counted body =
     let front : List ℕ = take (length body - 1) body in
     pick _ _ _ (numbers_counted final (numbers front)) (marked_counted final front)
 
-designation_counted : (is_g1 : Bool) (final : ℕ) → IsCounted (designation is_g1 final)
-designation_counted is_g1 final = pick _ _ _ (other (Designate is_g1 true) (λ n e. cc)) (pick _ _ _ (other (Designate is_g1 false) (λ n e. cc)) ignored)
+designation_counted : (set : CodeElement) (final : ℕ) → IsCounted (designation set final)
+designation_counted set final = pick _ _ _ (other (Designate set true) (λ n e. cc)) (pick _ _ _ (other (Designate set false) (λ n e. cc)) ignored)
 
 escaped_counted : (body : List ℕ) → IsCounted (escaped body)
 escaped_counted [] = ignored
 escaped_counted (final ∷ []) = pick _ _ _ (other LineFeed (λ n e. cc)) (pick _ _ _ (other NextLine (λ n e. cc)) (pick _ _ _ (other ReverseIndex (λ n e. cc)) ignored))
-escaped_counted (set ∷ final ∷ []) = pick _ _ _ (designation_counted false final) (pick _ _ _ (designation_counted true final) ignored)
+escaped_counted (set ∷ final ∷ []) = pick _ _ _ (designation_counted G0 final) (pick _ _ _ (designation_counted G1 final) ignored)
 escaped_counted (set ∷ final ∷ more ∷ rest) = ignored
 
 token_counted : (token : List ℕ) → IsCounted (function_of token)

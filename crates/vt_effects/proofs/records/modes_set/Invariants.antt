@@ -4,4 +4,4 @@ use Rattle.vt_effects.specs.Record.{modes_set}
 use Rattle.vt_effects.proofs.records.modes_set.Given as goal
 
 abbrev pub invariant-loop-number : goal.invariant-loop-number
-invariant-loop-number l = modes_set l.private l.on (drop l.number-index l.numbers) l.effect ≡ modes_set l.private l.on l.numbers l.fn.effect
+invariant-loop-number l = modes_set l.kind l.on (drop l.number-index l.numbers) l.effect ≡ modes_set l.kind l.on l.numbers l.fn.effect

@@ -2,8 +2,8 @@ use Rattle.std.proofs.Common.{ℕ, List, map, Bor, arith}
 use Rattle.std.proofs.lemmas.Result.{err_from_is_err_and}
 use Rattle.cur_update.specs.Plain.{IsPiece, IsSized, IsReady, Shows, clear_limit, lines_limit}
 use Rattle.cur_update.specs.Steps.{ShowsAbove, MovedTo}
-use Rattle.cur_update.proofs.Leading.{leads_wider}
-use Rattle.cur_update.proofs.Painting.{paints_then, paints_cut}
+use Rattle.cur_steps.proofs.Leading.{leads_wider}
+use Rattle.cur_steps.proofs.Painting.{paints_then, paints_cut}
 use Rattle.cur_update.proofs.Grids.{CanFinish, can_finish, all_shown}
 use Rattle.cur_update.proofs.Fitting.{is_grid}
 use Rattle.cur_update.proofs.plains.Plain.paint.Goals as goal

@@ -2,7 +2,7 @@ use Rattle.std.proofs.Common.{◌+◌}
 use Rattle.std.proofs.lemmas.Result.{err_from_is_err_and}
 use Rattle.cur_update.specs.Plain.{IsPiece, IsSized, move_limit}
 use Rattle.cur_update.specs.Steps.{ShowsAbove, MovedTo}
-use Rattle.cur_update.proofs.Painting.{paints_then, paints_cut}
+use Rattle.cur_steps.proofs.Painting.{paints_then, paints_cut}
 use Rattle.cur_update.proofs.Grids.{line_leads, stands_itself}
 use Rattle.cur_update.proofs.Fitting.{all_printed}
 use Rattle.cur_update.proofs.plains.Plain.paint_line.Goals as goal

@@ -3,9 +3,9 @@ use Rattle.std.proofs.lemmas.Result.{err_from_is_err_and}
 use Rattle.cur_update.specs.Plain.{IsPiece, IsSized, Shows, move_limit}
 use Rattle.cur_update.specs.Steps.{ShowsAbove, MovedTo}
 use Rattle.cur_wires.specs.declared.wires.WireFault.{WireFault}
-use Rattle.cur_update.specs.Paints.{Paints}
-use Rattle.cur_update.proofs.Leading.{leads_nothing}
-use Rattle.cur_update.proofs.Painting.{paints_then, paints_cut, paints_wider}
+use Rattle.cur_steps.specs.Paints.{Paints}
+use Rattle.cur_steps.proofs.Leading.{leads_nothing}
+use Rattle.cur_steps.proofs.Painting.{paints_then, paints_cut, paints_wider}
 use Rattle.cur_update.proofs.Grids.{CanFinish, can_finish, all_shown}
 use Rattle.cur_update.proofs.Fitting.{behind_fits, behind_rows, is_grid, limits_add, line_behind}
 use Rattle.cur_update.proofs.plains.Plain.paint_lines.Goals as goal

@@ -1,6 +1,6 @@
 use Rattle.std.proofs.Common.{◌+◌, ◌*◌, ℕ, List, map, Bor, Ok}
 use Rattle.cur_wires.specs.declared.wires.WireFault.{WireFault}
-use Rattle.cur_update.specs.Paints.{Paints}
+use Rattle.cur_steps.specs.Paints.{Paints}
 use Rattle.cur_update.specs.Plain.{IsPiece, IsSized, move_limit}
 use Rattle.cur_update.specs.Steps.{ShowsAbove}
 use Rattle.cur_update.proofs.plains.Plain.paint_lines.Given as goal

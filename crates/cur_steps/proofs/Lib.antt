@@ -1,0 +1,4 @@
+pub mod Leading
+pub mod Painting
+pub mod Stopping
+pub mod Completing

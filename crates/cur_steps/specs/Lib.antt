@@ -1,0 +1,4 @@
+pub mod Leads
+pub mod Paints
+pub mod Steps
+pub mod Lines

@@ -1,0 +1,39 @@
+-- Why the parser gives no matches.
+use Rattle.std.proofs.Common.{◌≡◌, ◌⊎◌, List, Result, Ok, Err, IfOk, true, ap, ◌∙◌, inl, inr, refl, subst}
+use Rattle.clap.proofs.OnLiterals.{clap_on_literals}
+use Rattle.clap.specs.Faults.{fault_of, is_simple_and_free}
+use Rattle.clap.specs.Kinds.{HasKind, IsAmong}
+use Rattle.clap.specs.Simple.{App}
+use Rattle.clap.specs.Values.{kind_of}
+use Rattle.clap.specs.Walk.{Text}
+use Rattle.clap.specs.declared.error.Error.{Error}
+use Rattle.clap.specs.declared.error.kind.ErrorKind.{ErrorKind}
+use Rattle.clap.specs.declared.error.kind.ErrorKind.TheVariants as kind
+use Rattle.ti_arguments.specs.Asking.{IsAnswer, IsTold}
+use Rattle.ti_arguments.specs.Line.{line}
+use Rattle.ti_arguments.specs.declared.parsing.Answer.{Answer}
+use Rattle.ti_arguments.specs.declared.parsing.Answer.TheVariants as answers
+use Rattle.ti_arguments.specs.declared.parsing.LineFault.{LineFault}
+
+line_is_simple : is_simple_and_free line ≡ true
+unfolding clap_on_literals
+line_is_simple = refl
+
+-- the error has a kind of the first step that fails
+pub failed : (a : App) (words : List Text) (e : Error) → a ≡ line → (is_simple_and_free a ≡ true → HasKind (fault_of a words) e) → HasKind (fault_of line words) e
+failed a words e q h = subst (λ (b : App). HasKind (fault_of b words) e) q (h (ap is_simple_and_free q ∙ line_is_simple))
+
+among : (words : List Text) (k : ErrorKind) → IsAmong k (fault_of line words) → (k ≡ kind.DisplayHelp) ⊎ (k ≡ kind.DisplayVersion) → IsAmong kind.DisplayHelp (fault_of line words) ⊎ IsAmong kind.DisplayVersion (fault_of line words)
+among words k m (inl h) = inl (subst (λ (x : ErrorKind). IsAmong x (fault_of line words)) h m)
+among words k m (inr h) = inr (subst (λ (x : ErrorKind). IsAmong x (fault_of line words)) h m)
+
+no_memory : {A : Type 0} (k : ErrorKind) → k ≡ kind.OutOfMemory → (k ≡ kind.DisplayHelp) ⊎ (k ≡ kind.DisplayVersion) → A
+no_memory k e (inl h) = cc
+no_memory k e (inr h) = cc
+
+-- so what it is told as is an answer
+pub answered : (words : List Text) (e : Error) (r : Result Answer LineFault) → HasKind (fault_of line words) e → IfOk r (λ a. IsTold (kind_of e) a) → IfOk r (λ a. IsAnswer words a)
+answered words e (Err fault) h t = tt
+answered words e (Ok (answers.Request request)) h t = absurd t
+answered words e (Ok (answers.Text text)) (inl out) t = no_memory (kind_of e) out t
+answered words e (Ok (answers.Text text)) (inr m) t = among words (kind_of e) m t

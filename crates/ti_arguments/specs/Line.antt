@@ -1,0 +1,54 @@
+-- The commands of the program and their words, as the rules of clap's parser.
+use Rattle.std.specs.Prelude.{ℕ, true, Some, codes}
+use Rattle.clap.specs.Lexer.{usize_max}
+use Rattle.clap.specs.Simple.{App, new_app, new_rule, on_top, with_rule, with_subcommand}
+use Rattle.clap.specs.Walk.{Rule, Text}
+use Rattle.clap.specs.declared.builder.action.ArgAction.TheVariants.{Append, Set, SetTrue}
+
+-- a word that has to be there
+abbrev pub positional_rule : Text → Rule
+positional_rule id = record (new_rule id) { required = true }
+
+-- `--cup`
+abbrev pub cup_rule : Rule
+cup_rule = record (new_rule (codes "cup")) { long = Some (codes "cup"); action = Some SetTrue }
+
+-- `--out FILE`
+abbrev pub out_rule : Rule
+out_rule = record (new_rule (codes "out")) { long = Some (codes "out"); action = Some Set; value_names = 1 }
+
+-- a switch of one letter
+abbrev pub switch_rule : Text → ℕ → Rule
+switch_rule id letter = record (new_rule id) { short = Some letter; action = Some SetTrue }
+
+-- any number of words
+abbrev pub params_rule : Rule
+params_rule = record (new_rule (codes "PARAM")) { action = Some Append; range = Some (record { start_inclusive = 0; end_inclusive = usize_max }) }
+
+-- one word or more
+abbrev pub entries_rule : Rule
+entries_rule = record (new_rule (codes "ENTRY")) { required = true; action = Some Append; range = Some (record { start_inclusive = 1; end_inclusive = usize_max }) }
+
+-- the words of a terminal's size
+abbrev pub with_size_rules : App → App
+with_size_rules a = with_rule (with_rule a (positional_rule (codes "ROWS"))) (positional_rule (codes "COLS"))
+
+abbrev pub expand_rules : App
+expand_rules = with_rule (with_size_rules (with_rule (with_rule (new_app (codes "expand")) cup_rule) (positional_rule (codes "STRING")))) params_rule
+
+abbrev pub feed_rules : App
+feed_rules = with_rule (with_size_rules (new_app (codes "feed"))) (positional_rule (codes "FILE"))
+
+abbrev pub tic_rules : App
+tic_rules = with_rule (with_rule (new_app (codes "tic")) out_rule) (positional_rule (codes "ENTRY"))
+
+abbrev pub infocmp_rules : App
+infocmp_rules = with_rule (with_rule (with_rule (new_app (codes "infocmp")) (switch_rule (codes "c") 99)) (switch_rule (codes "n") 110)) entries_rule
+
+-- the program by itself: its own name is not among the words, and a command has to follow
+abbrev pub program : App
+program = on_top (λ s. record s { no_binary_name = true; has_version = true; propagate_version = true; subcommand_required = true; arg_required_else_help = true }) (new_app (codes "ticurses"))
+
+-- the program with its commands
+abbrev pub line : App
+line = with_subcommand (with_subcommand (with_subcommand (with_subcommand program expand_rules.top) feed_rules.top) tic_rules.top) infocmp_rules.top

@@ -1,0 +1,179 @@
+//! The commands and their words, as the parser reads them.
+
+ghost use Rattle.std.specs.Prelude.{◌≡◌, Some, IfOk, false};
+ghost use Rattle.clap.specs.Words.{app_of, rule_of, with_subcommand};
+ghost use Rattle.clap.specs.declared.builder.command.Command.TheViews.{out-Command};
+ghost use Rattle.ti_arguments.specs.Line.{cup_rule, entries_rule, expand_rules, feed_rules, infocmp_rules, line, out_rule, params_rule, positional_rule, program, switch_rule, tic_rules, with_size_rules};
+
+use crate::help;
+use clap::{Arg, ArgAction, Command};
+use std::alloc::{AllocError, Global};
+
+/// The program's own word, its commands and their arguments.
+pub fn command_line<'a>(alloc: Global) -> Result<Command<'a>, AllocError>
+    ensures { IfOk result (λ c. app_of c ≡ line) }
+{
+    let expand = expand_command(alloc)?;
+    let feed = feed_command(alloc)?;
+    let command = top_command(alloc)?.subcommand(expand)?.subcommand(feed)?;
+    with_entry_commands(alloc, command)
+}
+
+/// The command, and those whose words are entries.
+fn with_entry_commands<'a>(alloc: Global, command: Command<'a>) -> Result<Command<'a>, AllocError>
+    ensures { IfOk result (λ c. app_of c ≡ with_subcommand (with_subcommand (app_of command.entry) tic_rules.top) infocmp_rules.top) }
+{
+    let tic = tic_command(alloc)?;
+    let infocmp = infocmp_command(alloc)?;
+    command.subcommand(tic)?.subcommand(infocmp)
+}
+
+/// The program without its commands.
+fn top_command<'a>(alloc: Global) -> Result<Command<'a>, AllocError>
+    ensures { IfOk result (λ c. app_of c ≡ program) }
+{
+    Ok(
+        Command::new(alloc, "ticurses")
+            .no_binary_name(true)
+            .bin_name("ticurses")?
+            .version("0.1.0")
+            .about(help::ABOUT)
+            .after_help(help::MORE)
+            .propagate_version(true)
+            .subcommand_required(true)
+            .arg_required_else_help(true),
+    )
+}
+
+fn expand_command<'a>(alloc: Global) -> Result<Command<'a>, AllocError>
+    ensures shape { IfOk result (λ c. app_of c ≡ expand_rules) }
+    ensures local { IfOk result (λ c. (out-Command c).has_globals ≡ false) }
+{
+    let command = Command::new(alloc, "expand")
+        .about(help::EXPAND)
+        .after_help(help::EXPAND_MORE)
+        .arg(cup_flag(alloc))?
+        .arg(positional(
+            alloc,
+            "STRING",
+            "The parameter string, in the escapes of terminfo source",
+        ))?;
+    with_size(alloc, command)?.arg(parameters(alloc))
+}
+
+/// The command, and the two words of a terminal's size.
+fn with_size<'a>(alloc: Global, command: Command<'a>) -> Result<Command<'a>, AllocError>
+    requires { (out-Command command).has_globals ≡ false }
+    ensures shape { IfOk result (λ c. app_of c ≡ with_size_rules (app_of command.entry)) }
+    ensures local { IfOk result (λ c. (out-Command c).has_globals ≡ false) }
+{
+    command
+        .arg(positional(alloc, "ROWS", "The terminal's rows, 2 to 200"))?
+        .arg(positional(alloc, "COLS", "The terminal's columns, 2 to 500"))
+}
+
+fn feed_command<'a>(alloc: Global) -> Result<Command<'a>, AllocError>
+    ensures shape { IfOk result (λ c. app_of c ≡ feed_rules) }
+    ensures local { IfOk result (λ c. (out-Command c).has_globals ≡ false) }
+{
+    let command = Command::new(alloc, "feed")
+        .about(help::FEED)
+        .after_help(help::FEED_MORE);
+    with_size(alloc, command)?.arg(positional(alloc, "FILE", "The bytes to feed, at most 16777216"))
+}
+
+fn tic_command<'a>(alloc: Global) -> Result<Command<'a>, AllocError>
+    ensures shape { IfOk result (λ c. app_of c ≡ tic_rules) }
+    ensures local { IfOk result (λ c. (out-Command c).has_globals ≡ false) }
+{
+    Command::new(alloc, "tic")
+        .about(help::TIC)
+        .after_help(help::TIC_MORE)
+        .arg(out_option(alloc))?
+        .arg(positional(
+            alloc,
+            "ENTRY",
+            "FILE:NAME of a source file, or a compiled FILE",
+        ))
+}
+
+fn infocmp_command<'a>(alloc: Global) -> Result<Command<'a>, AllocError>
+    ensures shape { IfOk result (λ c. app_of c ≡ infocmp_rules) }
+    ensures local { IfOk result (λ c. (out-Command c).has_globals ≡ false) }
+{
+    Command::new(alloc, "infocmp")
+        .about(help::INFOCMP)
+        .after_help(help::INFOCMP_MORE)
+        .arg(switch(
+            alloc,
+            "c",
+            'c',
+            "List the capabilities that both entries have with equal values",
+        ))?
+        .arg(switch(
+            alloc,
+            "n",
+            'n',
+            "List the capabilities that neither entry has",
+        ))?
+        .arg(entries(alloc))
+}
+
+fn cup_flag<'a>(alloc: Global) -> Arg<'a>
+    ensures rule { rule_of result ≡ cup_rule }
+    ensures local { result.global ≡ false }
+{
+    Arg::new(alloc, "cup")
+        .long("cup")
+        .action(ArgAction::SetTrue)
+        .help("Also report whether the string serves as `cup`")
+}
+
+fn out_option<'a>(alloc: Global) -> Arg<'a>
+    ensures rule { rule_of result ≡ out_rule }
+    ensures local { result.global ≡ false }
+{
+    Arg::new(alloc, "out")
+        .long("out")
+        .value_name("FILE")
+        .action(ArgAction::Set)
+        .help("Write the entry's compiled form to this file")
+}
+
+fn entries<'a>(alloc: Global) -> Arg<'a>
+    ensures rule { rule_of result ≡ entries_rule }
+    ensures local { result.global ≡ false }
+{
+    Arg::new(alloc, "ENTRY")
+        .required(true)
+        .action(ArgAction::Append)
+        .num_args(1..)
+        .help("FILE:NAME of a source file, or a compiled FILE")
+}
+
+fn switch<'a>(alloc: Global, name: &'a str, letter: char, help: &'a str) -> Arg<'a>
+    ensures rule { rule_of result ≡ switch_rule name.entry.now letter }
+    ensures local { result.global ≡ false }
+{
+    Arg::new(alloc, name)
+        .short(letter)
+        .action(ArgAction::SetTrue)
+        .help(help)
+}
+
+fn positional<'a>(alloc: Global, name: &'a str, help: &'a str) -> Arg<'a>
+    ensures rule { rule_of result ≡ positional_rule name.entry.now }
+    ensures local { result.global ≡ false }
+{
+    Arg::new(alloc, name).required(true).help(help)
+}
+
+fn parameters<'a>(alloc: Global) -> Arg<'a>
+    ensures rule { rule_of result ≡ params_rule }
+    ensures local { result.global ≡ false }
+{
+    Arg::new(alloc, "PARAM")
+        .action(ArgAction::Append)
+        .num_args(0..)
+        .help("The string's parameters: decimal numbers up to 2147483647, or s:TEXT")
+}

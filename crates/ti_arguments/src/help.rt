@@ -1,0 +1,132 @@
+//! The help texts.
+
+/// What the program does.
+pub const ABOUT: &str =
+    "Checks terminal descriptions: what their strings do to a terminal, what their source says, and how they compile";
+
+/// What all commands have in common.
+pub const MORE: &str = "\
+An ENTRY is FILE:NAME, a terminfo source file and the name of an entry in it (split at the last colon),
+or FILE, a compiled terminfo file. A word that begins with `-` and is not an option is written after `--`.
+
+Exit status:
+  0  done
+  1  refused: standard error has a line `refused: KIND`, and one more line that explains it
+  2  usage error
+  3  a file could not be read or written (`file: PATH`), or standard output could not be written (`output`)
+  4  out of memory (`no memory`)
+
+`ticurses COMMAND --help` explains a command, its limits and each KIND, and shows an example.";
+
+/// `expand` in one line.
+pub const EXPAND: &str =
+    "Expands a parameter string and shows where it leaves the cursor of a blank terminal";
+
+/// `expand` in full.
+pub const EXPAND_MORE: &str = "\
+STRING is written in the escapes of terminfo source, as in '\\E[%i%p1%d;%p2%dH'.
+A STRING or PARAM that begins with `-` is written after `--`.
+
+The first line of the output is the bytes that the string sends, in hexadecimal; delays, as $<5>, are left
+out. The second line is `cursor ROW COLUMN`: where the bytes leave the cursor of a blank terminal of this
+size, both counted from 0.
+
+With --cup a third line says whether the string serves as `cup`. `cup yes` means that for every row and
+column, whatever was on the screen before, the string leaves the cursor there. `cup no ROW COLUMN` names the
+first place, row by row, for which this could not be shown.
+
+At most nine PARAMs are used, and a parameter that is not given is 0.
+
+Exit status: 0 done; 1 refused, with a line `refused: KIND` on standard error; 2 usage error; 3 standard
+output could not be written; 4 out of memory.
+
+KIND is one of:
+  BadSize        ROWS is not 2 to 200, or COLS is not 2 to 500
+  BadEscape      STRING ends with `\\` or `^`, or has a `^` before a comma
+  TooLong        STRING stands for more than 4095 bytes
+  BadCode        what follows a `%` is not a code
+  BadNest        a conditional does not have the form `%? %t %e %;`
+  Underflow      a code takes a value from the empty stack
+  Overflow       a result does not fit into 32 bits
+  BadChar        `%c` of a number that is not 0 to 255
+  WrongKind      a text is given where a number is needed, or a number where a text is needed
+  Stuck AT       the byte at AT, counted from 0, is neither printable ASCII nor part of a sequence
+  Unfinished AT  the sequence that begins at AT, counted from 0, is not complete
+
+Example:
+  ticurses expand --cup '\\E[%i%p1%d;%p2%dH' 24 80 2 9";
+
+/// `feed` in one line.
+pub const FEED: &str = "Feeds a file to a blank terminal and shows its screen";
+
+/// `feed` in full.
+pub const FEED_MORE: &str = "\
+The output is the rows of the screen, then the line `cursor ROW COLUMN`, both counted from 0 (with ` hidden`
+where the cursor is not visible), then for each run of cells with attributes or colors a line
+`look ROW COLUMN-COLUMN LETTERS`: B bold, D dim, U underlined, K blinking, R reverse, I invisible,
+G line drawing, fN and bN the colors.
+
+Exit status: 0 done; 1 refused, with a line `refused: KIND` on standard error; 2 usage error; 3 the file
+could not be read or has more than 16777216 bytes, or standard output could not be written; 4 out of memory.
+
+KIND is one of:
+  BadSize   ROWS is not 2 to 200, or COLS is not 2 to 500
+  Stuck AT  the byte at AT, counted from 0, is neither 7-bit text nor part of a sequence
+
+Example:
+  ticurses feed 24 80 typescript";
+
+/// `tic` in one line.
+pub const TIC: &str = "Reads an entry, reports what is odd in its source, and compiles it";
+
+/// What a source and a compiled file are refused for.
+pub const TIC_MORE: &str = "\
+Standard error gets a line `note line N: KIND` for each odd place of the whole source file: UnknownName (the
+field is left out), Duplicate (the first value counts), OddEscape (`\\x` stands for `x`). Without --out nothing
+is written. With --out the file is written whole or not at all.
+
+A source file has at most 16777216 bytes, its names and each string at most 4095. A compiled file that is read
+has at most 131072 bytes; one that is written has at most 4096, or 32768 where a number is above 32767.
+
+Exit status: 0 done; 1 refused, with a line `refused: KIND` on standard error; 2 usage error; 3 a file could
+not be read or written, or is too long; 4 out of memory.
+
+KIND is one of, for a source file (with `line N:` before it):
+  NoName       white space before any entry, an empty first name, or a byte below 32 in the names
+  WrongKind    a field has the form of another kind, as `cols=80`
+  BadNumber    a number is not decimal, 0x hexadecimal or 0 octal
+  NumberRange  a number is above 2147483647
+  OpenField    a line ends before the comma of its field
+  BadEscape    a `\\` or `^` ends its field or line
+  TooLong      the names or a string have more than 4095 bytes
+for an entry of it:
+  NoSuchEntry NAME  no entry has this name
+  Cycle NAME        the entry uses itself, perhaps through others
+  TooMany NAME      more than 64 other entries are used
+for a compiled file:
+  BadMagic   it does not begin with 1a 01 or 1e 02
+  Short      it ends within its header or a section
+  BadCount   a size is negative, or there are too many flags, numbers or strings
+  BadFlag, BadNumber, BadOffset  a value that the format does not allow
+  NoNul      the names or a string are not ended by a 0
+  BadNames   the names can't stand in a source file
+  TooLarge   a string is longer than 4095 bytes, or the file to be written is longer than its form allows
+
+Example:
+  ticurses tic my.ti:myterm --out myterm";
+
+/// `infocmp` in one line.
+pub const INFOCMP: &str = "Prints an entry, or compares two";
+
+/// `infocmp` in full.
+pub const INFOCMP_MORE: &str = "\
+One ENTRY is printed with its uses resolved: its names, then its flags, numbers and strings, each kind in the
+byte order of names. With -c or -n two entries are compared, and the output is a line for each name.
+
+Exit status: 0 done; 1 refused, with a line `refused: KIND` on standard error; 2 usage error; 3 a file could
+not be read or is too long, or standard output could not be written; 4 out of memory.
+
+The limits and each KIND are those of `ticurses tic --help`.
+
+Example:
+  ticurses infocmp -c my.ti:myterm my.ti:other";

@@ -1,0 +1,10 @@
+//! The parser of the command line: which command the words ask for, a help text, or a usage error.
+#![tactic(auto)]
+
+mod commands;
+mod help;
+mod parsing;
+mod request;
+
+pub use parsing::{Answer, LineFault, parse_line};
+pub use request::Request;

@@ -1,0 +1,54 @@
+//! What a command line can ask for: one variant for each command, with its words.
+
+/// A command and its words. What a word means (a number, a path, an entry) is the command's own matter.
+#[derive(Debug, Drop)]
+pub enum Request<'a> {
+    /// `expand [--cup] STRING ROWS COLS [PARAM..]`: expand a parameter string.
+    Expand {
+        /// Whether `--cup` is given.
+        cup: bool,
+        /// The parameter string, in the escapes of terminfo source.
+        string: &'a str,
+        /// The terminal's rows.
+        rows: &'a str,
+        /// The terminal's columns.
+        cols: &'a str,
+        /// The string's parameters.
+        params: Vec<&'a str>,
+    },
+    /// `feed ROWS COLS FILE`: feed a file to a terminal.
+    Feed {
+        /// The terminal's rows.
+        rows: &'a str,
+        /// The terminal's columns.
+        cols: &'a str,
+        /// The path of the file.
+        file: &'a str,
+    },
+    /// `tic ENTRY [--out FILE]`: compile an entry.
+    Tic {
+        /// The entry.
+        entry: &'a str,
+        /// The path of the compiled file, if one is asked for.
+        out: Option<&'a str>,
+    },
+    /// `infocmp ENTRY`: print an entry.
+    Print {
+        /// The entry.
+        entry: &'a str,
+    },
+    /// `infocmp -c ENTRY ENTRY`: list what both entries have with equal values.
+    Common {
+        /// The first entry.
+        first: &'a str,
+        /// The second entry.
+        second: &'a str,
+    },
+    /// `infocmp -n ENTRY ENTRY`: list what neither entry has.
+    Neither {
+        /// The first entry.
+        first: &'a str,
+        /// The second entry.
+        second: &'a str,
+    },
+}

@@ -1,0 +1,5 @@
+pub mod Starting
+pub mod Wanting
+pub mod Righting
+pub mod Alike
+pub mod Telling

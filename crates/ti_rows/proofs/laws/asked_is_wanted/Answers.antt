@@ -1,0 +1,5 @@
+use Rattle.ti_rows.proofs.Wanting.{asked_is_wanted}
+use Rattle.ti_rows.proofs.laws.asked_is_wanted.Goals as goal
+
+pub returns : goal.returns
+returns c = asked_is_wanted

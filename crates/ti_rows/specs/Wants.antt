@@ -1,0 +1,94 @@
+-- What is wanted of the screen in the end, row by row, by the screen alone (terminfo(5); ECMA-48 8.3).
+use Rattle.std.specs.Prelude.{ℕ, ◌+◌, ◌-◌, ◌≡◌, ◌⊎◌, ◌==◌, ◌&&◌, ◌||◌, nat_le, nat_lt, Bool, true, false, Option, Some, None, if◌then◌else◌}
+use Rattle.vt_term.specs.Color.{Color}
+use Rattle.vt_term.specs.Look.{Rendition, plain, blank}
+use Rattle.vt_term.specs.Grid.{drawn, scrolled_up, scrolled_down}
+use Rattle.vt_term.specs.Screen.{Screen}
+use Rattle.ti_rows.specs.Looks.{shown}
+use Rattle.ti_rows.specs.Rows.{Marks, Looks, Row, Clear, Cup, Home, Cr, Hpa, Vpa, Cub1, Cuf1, Cuu1, Cud1, Cub, Cuf, Cuu, Cud, El, El1, Ed, Ech, Sgr, Sgr0, Setaf, Setab, Op, Smul, Rev, Blink, Dim, Bold, Invis, Smso, Enacs, Smacs, Rmacs, Csr, Ind, Ri, Civis, Cnorm, Cvvis, Smcup, Rmcup, Bel}
+
+-- a rendition of these marks and colours
+abbrev pub marked : Marks → Option Color → Option Color → Rendition
+marked m foreground background = record {
+  bold = m.bold;
+  faint = m.faint;
+  underline = m.underline;
+  blink = m.blink;
+  negative = m.negative;
+  concealed = m.concealed;
+  foreground = foreground;
+  background = background;
+}
+
+-- these marks go on, and the others stay
+abbrev pub adding : Marks → Rendition → Rendition
+adding m r = record r {
+  bold = m.bold || r.bold;
+  faint = m.faint || r.faint;
+  underline = m.underline || r.underline;
+  blink = m.blink || r.blink;
+  negative = m.negative || r.negative;
+  concealed = m.concealed || r.concealed;
+}
+
+-- the rendition becomes that one, the sets are free, and all else stays
+abbrev pub Renders : Rendition → Screen → Screen → Type 0
+Renders r s t = t ≡ record s { rendition = r; charset = t.charset }
+
+-- just these marks are on; both colours stay, or both become default
+abbrev pub HasJust : Marks → Screen → Screen → Type 0
+HasJust m s t = Renders (marked m s.rendition.foreground s.rendition.background) s t ⊎ Renders (marked m None None) s t
+
+-- cells around the cursor become blank
+abbrev pub Blanks : (ℕ → ℕ → Bool) → Screen → Screen → Type 0
+Blanks chosen s t = t ≡ record s { grid = drawn (λ i j old. if chosen i j then blank s.rendition else old) s.grid }
+
+-- the cursor becomes visible, or all stays
+abbrev pub Appears : Screen → Screen → Type 0
+Appears s t = (t ≡ record s { visible = true }) ⊎ (t ≡ s)
+
+-- what a row's string makes of a start: each equation is on what it changes, and all else stays. The sets, and what a
+-- string that enters or leaves a program's screen makes of it, are free where the end stands on the right as well
+abbrev pub Wants : Looks → Row → Screen → Screen → Type 0
+Wants l Clear s t = t ≡ record s { grid = drawn (λ i j old. blank s.rendition) s.grid; row = 0; col = 0; pending = false }
+Wants l (Cup row col) s t = t ≡ record s { row = row; col = col; pending = false }
+Wants l Home s t = t ≡ record s { row = 0; col = 0; pending = false }
+Wants l Cr s t = t ≡ record s { col = 0; pending = false }
+Wants l (Hpa col) s t = t ≡ record s { col = col; pending = false }
+Wants l (Vpa row) s t = t ≡ record s { row = row; pending = false }
+Wants l Cub1 s t = t ≡ record s { col = s.col - 1 }
+Wants l Cuf1 s t = t ≡ record s { col = s.col + 1 }
+Wants l Cuu1 s t = t ≡ record s { row = s.row - 1 }
+Wants l Cud1 s t = t ≡ record s { row = s.row + 1 }
+Wants l (Cub n) s t = t ≡ record s { col = s.col - n }
+Wants l (Cuf n) s t = t ≡ record s { col = s.col + n }
+Wants l (Cuu n) s t = t ≡ record s { row = s.row - n }
+Wants l (Cud n) s t = t ≡ record s { row = s.row + n }
+Wants l El s t = Blanks (λ i j. (i == s.row) && nat_le s.col j) s t
+Wants l El1 s t = Blanks (λ i j. (i == s.row) && nat_le j s.col) s t
+Wants l Ed s t = Blanks (λ i j. nat_lt s.row i || ((i == s.row) && nat_le s.col j)) s t
+Wants l (Ech n) s t = Blanks (λ i j. (i == s.row) && (nat_le s.col j && nat_lt j (s.col + n))) s t
+Wants l (Sgr a) s t = HasJust (shown l a) s t
+Wants l Sgr0 s t = Renders plain s t
+Wants l (Setaf c) s t = t ≡ record s { rendition = record s.rendition { foreground = Some c } }
+Wants l (Setab c) s t = t ≡ record s { rendition = record s.rendition { background = Some c } }
+Wants l Op s t = t ≡ record s { rendition = record s.rendition { foreground = None; background = None } }
+Wants l Smul s t = Renders (record s.rendition { underline = true }) s t
+Wants l Rev s t = Renders (record s.rendition { negative = true }) s t
+Wants l Blink s t = Renders (record s.rendition { blink = true }) s t
+Wants l Dim s t = Renders (record s.rendition { faint = true }) s t
+Wants l Bold s t = Renders (record s.rendition { bold = true }) s t
+Wants l Invis s t = Renders (record s.rendition { concealed = true }) s t
+Wants l Smso s t = Renders (adding l.standout s.rendition) s t
+Wants l Enacs s t = t ≡ record s { charset = t.charset }
+Wants l Smacs s t = t ≡ record s { charset = t.charset }
+Wants l Rmacs s t = t ≡ record s { charset = t.charset }
+Wants l (Csr top bottom) s t = t ≡ record s { top = top; bottom = bottom; row = t.row; col = t.col; pending = t.pending }
+Wants l Ind s t = t ≡ record s { grid = scrolled_up s.top s.bottom 1 (blank s.rendition) s.grid }
+Wants l Ri s t = t ≡ record s { grid = scrolled_down s.top s.bottom 1 (blank s.rendition) s.grid }
+Wants l Civis s t = t ≡ record s { visible = false }
+Wants l Cnorm s t = t ≡ record s { visible = true }
+Wants l Cvvis s t = Appears s t
+Wants l Smcup s t = t ≡ record s { grid = t.grid; row = t.row; col = t.col; pending = t.pending; rendition = t.rendition; charset = t.charset }
+Wants l Rmcup s t = t ≡ record s { grid = t.grid; row = t.row; col = t.col; pending = t.pending; rendition = t.rendition; charset = t.charset }
+Wants l Bel s t = t ≡ s

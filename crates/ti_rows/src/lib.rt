@@ -1,0 +1,14 @@
+//! The table of checked capabilities: for each its parameters, the states from which its string is
+//! judged, the effect that is asked of it, and what is wanted of the screen in the end.
+#![tactic(auto)]
+
+mod asking;
+mod bits;
+mod judging;
+pub mod laws;
+mod learning;
+mod rows;
+mod starts;
+
+pub use judging::does_as_wanted;
+pub use rows::{Attributes, Looks, Marks, Row};

@@ -1,0 +1,94 @@
+use vt_term::Color;
+
+/// The attributes that a parameter list of `sgr` asks for. The other two of its nine numbers, for
+/// protection and for the alternate set, are 0.
+#[derive(Clone, Copy, Debug, PartialEq, Eq)]
+pub struct Attributes {
+    pub standout: bool,
+    pub underline: bool,
+    pub reverse: bool,
+    pub blink: bool,
+    pub dim: bool,
+    pub bold: bool,
+    pub invisible: bool,
+}
+
+/// The six marks of a rendition (ECMA-48 8.3.117, SGR).
+#[derive(Clone, Copy, Debug, PartialEq, Eq)]
+pub struct Marks {
+    pub bold: bool,
+    pub faint: bool,
+    pub underline: bool,
+    pub blink: bool,
+    pub negative: bool,
+    pub concealed: bool,
+}
+
+/// How each attribute looks alone: standout by any marks, each other by its own mark or by none.
+#[derive(Clone, Copy, Debug, PartialEq, Eq)]
+pub struct Looks {
+    pub standout: Marks,
+    pub underline: bool,
+    pub reverse: bool,
+    pub blink: bool,
+    pub dim: bool,
+    pub bold: bool,
+    pub invisible: bool,
+}
+
+/// A checked capability with its parameters; each variant has its capability's name in terminfo(5).
+/// Rows and columns are counted from 0.
+#[derive(Clone, Copy, Debug, PartialEq, Eq)]
+pub enum Row {
+    Clear,
+    /// To this row and column.
+    Cup(u16, u16),
+    Home,
+    Cr,
+    /// To this column.
+    Hpa(u16),
+    /// To this row.
+    Vpa(u16),
+    Cub1,
+    Cuf1,
+    Cuu1,
+    Cud1,
+    /// Left by so many columns.
+    Cub(u16),
+    /// Right by so many columns.
+    Cuf(u16),
+    /// Up by so many rows.
+    Cuu(u16),
+    /// Down by so many rows.
+    Cud(u16),
+    El,
+    El1,
+    Ed,
+    /// So many cells.
+    Ech(u16),
+    Sgr(Attributes),
+    Sgr0,
+    Setaf(Color),
+    Setab(Color),
+    Op,
+    Smul,
+    Rev,
+    Blink,
+    Dim,
+    Bold,
+    Invis,
+    Smso,
+    Enacs,
+    Smacs,
+    Rmacs,
+    /// The first and the last line of the region that scrolls.
+    Csr(u16, u16),
+    Ind,
+    Ri,
+    Civis,
+    Cnorm,
+    Cvvis,
+    Smcup,
+    Rmcup,
+    Bel,
+}

@@ -1,0 +1,7 @@
+-- The numbers that are left lead from the screen now to where all of them lead from the first.
+use Rattle.std.proofs.Common.{◌≡◌, drop}
+use Rattle.vt_screen.specs.Step.{all_modes_set}
+use Rattle.vt_screen.proofs.displays.Display.set_modes.Given as goal
+
+abbrev pub invariant-loop-number : goal.invariant-loop-number
+invariant-loop-number l = all_modes_set l.kind l.on (drop l.number-index l.numbers) l.self ≡ all_modes_set l.kind l.on l.numbers l.fn.self

@@ -1,0 +1,11 @@
+-- The bytes that were gone through are run.
+use Rattle.std.proofs.Common.{◌≡◌, take}
+use Rattle.vt_term.specs.Run.{Runs}
+use Rattle.vt_term.proofs.terminals.Terminal.feed.Given as goal
+
+abbrev pub invariant-loop-at : goal.invariant-loop-at
+invariant-loop-at l = record {
+  runs : Runs l.fn.self (take l.at l.bytes) l.self;
+  rows : l.self.screen.rows ≡ l.fn.self.screen.rows;
+  cols : l.self.screen.cols ≡ l.fn.self.screen.cols;
+}

@@ -1,0 +1,333 @@
+//! The parser: what each byte does to an open sequence, and the function that a finished one names.
+
+ghost use Rattle.std.specs.Prelude.{◌≡◌, ℕ, ◌+◌, ◌-◌, ◌*◌, ◌<◌, ◌≤◌, min, true, false, List, [], ◌∷◌, ◌++◌, length, IfOk, Option, vec_capacity};
+ghost use Rattle.std.specs.Option.{unwrap_or};
+ghost use Rattle.vt_term.specs.Parameters as spec;
+ghost use Rattle.vt_term.specs.Text.{IsOpen, IsWhole, Cuts};
+ghost use Rattle.vt_term.specs.Function.{function_of};
+ghost use Rattle.vt_term.specs.Fault.{IsTransition, IsOutsideTransition, IsIntroducerTransition, IsEscapeTransition, IsInsideTransition};
+ghost use Rattle.vt_term.specs.ParserStates.{IsAt, NamesNothing};
+
+use crate::functions::{designation, escape_final, of_numbers, of_private_numbers, single};
+use crate::open_bytes::OpenBytes;
+use std::alloc::{AllocError, Global};
+use std::marker::Model;
+use vt_screen::{CodeElement, Function};
+
+const ESCAPE: u8 = 27;
+
+const CANCEL: u8 = 24;
+
+const SUBSTITUTE: u8 = 26;
+
+/// The most bytes that a sequence has.
+const SEQUENCE_LIMIT: usize = 256;
+
+/// What a byte does behind what is open.
+pub(crate) enum Transition {
+    /// The sequence stays open.
+    Opens,
+    /// The token is whole.
+    Ends,
+    /// What is open is dropped, and the byte begins another sequence.
+    Restarts,
+    /// What is open is dropped, and the byte is a control.
+    Cancels,
+    Fails,
+}
+
+/// How far the reading of a sequence has come.
+#[derive(Clone, Copy)]
+pub(crate) enum ParserState {
+    /// Outside sequences.
+    Outside,
+    /// Behind ESC.
+    Escape,
+    /// Behind ESC `(`.
+    DesignatesG0,
+    /// Behind ESC `)`.
+    DesignatesG1,
+    /// Behind ESC and other intermediate bytes.
+    Intermediate,
+    /// Behind ESC `[`.
+    Introduced,
+    /// Behind ESC `[` with digits and semicolons.
+    Parameters,
+    /// Behind ESC `[?`, alone or with digits and semicolons.
+    PrivateParameters,
+    /// Behind ESC `[` with other parameter bytes.
+    OtherParameters,
+    /// Behind ESC `[` with intermediate bytes.
+    Closed,
+}
+
+/// The bytes so far of a sequence, as what they mean for the bytes to come.
+#[derive(Drop)]
+pub(crate) struct Parser {
+    stage: ParserState,
+    /// The numbers so far of a control sequence, the one that is being read last.
+    numbers: Vec<Option<u16>>,
+    count: usize,
+    open_bytes: OpenBytes,
+}
+
+impl Model for Parser {
+    ghost use Rattle.std.specs.Prelude.{List, ℕ, vec_capacity};
+    ghost use Rattle.vt_term.specs.ParserStates.{IsParsing};
+
+    ghost Value = { List ℕ };
+
+    ghost view = { λ r. r.open_bytes.bytes };
+
+    ghost invariant = { λ r. IsParsing r.stage r.numbers.items r.count (vec_capacity r.numbers) r.open_bytes.bytes };
+}
+
+impl Parser {
+    /// Nothing is open. All the memory that reading takes is asked for here.
+    pub(crate) fn new(alloc: Global) -> Result<Parser, AllocError>
+        ensures { IfOk result (λ parser. parser ≡ []) }
+    {
+        Ok(Parser {
+            stage: ParserState::Outside,
+            numbers: Vec::with_capacity(alloc, SEQUENCE_LIMIT)?,
+            count: 0,
+            open_bytes: OpenBytes::new(),
+        })
+    }
+
+    /// What a byte does behind an open sequence, or outside one if nothing is open.
+    pub(crate) fn transition(&self, byte: u8) -> Transition
+        ensures transition { IsTransition self.now byte result }
+        ensures begun { IsOpen self.now }
+    {
+        match self.stage {
+            ParserState::Outside => transition_outside(byte),
+            _ => match byte {
+                ESCAPE => Transition::Restarts,
+                CANCEL | SUBSTITUTE => Transition::Cancels,
+                _ => self.transition_open(byte),
+            },
+        }
+    }
+
+    /// What a byte that doesn't cut it off does behind an open sequence.
+    fn transition_open(&self, byte: u8) -> Transition
+        requires some { 0 < length self.now }
+        requires goes_on { Cuts byte → ⊥ }
+        ensures { IsTransition self.now byte result }
+    {
+        let has_room = self.count + 1 < SEQUENCE_LIMIT;
+        match self.stage {
+            ParserState::Outside => Transition::Fails,
+            ParserState::Escape => transition_introducer(byte),
+            ParserState::DesignatesG0 | ParserState::DesignatesG1 | ParserState::Intermediate => {
+                transition_escape(byte, has_room)
+            }
+            ParserState::Closed => transition_inside(true, byte, has_room),
+            ParserState::Introduced
+            | ParserState::Parameters
+            | ParserState::PrivateParameters
+            | ParserState::OtherParameters => transition_inside(false, byte, has_room),
+        }
+    }
+
+    /// Takes a byte with which the sequence stays open.
+    pub(crate) fn open(&mut self, byte: u8)
+        requires { IsOpen (self.old ++ byte ∷ []) }
+        ensures { self.new ≡ self.old ++ byte ∷ [] }
+    {
+        self.stage = behind(self.stage, &mut self.numbers, byte);
+        self.count += 1;
+        self.open_bytes = self.open_bytes.then(&byte);
+    }
+
+    /// Drops what is open.
+    pub(crate) fn clear(&mut self)
+        ensures { self.new ≡ [] }
+    {
+        self.stage = ParserState::Outside;
+        self.numbers.clear();
+        self.count = 0;
+        self.open_bytes = OpenBytes::new();
+    }
+
+    /// What the token asks for that this byte ends.
+    pub(crate) fn function(&self, byte: u8) -> Function<'_>
+        requires { IsWhole (self.now ++ byte ∷ []) }
+        ensures { result ≡ function_of (self.now ++ byte ∷ []) }
+    {
+        ended(self.stage, &self.numbers, byte)
+    }
+
+    /// How far the reading has come, and the numbers so far.
+    pub(crate) fn parts(&self) -> (ParserState, &[Option<u16>])
+        ensures { IsAt result.0 result.1.now self.now }
+    {
+        (self.stage, &self.numbers)
+    }
+}
+
+/// What the token asks for that this byte ends.
+pub(crate) fn ended(stage: ParserState, numbers: &[Option<u16>], byte: u8) -> Function<'_>
+    ensures { (begun : List ℕ) → IsAt stage numbers.now begun → IsWhole (begun ++ byte ∷ []) → result ≡ function_of (begun ++ byte ∷ []) }
+{
+    match stage {
+        ParserState::Outside => single(byte),
+        ParserState::Escape => escape_final(byte),
+        ParserState::DesignatesG0 => designation(CodeElement::G0, byte),
+        ParserState::DesignatesG1 => designation(CodeElement::G1, byte),
+        ParserState::Introduced | ParserState::Parameters => of_numbers(byte, numbers),
+        ParserState::PrivateParameters => of_private_numbers(byte, numbers),
+        ParserState::Intermediate | ParserState::OtherParameters | ParserState::Closed =>
+            Function::Ignored,
+    }
+}
+
+fn transition_outside(byte: u8) -> Transition
+    ensures { IsOutsideTransition byte result }
+{
+    match byte {
+        ESCAPE => Transition::Opens,
+        0..=127 => Transition::Ends,
+        _ => Transition::Fails,
+    }
+}
+
+fn transition_introducer(byte: u8) -> Transition
+    ensures { IsIntroducerTransition byte result }
+{
+    match byte {
+        b'[' | 0x20..=0x2f => Transition::Opens,
+        b'P' | b'X' | b']' | b'^' | b'_' => Transition::Fails,
+        0x30..=0x7e => Transition::Ends,
+        _ => Transition::Fails,
+    }
+}
+
+/// What a byte does behind ESC and intermediate bytes.
+fn transition_escape(byte: u8, has_room: bool) -> Transition
+    ensures { IsEscapeTransition byte has_room result }
+{
+    match byte {
+        0x30..=0x7e => Transition::Ends,
+        0x20..=0x2f if has_room => Transition::Opens,
+        _ => Transition::Fails,
+    }
+}
+
+/// What a byte does in a control sequence, in which intermediate bytes have come or not.
+fn transition_inside(closed: bool, byte: u8, has_room: bool) -> Transition
+    ensures { IsInsideTransition closed byte has_room result }
+{
+    match byte {
+        0x40..=0x7e => Transition::Ends,
+        0x20..=0x2f if has_room => Transition::Opens,
+        0x30..=0x3f if has_room && !closed => Transition::Opens,
+        _ => Transition::Fails,
+    }
+}
+
+/// The stage and the numbers behind one byte more, with which the sequence stays open.
+fn behind(stage: ParserState, numbers: &mut Vec<Option<u16>>, byte: u8) -> ParserState
+    requires { length numbers.old.items < vec_capacity numbers.old }
+    ensures at { (begun : List ℕ) → IsAt stage numbers.old.items begun → IsOpen (begun ++ byte ∷ []) → IsAt result numbers.new.items (begun ++ byte ∷ []) }
+    ensures few { length numbers.new.items ≤ length numbers.old.items + 1 }
+    ensures room { vec_capacity numbers.old ≤ vec_capacity numbers.new }
+{
+    match stage {
+        ParserState::Outside => ParserState::Escape,
+        ParserState::Escape => behind_escape(numbers, byte),
+        ParserState::DesignatesG0 | ParserState::DesignatesG1 | ParserState::Intermediate =>
+            ParserState::Intermediate,
+        ParserState::Introduced if byte == b'?' => ParserState::PrivateParameters,
+        ParserState::Introduced => behind_number(ParserState::Parameters, numbers, byte),
+        ParserState::Parameters => behind_number(ParserState::Parameters, numbers, byte),
+        ParserState::PrivateParameters => behind_number(
+            ParserState::PrivateParameters,
+            numbers,
+            byte,
+        ),
+        ParserState::OtherParameters | ParserState::Closed => unnamed(byte),
+    }
+}
+
+/// The stage behind ESC and a byte that doesn't end the sequence.
+fn behind_escape(numbers: &mut Vec<Option<u16>>, byte: u8) -> ParserState
+    requires { length numbers.old.items < vec_capacity numbers.old }
+    ensures at { IsAt result numbers.new.items (27 ∷ byte ∷ []) }
+    ensures few { length numbers.new.items ≤ length numbers.old.items + 1 }
+    ensures room { vec_capacity numbers.old ≤ vec_capacity numbers.new }
+{
+    match byte {
+        b'[' => {
+            numbers.clear();
+            numbers.push(None).unwrap();
+            ParserState::Introduced
+        }
+        b'(' => ParserState::DesignatesG0,
+        b')' => ParserState::DesignatesG1,
+        _ => ParserState::Intermediate,
+    }
+}
+
+/// The stage behind numbers and a byte, which is the given one if the numbers go on.
+fn behind_number(stage: ParserState, numbers: &mut Vec<Option<u16>>, byte: u8) -> ParserState
+    requires { length numbers.old.items < vec_capacity numbers.old }
+    ensures stage { spec.is_numeral byte ≡ true → result ≡ stage }
+    ensures numbers { spec.is_numeral byte ≡ true → (front : List ℕ) → numbers.old.items ≡ spec.numbers front → numbers.new.items ≡ spec.numbers (front ++ byte ∷ []) }
+    ensures unnamed { spec.is_numeral byte ≡ false → (begun : List ℕ) → NamesNothing (begun ++ byte ∷ []) → IsAt result numbers.new.items (begun ++ byte ∷ []) }
+    ensures few { length numbers.new.items ≤ length numbers.old.items + 1 }
+    ensures room { vec_capacity numbers.old ≤ vec_capacity numbers.new }
+{
+    if is_numeral(byte) {
+        read_numeral(numbers, byte);
+        stage
+    } else {
+        unnamed(byte)
+    }
+}
+
+/// The stage behind a byte of a control sequence that names no function.
+fn unnamed(byte: u8) -> ParserState
+    ensures { (begun : List ℕ) (numbers : List (Option ℕ)) → NamesNothing (begun ++ byte ∷ []) → IsAt result numbers (begun ++ byte ∷ []) }
+{
+    match byte {
+        0x20..=0x2f => ParserState::Closed,
+        _ => ParserState::OtherParameters,
+    }
+}
+
+/// Takes a digit or a semicolon more of the numbers.
+fn read_numeral(numbers: &mut Vec<Option<u16>>, byte: u8)
+    requires numeral { spec.is_numeral byte ≡ true }
+    requires room { length numbers.old.items < vec_capacity numbers.old }
+    ensures numbers { (front : List ℕ) → numbers.old.items ≡ spec.numbers front → numbers.new.items ≡ spec.numbers (front ++ byte ∷ []) }
+    ensures few { length numbers.new.items ≤ length numbers.old.items + 1 }
+    ensures room { vec_capacity numbers.old ≤ vec_capacity numbers.new }
+{
+    if byte == b';' {
+        numbers.push(None).unwrap();
+    } else {
+        let number = numbers.pop().unwrap_or(None);
+        numbers.push(Some(with_digit(number, byte))).unwrap();
+    }
+}
+
+/// The number with one more digit; above 65535 it stays there.
+fn with_digit(number: Option<u16>, digit: u8) -> u16
+    requires low { 48 ≤ digit }
+    requires high { digit ≤ 57 }
+    ensures { result ≡ min 65535 (10 * unwrap_or number 0 + (digit - 48)) }
+{
+    number
+        .unwrap_or(0)
+        .saturating_mul(10)
+        .saturating_add(u16::from(digit - b'0'))
+}
+
+/// A digit or a semicolon.
+fn is_numeral(byte: u8) -> bool
+    ensures { result ≡ spec.is_numeral byte }
+{
+    byte.is_ascii_digit() || byte == b';'
+}

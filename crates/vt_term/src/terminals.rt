@@ -1,0 +1,156 @@
+//! `Terminal`: a display with a parser, fed with bytes.
+
+ghost use Rattle.std.specs.Prelude.{◌≡◌, ◌<◌, IfOk, IfErr, OnOk};
+ghost use Rattle.vt_screen.specs.Grid.{look_at};
+
+use crate::parser::{Parser, Transition};
+use std::alloc::{AllocError, Global};
+use std::marker::Model;
+use thiserror::Error;
+use vt_screen::{Cell, Display, Rendition, Size};
+
+/// A byte of a stream that fits nothing, by its place in what was fed.
+#[derive(Clone, Copy, Debug, PartialEq, Eq, Error)]
+#[error("Stuck {at}")]
+pub struct Stuck {
+    pub at: usize,
+}
+
+/// A terminal: the display with its modes, and what has come of a sequence.
+#[derive(Drop)]
+pub struct Terminal {
+    pub(crate) display: Display,
+    parser: Parser,
+}
+
+impl Model for Terminal {
+    ghost use Rattle.vt_term.specs.Screen.{State};
+    ghost use Rattle.vt_term.specs.Text.{IsOpen};
+
+    ghost Value = { State };
+
+    ghost view = { λ t. record { screen = t.display; rest = t.parser } };
+
+    ghost invariant = { λ t. IsOpen t.parser };
+}
+
+impl Terminal {
+    ghost use Rattle.vt_term.specs.Screen.{reset, IsState};
+    ghost use Rattle.vt_term.specs.Run.{Runs, Sticks, Accepts};
+    ghost use Rattle.vt_screen.specs.Printed.{screen_text};
+
+    /// A terminal in the reset state.
+    pub fn new(alloc: Global, size: Size) -> Result<Terminal, AllocError>
+        ensures { IfOk result (λ terminal. terminal ≡ reset size.rows size.cols) }
+    {
+        let parser = Parser::new(alloc)?;
+        let display = Display::new(alloc, size)?;
+        Ok(Terminal { display, parser })
+    }
+
+    /// Takes more of the stream, in pieces of any length. At a byte that fits nothing it stops: the
+    /// bytes before it were taken, and what was open is dropped.
+    pub fn feed(&mut self, bytes: &[u8]) -> Result<(), Stuck>
+        ensures ok { OnOk result (Runs self.old bytes.now self.new) }
+        ensures stuck { IfErr result (λ e. Sticks self.old bytes.now e.at self.new) }
+        ensures rows { self.new.screen.rows ≡ self.old.screen.rows }
+        ensures cols { self.new.screen.cols ≡ self.old.screen.cols }
+    {
+        let _ = &self.parser;
+        for (at, byte) in bytes.iter().enumerate() {
+            if !self.accept(*byte) {
+                return Err(Stuck { at });
+            }
+        }
+        Ok(())
+    }
+
+    /// Takes one byte. If it fits nothing, what was open is dropped.
+    fn accept(&mut self, byte: u8) -> bool
+        ensures accepts { Accepts self.old byte result self.new }
+        ensures rows { self.new.screen.rows ≡ self.old.screen.rows }
+        ensures cols { self.new.screen.cols ≡ self.old.screen.cols }
+    {
+        match self.parser.transition(byte) {
+            Transition::Opens => {
+                self.parser.open(byte);
+                true
+            }
+            Transition::Ends => {
+                let _ = self.display.size();
+                self.display.act(self.parser.function(byte));
+                self.parser.clear();
+                true
+            }
+            Transition::Restarts => {
+                self.parser.clear();
+                self.parser.open(byte);
+                true
+            }
+            Transition::Cancels => {
+                self.parser.clear();
+                true
+            }
+            Transition::Fails => {
+                self.parser.clear();
+                false
+            }
+        }
+    }
+
+    /// The size. The state is always one of that size.
+    pub fn size(&self) -> Size
+        ensures rows { result.rows ≡ self.now.screen.rows }
+        ensures cols { result.cols ≡ self.now.screen.cols }
+        ensures state { IsState self.now }
+    {
+        let _ = &self.display;
+        self.display.size()
+    }
+
+    /// What stands in a place, whose row and column the caller keeps within the size.
+    pub fn cell(&self, row: usize, col: usize) -> Cell
+        requires row_within { row < self.now.screen.rows }
+        requires col_within { col < self.now.screen.cols }
+        ensures { result ≡ look_at self.now.screen.grid row col }
+    {
+        self.display.cell(row, col)
+    }
+
+    /// The cursor's row and column.
+    pub fn cursor(&self) -> (usize, usize)
+        ensures row { result.0 ≡ self.now.screen.row }
+        ensures col { result.1 ≡ self.now.screen.col }
+    {
+        self.display.cursor()
+    }
+
+    /// Whether the last column was printed, so that the next character goes to the next line.
+    pub fn pending(&self) -> bool
+        ensures { result ≡ self.now.screen.pending }
+    {
+        self.display.pending()
+    }
+
+    /// The rendition that the next character takes.
+    pub fn rendition(&self) -> Rendition
+        ensures { result ≡ self.now.screen.rendition }
+    {
+        self.display.rendition()
+    }
+
+    /// Whether the cursor can be seen.
+    pub fn visible(&self) -> bool
+        ensures { result ≡ self.now.screen.visible }
+    {
+        self.display.visible()
+    }
+
+    /// The screen as a text: a line for each row, the cursor's line, and a line for each run of cells
+    /// that are shown in one way and not plainly.
+    pub fn print_screen(&self, alloc: Global) -> Result<Vec<u8>, AllocError>
+        ensures { IfOk result (λ text. text.items ≡ screen_text self.now.screen) }
+    {
+        self.display.print_screen(alloc)
+    }
+}

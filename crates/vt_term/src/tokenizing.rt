@@ -1,0 +1,216 @@
+//! Splitting a text into its tokens.
+
+ghost use Rattle.std.specs.Prelude.{◌≡◌, ◌+◌, ◌<◌, ◌≤◌, [], ◌∷◌, ◌++◌, length, IfOk, IfErr, OnOk, IfSome, ℕ, List};
+ghost use Rattle.vt_term.specs.Text.{IsOpen, IsWhole, Splits};
+ghost use Rattle.vt_term.specs.Function.{function_of};
+ghost use Rattle.vt_term.specs.Run.{place_of, LeadsTo, Reaches};
+ghost use Rattle.vt_term.specs.Fault.{TellsFault};
+
+use crate::parser::{Parser, ParserState, Transition, ended};
+use std::alloc::{AllocError, Global};
+use std::error::Error;
+use std::fmt;
+use std::marker::Model;
+use vt_screen::{Function, Size};
+
+/// One token of a text, as its bytes.
+#[derive(Drop)]
+pub struct Token {
+    bytes: Vec<u8>,
+    /// What was read before the last byte, nothing for a sequence that was cut off.
+    stage: Option<ParserState>,
+    numbers: Vec<Option<u16>>,
+}
+
+impl Model for Token {
+    ghost use Rattle.std.specs.Prelude.{List, ℕ};
+    ghost use Rattle.vt_term.specs.ParserStates.{IsTold};
+
+    ghost Value = { List ℕ };
+
+    ghost view = { λ t. t.bytes.items };
+
+    ghost invariant = { λ t. IsTold t.stage t.numbers.items t.bytes.items };
+}
+
+impl Token {
+    /// The token that its last byte ends.
+    fn ended(alloc: Global, parser: &Parser, bytes: &[u8]) -> Result<Token, AllocError>
+        requires whole { IsWhole bytes.now }
+        requires read { (last : ℕ) × (bytes.now ≡ parser.now ++ last ∷ []) }
+        ensures { IfOk result (λ token. token ≡ bytes.now) }
+    {
+        let (stage, numbers) = parser.parts();
+        Ok(Token {
+            bytes: Vec::from_slice(alloc, bytes)?,
+            stage: Some(stage),
+            numbers: Vec::from_slice(alloc, numbers)?,
+        })
+    }
+
+    /// A sequence that was cut off.
+    fn dropped(alloc: Global, bytes: &[u8]) -> Result<Token, AllocError>
+        requires { IsOpen bytes.now }
+        ensures { IfOk result (λ token. token ≡ bytes.now) }
+    {
+        Ok(Token {
+            bytes: Vec::from_slice(alloc, bytes)?,
+            stage: None,
+            numbers: Vec::new(alloc),
+        })
+    }
+
+    /// The bytes that the token has in the text.
+    pub fn bytes(&self) -> &[u8]
+        ensures { result.now ≡ self.now }
+    {
+        &self.bytes
+    }
+
+    /// What the token asks for.
+    pub fn function(&self) -> Function<'_>
+        ensures { result ≡ function_of self.now }
+    {
+        match (self.stage, self.bytes.as_slice()) {
+            (Some(stage), [.., last]) => ended(stage, &self.numbers, *last),
+            _ => Function::Ignored,
+        }
+    }
+
+    /// Where the token leaves the cursor of every terminal of this size, in whatever state it was: a
+    /// place for CUP, `None` for all others.
+    pub fn place(&self, size: Size) -> Option<(usize, usize)>
+        ensures value { result ≡ place_of size.rows size.cols self.now }
+        ensures leads { IfSome result (λ place. LeadsTo size.rows size.cols self.now place.0 place.1) }
+    {
+        match self.function() {
+            Function::CursorPosition(row, col) => Some((
+                (row as usize).saturating_sub(1).min(size.rows - 1),
+                (col as usize).saturating_sub(1).min(size.cols - 1),
+            )),
+            _ => None,
+        }
+    }
+}
+
+/// Where a text of these tokens leaves the cursor from every state at rest, if its last token says so.
+pub fn place_after(tokens: &[Token], size: Size) -> Option<(usize, usize)>
+    ensures leads { IfSome result (λ place. (bytes : List ℕ) → Splits bytes tokens.now [] → Reaches size.rows size.cols bytes place.0 place.1) }
+    ensures last { (front : List (List ℕ)) (token : List ℕ) → tokens.now ≡ front ++ token ∷ [] → result ≡ place_of size.rows size.cols token }
+    ensures empty { tokens.now ≡ [] → result ≡ None }
+{
+    match tokens {
+        [.., last] => last.place(size),
+        [] => None,
+    }
+}
+
+/// Why a text is no concatenation of tokens.
+#[derive(Clone, Copy, Debug, PartialEq, Eq)]
+pub enum TokenFaultKind {
+    /// A sequence that begins at the place isn't whole where the text ends.
+    Unfinished,
+    /// The byte at the place fits nothing.
+    Stuck,
+    /// A request for memory was refused.
+    NoMemory,
+}
+
+/// The first fault of a text, and its place.
+#[derive(Clone, Copy, Debug, PartialEq, Eq)]
+pub struct TokenFault {
+    pub at: usize,
+    pub kind: TokenFaultKind,
+}
+
+/// A request for memory was refused; the place says nothing.
+const REFUSED: TokenFault = TokenFault {
+    at: 0,
+    kind: TokenFaultKind::NoMemory,
+};
+
+impl fmt::Display for TokenFault {
+    fn fmt<W: fmt::Write>(&self, f: &mut fmt::Formatter<W>) -> fmt::Result {
+        let at = self.at;
+        match self.kind {
+            TokenFaultKind::Unfinished => write!(f, "Unfinished {at}"),
+            TokenFaultKind::Stuck => write!(f, "Stuck {at}"),
+            TokenFaultKind::NoMemory => write!(f, "NoMemory"),
+        }
+    }
+}
+
+impl Error for TokenFault {}
+
+/// The tokens of a whole text.
+pub fn tokens(alloc: Global, bytes: &[u8]) -> Result<Vec<Token>, TokenFault>
+    ensures whole { IfOk result (λ ts. Splits bytes.now ts.items []) }
+    ensures fault { IfErr result (λ e. TellsFault bytes.now e) }
+{
+    let mut parser = Parser::new(alloc).map_err(|_| REFUSED)?;
+    let mut found = Vec::new(alloc);
+    let mut start = 0;
+    for (at, byte) in bytes.iter().enumerate() {
+        match parser.transition(*byte) {
+            Transition::Opens => parser.open(*byte),
+            Transition::Ends => {
+                push_ended(alloc, &mut found, &parser, &bytes[start..at + 1])?;
+                parser.clear();
+                start = at + 1;
+            }
+            Transition::Restarts => {
+                push_dropped(alloc, &mut found, &bytes[start..at])?;
+                parser.clear();
+                parser.open(*byte);
+                start = at;
+            }
+            Transition::Cancels => {
+                push_dropped(alloc, &mut found, &bytes[start..at])?;
+                parser.clear();
+                push_ended(alloc, &mut found, &parser, &bytes[at..at + 1])?;
+                start = at + 1;
+            }
+            Transition::Fails => return Err(stuck(at)),
+        }
+    }
+    if start < bytes.len() {
+        return Err(TokenFault {
+            at: start,
+            kind: TokenFaultKind::Unfinished,
+        });
+    }
+    Ok(found)
+}
+
+fn stuck(at: usize) -> TokenFault
+    ensures { result ≡ record { at = at; kind = TokenFaultKind.Stuck } }
+{
+    TokenFault {
+        at,
+        kind: TokenFaultKind::Stuck,
+    }
+}
+
+fn push_ended(
+    alloc: Global,
+    found: &mut Vec<Token>,
+    parser: &Parser,
+    bytes: &[u8],
+) -> Result<(), TokenFault>
+    requires whole { IsWhole bytes.now }
+    requires read { (last : ℕ) × (bytes.now ≡ parser.now ++ last ∷ []) }
+    ensures ok { OnOk result (found.new.items ≡ found.old.items ++ bytes.now ∷ []) }
+    ensures fault { IfErr result (λ e. e.kind ≡ TokenFaultKind.NoMemory) }
+{
+    let token = Token::ended(alloc, parser, bytes).map_err(|_| REFUSED)?;
+    found.push(token).map_err(|_| REFUSED)
+}
+
+fn push_dropped(alloc: Global, found: &mut Vec<Token>, bytes: &[u8]) -> Result<(), TokenFault>
+    requires { IsOpen bytes.now }
+    ensures ok { OnOk result (found.new.items ≡ found.old.items ++ bytes.now ∷ []) }
+    ensures fault { IfErr result (λ e. e.kind ≡ TokenFaultKind.NoMemory) }
+{
+    let token = Token::dropped(alloc, bytes).map_err(|_| REFUSED)?;
+    found.push(token).map_err(|_| REFUSED)
+}
