@@ -6,10 +6,13 @@ use Rattle.vt_screen.specs.Screen.{Screen, IsScreen}
 use Rattle.vt_screen.proofs.Keeps.{Kept}
 use Rattle.vt_term.specs.Screen.{State, IsOfSize}
 use Rattle.vt_term.specs.Text.{IsOpen, Splits, IsSplit}
-use Rattle.vt_term.specs.Step.{step, steps}
+use Rattle.vt_term.specs.Function.{Function}
+use Rattle.vt_term.specs.Step.{act, step, steps}
+use Rattle.vt_term.proofs.Dropping.{open_ignored}
 use Rattle.vt_term.specs.Run.{Runs, Sticks, RunsCut, LeadsTo, Reaches}
 use Rattle.vt_term.proofs.Keeps.{steps_kept}
-use Rattle.vt_term.proofs.Splitting.{GoesOn, goes_on, one_splitting, splits_append, splits_front, splits_open}
+use Rattle.vt_term.specs.Fronts.{GoesOn}
+use Rattle.vt_term.proofs.Splitting.{goes_on, one_splitting, splits_append, splits_front, splits_open}
 
 pub steps_append : (ts us : List (List ℕ)) (s : Screen) → steps (ts ++ us) s ≡ steps us (steps ts s)
 steps_append [] us s = refl
@@ -155,3 +158,15 @@ pub whole_text_first : (s t : State) (a b : List ℕ) (ts : List (List ℕ)) →
 whole_text_first s t a b ts e h k =
     let c : RunsCut s a b t = runs_cut s t a b k in
     subst (λ (x : State). Runs x b t) (runs_once s (record { screen = steps ts s.screen; rest = [] }) c.between a (text_runs s a ts e h) c.runs_first) c.runs_second
+
+-- ESC drops what is open
+from_open : (x : Screen) (r : List ℕ) (t : State) (bytes : List ℕ) → IsOpen r → Runs (record { screen = x; rest = [] }) (27 ∷ bytes) t → Runs (record { screen = x; rest = r }) (27 ∷ bytes) t
+from_open x [] t bytes o h = h
+from_open x (y ∷ ys) t bytes o h = record {
+  tokens = (y ∷ ys) ∷ h.tokens;
+  splits = (27 ∷ bytes, refl, inr (record { some = omega arith; fits = o; cut = inl refl }), h.splits);
+  screen = h.screen ∙ ap (λ (z : Screen). steps h.tokens z) (sym (ap (λ (f : Function). act f x) (open_ignored (y ∷ ys) o)));
+}
+
+pub escape_drops : (s t : State) (bytes : List ℕ) → IsOpen s.rest → Runs (record s { rest = [] }) (27 ∷ bytes) t → Runs s (27 ∷ bytes) t
+escape_drops s t bytes o h = from_open s.screen s.rest t bytes o h
