@@ -10,3 +10,4 @@ pub mod Dropping
 pub mod Running
 pub mod Moving
 pub mod Charsets
+pub mod AtOnce

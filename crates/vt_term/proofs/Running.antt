@@ -1,7 +1,7 @@
 -- Runs, one after another.
 use Rattle.std.proofs.Common.{◌≡◌, ℕ, ◌+◌, ◌<◌, ◌≤◌, List, [], ◌∷◌, ◌++◌, length, take, drop, get_or, ◌-◌, Option, None, Some, IfSome, zero, suc, inl, inr, length-append, refl, sym, ap, subst, ◌∙◌, arith, append_assoc}
 use Rattle.std.proofs.lemmas.Bool.{cases_lt}
-use Rattle.std.proofs.lemmas.List.{append-nil, take-take, take-append-drop, take_all, take_more, get_or_read}
+use Rattle.std.proofs.lemmas.List.{append-nil, take-take, take-append-drop, take_all, take_more, get_or_read, drop-take, length-drop}
 use Rattle.vt_screen.specs.Screen.{Screen, IsScreen}
 use Rattle.vt_screen.proofs.Keeps.{Kept}
 use Rattle.vt_term.specs.Screen.{State, IsOfSize}
@@ -170,3 +170,13 @@ from_open x (y ∷ ys) t bytes o h = record {
 
 pub escape_drops : (s t : State) (bytes : List ℕ) → IsOpen s.rest → Runs (record s { rest = [] }) (27 ∷ bytes) t → Runs s (27 ∷ bytes) t
 escape_drops s t bytes o h = from_open s.screen s.rest t bytes o h
+
+take_plus : (n m : ℕ) (xs : List ℕ) → take (n + m) xs ≡ take n xs ++ take m (drop n xs)
+take_plus n m xs = sym (take-append-drop n (take (n + m) xs)) ∙ ap (λ (l : List ℕ). l ++ drop n (take (n + m) xs)) (take-take n (n + m) xs (omega arith)) ∙ ap (λ (l : List ℕ). take n xs ++ l) (drop-take n m xs)
+
+-- so many bytes of what is left are run after those before them
+pub runs_further : (s t u : State) (bytes : List ℕ) (n m : ℕ) → Runs s (take n bytes) t → Runs t (take m (take (length bytes - n) (drop n bytes))) u → Runs s (take (n + m) bytes) u
+runs_further s t u bytes n m h k =
+    let left : take (length bytes - n) (drop n bytes) ≡ drop n bytes = take_all (length bytes - n) (drop n bytes) (omega (arith, length-drop n bytes)) in
+    let runs : Runs t (take m (drop n bytes)) u = subst (λ (l : List ℕ). Runs t (take m l) u) left k in
+    subst (λ (l : List ℕ). Runs s l u) (sym (take_plus n m bytes)) (runs_append s t u (take n bytes) (take m (drop n bytes)) h runs)
