@@ -1,6 +1,6 @@
 -- Grids of any cells, their places, lines and rectangles, and what each change makes of them. Rows and columns count
 -- from 0.
-use Rattle.std.specs.Prelude.{ℕ, ◌+◌, ◌-◌, ◌==◌, ◌&&◌, ◌≤◌, ◌<◌, ◌≡◌, nat_le, nat_lt, Bool, List, [], ◌∷◌, if◌then◌else◌, slice_index_or, replicate, length}
+use Rattle.std.specs.Prelude.{ℕ, ◌+◌, ◌-◌, ◌==◌, ◌&&◌, ◌≤◌, ◌<◌, ◌≡◌, nat_le, nat_lt, Bool, List, [], ◌∷◌, if◌then◌else◌, slice_index_or, slice_set, replicate, length}
 use Rattle.grids.specs.declared.areas.Area.{Area}
 use Rattle.grids.specs.declared.areas.Place.{Place}
 
@@ -115,6 +115,11 @@ part_redrawn from to make j old = if nat_le from j && nat_lt j to then make old 
 -- the cells of a line from a column on are laid over n cells from a column on
 abbrev pub part_merged : {A : Type 0} → ℕ → ℕ → ℕ → (A → A → A) → List A → ℕ → A → A
 part_merged to n from merge line j old = if nat_le to j && nat_lt j (to + n) then merge old (slice_index_or line (from + (j - to)) old) else old
+
+-- what f makes of these bytes stands in the places from a column on
+abbrev pub written : {A : Type 0} → (ℕ → A) → ℕ → List ℕ → List A → List A
+written f j [] line = line
+written f j (b ∷ bytes) line = written f (j + 1) bytes (slice_set line j (f b))
 
 -- n times x comes in at a column, and the cells from there on move right
 abbrev pub cells_inserted : {A : Type 0} → ℕ → ℕ → A → List A → ℕ → A → A

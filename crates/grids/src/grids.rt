@@ -1,11 +1,11 @@
 //! `Grid`: lines of cells, and what is done to its places, lines and rectangles.
 
-ghost use Rattle.std.specs.Prelude.{◌≡◌, ◌<◌, ◌≤◌, take, drop, ◌+◌, ◌-◌, [], length, IfOk, nat_lt};
-ghost use Rattle.grids.specs.Grids.{Fits, uniform, cell_at, line_at, copied, shifted, merged, drawn_in, taken, filled, redrawn, combined, moved_to, one, row_of, shape_of, kth, line_changed, cells_inserted, cells_deleted, part_filled, lines_filled, scrolled_up, scrolled_down, HasEvenLines};
+ghost use Rattle.std.specs.Prelude.{◌≡◌, ◌<◌, ◌≤◌, take, drop, ◌+◌, ◌-◌, [], length, slice_set, IfOk, nat_lt};
+ghost use Rattle.grids.specs.Grids.{Fits, uniform, cell_at, line_at, copied, shifted, merged, drawn_in, taken, filled, redrawn, combined, moved_to, one, row_of, shape_of, kth, line_changed, cells_inserted, cells_deleted, part_filled, lines_filled, scrolled_up, scrolled_down, written, HasEvenLines};
 
 use crate::areas::{Area, Place};
 use crate::lines::Line;
-use crate::rules::{Merge, Rule};
+use crate::rules::{Merge, Paint, Rule};
 use crate::scrolling::{fill_lines, lines_down, lines_up};
 use crate::shifting::{copy_line, merge_line};
 use std::alloc::{AllocError, Global};
@@ -105,6 +105,15 @@ impl<C: Copy> Grid<C> {
         ensures { self.new ≡ line_changed row (part_filled from to cell) self.old }
     {
         self.lines[row].fill_part(from, to, cell);
+    }
+
+    /// Writes a text from a place on, a cell for each byte, within the line.
+    pub fn write<P: Paint<C>>(&mut self, row: usize, col: usize, bytes: &[u8], paint: &P)
+        requires row_within { row < length self.old }
+        requires col_within { col + length bytes.now ≤ length (line_at self.old row) }
+        ensures { self.new ≡ slice_set self.old row (written (P.painted paint.now) col bytes.now (line_at self.old row)) }
+    {
+        self.lines[row].write(col, bytes, paint);
     }
 
     /// Inserts `n` copies of `cell` at a place; the cells from there on move right, and those pushed past the line's

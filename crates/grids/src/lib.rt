@@ -8,8 +8,9 @@ mod rewriting;
 mod rules;
 mod scrolling;
 mod shifting;
+mod writing;
 
 pub use areas::{Area, Place};
 pub use grids::Grid;
 pub use lines::Line;
-pub use rules::{Merge, Rule};
+pub use rules::{Merge, Paint, Rule};

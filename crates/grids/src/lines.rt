@@ -1,10 +1,11 @@
 //! `Line`: the cells of one row, and the loops over parts of it.
 
 ghost use Rattle.std.specs.Prelude.{◌≡◌, ◌<◌, ◌≤◌, ◌+◌, ◌-◌, ℕ, take, drop, length, replicate, slice_set, slice_index_or, IfOk};
-ghost use Rattle.grids.specs.Grids.{line_drawn, part_filled, part_taken, part_redrawn, part_merged, cells_inserted, cells_deleted};
+ghost use Rattle.grids.specs.Grids.{line_drawn, part_filled, part_taken, part_redrawn, part_merged, cells_inserted, cells_deleted, written};
 
 use crate::rewriting::{merge_cells, merge_within, redraw_cells};
-use crate::rules::{Merge, Rule};
+use crate::rules::{Merge, Paint, Rule};
+use crate::writing::write_cells;
 use std::alloc::{AllocError, Global};
 use std::marker::Model;
 
@@ -139,6 +140,14 @@ impl<C: Copy> Line<C> {
         ensures { self.new ≡ line_drawn (part_merged to n from (R.merged rule.now) self.old) 0 self.old }
     {
         merge_within(&mut self.cells, to, n, from, rule);
+    }
+
+    /// Writes a text from a column on, a cell for each byte.
+    pub fn write<P: Paint<C>>(&mut self, col: usize, bytes: &[u8], paint: &P)
+        requires { col + length bytes.now ≤ length self.old }
+        ensures { self.new ≡ written (P.painted paint.now) col bytes.now self.old }
+    {
+        write_cells(&mut self.cells, col, bytes, paint);
     }
 
     /// Inserts `n` copies of `cell`; the cells from there on move right, and those pushed past the end are lost.
