@@ -1,3 +1,4 @@
+pub mod Faulting
 pub mod Indexing
 pub mod Law
 pub mod Names

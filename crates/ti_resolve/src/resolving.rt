@@ -3,6 +3,7 @@
 ghost use Rattle.std.specs.Prelude.{◌≡◌, ◌<◌, [], IfOk, MatchResult, IsOk, length};
 ghost use Rattle.std.specs.List.{AllByRecursion};
 ghost use Rattle.ti_source.specs.Raw.{IsRaw};
+ghost use Rattle.ti_resolve.specs.Faults.{AnswersOnce, FaultsAreSo, WalksResolve};
 ghost use Rattle.ti_resolve.specs.Resolved.{ExpandsOnce, IsResolved, ResolvedOnce};
 ghost use Rattle.ti_resolve.specs.Walk.{Answers, FailsBy, enter, walk_of};
 
@@ -74,4 +75,19 @@ pub fn expands_once()
 /// A law: a name asks for one entry.
 pub fn resolved_once()
     ensures { ResolvedOnce }
+{}
+
+/// A law: a walk without a fault resolves the name.
+pub fn walks_resolve()
+    ensures { WalksResolve }
+{}
+
+/// A law: what each fault of the walk says of the entries and their uses is so.
+pub fn faults_are_so()
+    ensures { FaultsAreSo }
+{}
+
+/// A law: a name has one answer. Where the walk has a fault, no entry is the answer, and no other fault.
+pub fn answers_once()
+    ensures { AnswersOnce }
 {}
