@@ -2,6 +2,7 @@
 
 ghost use Rattle.std.specs.Prelude.{◌≡◌, ◌≢◌, ℕ, ◌<◌, ◌≤◌, ◌↔◌, Some, length, IfSome, IfNone, IsNone, ◌==◌};
 ghost use Rattle.std.specs.List as List;
+ghost use Rattle.ti_caps.specs.Names.{CountsAreStandard, NamesAreStandard};
 ghost use Rattle.ti_caps.specs.Table.{row_at, name_at, place_in, kind_of, count_of, position_of, place_from, place_of_rank, place_ranked, rank_key, key_of, unpadded, NamesRise, EachHasRank};
 
 use crate::table::{rank_at, row};
@@ -163,4 +164,10 @@ pub fn at_rank(rank: usize) -> Option<Cap>
 pub fn ranks_order_names()
     ensures rising { NamesRise }
     ensures each { EachHasRank }
+{}
+
+/// A law: the names are those of terminfo(5), each at its position among the booleans, numbers or strings.
+pub fn names_are_standard()
+    ensures counts { CountsAreStandard }
+    ensures names { NamesAreStandard }
 {}
