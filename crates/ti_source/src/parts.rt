@@ -26,7 +26,7 @@ pub(crate) enum Reading {
     Says(Field, usize),
 }
 
-fn is_kind(cap: Cap, wanted: Kind) -> bool
+pub(crate) fn is_kind(cap: Cap, wanted: Kind) -> bool
     ensures { result ≡ is_kind (kind_of cap) wanted }
 {
     kind(cap) == wanted
@@ -133,7 +133,7 @@ fn split_reading(alloc: Global, field: &[u8]) -> Result<Reading, FaultKind>
     }
 }
 
-fn is_skipped(field: &[u8]) -> bool
+pub(crate) fn is_skipped(field: &[u8]) -> bool
     ensures { result ≡ is_skipped field.now }
 {
     match field {

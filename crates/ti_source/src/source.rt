@@ -31,13 +31,13 @@ fn is_comment(line: &[u8]) -> bool
     }
 }
 
-fn is_passed(line: &[u8]) -> bool
+pub(crate) fn is_passed(line: &[u8]) -> bool
     ensures { result ≡ is_passed line.now }
 {
     is_blank(line) || is_comment(line)
 }
 
-fn begins_white(line: &[u8]) -> bool
+pub(crate) fn begins_white(line: &[u8]) -> bool
     ensures { result ≡ begins_white line.now }
 {
     match line {
