@@ -11,7 +11,7 @@ mod value;
 pub use entry::Entry;
 pub use fits::{Opener, names_fit, string_fits};
 pub use lookup::{
-    at, at_rank, by_name, kind, name, names_are_standard, position, ranks_order_names,
+    at, at_rank, by_name, is_kind, kind, name, names_are_standard, position, ranks_order_names,
 };
-pub use types::{Cap, Kind};
+pub use types::{CAPABILITIES, Cap, FLAGS, GREATEST, Kind, LONGEST, NUMBERS, STRINGS};
 pub use value::{Bytes, Value};

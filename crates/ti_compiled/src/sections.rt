@@ -7,7 +7,7 @@ ghost use Rattle.ti_compiled.specs.Reading.{Is, Judged, judged, word_of, form_of
 
 use crate::types::{Form, PackFault};
 
-/// The sizes that a header tells: bytes of the names, flags, numbers, offsets, and bytes of the table.
+/// The sizes that a header states: bytes of the names, flags, numbers, offsets, and bytes of the table.
 #[derive(Clone, Copy)]
 pub(crate) struct Sizes {
     pub(crate) names: u16,

@@ -1,4 +1,4 @@
--- Running a conditional, and running from the place behind its `%?`.
+-- Running a conditional, and running from the place after its `%?`.
 use Rattle.std.proofs.Common.{◌≡◌, ◌<◌, cond, length, ℕ, zero, Bool, true, false, List, [], ◌⊎◌, inl, inr, Result, Ok, Err, refl, sym, ◌∙◌, ap}
 use Rattle.ti_parm.specs.declared.code.Action.{Action}
 use Rattle.ti_parm.specs.declared.code.Code.TheVariants.{Act as ActCode, If, Of}
@@ -34,7 +34,7 @@ follow-rest _ _ (ends parts behind) s = refl
 follow-rest _ _ (elses first parts behind) s = refl
 follow-rest _ _ (goes_on first chosen behind r d) s = left-rest behind r d s
 
--- behind the condition of a conditional, given what its otherwise does
+-- after the condition of a conditional, given what its otherwise does
 chosen-by : (chosen : Parts) (b : Behind) (r : Rest) (s : State) → ((t : State) → follow b t ≡ onward r t) → ((t : State) → follow_past true b t ≡ (run_otherwise r.otherwise t >>= onward r)) → follow (Closes ThenMark chosen b) s ≡ (choose (run chosen) (run_otherwise r.otherwise) s >>= onward r)
 unfolding follow
 chosen-by chosen b r s p q =
@@ -76,7 +76,7 @@ pub run-End : (a : Ahead) (s : State) → run_ahead (before (Of EndMark) a) s �
 unfolding run_ahead run follow
 run-End a s = refl
 
--- passing over is going on behind what is passed over
+-- passing over is going on after what is passed over
 run_ahead-past : (to_else : Bool) (b : Behind) (s : State) → run_ahead (past to_else zero b) s ≡ follow_past to_else b s
 unfolding run_ahead run follow
 run_ahead-past to_else Ends s = refl
@@ -108,7 +108,7 @@ then-skips a s t e =
 pub then-fails : (a : Ahead) (s : State) (fault : ParmFault) → pop_test s.stack s ≡ Err fault → run_ahead (before (Of ThenMark) a) s ≡ Err fault
 then-fails a s fault e = run-Then a s ∙ ap (λ m. m >>= λ x. cond x.0 (run_ahead a x.1) (follow_past true a.behind x.1)) e
 
--- behind what is passed over
+-- after what is passed over
 pub passed : (to_else : Bool) (text rest : List ℕ) (s : State) → ahead rest ≡ past to_else zero (ahead text).behind → run_ahead (ahead rest) s ≡ run_ahead (past to_else zero (ahead text).behind) s
 passed to_else text rest s e = ap (λ a. run_ahead a s) e
 

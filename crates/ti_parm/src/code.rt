@@ -1,4 +1,4 @@
-// The codes of a parameter string, one at a time.
+//! The codes of a parameter string, one at a time.
 ghost use Rattle.std.specs.Prelude.{◌≡◌, ◌<◌, ◌≤◌, IfOk, length};
 ghost use Rattle.ti_parm.specs.Codes.{character_code, code_at, format_code, number_code, parameter_code, percent_code, short_code, variable, variable_code};
 ghost use Rattle.ti_parm.specs.Fault.{Answers};
@@ -83,14 +83,14 @@ pub enum Turn {
     Complement,
 }
 
-/// A mark of a conditional behind its `%?`.
+/// A mark of a conditional after its `%?`.
 #[derive(Clone, Copy, Debug, PartialEq, Eq)]
 pub enum Mark {
-    /// `%t`, behind a condition.
+    /// `%t`, after a condition.
     Then,
-    /// `%e`, behind the parts that are run if the condition holds.
+    /// `%e`, after the parts that are run if the condition holds.
     Else,
-    /// `%;`, behind everything.
+    /// `%;`, after everything.
     End,
 }
 
@@ -105,7 +105,7 @@ pub enum Code {
     Of(Mark),
 }
 
-/// What stands behind `%{`.
+/// What stands after `%{`.
 #[inline(always)]
 fn number_behind(text: &[u8]) -> Result<(Code, &[u8]), ParmFault>
     ensures code { Answers (λ x. (x.0, x.1.now)) result (number_code text.now) }
@@ -185,7 +185,7 @@ fn short_of(byte: u8) -> Option<Code>
     Some(code)
 }
 
-/// What stands behind `%p`.
+/// What stands after `%p`.
 #[inline(always)]
 fn parameter_behind(text: &[u8]) -> Result<(Code, &[u8]), ParmFault>
     ensures code { Answers (λ x. (x.0, x.1.now)) result (parameter_code text.now) }
@@ -197,7 +197,7 @@ fn parameter_behind(text: &[u8]) -> Result<(Code, &[u8]), ParmFault>
     }
 }
 
-/// What stands behind `%'`.
+/// What stands after `%'`.
 #[inline(always)]
 fn character_behind(text: &[u8]) -> Result<(Code, &[u8]), ParmFault>
     ensures code { Answers (λ x. (x.0, x.1.now)) result (character_code text.now) }
@@ -209,7 +209,7 @@ fn character_behind(text: &[u8]) -> Result<(Code, &[u8]), ParmFault>
     }
 }
 
-/// What stands behind a `%`.
+/// What stands after a `%`.
 #[inline(always)]
 fn behind_percent(text: &[u8]) -> Result<(Code, &[u8]), ParmFault>
     ensures code { Answers (λ x. (x.0, x.1.now)) result (percent_code text.now) }
@@ -237,7 +237,7 @@ fn behind_percent(text: &[u8]) -> Result<(Code, &[u8]), ParmFault>
     }
 }
 
-/// A format, behind its `%` and `:`.
+/// A format, after its `%` and `:`.
 #[inline(always)]
 fn format_behind(text: &[u8]) -> Result<(Code, &[u8]), ParmFault>
     ensures code { Answers (λ x. (x.0, x.1.now)) result (format_code text.now) }

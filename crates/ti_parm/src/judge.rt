@@ -1,4 +1,4 @@
-// The faults of a string's syntax.
+//! The faults of a string's syntax.
 ghost use Rattle.std.specs.Prelude.{◌≡◌, ◌⊎◌, Ok};
 ghost use Rattle.ti_parm.specs.Fault.{Fails, Gives};
 ghost use Rattle.ti_parm.specs.Nesting.{judged};

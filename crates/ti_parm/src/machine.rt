@@ -1,4 +1,4 @@
-// What a run has, and what each code does to it.
+//! What a run has, and what each code does to it.
 ghost use Rattle.std.specs.Prelude.{◌≡◌, ◌↔◌, ℕ, List, [], ◌≤◌, IfErr, IfOk, IsTrue, length, pos, slice_index_or, slice_set};
 ghost use Rattle.ti_parm.specs.Fault.{Answers, Extends, Fails, Gives};
 ghost use Rattle.ti_parm.specs.Value.{nine, values_of, value_of, zeros};
@@ -116,7 +116,7 @@ impl<'a> Machine<'a> {
         }
     }
 
-    /// Goes on behind a mark, or behind what the mark says to pass over.
+    /// Goes on after a mark, or after what the mark says to pass over.
     fn pass<'s>(
         &mut self,
         mark: Mark,

@@ -1,4 +1,4 @@
-// What operators make of numbers.
+//! What operators make of numbers.
 ghost use Rattle.std.specs.Prelude.{◌≡◌};
 ghost use Rattle.ti_parm.specs.Fault.{Answers};
 ghost use Rattle.ti_parm.specs.Operators.{byte_of, fitting, is_true, operate, truth, turned};
@@ -6,7 +6,7 @@ ghost use Rattle.ti_parm.specs.Operators.{byte_of, fitting, is_true, operate, tr
 use crate::code::{Operator, Turn};
 use crate::fault::ParmFault;
 
-/// A result, if it fits 32 bits.
+/// The truth value of a test: 1 where it holds, else 0.
 fn truth_of(holds: bool) -> i32
     ensures { result ≡ truth holds }
 {

@@ -1,4 +1,4 @@
-// Going over the parts of a conditional that are not run.
+//! Going over the parts of a conditional that are not run.
 ghost use Rattle.std.specs.Prelude.{◌≡◌, ◌<◌, ◌≤◌, ◌^◌, IfErr, IfOk, length};
 ghost use Rattle.ti_parm.specs.Fault.{Fails};
 ghost use Rattle.ti_parm.specs.Nesting.{judged};
@@ -9,7 +9,7 @@ use crate::code::{Code, Mark, next_code};
 use crate::fault::ParmFault;
 use crate::nest::Nest;
 
-/// How many conditionals deep the place behind a code is, or nothing if the way ends there: at the
+/// How many conditionals deep the place after a code is, or nothing if the way ends there: at the
 /// `%;` of the conditional that it began in, or, if wanted, at its `%e`.
 #[inline(always)]
 fn depth_behind(code: Code, depth: usize, to_else: bool) -> Option<usize>

@@ -1,4 +1,4 @@
-// The stack of an expansion.
+//! The stack of an expansion.
 use crate::code::{Operator, Turn};
 use crate::fault::ParmFault;
 use crate::operators::{operate, turned};

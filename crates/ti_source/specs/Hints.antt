@@ -8,7 +8,8 @@ use Rattle.ti_caps.specs.Table.{kind_of, place_in}
 use Rattle.ti_source.specs.declared.hints.Hint.{Hint}
 use Rattle.ti_source.specs.declared.layout.Mark.{Mark}
 use Rattle.ti_source.specs.declared.layout.Mark.TheVariants.{At, Hash, Equals}
-use Rattle.ti_source.specs.Fields.{is_kind, is_skipped}
+use Rattle.ti_source.specs.Fields.{is_skipped}
+use Rattle.ti_caps.specs.Table.{is_kind}
 use Rattle.ti_source.specs.Layout.{Marked, cut_of, lines_of, marked_in, skip_white}
 use Rattle.ti_source.specs.Source.{begins_white, is_passed}
 

@@ -5,10 +5,10 @@ ghost use Rattle.ti_source.specs.Hints.{has_percent_caret, hint_at, hinted, hint
 ghost use Rattle.ti_source.specs.Layout.{cut_of};
 
 use crate::layout::{Mark, cut_field, cut_line, marked, skip_white};
-use crate::parts::{is_kind, is_skipped};
+use crate::parts::is_skipped;
 use crate::source::{begins_white, is_passed};
 use std::alloc::{AllocError, Global};
-use ti_caps::{Cap, Kind, Opener, by_name};
+use ti_caps::{Cap, Kind, Opener, by_name, is_kind};
 
 /// A string capability whose value in a source text has `%^`.
 #[derive(Clone, Copy, Debug, PartialEq, Eq)]
