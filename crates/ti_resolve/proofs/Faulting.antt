@@ -7,7 +7,7 @@ use Rattle.ti_source.specs.declared.types.RawEntry.{RawEntry}
 use Rattle.ti_resolve.specs.declared.faults.ResolveFault.{ResolveFault}
 use Rattle.ti_resolve.specs.declared.faults.ResolveFault.TheVariants.{NoSuchEntry}
 use Rattle.ti_resolve.specs.Uses.{place_named, fields_at, names_at, uses_in}
-use Rattle.ti_resolve.specs.Filling.{fields_of_all, settle_all, start}
+use Rattle.ti_resolve.specs.Filling.{fields_of_all, take_fields, start}
 use Rattle.ti_resolve.specs.Resolved.{IsResolved}
 use Rattle.ti_resolve.specs.Walk.{and_then, enter, follow_uses, go_to, holds, target, walk_from, walk_of}
 use Rattle.ti_resolve.specs.Faults.{AnswersOnce, AreDifferent, FaultAt, FaultFrom, FaultsAreSo, Includes, Reaches, ReachesTooMany, itself, by_use, WalksResolve}
@@ -175,7 +175,7 @@ walks_resolve raws asked places is = along (place_named raws asked) refl is
     along : (o : Option ℕ) → place_named raws asked ≡ o → walk_from raws asked o ≡ Ok places → (entry : Content) × IsResolved raws asked entry
     along None found walks = cc
     along (Some root) found walks =
-        let entry : Content = (settle_all (start (names_at raws root)) (fields_of_all raws places)).entry in
+        let entry : Content = (take_fields (start (names_at raws root)) (fields_of_all raws places)).entry in
         (entry, resolved_is raws asked (names_at raws root) places root entry (sym found) walks refl refl)
 
 not-both : (walk : Result (List ℕ) ResolveFault) (fault : ResolveFault) → IsOk walk → walk ≡ Err fault → ⊥

@@ -2,7 +2,7 @@ pub mod Faulting
 pub mod Indexing
 pub mod Law
 pub mod Names
-pub mod Settled
+pub mod Taken
 pub mod Told
 pub mod Whole
 pub mod Once

@@ -73,6 +73,6 @@ Tells (Cycle name) fault = Cycle name ≡ fault
 Tells (TooMany name) fault = TooMany name ≡ fault
 
 -- what was answered, seen by view, is what the walk gives
-abbrev pub Answers : {X Y : Type 0} → (X → Y) → Result X ResolveFault → Result Y ResolveFault → Type 0
-Answers view (Ok x) walk = walk ≡ Ok (view x)
-Answers view (Err fault) walk = FailsBy fault walk
+abbrev pub Gives : {X Y : Type 0} → (X → Y) → Result X ResolveFault → Result Y ResolveFault → Type 0
+Gives view (Ok x) walk = walk ≡ Ok (view x)
+Gives view (Err fault) walk = FailsBy fault walk

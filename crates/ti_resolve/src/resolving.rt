@@ -5,7 +5,7 @@ ghost use Rattle.std.specs.List.{AllByRecursion};
 ghost use Rattle.ti_source.specs.Raw.{IsRaw};
 ghost use Rattle.ti_resolve.specs.Faults.{AnswersOnce, FaultsAreSo, WalksResolve};
 ghost use Rattle.ti_resolve.specs.Resolved.{ExpandsOnce, IsResolved, ResolvedOnce};
-ghost use Rattle.ti_resolve.specs.Walk.{Answers, FailsBy, enter, walk_of};
+ghost use Rattle.ti_resolve.specs.Walk.{Gives, FailsBy, enter, walk_of};
 
 use crate::faults::ResolveFault;
 use crate::fill::filled;
@@ -23,7 +23,7 @@ fn entered_from(
     root: usize,
 ) -> Result<Vec<usize>, ResolveFault>
     requires { root < length index.now.raws.now }
-    ensures { Answers (λ places. places.items) result (enter 65 index.now.raws.now [] name.now root []) }
+    ensures { Gives (λ places. places.items) result (enter 65 index.now.raws.now [] name.now root []) }
 {
     let mut chain = Vec::new(alloc);
     let mut entered = Vec::new(alloc);
