@@ -4,7 +4,7 @@ use Rattle.ti_parm.specs.declared.code.Action.{Action}
 use Rattle.ti_parm.specs.declared.code.Code.TheVariants.{Act as ActCode, If, Of}
 use Rattle.ti_parm.specs.declared.code.Mark.TheVariants.{Then as ThenMark, Else as ElseMark, End as EndMark}
 use Rattle.ti_parm.specs.declared.fault.ParmFault.{ParmFault}
-use Rattle.ti_parm.specs.Fault.{◌>>=◌, Fails}
+use Rattle.ti_parm.specs.Fault.{◌>>=◌, FailsBy}
 use Rattle.ti_parm.specs.Meaning.{State, act, choose, pop_test, run, run_otherwise}
 use Rattle.ti_parm.specs.Running.{follow, follow_past, judged_ahead, judged_behind, judged_run, run_ahead, run_from}
 use Rattle.ti_parm.specs.Skipping.{past}
@@ -127,7 +127,7 @@ pub judged_behind-read : (v : Result (Unit {0}) ParmFault) (r : Result State Par
 judged_behind-read v r e = ap (λ w. w >>= λ _. r) e
 
 -- a fault that a run met, unless the syntax has one
-pub Fails-first : (e fault : ParmFault) (v : Result (Unit {0}) ParmFault) (r : Result State ParmFault) → ((v ≡ Ok tt) × (e ≡ fault)) ⊎ Fails e v → (v ≡ Ok tt → Fails fault r) → Fails e (judged_behind v r)
+pub Fails-first : (e fault : ParmFault) (v : Result (Unit {0}) ParmFault) (r : Result State ParmFault) → ((v ≡ Ok tt) × (e ≡ fault)) ⊎ FailsBy e v → (v ≡ Ok tt → FailsBy fault r) → FailsBy e (judged_behind v r)
 Fails-first e fault v r (inl p) h = rw p.1 (Fails-on fault r (judged_behind v r) (λ q. judged_behind-read v r p.0 ∙ q) (h p.0))
 Fails-first e fault v r (inr p) h = Fails-on e v (judged_behind v r) (judged_behind-unread v r e) p
 

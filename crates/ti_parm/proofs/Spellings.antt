@@ -4,7 +4,7 @@ use Rattle.ti_parm.specs.declared.code.Action.{Action}
 use Rattle.ti_parm.specs.declared.code.Action.TheVariants.{Literal, Operate, Change, Length, Increment, Character}
 use Rattle.ti_parm.specs.declared.code.Operator.{Operator}
 use Rattle.ti_parm.specs.declared.code.Operator.TheVariants.{Add, Subtract, Multiply, Divide, Remainder, BitAnd, BitOr, BitXor, Equal, Greater, Less, Both, Either}
-use Rattle.ti_parm.specs.declared.code.Turn.TheVariants.{Not, Complement}
+use Rattle.ti_parm.specs.declared.code.Unary.TheVariants.{Not, Complement}
 use Rattle.ti_parm.specs.declared.code.Code.{Code}
 use Rattle.ti_parm.specs.declared.code.Code.TheVariants.{Act as ActCode, If as IfCode, Of as MarkCode}
 use Rattle.ti_parm.specs.declared.code.Mark.{Mark}

@@ -7,7 +7,7 @@ use Rattle.ti_parm.specs.declared.formats.Conversion.TheVariants.{Decimal, Octal
 use Rattle.ti_parm.specs.declared.formats.Flags.{Flags}
 use Rattle.ti_parm.specs.declared.formats.Format.{Format}
 use Rattle.ti_parm.specs.declared.code.Operator.TheVariants.{Add, Subtract, Multiply, Divide, Remainder, BitAnd, BitOr, BitXor, Equal, Greater, Less, Both, Either}
-use Rattle.ti_parm.specs.declared.code.Turn.TheVariants.{Not, Complement}
+use Rattle.ti_parm.specs.declared.code.Unary.TheVariants.{Not, Complement}
 use Rattle.ti_parm.specs.declared.code.Variable.{Variable}
 use Rattle.ti_parm.specs.declared.code.Variable.TheVariants.{Dynamic, Static}
 use Rattle.ti_parm.specs.declared.code.Code.{Code}

@@ -23,7 +23,7 @@ pub enum Action {
     /// Takes two numbers and pushes what an operator makes of them.
     Operate(Operator),
     /// Takes a number and pushes what becomes of it.
-    Change(Turn),
+    Change(Unary),
     /// Takes a text and pushes its length.
     Length,
     /// Adds one to the first two parameters.
@@ -76,10 +76,10 @@ pub enum Operator {
 
 /// An operator of one operand.
 #[derive(Clone, Copy, Debug, PartialEq, Eq)]
-pub enum Turn {
+pub enum Unary {
     /// `%!`: it is 0
     Not,
-    /// `%~`: each bit turned over
+    /// `%~`: each bit inverted
     Complement,
 }
 
@@ -173,8 +173,8 @@ fn short_of(byte: u8) -> Option<Code>
         b'<' => Code::Act(Action::Operate(Operator::Less)),
         b'A' => Code::Act(Action::Operate(Operator::Both)),
         b'O' => Code::Act(Action::Operate(Operator::Either)),
-        b'!' => Code::Act(Action::Change(Turn::Not)),
-        b'~' => Code::Act(Action::Change(Turn::Complement)),
+        b'!' => Code::Act(Action::Change(Unary::Not)),
+        b'~' => Code::Act(Action::Change(Unary::Complement)),
         b'i' => Code::Act(Action::Increment),
         b'?' => Code::If,
         b't' => Code::Of(Mark::Then),
