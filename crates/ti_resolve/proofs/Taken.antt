@@ -14,7 +14,7 @@ use Rattle.ti_source.specs.declared.types.Field.TheVariants.{Set, Cancel, Includ
 use Rattle.ti_source.specs.declared.types.RawEntry.{RawEntry}
 use Rattle.ti_source.specs.Raw.{FitsField, IsRaw}
 use Rattle.ti_resolve.specs.Uses.{fields_at, fields_in, names_at, names_in_entry, first_about, is_about, value_given}
-use Rattle.ti_resolve.specs.Filling.{Filled, fields_of_all, settle_all, settle_field, start}
+use Rattle.ti_resolve.specs.Filling.{Filled, fields_of_all, take_fields, take_field, start}
 
 -- each element, by its place
 pub all_at : {X : Type 0} (P : X → Type 0) (xs : List X) (i : ℕ) (x : X) → AllByRecursion P xs → slice_get xs i ≡ Some x → P x
@@ -36,11 +36,11 @@ pub record IsSized (so_far : Filled) : Type 0 where
   pub values : length so_far.entry.values ≡ 497
   pub decided : length so_far.decided ≡ 497
 
-settle_sized : (so_far : Filled) (field : Field) → IsSized so_far → IsSized (settle_field so_far field)
-unfolding settle_field with_value
-settle_sized so_far (Include name) sized = sized
-settle_sized so_far (Cancel cap) sized = record { values = sized.values; decided = length-set so_far.decided cap true ∙ sized.decided }
-settle_sized so_far (Set cap value) sized =
+take_sized : (so_far : Filled) (field : Field) → IsSized so_far → IsSized (take_field so_far field)
+unfolding take_field with_value
+take_sized so_far (Include name) sized = sized
+take_sized so_far (Cancel cap) sized = record { values = sized.values; decided = length-set so_far.decided cap true ∙ sized.decided }
+take_sized so_far (Set cap value) sized =
     cond_both (get_or so_far.decided cap false) _ _ (λ s. IsSized s)
     (λ t. sized)
     (λ f. record { values = length-set so_far.entry.values cap (Some value) ∙ sized.values; decided = length-set so_far.decided cap true ∙ sized.decided })
@@ -62,8 +62,8 @@ record Stays (so_far next : Filled) (place : ℕ) : Type 0 where
   decided : get_or next.decided place false ≡ true
   value : value_at next.entry place ≡ value_at so_far.entry place
 
-one_stays : (place : ℕ) (so_far : Filled) (field : Field) → IsSized so_far → place < 497 → get_or so_far.decided place false ≡ true → Stays so_far (settle_field so_far field) place
-unfolding settle_field with_value value_at
+one_stays : (place : ℕ) (so_far : Filled) (field : Field) → IsSized so_far → place < 497 → get_or so_far.decided place false ≡ true → Stays so_far (take_field so_far field) place
+unfolding take_field with_value value_at
 one_stays place so_far (Include name) sized inside is = record { decided = is; value = refl }
 one_stays place so_far (Cancel cap) sized inside is = record { decided = still_marked so_far.decided cap place sized.decided inside is; value = refl }
 one_stays place so_far (Set cap value) sized inside is =
@@ -77,11 +77,11 @@ one_stays place so_far (Set cap value) sized inside is =
     })
 
 -- a capability that was decided keeps its value
-decided_stays : (place : ℕ) (so_far : Filled) (fields : List Field) → IsSized so_far → place < 497 → get_or so_far.decided place false ≡ true → value_at (settle_all so_far fields).entry place ≡ value_at so_far.entry place
+decided_stays : (place : ℕ) (so_far : Filled) (fields : List Field) → IsSized so_far → place < 497 → get_or so_far.decided place false ≡ true → value_at (take_fields so_far fields).entry place ≡ value_at so_far.entry place
 decided_stays place so_far [] sized inside is = refl
 decided_stays place so_far (field ∷ fields) sized inside is =
     let one = one_stays place so_far field sized inside is in
-    decided_stays place (settle_field so_far field) fields (settle_sized so_far field sized) inside one.decided ∙ one.value
+    decided_stays place (take_field so_far field) fields (take_sized so_far field sized) inside one.decided ∙ one.value
 
 -- what a field leaves of one that was not
 record Decides (next : Filled) (place : ℕ) (field : Field) : Type 0 where
@@ -92,8 +92,8 @@ record Leaves (next : Filled) (place : ℕ) : Type 0 where
   decided : get_or next.decided place false ≡ false
   value : value_at next.entry place ≡ None
 
-one_decides : (place : ℕ) (so_far : Filled) (field : Field) → IsSized so_far → place < 497 → get_or so_far.decided place false ≡ false → value_at so_far.entry place ≡ None → is_about place field ≡ true → Decides (settle_field so_far field) place field
-unfolding settle_field with_value value_at
+one_decides : (place : ℕ) (so_far : Filled) (field : Field) → IsSized so_far → place < 497 → get_or so_far.decided place false ≡ false → value_at so_far.entry place ≡ None → is_about place field ≡ true → Decides (take_field so_far field) place field
+unfolding take_field with_value value_at
 one_decides place so_far (Include name) sized inside is none about = absurd (both_ways false refl about)
 one_decides place so_far (Cancel cap) sized inside is none about =
     record { decided = marked so_far.decided cap place sized.decided inside (eqb-true cap place about); value = none }
@@ -108,8 +108,8 @@ one_decides place so_far (Set cap value) sized inside is none about =
       value = subst (λ p. get_or (set so_far.entry.values cap (Some value)) p None ≡ Some value) same (get_or-set_same so_far.entry.values cap (Some value) None there);
     })
 
-one_leaves : (place : ℕ) (so_far : Filled) (field : Field) → get_or so_far.decided place false ≡ false → value_at so_far.entry place ≡ None → is_about place field ≡ false → Leaves (settle_field so_far field) place
-unfolding settle_field with_value value_at
+one_leaves : (place : ℕ) (so_far : Filled) (field : Field) → get_or so_far.decided place false ≡ false → value_at so_far.entry place ≡ None → is_about place field ≡ false → Leaves (take_field so_far field) place
+unfolding take_field with_value value_at
 one_leaves place so_far (Include name) is none about = record { decided = is; value = none }
 one_leaves place so_far (Cancel cap) is none about =
     let apart : place ≢ cap = λ same. eqb-false cap place about (sym same) in
@@ -124,59 +124,59 @@ one_leaves place so_far (Set cap value) is none about =
     })
 
 -- one that was not decided takes the value of the first field about it
-first_decides : (place : ℕ) (so_far : Filled) (fields : List Field) → IsSized so_far → place < 497 → get_or so_far.decided place false ≡ false → value_at so_far.entry place ≡ None → value_at (settle_all so_far fields).entry place ≡ value_given (first_about place fields)
+first_decides : (place : ℕ) (so_far : Filled) (fields : List Field) → IsSized so_far → place < 497 → get_or so_far.decided place false ≡ false → value_at so_far.entry place ≡ None → value_at (take_fields so_far fields).entry place ≡ value_given (first_about place fields)
 unfolding first_about
 first_decides place so_far [] sized inside is none = none
 first_decides place so_far (field ∷ fields) sized inside is none =
     ⊎_elim
     (λ t.
     let one = one_decides place so_far field sized inside is none t in
-    decided_stays place (settle_field so_far field) fields (settle_sized so_far field sized) inside one.decided
+    decided_stays place (take_field so_far field) fields (take_sized so_far field sized) inside one.decided
     ∙ (one.value ∙ ap value_given (sym (cond-true (is_about place field) (Some field) (find (is_about place) fields) t))))
     (λ f.
     let one = one_leaves place so_far field is none f in
-    first_decides place (settle_field so_far field) fields (settle_sized so_far field sized) inside one.decided one.value
+    first_decides place (take_field so_far field) fields (take_sized so_far field sized) inside one.decided one.value
     ∙ ap value_given (sym (cond-false (is_about place field) (Some field) (find (is_about place) fields) f)))
     (cases_Bool (is_about place field))
 
 -- an entry of names alone, and then these fields
-pub settled_values : (names : List ℕ) (fields : List Field) (place : ℕ) → place < 497 → value_at (settle_all (start names) fields).entry place ≡ value_given (first_about place fields)
+pub taken_values : (names : List ℕ) (fields : List Field) (place : ℕ) → place < 497 → value_at (take_fields (start names) fields).entry place ≡ value_given (first_about place fields)
 unfolding bare_entry
-settled_values names fields place inside =
+taken_values names fields place inside =
     let sized : IsSized (start names) = record { values = length-replicate {A = Option Value} 497 None; decided = length-replicate {A = Bool} 497 false } in
     first_decides place (start names) fields sized inside (get_or-replicate {A = Bool} 497 place false false inside) (bare_has_none names place)
 
-settle_names : (so_far : Filled) (field : Field) → (settle_field so_far field).entry.names ≡ so_far.entry.names
-unfolding settle_field with_value
-settle_names so_far (Include name) = refl
-settle_names so_far (Cancel cap) = refl
-settle_names so_far (Set cap value) = cond_both {A = Filled} (get_or so_far.decided cap false) _ _ (λ s. s.entry.names ≡ so_far.entry.names) (λ t. refl) (λ f. refl)
+take_names : (so_far : Filled) (field : Field) → (take_field so_far field).entry.names ≡ so_far.entry.names
+unfolding take_field with_value
+take_names so_far (Include name) = refl
+take_names so_far (Cancel cap) = refl
+take_names so_far (Set cap value) = cond_both {A = Filled} (get_or so_far.decided cap false) _ _ (λ s. s.entry.names ≡ so_far.entry.names) (λ t. refl) (λ f. refl)
 
 -- the names stay
-pub settled_names : (so_far : Filled) (fields : List Field) → (settle_all so_far fields).entry.names ≡ so_far.entry.names
-settled_names so_far [] = refl
-settled_names so_far (field ∷ fields) = settled_names (settle_field so_far field) fields ∙ settle_names so_far field
+pub taken_names : (so_far : Filled) (fields : List Field) → (take_fields so_far fields).entry.names ≡ so_far.entry.names
+taken_names so_far [] = refl
+taken_names so_far (field ∷ fields) = taken_names (take_field so_far field) fields ∙ take_names so_far field
 
 -- fields one after another
-pub settle_all-append : (so_far : Filled) (xs ys : List Field) → settle_all so_far (xs ++ ys) ≡ settle_all (settle_all so_far xs) ys
-settle_all-append so_far [] ys = refl
-settle_all-append so_far (x ∷ xs) ys = settle_all-append (settle_field so_far x) xs ys
+pub take_fields-append : (so_far : Filled) (xs ys : List Field) → take_fields so_far (xs ++ ys) ≡ take_fields (take_fields so_far xs) ys
+take_fields-append so_far [] ys = refl
+take_fields-append so_far (x ∷ xs) ys = take_fields-append (take_field so_far x) xs ys
 
 -- the entries from a place on, after one more
-pub entries_go_on : (raws : List RawEntry) (places : List ℕ) (i place : ℕ) (fields : List Field) (before after whole : Filled) → i < length places → place ≡ get_or places i 0 → fields ≡ fields_at raws place → after ≡ settle_all before fields → settle_all before (fields_of_all raws (drop i places)) ≡ whole → settle_all after (fields_of_all raws (drop (i + 1) places)) ≡ whole
+pub entries_go_on : (raws : List RawEntry) (places : List ℕ) (i place : ℕ) (fields : List Field) (before after whole : Filled) → i < length places → place ≡ get_or places i 0 → fields ≡ fields_at raws place → after ≡ take_fields before fields → take_fields before (fields_of_all raws (drop i places)) ≡ whole → take_fields after (fields_of_all raws (drop (i + 1) places)) ≡ whole
 entries_go_on raws places i place fields before after whole inside is there next was =
     let rest = fields_of_all raws (drop (i + 1) places) in
     let here : fields ≡ fields_at raws (get_or places i 0) = there ∙ ap (fields_at raws) is in
-    ap (λ s. settle_all s rest) (next ∙ ap (settle_all before) here)
-    ∙ (sym (settle_all-append before (fields_at raws (get_or places i 0)) rest)
-    ∙ (ap (λ ps. settle_all before (fields_of_all raws ps)) (sym (drop_more places i 0 inside)) ∙ was))
+    ap (λ s. take_fields s rest) (next ∙ ap (take_fields before) here)
+    ∙ (sym (take_fields-append before (fields_at raws (get_or places i 0)) rest)
+    ∙ (ap (λ ps. take_fields before (fields_of_all raws ps)) (sym (drop_more places i 0 inside)) ∙ was))
 
 -- what was taken over into an entry of names alone
-pub filled_is : (names : List ℕ) (fields : List Field) (entry : Content) (decided : List Bool) (next : Filled) → entry ≡ bare_entry names → decided ≡ replicate 497 false → next ≡ settle_all (record { entry = entry; decided = decided }) fields → next.entry ≡ (settle_all (start names) fields).entry
+pub filled_is : (names : List ℕ) (fields : List Field) (entry : Content) (decided : List Bool) (next : Filled) → entry ≡ bare_entry names → decided ≡ replicate 497 false → next ≡ take_fields (record { entry = entry; decided = decided }) fields → next.entry ≡ (take_fields (start names) fields).entry
 filled_is names fields entry decided next bare none is =
     let with_entry : Content → Filled = λ e. record { entry = e; decided = decided } in
     let with_decided : List Bool → Filled = λ d. record { entry = bare_entry names; decided = d } in
-    ap (λ s. s.entry) (is ∙ ap (λ s. settle_all s fields) (ap with_entry bare ∙ ap with_decided none))
+    ap (λ s. s.entry) (is ∙ ap (λ s. take_fields s fields) (ap with_entry bare ∙ ap with_decided none))
 
 names_fit_in : (raws : List RawEntry) (place : ℕ) (raw : RawEntry) → AllByRecursion IsRaw raws → slice_get raws place ≡ Some raw → IsTrue (names_fit (names_in_entry (slice_get raws place)))
 names_fit_in raws place raw all is = subst (λ o. IsTrue (names_fit (names_in_entry o))) (sym is) (all_at IsRaw raws place raw all is).names
