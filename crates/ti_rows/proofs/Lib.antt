@@ -3,3 +3,4 @@ pub mod Wanting
 pub mod Righting
 pub mod Alike
 pub mod Telling
+pub mod Naming

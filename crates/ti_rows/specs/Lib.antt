@@ -6,3 +6,4 @@ pub mod Starts
 pub mod Wants
 pub mod Asked
 pub mod Right
+pub mod Names

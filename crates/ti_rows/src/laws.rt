@@ -1,6 +1,7 @@
 //! Laws of the table, each for all sizes, rows and texts.
 ghost use Rattle.ti_rows.specs.Right.{StartsAllowed, AskedIsWanted, RecordedIsRight, OneLooks, ActivatesFrom};
 ghost use Rattle.ti_rows.specs.Looks.{EarlierKept};
+ghost use Rattle.ti_rows.specs.Names.{NamesRise, Named, FirstsInOrder, OrdersSmall};
 
 /// The states from which a row is wanted to do its work are among those that its start allows.
 pub fn starts_allowed()
@@ -30,4 +31,20 @@ pub fn one_looks()
 /// What `smacs` and `rmacs` are for: a record shows which set is active in the end.
 pub fn activates_from()
     ensures { ActivatesFrom }
+{}
+
+/// The names of the checked capabilities rise, byte by byte.
+pub fn names_rise()
+    ensures { NamesRise }
+{}
+
+/// Each of their positions has its name in the table of terminfo(5).
+pub fn named()
+    ensures { Named }
+{}
+
+/// Each place has a first row, and each row's capability has one of the places.
+pub fn places()
+    ensures firsts { FirstsInOrder }
+    ensures orders { OrdersSmall }
 {}

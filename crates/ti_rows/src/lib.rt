@@ -7,6 +7,7 @@ mod bits;
 mod judging;
 pub mod laws;
 mod learning;
+mod names;
 mod rows;
 mod starts;
 
