@@ -4,3 +4,5 @@ pub mod Righting
 pub mod Alike
 pub mod Telling
 pub mod Naming
+pub mod Reading
+pub mod Listing

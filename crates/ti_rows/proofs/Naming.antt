@@ -1,7 +1,6 @@
 -- The tables of names, positions and first rows, from tests of each whole table that compute.
-use Rattle.std.proofs.Common.{◌≡◌, ◌≢◌, ℕ, ◌+◌, ◌<◌, ◌==◌, Bool, true, List, [], ◌∷◌, if◌then◌else◌, Option, Some, None, IfSome, IfNone, refl, sym, ap, ◌∙◌, subst, arith}
+use Rattle.std.proofs.Common.{◌≡◌, ℕ, ◌+◌, ◌<◌, ◌==◌, Bool, true, List, if◌then◌else◌, Option, Some, None, IfSome, IfNone, refl, sym, ap, ◌∙◌, arith}
 use Rattle.std.specs.Prelude.{nat_lt}
-use Rattle.std.specs.List.{slice_get}
 use Rattle.std.specs.Cmp.Lexicographic.{slice_cmp}
 use Rattle.std.specs.Ordering.{nat_cmp, is_lt}
 use Rattle.std.specs.declared.cmp.Ordering.{Ordering}
@@ -13,10 +12,10 @@ use Rattle.std.proofs.lemmas.Option.{same_Some, none-some}
 use Rattle.ti_caps.specs.Table.{name_at, row_at, place_from}
 use Rattle.ti_caps.specs.declared.types.Kind.TheVariants.{String}
 use Rattle.ti_rows.specs.Rows.{Row, Clear, Cup, Home, Cr, Hpa, Vpa, Cub1, Cuf1, Cuu1, Cud1, Cub, Cuf, Cuu, Cud, El, El1, Ed, Ech, Sgr, Sgr0, Setaf, Setab, Op, Smul, Rev, Blink, Dim, Bold, Invis, Smso, Enacs, Smacs, Rmacs, Csr, Ind, Ri, Civis, Cnorm, Cvvis, Smcup, Rmcup, Bel}
-use Rattle.ti_rows.specs.Names.{order, names, name_in_order, string_in_order, first_in_order, name_of, NamesRise, Named, HasFirst, FirstsInOrder, OrdersSmall}
+use Rattle.ti_rows.specs.Names.{order, name_in_order, string_in_order, first_in_order, name_of, NamesRise, Named, HasFirst, FirstsInOrder, OrdersSmall}
 
 -- the test passes at each of the 42 places
-each_at : (test : ℕ → Bool) (n k : ℕ) → agree_below test (λ _. true) n ≡ true → k < n → test k ≡ true
+pub each_at : (test : ℕ → Bool) (n k : ℕ) → agree_below test (λ _. true) n ≡ true → k < n → test k ≡ true
 each_at test n k all less = agree_below_at test (λ _. true) n k all less
 
 unfoldable is_small : ℕ → Bool

@@ -7,3 +7,5 @@ pub mod Wants
 pub mod Asked
 pub mod Right
 pub mod Names
+pub mod Params
+pub mod Lists

@@ -1,4 +1,4 @@
-use Rattle.std.proofs.Common.{◌≡◌, ℕ, ◌<◌, sym, subst}
+use Rattle.std.proofs.Common.{ℕ, ◌<◌, sym, subst}
 use Rattle.ti_rows.specs.Names.{string_in_order}
 use Rattle.ti_rows.proofs.Naming.{strings_small}
 use Rattle.ti_rows.proofs.names.string_in_order.Goals as goal

@@ -1,4 +1,4 @@
-use Rattle.std.proofs.Common.{◌≡◌, ◌<◌, ℕ, sym, arith}
+use Rattle.std.proofs.Common.{sym, arith}
 use Rattle.std.proofs.lemmas.Option.{slice_get-get_or, slice_get_past}
 use Rattle.ti_rows.specs.Names.{firsts, first_in_order}
 use Rattle.ti_rows.proofs.rows.Row.first.Goals as goal

@@ -1,4 +1,4 @@
-use Rattle.std.proofs.Common.{◌≡◌, ◌<◌, List, ℕ, sym, ◌∙◌, arith, rules}
+use Rattle.std.proofs.Common.{◌≡◌, arith, rules}
 use Rattle.ti_rows.specs.Names.{name_in_order}
 use Rattle.ti_rows.proofs.Naming.{first_named, first_again, first_found}
 use Rattle.ti_rows.proofs.rows.Row.named.Goals as goal
