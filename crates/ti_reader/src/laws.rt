@@ -1,0 +1,11 @@
+//! What `judge_lines` takes for the lines of a text, in the words of texts.
+
+ghost use Rattle.std.specs.Prelude.{ℕ, List, ◌≡◌};
+ghost use Rattle.ti_reader.specs.Text.{IsText, cut_of};
+
+/// The lines that are judged, each followed by LF, and the part after the last LF are the text, and
+/// there is no other way to cut it so.
+pub fn text_is_cut()
+    ensures is { (text : List ℕ) → IsText (cut_of text).lines (cut_of text).last text }
+    ensures only { (text last : List ℕ) (lines : List (List ℕ)) → IsText lines last text → cut_of text ≡ record { lines = lines; last = last } }
+{}
