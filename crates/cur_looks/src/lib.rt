@@ -1,0 +1,18 @@
+//! Looks and beliefs: how a cell is to look on the terminal, what is known of the terminal, and the
+//! single steps of a painter.
+#![tactic(auto)]
+
+mod beliefs;
+mod cells;
+mod certificates;
+mod inks;
+mod lines;
+mod rows;
+mod steps;
+
+pub use beliefs::{Belief, Place};
+pub use cells::{blank_tail, put_cell};
+pub use certificates::Certificate;
+pub use inks::{Blank, Brush, Ink, View, is_same};
+pub use rows::{Attributes, Looks, Marks, Row};
+pub use steps::move_to;
