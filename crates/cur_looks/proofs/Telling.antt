@@ -2,7 +2,7 @@
 use Rattle.std.proofs.Common.{◌≡◌, ℕ, ◌*◌, ◌≤◌, ◌==◌, ◌&&◌, Bool, true, false, zero, suc, if◌then◌else◌, List, Option, Some, None, Bor, IfSome, is_some, subst, sym, refl, ap, ◌∙◌, arith}
 use Rattle.cur_looks.specs.Rows.{Row}
 use Rattle.cur_looks.specs.Certified.{Table, has}
-use Rattle.cur_looks.specs.Beliefs.{Place, moves}
+use Rattle.cur_looks.specs.Beliefs.{Place, moves, Mode, same_mode, changes}
 
 pub line_is : (t : Table) (row : Row) (o : Option (Bor (List ℕ))) (b : Bor (List ℕ)) → o ≡ Some b → IfSome o (λ b. t.line_of row ≡ Some b.now) → t.line_of row ≡ Some b.now
 line_is t row o b e h = subst (λ (o : Option (Bor (List ℕ))). IfSome o (λ b. t.line_of row ≡ Some b.now)) e h
@@ -28,3 +28,7 @@ pub at_most : (k l : ℕ) → k ≤ 1 → k * l ≤ l
 at_most zero l h = omega arith
 at_most (suc zero) l h = omega arith
 at_most (suc (suc k)) l h = absurd (omega arith)
+
+pub changes_few : (p : Option Mode) (m : Mode) → changes p m ≤ 1
+changes_few None m = omega arith
+changes_few (Some n) m = few (same_mode n m)

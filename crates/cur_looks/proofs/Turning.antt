@@ -8,10 +8,10 @@ use Rattle.vt_term.proofs.Grids.{look_at-drawn}
 use Rattle.cur_looks.specs.declared.rows.Attributes.{Attributes}
 use Rattle.cur_looks.specs.declared.inks.Brush.{Brush}
 use Rattle.cur_looks.specs.declared.inks.Ink.{Ink}
-use Rattle.cur_looks.specs.Rows.{Row, Cup, Sgr, Setaf, Setab, Op, Smacs, Rmacs, El, Civis, Cnorm, Cvvis, IsAny, IsFree, IsCalm, IsTame, marked, shown, Renders}
+use Rattle.cur_looks.specs.Rows.{Row, Cup, Sgr, Setaf, Setab, Op, Smacs, Rmacs, El, Civis, Cnorm, Cvvis, IsAny, IsFree, IsCalm, IsTame, marked, shown, Renders, Appears}
 use Rattle.cur_looks.specs.Certified.{Table, IsReady, IsWhole, IsChecked, Ended, has, limit_of}
 use Rattle.cur_looks.specs.Inks.{rendition_of, look_of, IsColored, tail_blank, blank_ink, plain_brush}
-use Rattle.cur_looks.specs.Beliefs.{Agrees, Belief, Place, Turns, IsHere, IsSo, set_row}
+use Rattle.cur_looks.specs.Beliefs.{Agrees, Belief, Place, Turns, IsHere, IsSo, set_row, Mode, Hidden, Normal, Prominent, IsSeen, is_shown}
 
 pub any_of : (t : Table) (s : State) → IsReady t s → IsAny t.rows t.cols s.screen
 any_of t s h = record { screen = h.sized.state.screen; rows_are = h.sized.rows; cols_are = h.sized.cols; tame = h.tame }
@@ -209,3 +209,53 @@ set_absent t checked true f e g b s h = absurd (bad (f e))
     bad : true ≡ false → ⊥
     bad e = cc
 set_absent t checked false f e g b s h = set_plain t checked e g b s h
+
+-- the cursor is shown or not
+visible_as : (t : Table) (g : ℕ → ℕ → Ink) (b : Belief) (m : Mode) → (has t Cnorm ≡ false → is_shown m ≡ true) → (s u : State) → Agrees t g b s → IsOfSize t.rows t.cols u → u.rest ≡ [] → u.screen ≡ record s.screen { visible = is_shown m }
+    → Agrees t g (record b { mode = Some m }) u
+visible_as t g b m needed s u h sized closed e =
+    by_screen t (Agrees t g (record b { mode = Some m })) u (record s.screen { visible = is_shown m }) sized closed e
+    (λ k. record {
+      ready = record { sized = k; rest = refl; tame = record { autowrap = h.ready.tame.autowrap; inserting = h.ready.tame.inserting }; whole = record { top = h.ready.whole.top; bottom = h.ready.whole.bottom }; settled = h.ready.settled; visible = needed };
+      cells = h.cells;
+      place = h.place;
+      brush = h.brush;
+      colored = h.colored;
+      set = h.set;
+      seen = refl;
+    })
+
+pub hidden : (t : Table) → has t Cnorm ≡ true → (g : ℕ → ℕ → Ink) (b : Belief) → Turns t Civis g b g (record b { mode = Some Hidden })
+hidden t is g b = record {
+  starts = λ s h. free_of t s h.ready;
+  ends = λ s u h sized closed w. visible_as t g b Hidden (λ e. absurd (cc)) s u h sized closed w.wants;
+}
+
+pub normal : (t : Table) (g : ℕ → ℕ → Ink) (b : Belief) → Turns t Cnorm g b g (record b { mode = Some Normal })
+normal t g b = record {
+  starts = λ s h. free_of t s h.ready;
+  ends = λ s u h sized closed w. visible_as t g b Normal (λ e. refl) s u h sized closed w.wants;
+}
+
+-- the mode is believed where it is so
+pub mode_as : (t : Table) (g : ℕ → ℕ → Ink) (b : Belief) (m : Mode) (s : State) → s.screen.visible ≡ is_shown m → Agrees t g b s → Agrees t g (record b { mode = Some m }) s
+mode_as t g b m s e h = record { ready = h.ready; cells = h.cells; place = h.place; brush = h.brush; colored = h.colored; set = h.set; seen = e }
+
+pub always_normal : (t : Table) → has t Cnorm ≡ false → (g : ℕ → ℕ → Ink) (b : Belief) (s : State) → Agrees t g b s → Agrees t g (record b { mode = Some Normal }) s
+always_normal t none g b s h = mode_as t g b Normal s (h.ready.visible none) h
+
+shown_so : (b : Belief) → b.mode ≡ Some Normal → (v : Bool) → IsSeen b.mode v → v ≡ true
+shown_so b e v h = subst (λ (o : Option Mode). IsSeen o v) e h
+
+pub stressed_without : (t : Table) (g : ℕ → ℕ → Ink) (b : Belief) → b.mode ≡ Some Normal → (s : State) → Agrees t g b s → Agrees t g (record b { mode = Some Prominent }) s
+stressed_without t g b e s h = mode_as t g b Prominent s (shown_so b e s.screen.visible h.seen) h
+
+appeared : (s u : Screen) → s.visible ≡ true → Appears s u → u ≡ record s { visible = true }
+appeared s u e (inl h) = h
+appeared s u e (inr h) = h ∙ ap (λ (v : Bool). record s { visible = v }) e
+
+pub stressed : (t : Table) (g : ℕ → ℕ → Ink) (b : Belief) → b.mode ≡ Some Normal → Turns t Cvvis g b g (record b { mode = Some Prominent })
+stressed t g b e = record {
+  starts = λ s h. free_of t s h.ready;
+  ends = λ s u h sized closed w. visible_as t g b Prominent (λ x. refl) s u h sized closed (appeared s.screen u.screen (shown_so b e s.screen.visible h.seen) w.wants);
+}

@@ -2,12 +2,14 @@
 use Rattle.std.specs.Prelude.{ℕ, ◌+◌, ◌<◌, ◌≡◌, ◌==◌, ◌&&◌, Bool, true, false, Option, Some, None, if◌then◌else◌, List, []}
 use Rattle.vt_term.specs.Grid.{look_at}
 use Rattle.vt_term.specs.Screen.{State, Screen, Charset, IsOfSize, is_graphic}
-use Rattle.cur_looks.specs.Rows.{Row, Starts, Smacs, Rmacs}
-use Rattle.cur_looks.specs.Certified.{Table, IsReady, Ended}
+use Rattle.cur_looks.specs.Rows.{Row, Starts, Smacs, Rmacs, Civis, Cnorm}
+use Rattle.cur_looks.specs.Certified.{Table, IsReady, Ended, has}
 use Rattle.cur_looks.specs.Inks.{rendition_of, look_of, IsColored}
 use Rattle.cur_looks.specs.declared.inks.Ink.{Ink}
 pub use Rattle.cur_looks.specs.declared.beliefs.Place.{Place}
 pub use Rattle.cur_looks.specs.declared.beliefs.Belief.{Belief}
+pub use Rattle.cur_looks.specs.declared.beliefs.Mode.{Mode}
+pub use Rattle.cur_looks.specs.declared.beliefs.Mode.TheVariants.{Hidden, Normal, Prominent}
 
 abbrev pub IsHere : Option Place → ℕ → ℕ → Bool → Type 0
 IsHere None row col pending = Unit {0}
@@ -17,6 +19,15 @@ abbrev pub IsSo : Option Bool → Bool → Type 0
 IsSo None b = Unit {0}
 IsSo (Some a) b = b ≡ a
 
+abbrev pub is_shown : Mode → Bool
+is_shown Hidden = false
+is_shown Normal = true
+is_shown Prominent = true
+
+abbrev pub IsSeen : Option Mode → Bool → Type 0
+IsSeen None visible = Unit {0}
+IsSeen (Some m) visible = visible ≡ is_shown m
+
 -- ready, with these cells on the screen, and what is believed is so
 pub record Agrees (t : Table) (g : ℕ → ℕ → Ink) (b : Belief) (s : State) : Type 0 where
   pub ready : IsReady t s
@@ -25,7 +36,7 @@ pub record Agrees (t : Table) (g : ℕ → ℕ → Ink) (b : Belief) (s : State)
   pub brush : s.screen.rendition ≡ rendition_of t.looks b.brush
   pub colored : IsColored t b.brush
   pub set : IsSo b.graphic (is_graphic s.screen.charset)
-  pub seen : IsSo b.visible s.screen.visible
+  pub seen : IsSeen b.mode s.screen.visible
 
 -- a row's line leads from the one to the other
 pub record Turns (t : Table) (row : Row) (g : ℕ → ℕ → Ink) (b : Belief) (h : ℕ → ℕ → Ink) (c : Belief) : Type 0 where
@@ -61,3 +72,22 @@ ready_limit t = t.longest.cup + brush_limit t
 
 abbrev pub stamp_limit : Table → ℕ
 stamp_limit t = t.longest.sets + 1
+
+abbrev pub modes_limit : Table → ℕ
+modes_limit t = t.longest.civis + t.longest.cnorm + t.longest.cvvis
+
+abbrev pub same_mode : Mode → Mode → Bool
+same_mode Hidden Hidden = true
+same_mode Normal Normal = true
+same_mode Prominent Prominent = true
+same_mode _ _ = false
+
+-- how often the mode changes: never or once
+abbrev pub changes : Option Mode → Mode → ℕ
+changes None m = 1
+changes (Some n) m = if same_mode n m then 0 else 1
+
+-- a hidden cursor can be shown again
+abbrev pub CanHide : Table → Mode → Type 0
+CanHide t Hidden = (has t Civis ≡ true) × (has t Cnorm ≡ true)
+CanHide t _ = Unit {0}

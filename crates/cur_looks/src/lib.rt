@@ -7,12 +7,14 @@ mod cells;
 mod certificates;
 mod inks;
 mod lines;
+mod modes;
 mod rows;
 mod steps;
 
-pub use beliefs::{Belief, Place};
+pub use beliefs::{Belief, Mode, Place};
 pub use cells::{blank_tail, put_cell};
 pub use certificates::Certificate;
 pub use inks::{Blank, Brush, Ink, View, is_same};
+pub use modes::show_as;
 pub use rows::{Attributes, Looks, Marks, Row};
 pub use steps::move_to;
