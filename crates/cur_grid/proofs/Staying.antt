@@ -1,7 +1,7 @@
 -- Calls on one window change no cell outside its rectangle.
 use Rattle.std.proofs.Common.{◌≡◌, ℕ, ◌+◌, ◌-◌, ◌<◌, ◌≤◌, ◌&&◌, ◌||◌, ◌==◌, nat_lt, bit_xor, min, zero, suc, Bool, true, false, List, [], ◌∷◌, Result, Ok, Err, ℤ, pos, negsuc, refl, sym, ap, ◌∙◌, subst, arith, if◌then◌else◌}
 use Rattle.std.proofs.lemmas.Bool.Decides.{nat_tests}
-use Rattle.cur_grid.specs.declared.areas.Area.{Area}
+use Rattle.grids.specs.declared.areas.Area.{Area}
 use Rattle.cur_grid.specs.declared.puts.Put.{Put}
 use Rattle.cur_grid.specs.declared.puts.Border.{Border}
 use Rattle.cur_grid.specs.declared.refusals.Refusal.{Refusal}
@@ -65,26 +65,26 @@ column_filled : (s : Sheet) (from col n : ℕ) (c : Content) → IsSheet s.grid 
 column_filled s from col n c is lt le = stays_drawn s (column_of s.window from col n) (λ i j old. c) s.window is (λ i j off. column_inside s.window from col n i j lt le off) refl is.window
 
 lines_copied : (s : Sheet) (to from n : ℕ) → IsSheet s.grid s.window → to + n ≤ s.window.area.rows →
-    Stays s (sheet (copied (lines_of s.window to n) (place (s.window.area.top + from) s.window.area.left) false s.grid s.grid) s.window)
+    Stays s (sheet (copied (lines_of s.window to n) (place (s.window.area.top + from) s.window.area.left) s.grid s.grid) s.window)
 lines_copied s to from n is le =
-    stays_drawn s (lines_of s.window to n) (taken (lines_of s.window to n) (place (s.window.area.top + from) s.window.area.left) false s.grid) s.window is
+    stays_drawn s (lines_of s.window to n) (taken (lines_of s.window to n) (place (s.window.area.top + from) s.window.area.left) s.grid) s.window is
     (λ i j off. lines_inside s.window to n i j le off) refl is.window
 
 cells_copied : (s : Sheet) (row to from n : ℕ) → IsSheet s.grid s.window → row < s.window.area.rows → to + n ≤ s.window.area.cols →
-    Stays s (sheet (copied (cells_of s.window row to n) (place (s.window.area.top + row) (s.window.area.left + from)) false s.grid s.grid) s.window)
+    Stays s (sheet (copied (cells_of s.window row to n) (place (s.window.area.top + row) (s.window.area.left + from)) s.grid s.grid) s.window)
 cells_copied s row to from n is lt le =
-    stays_drawn s (cells_of s.window row to n) (taken (cells_of s.window row to n) (place (s.window.area.top + row) (s.window.area.left + from)) false s.grid) s.window is
+    stays_drawn s (cells_of s.window row to n) (taken (cells_of s.window row to n) (place (s.window.area.top + row) (s.window.area.left + from)) s.grid) s.window is
     (λ i j off. cells_inside s.window row to n i j lt le off) refl is.window
 
 lines_went_up : (s : Sheet) (from height n : ℕ) → IsSheet s.grid s.window → from + height ≤ s.window.area.rows → Stays s (sheet (sheets.lines_up s.window from height n s.grid) s.window)
 lines_went_up s from height n is le =
-    let t : Sheet = sheet (copied (lines_of s.window from (height - min n height)) (place (s.window.area.top + (from + min n height)) s.window.area.left) false s.grid s.grid) s.window in
+    let t : Sheet = sheet (copied (lines_of s.window from (height - min n height)) (place (s.window.area.top + (from + min n height)) s.window.area.left) s.grid s.grid) s.window in
     let one : Stays s t = lines_copied s from (from + min n height) (height - min n height) is (omega arith) in
     stays_both s t _ one (lines_filled t (from + (height - min n height)) (min n height) s.window.background one.sheet (omega arith))
 
 lines_went_down : (s : Sheet) (from height n : ℕ) → IsSheet s.grid s.window → from + height ≤ s.window.area.rows → Stays s (sheet (sheets.lines_down s.window from height n s.grid) s.window)
 lines_went_down s from height n is le =
-    let t : Sheet = sheet (copied (lines_of s.window (from + min n height) (height - min n height)) (place (s.window.area.top + from) s.window.area.left) false s.grid s.grid) s.window in
+    let t : Sheet = sheet (copied (lines_of s.window (from + min n height) (height - min n height)) (place (s.window.area.top + from) s.window.area.left) s.grid s.grid) s.window in
     let one : Stays s t = lines_copied s (from + min n height) from (height - min n height) is (omega arith) in
     stays_both s t _ one (lines_filled t from (min n height) s.window.background one.sheet (omega arith))
 
@@ -164,14 +164,14 @@ cleared s is =
 pub insert_char : (p : Put) → IsLocal (sheets.insert_char p)
 insert_char p s is =
     let rest : ℕ = s.window.area.cols - (s.window.col + 1) in
-    let t : Sheet = sheet (copied (cells_of s.window s.window.row (s.window.col + 1) rest) (place (s.window.area.top + s.window.row) (s.window.area.left + s.window.col)) false s.grid s.grid) s.window in
+    let t : Sheet = sheet (copied (cells_of s.window s.window.row (s.window.col + 1) rest) (place (s.window.area.top + s.window.row) (s.window.area.left + s.window.col)) s.grid s.grid) s.window in
     let one : Stays s t = cells_copied s s.window.row (s.window.col + 1) s.window.col rest is is.window.row (omega (arith, is.window.col)) in
     stays_good s (judged_printed p) _ (stays_same s is) (stays_both s t _ one (cells_filled t s.window.row s.window.col 1 (content s.window p) one.sheet is.window.row (omega (arith, is.window.col))))
 
 pub delete_char : IsLocal sheets.delete_char
 delete_char s is =
     let rest : ℕ = s.window.area.cols - (s.window.col + 1) in
-    let t : Sheet = sheet (copied (cells_of s.window s.window.row s.window.col rest) (place (s.window.area.top + s.window.row) (s.window.area.left + (s.window.col + 1))) false s.grid s.grid) s.window in
+    let t : Sheet = sheet (copied (cells_of s.window s.window.row s.window.col rest) (place (s.window.area.top + s.window.row) (s.window.area.left + (s.window.col + 1))) s.grid s.grid) s.window in
     let one : Stays s t = cells_copied s s.window.row s.window.col (s.window.col + 1) rest is is.window.row (omega (arith, is.window.col)) in
     stays_both s t _ one (cells_filled t s.window.row (s.window.area.cols - 1) 1 s.window.background one.sheet is.window.row (omega (arith, is.window.col)))
 

@@ -1,7 +1,7 @@
 -- What a call does to one window and the grid under it (X/Open Curses Issue 7, the reference pages of the calls
 -- named). A step is the sheet after it and the answer; where it is a refusal, what was done before it stands.
-use Rattle.std.specs.Prelude.{◌≡◌, ℕ, ◌+◌, ◌-◌, ◌%◌, ◌==◌, ◌&&◌, ◌||◌, zero, suc, min, nat_lt, List, [], ◌∷◌, true, false, Result, Ok, Err, if◌then◌else◌, bit_xor, ℤ, pos, negsuc}
-use Rattle.cur_grid.specs.declared.areas.Place.{Place}
+use Rattle.std.specs.Prelude.{◌≡◌, ℕ, ◌+◌, ◌-◌, ◌%◌, ◌==◌, ◌&&◌, ◌||◌, zero, suc, min, nat_lt, List, [], ◌∷◌, true, Result, Ok, Err, if◌then◌else◌, bit_xor, ℤ, pos, negsuc}
+use Rattle.grids.specs.declared.areas.Place.{Place}
 use Rattle.cur_grid.specs.declared.puts.Put.{Put}
 use Rattle.cur_grid.specs.declared.puts.Border.{Border}
 use Rattle.cur_grid.specs.declared.refusals.Refusal.{Refusal}
@@ -61,13 +61,13 @@ place top left = record { top = top; left = left }
 abbrev pub lines_up : Window → ℕ → ℕ → ℕ → Grid → Grid
 lines_up w from height n g =
     filled (lines_of w (from + (height - min n height)) (min n height)) w.background
-    (copied (lines_of w from (height - min n height)) (place (w.area.top + (from + min n height)) w.area.left) false g g)
+    (copied (lines_of w from (height - min n height)) (place (w.area.top + (from + min n height)) w.area.left) g g)
 
 -- the lower n go, the others go down, and the background comes in above
 abbrev pub lines_down : Window → ℕ → ℕ → ℕ → Grid → Grid
 lines_down w from height n g =
     filled (lines_of w from (min n height)) w.background
-    (copied (lines_of w (from + min n height) (height - min n height)) (place (w.area.top + from) w.area.left) false g g)
+    (copied (lines_of w (from + min n height) (height - min n height)) (place (w.area.top + from) w.area.left) g g)
 
 abbrev pub region_height : Window → ℕ
 region_height w = w.region_bottom + 1 - w.region_top
@@ -81,13 +81,13 @@ scrolled (negsuc n) w g = lines_down w w.region_top (region_height w) (n + 1) g
 abbrev pub inserted : Content → Window → Grid → Grid
 inserted c w g =
     filled (cells_of w w.row w.col 1) c
-    (copied (cells_of w w.row (w.col + 1) (w.area.cols - (w.col + 1))) (place (w.area.top + w.row) (w.area.left + w.col)) false g g)
+    (copied (cells_of w w.row (w.col + 1) (w.area.cols - (w.col + 1))) (place (w.area.top + w.row) (w.area.left + w.col)) g g)
 
 -- the cursor's cell goes, the line's rest goes left, and the background comes in at the line's end
 abbrev pub deleted : Window → Grid → Grid
 deleted w g =
     filled (cells_of w w.row (w.area.cols - 1) 1) w.background
-    (copied (cells_of w w.row w.col (w.area.cols - (w.col + 1))) (place (w.area.top + w.row) (w.area.left + (w.col + 1))) false g g)
+    (copied (cells_of w w.row w.col (w.area.cols - (w.col + 1))) (place (w.area.top + w.row) (w.area.left + (w.col + 1))) g g)
 
 -- ---- erasing
 

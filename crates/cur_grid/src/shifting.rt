@@ -3,15 +3,14 @@ ghost use Rattle.cur_grid.specs.Windows.{IsWindow, lines_of, cells_of, column_of
 ghost use Rattle.cur_grid.specs.Grids.{copied, filled, shape_of};
 ghost use Rattle.cur_grid.specs.Sheets.{IsSheet, place, sheet, done, lines_up, lines_down, inserted, deleted, line_cleared, bottom_cleared, insert_line, delete_line, delete_char, clear_line, clear_bottom};
 
-use crate::areas::Place;
 use crate::cells::Cell;
-use crate::grids::Grid;
 use crate::windows::Window;
+use grids::{Grid, Place};
 
 // What a window does to the lines and cells of its grid, its cursor staying where it is.
 impl Window {
     /// The cells from the cursor to the line's end are erased (`clrtoeol`).
-    pub fn clear_line(&self, grid: &mut Grid)
+    pub fn clear_line(&self, grid: &mut Grid<Cell>)
         requires { IsSheet grid.old self.now }
         ensures value { done grid.new self.now ≡ clear_line (sheet grid.old self.now) }
         ensures shape { shape_of grid.new ≡ shape_of grid.old }
@@ -26,7 +25,7 @@ impl Window {
     }
 
     /// The cells from the cursor to the window's end are erased (`clrtobot`).
-    pub fn clear_bottom(&self, grid: &mut Grid)
+    pub fn clear_bottom(&self, grid: &mut Grid<Cell>)
         requires { IsSheet grid.old self.now }
         ensures value { done grid.new self.now ≡ clear_bottom (sheet grid.old self.now) }
         ensures shape { shape_of grid.new ≡ shape_of grid.old }
@@ -42,7 +41,7 @@ impl Window {
 
     /// A line of the background comes in at the cursor's line, and those from there to the window's bottom go
     /// down; the last one goes (`insertln`).
-    pub fn insert_line(&self, grid: &mut Grid)
+    pub fn insert_line(&self, grid: &mut Grid<Cell>)
         requires { IsSheet grid.old self.now }
         ensures value { done grid.new self.now ≡ insert_line (sheet grid.old self.now) }
         ensures shape { shape_of grid.new ≡ shape_of grid.old }
@@ -52,7 +51,7 @@ impl Window {
 
     /// The cursor's line goes, those below it go up, and a line of the background comes in at the window's bottom
     /// (`deleteln`).
-    pub fn delete_line(&self, grid: &mut Grid)
+    pub fn delete_line(&self, grid: &mut Grid<Cell>)
         requires { IsSheet grid.old self.now }
         ensures value { done grid.new self.now ≡ delete_line (sheet grid.old self.now) }
         ensures shape { shape_of grid.new ≡ shape_of grid.old }
@@ -61,7 +60,7 @@ impl Window {
     }
 
     /// The cursor's cell goes, the line's rest goes left, and the background comes in at its end (`delch`).
-    pub fn delete_char(&self, grid: &mut Grid)
+    pub fn delete_char(&self, grid: &mut Grid<Cell>)
         requires { IsSheet grid.old self.now }
         ensures value { done grid.new self.now ≡ delete_char (sheet grid.old self.now) }
         ensures shape { shape_of grid.new ≡ shape_of grid.old }
@@ -72,7 +71,7 @@ impl Window {
     }
 
     // The cell comes in at the cursor, and the line's rest goes right.
-    pub(crate) fn insert_cell(&self, grid: &mut Grid, cell: Cell)
+    pub(crate) fn insert_cell(&self, grid: &mut Grid<Cell>, cell: Cell)
         requires { IsSheet grid.old self.now }
         ensures value { grid.new ≡ inserted cell self.now grid.old }
         ensures shape { shape_of grid.new ≡ shape_of grid.old }
@@ -83,7 +82,7 @@ impl Window {
     }
 
     // Of `height` lines from `from` on, the upper `n` go, the others go up, and the background comes in below.
-    pub(crate) fn lines_up(&self, grid: &mut Grid, from: u16, height: u16, n: u16)
+    pub(crate) fn lines_up(&self, grid: &mut Grid<Cell>, from: u16, height: u16, n: u16)
         requires sheet { IsSheet grid.old self.now }
         requires within { from + height ≤ self.now.area.rows }
         ensures value { grid.new ≡ lines_up self.now from height n grid.old }
@@ -95,7 +94,7 @@ impl Window {
     }
 
     // The lower `n` go, the others go down, and the background comes in above.
-    pub(crate) fn lines_down(&self, grid: &mut Grid, from: u16, height: u16, n: u16)
+    pub(crate) fn lines_down(&self, grid: &mut Grid<Cell>, from: u16, height: u16, n: u16)
         requires sheet { IsSheet grid.old self.now }
         requires within { from + height ≤ self.now.area.rows }
         ensures value { grid.new ≡ lines_down self.now from height n grid.old }
@@ -107,7 +106,7 @@ impl Window {
     }
 
     // `n` of its lines become this cell.
-    pub(crate) fn fill_lines(&self, grid: &mut Grid, from: u16, n: u16, cell: Cell)
+    pub(crate) fn fill_lines(&self, grid: &mut Grid<Cell>, from: u16, n: u16, cell: Cell)
         requires sheet { IsSheet grid.old self.now }
         requires within { from + n ≤ self.now.area.rows }
         ensures value { grid.new ≡ filled (lines_of self.now from n) cell grid.old }
@@ -117,7 +116,7 @@ impl Window {
     }
 
     // `n` cells of one of its lines become this one.
-    pub(crate) fn fill_cells(&self, grid: &mut Grid, row: u16, from: u16, n: u16, cell: Cell)
+    pub(crate) fn fill_cells(&self, grid: &mut Grid<Cell>, row: u16, from: u16, n: u16, cell: Cell)
         requires sheet { IsSheet grid.old self.now }
         requires row_within { row < self.now.area.rows }
         requires within { from + n ≤ self.now.area.cols }
@@ -128,7 +127,7 @@ impl Window {
     }
 
     // `n` cells of one of its columns become this one.
-    pub(crate) fn fill_column(&self, grid: &mut Grid, from: u16, col: u16, n: u16, cell: Cell)
+    pub(crate) fn fill_column(&self, grid: &mut Grid<Cell>, from: u16, col: u16, n: u16, cell: Cell)
         requires sheet { IsSheet grid.old self.now }
         requires col_within { col < self.now.area.cols }
         requires within { from + n ≤ self.now.area.rows }
@@ -139,33 +138,33 @@ impl Window {
     }
 
     // `n` lines from `to` on become those from `from` on.
-    fn shift_lines(&self, grid: &mut Grid, to: u16, from: u16, n: u16)
+    fn shift_lines(&self, grid: &mut Grid<Cell>, to: u16, from: u16, n: u16)
         requires sheet { IsSheet grid.old self.now }
         requires to_within { to + n ≤ self.now.area.rows }
         requires from_within { from + n ≤ self.now.area.rows }
-        ensures value { grid.new ≡ copied (lines_of self.now to n) (place (self.now.area.top + from) self.now.area.left) false grid.old grid.old }
+        ensures value { grid.new ≡ copied (lines_of self.now to n) (place (self.now.area.top + from) self.now.area.left) grid.old grid.old }
         ensures shape { shape_of grid.new ≡ shape_of grid.old }
     {
         let source = Place {
             top: self.area.top + from,
             left: self.area.left,
         };
-        grid.shift(self.lines(to, n), source, false);
+        grid.shift(self.lines(to, n), source);
     }
 
     // `n` cells of one line from `to` on become those from `from` on.
-    fn shift_cells(&self, grid: &mut Grid, row: u16, to: u16, from: u16, n: u16)
+    fn shift_cells(&self, grid: &mut Grid<Cell>, row: u16, to: u16, from: u16, n: u16)
         requires sheet { IsSheet grid.old self.now }
         requires row_within { row < self.now.area.rows }
         requires to_within { to + n ≤ self.now.area.cols }
         requires from_within { from + n ≤ self.now.area.cols }
-        ensures value { grid.new ≡ copied (cells_of self.now row to n) (place (self.now.area.top + row) (self.now.area.left + from)) false grid.old grid.old }
+        ensures value { grid.new ≡ copied (cells_of self.now row to n) (place (self.now.area.top + row) (self.now.area.left + from)) grid.old grid.old }
         ensures shape { shape_of grid.new ≡ shape_of grid.old }
     {
         let source = Place {
             top: self.area.top + row,
             left: self.area.left + from,
         };
-        grid.shift(self.cells(row, to, n), source, false);
+        grid.shift(self.cells(row, to, n), source);
     }
 }

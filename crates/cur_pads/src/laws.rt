@@ -1,6 +1,6 @@
 //! Laws of the calls, each for all desks and screens.
 ghost use Rattle.std.specs.Prelude.{ℕ, ℤ};
-ghost use Rattle.cur_windows.specs.Desks.{State};
+ghost use Rattle.cur_windows.specs.Desks.{State, IsDesk};
 ghost use Rattle.cur_windows.specs.Laws.{GivesBack};
 ghost use Rattle.cur_windows.specs.Screens.{Screen};
 ghost use Rattle.cur_pads.specs.Laws.{GivesBoth, ShowsCells};
@@ -10,7 +10,7 @@ ghost use Rattle.cur_pads.specs.Showing.{pnoutrefresh};
 /// Where a part of a pad is shown, the screen's places from its first row and column to its last ones have the pad's cells,
 /// and all others what they had.
 pub fn parts_are_shown()
-    ensures { (d : State) (v : Screen) (n : ℕ) (pr pc sr sc : ℤ) (bottom right : ℕ) → ShowsCells d v n pr pc sr sc bottom right }
+    ensures { (d : State) (v : Screen) (n : ℕ) (pr pc sr sc : ℤ) (bottom right : ℕ) → IsDesk d → ShowsCells d v n pr pc sr sc bottom right }
 {}
 
 /// A refused call gives the desk, and the screen, back.

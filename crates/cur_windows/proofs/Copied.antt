@@ -1,9 +1,12 @@
 -- A copy changes no cell outside its target.
 use Rattle.std.proofs.Common.{◌≡◌, ℕ, ◌+◌, ◌-◌, ◌<◌, ◌≤◌, nat_lt, nat_le, max, min, Bool, true, false, Option, Some, None, Result, Ok, Err, ℤ, pos, negsuc, refl, subst, arith, if◌then◌else◌}
 use Rattle.std.proofs.lemmas.Bool.Decides.{nat_tests}
+use Rattle.grids.specs.declared.areas.Area.{Area}
+use Rattle.grids.specs.declared.areas.Place.{Place}
 use Rattle.cur_grid.specs.declared.refusals.Refusal.{Refusal}
 use Rattle.cur_grid.specs.declared.refusals.Refusal.TheVariants.{OutOfWindow}
-use Rattle.cur_grid.specs.Grids.{Grid, is_in, copied, taken}
+use Rattle.cur_grid.specs.Cells.{unless_space}
+use Rattle.cur_grid.specs.Grids.{Grid, cell_at, is_in, overlaid, laid, taken}
 use Rattle.cur_grid.proofs.Drawing.{cell_at-drawn_in_off}
 use Rattle.cur_windows.specs.declared.copying.Strip.{Strip}
 use Rattle.cur_windows.specs.declared.slots.Slot.{Slot}
@@ -17,6 +20,10 @@ use Rattle.cur_windows.proofs.Backing.{found_there}
 use Rattle.cur_windows.proofs.Sharing.{ok_inj}
 use Rattle.cur_windows.proofs.Within.{grid_within}
 
+cell_at-overlaid_off : (a : Area) (from : Place) (skip : Bool) (source g : Grid) (i j : ℕ) → is_in a i j ≡ false → cell_at (overlaid a from skip source g) i j ≡ cell_at g i j
+cell_at-overlaid_off a from true source g i j off = cell_at-drawn_in_off a (laid a from unless_space source) g i j off
+cell_at-overlaid_off a from false source g i j off = cell_at-drawn_in_off a (taken a from source) g i j off
+
 target_off : (t : Slot) (v h : Strip) (i j : ℕ) → v.to + v.count ≤ t.window.area.rows → h.to + h.count ≤ t.window.area.cols → is_in t.window.area i j ≡ false → is_in (target_area t v h) i j ≡ false
 target_off t v h i j rows cols off = grind (arith, nat_tests)
 
@@ -28,9 +35,9 @@ strips_within : (d : State) (s t : Slot) (m : ℕ) (v h : Strip) (skip : Bool) �
 strips_within d s t m v h skip is there rows cols =
     let old : IsPlaced d m t = is.placed m t there in
     let from = source_place s v h in
-    let g : Grid = copied (target_area t v h) from skip (grid_at d s.root) (grid_at d t.root) in record {
+    let g : Grid = overlaid (target_area t v h) from skip (grid_at d s.root) (grid_at d t.root) in record {
       cells = λ k i j off. grid_within d t g k i j (omega (arith, is.grids, old.root))
-          (λ i j out. cell_at-drawn_in_off (target_area t v h) (taken (target_area t v h) from skip (grid_at d s.root)) (grid_at d t.root) i j (target_off t v h i j rows cols out)) off;
+          (λ i j out. cell_at-overlaid_off (target_area t v h) from skip (grid_at d s.root) (grid_at d t.root) i j (target_off t v h i j rows cols out)) off;
       windows = λ k other. refl;
     }
 

@@ -1,11 +1,11 @@
 -- Copying from one window to another (X/Open Curses Issue 7, overlay, overwrite, copywin). What is read is what the
 -- source had before the call, also where both are parts of one grid.
 use Rattle.std.specs.Prelude.{ℕ, ◌+◌, ◌-◌, ◌≤◌, ◌||◌, nat_lt, min, max, slice_set, Bool, Option, Some, None, Result, Ok, Err, if◌then◌else◌, ℤ, int_lt}
-use Rattle.cur_grid.specs.declared.areas.Area.{Area}
-use Rattle.cur_grid.specs.declared.areas.Place.{Place}
+use Rattle.grids.specs.declared.areas.Area.{Area}
+use Rattle.grids.specs.declared.areas.Place.{Place}
 use Rattle.cur_grid.specs.declared.refusals.Refusal.{Refusal}
 use Rattle.cur_grid.specs.declared.refusals.Refusal.TheVariants.{BadRegion, OutOfWindow}
-use Rattle.cur_grid.specs.Grids.{copied}
+use Rattle.cur_grid.specs.Grids.{overlaid}
 use Rattle.cur_grid.specs.Sheets.{place}
 use Rattle.cur_windows.specs.declared.copying.Strip.{Strip}
 use Rattle.cur_windows.specs.declared.slots.Slot.{Slot}
@@ -50,7 +50,7 @@ source_place s v h = place (s.window.area.top + v.from) (s.window.area.left + h.
 
 abbrev pub strips_copied : State → Slot → Slot → Strip → Strip → Bool → State
 strips_copied d s t v h skip =
-    record d { grids = slice_set d.grids t.root (copied (target_area t v h) (source_place s v h) skip (grid_at d s.root) (grid_at d t.root)) }
+    record d { grids = slice_set d.grids t.root (overlaid (target_area t v h) (source_place s v h) skip (grid_at d s.root) (grid_at d t.root)) }
 
 -- where there are such lines and columns they are copied, else nothing is done and this is the answer
 abbrev pub copied_or : Result (Unit {0}) Refusal → State → Slot → Slot → Bool → Option Strip → Option Strip → DeskStep

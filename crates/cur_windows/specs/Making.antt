@@ -1,6 +1,6 @@
 -- Making, moving and deleting windows (X/Open Curses Issue 7, newwin, subwin, derwin, delwin, mvwin).
 use Rattle.std.specs.Prelude.{ℕ, ◌+◌, ◌<◌, ◌≤◌, ◌==◌, ◌&&◌, ◌||◌, nat_lt, not, List, [], ◌∷◌, length, slice_set, Bool, true, false, Option, Some, None, Result, Ok, Err, if◌then◌else◌, ℤ, pos, ◌-ℤ◌}
-use Rattle.cur_grid.specs.declared.areas.Area.{Area}
+use Rattle.grids.specs.declared.areas.Area.{Area}
 use Rattle.cur_grid.specs.declared.refusals.Refusal.{Refusal}
 use Rattle.cur_grid.specs.declared.refusals.Refusal.TheVariants.{Full, NumberUsed, OutOfScreen, OutOfWindow, PadKind, IsScreen, HasChildren, IsSub}
 use Rattle.cur_grid.specs.declared.windows.Window.{Window}
@@ -118,7 +118,7 @@ copy_origin d s = if (origin_at d s.root).pad then on_screen 0 0 true else on_sc
 
 -- the copy's grid: the window's cells
 abbrev pub copy_grid : State → Slot → Grid
-copy_grid d s = copied (whole_area s.window.area.rows s.window.area.cols) (place s.window.area.top s.window.area.left) false (grid_at d s.root)
+copy_grid d s = copied (whole_area s.window.area.rows s.window.area.cols) (place s.window.area.top s.window.area.left) (grid_at d s.root)
     (blank s.window.area.rows s.window.area.cols)
 
 -- dupwin: a window of its own with the same cells, cursor, attributes, background and options

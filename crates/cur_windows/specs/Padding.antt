@@ -1,8 +1,8 @@
 -- What a crate of pads stands on: a pad lies on no screen, and parts of it are shown (X/Open Curses Issue 7, newpad,
 -- subpad, pnoutrefresh).
 use Rattle.std.specs.Prelude.{ℕ, ◌+◌, ◌-◌, Bool, true, false, Option, Some, None, Result, Ok, Err, if◌then◌else◌}
-use Rattle.cur_grid.specs.declared.areas.Area.{Area}
-use Rattle.cur_grid.specs.declared.areas.Place.{Place}
+use Rattle.grids.specs.declared.areas.Area.{Area}
+use Rattle.grids.specs.declared.areas.Place.{Place}
 use Rattle.cur_grid.specs.declared.refusals.Refusal.{Refusal}
 use Rattle.cur_grid.specs.declared.windows.Window.{Window}
 use Rattle.cur_grid.specs.Grids.{blank, is_in, moved_to}

@@ -1,6 +1,6 @@
 -- One line of a window that is lent for writing.
 use Rattle.std.specs.Prelude.{ℕ, List, ◌+◌, ◌<◌, nat_lt, slice_set, Result, Ok, Err, if◌then◌else◌}
-use Rattle.cur_grid.specs.declared.areas.Area.{Area}
+use Rattle.grids.specs.declared.areas.Area.{Area}
 use Rattle.cur_grid.specs.declared.refusals.Refusal.{Refusal}
 use Rattle.cur_grid.specs.declared.refusals.Refusal.TheVariants.{OutOfWindow}
 use Rattle.cur_grid.specs.Cells.{Content}

@@ -1,7 +1,7 @@
 -- The virtual screen: what the terminal is to show (X/Open Curses Issue 7, noutrefresh, doupdate; "Color Manipulation").
 use Rattle.std.specs.Prelude.{◌≡◌, ℕ, ◌+◌, ◌<◌, ◌||◌, ◌==◌, List, length, slice_index_or, slice_set, replicate, Bool, false, Option, Some, None, IfSome, Result, Ok, Err, if◌then◌else◌, ℤ}
-use Rattle.cur_grid.specs.declared.areas.Area.{Area}
-use Rattle.cur_grid.specs.declared.areas.Place.{Place}
+use Rattle.grids.specs.declared.areas.Area.{Area}
+use Rattle.grids.specs.declared.areas.Place.{Place}
 use Rattle.cur_grid.specs.declared.refusals.Refusal.{Refusal}
 use Rattle.cur_grid.specs.declared.refusals.Refusal.TheVariants.{BadPair}
 use Rattle.cur_grid.specs.Grids.{Grid, line_at, copied, blank}
@@ -64,7 +64,7 @@ init_pair p f b v = initialized (place_below p 64) (place_below f 8) (place_belo
 
 -- a rectangle of the screen gets the cells of a grid from a place on
 abbrev pub shown : Area → Grid → Place → Option Place → Bool → Screen → Screen
-shown area g from cursor clears v = record v { grid = copied area from false g v.grid; cursor = cursor; clearok = v.clearok || clears }
+shown area g from cursor clears v = record v { grid = copied area from g v.grid; cursor = cursor; clearok = v.clearok || clears }
 
 -- the rectangle of a window on the screen, and where its cursor stands there
 abbrev pub area_on_screen : State → Slot → Area

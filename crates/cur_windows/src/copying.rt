@@ -1,5 +1,5 @@
 ghost use Rattle.std.specs.Prelude.{◌≡◌, ◌<◌, ◌≤◌, ◌≤ℤ◌, ◌+◌, IfSome, OnOk, [], true, false, length, slice_index_or, slice_set};
-ghost use Rattle.cur_grid.specs.Grids.{Fits, copied, moved_to};
+ghost use Rattle.cur_grid.specs.Grids.{Fits, overlaid, moved_to, shape_of};
 ghost use Rattle.cur_grid.specs.Sheets.{IsSheet};
 ghost use Rattle.cur_windows.specs.Desks as spec;
 ghost use Rattle.cur_windows.specs.Copying.{IsWithin, common, common_part, copied_or, copywin, in_order, matched, strips_copied};
@@ -7,7 +7,8 @@ ghost use Rattle.cur_windows.specs.Copying.{IsWithin, common, common_part, copie
 use crate::desks::Desk;
 use crate::making::in_range;
 use crate::slots::Slot;
-use cur_grid::{Area, Grid, Place, Refusal, spot};
+use cur_grid::{Cell, Refusal, SkipSpaces, spot};
+use grids::{Area, Grid, Place};
 use std::mem;
 
 /// Lines or columns that are copied: the first one in the source, the first one in the destination, and how many.
@@ -140,10 +141,10 @@ impl Desk {
 // A rectangle of one grid gets the cells of another one, or of itself, as they were before. The spare one stands in the
 // target's place while it is written.
 fn copy_between(
-    grids: &mut [Grid],
+    grids: &mut [Grid<Cell>],
     source: usize,
     target: usize,
-    spare: Grid,
+    spare: Grid<Cell>,
     area: Area,
     from: Place,
     skip: bool,
@@ -152,15 +153,43 @@ fn copy_between(
     requires target { target < length grids.old }
     requires area { Fits area (slice_index_or grids.old target []) }
     requires from { Fits (moved_to area from) (slice_index_or grids.old source []) }
-    ensures { grids.new ≡ slice_set grids.old target (copied area from skip (slice_index_or grids.old source []) (slice_index_or grids.old target [])) }
+    ensures { grids.new ≡ slice_set grids.old target (overlaid area from skip (slice_index_or grids.old source []) (slice_index_or grids.old target [])) }
 {
     if source == target {
-        grids[target].shift(area, from, skip);
+        overlay_shift(&mut grids[target], area, from, skip);
         return;
     }
     let mut grid = mem::replace(&mut grids[target], spare);
-    grid.copy_from(area, &grids[source], from, skip);
+    overlay_from(&mut grid, area, &grids[source], from, skip);
     grids[target] = grid;
+}
+
+// A rectangle of a grid gets the cells of another one from a place on, without its spaces if these are skipped.
+fn overlay_from(grid: &mut Grid<Cell>, area: Area, source: &Grid<Cell>, from: Place, skip: bool)
+    requires target { Fits area grid.old }
+    requires source { Fits (moved_to area from) source.now }
+    ensures value { grid.new ≡ overlaid area from skip source.now grid.old }
+    ensures shape { shape_of grid.new ≡ shape_of grid.old }
+{
+    if skip {
+        grid.merge_from(area, source, from, &SkipSpaces);
+    } else {
+        grid.copy_from(area, source, from);
+    }
+}
+
+// It gets those of the grid itself, as if they were all read first.
+fn overlay_shift(grid: &mut Grid<Cell>, area: Area, from: Place, skip: bool)
+    requires target { Fits area grid.old }
+    requires source { Fits (moved_to area from) grid.old }
+    ensures value { grid.new ≡ overlaid area from skip grid.old grid.old }
+    ensures shape { shape_of grid.new ≡ shape_of grid.old }
+{
+    if skip {
+        grid.merge_shift(area, from, &SkipSpaces);
+    } else {
+        grid.shift(area, from);
+    }
 }
 
 fn in_order(top: i32, bottom: i32, left: i32, right: i32) -> Result<(), Refusal>

@@ -1,9 +1,11 @@
 ghost use Rattle.std.specs.Prelude.{◌≡◌, ◌<◌, ◌≤◌, Some, None, IfOk, [], replicate, false};
+ghost use Rattle.cur_grid.specs.Grids.{blank};
 ghost use Rattle.cur_windows.specs.Desks as spec;
 ghost use Rattle.cur_windows.specs.Desks.{IsPlaced, IsDesk};
 
 use crate::slots::{Origin, Slot};
-use cur_grid::{Area, Grid, Refusal, Window};
+use cur_grid::{Cell, Refusal, Window};
+use grids::{Area, Grid};
 use std::alloc::{AllocError, Global};
 use std::marker::Model;
 use vt_term::Size;
@@ -17,7 +19,7 @@ pub struct Desk {
     pub(crate) alloc: Global,
     pub(crate) rows: u16,
     pub(crate) cols: u16,
-    pub(crate) grids: Vec<Grid>,
+    pub(crate) grids: Vec<Grid<Cell>>,
     pub(crate) origins: Vec<Origin>,
     pub(crate) windows: Vec<Option<Slot>>,
 }
@@ -47,7 +49,7 @@ impl Desk {
         let mut grids = empty_grids(alloc)?;
         let mut windows = no_windows(alloc)?;
         let origins = screen_origins(alloc)?;
-        grids[0] = Grid::new(alloc, rows, cols)?;
+        grids[0] = blank_grid(alloc, rows, cols)?;
         windows[0] = Some(Slot {
             root: 0,
             parent: None,
@@ -78,7 +80,14 @@ impl Desk {
     }
 }
 
-fn empty_grids(alloc: Global) -> Result<Vec<Grid>, AllocError>
+/// A grid of spaces without attributes. An error where a growth was refused.
+pub(crate) fn blank_grid(alloc: Global, rows: u16, cols: u16) -> Result<Grid<Cell>, AllocError>
+    ensures { IfOk result (λ grid. grid ≡ blank rows cols) }
+{
+    Grid::new(alloc, rows as usize, cols as usize, Cell::space())
+}
+
+fn empty_grids(alloc: Global) -> Result<Vec<Grid<Cell>>, AllocError>
     ensures { IfOk result (λ grids. grids.items ≡ replicate 64 []) }
 {
     let mut grids = Vec::with_capacity(alloc, PLACES)?;

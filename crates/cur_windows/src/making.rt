@@ -6,9 +6,10 @@ ghost use Rattle.cur_grid.specs.Stretches.{IsPart};
 ghost use Rattle.cur_windows.specs.Desks as spec;
 ghost use Rattle.cur_windows.specs.Making as make;
 
-use crate::desks::Desk;
+use crate::desks::{Desk, blank_grid};
 use crate::slots::{Origin, Slot};
-use cur_grid::{Area, Grid, Place, Refusal, Window, Wish, part, spot};
+use cur_grid::{Cell, Refusal, Window, Wish, part, spot};
+use grids::{Area, Grid, Place};
 
 // Making, moving and deleting windows. A refusal changes nothing.
 impl Desk {
@@ -26,7 +27,7 @@ impl Desk {
             x: x as i64,
         };
         let area = part(self.rows, self.cols, wish, Refusal::OutOfScreen)?;
-        let Ok(grid) = Grid::new(self.alloc, area.rows, area.cols) else {
+        let Ok(grid) = blank_grid(self.alloc, area.rows, area.cols) else {
             return Err(Refusal::NoMemory);
         };
         self.settle(n, grid, area);
@@ -105,10 +106,10 @@ impl Desk {
             top: area.top,
             left: area.left,
         };
-        let Ok(mut grid) = Grid::new(self.alloc, area.rows, area.cols) else {
+        let Ok(mut grid) = blank_grid(self.alloc, area.rows, area.cols) else {
             return Err(Refusal::NoMemory);
         };
-        grid.copy_from(whole, self.grid_of(&slot), from, false);
+        grid.copy_from(whole, self.grid_of(&slot), from);
         let origin = self.copy_origin(&slot);
         let mut window = slot.window;
         window.area = whole;
@@ -206,7 +207,7 @@ impl Desk {
     }
 
     // Window `n` comes to be, on this grid, at the area's place of the screen.
-    fn settle(&mut self, n: usize, grid: Grid, area: Area)
+    fn settle(&mut self, n: usize, grid: Grid<Cell>, area: Area)
         requires number { n < 64 }
         requires free { spec.window_at self.old n ≡ None }
         requires grid { grid ≡ blank area.rows area.cols }
@@ -230,7 +231,7 @@ impl Desk {
     }
 
     // Window `n` comes to be, with this grid of its own.
-    pub(crate) fn place_new(&mut self, n: usize, grid: Grid, origin: Origin, window: Window)
+    pub(crate) fn place_new(&mut self, n: usize, grid: Grid<Cell>, origin: Origin, window: Window)
         requires number { n < 64 }
         requires free { spec.window_at self.old n ≡ None }
         requires sheet { IsSheet grid window }

@@ -7,10 +7,11 @@ ghost use Rattle.cur_windows.specs.Making as make;
 ghost use Rattle.cur_windows.specs.Padding.{is_pad, padded, area_of, part_cursor, part_shown};
 ghost use Rattle.cur_grid.specs.Sheets.{place};
 
-use crate::desks::Desk;
+use crate::desks::{Desk, blank_grid};
 use crate::screens::Virtual;
 use crate::slots::Origin;
-use cur_grid::{Area, Grid, Place, Refusal, Window};
+use cur_grid::{Refusal, Window};
+use grids::{Area, Place};
 use std::alloc::AllocError;
 
 // What a crate of pads stands on. A pad is a window that lies on no screen; parts of it are shown.
@@ -32,7 +33,7 @@ impl Desk {
         requires cols { (0 < cols) × (cols ≤ 1000) }
         ensures { MatchResult result (λ u. self.new ≡ padded self.old n rows cols) (λ e. self.new ≡ self.old) }
     {
-        let grid = Grid::new(self.alloc, rows, cols)?;
+        let grid = blank_grid(self.alloc, rows, cols)?;
         let origin = Origin {
             top: 0,
             left: 0,

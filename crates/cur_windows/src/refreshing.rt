@@ -8,7 +8,8 @@ ghost use Rattle.cur_windows.specs.Screens.{refresh, noutrefresh, area_on_screen
 use crate::desks::Desk;
 use crate::screens::Virtual;
 use crate::slots::Slot;
-use cur_grid::{Area, Grid, Place, Refusal};
+use cur_grid::{Cell, Refusal};
+use grids::{Area, Grid, Place};
 
 impl Desk {
     /// The whole window is copied to the virtual screen, whose cursor becomes the window's, or none where the window
@@ -34,7 +35,7 @@ impl Desk {
     }
 
     // The grid that a window lies in.
-    pub(crate) fn grid_of(&self, slot: &Slot) -> &Grid
+    pub(crate) fn grid_of(&self, slot: &Slot) -> &Grid<Cell>
         requires { (slot.now).root < 64 }
         ensures { result.now ≡ spec.grid_at self.now (slot.now).root }
     {

@@ -3,7 +3,9 @@ ghost use Rattle.cur_grid.specs.Grids.{Fits, line_at, moved_to};
 ghost use Rattle.cur_grid.specs.Windows.{place_below};
 ghost use Rattle.cur_windows.specs.Screens as spec;
 
-use cur_grid::{Area, Cell, Grid, Place, Refusal};
+use crate::desks::blank_grid;
+use cur_grid::{Cell, Refusal};
+use grids::{Area, Grid, Place};
 use std::alloc::{AllocError, Global};
 use std::marker::Model;
 use vt_term::Size;
@@ -23,7 +25,7 @@ pub struct Colors {
 pub struct Virtual {
     rows: u16,
     cols: u16,
-    grid: Grid,
+    grid: Grid<Cell>,
     cursor: Option<Place>,
     clearok: bool,
     pairs: Vec<Colors>,
@@ -50,7 +52,7 @@ impl Virtual {
         Ok(Virtual {
             rows,
             cols,
-            grid: Grid::new(alloc, rows, cols)?,
+            grid: blank_grid(alloc, rows, cols)?,
             cursor: Some(Place { top: 0, left: 0 }),
             clearok: false,
             pairs,
@@ -124,7 +126,7 @@ impl Virtual {
     pub(crate) fn show(
         &mut self,
         area: Area,
-        grid: &Grid,
+        grid: &Grid<Cell>,
         from: Place,
         cursor: Option<Place>,
         clears: bool,
@@ -135,7 +137,7 @@ impl Virtual {
         requires cursor { IfSome cursor (λ p. (p.top < (self.old).rows) × (p.left < (self.old).cols)) }
         ensures { self.new ≡ spec.shown area grid.now from cursor clears self.old }
     {
-        self.grid.copy_from(area, grid, from, false);
+        self.grid.copy_from(area, grid, from);
         self.cursor = cursor;
         self.clearok = self.clearok | clears;
     }

@@ -5,7 +5,8 @@ ghost use Rattle.cur_windows.specs.Views.{IsSeen, seen, window_cells};
 
 use crate::desks::Desk;
 use crate::slots::Slot;
-use cur_grid::{Area, Cell, Grid, Refusal};
+use cur_grid::{Cell, Refusal};
+use grids::{Area, Grid};
 use std::marker::Model;
 
 /// What is seen of a window, a subwindow or a pad: its cells, line by line.
@@ -30,7 +31,7 @@ pub trait View {
 /// A window's part of its grid.
 #[derive(Drop)]
 pub struct Part<'a> {
-    grid: &'a Grid,
+    grid: &'a Grid<Cell>,
     area: Area,
 }
 
