@@ -10,7 +10,7 @@ use Rattle.grids.specs.Grids as base
 use Rattle.cur_grid.specs.Cells.{Content, space}
 use Rattle.cur_grid.specs.Grids.{Grid, is_in, line_at, cell_at, filled, copied, taken, shape_of}
 use Rattle.cur_grid.specs.Windows.{lines_of}
-use Rattle.cur_grid.specs.Sheets.{IsSheet, place, lines_up, lines_down, region_height}
+use Rattle.cur_grid.specs.Calls.{IsCanvas, place, lines_up, lines_down, region_height}
 use Rattle.cur_grid.specs.Laws.{cell_of, in_region, went_up, went_down}
 use Rattle.cur_grid.proofs.Drawing.{shape_of-drawn, shape_of-line, cell_at-drawn_in, cell_at-drawn_in_off}
 
@@ -53,11 +53,11 @@ both_off : (a b : Area) (from : Place) (c : Content) (g : Grid) (i j : ℕ) → 
 both_off a b from c g i j one two =
     cell_at-drawn_in_off a (λ i j old. c) (copied b from g g) i j one ∙ cell_at-drawn_in_off b (taken b from g) g i j two
 
-copied_there : (a b : Area) (from : Place) (c : Content) (g : Grid) (i j row col : ℕ) → is_in a i j ≡ false → is_in b i j ≡ true → j < length (line_at g i) → from.top + (i - b.top) ≡ row → from.left + (j - b.left) ≡ col → col < length (line_at g row) →
+copied_there : (a b : Area) (from : Place) (c : Content) (g : Grid) (i j row col : ℕ) → is_in a i j ≡ false → is_in b i j ≡ true → j < length (line_at g i) → from.row + (i - b.top) ≡ row → from.col + (j - b.left) ≡ col → col < length (line_at g row) →
     cell_at (filled a c (copied b from g g)) i j ≡ cell_at g row col
 copied_there a b from c g i j row col off on near r h known =
     cell_at-drawn_in_off a (λ i j old. c) (copied b from g g) i j off ∙ cell_at-drawn_in b (taken b from g) g i j on near
-    ∙ ap (λ (k : ℕ). base.cell_at (cell_at g i j) g k (from.left + (j - b.left))) r ∙ ap (λ (k : ℕ). base.cell_at (cell_at g i j) g row k) h
+    ∙ ap (λ (k : ℕ). base.cell_at (cell_at g i j) g k (from.col + (j - b.left))) r ∙ ap (λ (k : ℕ). base.cell_at (cell_at g i j) g row k) h
     ∙ get_or_default (line_at g row) col (cell_at g i j) space known
 
 filled_there : (a b : Area) (from : Place) (c : Content) (g : Grid) (i j : ℕ) → is_in a i j ≡ true → j < length (line_at g i) → cell_at (filled a c (copied b from g g)) i j ≡ c
@@ -66,10 +66,10 @@ filled_there a b from c g i j on near =
     let shape : shape_of h ≡ shape_of g = shape_of-drawn (λ i j old. if is_in b i j then taken b from g i j old else old) g in
     cell_at-drawn_in a (λ i j old. c) h i j on (let line : length (line_at h i) ≡ length (line_at g i) = shape_of-line g h i shape in omega arith)
 
-line_long : (g : Grid) (w : Window) (y x : ℕ) → IsSheet g w → y < w.area.rows → x < w.area.cols → w.area.left + x < length (line_at g (w.area.top + y))
+line_long : (g : Grid) (w : Window) (y x : ℕ) → IsCanvas g w → y < w.area.rows → x < w.area.cols → w.area.left + x < length (line_at g (w.area.top + y))
 line_long g w y x is lt lt2 = let rows = is.fits.rows in let cols = is.fits.cols (w.area.top + y) (omega arith) in omega arith
 
-pub up_by_place : (g : Grid) (w : Window) (n y x : ℕ) → IsSheet g w → y < w.area.rows → x < w.area.cols → cell_of w (lines_up w w.region_top (region_height w) n g) y x ≡ went_up w n g y x
+pub up_by_place : (g : Grid) (w : Window) (n y x : ℕ) → IsCanvas g w → y < w.area.rows → x < w.area.cols → cell_of w (lines_up w w.region_top (region_height w) n g) y x ≡ went_up w n g y x
 up_by_place g w n y x is lt lt2 =
     let t : ℕ = w.region_top in let b : ℕ = w.region_bottom in let high : ℕ = region_height w in let m : ℕ = min n high in
     let region = is.window.region in
@@ -93,7 +93,7 @@ up_by_place g w n y x is lt lt2 =
       ]
     ]
 
-pub down_by_place : (g : Grid) (w : Window) (n y x : ℕ) → IsSheet g w → y < w.area.rows → x < w.area.cols → cell_of w (lines_down w w.region_top (region_height w) n g) y x ≡ went_down w n g y x
+pub down_by_place : (g : Grid) (w : Window) (n y x : ℕ) → IsCanvas g w → y < w.area.rows → x < w.area.cols → cell_of w (lines_down w w.region_top (region_height w) n g) y x ≡ went_down w n g y x
 down_by_place g w n y x is lt lt2 =
     let t : ℕ = w.region_top in let b : ℕ = w.region_bottom in let high : ℕ = region_height w in let m : ℕ = min n high in
     let region = is.window.region in

@@ -1,10 +1,10 @@
--- The places of a window or of a screen, line by line, and rectangles of them. Rows and columns count from 0.
+-- Grids of cells: a window's or the virtual screen's. Where there is no cell, a space is read.
 use Rattle.std.specs.Prelude.{ℕ, Bool, List, if◌then◌else◌}
 use Rattle.grids.specs.declared.areas.Area.{Area}
 use Rattle.grids.specs.declared.areas.Place.{Place}
 use Rattle.grids.specs.Grids as base
 use Rattle.cur_grid.specs.Cells.{Content, space, restyled, unless_space}
-pub use Rattle.grids.specs.Grids.{line_at, line_drawn, drawn_from, drawn, is_in, drawn_in, filled, taken, copied, redrawn, laid, one, row_of, moved_to, part_written, Fits, shape_of, turned}
+pub use Rattle.grids.specs.Grids.{line_at, line_drawn, drawn_from, drawn, is_in, drawn_in, filled, taken, copied, redrawn, shifted, combined, merged, one, row_of, moved_to, part_written, Fits, shape_of}
 
 abbrev pub Grid : Type 0
 Grid = List (List Content)
@@ -23,4 +23,4 @@ recolored a was new g = redrawn a (restyled was new) g
 -- the rectangle gets the cells of the source from a place on, without its spaces if these are skipped; the source
 -- may be the grid itself, and is then read as it was
 abbrev pub overlaid : Area → Place → Bool → Grid → Grid → Grid
-overlaid a from skip source g = if skip then drawn_in a (laid a from unless_space source) g else copied a from source g
+overlaid a from skip source g = if skip then merged a from unless_space source g else copied a from source g

@@ -6,10 +6,12 @@ use Rattle.std.proofs.lemmas.List.{get_or_default}
 use Rattle.grids.specs.Grids as base
 use Rattle.cur_grid.specs.Cells.{Content, space}
 use Rattle.cur_grid.specs.Grids.{Grid, line_at, cell_at, copied, is_in, taken}
-use Rattle.cur_grid.specs.Sheets.{place}
+use Rattle.cur_grid.specs.Calls.{place}
 use Rattle.cur_grid.proofs.Drawing.{cell_at-drawn}
-use Rattle.cur_windows.specs.Padding.{area_of}
 use Rattle.cur_pads.specs.Laws.{is_between}
+
+abbrev pub area_of : ℕ → ℕ → ℕ → ℕ → Area
+area_of top left rows cols = record { top = top; left = left; rows = rows; cols = cols }
 
 -- the places up to a last one are those of so many from the first one on
 same_place : (first last i : ℕ) → first ≤ last → (nat_le first i && nat_lt i (first + (last - first + 1))) ≡ is_between first last i

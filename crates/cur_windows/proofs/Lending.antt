@@ -44,7 +44,7 @@ written_shape d s y x c =
 pub line_kept : (d : State) (s : Slot) (y x : ℕ) (c : Content) → IsLine d s y → IsLine (place_written d s y x c) s y
 line_kept d s y x c is = record {
   root = is.root;
-  sheet = record { window = is.sheet.window; fits = fits_same s.window.area (grid_at d s.root) (grid_at (place_written d s y x c) s.root) (written_shape d s y x c) is.sheet.fits };
+  canvas = record { window = is.canvas.window; fits = fits_same s.window.area (grid_at d s.root) (grid_at (place_written d s y x c) s.root) (written_shape d s y x c) is.canvas.fits };
   within = is.within;
 }
 
@@ -79,9 +79,9 @@ row_cell : (d : State) (s : Slot) (y x : ℕ) (c : Content) (cells : List Conten
 row_cell d s y x c cells is e lt =
     let a : Area = s.window.area in
     let line : List Content = line_at (grid_at d s.root) (a.top + y) in
-    let rows = is.sheet.fits.rows in
+    let rows = is.canvas.fits.rows in
     let within = is.within in
-    let wide = is.sheet.fits.cols (a.top + y) (omega arith) in
+    let wide = is.canvas.fits.cols (a.top + y) (omega arith) in
     let long : length cells ≡ a.cols = ap length e ∙ length-take-le a.cols (drop a.left line) (let n = length-drop a.left line in omega (arith, n)) in
     ap (λ (g : Grid). record d { grids = set d.grids s.root g })
     (one_written_in_part (a.top + y) a.left x c cells (grid_at d s.root) (omega (arith, long))
@@ -101,8 +101,8 @@ written_inside d n s y x cells is found low near lt =
     let old : IsPlaced d n s = is.placed n s (found_there d n s found) in
     let a : Area = s.window.area in
     let g : Grid = grid_at d s.root in
-    let rows = old.sheet.fits.rows in
-    let wide = old.sheet.fits.cols (a.top + y) (omega arith) in
+    let rows = old.canvas.fits.rows in
+    let wide = old.canvas.fits.cols (a.top + y) (omega arith) in
     ap (λ (h : Grid). cell_at h (a.top + y) (a.left + x)) (get_or-set_same d.grids s.root (part_written (a.top + y) a.left cells g) [] (omega (arith, is.grids, old.root)))
     ∙ cell_at-drawn_in (line_area s y (length cells)) (λ i j old. get_or cells (j - a.left) old) g (a.top + y) (a.left + x) (grind (arith, nat_tests)) (omega arith)
     ∙ ap (λ (k : ℕ). get_or cells k (cell_at g (a.top + y) (a.left + x))) (omega arith)

@@ -1,5 +1,5 @@
 use Rattle.std.proofs.Common.{refl}
-use Rattle.cur_windows.proofs.Settling.{new_from}
+use Rattle.cur_windows.proofs.Adding.{new_from}
 use Rattle.cur_windows.proofs.desks.Desk.new.Goals as goal
 
 pub invariant_of-result : goal.invariant_of-result
