@@ -2,8 +2,7 @@
 
 ghost use Rattle.std.specs.Prelude.{◌≡◌, ◌⊎◌, ◌<◌, ◌++◌, [], IfErr, IfOk, OnOk, if◌then◌else◌};
 ghost use Rattle.ti_caps.specs.Entry.{value_at};
-ghost use Rattle.ti_caps.specs.Table.{kind_of, place_of_rank};
-ghost use Rattle.ti_source.specs.Fields.{is_kind};
+ghost use Rattle.ti_caps.specs.Table.{place_of_rank};
 ghost use Rattle.ti_commands.specs.Listing.{comparison_text, is_listed, is_listed_at, kind_lines, name_line, same_value};
 ghost use Rattle.ti_commands.specs.Finding.{FailsToFind, LacksEntry};
 ghost use Rattle.ti_commands.specs.Replying.{GivesEntry, IsCompared, IsCompiled, IsPrinted, LacksSecond, Outcome, Stores};
@@ -12,7 +11,7 @@ use crate::entries::{Found, find_entry};
 use crate::failure::{Failure, Refusal, Reply, file_failure};
 use crate::files::{FileFault, Files};
 use std::alloc::{AllocError, Global};
-use ti_caps::{Cap, Entry, Kind, Value, at_rank, kind, name};
+use ti_caps::{CAPABILITIES, Cap, Entry, Kind, Value, at_rank, is_kind, name};
 use ti_compiled::{PackFault, encode};
 use ti_source::print;
 
@@ -150,7 +149,7 @@ fn push_kind(
 ) -> Result<(), AllocError>
     ensures { OnOk result (lines.new.items ≡ lines.old.items ++ kind_lines comparison first.now second.now wanted) }
 {
-    for rank in 0..497 {
+    for rank in 0..CAPABILITIES {
         push_rank(first, second, comparison, wanted, rank, lines)?;
     }
     Ok(())
@@ -170,17 +169,11 @@ fn push_rank(
     ensures { let cap = place_of_rank rank in OnOk result (lines.new.items ≡ lines.old.items ++ (if is_listed_at comparison first.now second.now wanted cap then name_line cap else [])) }
 {
     match at_rank(rank) {
-        Some(cap) if is_of_kind(cap, wanted) && is_listed(first, second, comparison, cap) => {
+        Some(cap) if is_kind(cap, wanted) && is_listed(first, second, comparison, cap) => {
             push_name(cap, lines)
         }
         _ => Ok(()),
     }
-}
-
-fn is_of_kind(cap: Cap, wanted: Kind) -> bool
-    ensures { result ≡ is_kind (kind_of cap) wanted }
-{
-    kind(cap) == wanted
 }
 
 fn push_name(cap: Cap, lines: &mut Vec<u8>) -> Result<(), AllocError>
