@@ -6,7 +6,8 @@ use Rattle.vt_term.specs.Text.{Splits, IsSplit}
 use Rattle.vt_term.specs.Screen.{State, Screen, IsScreen, Charset}
 use Rattle.vt_term.specs.Step.{step, steps}
 use Rattle.vt_term.specs.Run.{Runs}
-use Rattle.vt_term.proofs.Splitting.{GoesOn, goes_on, splits_front}
+use Rattle.vt_term.specs.Fronts.{GoesOn}
+use Rattle.vt_term.proofs.Splitting.{goes_on, splits_front}
 use Rattle.vt_screen.proofs.Keeps.{Kept}
 use Rattle.vt_term.proofs.Keeps.{steps_kept}
 use Rattle.vt_term.proofs.Running.{run_keeps}
@@ -15,7 +16,7 @@ use Rattle.vt_effects.proofs.Saying.{records_tell}
 use Rattle.ti_resync.specs.Lost.{HasWholeMargins}
 use Rattle.ti_resync.specs.Lines.{StaysIn}
 use Rattle.ti_resync.specs.Resync.{FrontsStay}
-use Rattle.ti_resync.proofs.Changing.{act_charset}
+use Rattle.vt_term.proofs.Charsets.{act_charset}
 
 all_front : (P : List ℕ → Type 0) (xs ys : List (List ℕ)) → AllByRecursion P (xs ++ ys) → AllByRecursion P xs
 all_front P [] ys h = tt
