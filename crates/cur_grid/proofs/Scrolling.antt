@@ -2,13 +2,15 @@
 use Rattle.std.proofs.Common.{◌≡◌, ℕ, ◌+◌, ◌-◌, ◌<◌, ◌≤◌, nat_le, min, Bool, true, false, length, refl, ap, ◌∙◌, inl, inr, arith, if◌then◌else◌}
 use Rattle.std.proofs.lemmas.Bool.{cases_lt}
 use Rattle.std.proofs.lemmas.Bool.Decides.{nat_tests}
-use Rattle.cur_grid.specs.declared.areas.Area.{Area}
-use Rattle.cur_grid.specs.declared.areas.Place.{Place}
+use Rattle.grids.specs.declared.areas.Area.{Area}
+use Rattle.grids.specs.declared.areas.Place.{Place}
 use Rattle.cur_grid.specs.declared.windows.Window.{Window}
-use Rattle.cur_grid.specs.Cells.{Content}
+use Rattle.std.proofs.lemmas.List.{get_or_default}
+use Rattle.grids.specs.Grids as base
+use Rattle.cur_grid.specs.Cells.{Content, space}
 use Rattle.cur_grid.specs.Grids.{Grid, is_in, line_at, cell_at, filled, copied, taken, shape_of}
 use Rattle.cur_grid.specs.Windows.{lines_of}
-use Rattle.cur_grid.specs.Sheets.{IsSheet, place, lines_up, lines_down, region_height}
+use Rattle.cur_grid.specs.Calls.{IsCanvas, place, lines_up, lines_down, region_height}
 use Rattle.cur_grid.specs.Laws.{cell_of, in_region, went_up, went_down}
 use Rattle.cur_grid.proofs.Drawing.{shape_of-drawn, shape_of-line, cell_at-drawn_in, cell_at-drawn_in_off}
 
@@ -47,26 +49,27 @@ choice_third : (b c : Bool) (x y z : Content) → b ≡ false → z ≡ (if b th
 choice_third b c x y z e = rw (e) refl
 
 -- a rectangle was copied, and another one filled
-both_off : (a b : Area) (from : Place) (c : Content) (g : Grid) (i j : ℕ) → is_in a i j ≡ false → is_in b i j ≡ false → cell_at (filled a c (copied b from false g g)) i j ≡ cell_at g i j
+both_off : (a b : Area) (from : Place) (c : Content) (g : Grid) (i j : ℕ) → is_in a i j ≡ false → is_in b i j ≡ false → cell_at (filled a c (copied b from g g)) i j ≡ cell_at g i j
 both_off a b from c g i j one two =
-    cell_at-drawn_in_off a (λ i j old. c) (copied b from false g g) i j one ∙ cell_at-drawn_in_off b (taken b from false g) g i j two
+    cell_at-drawn_in_off a (λ i j old. c) (copied b from g g) i j one ∙ cell_at-drawn_in_off b (taken b from g) g i j two
 
-copied_there : (a b : Area) (from : Place) (c : Content) (g : Grid) (i j row col : ℕ) → is_in a i j ≡ false → is_in b i j ≡ true → j < length (line_at g i) → from.top + (i - b.top) ≡ row → from.left + (j - b.left) ≡ col →
-    cell_at (filled a c (copied b from false g g)) i j ≡ cell_at g row col
-copied_there a b from c g i j row col off on near r h =
-    cell_at-drawn_in_off a (λ i j old. c) (copied b from false g g) i j off ∙ cell_at-drawn_in b (taken b from false g) g i j on near
-    ∙ ap (λ (k : ℕ). cell_at g k (from.left + (j - b.left))) r ∙ ap (λ (k : ℕ). cell_at g row k) h
+copied_there : (a b : Area) (from : Place) (c : Content) (g : Grid) (i j row col : ℕ) → is_in a i j ≡ false → is_in b i j ≡ true → j < length (line_at g i) → from.row + (i - b.top) ≡ row → from.col + (j - b.left) ≡ col → col < length (line_at g row) →
+    cell_at (filled a c (copied b from g g)) i j ≡ cell_at g row col
+copied_there a b from c g i j row col off on near r h known =
+    cell_at-drawn_in_off a (λ i j old. c) (copied b from g g) i j off ∙ cell_at-drawn_in b (taken b from g) g i j on near
+    ∙ ap (λ (k : ℕ). base.cell_at (cell_at g i j) g k (from.col + (j - b.left))) r ∙ ap (λ (k : ℕ). base.cell_at (cell_at g i j) g row k) h
+    ∙ get_or_default (line_at g row) col (cell_at g i j) space known
 
-filled_there : (a b : Area) (from : Place) (c : Content) (g : Grid) (i j : ℕ) → is_in a i j ≡ true → j < length (line_at g i) → cell_at (filled a c (copied b from false g g)) i j ≡ c
+filled_there : (a b : Area) (from : Place) (c : Content) (g : Grid) (i j : ℕ) → is_in a i j ≡ true → j < length (line_at g i) → cell_at (filled a c (copied b from g g)) i j ≡ c
 filled_there a b from c g i j on near =
-    let h : Grid = copied b from false g g in
-    let shape : shape_of h ≡ shape_of g = shape_of-drawn (λ i j old. if is_in b i j then taken b from false g i j old else old) g in
+    let h : Grid = copied b from g g in
+    let shape : shape_of h ≡ shape_of g = shape_of-drawn (λ i j old. if is_in b i j then taken b from g i j old else old) g in
     cell_at-drawn_in a (λ i j old. c) h i j on (let line : length (line_at h i) ≡ length (line_at g i) = shape_of-line g h i shape in omega arith)
 
-line_long : (g : Grid) (w : Window) (y x : ℕ) → IsSheet g w → y < w.area.rows → x < w.area.cols → w.area.left + x < length (line_at g (w.area.top + y))
+line_long : (g : Grid) (w : Window) (y x : ℕ) → IsCanvas g w → y < w.area.rows → x < w.area.cols → w.area.left + x < length (line_at g (w.area.top + y))
 line_long g w y x is lt lt2 = let rows = is.fits.rows in let cols = is.fits.cols (w.area.top + y) (omega arith) in omega arith
 
-pub up_by_place : (g : Grid) (w : Window) (n y x : ℕ) → IsSheet g w → y < w.area.rows → x < w.area.cols → cell_of w (lines_up w w.region_top (region_height w) n g) y x ≡ went_up w n g y x
+pub up_by_place : (g : Grid) (w : Window) (n y x : ℕ) → IsCanvas g w → y < w.area.rows → x < w.area.cols → cell_of w (lines_up w w.region_top (region_height w) n g) y x ≡ went_up w n g y x
 up_by_place g w n y x is lt lt2 =
     let t : ℕ = w.region_top in let b : ℕ = w.region_bottom in let high : ℕ = region_height w in let m : ℕ = min n high in
     let region = is.window.region in
@@ -84,13 +87,13 @@ up_by_place g w n y x is lt lt2 =
         | inr le ↦ elim (cases_lt b (y + n)) [
           | inl gone ↦ filled_there A B from w.background g i j (lines_on w (t + (high - m)) m y x (omega arith) (omega arith) lt2) near
               ∙ choice_second (in_region w y) (nat_le (y + n) b) moved w.background here (inside_region w y ge le) (le_false (y + n) b gone)
-          | inr stays ↦ copied_there A B from w.background g i j (w.area.top + (y + n)) (w.area.left + x) (lines_above w (t + (high - m)) m y x (omega arith)) (lines_on w t (high - m) y x ge (omega arith) lt2) near (omega arith) (omega arith)
+          | inr stays ↦ copied_there A B from w.background g i j (w.area.top + (y + n)) (w.area.left + x) (lines_above w (t + (high - m)) m y x (omega arith)) (lines_on w t (high - m) y x ge (omega arith) lt2) near (omega arith) (omega arith) (line_long g w (y + n) x is (omega arith) lt2)
               ∙ choice (in_region w y) (nat_le (y + n) b) moved w.background here (inside_region w y ge le) (le_true (y + n) b stays)
         ]
       ]
     ]
 
-pub down_by_place : (g : Grid) (w : Window) (n y x : ℕ) → IsSheet g w → y < w.area.rows → x < w.area.cols → cell_of w (lines_down w w.region_top (region_height w) n g) y x ≡ went_down w n g y x
+pub down_by_place : (g : Grid) (w : Window) (n y x : ℕ) → IsCanvas g w → y < w.area.rows → x < w.area.cols → cell_of w (lines_down w w.region_top (region_height w) n g) y x ≡ went_down w n g y x
 down_by_place g w n y x is lt lt2 =
     let t : ℕ = w.region_top in let b : ℕ = w.region_bottom in let high : ℕ = region_height w in let m : ℕ = min n high in
     let region = is.window.region in
@@ -108,7 +111,7 @@ down_by_place g w n y x is lt lt2 =
         | inr le ↦ elim (cases_lt y (t + n)) [
           | inl new ↦ filled_there A B from w.background g i j (lines_on w t m y x ge (omega arith) lt2) near
               ∙ choice_second (in_region w y) (nat_le (t + n) y) moved w.background here (inside_region w y ge le) (le_false (t + n) y new)
-          | inr old ↦ copied_there A B from w.background g i j (w.area.top + (y - n)) (w.area.left + x) (lines_below w t m y x (omega arith)) (lines_on w (t + m) (high - m) y x (omega arith) (omega arith) lt2) near (omega arith) (omega arith)
+          | inr old ↦ copied_there A B from w.background g i j (w.area.top + (y - n)) (w.area.left + x) (lines_below w t m y x (omega arith)) (lines_on w (t + m) (high - m) y x (omega arith) (omega arith) lt2) near (omega arith) (omega arith) (line_long g w (y - n) x is (omega arith) lt2)
               ∙ choice (in_region w y) (nat_le (t + n) y) moved w.background here (inside_region w y ge le) (le_true (t + n) y old)
         ]
       ]

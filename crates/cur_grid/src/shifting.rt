@@ -1,19 +1,19 @@
+//! Erasing and shifting lines and cells of one window.
 ghost use Rattle.std.specs.Prelude.{◌≡◌, ◌<◌, ◌≤◌, ◌+◌, ◌-◌, false};
 ghost use Rattle.cur_grid.specs.Windows.{IsWindow, lines_of, cells_of, column_of, content};
-ghost use Rattle.cur_grid.specs.Grids.{copied, filled, shape_of};
-ghost use Rattle.cur_grid.specs.Sheets.{IsSheet, place, sheet, done, lines_up, lines_down, inserted, deleted, line_cleared, bottom_cleared, insert_line, delete_line, delete_char, clear_line, clear_bottom};
+ghost use Rattle.cur_grid.specs.Grids.{shifted, filled, shape_of};
+ghost use Rattle.cur_grid.specs.Calls.{IsCanvas, place, canvas, done, lines_up, lines_down, inserted, deleted, line_cleared, bottom_cleared, insert_line, delete_line, delete_char, clear_line, clear_bottom};
 
-use crate::areas::Place;
 use crate::cells::Cell;
-use crate::grids::Grid;
 use crate::windows::Window;
+use grids::{Grid, Place};
 
 // What a window does to the lines and cells of its grid, its cursor staying where it is.
 impl Window {
     /// The cells from the cursor to the line's end are erased (`clrtoeol`).
-    pub fn clear_line(&self, grid: &mut Grid)
-        requires { IsSheet grid.old self.now }
-        ensures value { done grid.new self.now ≡ clear_line (sheet grid.old self.now) }
+    pub fn clear_line(&self, grid: &mut Grid<Cell>)
+        requires { IsCanvas grid.old self.now }
+        ensures value { done grid.new self.now ≡ clear_line (canvas grid.old self.now) }
         ensures shape { shape_of grid.new ≡ shape_of grid.old }
     {
         self.fill_cells(
@@ -26,9 +26,9 @@ impl Window {
     }
 
     /// The cells from the cursor to the window's end are erased (`clrtobot`).
-    pub fn clear_bottom(&self, grid: &mut Grid)
-        requires { IsSheet grid.old self.now }
-        ensures value { done grid.new self.now ≡ clear_bottom (sheet grid.old self.now) }
+    pub fn clear_bottom(&self, grid: &mut Grid<Cell>)
+        requires { IsCanvas grid.old self.now }
+        ensures value { done grid.new self.now ≡ clear_bottom (canvas grid.old self.now) }
         ensures shape { shape_of grid.new ≡ shape_of grid.old }
     {
         self.clear_line(grid);
@@ -42,9 +42,9 @@ impl Window {
 
     /// A line of the background comes in at the cursor's line, and those from there to the window's bottom go
     /// down; the last one goes (`insertln`).
-    pub fn insert_line(&self, grid: &mut Grid)
-        requires { IsSheet grid.old self.now }
-        ensures value { done grid.new self.now ≡ insert_line (sheet grid.old self.now) }
+    pub fn insert_line(&self, grid: &mut Grid<Cell>)
+        requires { IsCanvas grid.old self.now }
+        ensures value { done grid.new self.now ≡ insert_line (canvas grid.old self.now) }
         ensures shape { shape_of grid.new ≡ shape_of grid.old }
     {
         self.lines_down(grid, self.row, self.area.rows - self.row, 1);
@@ -52,18 +52,18 @@ impl Window {
 
     /// The cursor's line goes, those below it go up, and a line of the background comes in at the window's bottom
     /// (`deleteln`).
-    pub fn delete_line(&self, grid: &mut Grid)
-        requires { IsSheet grid.old self.now }
-        ensures value { done grid.new self.now ≡ delete_line (sheet grid.old self.now) }
+    pub fn delete_line(&self, grid: &mut Grid<Cell>)
+        requires { IsCanvas grid.old self.now }
+        ensures value { done grid.new self.now ≡ delete_line (canvas grid.old self.now) }
         ensures shape { shape_of grid.new ≡ shape_of grid.old }
     {
         self.lines_up(grid, self.row, self.area.rows - self.row, 1);
     }
 
     /// The cursor's cell goes, the line's rest goes left, and the background comes in at its end (`delch`).
-    pub fn delete_char(&self, grid: &mut Grid)
-        requires { IsSheet grid.old self.now }
-        ensures value { done grid.new self.now ≡ delete_char (sheet grid.old self.now) }
+    pub fn delete_char(&self, grid: &mut Grid<Cell>)
+        requires { IsCanvas grid.old self.now }
+        ensures value { done grid.new self.now ≡ delete_char (canvas grid.old self.now) }
         ensures shape { shape_of grid.new ≡ shape_of grid.old }
     {
         let rest = self.area.cols - (self.col + 1);
@@ -72,8 +72,8 @@ impl Window {
     }
 
     // The cell comes in at the cursor, and the line's rest goes right.
-    pub(crate) fn insert_cell(&self, grid: &mut Grid, cell: Cell)
-        requires { IsSheet grid.old self.now }
+    pub(crate) fn insert_cell(&self, grid: &mut Grid<Cell>, cell: Cell)
+        requires { IsCanvas grid.old self.now }
         ensures value { grid.new ≡ inserted cell self.now grid.old }
         ensures shape { shape_of grid.new ≡ shape_of grid.old }
     {
@@ -83,8 +83,8 @@ impl Window {
     }
 
     // Of `height` lines from `from` on, the upper `n` go, the others go up, and the background comes in below.
-    pub(crate) fn lines_up(&self, grid: &mut Grid, from: u16, height: u16, n: u16)
-        requires sheet { IsSheet grid.old self.now }
+    pub(crate) fn lines_up(&self, grid: &mut Grid<Cell>, from: u16, height: u16, n: u16)
+        requires canvas { IsCanvas grid.old self.now }
         requires within { from + height ≤ self.now.area.rows }
         ensures value { grid.new ≡ lines_up self.now from height n grid.old }
         ensures shape { shape_of grid.new ≡ shape_of grid.old }
@@ -95,8 +95,8 @@ impl Window {
     }
 
     // The lower `n` go, the others go down, and the background comes in above.
-    pub(crate) fn lines_down(&self, grid: &mut Grid, from: u16, height: u16, n: u16)
-        requires sheet { IsSheet grid.old self.now }
+    pub(crate) fn lines_down(&self, grid: &mut Grid<Cell>, from: u16, height: u16, n: u16)
+        requires canvas { IsCanvas grid.old self.now }
         requires within { from + height ≤ self.now.area.rows }
         ensures value { grid.new ≡ lines_down self.now from height n grid.old }
         ensures shape { shape_of grid.new ≡ shape_of grid.old }
@@ -107,8 +107,8 @@ impl Window {
     }
 
     // `n` of its lines become this cell.
-    pub(crate) fn fill_lines(&self, grid: &mut Grid, from: u16, n: u16, cell: Cell)
-        requires sheet { IsSheet grid.old self.now }
+    pub(crate) fn fill_lines(&self, grid: &mut Grid<Cell>, from: u16, n: u16, cell: Cell)
+        requires canvas { IsCanvas grid.old self.now }
         requires within { from + n ≤ self.now.area.rows }
         ensures value { grid.new ≡ filled (lines_of self.now from n) cell grid.old }
         ensures shape { shape_of grid.new ≡ shape_of grid.old }
@@ -117,8 +117,8 @@ impl Window {
     }
 
     // `n` cells of one of its lines become this one.
-    pub(crate) fn fill_cells(&self, grid: &mut Grid, row: u16, from: u16, n: u16, cell: Cell)
-        requires sheet { IsSheet grid.old self.now }
+    pub(crate) fn fill_cells(&self, grid: &mut Grid<Cell>, row: u16, from: u16, n: u16, cell: Cell)
+        requires canvas { IsCanvas grid.old self.now }
         requires row_within { row < self.now.area.rows }
         requires within { from + n ≤ self.now.area.cols }
         ensures value { grid.new ≡ filled (cells_of self.now row from n) cell grid.old }
@@ -128,8 +128,8 @@ impl Window {
     }
 
     // `n` cells of one of its columns become this one.
-    pub(crate) fn fill_column(&self, grid: &mut Grid, from: u16, col: u16, n: u16, cell: Cell)
-        requires sheet { IsSheet grid.old self.now }
+    pub(crate) fn fill_column(&self, grid: &mut Grid<Cell>, from: u16, col: u16, n: u16, cell: Cell)
+        requires canvas { IsCanvas grid.old self.now }
         requires col_within { col < self.now.area.cols }
         requires within { from + n ≤ self.now.area.rows }
         ensures value { grid.new ≡ filled (column_of self.now from col n) cell grid.old }
@@ -139,33 +139,33 @@ impl Window {
     }
 
     // `n` lines from `to` on become those from `from` on.
-    fn shift_lines(&self, grid: &mut Grid, to: u16, from: u16, n: u16)
-        requires sheet { IsSheet grid.old self.now }
+    fn shift_lines(&self, grid: &mut Grid<Cell>, to: u16, from: u16, n: u16)
+        requires canvas { IsCanvas grid.old self.now }
         requires to_within { to + n ≤ self.now.area.rows }
         requires from_within { from + n ≤ self.now.area.rows }
-        ensures value { grid.new ≡ copied (lines_of self.now to n) (place (self.now.area.top + from) self.now.area.left) false grid.old grid.old }
+        ensures value { grid.new ≡ shifted (lines_of self.now to n) (place (self.now.area.top + from) self.now.area.left) grid.old }
         ensures shape { shape_of grid.new ≡ shape_of grid.old }
     {
         let source = Place {
-            top: self.area.top + from,
-            left: self.area.left,
+            row: self.area.top + from,
+            col: self.area.left,
         };
-        grid.shift(self.lines(to, n), source, false);
+        grid.shift(self.lines(to, n), source);
     }
 
     // `n` cells of one line from `to` on become those from `from` on.
-    fn shift_cells(&self, grid: &mut Grid, row: u16, to: u16, from: u16, n: u16)
-        requires sheet { IsSheet grid.old self.now }
+    fn shift_cells(&self, grid: &mut Grid<Cell>, row: u16, to: u16, from: u16, n: u16)
+        requires canvas { IsCanvas grid.old self.now }
         requires row_within { row < self.now.area.rows }
         requires to_within { to + n ≤ self.now.area.cols }
         requires from_within { from + n ≤ self.now.area.cols }
-        ensures value { grid.new ≡ copied (cells_of self.now row to n) (place (self.now.area.top + row) (self.now.area.left + from)) false grid.old grid.old }
+        ensures value { grid.new ≡ shifted (cells_of self.now row to n) (place (self.now.area.top + row) (self.now.area.left + from)) grid.old }
         ensures shape { shape_of grid.new ≡ shape_of grid.old }
     {
         let source = Place {
-            top: self.area.top + row,
-            left: self.area.left + from,
+            row: self.area.top + row,
+            col: self.area.left + from,
         };
-        grid.shift(self.cells(row, to, n), source, false);
+        grid.shift(self.cells(row, to, n), source);
     }
 }

@@ -4,7 +4,7 @@ use Rattle.cur_grid.specs.declared.refusals.Refusal.{Refusal}
 use Rattle.cur_grid.specs.Grids.{line_at, cell_at}
 use Rattle.cur_windows.specs.declared.slots.Slot.{Slot}
 use Rattle.cur_windows.specs.Desks.{State, cell, slot_of}
-use Rattle.cur_windows.specs.Screens.{Screen, Refresh}
+use Rattle.cur_windows.specs.VirtualScreen.{Screen, Refresh}
 use Rattle.cur_pads.specs.Showing.{start, pnoutrefresh}
 
 abbrev pub is_between : ℕ → ℕ → ℕ → Bool
@@ -22,6 +22,6 @@ ShowsCells d v n pr pc sr sc bottom right = (after : State) (new : Screen) →
     pnoutrefresh d v n pr pc sr sc (pos bottom) (pos right) ≡ (after, new, Ok tt) →
     IfOk (slot_of d n) (λ s. IsShown d s v new (start pr) (start pc) (start sr) (start sc) bottom right)
 
--- where the step is a refusal it gives the desk and the screen back
-abbrev pub GivesBoth : State → Screen → Refresh → Type 0
-GivesBoth d v x = (e : Refusal) → x.2 ≡ Err e → (x.0 ≡ d) × (x.1 ≡ v)
+-- where the step is a refusal the desk and the screen are as they were
+abbrev pub BothUnchangedIfRefused : State → Screen → Refresh → Type 0
+BothUnchangedIfRefused d v x = (e : Refusal) → x.2 ≡ Err e → (x.0 ≡ d) × (x.1 ≡ v)

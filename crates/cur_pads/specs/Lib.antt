@@ -1,4 +1,5 @@
+-- The definitions of pads.
 pub mod Laws
 pub mod Making
-pub mod Parts
+pub mod Ranges
 pub mod Showing

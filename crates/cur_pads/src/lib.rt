@@ -4,7 +4,7 @@
 mod checks;
 pub mod laws;
 mod making;
-mod parts;
+mod ranges;
 mod showing;
 
 pub use making::{newpad, subpad};

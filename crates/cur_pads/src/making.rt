@@ -1,20 +1,18 @@
+//! Making pads.
 ghost use Rattle.std.specs.Prelude.{◌≡◌, ◌<◌, ◌≤◌, ◌⊎◌, Ok, Err, IfSome};
 ghost use Rattle.cur_windows.specs.Desks.{step};
 ghost use Rattle.cur_pads.specs.Making as spec;
 
-use crate::checks::{check_free, check_range, pad_size};
-use cur_grid::{Wish, part};
-use cur_windows::{Desk, Refusal};
-
-// How many lines or columns a pad may have.
-const LONGEST: i32 = 1000;
+use crate::checks::pad_size;
+use cur_grid::{Geometry, LONGEST, area_within};
+use cur_windows::{Desk, Refusal, in_range};
 
 /// A new pad of 1 to 1000 lines and as many columns (X/Open Curses, `newpad`). `Full` for a number above 63,
 /// `NumberUsed`, `BadRegion` for any other size; `NoMemory` where a growth was refused. Then nothing has changed.
 pub fn newpad(desk: &mut Desk, n: usize, lines: i32, cols: i32) -> Result<(), Refusal>
     ensures { ((result ≡ Err Refusal.NoMemory) × (desk.new ≡ desk.old) × ((spec.newpad desk.old n lines cols).1 ≡ Ok tt)) ⊎ (step desk.new result ≡ spec.newpad desk.old n lines cols) }
 {
-    check_free(desk, n)?;
+    desk.check_free(n)?;
     let (Some(rows), Some(cols)) = (side(lines), side(cols)) else {
         return Err(Refusal::BadRegion);
     };
@@ -38,17 +36,17 @@ pub fn subpad(
 ) -> Result<(), Refusal>
     ensures { step desk.new result ≡ spec.subpad desk.old n id lines cols y x }
 {
-    check_range(n, id)?;
-    check_free(desk, n)?;
+    in_range(n, id)?;
+    desk.check_free(n)?;
     let (height, width) = pad_size(desk, id)?;
-    let wish = Wish {
+    let geometry = Geometry {
         lines,
         cols,
         y: y as i64,
         x: x as i64,
     };
-    let area = part(height, width, wish, Refusal::OutOfWindow)?;
-    desk.add_subpad(n, id, area.top, area.left, area.rows, area.cols);
+    let area = area_within(height, width, geometry, Refusal::OutOfWindow)?;
+    desk.add_subpad(n, id, area);
     Ok(())
 }
 
@@ -57,7 +55,7 @@ fn side(n: i32) -> Option<u16>
     ensures value { result ≡ spec.side n }
     ensures within { IfSome result (λ size. (0 < size) × (size ≤ 1000)) }
 {
-    if n < 1 || n > LONGEST {
+    if n < 1 || n > LONGEST as i32 {
         return None;
     }
     Some(n as u16)

@@ -1,11 +1,12 @@
+//! Copying a part of a pad to the virtual screen.
 ghost use Rattle.std.specs.Prelude.{◌≡◌};
-ghost use Rattle.cur_windows.specs.Screens.{refresh};
+ghost use Rattle.cur_windows.specs.VirtualScreen.{refresh};
 ghost use Rattle.cur_pads.specs.Showing.{pnoutrefresh};
 
 use crate::checks::pad_size;
-use crate::parts::{between, from, in_order, start};
-use cur_grid::crossed;
-use cur_windows::{Desk, Refusal, Virtual};
+use crate::ranges::{at_least_zero, between, from, start};
+use cur_grid::rectangle;
+use cur_windows::{Desk, Place, Refusal, Virtual, in_order};
 
 /// The pad's cells from a row and a column on are copied to the rows `top` to `bottom` and columns `left` to `right` of the
 /// virtual screen, of which all other cells stay (X/Open Curses, `pnoutrefresh`). The screen's cursor becomes the pad's if
@@ -29,21 +30,22 @@ pub fn pnoutrefresh(
     ensures { refresh desk.new screen.new result ≡ pnoutrefresh desk.old screen.old id row col top left bottom right }
 {
     let (height, width) = pad_size(desk, id)?;
-    let (top, left) = (start(top), start(left));
-    in_order(top, bottom, left, right)?;
+    in_order(at_least_zero(top), bottom, at_least_zero(left), right)?;
     let (rows, cols) = desk.screen_size();
-    let to = crossed(
-        between(top, bottom, rows),
-        between(left, right, cols),
+    let to = rectangle(
+        between(start(top), bottom, rows),
+        between(start(left), right, cols),
         Refusal::OutOfScreen,
     )?;
-    let part = crossed(
+    let part = rectangle(
         from(start(row), to.rows, height),
         from(start(col), to.cols, width),
         Refusal::OutOfWindow,
     )?;
-    desk.show_part(
-        id, part.top, part.left, part.rows, part.cols, to.top, to.left, screen,
-    );
+    let corner = Place {
+        row: to.top,
+        col: to.left,
+    };
+    desk.show_part(id, part, corner, screen);
     Ok(())
 }

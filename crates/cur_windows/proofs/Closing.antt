@@ -2,11 +2,11 @@
 use Rattle.std.proofs.Common.{◌≡◌, ℕ, ◌<◌, List, [], Option, Some, None, IsSome, length, get_or, set, refl, sym, ap, ◌∙◌, subst, inl, inr, arith, rules}
 use Rattle.std.proofs.lemmas.Bool.{cases_eq}
 use Rattle.std.proofs.lemmas.List.{get_or-set_same, get_or-set_other, length-set, get_or_default}
-use Rattle.cur_grid.specs.declared.areas.Area.{Area}
+use Rattle.grids.specs.declared.areas.Area.{Area}
 use Rattle.cur_grid.specs.declared.windows.Window.{Window}
 use Rattle.cur_grid.specs.Grids.{Grid, Fits, shape_of}
 use Rattle.cur_grid.specs.Windows.{IsWindow}
-use Rattle.cur_grid.specs.Sheets.{IsSheet, IsKept}
+use Rattle.cur_grid.specs.Calls.{IsCanvas, IsKept}
 use Rattle.cur_grid.proofs.Drawing.{fits_same, shape_of-line, shape_of-length}
 use Rattle.cur_windows.specs.declared.slots.Slot.{Slot}
 use Rattle.cur_windows.specs.declared.slots.Origin.{Origin}
@@ -20,8 +20,8 @@ whole_same a g h e is = record {
   cols = λ i lt. shape_of-line g h i e ∙ is.cols i (let same = shape_of-length g h e in omega arith);
 }
 
-pub sheet_moved : (g h : Grid) (w v : Window) → shape_of h ≡ shape_of g → v.area ≡ w.area → IsWindow v → IsSheet g w → IsSheet h v
-sheet_moved g h w v e same is old = record {
+pub canvas_moved : (g h : Grid) (w v : Window) → shape_of h ≡ shape_of g → v.area ≡ w.area → IsWindow v → IsCanvas g w → IsCanvas h v
+canvas_moved g h w v e same is old = record {
   window = is;
   fits = subst (λ (a : Area). Fits a h) (sym same) (fits_same w.area g h e old.fits);
 }
@@ -56,7 +56,7 @@ desk_kept d n s w gs is lt there len shape same legal =
     let old : IsPlaced d n s = is.placed n s there in
     let here : IsPlaced e n new = record {
       root = old.root;
-      sheet = sheet_moved (grid_at d s.root) (grid_at e s.root) s.window w (shape s.root) same legal old.sheet;
+      canvas = canvas_moved (grid_at d s.root) (grid_at e s.root) s.window w (shape s.root) same legal old.canvas;
       made = some_kept d.windows n s.root new lt2 old.made;
       own = old.own;
       whole = λ none. subst (λ (a : Area). IsWhole a (grid_at e s.root)) (sym same) (whole_same s.window.area (grid_at d s.root) (grid_at e s.root) (shape s.root) (old.whole none));
@@ -73,7 +73,7 @@ desk_kept d n s w gs is lt there len shape same legal =
             subst (λ (t : Slot). IsPlaced e m t) (some_inj new t (sym read ∙ at)) (subst (λ (k : ℕ). IsPlaced e k new) (sym eq) here))
         | inr other ↦ (let was : IsPlaced d m t = is.placed m t (sym (get_or-set_other d.windows n m (Some new) None other) ∙ at) in record {
           root = was.root;
-          sheet = record { window = was.sheet.window; fits = fits_same t.window.area (grid_at d t.root) (grid_at e t.root) (shape t.root) was.sheet.fits };
+          canvas = record { window = was.canvas.window; fits = fits_same t.window.area (grid_at d t.root) (grid_at e t.root) (shape t.root) was.canvas.fits };
           made = some_kept d.windows n t.root new lt2 was.made;
           own = was.own;
           whole = λ none. whole_same t.window.area (grid_at d t.root) (grid_at e t.root) (shape t.root) (was.whole none);
@@ -104,7 +104,7 @@ closes_sheet d now n s w g h e is there at kept =
     let lt : s.root < length d.grids = omega (arith, is.grids, old.root) in
     let read : g ≡ get_or d.grids s.root [] = at ∙ get_or_default d.grids s.root g [] lt in
     desk_kept d n s w (set d.grids s.root h) is there.0 there2 (length-set d.grids s.root h ∙ is.grids)
-    (λ k. shape_kept d.grids s.root k h lt (kept.shape ∙ ap shape_of read)) kept.area kept.sheet.window
+    (λ k. shape_kept d.grids s.root k h lt (kept.shape ∙ ap shape_of read)) kept.area kept.canvas.window
 
 -- the window that was found is placed
 pub placed_here : (d now : State) (n : ℕ) (s : Slot) (o : Option Slot) → d ≡ now → IsDesk d → n < 64 → o ≡ get_or d.windows n o → o ≡ Some s → IsPlaced now n s
@@ -124,7 +124,7 @@ grids_kept d gs is len shape =
       screen = is.screen;
       placed = λ m t at. (let was : IsPlaced d m t = is.placed m t at in record {
         root = was.root;
-        sheet = record { window = was.sheet.window; fits = fits_same t.window.area (grid_at d t.root) (grid_at e t.root) (shape t.root) was.sheet.fits };
+        canvas = record { window = was.canvas.window; fits = fits_same t.window.area (grid_at d t.root) (grid_at e t.root) (shape t.root) was.canvas.fits };
         made = was.made;
         own = was.own;
         whole = λ none. whole_same t.window.area (grid_at d t.root) (grid_at e t.root) (shape t.root) (was.whole none);
@@ -154,7 +154,7 @@ legal_same w v is area row col top bottom pair =
 pub placed_same : (d e : State) (m : ℕ) (t : Slot) → shape_of (grid_at e t.root) ≡ shape_of (grid_at d t.root) → (IsSome (window_at d t.root) → IsSome (window_at e t.root)) → IsPlaced d m t → IsPlaced e m t
 placed_same d e m t shape there was = record {
   root = was.root;
-  sheet = record { window = was.sheet.window; fits = fits_same t.window.area (grid_at d t.root) (grid_at e t.root) shape was.sheet.fits };
+  canvas = record { window = was.canvas.window; fits = fits_same t.window.area (grid_at d t.root) (grid_at e t.root) shape was.canvas.fits };
   made = there was.made;
   own = was.own;
   whole = λ none. whole_same t.window.area (grid_at d t.root) (grid_at e t.root) shape (was.whole none);

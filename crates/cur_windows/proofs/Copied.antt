@@ -1,42 +1,49 @@
 -- A copy changes no cell outside its target.
 use Rattle.std.proofs.Common.{◌≡◌, ℕ, ◌+◌, ◌-◌, ◌<◌, ◌≤◌, nat_lt, nat_le, max, min, Bool, true, false, Option, Some, None, Result, Ok, Err, ℤ, pos, negsuc, refl, subst, arith, if◌then◌else◌}
 use Rattle.std.proofs.lemmas.Bool.Decides.{nat_tests}
+use Rattle.grids.specs.declared.areas.Area.{Area}
+use Rattle.grids.specs.declared.areas.Place.{Place}
 use Rattle.cur_grid.specs.declared.refusals.Refusal.{Refusal}
 use Rattle.cur_grid.specs.declared.refusals.Refusal.TheVariants.{OutOfWindow}
-use Rattle.cur_grid.specs.Grids.{Grid, is_in, copied, taken}
+use Rattle.cur_grid.specs.Cells.{unless_space}
+use Rattle.cur_grid.specs.Grids.{Grid, cell_at, is_in, overlaid, combined, taken}
 use Rattle.cur_grid.proofs.Drawing.{cell_at-drawn_in_off}
-use Rattle.cur_windows.specs.declared.copying.Strip.{Strip}
+use Rattle.cur_windows.specs.declared.copying.CopySpan.{CopySpan}
 use Rattle.cur_windows.specs.declared.slots.Slot.{Slot}
-use Rattle.cur_windows.specs.Copying.{target_area, source_place, strips_copied, copied_or, matched, common, strip_at, strip_between, common_part, common_copied, copywin, in_order}
+use Rattle.cur_windows.specs.Copying.{target_area, source_place, spans_copied, copied_or, matched, common, copy_span_at, copy_span_between, common_part, common_copied, copywin, in_order}
 use Rattle.cur_windows.specs.Desks.{State, DeskStep, IsDesk, IsPlaced, after, grid_at, window_at, slot_of}
 use Rattle.cur_windows.specs.Laws.{OnlyWithin}
 use Rattle.cur_windows.specs.Making.{in_range, window_only}
-use Rattle.cur_grid.specs.Stretches.{spot}
-use Rattle.cur_windows.specs.Screens.{area_on_screen}
+use Rattle.cur_grid.specs.Spans.{start_within}
+use Rattle.cur_windows.specs.VirtualScreen.{area_on_screen}
 use Rattle.cur_windows.proofs.Backing.{found_there}
 use Rattle.cur_windows.proofs.Sharing.{ok_inj}
 use Rattle.cur_windows.proofs.Within.{grid_within}
 
-target_off : (t : Slot) (v h : Strip) (i j : ℕ) → v.to + v.count ≤ t.window.area.rows → h.to + h.count ≤ t.window.area.cols → is_in t.window.area i j ≡ false → is_in (target_area t v h) i j ≡ false
+cell_at-overlaid_off : (a : Area) (from : Place) (skip : Bool) (source g : Grid) (i j : ℕ) → is_in a i j ≡ false → cell_at (overlaid a from skip source g) i j ≡ cell_at g i j
+cell_at-overlaid_off a from true source g i j off = cell_at-drawn_in_off a (combined a from unless_space source) g i j off
+cell_at-overlaid_off a from false source g i j off = cell_at-drawn_in_off a (taken a from source) g i j off
+
+target_off : (t : Slot) (v h : CopySpan) (i j : ℕ) → v.to + v.count ≤ t.window.area.rows → h.to + h.count ≤ t.window.area.cols → is_in t.window.area i j ≡ false → is_in (target_area t v h) i j ≡ false
 target_off t v h i j rows cols off = grind (arith, nat_tests)
 
 only_same : (d : State) (m : ℕ) (t : Slot) → OnlyWithin d d m t
 only_same d m t = record { cells = λ k i j off. refl; windows = λ k other. refl }
 
-strips_within : (d : State) (s t : Slot) (m : ℕ) (v h : Strip) (skip : Bool) → IsDesk d → window_at d m ≡ Some t → v.to + v.count ≤ t.window.area.rows → h.to + h.count ≤ t.window.area.cols →
-    OnlyWithin d (strips_copied d s t v h skip) m t
-strips_within d s t m v h skip is there rows cols =
+spans_within : (d : State) (s t : Slot) (m : ℕ) (v h : CopySpan) (skip : Bool) → IsDesk d → window_at d m ≡ Some t → v.to + v.count ≤ t.window.area.rows → h.to + h.count ≤ t.window.area.cols →
+    OnlyWithin d (spans_copied d s t v h skip) m t
+spans_within d s t m v h skip is there rows cols =
     let old : IsPlaced d m t = is.placed m t there in
     let from = source_place s v h in
-    let g : Grid = copied (target_area t v h) from skip (grid_at d s.root) (grid_at d t.root) in record {
+    let g : Grid = overlaid (target_area t v h) from skip (grid_at d s.root) (grid_at d t.root) in record {
       cells = λ k i j off. grid_within d t g k i j (omega (arith, is.grids, old.root))
-          (λ i j out. cell_at-drawn_in_off (target_area t v h) (taken (target_area t v h) from skip (grid_at d s.root)) (grid_at d t.root) i j (target_off t v h i j rows cols out)) off;
+          (λ i j out. cell_at-overlaid_off (target_area t v h) from skip (grid_at d s.root) (grid_at d t.root) i j (target_off t v h i j rows cols out)) off;
       windows = λ k other. refl;
     }
 
-copied_within : (o : Result (Unit {0}) Refusal) (d : State) (s t : Slot) (m : ℕ) (skip : Bool) (r c : Option Strip) → IsDesk d → window_at d m ≡ Some t →
-    ((v : Strip) → r ≡ Some v → v.to + v.count ≤ t.window.area.rows) → ((h : Strip) → c ≡ Some h → h.to + h.count ≤ t.window.area.cols) → OnlyWithin d (copied_or o d s t skip r c).0 m t
-copied_within o d s t m skip (Some v) (Some h) is there rows cols = strips_within d s t m v h skip is there (rows v refl) (cols h refl)
+copied_within : (o : Result (Unit {0}) Refusal) (d : State) (s t : Slot) (m : ℕ) (skip : Bool) (r c : Option CopySpan) → IsDesk d → window_at d m ≡ Some t →
+    ((v : CopySpan) → r ≡ Some v → v.to + v.count ≤ t.window.area.rows) → ((h : CopySpan) → c ≡ Some h → h.to + h.count ≤ t.window.area.cols) → OnlyWithin d (copied_or o d s t skip r c).0 m t
+copied_within o d s t m skip (Some v) (Some h) is there rows cols = spans_within d s t m v h skip is there (rows v refl) (cols h refl)
 copied_within o d s t m skip (Some v) None is there rows cols = only_same d m t
 copied_within o d s t m skip None c is there rows cols = only_same d m t
 
@@ -45,12 +52,12 @@ within_after d m t (Ok a) next p = p a refl
 within_after d m t (Err e) next p = only_same d m t
 
 -- ---- the lines and columns lie in the target
-strip_inj : (s t : Strip) → Some s ≡ Some t → s ≡ t
-strip_inj s t e = cc
+copy_span_inj : (s t : CopySpan) → Some s ≡ Some t → s ≡ t
+copy_span_inj s t e = cc
 
-if_strip : (b : Bool) (s v : Strip) → (if b then Some s else None) ≡ Some v → (b ≡ true) × (s ≡ v)
-if_strip true s v h = (refl, strip_inj s v h)
-if_strip false s v h = absurd cc
+if_copy_span : (b : Bool) (s v : CopySpan) → (if b then Some s else None) ≡ Some v → (b ≡ true) × (s ≡ v)
+if_copy_span true s v h = (refl, copy_span_inj s v h)
+if_copy_span false s v h = absurd cc
 
 num_inj : (m n : ℕ) → Some m ≡ Some n → m ≡ n
 num_inj m n e = cc
@@ -65,32 +72,32 @@ le_tested m n e = grind (arith, nat_tests)
 lt_tested : (m n : ℕ) → nat_lt m n ≡ true → m < n
 lt_tested m n e = grind (arith, nat_tests)
 
-spot_below : (z : ℤ) (m k : ℕ) → spot z 1 m ≡ Some k → k + 1 ≤ m
-spot_below (pos a) m k h = let e = if_number (nat_le (a + 1) m) a k h in let le = le_tested (a + 1) m e.0 in let same = e.1 in omega arith
-spot_below (negsuc a) m k h = absurd cc
+start_below : (z : ℤ) (m k : ℕ) → start_within z 1 m ≡ Some k → k + 1 ≤ m
+start_below (pos a) m k h = let e = if_number (nat_le (a + 1) m) a k h in let le = le_tested (a + 1) m e.0 in let same = e.1 in omega arith
+start_below (negsuc a) m k h = absurd cc
 
-strip_at_fits : (to count m : ℕ) (o : Option ℕ) (v : Strip) → to + count ≤ m → strip_at to count o ≡ Some v → v.to + v.count ≤ m
-strip_at_fits to count m (Some from) v le h =
-    let made : Strip = record { from = from; to = to; count = count } in
-    subst (λ (s : Strip). s.to + s.count ≤ m) (strip_inj made v h) le
-strip_at_fits to count m None v le h = absurd cc
+copy_span_at_fits : (to count m : ℕ) (o : Option ℕ) (v : CopySpan) → to + count ≤ m → copy_span_at to count o ≡ Some v → v.to + v.count ≤ m
+copy_span_at_fits to count m (Some from) v le h =
+    let made : CopySpan = record { from = from; to = to; count = count } in
+    subst (λ (s : CopySpan). s.to + s.count ≤ m) (copy_span_inj made v h) le
+copy_span_at_fits to count m None v le h = absurd cc
 
-between_fits : (from : ℤ) (n m : ℕ) (a b : Option ℕ) (v : Strip) → ((k : ℕ) → a ≡ Some k → k + 1 ≤ m) → ((k : ℕ) → b ≡ Some k → k + 1 ≤ m) → strip_between from n a b ≡ Some v → v.to + v.count ≤ m
+between_fits : (from : ℤ) (n m : ℕ) (a b : Option ℕ) (v : CopySpan) → ((k : ℕ) → a ≡ Some k → k + 1 ≤ m) → ((k : ℕ) → b ≡ Some k → k + 1 ≤ m) → copy_span_between from n a b ≡ Some v → v.to + v.count ≤ m
 between_fits from n m (Some to) (Some end) v one two h =
     let first : to + 1 ≤ m = one to refl in let last : end + 1 ≤ m = two end refl in
-    strip_at_fits to (end - to + 1) m (spot from (end - to + 1) n) v (omega arith) h
+    copy_span_at_fits to (end - to + 1) m (start_within from (end - to + 1) n) v (omega arith) h
 between_fits from n m (Some to) None v one two h = absurd cc
 between_fits from n m None b v one two h = absurd cc
 
-matched_fits : (from to end : ℤ) (n m : ℕ) (v : Strip) → matched from to end n m ≡ Some v → v.to + v.count ≤ m
-matched_fits from to end n m v h = between_fits from n m (spot to 1 m) (spot end 1 m) v (λ k. spot_below to m k) (λ k. spot_below end m k) h
+matched_fits : (from to end : ℤ) (n m : ℕ) (v : CopySpan) → matched from to end n m ≡ Some v → v.to + v.count ≤ m
+matched_fits from to end n m v h = between_fits from n m (start_within to 1 m) (start_within end 1 m) v (λ k. start_below to m k) (λ k. start_below end m k) h
 
-common_fits : (at n to m : ℕ) (v : Strip) → common at n to m ≡ Some v → v.to + v.count ≤ m
+common_fits : (at n to m : ℕ) (v : CopySpan) → common at n to m ≡ Some v → v.to + v.count ≤ m
 common_fits at n to m v h =
-    let made : Strip = record { from = max at to - at; to = max at to - to; count = min (at + n) (to + m) - max at to } in
-    let e = if_strip (nat_lt (max at to) (min (at + n) (to + m))) made v h in
+    let made : CopySpan = record { from = max at to - at; to = max at to - to; count = min (at + n) (to + m) - max at to } in
+    let e = if_copy_span (nat_lt (max at to) (min (at + n) (to + m))) made v h in
     let lt = lt_tested (max at to) (min (at + n) (to + m)) e.0 in
-    subst (λ (s : Strip). s.to + s.count ≤ m) e.1 (omega arith)
+    subst (λ (s : CopySpan). s.to + s.count ≤ m) e.1 (omega arith)
 
 pub common_part_within : (d : State) (skip : Bool) (n m : ℕ) (t : Slot) → IsDesk d → slot_of d m ≡ Ok t → OnlyWithin d (common_part skip d n m).0 m t
 common_part_within d skip n m t is found =

@@ -3,7 +3,7 @@ pub mod Closing
 pub mod Copied
 pub mod Copies
 pub mod Lending
-pub mod Settling
+pub mod Adding
 pub mod Sharing
 pub mod Showing
 pub mod Viewing

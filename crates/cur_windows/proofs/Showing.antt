@@ -1,13 +1,13 @@
 -- What a copy to the virtual screen leaves is a screen.
 use Rattle.std.proofs.Common.{◌≡◌, ℕ, ◌<◌, [], Option, Bool, IfSome, length, get_or, arith, ap, sym, subst, ◌∙◌}
 use Rattle.std.proofs.lemmas.List.{get_or_default}
-use Rattle.cur_grid.specs.declared.areas.Place.{Place}
+use Rattle.grids.specs.declared.areas.Place.{Place}
 use Rattle.cur_grid.specs.Grids.{Grid, shape_of}
 use Rattle.cur_grid.proofs.Drawing.{shape_of-line, shape_of-length}
 use Rattle.cur_windows.specs.Desks.{State, IsDesk, grid_at}
-use Rattle.cur_windows.specs.Screens.{Screen, IsScreen}
+use Rattle.cur_windows.specs.VirtualScreen.{Screen, IsScreen}
 
-pub screen_kept : (v now : Screen) (g : Grid) (p : Option Place) (clears : Bool) → v ≡ now → IsScreen v → shape_of g ≡ shape_of v.grid → IfSome p (λ q. (q.top < now.rows) × (q.left < now.cols)) →
+pub screen_kept : (v now : Screen) (g : Grid) (p : Option Place) (clears : Bool) → v ≡ now → IsScreen v → shape_of g ≡ shape_of v.grid → IfSome p (λ q. (q.row < now.rows) × (q.col < now.cols)) →
     IsScreen (record v { grid = g; cursor = p; clearok = clears })
 screen_kept v now g p clears e is shape there =
     let len : length g ≡ length v.grid = shape_of-length v.grid g shape in
@@ -16,7 +16,7 @@ screen_kept v now g p clears e is shape there =
     record {
       lines = len ∙ is.lines;
       columns = λ i lt. shape_of-line v.grid g i shape ∙ is.columns i (omega arith);
-      cursor = subst (λ (n : ℕ). IfSome p (λ q. (q.top < v.rows) × (q.left < n))) cols (subst (λ (n : ℕ). IfSome p (λ q. (q.top < n) × (q.left < now.cols))) rows there);
+      cursor = subst (λ (n : ℕ). IfSome p (λ q. (q.row < v.rows) × (q.col < n))) cols (subst (λ (n : ℕ). IfSome p (λ q. (q.row < n) × (q.col < now.cols))) rows there);
       pairs = is.pairs;
     }
 

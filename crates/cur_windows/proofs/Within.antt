@@ -3,16 +3,16 @@ use Rattle.std.proofs.Common.{◌≡◌, ◌≢◌, ◌⊎◌, ℕ, ◌+◌, ◌
 use Rattle.std.proofs.lemmas.Bool.{cases_eq}
 use Rattle.std.proofs.lemmas.Bool.Decides.{nat_tests}
 use Rattle.std.proofs.lemmas.List.{get_or-set_same, get_or-set_other}
-use Rattle.cur_grid.specs.declared.areas.Area.{Area}
+use Rattle.grids.specs.declared.areas.Area.{Area}
 use Rattle.cur_grid.specs.declared.refusals.Refusal.{Refusal}
 use Rattle.cur_grid.specs.declared.windows.Window.{Window}
 use Rattle.cur_grid.specs.Grids.{Grid, is_in, cell_at}
-use Rattle.cur_grid.specs.Windows.{Turn}
-use Rattle.cur_grid.specs.Sheets.{Sheet, Step, sheet}
+use Rattle.cur_grid.specs.Windows.{WindowStep}
+use Rattle.cur_grid.specs.Calls.{Canvas, CanvasStep, canvas}
 use Rattle.cur_grid.specs.Laws.{IsLocal, Stays}
 use Rattle.cur_windows.specs.declared.slots.Slot.{Slot}
 use Rattle.cur_windows.specs.Desks as desks
-use Rattle.cur_windows.specs.Desks.{State, DeskStep, IsDesk, IsPlaced, after, grid_at, window_at, slot_of, with_window, with_sheet, cell}
+use Rattle.cur_windows.specs.Desks.{State, DeskStep, IsDesk, IsPlaced, after, grid_at, window_at, slot_of, with_window, with_canvas, cell}
 use Rattle.cur_windows.specs.Laws.{OnlyWithin, Apart}
 use Rattle.cur_windows.proofs.Backing.{found_there}
 
@@ -25,31 +25,31 @@ grid_within d s g k i j lt same (inr off) = elim (cases_eq k s.root) [
   | inr other ↦ ap (λ (x : Grid). cell_at x i j) (get_or-set_other d.grids s.root k g [] other)
 ]
 
-pub on_window : (d : State) (n : ℕ) (s : Slot) (act : Sheet → Step) → IsDesk d → slot_of d n ≡ Ok s → IsLocal act → OnlyWithin d (desks.on_window d n act).0 n s
+pub on_window : (d : State) (n : ℕ) (s : Slot) (act : Canvas → CanvasStep) → IsDesk d → slot_of d n ≡ Ok s → IsLocal act → OnlyWithin d (desks.on_window d n act).0 n s
 on_window d n s act is found local =
     let old : IsPlaced d n s = is.placed n s (found_there d n s found) in
-    let x : Step = act (sheet (grid_at d s.root) s.window) in
-    let stays : Stays (sheet (grid_at d s.root) s.window) x.0 = local (sheet (grid_at d s.root) s.window) old.sheet in
-    let next : Slot → DeskStep = λ s. let t = act (sheet (grid_at d s.root) s.window) in (with_sheet d n s t.0, t.1) in
+    let x : CanvasStep = act (canvas (grid_at d s.root) s.window) in
+    let stays : Stays (canvas (grid_at d s.root) s.window) x.0 = local (canvas (grid_at d s.root) s.window) old.canvas in
+    let next : Slot → DeskStep = λ s. let t = act (canvas (grid_at d s.root) s.window) in (with_canvas d n s t.0, t.1) in
     let eq : desks.on_window d n act ≡ next s = ap (λ (r : Result Slot Refusal). after r d next) found in
     subst (λ (y : DeskStep). OnlyWithin d y.0 n s) (sym eq) (record {
       cells = λ k i j off. grid_within d s x.0.grid k i j (omega (arith, is.grids, old.root)) stays.outside off;
       windows = λ m other. get_or-set_other d.windows n m (Some (record s { window = x.0.window })) None other;
     })
 
-pub on_grid : (d : State) (n : ℕ) (s : Slot) (act : Sheet → Step) → IsDesk d → slot_of d n ≡ Ok s → IsLocal act → OnlyWithin d (desks.on_grid d n act).0 n s
+pub on_grid : (d : State) (n : ℕ) (s : Slot) (act : Canvas → CanvasStep) → IsDesk d → slot_of d n ≡ Ok s → IsLocal act → OnlyWithin d (desks.on_grid d n act).0 n s
 on_grid d n s act is found local =
     let old : IsPlaced d n s = is.placed n s (found_there d n s found) in
-    let x : Step = act (sheet (grid_at d s.root) s.window) in
-    let stays : Stays (sheet (grid_at d s.root) s.window) x.0 = local (sheet (grid_at d s.root) s.window) old.sheet in
-    let next : Slot → DeskStep = λ s. let t = act (sheet (grid_at d s.root) s.window) in (record d { grids = set d.grids s.root t.0.grid }, t.1) in
+    let x : CanvasStep = act (canvas (grid_at d s.root) s.window) in
+    let stays : Stays (canvas (grid_at d s.root) s.window) x.0 = local (canvas (grid_at d s.root) s.window) old.canvas in
+    let next : Slot → DeskStep = λ s. let t = act (canvas (grid_at d s.root) s.window) in (record d { grids = set d.grids s.root t.0.grid }, t.1) in
     let eq : desks.on_grid d n act ≡ next s = ap (λ (r : Result Slot Refusal). after r d next) found in
     subst (λ (y : DeskStep). OnlyWithin d y.0 n s) (sym eq) (record {
       cells = λ k i j off. grid_within d s x.0.grid k i j (omega (arith, is.grids, old.root)) stays.outside off;
       windows = λ m other. refl;
     })
 
-pub on_cursor : (d : State) (n : ℕ) (s : Slot) (act : Window → Turn) → slot_of d n ≡ Ok s → OnlyWithin d (desks.on_cursor d n act).0 n s
+pub on_cursor : (d : State) (n : ℕ) (s : Slot) (act : Window → WindowStep) → slot_of d n ≡ Ok s → OnlyWithin d (desks.on_cursor d n act).0 n s
 on_cursor d n s act found =
     let next : Slot → DeskStep = λ s. let t = act s.window in (with_window d n s t.0, t.1) in
     let eq : desks.on_cursor d n act ≡ next s = ap (λ (r : Result Slot Refusal). after r d next) found in

@@ -1,14 +1,14 @@
 -- A desk: root grids, and windows that are rectangles of them (X/Open Curses Issue 7, "Windows"). A subwindow has its
 -- parent's root, so that it shows and changes its parent's cells.
 use Rattle.std.specs.Prelude.{◌≡◌, ℕ, ◌+◌, ◌<◌, ◌≤◌, nat_lt, List, [], length, slice_index_or, slice_set, Bool, false, Option, Some, None, IsSome, Result, Ok, Err, if◌then◌else◌, replicate}
-use Rattle.cur_grid.specs.declared.areas.Area.{Area}
+use Rattle.grids.specs.declared.areas.Area.{Area}
 use Rattle.cur_grid.specs.declared.refusals.Refusal.{Refusal}
 use Rattle.cur_grid.specs.declared.refusals.Refusal.TheVariants.{NoWindow, Full}
 use Rattle.cur_grid.specs.declared.windows.Window.{Window}
 use Rattle.cur_grid.specs.Cells.{Content}
 use Rattle.cur_grid.specs.Grids.{Grid, line_at, cell_at, blank}
-use Rattle.cur_grid.specs.Windows.{Turn, fresh}
-use Rattle.cur_grid.specs.Sheets.{Sheet, Step, IsSheet, sheet}
+use Rattle.cur_grid.specs.Windows.{WindowStep, fresh}
+use Rattle.cur_grid.specs.Calls.{Canvas, CanvasStep, IsCanvas, canvas}
 use Rattle.cur_windows.specs.declared.slots.Origin.{Origin}
 use Rattle.cur_windows.specs.declared.slots.Slot.{Slot}
 
@@ -46,7 +46,7 @@ pub record IsWhole (a : Area) (g : Grid) : Type 0 where
 -- the window lies in its root, which some window made; one that is no subwindow made it itself, and has all of it
 pub record IsPlaced (d : State) (n : ℕ) (s : Slot) : Type 0 where
   pub root : s.root < 64
-  pub sheet : IsSheet (grid_at d s.root) s.window
+  pub canvas : IsCanvas (grid_at d s.root) s.window
   pub made : IsSome (window_at d s.root)
   pub own : s.parent ≡ None → s.root ≡ n
   pub whole : s.parent ≡ None → IsWhole s.window.area (grid_at d s.root)
@@ -73,7 +73,7 @@ DeskStep = State × Result (Unit {0}) Refusal
 abbrev pub step : State → Result (Unit {0}) Refusal → DeskStep
 step d r = (d, r)
 
--- what follows is done only if a test is passed; a refusal gives the desk back
+-- what follows is done only if a test is passed; a refusal leaves the desk as it was
 abbrev pub after : {A : Type 0} → Result A Refusal → State → (A → DeskStep) → DeskStep
 after (Ok a) d next = next a
 after (Err e) d next = (d, Err e)
@@ -89,20 +89,20 @@ slot_of d n = if nat_lt 63 n then Err Full else some_slot (window_at d n)
 abbrev pub with_window : State → ℕ → Slot → Window → State
 with_window d n s w = record d { windows = slice_set d.windows n (Some (record s { window = w })) }
 
-abbrev pub with_sheet : State → ℕ → Slot → Sheet → State
-with_sheet d n s t = record (with_window d n s t.window) { grids = slice_set d.grids s.root t.grid }
+abbrev pub with_canvas : State → ℕ → Slot → Canvas → State
+with_canvas d n s t = record (with_window d n s t.window) { grids = slice_set d.grids s.root t.grid }
 
 -- a call on one window and the grid under it
-abbrev pub on_window : State → ℕ → (Sheet → Step) → DeskStep
-on_window d n act = after (slot_of d n) d (λ s. let t = act (sheet (grid_at d s.root) s.window) in (with_sheet d n s t.0, t.1))
+abbrev pub on_window : State → ℕ → (Canvas → CanvasStep) → DeskStep
+on_window d n act = after (slot_of d n) d (λ s. let t = act (canvas (grid_at d s.root) s.window) in (with_canvas d n s t.0, t.1))
 
 -- a call that changes only the grid
-abbrev pub on_grid : State → ℕ → (Sheet → Step) → DeskStep
+abbrev pub on_grid : State → ℕ → (Canvas → CanvasStep) → DeskStep
 on_grid d n act = after (slot_of d n) d (λ s.
-    let t = act (sheet (grid_at d s.root) s.window) in (record d { grids = slice_set d.grids s.root t.0.grid }, t.1))
+    let t = act (canvas (grid_at d s.root) s.window) in (record d { grids = slice_set d.grids s.root t.0.grid }, t.1))
 
 -- a call on one window alone
-abbrev pub on_cursor : State → ℕ → (Window → Turn) → DeskStep
+abbrev pub on_cursor : State → ℕ → (Window → WindowStep) → DeskStep
 on_cursor d n act = after (slot_of d n) d (λ s. let t = act s.window in (with_window d n s t.0, t.1))
 
 -- an option or an attribute

@@ -15,11 +15,11 @@ abbrev pub Apart : Slot → Slot → Type 0
 Apart s t = (t.root ≢ s.root) ⊎ ((i j : ℕ) → is_in t.window.area i j ≡ true → is_in s.window.area i j ≡ false)
 
 -- window t is a part of the other one that begins at its place y x
-pub record IsPartOf (s t : Slot) (y x : ℕ) : Type 0 where
+pub record IsSubwindowOf (s t : Slot) (y x : ℕ) : Type 0 where
   pub root : t.root ≡ s.root
   pub top : t.window.area.top ≡ s.window.area.top + y
   pub left : t.window.area.left ≡ s.window.area.left + x
 
--- where the step is a refusal it gives the desk back
-abbrev pub GivesBack : State → DeskStep → Type 0
-GivesBack d x = (e : Refusal) → x.1 ≡ Err e → x.0 ≡ d
+-- where the step is a refusal the desk is as it was
+abbrev pub UnchangedIfRefused : State → DeskStep → Type 0
+UnchangedIfRefused d x = (e : Refusal) → x.1 ≡ Err e → x.0 ≡ d

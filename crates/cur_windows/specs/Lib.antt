@@ -1,10 +1,11 @@
+-- The definitions of windows and the virtual screen.
 pub mod Copying
 pub mod Desks
 pub mod Laws
 pub mod Lending
 pub mod Making
-pub mod Padding
+pub mod Pads
 pub mod Rows
-pub mod Screens
+pub mod VirtualScreen
 pub mod Sizes
 pub mod Views

@@ -1,13 +1,13 @@
 -- Making, moving and deleting windows (X/Open Curses Issue 7, newwin, subwin, derwin, delwin, mvwin).
 use Rattle.std.specs.Prelude.{ℕ, ◌+◌, ◌<◌, ◌≤◌, ◌==◌, ◌&&◌, ◌||◌, nat_lt, not, List, [], ◌∷◌, length, slice_set, Bool, true, false, Option, Some, None, Result, Ok, Err, if◌then◌else◌, ℤ, pos, ◌-ℤ◌}
-use Rattle.cur_grid.specs.declared.areas.Area.{Area}
+use Rattle.grids.specs.declared.areas.Area.{Area}
 use Rattle.cur_grid.specs.declared.refusals.Refusal.{Refusal}
 use Rattle.cur_grid.specs.declared.refusals.Refusal.TheVariants.{Full, NumberUsed, OutOfScreen, OutOfWindow, PadKind, IsScreen, HasChildren, IsSub}
 use Rattle.cur_grid.specs.declared.windows.Window.{Window}
 use Rattle.cur_grid.specs.Grids.{Grid, blank, line_at, copied}
 use Rattle.cur_grid.specs.Windows.{fresh}
-use Rattle.cur_grid.specs.Sheets.{place}
-use Rattle.cur_grid.specs.Stretches.{part, spot}
+use Rattle.cur_grid.specs.Calls.{place}
+use Rattle.cur_grid.specs.Spans.{area_within, start_within}
 use Rattle.cur_windows.specs.declared.slots.Origin.{Origin}
 use Rattle.cur_windows.specs.declared.slots.Slot.{Slot}
 use Rattle.cur_windows.specs.Desks.{State, DeskStep, after, slot_of, grid_at, origin_at, window_at, on_screen, whole_area}
@@ -20,9 +20,9 @@ is_some_slot None = false
 abbrev pub free : State → ℕ → Result (Unit {0}) Refusal
 free d n = if nat_lt 63 n then Err Full else if is_some_slot (window_at d n) then Err NumberUsed else Ok tt
 
--- window n comes to be, with a grid of its own
-abbrev pub settled : State → ℕ → Grid → Origin → Window → State
-settled d n g o w = record d {
+-- window n is made, with a grid of its own
+abbrev pub root_added : State → ℕ → Grid → Origin → Window → State
+root_added d n g o w = record d {
   grids = slice_set d.grids n g;
   origins = slice_set d.origins n o;
   windows = slice_set d.windows n (Some (record { root = n; parent = None; window = w }));
@@ -31,16 +31,16 @@ settled d n g o w = record d {
 -- newwin
 abbrev pub newwin : State → ℕ → ℤ → ℤ → ℤ → ℤ → DeskStep
 newwin d n lines cols y x =
-    after (free d n) d (λ u. after (part d.rows d.cols lines cols y x OutOfScreen) d (λ a.
-    (settled d n (blank a.rows a.cols) (on_screen a.top a.left false) (fresh (whole_area a.rows a.cols)), Ok tt)))
+    after (free d n) d (λ u. after (area_within d.rows d.cols lines cols y x OutOfScreen) d (λ a.
+    (root_added d n (blank a.rows a.cols) (on_screen a.top a.left false) (fresh (whole_area a.rows a.cols)), Ok tt)))
 
 -- a rectangle of a window, in the places of its grid
 abbrev pub inside : Area → Area → Area
 inside outer a = record a { top = outer.top + a.top; left = outer.left + a.left }
 
--- window n comes to be as a part of another one
-abbrev pub parted : State → ℕ → ℕ → Slot → Area → State
-parted d n parent s a = record d { windows = slice_set d.windows n (Some (record { root = s.root; parent = Some parent; window = fresh (inside s.window.area a) })) }
+-- window n is made as a part of another one
+abbrev pub subwindow_added : State → ℕ → ℕ → Slot → Area → State
+subwindow_added d n parent s a = record d { windows = slice_set d.windows n (Some (record { root = s.root; parent = Some parent; window = fresh (inside s.window.area a) })) }
 
 -- a window that is no pad
 abbrev pub window_only : State → Slot → Result (Unit {0}) Refusal
@@ -51,15 +51,15 @@ abbrev pub in_range : ℕ → ℕ → Result (Unit {0}) Refusal
 in_range n w = if nat_lt 63 n || nat_lt 63 w then Err Full else Ok tt
 
 -- a part of window w, at a place that counts from (top, left) of it
-abbrev pub part_from : State → ℕ → ℕ → Slot → ℤ → ℤ → ℤ → ℤ → DeskStep
-part_from d n w s lines cols y x =
-    after (part s.window.area.rows s.window.area.cols lines cols y x OutOfWindow) d (λ a. (parted d n w s a, Ok tt))
+abbrev pub subwindow_at : State → ℕ → ℕ → Slot → ℤ → ℤ → ℤ → ℤ → DeskStep
+subwindow_at d n w s lines cols y x =
+    after (area_within s.window.area.rows s.window.area.cols lines cols y x OutOfWindow) d (λ a. (subwindow_added d n w s a, Ok tt))
 
 -- derwin: the place counts from the window's corner
 abbrev pub derwin : State → ℕ → ℕ → ℤ → ℤ → ℤ → ℤ → DeskStep
 derwin d n w lines cols y x =
     after (in_range n w) d (λ u. after (free d n) d (λ u. after (slot_of d w) d (λ s. after (window_only d s) d (λ u.
-    part_from d n w s lines cols y x))))
+    subwindow_at d n w s lines cols y x))))
 
 -- the place of a window's corner on the screen
 abbrev pub corner : State → Slot → ℕ × ℕ
@@ -69,7 +69,7 @@ corner d s = ((origin_at d s.root).top + s.window.area.top, (origin_at d s.root)
 abbrev pub subwin : State → ℕ → ℕ → ℤ → ℤ → ℤ → ℤ → DeskStep
 subwin d n w lines cols y x =
     after (in_range n w) d (λ u. after (free d n) d (λ u. after (slot_of d w) d (λ s. after (window_only d s) d (λ u.
-    part_from d n w s lines cols (y -ℤ pos (corner d s).0) (x -ℤ pos (corner d s).1)))))
+    subwindow_at d n w s lines cols (y -ℤ pos (corner d s).0) (x -ℤ pos (corner d s).1)))))
 
 -- a window has window n as its parent, or n's grid
 abbrev pub is_parent : ℕ → Option ℕ → Bool
@@ -105,7 +105,7 @@ moved d s None x = (d, Err OutOfScreen)
 -- mvwin: its subwindows go with it, since they lie in its grid
 abbrev pub mvwin : State → ℕ → ℤ → ℤ → DeskStep
 mvwin d n y x = after (slot_of d n) d (λ s. after (window_only d s) d (λ u. after (no_sub s.parent) d (λ u.
-    moved d s (spot y s.window.area.rows d.rows) (spot x s.window.area.cols d.cols))))
+    moved d s (start_within y s.window.area.rows d.rows) (start_within x s.window.area.cols d.cols))))
 
 -- a grid of a window that lies on the screen at a place
 pub record IsInFrame (height width : ℕ) (o : Origin) (g : Grid) : Type 0 where
@@ -118,11 +118,11 @@ copy_origin d s = if (origin_at d s.root).pad then on_screen 0 0 true else on_sc
 
 -- the copy's grid: the window's cells
 abbrev pub copy_grid : State → Slot → Grid
-copy_grid d s = copied (whole_area s.window.area.rows s.window.area.cols) (place s.window.area.top s.window.area.left) false (grid_at d s.root)
+copy_grid d s = copied (whole_area s.window.area.rows s.window.area.cols) (place s.window.area.top s.window.area.left) (grid_at d s.root)
     (blank s.window.area.rows s.window.area.cols)
 
 -- dupwin: a window of its own with the same cells, cursor, attributes, background and options
 abbrev pub dupwin : State → ℕ → ℕ → DeskStep
 dupwin d n w =
     after (in_range n w) d (λ u. after (free d n) d (λ u. after (slot_of d w) d (λ s.
-    (settled d n (copy_grid d s) (copy_origin d s) (record s.window { area = whole_area s.window.area.rows s.window.area.cols }), Ok tt))))
+    (root_added d n (copy_grid d s) (copy_origin d s) (record s.window { area = whole_area s.window.area.rows s.window.area.cols }), Ok tt))))

@@ -1,11 +1,11 @@
 -- One line of a window that is lent for writing.
 use Rattle.std.specs.Prelude.{ℕ, List, ◌+◌, ◌<◌, nat_lt, slice_set, Result, Ok, Err, if◌then◌else◌}
-use Rattle.cur_grid.specs.declared.areas.Area.{Area}
+use Rattle.grids.specs.declared.areas.Area.{Area}
 use Rattle.cur_grid.specs.declared.refusals.Refusal.{Refusal}
 use Rattle.cur_grid.specs.declared.refusals.Refusal.TheVariants.{OutOfWindow}
 use Rattle.cur_grid.specs.Cells.{Content}
 use Rattle.cur_grid.specs.Grids.{one, filled, part_written}
-use Rattle.cur_grid.specs.Sheets.{IsSheet}
+use Rattle.cur_grid.specs.Calls.{IsCanvas}
 use Rattle.cur_windows.specs.declared.rows.RowMut.{RowMut}
 use Rattle.cur_windows.specs.declared.slots.Slot.{Slot}
 use Rattle.cur_windows.specs.Desks.{State, grid_at, slot_of}
@@ -13,7 +13,7 @@ use Rattle.cur_windows.specs.Desks.{State, grid_at, slot_of}
 -- the window lies in its grid and has such a line
 pub record IsLine (d : State) (s : Slot) (y : ℕ) : Type 0 where
   pub root : s.root < 64
-  pub sheet : IsSheet (grid_at d s.root) s.window
+  pub canvas : IsCanvas (grid_at d s.root) s.window
   pub within : y < s.window.area.rows
 
 abbrev pub line_in : ℕ → Result Slot Refusal → Result Slot Refusal

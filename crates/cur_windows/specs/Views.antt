@@ -1,6 +1,6 @@
 -- What is seen of a window: its cells, as a grid of its own.
 use Rattle.std.specs.Prelude.{◌+◌, ◌≤◌, ℕ, List, map, take, drop, Result, Ok, Err}
-use Rattle.cur_grid.specs.declared.areas.Area.{Area}
+use Rattle.grids.specs.declared.areas.Area.{Area}
 use Rattle.cur_grid.specs.declared.refusals.Refusal.{Refusal}
 use Rattle.cur_grid.specs.Cells.{Content}
 use Rattle.cur_grid.specs.Grids.{Grid, Fits}

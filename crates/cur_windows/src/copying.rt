@@ -1,18 +1,20 @@
+//! Copying between windows: overlay, overwrite and copywin.
 ghost use Rattle.std.specs.Prelude.{◌≡◌, ◌<◌, ◌≤◌, ◌≤ℤ◌, ◌+◌, IfSome, OnOk, [], true, false, length, slice_index_or, slice_set};
-ghost use Rattle.cur_grid.specs.Grids.{Fits, copied, moved_to};
-ghost use Rattle.cur_grid.specs.Sheets.{IsSheet};
+ghost use Rattle.cur_grid.specs.Grids.{Fits, overlaid, moved_to, shape_of};
+ghost use Rattle.cur_grid.specs.Calls.{IsCanvas};
 ghost use Rattle.cur_windows.specs.Desks as spec;
-ghost use Rattle.cur_windows.specs.Copying.{IsWithin, common, common_part, copied_or, copywin, in_order, matched, strips_copied};
+ghost use Rattle.cur_windows.specs.Copying.{IsWithin, common, common_part, copied_or, copywin, in_order, matched, spans_copied};
 
 use crate::desks::Desk;
 use crate::making::in_range;
 use crate::slots::Slot;
-use cur_grid::{Area, Grid, Place, Refusal, spot};
+use cur_grid::{Cell, Refusal, SkipSpaces, start_within};
+use grids::{Area, Grid, Place};
 use std::mem;
 
 /// Lines or columns that are copied: the first one in the source, the first one in the destination, and how many.
 #[derive(Clone, Copy)]
-pub struct Strip {
+pub struct CopySpan {
     pub from: u16,
     pub to: u16,
     pub count: u16,
@@ -91,15 +93,15 @@ impl Desk {
         &mut self,
         source: &Slot,
         target: &Slot,
-        rows: Option<Strip>,
-        cols: Option<Strip>,
+        rows: Option<CopySpan>,
+        cols: Option<CopySpan>,
         skip: bool,
         otherwise: Result<(), Refusal>,
     ) -> Result<(), Refusal>
         requires source_root { (source.now).root < 64 }
-        requires source_sheet { IsSheet (spec.grid_at self.old (source.now).root) (source.now).window }
+        requires source_sheet { IsCanvas (spec.grid_at self.old (source.now).root) (source.now).window }
         requires target_root { (target.now).root < 64 }
-        requires target_sheet { IsSheet (spec.grid_at self.old (target.now).root) (target.now).window }
+        requires target_sheet { IsCanvas (spec.grid_at self.old (target.now).root) (target.now).window }
         requires rows { IfSome rows (IsWithin (source.now).window.area.rows (target.now).window.area.rows) }
         requires cols { IfSome cols (IsWithin (source.now).window.area.cols (target.now).window.area.cols) }
         ensures { spec.step self.new result ≡ copied_or otherwise self.old source.now target.now skip rows cols }
@@ -107,19 +109,26 @@ impl Desk {
         let (Some(rows), Some(cols)) = (rows, cols) else {
             return otherwise;
         };
-        self.copy_strips(source, target, rows, cols, skip);
+        self.copy_spans(source, target, rows, cols, skip);
         Ok(())
     }
 
     // These lines and columns of the target become those of the source.
-    fn copy_strips(&mut self, source: &Slot, target: &Slot, rows: Strip, cols: Strip, skip: bool)
+    fn copy_spans(
+        &mut self,
+        source: &Slot,
+        target: &Slot,
+        rows: CopySpan,
+        cols: CopySpan,
+        skip: bool,
+    )
         requires source_root { (source.now).root < 64 }
-        requires source_sheet { IsSheet (spec.grid_at self.old (source.now).root) (source.now).window }
+        requires source_sheet { IsCanvas (spec.grid_at self.old (source.now).root) (source.now).window }
         requires target_root { (target.now).root < 64 }
-        requires target_sheet { IsSheet (spec.grid_at self.old (target.now).root) (target.now).window }
+        requires target_sheet { IsCanvas (spec.grid_at self.old (target.now).root) (target.now).window }
         requires rows { IsWithin (source.now).window.area.rows (target.now).window.area.rows rows }
         requires cols { IsWithin (source.now).window.area.cols (target.now).window.area.cols cols }
-        ensures { self.new ≡ strips_copied self.old source.now target.now rows cols skip }
+        ensures { self.new ≡ spans_copied self.old source.now target.now rows cols skip }
     {
         let area = Area {
             top: target.window.area.top + rows.to,
@@ -128,8 +137,8 @@ impl Desk {
             cols: cols.count,
         };
         let from = Place {
-            top: source.window.area.top + rows.from,
-            left: source.window.area.left + cols.from,
+            row: source.window.area.top + rows.from,
+            col: source.window.area.left + cols.from,
         };
         let spare = Grid::empty(self.alloc);
         let (source, target) = (source.root as usize, target.root as usize);
@@ -140,10 +149,10 @@ impl Desk {
 // A rectangle of one grid gets the cells of another one, or of itself, as they were before. The spare one stands in the
 // target's place while it is written.
 fn copy_between(
-    grids: &mut [Grid],
+    grids: &mut [Grid<Cell>],
     source: usize,
     target: usize,
-    spare: Grid,
+    spare: Grid<Cell>,
     area: Area,
     from: Place,
     skip: bool,
@@ -152,18 +161,47 @@ fn copy_between(
     requires target { target < length grids.old }
     requires area { Fits area (slice_index_or grids.old target []) }
     requires from { Fits (moved_to area from) (slice_index_or grids.old source []) }
-    ensures { grids.new ≡ slice_set grids.old target (copied area from skip (slice_index_or grids.old source []) (slice_index_or grids.old target [])) }
+    ensures { grids.new ≡ slice_set grids.old target (overlaid area from skip (slice_index_or grids.old source []) (slice_index_or grids.old target [])) }
 {
     if source == target {
-        grids[target].shift(area, from, skip);
+        overlay_shift(&mut grids[target], area, from, skip);
         return;
     }
     let mut grid = mem::replace(&mut grids[target], spare);
-    grid.copy_from(area, &grids[source], from, skip);
+    overlay_from(&mut grid, area, &grids[source], from, skip);
     grids[target] = grid;
 }
 
-fn in_order(top: i32, bottom: i32, left: i32, right: i32) -> Result<(), Refusal>
+// A rectangle of a grid gets the cells of another one from a place on, without its spaces if these are skipped.
+fn overlay_from(grid: &mut Grid<Cell>, area: Area, source: &Grid<Cell>, from: Place, skip: bool)
+    requires target { Fits area grid.old }
+    requires source { Fits (moved_to area from) source.now }
+    ensures value { grid.new ≡ overlaid area from skip source.now grid.old }
+    ensures shape { shape_of grid.new ≡ shape_of grid.old }
+{
+    if skip {
+        grid.merge_from(area, source, from, &SkipSpaces);
+    } else {
+        grid.copy_from(area, source, from);
+    }
+}
+
+// It gets those of the grid itself, as if they were all read first.
+fn overlay_shift(grid: &mut Grid<Cell>, area: Area, from: Place, skip: bool)
+    requires target { Fits area grid.old }
+    requires source { Fits (moved_to area from) grid.old }
+    ensures value { grid.new ≡ overlaid area from skip grid.old grid.old }
+    ensures shape { shape_of grid.new ≡ shape_of grid.old }
+{
+    if skip {
+        grid.merge_shift(area, from, &SkipSpaces);
+    } else {
+        grid.shift(area, from);
+    }
+}
+
+/// `BadRegion` where a last row or column is before the first one.
+pub fn in_order(top: i32, bottom: i32, left: i32, right: i32) -> Result<(), Refusal>
     ensures value { result ≡ in_order top bottom left right }
     ensures order { OnOk result ((top ≤ℤ bottom) × (left ≤ℤ right)) }
 {
@@ -174,7 +212,7 @@ fn in_order(top: i32, bottom: i32, left: i32, right: i32) -> Result<(), Refusal>
 }
 
 // The lines or columns that both have: the source's from `at` on, and the target's from `to` on.
-fn common(at: u16, count: u16, to: u16, limit: u16) -> Option<Strip>
+fn common(at: u16, count: u16, to: u16, limit: u16) -> Option<CopySpan>
     ensures value { result ≡ common at count to limit }
     ensures within { IfSome result (IsWithin count limit) }
 {
@@ -183,7 +221,7 @@ fn common(at: u16, count: u16, to: u16, limit: u16) -> Option<Strip>
     if first >= end {
         return None;
     }
-    Some(Strip {
+    Some(CopySpan {
         from: (first - at as u32) as u16,
         to: (first - to as u32) as u16,
         count: (end - first) as u16,
@@ -191,16 +229,16 @@ fn common(at: u16, count: u16, to: u16, limit: u16) -> Option<Strip>
 }
 
 // The target's lines or columns `to` to `last`, and as many of the source, if they are all there.
-fn matched(from: i32, to: i32, last: i32, count: u16, limit: u16) -> Option<Strip>
+fn matched(from: i32, to: i32, last: i32, count: u16, limit: u16) -> Option<CopySpan>
     requires { to ≤ℤ last }
     ensures value { result ≡ matched from to last count limit }
     ensures within { IfSome result (IsWithin count limit) }
 {
-    let to = spot(to, 1, limit)?;
-    let last = spot(last, 1, limit)?;
+    let to = start_within(to, 1, limit)?;
+    let last = start_within(last, 1, limit)?;
     let size = last - to + 1;
-    let from = spot(from, size, count)?;
-    Some(Strip {
+    let from = start_within(from, size, count)?;
+    Some(CopySpan {
         from,
         to,
         count: size,

@@ -1,15 +1,18 @@
+//! The desk: grids, and the windows that are rectangles of them.
 ghost use Rattle.std.specs.Prelude.{◌≡◌, ◌<◌, ◌≤◌, Some, None, IfOk, [], replicate, false};
+ghost use Rattle.cur_grid.specs.Grids.{blank};
 ghost use Rattle.cur_windows.specs.Desks as spec;
 ghost use Rattle.cur_windows.specs.Desks.{IsPlaced, IsDesk};
 
 use crate::slots::{Origin, Slot};
-use cur_grid::{Area, Grid, Refusal, Window};
+use cur_grid::{Cell, Refusal, Window};
+use grids::{Area, Grid};
 use std::alloc::{AllocError, Global};
 use std::marker::Model;
 use vt_term::Size;
 
-// How many windows there may be.
-const PLACES: usize = 64;
+/// How many windows there may be.
+pub const WINDOWS: usize = 64;
 
 /// The windows of a screen. Numbers 0 to 63 name them; 0 is the screen's own and always there.
 #[derive(Drop)]
@@ -17,7 +20,7 @@ pub struct Desk {
     pub(crate) alloc: Global,
     pub(crate) rows: u16,
     pub(crate) cols: u16,
-    pub(crate) grids: Vec<Grid>,
+    pub(crate) grids: Vec<Grid<Cell>>,
     pub(crate) origins: Vec<Origin>,
     pub(crate) windows: Vec<Option<Slot>>,
 }
@@ -47,7 +50,7 @@ impl Desk {
         let mut grids = empty_grids(alloc)?;
         let mut windows = no_windows(alloc)?;
         let origins = screen_origins(alloc)?;
-        grids[0] = Grid::new(alloc, rows, cols)?;
+        grids[0] = blank_grid(alloc, rows, cols)?;
         windows[0] = Some(Slot {
             root: 0,
             parent: None,
@@ -68,7 +71,7 @@ impl Desk {
         ensures placed { IfOk result (λ s. IsPlaced self.now id s) }
         ensures there { IfOk result (λ s. (id < 64) × (spec.window_at self.now id ≡ Some s)) }
     {
-        if id > 63 {
+        if id >= WINDOWS {
             return Err(Refusal::Full);
         }
         let Some(slot) = self.windows[id] else {
@@ -78,11 +81,18 @@ impl Desk {
     }
 }
 
-fn empty_grids(alloc: Global) -> Result<Vec<Grid>, AllocError>
+/// A grid of spaces without attributes. An error where a growth was refused.
+pub(crate) fn blank_grid(alloc: Global, rows: u16, cols: u16) -> Result<Grid<Cell>, AllocError>
+    ensures { IfOk result (λ grid. grid ≡ blank rows cols) }
+{
+    Grid::new(alloc, rows as usize, cols as usize, Cell::space())
+}
+
+fn empty_grids(alloc: Global) -> Result<Vec<Grid<Cell>>, AllocError>
     ensures { IfOk result (λ grids. grids.items ≡ replicate 64 []) }
 {
-    let mut grids = Vec::with_capacity(alloc, PLACES)?;
-    for _k in 0..PLACES {
+    let mut grids = Vec::with_capacity(alloc, WINDOWS)?;
+    for _k in 0..WINDOWS {
         grids.push(Grid::empty(alloc))?;
     }
     Ok(grids)
@@ -96,8 +106,8 @@ fn screen_origins(alloc: Global) -> Result<Vec<Origin>, AllocError>
         left: 0,
         pad: false,
     };
-    let mut origins = Vec::with_capacity(alloc, PLACES)?;
-    for _k in 0..PLACES {
+    let mut origins = Vec::with_capacity(alloc, WINDOWS)?;
+    for _k in 0..WINDOWS {
         origins.push(corner)?;
     }
     Ok(origins)
@@ -106,8 +116,8 @@ fn screen_origins(alloc: Global) -> Result<Vec<Origin>, AllocError>
 fn no_windows(alloc: Global) -> Result<Vec<Option<Slot>>, AllocError>
     ensures { IfOk result (λ windows. windows.items ≡ replicate 64 None) }
 {
-    let mut windows = Vec::with_capacity(alloc, PLACES)?;
-    for _k in 0..PLACES {
+    let mut windows = Vec::with_capacity(alloc, WINDOWS)?;
+    for _k in 0..WINDOWS {
         windows.push(None)?;
     }
     Ok(windows)

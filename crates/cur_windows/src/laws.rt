@@ -3,11 +3,11 @@ ghost use Rattle.std.specs.Prelude.{◌≡◌, ◌≢◌, ◌⊎◌, ℕ, ◌+�
 ghost use Rattle.cur_grid.specs.Cells.{Content, space};
 ghost use Rattle.cur_grid.specs.Grids.{Grid, cell_at, is_in};
 ghost use Rattle.cur_grid.specs.Laws.{IsLocal};
-ghost use Rattle.cur_grid.specs.Sheets as sheets;
-ghost use Rattle.cur_grid.specs.Windows as turns;
+ghost use Rattle.cur_grid.specs.Calls as calls;
+ghost use Rattle.cur_grid.specs.Windows as window_calls;
 ghost use Rattle.cur_windows.specs.Copying as copying;
 ghost use Rattle.cur_windows.specs.Desks.{State, IsDesk, slot_of, window_at, grid_at, cell, on_window, on_grid, on_cursor};
-ghost use Rattle.cur_windows.specs.Laws.{OnlyWithin, Apart, IsPartOf, GivesBack};
+ghost use Rattle.cur_windows.specs.Laws.{OnlyWithin, Apart, IsSubwindowOf, UnchangedIfRefused};
 ghost use Rattle.cur_windows.specs.Making as making;
 ghost use Rattle.cur_windows.specs.Rows.{line_of, line_area, row_written, written_through};
 ghost use Rattle.cur_windows.specs.Views.{window_cells};
@@ -19,9 +19,9 @@ use cur_grid::{Border, Cell, Put, Refusal, Window};
 /// A call on one window changes no cell outside the window's rectangle, and no other window. That what it does to the
 /// window and its grid stays inside is a law of each such call.
 pub fn calls_stay_inside()
-    ensures writing { (d : State) (n : ℕ) (s : Slot) (act : sheets.Sheet → sheets.Step) → IsDesk d → slot_of d n ≡ Ok s → IsLocal act → OnlyWithin d (on_window d n act).0 n s }
-    ensures drawing { (d : State) (n : ℕ) (s : Slot) (act : sheets.Sheet → sheets.Step) → IsDesk d → slot_of d n ≡ Ok s → IsLocal act → OnlyWithin d (on_grid d n act).0 n s }
-    ensures setting { (d : State) (n : ℕ) (s : Slot) (act : Window → turns.Turn) → slot_of d n ≡ Ok s → OnlyWithin d (on_cursor d n act).0 n s }
+    ensures writing { (d : State) (n : ℕ) (s : Slot) (act : calls.Canvas → calls.CanvasStep) → IsDesk d → slot_of d n ≡ Ok s → IsLocal act → OnlyWithin d (on_window d n act).0 n s }
+    ensures drawing { (d : State) (n : ℕ) (s : Slot) (act : calls.Canvas → calls.CanvasStep) → IsDesk d → slot_of d n ≡ Ok s → IsLocal act → OnlyWithin d (on_grid d n act).0 n s }
+    ensures setting { (d : State) (n : ℕ) (s : Slot) (act : Window → window_calls.WindowStep) → slot_of d n ≡ Ok s → OnlyWithin d (on_cursor d n act).0 n s }
 {}
 
 /// What such a call leaves in each window that has no cell in common with its own is as before.
@@ -37,63 +37,63 @@ pub fn copies_stay_inside()
 
 /// A window that was made with a grid of its own changes no cell of the others.
 pub fn new_windows_lie_apart()
-    ensures { (d : State) (n m : ℕ) (g : Grid) (o : Origin) (w : Window) (t : Slot) (y x : ℕ) → IsDesk d → window_at d n ≡ None → window_at d m ≡ Some t → cell (making.settled d n g o w) t y x ≡ cell d t y x }
+    ensures { (d : State) (n m : ℕ) (g : Grid) (o : Origin) (w : Window) (t : Slot) (y x : ℕ) → IsDesk d → window_at d n ≡ None → window_at d m ≡ Some t → cell (making.root_added d n g o w) t y x ≡ cell d t y x }
 {}
 
-/// A part of a window and that window show one cell at one place, whatever was done to the desk.
-pub fn parts_share_cells()
-    ensures { (d : State) (s t : Slot) (y x i j : ℕ) → IsPartOf s t y x → cell d t i j ≡ cell d s (y + i) (x + j) }
+/// A subwindow and its parent show the same cell at the same place, whatever was done to the desk.
+pub fn subwindows_share_cells()
+    ensures { (d : State) (s t : Slot) (y x i j : ℕ) → IsSubwindowOf s t y x → cell d t i j ≡ cell d s (y + i) (x + j) }
 {}
 
-/// What `derwin` makes is such a part, at the place that was asked for.
-pub fn derwin_makes_parts()
-    ensures { (d : State) (n w : ℕ) (lines cols : ℤ) (y x : ℕ) (s t : Slot) → IsDesk d → (making.derwin d n w lines cols (pos y) (pos x)).1 ≡ Ok tt → slot_of d w ≡ Ok s → window_at (making.derwin d n w lines cols (pos y) (pos x)).0 n ≡ Some t → IsPartOf s t y x }
+/// What `derwin` makes is such a subwindow, at the place that was asked for.
+pub fn derwin_makes_subwindows()
+    ensures { (d : State) (n w : ℕ) (lines cols : ℤ) (y x : ℕ) (s t : Slot) → IsDesk d → (making.derwin d n w lines cols (pos y) (pos x)).1 ≡ Ok tt → slot_of d w ≡ Ok s → window_at (making.derwin d n w lines cols (pos y) (pos x)).0 n ≡ Some t → IsSubwindowOf s t y x }
 {}
 
 /// What `subwin` makes too, the place counting from the screen's corner.
-pub fn subwin_makes_parts()
-    ensures { (d : State) (n w : ℕ) (lines cols : ℤ) (y x : ℕ) (s t : Slot) → IsDesk d → (making.subwin d n w lines cols (pos ((making.corner d s).0 + y)) (pos ((making.corner d s).1 + x))).1 ≡ Ok tt → slot_of d w ≡ Ok s → window_at (making.subwin d n w lines cols (pos ((making.corner d s).0 + y)) (pos ((making.corner d s).1 + x))).0 n ≡ Some t → IsPartOf s t y x }
+pub fn subwin_makes_subwindows()
+    ensures { (d : State) (n w : ℕ) (lines cols : ℤ) (y x : ℕ) (s t : Slot) → IsDesk d → (making.subwin d n w lines cols (pos ((making.corner d s).0 + y)) (pos ((making.corner d s).1 + x))).1 ≡ Ok tt → slot_of d w ≡ Ok s → window_at (making.subwin d n w lines cols (pos ((making.corner d s).0 + y)) (pos ((making.corner d s).1 + x))).0 n ≡ Some t → IsSubwindowOf s t y x }
 {}
 
-/// A view tells the window's cells.
+/// A view shows the window's cells.
 pub fn views_tell_cells()
     ensures { (d : State) (n : ℕ) (s : Slot) (y x : ℕ) → IsDesk d → slot_of d n ≡ Ok s → y < s.window.area.rows → x < s.window.area.cols → cell_at (window_cells s.window.area (grid_at d s.root)) y x ≡ cell d s y x }
 {}
 
-/// A refused call that writes gives the desk back, but for a character's `NoScroll`.
-pub fn refused_writing_gives_back()
-    ensures addch { (d : State) (n : ℕ) (put : Put) (e : Refusal) → e ≢ Refusal.NoScroll → (on_window d n (sheets.added put)).1 ≡ Err e → (on_window d n (sheets.added put)).0 ≡ d }
-    ensures bkgd { (d : State) (n : ℕ) (put : Put) → GivesBack d (on_window d n (sheets.change_background put)) }
-    ensures insch { (d : State) (n : ℕ) (put : Put) → GivesBack d (on_grid d n (sheets.insert_char put)) }
-    ensures hline { (d : State) (n : ℕ) (put : Put) (count : ℤ) → GivesBack d (on_grid d n (sheets.horizontal put count)) }
-    ensures vline { (d : State) (n : ℕ) (put : Put) (count : ℤ) → GivesBack d (on_grid d n (sheets.vertical put count)) }
-    ensures border { (d : State) (n : ℕ) (border : Border) → GivesBack d (on_grid d n (sheets.bordered border)) }
-    ensures scroll { (d : State) (n : ℕ) (count : ℤ) → GivesBack d (on_grid d n (sheets.scroll_by count)) }
+/// A refused call that writes changes nothing, but for a character's `NoScroll`.
+pub fn refused_writing_changes_nothing()
+    ensures addch { (d : State) (n : ℕ) (put : Put) (e : Refusal) → e ≢ Refusal.NoScroll → (on_window d n (calls.added put)).1 ≡ Err e → (on_window d n (calls.added put)).0 ≡ d }
+    ensures bkgd { (d : State) (n : ℕ) (put : Put) → UnchangedIfRefused d (on_window d n (calls.change_background put)) }
+    ensures insch { (d : State) (n : ℕ) (put : Put) → UnchangedIfRefused d (on_grid d n (calls.insert_char put)) }
+    ensures hline { (d : State) (n : ℕ) (put : Put) (count : ℤ) → UnchangedIfRefused d (on_grid d n (calls.horizontal put count)) }
+    ensures vline { (d : State) (n : ℕ) (put : Put) (count : ℤ) → UnchangedIfRefused d (on_grid d n (calls.vertical put count)) }
+    ensures border { (d : State) (n : ℕ) (border : Border) → UnchangedIfRefused d (on_grid d n (calls.bordered border)) }
+    ensures scroll { (d : State) (n : ℕ) (count : ℤ) → UnchangedIfRefused d (on_grid d n (calls.scroll_by count)) }
 {}
 
 /// So does one that sets a place, a region, a pair or a background.
-pub fn refused_setting_gives_back()
-    ensures move_to { (d : State) (n : ℕ) (y x : ℤ) → GivesBack d (on_cursor d n (turns.move_to y x)) }
-    ensures setscrreg { (d : State) (n : ℕ) (top bottom : ℤ) → GivesBack d (on_cursor d n (turns.set_region top bottom)) }
-    ensures color_set { (d : State) (n : ℕ) (pair : ℤ) → GivesBack d (on_cursor d n (turns.set_pair pair)) }
-    ensures bkgdset { (d : State) (n : ℕ) (put : Put) → GivesBack d (on_cursor d n (turns.set_background put)) }
+pub fn refused_setting_changes_nothing()
+    ensures move_to { (d : State) (n : ℕ) (y x : ℤ) → UnchangedIfRefused d (on_cursor d n (window_calls.move_to y x)) }
+    ensures setscrreg { (d : State) (n : ℕ) (top bottom : ℤ) → UnchangedIfRefused d (on_cursor d n (window_calls.set_region top bottom)) }
+    ensures color_set { (d : State) (n : ℕ) (pair : ℤ) → UnchangedIfRefused d (on_cursor d n (window_calls.set_pair pair)) }
+    ensures bkgdset { (d : State) (n : ℕ) (put : Put) → UnchangedIfRefused d (on_cursor d n (window_calls.set_background put)) }
 {}
 
 /// So does one that makes, moves, deletes or copies windows.
-pub fn refused_making_gives_back()
-    ensures newwin { (d : State) (n : ℕ) (lines cols y x : ℤ) → GivesBack d (making.newwin d n lines cols y x) }
-    ensures derwin { (d : State) (n w : ℕ) (lines cols y x : ℤ) → GivesBack d (making.derwin d n w lines cols y x) }
-    ensures subwin { (d : State) (n w : ℕ) (lines cols y x : ℤ) → GivesBack d (making.subwin d n w lines cols y x) }
-    ensures dupwin { (d : State) (n w : ℕ) → GivesBack d (making.dupwin d n w) }
-    ensures delwin { (d : State) (n : ℕ) → GivesBack d (making.delwin d n) }
-    ensures mvwin { (d : State) (n : ℕ) (y x : ℤ) → GivesBack d (making.mvwin d n y x) }
-    ensures overlay { (d : State) (n m : ℕ) (skip : Bool) → GivesBack d (copying.common_part skip d n m) }
-    ensures copywin { (d : State) (n m : ℕ) (sr sc dr dc er ec : ℤ) (skip : Bool) → GivesBack d (copying.copywin d n m sr sc dr dc er ec skip) }
+pub fn refused_making_changes_nothing()
+    ensures newwin { (d : State) (n : ℕ) (lines cols y x : ℤ) → UnchangedIfRefused d (making.newwin d n lines cols y x) }
+    ensures derwin { (d : State) (n w : ℕ) (lines cols y x : ℤ) → UnchangedIfRefused d (making.derwin d n w lines cols y x) }
+    ensures subwin { (d : State) (n w : ℕ) (lines cols y x : ℤ) → UnchangedIfRefused d (making.subwin d n w lines cols y x) }
+    ensures dupwin { (d : State) (n w : ℕ) → UnchangedIfRefused d (making.dupwin d n w) }
+    ensures delwin { (d : State) (n : ℕ) → UnchangedIfRefused d (making.delwin d n) }
+    ensures mvwin { (d : State) (n : ℕ) (y x : ℤ) → UnchangedIfRefused d (making.mvwin d n y x) }
+    ensures overlay { (d : State) (n m : ℕ) (skip : Bool) → UnchangedIfRefused d (copying.common_part skip d n m) }
+    ensures copywin { (d : State) (n m : ℕ) (sr sc dr dc er ec : ℤ) (skip : Bool) → UnchangedIfRefused d (copying.copywin d n m sr sc dr dc er ec skip) }
 {}
 
 /// What is written through a lent line is in the window's grid at that place, and nothing else has changed; a refusal
-/// gives the desk back. That the line has the place is the caller's condition.
-pub fn lent_lines_are_written(desk: &mut Desk, id: usize, y: usize, x: usize, cell: Cell)
+/// changes nothing. That the line has the place is the caller's condition.
+pub fn lent_lines_are_written(desk: &mut Desk, id: usize, y: u16, x: u16, cell: Cell)
     requires { IfOk (line_of desk.old id y) (λ s. x < s.window.area.cols) }
     ensures { desk.new ≡ written_through (line_of desk.old id y) desk.old y x cell }
 {
@@ -103,12 +103,12 @@ pub fn lent_lines_are_written(desk: &mut Desk, id: usize, y: usize, x: usize, ce
 }
 
 /// So is what is left in the line's cells where they are lent as a slice.
-pub fn lent_cells_are_written(desk: &mut Desk, id: usize, y: usize, x: usize, cell: Cell)
+pub fn lent_cells_are_written(desk: &mut Desk, id: usize, y: u16, x: u16, cell: Cell)
     requires { IfOk (line_of desk.old id y) (λ s. x < s.window.area.cols) }
     ensures { desk.new ≡ written_through (line_of desk.old id y) desk.old y x cell }
 {
     if let Ok(line) = desk.row_mut(id, y) {
-        line.into_cells()[x] = cell;
+        line.into_cells()[x as usize] = cell;
     }
 }
 

@@ -1,22 +1,24 @@
 //! Windows and the virtual screen: what each curses call does to their cells (X/Open Curses Issue 7).
 #![tactic(auto)]
 
+mod calls;
 mod copying;
 mod desks;
 pub mod laws;
 mod making;
-mod padding;
+mod pads;
 mod refreshing;
 mod rows;
-mod screens;
 mod sizes;
 mod slots;
 mod views;
-mod windowed;
+mod virtual_screen;
 
+pub use copying::in_order;
 pub use cur_grid::{Attrs, Border, Cell, Place, Put, Refusal};
-pub use desks::Desk;
+pub use desks::{Desk, WINDOWS};
+pub use making::in_range;
 pub use rows::RowMut;
-pub use screens::Virtual;
-pub use views::{Part, View};
+pub use views::{View, WindowView};
+pub use virtual_screen::Virtual;
 pub use vt_term::Size;

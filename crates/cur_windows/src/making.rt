@@ -1,14 +1,16 @@
+//! Making, moving and deleting windows.
 ghost use Rattle.std.specs.Prelude.{◌≡◌, ◌<◌, ◌≤◌, ◌+◌, ◌⊎◌, Ok, Err, Some, None, IfOk, OnOk, length, slice_set, false, slice_index_or, ◌-ℤ◌, pos};
 ghost use Rattle.cur_grid.specs.Grids.{blank};
 ghost use Rattle.cur_grid.specs.Windows.{fresh};
-ghost use Rattle.cur_grid.specs.Sheets.{IsSheet};
-ghost use Rattle.cur_grid.specs.Stretches.{IsPart};
+ghost use Rattle.cur_grid.specs.Calls.{IsCanvas};
+ghost use Rattle.cur_grid.specs.Spans.{IsAreaWithin};
 ghost use Rattle.cur_windows.specs.Desks as spec;
 ghost use Rattle.cur_windows.specs.Making as make;
 
-use crate::desks::Desk;
+use crate::desks::{Desk, WINDOWS, blank_grid};
 use crate::slots::{Origin, Slot};
-use cur_grid::{Area, Grid, Place, Refusal, Window, Wish, part, spot};
+use cur_grid::{Cell, Geometry, Refusal, Window, area_within, start_within};
+use grids::{Area, Grid, Place};
 
 // Making, moving and deleting windows. A refusal changes nothing.
 impl Desk {
@@ -19,17 +21,17 @@ impl Desk {
         ensures { ((result ≡ Err Refusal.NoMemory) × (self.new ≡ self.old) × ((make.newwin self.old n lines cols y x).1 ≡ Ok tt)) ⊎ (spec.step self.new result ≡ make.newwin self.old n lines cols y x) }
     {
         self.check_free(n)?;
-        let wish = Wish {
+        let geometry = Geometry {
             lines,
             cols,
             y: y as i64,
             x: x as i64,
         };
-        let area = part(self.rows, self.cols, wish, Refusal::OutOfScreen)?;
-        let Ok(grid) = Grid::new(self.alloc, area.rows, area.cols) else {
+        let area = area_within(self.rows, self.cols, geometry, Refusal::OutOfScreen)?;
+        let Ok(grid) = blank_grid(self.alloc, area.rows, area.cols) else {
             return Err(Refusal::NoMemory);
         };
-        self.settle(n, grid, area);
+        self.add_blank_root(n, grid, area);
         Ok(())
     }
 
@@ -51,13 +53,13 @@ impl Desk {
         self.check_free(n)?;
         let slot = self.find(id)?;
         self.check_window(&slot)?;
-        let wish = Wish {
+        let geometry = Geometry {
             lines,
             cols,
             y: y as i64,
             x: x as i64,
         };
-        self.make_part(n, id, &slot, wish)
+        self.make_subwindow(n, id, &slot, geometry)
     }
 
     /// As `derwin`, but that the place counts from the screen's corner (`subwin`).
@@ -76,14 +78,14 @@ impl Desk {
         self.check_free(n)?;
         let slot = self.find(id)?;
         self.check_window(&slot)?;
-        let (top, left) = self.corner(&slot);
-        let wish = Wish {
+        let corner = self.place_on_screen(&slot);
+        let geometry = Geometry {
             lines,
             cols,
-            y: counted_from(y, top),
-            x: counted_from(x, left),
+            y: counted_from(y, corner.top),
+            x: counted_from(x, corner.left),
         };
-        self.make_part(n, id, &slot, wish)
+        self.make_subwindow(n, id, &slot, geometry)
     }
 
     /// A new window with a copy of the other's cells, cursor, attributes, background, region and options, at its place;
@@ -102,21 +104,21 @@ impl Desk {
             cols: area.cols,
         };
         let from = Place {
-            top: area.top,
-            left: area.left,
+            row: area.top,
+            col: area.left,
         };
-        let Ok(mut grid) = Grid::new(self.alloc, area.rows, area.cols) else {
+        let Ok(mut grid) = blank_grid(self.alloc, area.rows, area.cols) else {
             return Err(Refusal::NoMemory);
         };
-        grid.copy_from(whole, self.grid_of(&slot), from, false);
+        grid.copy_from(whole, self.grid_of(&slot), from);
         let origin = self.copy_origin(&slot);
         let mut window = slot.window;
         window.area = whole;
-        self.place_new(n, grid, origin, window);
+        self.add_root(n, grid, origin, window);
         Ok(())
     }
 
-    /// The window is no more, and its number is free (`delwin`). `Full`, `NoWindow`, `IsScreen` for window 0,
+    /// The window is deleted, and its number is free (`delwin`). `Full`, `NoWindow`, `IsScreen` for window 0,
     /// `HasChildren` where another window has it as its parent or shares its grid.
     pub fn delwin(&mut self, id: usize) -> Result<(), Refusal>
         ensures { spec.step self.new result ≡ make.delwin self.old id }
@@ -137,10 +139,10 @@ impl Desk {
         self.check_window(&slot)?;
         no_sub(slot.parent)?;
         let size = slot.window.area;
-        let Some(top) = spot(y, size.rows, self.rows) else {
+        let Some(top) = start_within(y, size.rows, self.rows) else {
             return Err(Refusal::OutOfScreen);
         };
-        let Some(left) = spot(x, size.cols, self.cols) else {
+        let Some(left) = start_within(x, size.cols, self.cols) else {
             return Err(Refusal::OutOfScreen);
         };
         self.origins[slot.root as usize] = Origin {
@@ -151,12 +153,12 @@ impl Desk {
         Ok(())
     }
 
-    // Whether a number is free for a new window.
-    pub(crate) fn check_free(&self, n: usize) -> Result<(), Refusal>
+    /// `Full` for a number above 63, `NumberUsed` for one that names a window.
+    pub fn check_free(&self, n: usize) -> Result<(), Refusal>
         ensures value { result ≡ make.free self.now n }
         ensures free { OnOk result ((n < 64) × (spec.window_at self.now n ≡ None)) }
     {
-        if n > 63 {
+        if n >= WINDOWS {
             return Err(Refusal::Full);
         }
         if self.windows[n].is_some() {
@@ -177,19 +179,6 @@ impl Desk {
         Ok(())
     }
 
-    // The place of its corner on the screen.
-    pub(crate) fn corner(&self, slot: &Slot) -> (u32, u32)
-        requires { slot.now.root < 64 }
-        ensures { result ≡ make.corner self.now slot.now }
-    {
-        let origin = self.origins[slot.root as usize];
-        let area = slot.window.area;
-        (
-            origin.top as u32 + area.top as u32,
-            origin.left as u32 + area.left as u32,
-        )
-    }
-
     // Whether it can be deleted.
     fn check_childless(&self, n: usize) -> Result<(), Refusal>
         requires { n < 64 }
@@ -205,13 +194,13 @@ impl Desk {
         Ok(())
     }
 
-    // Window `n` comes to be, on this grid, at the area's place of the screen.
-    fn settle(&mut self, n: usize, grid: Grid, area: Area)
+    // Window `n` is made on this grid, at the area's place of the screen.
+    fn add_blank_root(&mut self, n: usize, grid: Grid<Cell>, area: Area)
         requires number { n < 64 }
         requires free { spec.window_at self.old n ≡ None }
         requires grid { grid ≡ blank area.rows area.cols }
-        requires within { IsPart self.old.rows self.old.cols area }
-        ensures { self.new ≡ make.settled self.old n grid (spec.on_screen area.top area.left false) (fresh (spec.whole_area area.rows area.cols)) }
+        requires within { IsAreaWithin self.old.rows self.old.cols area }
+        ensures { self.new ≡ make.root_added self.old n grid (spec.on_screen area.top area.left false) (fresh (spec.whole_area area.rows area.cols)) }
     {
         let whole = Area {
             top: 0,
@@ -226,17 +215,17 @@ impl Desk {
             left: area.left,
             pad: false,
         };
-        self.place_new(n, grid, origin, Window::new(whole));
+        self.add_root(n, grid, origin, Window::new(whole));
     }
 
-    // Window `n` comes to be, with this grid of its own.
-    pub(crate) fn place_new(&mut self, n: usize, grid: Grid, origin: Origin, window: Window)
+    // Window `n` is made with this grid of its own.
+    pub(crate) fn add_root(&mut self, n: usize, grid: Grid<Cell>, origin: Origin, window: Window)
         requires number { n < 64 }
         requires free { spec.window_at self.old n ≡ None }
-        requires sheet { IsSheet grid window }
+        requires canvas { IsCanvas grid window }
         requires whole { spec.IsWhole window.area grid }
         requires frame { origin.pad ≡ false → make.IsInFrame (self.old).rows (self.old).cols origin grid }
-        ensures { self.new ≡ make.settled self.old n grid origin window }
+        ensures { self.new ≡ make.root_added self.old n grid origin window }
     {
         self.grids[n] = grid;
         self.origins[n] = origin;
@@ -249,7 +238,7 @@ impl Desk {
 
     // Where the copy of a window lies.
     fn copy_origin(&self, slot: &Slot) -> Origin
-        requires sheet { IsSheet (spec.grid_at self.now (slot.now).root) (slot.now).window }
+        requires canvas { IsCanvas (spec.grid_at self.now (slot.now).root) (slot.now).window }
         requires root { (slot.now).root < 64 }
         ensures value { result ≡ make.copy_origin self.now slot.now }
         ensures rows { result.pad ≡ false → result.top + (slot.now).window.area.rows ≤ (self.now).rows }
@@ -270,28 +259,34 @@ impl Desk {
         }
     }
 
-    // Window `n` comes to be as a part of another one, the place counting from that one's corner.
-    fn make_part(&mut self, n: usize, id: usize, slot: &Slot, wish: Wish) -> Result<(), Refusal>
+    // Window `n` is made as a part of another one; the place counts from that one's corner.
+    fn make_subwindow(
+        &mut self,
+        n: usize,
+        id: usize,
+        slot: &Slot,
+        geometry: Geometry,
+    ) -> Result<(), Refusal>
         requires number { n < 64 }
         requires free { spec.window_at self.old n ≡ None }
         requires parent { id < 64 }
         requires placed { spec.IsPlaced self.old id slot.now }
-        ensures { spec.step self.new result ≡ make.part_from self.old n id slot.now wish.lines wish.cols wish.y wish.x }
+        ensures { spec.step self.new result ≡ make.subwindow_at self.old n id slot.now geometry.lines geometry.cols geometry.y geometry.x }
     {
         let outer = slot.window.area;
-        let area = part(outer.rows, outer.cols, wish, Refusal::OutOfWindow)?;
-        self.place_part(n, id, slot, area);
+        let area = area_within(outer.rows, outer.cols, geometry, Refusal::OutOfWindow)?;
+        self.add_subwindow(n, id, slot, area);
         Ok(())
     }
 
-    // Window `n` comes to be as this part of another one, in places of that one.
-    pub(crate) fn place_part(&mut self, n: usize, id: usize, slot: &Slot, area: Area)
+    // Window `n` is made as this part of another one, in places of that one.
+    pub(crate) fn add_subwindow(&mut self, n: usize, id: usize, slot: &Slot, area: Area)
         requires number { n < 64 }
         requires free { spec.window_at self.old n ≡ None }
         requires parent { id < 64 }
         requires placed { spec.IsPlaced self.old id slot.now }
-        requires part { IsPart (slot.now).window.area.rows (slot.now).window.area.cols area }
-        ensures { self.new ≡ make.parted self.old n id slot.now area }
+        requires part { IsAreaWithin (slot.now).window.area.rows (slot.now).window.area.cols area }
+        ensures { self.new ≡ make.subwindow_added self.old n id slot.now area }
     {
         let outer = slot.window.area;
         let inside = Area {
@@ -308,18 +303,19 @@ impl Desk {
     }
 }
 
-pub(crate) fn in_range(n: usize, id: usize) -> Result<(), Refusal>
+/// `Full` where one of the numbers is above 63.
+pub fn in_range(n: usize, id: usize) -> Result<(), Refusal>
     ensures value { result ≡ make.in_range n id }
     ensures small { OnOk result ((n < 64) × (id < 64)) }
 {
-    if n > 63 || id > 63 {
+    if n >= WINDOWS || id >= WINDOWS {
         return Err(Refusal::Full);
     }
     Ok(())
 }
 
 // A row or a column of the screen, as it counts from a corner.
-fn counted_from(place: i32, corner: u32) -> i64
+fn counted_from(place: i32, corner: u16) -> i64
     ensures { result ≡ place -ℤ pos corner }
 {
     place as i64 - corner as i64

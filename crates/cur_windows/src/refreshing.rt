@@ -1,14 +1,16 @@
+//! Copying a window to the virtual screen.
 ghost use Rattle.std.specs.Prelude.{◌≡◌, ◌<◌, ◌≤◌, ◌+◌, IfSome, Some, None, if◌then◌else◌, false};
-ghost use Rattle.cur_grid.specs.Sheets.{IsSheet, place};
+ghost use Rattle.cur_grid.specs.Calls.{IsCanvas, place};
 ghost use Rattle.cur_grid.specs.Windows.{IsWindow};
 ghost use Rattle.cur_windows.specs.Desks as spec;
 ghost use Rattle.cur_windows.specs.Making as make;
-ghost use Rattle.cur_windows.specs.Screens.{refresh, noutrefresh, area_on_screen, cursor_on_screen};
+ghost use Rattle.cur_windows.specs.VirtualScreen.{refresh, noutrefresh, area_on_screen, cursor_on_screen};
 
 use crate::desks::Desk;
-use crate::screens::Virtual;
 use crate::slots::Slot;
-use cur_grid::{Area, Grid, Place, Refusal};
+use crate::virtual_screen::Virtual;
+use cur_grid::{Cell, Refusal};
+use grids::{Area, Grid, Place};
 
 impl Desk {
     /// The whole window is copied to the virtual screen, whose cursor becomes the window's, or none where the window
@@ -24,8 +26,8 @@ impl Desk {
         let area = self.place_on_screen(&slot);
         let cursor = cursor_in(&slot, area);
         let from = Place {
-            top: slot.window.area.top,
-            left: slot.window.area.left,
+            row: slot.window.area.top,
+            col: slot.window.area.left,
         };
         screen.show(area, self.grid_of(&slot), from, cursor, slot.window.clears);
         slot.window.clears = false;
@@ -34,7 +36,7 @@ impl Desk {
     }
 
     // The grid that a window lies in.
-    pub(crate) fn grid_of(&self, slot: &Slot) -> &Grid
+    pub(crate) fn grid_of(&self, slot: &Slot) -> &Grid<Cell>
         requires { (slot.now).root < 64 }
         ensures { result.now ≡ spec.grid_at self.now (slot.now).root }
     {
@@ -43,7 +45,7 @@ impl Desk {
 
     // The window's rectangle on the screen.
     pub(crate) fn place_on_screen(&self, slot: &Slot) -> Area
-        requires sheet { IsSheet (spec.grid_at self.now (slot.now).root) (slot.now).window }
+        requires canvas { IsCanvas (spec.grid_at self.now (slot.now).root) (slot.now).window }
         requires root { (slot.now).root < 64 }
         requires window { (spec.origin_at self.now (slot.now).root).pad ≡ false }
         ensures value { result ≡ area_on_screen self.now slot.now }
@@ -69,13 +71,13 @@ fn cursor_in(slot: &Slot, area: Area) -> Option<Place>
     requires height { area.top + area.rows ≤ 1000 }
     requires width { area.left + area.cols ≤ 1000 }
     ensures value { result ≡ (if (slot.now).window.leaves then None else Some (place (area.top + (slot.now).window.row) (area.left + (slot.now).window.col))) }
-    ensures within { IfSome result (λ p. (p.top < area.top + area.rows) × (p.left < area.left + area.cols)) }
+    ensures within { IfSome result (λ p. (p.row < area.top + area.rows) × (p.col < area.left + area.cols)) }
 {
     if slot.window.leaves {
         return None;
     }
     Some(Place {
-        top: area.top + slot.window.row,
-        left: area.left + slot.window.col,
+        row: area.top + slot.window.row,
+        col: area.left + slot.window.col,
     })
 }

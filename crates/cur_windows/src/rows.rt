@@ -1,3 +1,4 @@
+//! One line of a window, lent for writing.
 ghost use Rattle.std.specs.Prelude.{◌≡◌, ◌<◌, ◌≤◌, ◌+◌, ◌-◌, IfOk, length, take, drop, slice_set};
 ghost use Rattle.cur_grid.specs.Grids.{Fits, filled, line_at, one};
 ghost use Rattle.cur_windows.specs.Desks as spec;
@@ -13,7 +14,7 @@ use cur_grid::{Cell, Refusal};
 pub struct RowMut<'a> {
     desk: &'a mut Desk,
     slot: Slot,
-    row: usize,
+    row: u16,
 }
 
 impl Desk {
@@ -23,7 +24,7 @@ impl Desk {
 
     /// One line of a window, for writing: what is written through it is in the grid at that place, and nothing else has
     /// changed. `Full`, `NoWindow`, `OutOfWindow` where the window has no such line; then nothing has changed.
-    pub fn row_mut(&mut self, id: usize, y: usize) -> Result<RowMut<'_>, Refusal>
+    pub fn row_mut(&mut self, id: usize, y: u16) -> Result<RowMut<'_>, Refusal>
         ensures* refused { sem 𝓛 (RestsIfErr the_row self.entry (λ r. r.desk.ghost_name) result (λ d. d ≡ self.old)) }
         ensures same_reference { IfOk result (λ r. r.desk.ghost_name ≡ self.entry.ghost_name) }
         ensures answer { lent_of result ≡ line_of self.old id y }
@@ -31,7 +32,7 @@ impl Desk {
         ensures line { IfOk result (λ r. IsLine r.desk.now r.slot r.row) }
     {
         let slot = self.find(id)?;
-        if y >= slot.window.area.rows as usize {
+        if y >= slot.window.area.rows {
             return Err(Refusal::OutOfWindow);
         }
         Ok(RowMut {
@@ -78,14 +79,14 @@ impl<'a> RowMut<'a> {
         let area = slot.window.area;
         let left = area.left as usize;
         let right = left + area.cols as usize;
-        desk.part_mut(slot.root as usize, area.top as usize + row, left, right)
+        desk.part_mut(slot.root as usize, (area.top + row) as usize, left, right)
     }
 
     /// How many places it has.
-    pub fn cols(&self) -> usize
+    pub fn cols(&self) -> u16
         ensures { result ≡ (self.now).slot.window.area.cols }
     {
-        self.slot.window.area.cols as usize
+        self.slot.window.area.cols
     }
 
     /// Its cells.
@@ -98,12 +99,12 @@ impl<'a> RowMut<'a> {
         let line = self
             .desk
             .grid_of(&self.slot)
-            .line(area.top as usize + self.row);
+            .line((area.top + self.row) as usize);
         &line[left..left + area.cols as usize]
     }
 
     /// One of its cells becomes this one. That it has such a place is the caller's condition.
-    pub fn set(&mut self, x: usize, cell: Cell)
+    pub fn set(&mut self, x: u16, cell: Cell)
         requires line { IsLine (self.old).desk.now (self.old).slot (self.old).row }
         requires within { x < (self.old).slot.window.area.cols }
         ensures same_reference { (self.new).desk.ghost_name ≡ (self.old).desk.ghost_name }
@@ -114,8 +115,8 @@ impl<'a> RowMut<'a> {
         let area = self.slot.window.area;
         self.desk.put_cell(
             self.slot.root as usize,
-            area.top as usize + self.row,
-            area.left as usize + x,
+            (area.top + self.row) as usize,
+            (area.left + x) as usize,
             cell,
         );
     }

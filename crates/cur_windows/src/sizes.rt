@@ -1,3 +1,4 @@
+//! The sizes of the screen and of windows.
 ghost use Rattle.std.specs.Prelude.{◌≡◌};
 ghost use Rattle.cur_windows.specs.Sizes.{window_size};
 

@@ -1,3 +1,4 @@
+//! Where windows and their grids lie.
 use cur_grid::Window;
 
 /// Where a grid lies on the screen, and whether it is a pad's, which lies nowhere.

@@ -1,3 +1,4 @@
+//! A window's cells, for reading.
 ghost use Rattle.std.specs.Prelude.{◌≡◌, ◌<◌, ◌≤◌, ◌+◌, ℕ, length};
 ghost use Rattle.cur_grid.specs.Grids.{Grid, line_at};
 ghost use Rattle.cur_windows.specs.Desks as spec;
@@ -5,7 +6,8 @@ ghost use Rattle.cur_windows.specs.Views.{IsSeen, seen, window_cells};
 
 use crate::desks::Desk;
 use crate::slots::Slot;
-use cur_grid::{Area, Cell, Grid, Refusal};
+use cur_grid::{Cell, Refusal};
+use grids::{Area, Grid};
 use std::marker::Model;
 
 /// What is seen of a window, a subwindow or a pad: its cells, line by line.
@@ -14,27 +16,27 @@ pub trait View {
     ghost cells: { Self → Grid };
 
     /// How many lines there are.
-    fn rows(&self) -> usize
+    fn rows(&self) -> u16
         ensures { result ≡ length (cells self.now) };
 
     /// How many columns there are.
-    fn cols(&self) -> usize
+    fn cols(&self) -> u16
         ensures { (y : ℕ) → y < length (cells self.now) → length (line_at (cells self.now) y) ≡ result };
 
     /// One line. That it is there is the caller's condition.
-    fn row(&self, y: usize) -> &[Cell]
+    fn row(&self, y: u16) -> &[Cell]
         requires { y < length (cells self.now) }
         ensures { result.now ≡ line_at (cells self.now) y };
 }
 
 /// A window's part of its grid.
 #[derive(Drop)]
-pub struct Part<'a> {
-    grid: &'a Grid,
+pub struct WindowView<'a> {
+    grid: &'a Grid<Cell>,
     area: Area,
 }
 
-impl<'a> Model for Part<'a> {
+impl<'a> Model for WindowView<'a> {
     ghost use Rattle.cur_grid.specs.Grids.{Grid};
     ghost use Rattle.cur_windows.specs.Views.{IsSeen, window_cells};
 
@@ -45,39 +47,39 @@ impl<'a> Model for Part<'a> {
     ghost invariant = { λ p. IsSeen p.area p.grid.now };
 }
 
-impl<'a> View for Part<'a> {
+impl<'a> View for WindowView<'a> {
     ghost cells = { λ p. p };
 
-    fn rows(&self) -> usize {
-        self.area.rows as usize
+    fn rows(&self) -> u16 {
+        self.area.rows
     }
 
-    fn cols(&self) -> usize {
-        self.area.cols as usize
+    fn cols(&self) -> u16 {
+        self.area.cols
     }
 
-    fn row(&self, y: usize) -> &[Cell] {
+    fn row(&self, y: u16) -> &[Cell] {
         let left = self.area.left as usize;
-        let line = self.grid.line(self.area.top as usize + y);
+        let line = self.grid.line((self.area.top + y) as usize);
         &line[left..left + self.area.cols as usize]
     }
 }
 
 impl Desk {
     /// The cells of a window. `Full`, `NoWindow`.
-    pub fn view(&self, id: usize) -> Result<Part<'_>, Refusal>
+    pub fn view(&self, id: usize) -> Result<WindowView<'_>, Refusal>
         ensures { result ≡ seen self.now id }
     {
         let slot = self.find(id)?;
-        Ok(self.part(&slot))
+        Ok(self.view_of(&slot))
     }
 
-    fn part(&self, slot: &Slot) -> Part<'_>
+    fn view_of(&self, slot: &Slot) -> WindowView<'_>
         requires root { slot.now.root < 64 }
         requires seen { IsSeen slot.now.window.area (spec.grid_at self.now slot.now.root) }
         ensures { result ≡ window_cells slot.now.window.area (spec.grid_at self.now slot.now.root) }
     {
-        Part {
+        WindowView {
             grid: self.grid_of(slot),
             area: slot.window.area,
         }

@@ -91,7 +91,7 @@ rank_key_rises i j less inside =
     let e : j ≡ i + (j - i - 1) + 1 = omega arith in
     rw e (rises_by (j - i - 1) i (omega arith))
 
--- the row of a name is the name, with zeros behind it, and has 8 bytes
+-- the row of a name is the name, with zeros after it, and has 8 bytes
 row_is_padded : (place : ℕ) → place < 497 → (row_at place ≡ padded (name_at place)) × (length (name_at place) ≤ 8)
 unfolding is_padded
 row_is_padded place inside =

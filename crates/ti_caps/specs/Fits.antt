@@ -10,7 +10,7 @@ abbrev pub begins_names : List ℕ → Bool
 begins_names [] = false
 begins_names (b ∷ rest) = not (b == 32) && (not (b == 35) && not (b == 124))
 
--- What stands open behind a byte: a backslash or a caret takes the byte behind it, whatever that is.
+-- What stands open after a byte: a backslash or a caret takes the byte after it, whatever that is.
 abbrev pub opener_after : Opener → ℕ → Opener
 opener_after Nothing b = if b == 92 then Backslash else (if b == 94 then Caret else Nothing)
 opener_after Backslash b = Nothing
@@ -22,7 +22,7 @@ ends_at_comma Nothing = true
 ends_at_comma Backslash = false
 ends_at_comma Caret = true
 
--- no comma in these bytes ends their field, and one behind them does
+-- no comma in these bytes ends their field, and one after them does
 abbrev pub is_one_field : Opener → List ℕ → Bool
 is_one_field opener [] = ends_at_comma opener
 is_one_field opener (b ∷ rest) = not (ends_at_comma opener && (b == 44)) && is_one_field (opener_after opener b) rest

@@ -1,3 +1,4 @@
 pub mod Table
+pub mod Names
 pub mod Fits
 pub mod Entry

@@ -1,7 +1,7 @@
 -- The table of terminfo(5)'s capabilities: flags, numbers and strings, each in the order of term(5).
 -- A capability is seen as its place among all of them, from 0 to 496. The words that read the table
 -- are never opened where a place is not a literal.
-use Rattle.std.specs.Prelude.{ℕ, ◌+◌, ◌-◌, ◌<◌, ◌≡◌, List, [], ◌++◌, Option, Some, None, ◌==◌, nat_lt, if◌then◌else◌, length, replicate, slice_index_or}
+use Rattle.std.specs.Prelude.{ℕ, Bool, true, false, ◌+◌, ◌-◌, ◌<◌, ◌≡◌, List, [], ◌++◌, Option, Some, None, ◌==◌, nat_lt, if◌then◌else◌, length, replicate, slice_index_or}
 use Rattle.std.specs.Int.{from_be_bytes, w64}
 use Rattle.std.specs.List.{before_first, position_from}
 use Rattle.std.specs.Cmp.Lexicographic.{slice_cmp}
@@ -12,11 +12,11 @@ use Rattle.ti_caps.specs.declared.types.Kind.{Kind}
 use Rattle.ti_caps.specs.declared.types.Kind.TheVariants.{Flag, Number, String}
 use Rattle.ti_caps.specs.declared.table.TheConstants.{NAMES, SORTED}
 
--- the name in a row of the table, which has zeros behind it
+-- the name in a row of the table, which has zeros after it
 abbrev pub unpadded : List ℕ → List ℕ
 unpadded row = before_first (λ b. b == 0) row
 
--- a name with zeros behind it, up to 8 bytes
+-- a name with zeros after it, up to 8 bytes
 abbrev pub padded : List ℕ → List ℕ
 padded name = name ++ replicate (8 - length name) 0
 
@@ -35,6 +35,12 @@ place_in text = position_from (λ row. bytes_eq (unpadded row) text) 0 NAMES
 -- the kind of the capability at a place: 44 flags, then 39 numbers, then 414 strings
 unfoldable pub kind_of : ℕ → Kind
 kind_of place = if nat_lt place 44 then Flag else (if nat_lt place 83 then Number else String)
+
+abbrev pub is_kind : Kind → Kind → Bool
+is_kind Flag Flag = true
+is_kind Number Number = true
+is_kind String String = true
+is_kind _ _ = false
 
 -- how many capabilities of a kind there are
 abbrev pub count_of : Kind → ℕ

@@ -8,7 +8,7 @@ ghost use Rattle.ti_caps.specs.Table.{kind_of};
 ghost use Rattle.ti_caps.specs.Fits.{names_fit, string_fits};
 ghost use Rattle.ti_caps.specs.Entry.{value_at, with_value, bare_entry, flag_at, number_at, string_at, FitsPlace, HasBytes, IsEntry, SetsOnly};
 
-use crate::types::Cap;
+use crate::types::{CAPABILITIES, Cap};
 use crate::value::{Bytes, Value, are_bytes};
 use std::alloc::{AllocError, Global};
 use std::marker::Model;
@@ -35,8 +35,8 @@ impl Model for Entry {
 fn empty_rows(alloc: Global) -> Result<Vec<Option<Value>>, AllocError>
     ensures { IfOk result (λ rows. rows.items ≡ replicate 497 None) }
 {
-    let mut rows = Vec::with_capacity(alloc, 497)?;
-    for _ in 0..497usize {
+    let mut rows = Vec::with_capacity(alloc, CAPABILITIES)?;
+    for _ in 0..CAPABILITIES {
         rows.push(None)?;
     }
     Ok(rows)
@@ -64,7 +64,7 @@ fn copied_row(row: &Option<Value>) -> Result<Option<Value>, AllocError>
 }
 
 impl Entry {
-    /// The entry with these names, separated by `|`, and no capabilities. The error is want of memory.
+    /// The entry with these names, separated by `|`, and no capabilities. The error is out of memory.
     pub fn new(alloc: Global, names: &[u8]) -> Result<Entry, AllocError>
         requires { IsTrue (names_fit names.now) }
         ensures value { IfOk result (λ entry. entry ≡ bare_entry names.now) }
@@ -153,7 +153,7 @@ impl Entry {
         self.put(cap, Some(Value::Number(number)));
     }
 
-    /// Gives the entry a copy of these bytes as the string of a capability. The error is want of memory,
+    /// Gives the entry a copy of these bytes as the string of a capability. The error is out of memory,
     /// and then nothing has changed.
     pub fn set_string(&mut self, cap: Cap, bytes: &[u8]) -> Result<(), AllocError>
         requires kind { kind_of cap ≡ kinds.String }
@@ -177,7 +177,7 @@ impl Entry {
         self
     }
 
-    /// A copy of the entry. The error is want of memory.
+    /// A copy of the entry. The error is out of memory.
     pub fn try_copy(&self) -> Result<Entry, AllocError>
         ensures { IfOk result (λ copy. copy ≡ self.now) }
     {

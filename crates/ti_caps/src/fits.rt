@@ -4,6 +4,8 @@ ghost use Rattle.std.specs.Prelude.{◌≡◌, ◌&&◌, ◌==◌, not, false, n
 ghost use Rattle.std.specs.List.{list_all};
 ghost use Rattle.ti_caps.specs.Fits as Fits;
 
+use crate::types::LONGEST;
+
 /// What stands open before a byte of a source text's field, and takes that byte with it.
 #[derive(Clone, Copy, Debug, PartialEq, Eq)]
 pub enum Opener {
@@ -13,7 +15,7 @@ pub enum Opener {
 }
 
 impl Opener {
-    /// What stands open behind a byte.
+    /// What stands open after a byte.
     pub fn after(self, byte: u8) -> Opener
         ensures { result ≡ Fits.opener_after self byte }
     {
@@ -42,7 +44,7 @@ impl Opener {
     }
 }
 
-/// Whether no comma in these bytes ends their field, and one behind them does.
+/// Whether no comma in these bytes ends their field, and one after them does.
 fn is_one_field(field: &[u8]) -> bool
     ensures { result ≡ Fits.is_one_field Opener.Nothing field.now }
 {
@@ -81,16 +83,16 @@ fn has_no_zero(bytes: &[u8]) -> bool
 }
 
 /// Whether these bytes can be the names field of an entry: a source text of terminfo(5) that has them
-/// in column one, a comma behind them, gives an entry with just these names.
+/// in column one, a comma after them, gives an entry with just these names.
 pub fn names_fit(names: &[u8]) -> bool
     ensures { result ≡ Fits.names_fit names.now }
 {
-    names.len() <= 4095 && begins_names(names) && has_no_controls(names) && is_one_field(names)
+    names.len() <= LONGEST && begins_names(names) && has_no_controls(names) && is_one_field(names)
 }
 
 /// Whether these bytes can be the value of a string: none is 0, and there are 4095 at most.
 pub fn string_fits(bytes: &[u8]) -> bool
     ensures { result ≡ Fits.string_fits bytes.now }
 {
-    bytes.len() <= 4095 && has_no_zero(bytes)
+    bytes.len() <= LONGEST && has_no_zero(bytes)
 }

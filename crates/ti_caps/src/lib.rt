@@ -10,6 +10,8 @@ mod value;
 
 pub use entry::Entry;
 pub use fits::{Opener, names_fit, string_fits};
-pub use lookup::{at, at_rank, by_name, kind, name, position, ranks_order_names};
-pub use types::{Cap, Kind};
+pub use lookup::{
+    at, at_rank, by_name, is_kind, kind, name, names_are_standard, position, ranks_order_names,
+};
+pub use types::{CAPABILITIES, Cap, FLAGS, GREATEST, Kind, LONGEST, NUMBERS, STRINGS};
 pub use value::{Bytes, Value};

@@ -2,10 +2,11 @@
 
 ghost use Rattle.std.specs.Prelude.{◌≡◌, ◌≢◌, ℕ, ◌<◌, ◌≤◌, ◌↔◌, Some, length, IfSome, IfNone, IsNone, ◌==◌};
 ghost use Rattle.std.specs.List as List;
-ghost use Rattle.ti_caps.specs.Table.{row_at, name_at, place_in, kind_of, count_of, position_of, place_from, place_of_rank, place_ranked, rank_key, key_of, unpadded, NamesRise, EachHasRank};
+ghost use Rattle.ti_caps.specs.Names.{CountsAreStandard, NamesAreStandard};
+ghost use Rattle.ti_caps.specs.Table.{row_at, name_at, place_in, kind_of, is_kind, count_of, position_of, place_from, place_of_rank, place_ranked, rank_key, key_of, unpadded, NamesRise, EachHasRank};
 
 use crate::table::{rank_at, row};
-use crate::types::{Cap, Kind};
+use crate::types::{CAPABILITIES, Cap, FLAGS, Kind, NUMBERS, STRINGS};
 
 /// The place of the capability whose name has this rank in the order of names.
 #[tactic(auto, using(crate::proofs::Tables::place_in_table))]
@@ -44,7 +45,7 @@ fn lowest_rank(key: u64) -> usize
     ensures above { (rank : ℕ) → result ≤ rank → rank < 497 → key ≤ rank_key rank }
 {
     let mut low = 0;
-    let mut high = 497;
+    let mut high = CAPABILITIES;
     while low < high {
         let middle = low + (high - low) / 2;
         if ranked_key(middle) < key {
@@ -66,7 +67,7 @@ pub fn by_name(text: &[u8]) -> Option<Cap>
         return None;
     }
     let rank = lowest_rank(name_key(text));
-    if rank == 497 {
+    if rank == CAPABILITIES {
         return None;
     }
     let cap = Cap::from_place(ranked_place(rank));
@@ -104,11 +105,21 @@ pub fn name(cap: Cap) -> &'static [u8]
 pub fn kind(cap: Cap) -> Kind
     ensures { result ≡ kind_of cap }
 {
-    match cap.place() {
-        0..44 => Kind::Flag,
-        44..83 => Kind::Number,
-        _ => Kind::String,
+    let place = cap.place();
+    if place < FLAGS {
+        Kind::Flag
+    } else if place < FLAGS + NUMBERS {
+        Kind::Number
+    } else {
+        Kind::String
     }
+}
+
+/// Whether a capability is of this kind.
+pub fn is_kind(cap: Cap, wanted: Kind) -> bool
+    ensures { result ≡ is_kind (kind_of cap) wanted }
+{
+    kind(cap) == wanted
 }
 
 /// The position of a capability among those of its kind.
@@ -120,8 +131,8 @@ pub fn position(cap: Cap) -> usize
 {
     match kind(cap) {
         Kind::Flag => cap.place(),
-        Kind::Number => cap.place() - 44,
-        Kind::String => cap.place() - 83,
+        Kind::Number => cap.place() - FLAGS,
+        Kind::String => cap.place() - FLAGS - NUMBERS,
     }
 }
 
@@ -134,12 +145,12 @@ pub fn at(kind: Kind, position: usize) -> Option<Cap>
     ensures none { IsNone result ↔ (count_of kind ≤ position) }
 {
     let (first, count) = match kind {
-        Kind::Flag => (0, 44),
-        Kind::Number => (44, 39),
-        Kind::String => (83, 414),
+        Kind::Flag => (0, FLAGS),
+        Kind::Number => (FLAGS, NUMBERS),
+        Kind::String => (FLAGS + NUMBERS, STRINGS),
     };
     if position < count {
-        Some(Cap::from_place(first + position as u16))
+        Some(Cap::from_place((first + position) as u16))
     } else {
         None
     }
@@ -151,7 +162,7 @@ pub fn at_rank(rank: usize) -> Option<Cap>
     ensures value { result ≡ place_ranked rank }
     ensures none { IsNone result ↔ (497 ≤ rank) }
 {
-    if rank < 497 {
+    if rank < CAPABILITIES {
         Some(Cap::from_place(ranked_place(rank)))
     } else {
         None
@@ -163,4 +174,10 @@ pub fn at_rank(rank: usize) -> Option<Cap>
 pub fn ranks_order_names()
     ensures rising { NamesRise }
     ensures each { EachHasRank }
+{}
+
+/// A law: the names are those of terminfo(5), each at its position among the booleans, numbers or strings.
+pub fn names_are_standard()
+    ensures counts { CountsAreStandard }
+    ensures names { NamesAreStandard }
 {}

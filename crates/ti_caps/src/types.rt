@@ -4,6 +4,24 @@ ghost use Rattle.std.specs.Prelude.{◌≡◌, ◌<◌};
 
 use std::marker::Model;
 
+/// How many capabilities there are.
+pub const CAPABILITIES: usize = 497;
+
+/// How many flags there are.
+pub const FLAGS: usize = 44;
+
+/// How many numbers there are.
+pub const NUMBERS: usize = 39;
+
+/// How many strings there are.
+pub const STRINGS: usize = 414;
+
+/// The most bytes that the names field of an entry has, and a string.
+pub const LONGEST: usize = 4095;
+
+/// The greatest number that a capability or a parameter has.
+pub const GREATEST: u32 = 2_147_483_647;
+
 /// What a capability's value is, as in terminfo(5).
 #[derive(Clone, Copy, Debug, PartialEq, Eq)]
 pub enum Kind {

@@ -30,7 +30,7 @@ pub(crate) fn are_bytes(bytes: &[u8])
 }
 
 impl Bytes {
-    /// A copy of these bytes. The error is want of memory.
+    /// A copy of these bytes. The error is out of memory.
     pub fn from_slice(alloc: Global, bytes: &[u8]) -> Result<Bytes, AllocError>
         ensures { IfOk result (λ copy. copy ≡ bytes.now) }
     {
@@ -60,7 +60,7 @@ impl Bytes {
         self.bytes.as_slice()
     }
 
-    /// A copy, by the same allocator. The error is want of memory.
+    /// A copy, by the same allocator. The error is out of memory.
     pub fn try_copy(&self) -> Result<Bytes, AllocError>
         ensures { IfOk result (λ copy. copy ≡ self.now) }
     {
@@ -80,7 +80,7 @@ pub enum Value {
 }
 
 impl Value {
-    /// A copy. The error is want of memory.
+    /// A copy. The error is out of memory.
     pub fn try_copy(&self) -> Result<Value, AllocError>
         ensures { IfOk result (λ copy. copy ≡ self.now) }
     {

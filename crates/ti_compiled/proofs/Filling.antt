@@ -15,7 +15,7 @@ use Rattle.ti_compiled.specs.Layout.{Parts, half, numbers_in, words}
 use Rattle.ti_compiled.specs.Contents.{before_nul, filled, entry_of, value_of, string_value, flag_values, number_values, string_values, is_long_string, with_row, partly, fit_of}
 use Rattle.ti_compiled.proofs.Contents.{IsOf, flag_of, number_of, string_of, length-filled, flag_read, number_read, string_read, filled_at}
 
--- A value of a kind is told by what it is as that kind.
+-- A value of a kind is determined by what it is as that kind.
 pub flag_is : (v : Option Value) → IsOf kinds.Flag v → has_flag v ≡ true → v ≡ Some Flag
 flag_is None h e = let bad : ⊥ = cc in absurd bad
 flag_is (Some Flag) h e = refl

@@ -1,4 +1,4 @@
--- The file of an entry is in the layout, with that entry and nothing behind it.
+-- The file of an entry is in the layout, with that entry and nothing after it.
 use Rattle.std.proofs.Common.{◌≡◌, ◌≢◌, inl, ℕ, ◌+◌, ◌-◌, ◌*◌, ◌%◌, ◌<◌, ◌≤◌, zero, suc, Bool, true, false, not, List, [], ◌∷◌, ◌++◌, length, get_or, take, drop, replicate, refl, ap, sym, ◌∙◌, subst, arith, Option, Some, None, Ok, nat_lt, nat_le, nat_eq}
 use Rattle.std.specs.Prelude.{map, if◌then◌else◌, is_some, IsTrue}
 use Rattle.std.specs.Int.{from_bool}
@@ -85,7 +85,7 @@ string_absent : (string : Option (List ℕ)) → is_some string ≡ false → st
 string_absent None e = refl
 string_absent (Some s) e = let bad : ⊥ = cc in absurd bad
 
--- the values of an entry are told by its rows
+-- the values of an entry are determined by its rows
 flag_same : (place : ℕ) (v : Option Value) → kind_of place ≡ kinds.Flag → FitsPlace place v → flag_back (has_flag v) ≡ v
 flag_same place None k h = refl
 flag_same place (Some Flag) k h = refl

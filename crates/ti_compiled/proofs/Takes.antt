@@ -316,7 +316,7 @@ sizes_taken bytes x small h =
     } in
     subst (λ r. TakesSizes bytes x.0 r) behind (subst (λ s. TakesSizes bytes s table.0.1) same read)
 
--- the sections, as they stand behind the header
+-- the sections, as they stand after the header
 pub record TakesSections (form : Form) (sizes : Sizes) (bytes : List ℕ) (parts : Parts) (padding rest : List ℕ) : Type 0 where
   pub whole : bytes ≡ parts.names ++ (parts.flags ++ (padding ++ (parts.numbers ++ (parts.offsets ++ (parts.table ++ rest)))))
   pub form_is : parts.form ≡ form

@@ -29,7 +29,7 @@ number_value negatives number = if nat_lt number negatives then Some (Number num
 abbrev pub string_value : List ℕ → ℕ → Option Value
 string_value table offset = if nat_lt offset 32768 then Some (String (before_nul (drop offset table))) else None
 
--- so many rows: the values, and none behind them
+-- so many rows: the values, and none after them
 abbrev pub filled : ℕ → List (Option Value) → List (Option Value)
 filled count values = take count (values ++ replicate count None)
 

@@ -40,7 +40,7 @@ form_of magic = if magic == 282 then Ok Legacy else (if magic == 542 then Ok Wid
 abbrev pub sizes_fit : Sizes → Bool
 sizes_fit sizes = nat_lt sizes.names 32768 && (nat_le sizes.flags 44 && (nat_le sizes.numbers 39 && (nat_le sizes.offsets 414 && nat_lt sizes.table 32768)))
 
--- the five numbers behind the magic number
+-- the five numbers after the magic number
 unfoldable pub sizes_of : List ℕ → Result (Sizes × List ℕ) PackFault
 sizes_of bytes = do
   names ← word_of bytes
@@ -66,7 +66,7 @@ sections_of form sizes bytes = do
   table ← cut_at sizes.table offsets.1
   Ok (record { form = form; names = names.0; flags = flags.0; numbers = numbers.0; offsets = offsets.0; table = table.0 })
 
--- An offset of -1 or -2 has no string. Another stands in the table, with a NUL at it or behind it.
+-- An offset of -1 or -2 has no string. Another stands in the table, with a NUL at it or after it.
 abbrev pub offset_judged : List ℕ → ℕ → Judged
 offset_judged table offset =
     if nat_le 65534 offset then Ok tt

@@ -40,7 +40,7 @@ abbrev pub number_cell : Form → Option ℕ → ℕ
 number_cell form (Some number) = number
 number_cell form None = 2 * half form - 1
 
--- The strings stand in the table one behind the other, each with a NUL behind it. An absent one has the offset -1.
+-- The strings stand in the table one after the other, each with a NUL after it. An absent one has the offset -1.
 abbrev pub offsets_from : ℕ → List (Option (List ℕ)) → List ℕ
 offsets_from place [] = []
 offsets_from place (None ∷ strings) = 65535 ∷ offsets_from place strings
@@ -108,7 +108,7 @@ limit Wide = 32768
 unfoldable pub packing_of : Content → Result (List ℕ) PackFault
 packing_of entry = if nat_lt (limit (form_for entry)) (length (written entry)) then Err TooLarge else Ok (written entry)
 
--- the law that the file of an entry is in the layout, with nothing behind it
+-- the law that the file of an entry is in the layout, with nothing after it
 abbrev pub WrittenIsPacked : Type 0
 WrittenIsPacked = (entry : Content) (file : List ℕ) → IsEntry entry → packing_of entry ≡ Ok file → IsPacked file entry []
 

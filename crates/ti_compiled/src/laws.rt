@@ -14,7 +14,7 @@ pub fn read_is_packed()
     ensures { ReadIsPacked }
 {}
 
-/// The file of an entry is in the layout of term(5), with that entry and nothing behind it.
+/// The file of an entry is in the layout of term(5), with that entry and nothing after it.
 pub fn written_is_packed()
     ensures { WrittenIsPacked }
 {}

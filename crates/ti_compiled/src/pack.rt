@@ -15,7 +15,7 @@ use crate::sections::width;
 use crate::types::{Form, PackFault};
 use crate::unpack::cap_at;
 use std::alloc::{AllocError, Global};
-use ti_caps::{Entry, Kind};
+use ti_caps::{Entry, FLAGS, Kind, NUMBERS, STRINGS};
 
 /// What is known of an entry before it is written.
 #[derive(Clone, Copy)]
@@ -66,7 +66,7 @@ fn count_flags(entry: &Entry) -> usize
     ensures range { result ≤ 44 }
 {
     let mut count = 0;
-    for position in 0..44usize {
+    for position in 0..FLAGS {
         count = counted(flag_there(entry, position), position, count);
     }
     count
@@ -78,7 +78,7 @@ fn count_numbers(entry: &Entry) -> usize
     ensures range { result ≤ 39 }
 {
     let mut count = 0;
-    for position in 0..39usize {
+    for position in 0..NUMBERS {
         count = counted(number_there(entry, position).is_some(), position, count);
     }
     count
@@ -98,7 +98,7 @@ fn count_strings(entry: &Entry) -> usize
     ensures range { result ≤ 414 }
 {
     let mut count = 0;
-    for position in 0..414usize {
+    for position in 0..STRINGS {
         count = counted(string_is_there(entry, position), position, count);
     }
     count
@@ -118,7 +118,7 @@ fn form_for(entry: &Entry) -> Form
     requires { IsEntry entry.now }
     ensures { result ≡ form_for entry.now }
 {
-    for position in 0..39usize {
+    for position in 0..NUMBERS {
         if is_wide(number_there(entry, position)) {
             return Form::Wide;
         }
@@ -200,9 +200,7 @@ fn put_word(out: &mut Vec<u8>, number: usize) -> Result<(), AllocError>
     requires { number < 65536 }
     ensures { OnOk result (out.new.items ≡ out.old.items ++ word number) }
 {
-    out.push((number % 256) as u8)?;
-    out.push((number / 256) as u8)?;
-    Ok(())
+    out.extend_from_slice(&(number as u16).to_le_bytes())
 }
 
 /// Writes a number of 32 bits, low byte first.
@@ -210,11 +208,7 @@ fn put_word(out: &mut Vec<u8>, number: usize) -> Result<(), AllocError>
 fn put_long(out: &mut Vec<u8>, number: u32) -> Result<(), AllocError>
     ensures { OnOk result (out.new.items ≡ out.old.items ++ long number) }
 {
-    out.push((number % 256) as u8)?;
-    out.push((number / 256 % 256) as u8)?;
-    out.push((number / 65536 % 256) as u8)?;
-    out.push((number / 16777216) as u8)?;
-    Ok(())
+    out.extend_from_slice(&number.to_le_bytes())
 }
 
 fn put_flags(out: &mut Vec<u8>, entry: &Entry, count: usize) -> Result<(), AllocError>

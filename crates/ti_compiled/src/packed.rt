@@ -53,7 +53,7 @@ fn word_at(bytes: &[u8], position: usize) -> Option<u16>
 {
     let at = 2 * position;
     if at + 1 < bytes.len() {
-        Some(u16::from(bytes[at]) + 256 * u16::from(bytes[at + 1]))
+        Some(u16::from_le_bytes([bytes[at], bytes[at + 1]]))
     } else {
         None
     }

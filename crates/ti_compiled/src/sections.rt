@@ -6,8 +6,9 @@ ghost use Rattle.ti_compiled.specs.Layout.{words, longs, width, numbers_in, half
 ghost use Rattle.ti_compiled.specs.Reading.{Is, Judged, judged, word_of, form_of, sizes_fit, sizes_of, cut_at, sections_of, offset_judged, offsets_judged, parts_judged, parts_of, parts_view};
 
 use crate::types::{Form, PackFault};
+use ti_caps::{FLAGS, NUMBERS, STRINGS};
 
-/// The sizes that a header tells: bytes of the names, flags, numbers, offsets, and bytes of the table.
+/// The sizes that a header states: bytes of the names, flags, numbers, offsets, and bytes of the table.
 #[derive(Clone, Copy)]
 pub(crate) struct Sizes {
     pub(crate) names: u16,
@@ -33,7 +34,7 @@ fn word_of(bytes: &[u8]) -> Result<(u16, &[u8]), PackFault>
     ensures { Is (λ x. (x.0, x.1.now)) result (word_of bytes.now) }
 {
     match bytes {
-        [low, high, rest @ ..] => Ok((u16::from(*low) + 256 * u16::from(*high), rest)),
+        [low, high, rest @ ..] => Ok((u16::from_le_bytes([*low, *high]), rest)),
         _ => Err(PackFault::Short),
     }
 }
@@ -52,9 +53,9 @@ fn sizes_fit(sizes: Sizes) -> bool
     ensures { result ≡ sizes_fit sizes }
 {
     sizes.names < 32768
-        && sizes.flags <= 44
-        && sizes.numbers <= 39
-        && sizes.offsets <= 414
+        && usize::from(sizes.flags) <= FLAGS
+        && usize::from(sizes.numbers) <= NUMBERS
+        && usize::from(sizes.offsets) <= STRINGS
         && sizes.table < 32768
 }
 
@@ -163,7 +164,7 @@ fn are_words(bytes: &[u8]) -> bool
 {
     let mut rest = bytes;
     while let [low, high, behind @ ..] = rest {
-        if !is_word(u16::from(*low) + 256 * u16::from(*high)) {
+        if !is_word(u16::from_le_bytes([*low, *high])) {
             return false;
         }
         rest = behind;
@@ -174,7 +175,7 @@ fn are_words(bytes: &[u8]) -> bool
 pub(crate) fn long_of(a: u8, b: u8, c: u8, d: u8) -> u32
     ensures { result ≡ a + 256 * (b + 256 * (c + 256 * d)) }
 {
-    u32::from(a) + 256 * (u32::from(b) + 256 * (u32::from(c) + 256 * u32::from(d)))
+    u32::from_le_bytes([a, b, c, d])
 }
 
 fn are_longs(bytes: &[u8]) -> bool
@@ -229,7 +230,7 @@ fn offsets_judged(table: &[u8], offsets: &[u8]) -> Result<(), PackFault>
 {
     let mut rest = offsets;
     while let [low, high, behind @ ..] = rest {
-        offset_judged(table, u16::from(*low) + 256 * u16::from(*high))?;
+        offset_judged(table, u16::from_le_bytes([*low, *high]))?;
         rest = behind;
     }
     Ok(())

@@ -13,7 +13,7 @@ use crate::packed::{before_nul, flag_in, number_in, string_in};
 use crate::sections::Sections;
 use crate::types::PackFault;
 use std::alloc::{AllocError, Global};
-use ti_caps::{Cap, Entry, Kind, at, names_fit};
+use ti_caps::{Cap, Entry, FLAGS, Kind, LONGEST, NUMBERS, STRINGS, at, names_fit};
 
 /// The capability at a position.
 #[tactic(auto, unfolding(ti_caps::specs::Table::place_from))]
@@ -40,7 +40,7 @@ fn put_flags(parts: &Sections<'_>, entry: &mut Entry)
     requires { entry.old ≡ partly (entry_of (parts_view parts.now)) 0 }
     ensures { entry.new ≡ partly (entry_of (parts_view parts.now)) 44 }
 {
-    for position in 0..44usize {
+    for position in 0..FLAGS {
         put_flag(parts, position, entry);
     }
 }
@@ -60,7 +60,7 @@ fn put_numbers(parts: &Sections<'_>, entry: &mut Entry)
     requires { entry.old ≡ partly (entry_of (parts_view parts.now)) 44 }
     ensures { entry.new ≡ partly (entry_of (parts_view parts.now)) 83 }
 {
-    for position in 0..39usize {
+    for position in 0..NUMBERS {
         put_number(parts, position, entry);
     }
 }
@@ -71,7 +71,7 @@ fn is_long_at(parts: &Sections<'_>, position: usize) -> bool
     ensures { result ≡ is_long_string (value_of (parts_view parts.now) kinds.String position) }
 {
     match string_in(parts, position) {
-        Some(string) => 4095 < string.len(),
+        Some(string) => LONGEST < string.len(),
         None => false,
     }
 }
@@ -79,7 +79,7 @@ fn is_long_at(parts: &Sections<'_>, position: usize) -> bool
 fn has_long_string(parts: &Sections<'_>) -> bool
     ensures { result ≡ list_any is_long_string (filled 414 (string_values (parts_view parts.now))) }
 {
-    for position in 0..414usize {
+    for position in 0..STRINGS {
         if is_long_at(parts, position) {
             return true;
         }
@@ -105,7 +105,7 @@ fn put_strings(parts: &Sections<'_>, entry: &mut Entry) -> Result<(), AllocError
     requires short { list_any is_long_string (filled 414 (string_values (parts_view parts.now))) ≡ false }
     ensures { OnOk result (entry.new ≡ entry_of (parts_view parts.now)) }
 {
-    for position in 0..414usize {
+    for position in 0..STRINGS {
         put_string(parts, position, entry)?;
     }
     Ok(())

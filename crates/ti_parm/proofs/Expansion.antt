@@ -1,9 +1,9 @@
--- A whole expansion: it begins behind what the output has already.
+-- A whole expansion: it begins after what the output has already.
 use Rattle.std.proofs.Common.{◌≡◌, ◌⊎◌, ℕ, ℤ, List, [], ◌∷◌, ◌++◌, Result, Ok, Err, refl, ap, ◌∙◌, sym, inl, inr, append-nil, append_assoc}
 use Rattle.ti_parm.specs.declared.fault.ParmFault.{ParmFault}
 use Rattle.ti_parm.specs.declared.fault.ParmFault.TheVariants.{Underflow, BadNest, BadCode, Overflow, BadChar, WrongKind, NoMemory}
 use Rattle.ti_parm.specs.Delays.{HasNoOpening, strip}
-use Rattle.ti_parm.specs.Fault.{◌>>=◌, Fails}
+use Rattle.ti_parm.specs.Fault.{◌>>=◌, FailsBy}
 use Rattle.ti_parm.specs.Running.{follow, judged_run, run_ahead, run_from}
 use Rattle.ti_parm.specs.Syntax.{Behind, Ends, HasEnd, IsPlain, Parts, ahead, syntax, verdict, whole, without_tree}
 use Rattle.ti_parm.specs.Meaning.{State, act, after, meaning, run, sent_with, start_of}
@@ -16,7 +16,7 @@ use Rattle.ti_parm.proofs.Trees.{ahead-plain, literals}
 use Rattle.ti_parm.proofs.Stripping.{strip-undelayed}
 use Rattle.ti_parm.proofs.Output.{all_after, run-after}
 
-fault-or_memory : {S : Type 0} (e : ParmFault) (meant : Result S ParmFault) → Fails e meant → (e ≡ NoMemory) ⊎ (meant ≡ Err e)
+fault-or_memory : {S : Type 0} (e : ParmFault) (meant : Result S ParmFault) → FailsBy e meant → (e ≡ NoMemory) ⊎ (meant ≡ Err e)
 fault-or_memory Underflow meant h = inr h
 fault-or_memory BadNest meant h = inr h
 fault-or_memory BadCode meant h = inr h
@@ -34,7 +34,7 @@ whole-meaning : (string : List ℕ) (given : List Value) (statics : List ℤ) �
 unfolding meaning syntax
 whole-meaning string given statics e = ap (λ b. whole (ahead string).parts b >>= λ parts. run parts (start_of given statics)) (verdict-ended string e)
 
--- running behind what is there, and the meaning
+-- running after what is there, and the meaning
 run_from-meaning : (string before : List ℕ) (given : List Value) (statics : List ℤ) (s : State) → verdict string ≡ Ok tt → s ≡ after before (start_of given statics) → run_from string s ≡ all_after before (meaning string given statics)
 run_from-meaning string before given statics s fine e =
     whole-run string s fine
@@ -42,7 +42,7 @@ run_from-meaning string before given statics s fine e =
     ∙ run-after (ahead string).parts before (start_of given statics)
     ∙ sym (ap (all_after before) (whole-meaning string given statics fine))
 
--- judging and running behind what is there, and the meaning
+-- judging and running after what is there, and the meaning
 judged_run-meaning : (string before : List ℕ) (given : List Value) (statics : List ℤ) (s : State) → s ≡ after before (start_of given statics) → judged_run string s ≡ all_after before (meaning string given statics)
 unfolding meaning
 judged_run-meaning string before given statics s e = along (syntax string) refl
@@ -62,7 +62,7 @@ fails-after : (r : Result State ParmFault) (before : List ℕ) (x : ParmFault) �
 fails-after (Ok s) before x e = cc
 fails-after (Err y) before x e = e
 
-pub meaning-fails : (string before : List ℕ) (given : List Value) (statics : List ℤ) (s : State) (x : ParmFault) → s ≡ after before (start_of given statics) → Fails x (judged_run string s) → (x ≡ NoMemory) ⊎ (meaning string given statics ≡ Err x)
+pub meaning-fails : (string before : List ℕ) (given : List Value) (statics : List ℤ) (s : State) (x : ParmFault) → s ≡ after before (start_of given statics) → FailsBy x (judged_run string s) → (x ≡ NoMemory) ⊎ (meaning string given statics ≡ Err x)
 meaning-fails string before given statics s x e fails = elim (fault-or_memory x (judged_run string s) fails) [
   | inl p ↦ inl p
   | inr p ↦ inr (fails-after (meaning string given statics) before x (sym (judged_run-meaning string before given statics s e) ∙ p))

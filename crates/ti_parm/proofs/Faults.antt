@@ -2,9 +2,9 @@
 use Rattle.std.proofs.Common.{◌≡◌, ◌∙◌, ap, Result, Ok, Err, IfOk, IfErr}
 use Rattle.ti_parm.specs.declared.fault.ParmFault.{ParmFault}
 use Rattle.ti_parm.specs.declared.fault.ParmFault.TheVariants.{Underflow, BadNest, BadCode, Overflow, BadChar, WrongKind, NoMemory}
-use Rattle.ti_parm.specs.Fault.{◌>>=◌, Answers, Fails, Gives}
+use Rattle.ti_parm.specs.Fault.{◌>>=◌, Answers, FailsBy, Gives}
 
-pub Fails-on : {S T : Type 0} (e : ParmFault) (p : Result S ParmFault) (q : Result T ParmFault) → (p ≡ Err e → q ≡ Err e) → Fails e p → Fails e q
+pub Fails-on : {S T : Type 0} (e : ParmFault) (p : Result S ParmFault) (q : Result T ParmFault) → (p ≡ Err e → q ≡ Err e) → FailsBy e p → FailsBy e q
 Fails-on Underflow p q f h = f h
 Fails-on BadNest p q f h = f h
 Fails-on BadCode p q f h = f h
@@ -13,7 +13,7 @@ Fails-on BadChar p q f h = f h
 Fails-on WrongKind p q f h = f h
 Fails-on NoMemory p q f h = tt
 
-pub Fails-from : {T : Type 0} (e : ParmFault) (q : Result T ParmFault) → q ≡ Err e → Fails e q
+pub Fails-from : {T : Type 0} (e : ParmFault) (q : Result T ParmFault) → q ≡ Err e → FailsBy e q
 Fails-from Underflow q h = h
 Fails-from BadNest q h = h
 Fails-from BadCode q h = h

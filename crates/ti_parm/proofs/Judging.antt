@@ -46,7 +46,7 @@ judged-before (ActCode action) a branches = refl
 judged-before If a branches = judged-conditional a.parts a.behind branches
 judged-before (Of mark) a branches = refl
 
--- judging from a code on is judging from the place behind it on
+-- judging from a code on is judging from the place after it on
 pub judged-code : (text rest : List ℕ) (code : Code) (branches : Branches) → 0 < length text → code_at text ≡ Ok (code, rest) → judged (ahead text).behind branches ≡ (nest_behind code branches >>= judged (ahead rest).behind)
 judged-code text rest code branches some e = ap (λ a. judged a.behind branches) (ahead-code text rest code some e) ∙ judged-before code (ahead rest) branches
 

@@ -38,7 +38,7 @@ set-before (u ∷ uses) zero (suc i) h = h
 set-before (u ∷ uses) (suc index) zero h = h
 set-before (u ∷ uses) (suc index) (suc i) h = set-before uses index i h
 
--- a variable that is set is equal behind that, and the others are as before
+-- a variable that is set is equal after that, and the others are as before
 set-equal : (E : Type 0) (a b : List ℤ) (uses : List FirstUse) (index i : ℕ) (n : ℤ) → length a ≡ length b
     → (E ⊎ (get_or uses i Unused ≡ SetFirst) → get_or a i (pos 0) ≡ get_or b i (pos 0))
     → E ⊎ (get_or (noted SetFirst index uses) i Unused ≡ SetFirst) → get_or (set a index n) i (pos 0) ≡ get_or (set b index n) i (pos 0)

@@ -1,10 +1,10 @@
--- Running a conditional, and running from the place behind its `%?`.
+-- Running a conditional, and running from the place after its `%?`.
 use Rattle.std.proofs.Common.{◌≡◌, ◌<◌, cond, length, ℕ, zero, Bool, true, false, List, [], ◌⊎◌, inl, inr, Result, Ok, Err, refl, sym, ◌∙◌, ap}
 use Rattle.ti_parm.specs.declared.code.Action.{Action}
 use Rattle.ti_parm.specs.declared.code.Code.TheVariants.{Act as ActCode, If, Of}
 use Rattle.ti_parm.specs.declared.code.Mark.TheVariants.{Then as ThenMark, Else as ElseMark, End as EndMark}
 use Rattle.ti_parm.specs.declared.fault.ParmFault.{ParmFault}
-use Rattle.ti_parm.specs.Fault.{◌>>=◌, Fails}
+use Rattle.ti_parm.specs.Fault.{◌>>=◌, FailsBy}
 use Rattle.ti_parm.specs.Meaning.{State, act, choose, pop_test, run, run_otherwise}
 use Rattle.ti_parm.specs.Running.{follow, follow_past, judged_ahead, judged_behind, judged_run, run_ahead, run_from}
 use Rattle.ti_parm.specs.Skipping.{past}
@@ -34,7 +34,7 @@ follow-rest _ _ (ends parts behind) s = refl
 follow-rest _ _ (elses first parts behind) s = refl
 follow-rest _ _ (goes_on first chosen behind r d) s = left-rest behind r d s
 
--- behind the condition of a conditional, given what its otherwise does
+-- after the condition of a conditional, given what its otherwise does
 chosen-by : (chosen : Parts) (b : Behind) (r : Rest) (s : State) → ((t : State) → follow b t ≡ onward r t) → ((t : State) → follow_past true b t ≡ (run_otherwise r.otherwise t >>= onward r)) → follow (Closes ThenMark chosen b) s ≡ (choose (run chosen) (run_otherwise r.otherwise) s >>= onward r)
 unfolding follow
 chosen-by chosen b r s p q =
@@ -76,7 +76,7 @@ pub run-End : (a : Ahead) (s : State) → run_ahead (before (Of EndMark) a) s �
 unfolding run_ahead run follow
 run-End a s = refl
 
--- passing over is going on behind what is passed over
+-- passing over is going on after what is passed over
 run_ahead-past : (to_else : Bool) (b : Behind) (s : State) → run_ahead (past to_else zero b) s ≡ follow_past to_else b s
 unfolding run_ahead run follow
 run_ahead-past to_else Ends s = refl
@@ -108,7 +108,7 @@ then-skips a s t e =
 pub then-fails : (a : Ahead) (s : State) (fault : ParmFault) → pop_test s.stack s ≡ Err fault → run_ahead (before (Of ThenMark) a) s ≡ Err fault
 then-fails a s fault e = run-Then a s ∙ ap (λ m. m >>= λ x. cond x.0 (run_ahead a x.1) (follow_past true a.behind x.1)) e
 
--- behind what is passed over
+-- after what is passed over
 pub passed : (to_else : Bool) (text rest : List ℕ) (s : State) → ahead rest ≡ past to_else zero (ahead text).behind → run_ahead (ahead rest) s ≡ run_ahead (past to_else zero (ahead text).behind) s
 passed to_else text rest s e = ap (λ a. run_ahead a s) e
 
@@ -127,7 +127,7 @@ pub judged_behind-read : (v : Result (Unit {0}) ParmFault) (r : Result State Par
 judged_behind-read v r e = ap (λ w. w >>= λ _. r) e
 
 -- a fault that a run met, unless the syntax has one
-pub Fails-first : (e fault : ParmFault) (v : Result (Unit {0}) ParmFault) (r : Result State ParmFault) → ((v ≡ Ok tt) × (e ≡ fault)) ⊎ Fails e v → (v ≡ Ok tt → Fails fault r) → Fails e (judged_behind v r)
+pub Fails-first : (e fault : ParmFault) (v : Result (Unit {0}) ParmFault) (r : Result State ParmFault) → ((v ≡ Ok tt) × (e ≡ fault)) ⊎ FailsBy e v → (v ≡ Ok tt → FailsBy fault r) → FailsBy e (judged_behind v r)
 Fails-first e fault v r (inl p) h = rw p.1 (Fails-on fault r (judged_behind v r) (λ q. judged_behind-read v r p.0 ∙ q) (h p.0))
 Fails-first e fault v r (inr p) h = Fails-on e v (judged_behind v r) (judged_behind-unread v r e) p
 

@@ -21,7 +21,7 @@ past-rest false depth _ _ (goes_on first chosen behind r d) = past-rest false de
 past-conditional : (to_else : Bool) (depth : ℕ) (condition : Parts) (b : Behind) (a : Ahead) → IsConditional condition b a → past to_else (suc depth) b ≡ past to_else depth a.behind
 past-conditional to_else depth condition _ _ (is_conditional chosen behind r d) = past-rest to_else depth behind r d
 
--- the way goes on behind a code
+-- the way goes on after a code
 pub past-on : (code : Code) (a : Ahead) (depth further : ℕ) (to_else : Bool) → HasEnd (before code a).behind → depth_behind code depth to_else ≡ Some further → past to_else depth (before code a).behind ≡ past to_else further a.behind
 past-on (ActCode action) a depth further to_else h e = let same : depth ≡ further = cc in ap (λ d. past to_else d a.behind) same
 past-on If a depth further to_else h e =
@@ -35,7 +35,7 @@ past-on (Of ElseMark) a (suc depth) further false h e = let same : suc depth ≡
 past-on (Of EndMark) a zero further to_else h e = cc
 past-on (Of EndMark) a (suc depth) further to_else h e = let same : depth ≡ further = cc in ap (λ d. past to_else d a.behind) same
 
--- the way ends behind a code
+-- the way ends after a code
 pub past-end : (code : Code) (a : Ahead) (depth : ℕ) (to_else : Bool) → depth_behind code depth to_else ≡ None → past to_else depth (before code a).behind ≡ a
 past-end (ActCode action) a depth to_else e = cc
 past-end If a depth to_else e = cc

@@ -4,7 +4,7 @@ use Rattle.ti_parm.specs.declared.code.Action.{Action}
 use Rattle.ti_parm.specs.declared.code.Action.TheVariants.{Literal, Operate, Change, Length, Increment, Character}
 use Rattle.ti_parm.specs.declared.code.Operator.{Operator}
 use Rattle.ti_parm.specs.declared.code.Operator.TheVariants.{Add, Subtract, Multiply, Divide, Remainder, BitAnd, BitOr, BitXor, Equal, Greater, Less, Both, Either}
-use Rattle.ti_parm.specs.declared.code.Turn.TheVariants.{Not, Complement}
+use Rattle.ti_parm.specs.declared.code.Unary.TheVariants.{Not, Complement}
 use Rattle.ti_parm.specs.declared.code.Code.{Code}
 use Rattle.ti_parm.specs.declared.code.Code.TheVariants.{Act as ActCode, If as IfCode, Of as MarkCode}
 use Rattle.ti_parm.specs.declared.code.Mark.{Mark}
@@ -57,11 +57,11 @@ ahead-mark mark more = ahead-of (37 ∷ mark_byte mark ∷ []) (MarkCode mark) (
 ahead-If : (more : List ℕ) → ahead (37 ∷ 63 ∷ more) ≡ conditional (ahead more).parts (ahead more).behind
 ahead-If more = ahead-of (37 ∷ 63 ∷ []) IfCode (short 63 IfCode refl) more
 
--- the rest of a conditional, read behind its chosen parts
+-- the rest of a conditional, read after its chosen parts
 abbrev IsRestAt : List ℕ → Otherwise → List ℕ → Type 0
 IsRestAt text other more = (b : Behind) × (ahead text ≡ record { parts = Done; behind = b }) × (rest_of b ≡ Ok (record { otherwise = other; parts = (ahead more).parts; behind = (ahead more).behind }))
 
--- parts behind which a mark closes them
+-- parts after which a mark closes them
 before-mark : (text : List ℕ) (parts : Parts) (mark : Mark) (more : List ℕ) → ahead (text ++ (37 ∷ mark_byte mark ∷ more)) ≡ with_parts parts (ahead (37 ∷ mark_byte mark ∷ more)) → ahead (text ++ (37 ∷ mark_byte mark ∷ more)) ≡ record { parts = parts; behind = Closes mark (ahead more).parts (ahead more).behind }
 before-mark text parts mark more e = e ∙ ap (with_parts parts) (ahead-mark mark more) ∙ ap (λ p. record { parts = p; behind = Closes mark (ahead more).parts (ahead more).behind }) (join-Done parts)
 
@@ -121,7 +121,7 @@ syntax-read string parts h =
 
 -- what is read is written so
 
--- what lies ahead is written so; behind a fault there may be anything
+-- what lies ahead is written so; after a fault there may be anything
 data Trails : List ℕ → Behind → Type 0 where
   ended : Trails [] Ends
   faulty : (text : List ℕ) (fault : ParmFault) → Trails text (Breaks fault)

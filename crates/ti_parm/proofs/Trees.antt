@@ -1,4 +1,4 @@
--- What lies ahead of a code, and what lies ahead behind it.
+-- What lies ahead of a code, and what lies ahead after it.
 use Rattle.std.proofs.Common.{◌≡◌, ◌≢◌, ℕ, zero, suc, ◌<◌, ◌≤◌, List, [], ◌∷◌, length, Result, Ok, Err, IfOk, refl, sym, ◌∙◌, ap, arith}
 use Rattle.std.proofs.lemmas.Result.{IfOk-at_ok}
 use Rattle.ti_parm.specs.declared.code.Action.TheVariants.{Literal}

@@ -7,7 +7,7 @@ use Rattle.ti_parm.specs.declared.formats.Conversion.TheVariants.{Decimal, Octal
 use Rattle.ti_parm.specs.declared.formats.Flags.{Flags}
 use Rattle.ti_parm.specs.declared.formats.Format.{Format}
 use Rattle.ti_parm.specs.declared.code.Operator.TheVariants.{Add, Subtract, Multiply, Divide, Remainder, BitAnd, BitOr, BitXor, Equal, Greater, Less, Both, Either}
-use Rattle.ti_parm.specs.declared.code.Turn.TheVariants.{Not, Complement}
+use Rattle.ti_parm.specs.declared.code.Unary.TheVariants.{Not, Complement}
 use Rattle.ti_parm.specs.declared.code.Variable.{Variable}
 use Rattle.ti_parm.specs.declared.code.Variable.TheVariants.{Dynamic, Static}
 use Rattle.ti_parm.specs.declared.code.Code.{Code}
@@ -24,7 +24,7 @@ abbrev pub digit_at : List ℕ → Option (ℕ × List ℕ)
 digit_at [] = None
 digit_at (b ∷ rest) = cond (is_digit b) (Some (b - 48, rest)) None
 
--- the number that a text begins with, behind digits whose number is n
+-- the number that a text begins with, after digits whose number is n
 abbrev pub number_on : ℕ → List ℕ → ℕ
 number_on n [] = n
 number_on n (b ∷ rest) = cond (is_digit b) (number_on (10 * n + (b - 48)) rest) n
@@ -83,7 +83,7 @@ abbrev pub flag_at : Flags → List ℕ → Option (Flags × List ℕ)
 flag_at f [] = None
 flag_at f (b ∷ rest) = cond (is_flag b) (Some (with_flag b f, rest)) None
 
--- the flags that a text begins with, behind others
+-- the flags that a text begins with, after others
 abbrev pub flags_on : Flags → List ℕ → Flags
 flags_on f [] = f
 flags_on f (b ∷ rest) = cond (is_flag b) (flags_on (with_flag b f) rest) f
@@ -123,7 +123,7 @@ abbrev pub read_conversion : Flags → ℕ → Option ℕ → Option Conversion 
 read_conversion f width precision None rest = Err BadCode
 read_conversion f width precision (Some kind) rest = read_format (finished f width precision kind) rest
 
--- behind the precision: one of `d o x X s`
+-- after the precision: one of `d o x X s`
 abbrev pub conversion_code : Flags → ℕ → Option ℕ → List ℕ → Read
 conversion_code f width precision [] = Err BadCode
 conversion_code f width precision (b ∷ rest) = read_conversion f width precision (conversion b) rest
@@ -137,7 +137,7 @@ abbrev pub behind_precision : List ℕ → List ℕ
 behind_precision [] = []
 behind_precision (b ∷ rest) = cond (b == 46) (behind_digits rest) (b ∷ rest)
 
--- a format behind its `%` and `:`: flags, a width, perhaps `.` and a precision, and a conversion; width
+-- a format after its `%` and `:`: flags, a width, perhaps `.` and a precision, and a conversion; width
 -- and precision are at most 255
 abbrev pub format_code : List ℕ → Read
 format_code text =
@@ -150,7 +150,7 @@ abbrev pub read_short : Option Code → ℕ → List ℕ → Read
 read_short None b rest = format_code (b ∷ rest)
 read_short (Some code) b rest = Ok (code, rest)
 
--- behind `%p`: a digit from `1` to `9`
+-- after `%p`: a digit from `1` to `9`
 abbrev pub parameter_code : List ℕ → Read
 parameter_code [] = Err BadCode
 parameter_code (b ∷ rest) = cond (nat_le 49 b && nat_le b 57) (Ok (Act (Parameter (b - 49)), rest)) (Err BadCode)
@@ -163,27 +163,27 @@ abbrev pub read_variable : (Variable → Action) → Option Variable → List �
 read_variable f None rest = Err BadCode
 read_variable f (Some v) rest = Ok (Act (f v), rest)
 
--- behind `%P` and `%g`: a letter
+-- after `%P` and `%g`: a letter
 abbrev pub variable_code : (Variable → Action) → List ℕ → Read
 variable_code f [] = Err BadCode
 variable_code f (b ∷ rest) = read_variable f (variable b) rest
 
--- behind `%'`: any byte, and `'`
+-- after `%'`: any byte, and `'`
 abbrev pub character_code : List ℕ → Read
 character_code (b ∷ c ∷ rest) = cond (c == 39) (Ok (Act (Push (pos b)), rest)) (Err BadCode)
 character_code _ = Err BadCode
 
--- behind the digits of `%{digits}`
+-- after the digits of `%{digits}`
 abbrev pub read_number : ℕ → List ℕ → Read
 read_number n [] = Err BadCode
 read_number n (b ∷ rest) = cond (b == 125 && nat_le n 2147483647) (Ok (Act (Push (pos n)), rest)) (Err BadCode)
 
--- behind `%{`: one digit at least
+-- after `%{`: one digit at least
 abbrev pub number_code : List ℕ → Read
 number_code [] = Err BadCode
 number_code (b ∷ rest) = cond (is_digit b) (read_number (number_on 0 (b ∷ rest)) (behind_digits (b ∷ rest))) (Err BadCode)
 
--- behind a `%`
+-- after a `%`
 abbrev pub percent_code : List ℕ → Read
 percent_code [] = Err BadCode
 percent_code (b ∷ rest) =

@@ -5,17 +5,17 @@ use Rattle.ti_parm.specs.Codes.{behind_digits, is_digit}
 abbrev pub is_mark : ℕ → Bool
 is_mark b = b == 42 || b == 47
 
--- the rest behind a `*` or a `/`
+-- the rest after a `*` or a `/`
 abbrev pub behind_mark : List ℕ → Option (List ℕ)
 behind_mark [] = None
 behind_mark (b ∷ rest) = cond (is_mark b) (Some rest) None
 
--- behind the digits: any number of `*` and `/`, then `>`; what follows it
+-- after the digits: any number of `*` and `/`, then `>`; what follows it
 abbrev pub behind_marks : List ℕ → Option (List ℕ)
 behind_marks [] = None
 behind_marks (b ∷ rest) = cond (is_mark b) (behind_marks rest) (cond (b == 62) (Some rest) None)
 
--- behind a `.`: one digit
+-- after a `.`: one digit
 abbrev pub behind_tenth : List ℕ → Option (List ℕ)
 behind_tenth [] = None
 behind_tenth (b ∷ rest) = cond (is_digit b) (behind_marks rest) None
@@ -24,7 +24,7 @@ abbrev pub behind_number : List ℕ → Option (List ℕ)
 behind_number [] = None
 behind_number (b ∷ rest) = cond (b == 46) (behind_tenth rest) (behind_marks (b ∷ rest))
 
--- behind `$<`: one digit or more
+-- after `$<`: one digit or more
 abbrev pub behind_opening : List ℕ → Option (List ℕ)
 behind_opening [] = None
 behind_opening (b ∷ rest) = cond (is_digit b) (behind_number (behind_digits rest)) None

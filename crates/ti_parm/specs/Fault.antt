@@ -10,14 +10,14 @@ Err e >>= f = Err e
 
 infixl 10 ◌>>=◌
 -- a call fails as the meaning does; that memory ran out says nothing of the meaning
-abbrev pub Fails : {S : Type 0} → ParmFault → Result S ParmFault → Type 0
-Fails NoMemory meant = Unit {0}
-Fails e meant = meant ≡ Err e
+abbrev pub FailsBy : {S : Type 0} → ParmFault → Result S ParmFault → Type 0
+FailsBy NoMemory meant = Unit {0}
+FailsBy e meant = meant ≡ Err e
 
 -- a call answers what is meant, seen through the view, or memory ran out
 abbrev pub Gives : {R S : Type 0} → (R → S) → Result R ParmFault → Result S ParmFault → Type 0
 Gives view (Ok x) meant = meant ≡ Ok (view x)
-Gives view (Err e) meant = Fails e meant
+Gives view (Err e) meant = FailsBy e meant
 
 -- a call answers what is meant, seen through the view
 abbrev pub Answers : {R S : Type 0} → (R → S) → Result R ParmFault → Result S ParmFault → Type 0

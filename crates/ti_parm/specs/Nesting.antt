@@ -14,7 +14,7 @@ use Rattle.ti_parm.specs.Syntax.{Behind, Ends, Breaks, Closes}
 abbrev pub Branches : Type 0
 Branches = List Branch
 
--- the branch behind a mark, or none behind `%;`
+-- the branch after a mark, or none after `%;`
 abbrev pub branch_behind : Mark → Branch → Result (Option Branch) ParmFault
 branch_behind Then Condition = Ok (Some Chosen)
 branch_behind Then Otherwise = Ok (Some Chosen)
@@ -40,7 +40,7 @@ nest_behind (Act action) branches = Ok branches
 nest_behind If branches = Ok (Condition ∷ branches)
 nest_behind (Of mark) branches = nest_behind_mark mark branches
 
--- whether what comes behind a place in these conditionals ends them all, and ends well
+-- whether what comes after a place in these conditionals ends them all, and ends well
 unfoldable pub judged : Behind → Branches → Result (Unit {0}) ParmFault
 judged Ends [] = Ok tt
 judged Ends (branch ∷ outer) = Err BadNest

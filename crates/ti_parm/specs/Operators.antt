@@ -7,8 +7,8 @@ use Rattle.ti_parm.specs.Fault.{◌>>=◌}
 use Rattle.ti_parm.specs.Value.{Number, Text, Values}
 use Rattle.ti_parm.specs.declared.code.Operator.{Operator}
 use Rattle.ti_parm.specs.declared.code.Operator.TheVariants.{Add, Subtract, Multiply, Divide, Remainder, BitAnd, BitOr, BitXor, Equal, Greater, Less, Both, Either}
-use Rattle.ti_parm.specs.declared.code.Turn.{Turn}
-use Rattle.ti_parm.specs.declared.code.Turn.TheVariants.{Not, Complement}
+use Rattle.ti_parm.specs.declared.code.Unary.{Unary}
+use Rattle.ti_parm.specs.declared.code.Unary.TheVariants.{Not, Complement}
 use Rattle.ti_parm.specs.declared.fault.ParmFault.{ParmFault}
 use Rattle.ti_parm.specs.declared.fault.ParmFault.TheVariants.{BadChar, Overflow, Underflow, WrongKind}
 
@@ -44,9 +44,9 @@ operate Both x y = Ok (truth (is_true x && is_true y))
 operate Either x y = Ok (truth (is_true x || is_true y))
 
 -- an operator of one operand
-abbrev pub turned : Turn → ℤ → ℤ
-turned Not x = truth (not (is_true x))
-turned Complement x = int_bit_not w32 x
+abbrev pub apply_unary : Unary → ℤ → ℤ
+apply_unary Not x = truth (not (is_true x))
+apply_unary Complement x = int_bit_not w32 x
 
 -- takes a number off the stack
 abbrev pub pop_number : Values → Result (ℤ × Values) ParmFault
@@ -62,8 +62,8 @@ binary operator (Number y ∷ Number x ∷ rest) = operate operator x y >>= λ n
 binary operator (Number y ∷ Text x ∷ rest) = Err WrongKind
 binary operator (Text y ∷ left ∷ rest) = Err WrongKind
 
-abbrev pub unary : Turn → Values → Result Values ParmFault
-unary turn stack = pop_number stack >>= λ x. Ok (Number (turned turn x.0) ∷ x.1)
+abbrev pub unary : Unary → Values → Result Values ParmFault
+unary operator stack = pop_number stack >>= λ x. Ok (Number (apply_unary operator x.0) ∷ x.1)
 
 -- a text becomes its length
 abbrev pub text_length : Values → Result Values ParmFault

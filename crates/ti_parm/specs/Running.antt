@@ -8,7 +8,7 @@ use Rattle.ti_parm.specs.Nesting.{Branches, judged}
 use Rattle.ti_parm.specs.Meaning.{State, choose, run}
 
 unfoldable mutual
-  -- what is left to run behind parts that were run
+  -- what is left to run after parts that were run
   pub follow : Behind → State → Result State ParmFault
   follow Ends s = Ok s
   follow (Breaks fault) s = Err fault

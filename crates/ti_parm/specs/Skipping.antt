@@ -5,7 +5,7 @@ use Rattle.ti_parm.specs.declared.code.Code.TheVariants.{Act, If, Of}
 use Rattle.ti_parm.specs.declared.code.Mark.TheVariants.{Then, Else, End}
 use Rattle.ti_parm.specs.Syntax.{Ahead, Behind, Ends, Breaks, Closes, Done}
 
--- how many conditionals deep the place behind a code is, if the way goes on there
+-- how many conditionals deep the place after a code is, if the way goes on there
 abbrev pub depth_behind : Code → ℕ → Bool → Option ℕ
 depth_behind (Act action) depth to_else = Some depth
 depth_behind If depth to_else = Some (suc depth)

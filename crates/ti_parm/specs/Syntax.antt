@@ -27,14 +27,14 @@ mutual
     Else : Parts → Otherwise
     ElseIf : Parts → Parts → Otherwise → Otherwise
 
--- what comes behind the parts that begin at a place: the string's end, or a fault, or a mark of a
--- conditional that began before the place, the parts behind the mark, and what comes behind those
+-- what comes after the parts that begin at a place: the string's end, or a fault, or a mark of a
+-- conditional that began before the place, the parts after the mark, and what comes after those
 pub data Behind : Type 0 where
   Ends : Behind
   Breaks : ParmFault → Behind
   Closes : Mark → Parts → Behind → Behind
 
--- what lies ahead of a place in a string: the parts that begin there, and what comes behind them
+-- what lies ahead of a place in a string: the parts that begin there, and what comes after them
 pub record Ahead : Type 0 where
   pub parts : Parts
   pub behind : Behind
@@ -51,7 +51,7 @@ pub record Rest : Type 0 where
 abbrev pub else_if : Parts → Parts → Rest → Rest
 else_if condition chosen r = record r { otherwise = ElseIf condition chosen r.otherwise }
 
--- the rest of a conditional from the mark behind its chosen parts on, or the first fault
+-- the rest of a conditional from the mark after its chosen parts on, or the first fault
 abbrev pub rest_of : Behind → Result Rest ParmFault
 rest_of Ends = Err BadNest
 rest_of (Breaks fault) = Err fault
@@ -67,7 +67,7 @@ abbrev pub closed : Parts → Parts → Result Rest ParmFault → Ahead
 closed condition chosen (Ok r) = record { parts = Next (Conditional condition chosen r.otherwise) r.parts; behind = r.behind }
 closed condition chosen (Err fault) = broken fault
 
--- what lies ahead of a `%?`, by what lies ahead behind it
+-- what lies ahead of a `%?`, by what lies ahead after it
 abbrev pub conditional : Parts → Behind → Ahead
 conditional condition Ends = broken BadNest
 conditional condition (Breaks fault) = broken fault
@@ -75,7 +75,7 @@ conditional condition (Closes ThenMark chosen behind) = closed condition chosen 
 conditional condition (Closes ElseMark parts behind) = broken BadNest
 conditional condition (Closes EndMark parts behind) = broken BadNest
 
--- what lies ahead of a code, by what lies ahead behind it
+-- what lies ahead of a code, by what lies ahead after it
 abbrev pub before : Code → Ahead → Ahead
 before (ActCode action) a = record { parts = Next (Act action) a.parts; behind = a.behind }
 before IfCode a = conditional a.parts a.behind

@@ -1,4 +1,4 @@
-// The codes of a parameter string, one at a time.
+//! The codes of a parameter string, one at a time.
 ghost use Rattle.std.specs.Prelude.{◌≡◌, ◌<◌, ◌≤◌, IfOk, length};
 ghost use Rattle.ti_parm.specs.Codes.{character_code, code_at, format_code, number_code, parameter_code, percent_code, short_code, variable, variable_code};
 ghost use Rattle.ti_parm.specs.Fault.{Answers};
@@ -23,7 +23,7 @@ pub enum Action {
     /// Takes two numbers and pushes what an operator makes of them.
     Operate(Operator),
     /// Takes a number and pushes what becomes of it.
-    Change(Turn),
+    Change(Unary),
     /// Takes a text and pushes its length.
     Length,
     /// Adds one to the first two parameters.
@@ -76,21 +76,21 @@ pub enum Operator {
 
 /// An operator of one operand.
 #[derive(Clone, Copy, Debug, PartialEq, Eq)]
-pub enum Turn {
+pub enum Unary {
     /// `%!`: it is 0
     Not,
-    /// `%~`: each bit turned over
+    /// `%~`: each bit inverted
     Complement,
 }
 
-/// A mark of a conditional behind its `%?`.
+/// A mark of a conditional after its `%?`.
 #[derive(Clone, Copy, Debug, PartialEq, Eq)]
 pub enum Mark {
-    /// `%t`, behind a condition.
+    /// `%t`, after a condition.
     Then,
-    /// `%e`, behind the parts that are run if the condition holds.
+    /// `%e`, after the parts that are run if the condition holds.
     Else,
-    /// `%;`, behind everything.
+    /// `%;`, after everything.
     End,
 }
 
@@ -105,7 +105,7 @@ pub enum Code {
     Of(Mark),
 }
 
-/// What stands behind `%{`.
+/// What stands after `%{`.
 #[inline(always)]
 fn number_behind(text: &[u8]) -> Result<(Code, &[u8]), ParmFault>
     ensures code { Answers (λ x. (x.0, x.1.now)) result (number_code text.now) }
@@ -173,8 +173,8 @@ fn short_of(byte: u8) -> Option<Code>
         b'<' => Code::Act(Action::Operate(Operator::Less)),
         b'A' => Code::Act(Action::Operate(Operator::Both)),
         b'O' => Code::Act(Action::Operate(Operator::Either)),
-        b'!' => Code::Act(Action::Change(Turn::Not)),
-        b'~' => Code::Act(Action::Change(Turn::Complement)),
+        b'!' => Code::Act(Action::Change(Unary::Not)),
+        b'~' => Code::Act(Action::Change(Unary::Complement)),
         b'i' => Code::Act(Action::Increment),
         b'?' => Code::If,
         b't' => Code::Of(Mark::Then),
@@ -185,7 +185,7 @@ fn short_of(byte: u8) -> Option<Code>
     Some(code)
 }
 
-/// What stands behind `%p`.
+/// What stands after `%p`.
 #[inline(always)]
 fn parameter_behind(text: &[u8]) -> Result<(Code, &[u8]), ParmFault>
     ensures code { Answers (λ x. (x.0, x.1.now)) result (parameter_code text.now) }
@@ -197,7 +197,7 @@ fn parameter_behind(text: &[u8]) -> Result<(Code, &[u8]), ParmFault>
     }
 }
 
-/// What stands behind `%'`.
+/// What stands after `%'`.
 #[inline(always)]
 fn character_behind(text: &[u8]) -> Result<(Code, &[u8]), ParmFault>
     ensures code { Answers (λ x. (x.0, x.1.now)) result (character_code text.now) }
@@ -209,7 +209,7 @@ fn character_behind(text: &[u8]) -> Result<(Code, &[u8]), ParmFault>
     }
 }
 
-/// What stands behind a `%`.
+/// What stands after a `%`.
 #[inline(always)]
 fn behind_percent(text: &[u8]) -> Result<(Code, &[u8]), ParmFault>
     ensures code { Answers (λ x. (x.0, x.1.now)) result (percent_code text.now) }
@@ -237,7 +237,7 @@ fn behind_percent(text: &[u8]) -> Result<(Code, &[u8]), ParmFault>
     }
 }
 
-/// A format, behind its `%` and `:`.
+/// A format, after its `%` and `:`.
 #[inline(always)]
 fn format_behind(text: &[u8]) -> Result<(Code, &[u8]), ParmFault>
     ensures code { Answers (λ x. (x.0, x.1.now)) result (format_code text.now) }

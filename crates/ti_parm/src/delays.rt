@@ -31,7 +31,7 @@ fn behind_marks(text: &[u8]) -> Option<&[u8]>
     }
 }
 
-/// What follows the end of a delay, from behind its `.` on.
+/// What follows the end of a delay, from after its `.` on.
 fn behind_tenth(text: &[u8]) -> Option<&[u8]>
     ensures tenth { MatchOption result (behind_tenth text.now ≡ None) (λ r. behind_tenth text.now ≡ Some r.now) }
     ensures shorter { IfSome result (λ r. length r.now < length text.now) }
@@ -42,7 +42,7 @@ fn behind_tenth(text: &[u8]) -> Option<&[u8]>
     }
 }
 
-/// What follows the end of a delay, from behind its first digits on.
+/// What follows the end of a delay, from after its first digits on.
 fn behind_number(text: &[u8]) -> Option<&[u8]>
     ensures number { MatchOption result (behind_number text.now ≡ None) (λ r. behind_number text.now ≡ Some r.now) }
     ensures shorter { IfSome result (λ r. length r.now < length text.now) }
@@ -54,7 +54,7 @@ fn behind_number(text: &[u8]) -> Option<&[u8]>
     }
 }
 
-/// What follows the end of a delay, from behind its `$<` on.
+/// What follows the end of a delay, from after its `$<` on.
 fn behind_opening(text: &[u8]) -> Option<&[u8]>
     ensures opening { MatchOption result (behind_opening text.now ≡ None) (λ r. behind_opening text.now ≡ Some r.now) }
     ensures shorter { IfSome result (λ r. length r.now < length text.now) }

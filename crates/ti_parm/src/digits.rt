@@ -1,4 +1,4 @@
-// The digits of numbers.
+//! The digits of numbers.
 ghost use Rattle.std.specs.Prelude.{◌≡◌, ◌<◌, ◌≤◌, drop};
 ghost use Rattle.std.specs.Fmt.{digit_glyph, digits};
 

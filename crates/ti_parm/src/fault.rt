@@ -1,8 +1,8 @@
-// Why a parameter string is not expanded.
+//! Why a parameter string is not expanded.
 use thiserror::Error;
 
 /// Why a parameter string is not expanded. `BadNest` and `BadCode` are faults of its syntax, and are
-/// told before any of the others, which are faults of the codes that are run. Each shows as its name.
+/// reported before any of the others, which are faults of the codes that are run. Each shows as its name.
 #[derive(Clone, Copy, Debug, PartialEq, Eq, Error)]
 pub enum ParmFault {
     /// A code took a value from the empty stack.

@@ -1,4 +1,4 @@
-// Formats, as they stand in a parameter string.
+//! Formats, as they stand in a parameter string.
 ghost use Rattle.std.specs.Prelude.{◌≡◌, ◌<◌, ◌≤◌, IfOk, IfSome, MatchOption, None, Some, length, min, option_map};
 ghost use Rattle.ti_parm.specs.Codes.{as_code, behind_flags, behind_precision, conversion, finished, flag_at, flags_on, format_code, no_flags, precision_at};
 ghost use Rattle.ti_parm.specs.Fault.{Answers};
@@ -182,7 +182,7 @@ fn finished(
     })
 }
 
-/// The format that a text begins with, behind its `%` and `:`, and what follows it.
+/// The format that a text begins with, after its `%` and `:`, and what follows it.
 pub fn format_ahead(text: &[u8]) -> Result<(Format, &[u8]), ParmFault>
     ensures code { Answers (λ x. (as_code x.0, x.1.now)) result (format_code text.now) }
     ensures shorter { IfOk result (λ x. length x.1.now < length text.now) }

@@ -1,6 +1,6 @@
-// The faults of a string's syntax.
+//! The faults of a string's syntax.
 ghost use Rattle.std.specs.Prelude.{◌≡◌, ◌⊎◌, Ok};
-ghost use Rattle.ti_parm.specs.Fault.{Fails, Gives};
+ghost use Rattle.ti_parm.specs.Fault.{FailsBy, Gives};
 ghost use Rattle.ti_parm.specs.Nesting.{judged};
 ghost use Rattle.ti_parm.specs.Syntax.{ahead};
 
@@ -8,8 +8,8 @@ use crate::code::next_code;
 use crate::fault::ParmFault;
 use crate::nest::Nest;
 
-/// Finds the first fault of the syntax from a place on that lies in these conditionals.
-fn judge(nest: &mut Nest, text: &[u8]) -> Result<(), ParmFault>
+/// Checks the syntax from a place on that lies in these conditionals: the error is its first fault.
+fn check_rest(nest: &mut Nest, text: &[u8]) -> Result<(), ParmFault>
     ensures { Gives (λ _. tt) result (judged (ahead text.now).behind nest.old) }
 {
     let mut rest = text;
@@ -24,9 +24,9 @@ fn judge(nest: &mut Nest, text: &[u8]) -> Result<(), ParmFault>
 /// The first fault of the syntax from a place on that lies in these conditionals, or, if it has none,
 /// the fault that a run met before the place.
 pub fn first_fault(nest: &mut Nest, text: &[u8], fault: ParmFault) -> ParmFault
-    ensures { ((judged (ahead text.now).behind nest.old ≡ Ok tt) × (result ≡ fault)) ⊎ Fails result (judged (ahead text.now).behind nest.old) }
+    ensures { ((judged (ahead text.now).behind nest.old ≡ Ok tt) × (result ≡ fault)) ⊎ FailsBy result (judged (ahead text.now).behind nest.old) }
 {
-    match judge(nest, text) {
+    match check_rest(nest, text) {
         Ok(()) => fault,
         Err(first) => first,
     }

@@ -1,6 +1,6 @@
-// What a run has, and what each code does to it.
+//! What a run has, and what each code does to it.
 ghost use Rattle.std.specs.Prelude.{◌≡◌, ◌↔◌, ℕ, List, [], ◌≤◌, IfErr, IfOk, IsTrue, length, pos, slice_index_or, slice_set};
-ghost use Rattle.ti_parm.specs.Fault.{Answers, Extends, Fails, Gives};
+ghost use Rattle.ti_parm.specs.Fault.{Answers, Extends, FailsBy, Gives};
 ghost use Rattle.ti_parm.specs.Value.{nine, values_of, value_of, zeros};
 ghost use Rattle.ti_parm.specs.Meaning.{ReadsUnset, act, character, one_more, pop_test, start_of, writing};
 ghost use Rattle.ti_parm.specs.Formats.{shown};
@@ -96,7 +96,7 @@ impl<'a> Machine<'a> {
         out: &mut Vec<u8>,
     ) -> Result<&'s [u8], ParmFault>
         ensures ok { IfOk result (λ rest. judged_ahead (ahead rest.now) nest.new (state_of self.new out.new.items) ≡ judged_ahead (before code (ahead behind.now)) nest.old (state_of self.old out.old.items)) }
-        ensures fault { IfErr result (λ e. Fails e (judged_ahead (before code (ahead behind.now)) nest.old (state_of self.old out.old.items))) }
+        ensures fault { IfErr result (λ e. FailsBy e (judged_ahead (before code (ahead behind.now)) nest.old (state_of self.old out.old.items))) }
         ensures within { IfOk result (λ rest. length rest.now ≤ length behind.now) }
         ensures grows { Extends out.old.items out.new.items }
     {
@@ -116,7 +116,7 @@ impl<'a> Machine<'a> {
         }
     }
 
-    /// Goes on behind a mark, or behind what the mark says to pass over.
+    /// Goes on after a mark, or after what the mark says to pass over.
     fn pass<'s>(
         &mut self,
         mark: Mark,
@@ -125,7 +125,7 @@ impl<'a> Machine<'a> {
     ) -> Result<&'s [u8], ParmFault>
         ensures judged { IfOk result (λ rest. judged (ahead rest.now).behind nest.new ≡ judged (ahead behind.now).behind nest.old) }
         ensures ok { IfOk result (λ rest. (output : List ℕ) → HasEnd (ahead behind.now).behind → run_ahead (ahead rest.now) (state_of self.new output) ≡ run_ahead (before (Code.Of mark) (ahead behind.now)) (state_of self.old output)) }
-        ensures fault { IfErr result (λ e. (output : List ℕ) → Fails e (judged_behind (judged (ahead behind.now).behind nest.old) (run_ahead (before (Code.Of mark) (ahead behind.now)) (state_of self.old output)))) }
+        ensures fault { IfErr result (λ e. (output : List ℕ) → FailsBy e (judged_behind (judged (ahead behind.now).behind nest.old) (run_ahead (before (Code.Of mark) (ahead behind.now)) (state_of self.old output)))) }
         ensures within { IfOk result (λ rest. length rest.now ≤ length behind.now) }
     {
         match mark {

@@ -1,4 +1,4 @@
-// The conditionals that a place in a string lies in.
+//! The conditionals that a place in a string lies in.
 ghost use Rattle.std.specs.Prelude.{◌≡◌};
 ghost use Rattle.ti_parm.specs.Nesting.{branch_behind};
 
@@ -13,9 +13,9 @@ use std::marker::Model;
 pub enum Branch {
     /// Between `%?` and `%t`.
     Condition,
-    /// Behind `%t`.
+    /// After `%t`.
     Chosen,
-    /// Behind `%e`.
+    /// After `%e`.
     Otherwise,
 }
 
@@ -43,7 +43,7 @@ impl Model for Nest {
     ghost view = { λ n. reverse n.branches.items };
 }
 
-/// The branch behind a mark, if that may stand there, or nothing if the mark ends the conditional.
+/// The branch after a mark, if that may stand there, or nothing if the mark ends the conditional.
 fn branch_behind(mark: Mark, branch: Branch) -> Result<Option<Branch>, ParmFault>
     ensures { result ≡ branch_behind mark branch }
 {

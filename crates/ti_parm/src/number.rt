@@ -1,4 +1,4 @@
-// Numbers in a parameter string.
+//! Numbers in a parameter string.
 ghost use Rattle.std.specs.Prelude.{◌≡◌, ◌<◌, ◌≤◌, IfSome, MatchOption, None, Some, length, min};
 ghost use Rattle.ti_parm.specs.Codes.{behind_digits, digit_at, number_on};
 

@@ -1,12 +1,12 @@
-// What operators make of numbers.
+//! What operators make of numbers.
 ghost use Rattle.std.specs.Prelude.{◌≡◌};
 ghost use Rattle.ti_parm.specs.Fault.{Answers};
-ghost use Rattle.ti_parm.specs.Operators.{byte_of, fitting, is_true, operate, truth, turned};
+ghost use Rattle.ti_parm.specs.Operators.{byte_of, fitting, is_true, operate, truth, apply_unary};
 
-use crate::code::{Operator, Turn};
+use crate::code::{Operator, Unary};
 use crate::fault::ParmFault;
 
-/// A result, if it fits 32 bits.
+/// The truth value of a test: 1 where it holds, else 0.
 fn truth_of(holds: bool) -> i32
     ensures { result ≡ truth holds }
 {
@@ -37,12 +37,12 @@ pub fn operate(operator: Operator, left: i32, right: i32) -> Result<i32, ParmFau
 }
 
 /// What a unary operator makes of its operand.
-pub fn turned(turn: Turn, number: i32) -> i32
-    ensures { result ≡ turned turn number }
+pub fn apply_unary(operator: Unary, number: i32) -> i32
+    ensures { result ≡ apply_unary operator number }
 {
-    match turn {
-        Turn::Not => truth_of(number == 0),
-        Turn::Complement => !number,
+    match operator {
+        Unary::Not => truth_of(number == 0),
+        Unary::Complement => !number,
     }
 }
 

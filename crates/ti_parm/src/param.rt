@@ -1,4 +1,4 @@
-// Parameters, as they are handed in and as they are kept during a run.
+//! Parameters, as they are handed in and as they are kept during a run.
 ghost use Rattle.std.specs.Prelude.{◌≡◌, pos, slice_index_or};
 
 use smallvec::SmallVec;

@@ -1,4 +1,4 @@
-// Running a parameter string.
+//! Running a parameter string.
 ghost use Rattle.std.specs.Prelude.{◌≡◌, ◌↔◌, ◌++◌, ◌⊎◌, ℕ, ℤ, List, Result, IfErr, IfOk, IsTrue, OnErr, OnOk, Ok, Err, length, take};
 ghost use Rattle.ti_parm.specs.Delays.{HasNoOpening};
 ghost use Rattle.ti_parm.specs.Fault.{Gives};
@@ -18,8 +18,8 @@ use crate::param::Param;
 use crate::statics::Statics;
 use std::alloc::Global;
 
-/// Judges a string and runs it, from the machine's state on, behind what `out` has already, in one way
-/// over it. Where that fails a part may have been written.
+/// Judges a string and runs it, from the machine's state on, after what `out` has already, in a
+/// single pass. Where that fails a part may have been written.
 fn run(
     alloc: Global,
     string: &[u8],
@@ -42,7 +42,7 @@ fn run(
 /// leaves the static variables as it sets them.
 ///
 /// Of `params` the first nine are used, and those that are not there are 0. The string's syntax is
-/// judged before anything is run, and its first fault told (`BadCode`, `BadNest`); the other faults
+/// judged before anything is run, and its first fault reported (`BadCode`, `BadNest`); the other faults
 /// are those of the codes that are run, the first met. On every error `out` and `statics` stay as
 /// they were.
 ///

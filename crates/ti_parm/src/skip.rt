@@ -1,6 +1,6 @@
-// Going over the parts of a conditional that are not run.
+//! Going over the parts of a conditional that are not run.
 ghost use Rattle.std.specs.Prelude.{◌≡◌, ◌<◌, ◌≤◌, ◌^◌, IfErr, IfOk, length};
-ghost use Rattle.ti_parm.specs.Fault.{Fails};
+ghost use Rattle.ti_parm.specs.Fault.{FailsBy};
 ghost use Rattle.ti_parm.specs.Nesting.{judged};
 ghost use Rattle.ti_parm.specs.Skipping.{depth_behind, past};
 ghost use Rattle.ti_parm.specs.Syntax.{HasEnd, ahead};
@@ -9,7 +9,7 @@ use crate::code::{Code, Mark, next_code};
 use crate::fault::ParmFault;
 use crate::nest::Nest;
 
-/// How many conditionals deep the place behind a code is, or nothing if the way ends there: at the
+/// How many conditionals deep the place after a code is, or nothing if the way ends there: at the
 /// `%;` of the conditional that it began in, or, if wanted, at its `%e`.
 #[inline(always)]
 fn depth_behind(code: Code, depth: usize, to_else: bool) -> Option<usize>
@@ -32,7 +32,7 @@ pub fn skip<'s>(nest: &mut Nest, text: &'s [u8], to_else: bool) -> Result<&'s [u
     ensures judged { IfOk result (λ rest. judged (ahead rest.now).behind nest.new ≡ judged (ahead text.now).behind nest.old) }
     ensures past { IfOk result (λ rest. HasEnd (ahead text.now).behind → ahead rest.now ≡ past to_else 0 (ahead text.now).behind) }
     ensures within { IfOk result (λ rest. length rest.now ≤ length text.now) }
-    ensures fault { IfErr result (λ e. Fails e (judged (ahead text.now).behind nest.old)) }
+    ensures fault { IfErr result (λ e. FailsBy e (judged (ahead text.now).behind nest.old)) }
 {
     let mut rest = text;
     let mut depth = 0;

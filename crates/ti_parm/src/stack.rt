@@ -1,7 +1,7 @@
-// The stack of an expansion.
-use crate::code::{Operator, Turn};
+//! The stack of an expansion.
+use crate::code::{Operator, Unary};
 use crate::fault::ParmFault;
-use crate::operators::{operate, turned};
+use crate::operators::{apply_unary, operate};
 use crate::param::Param;
 use smallvec::SmallVec;
 use std::alloc::{AllocError, Global};
@@ -89,11 +89,11 @@ impl<'a> Stack<'a> {
     }
 
     /// Puts what becomes of the number on top in its place.
-    pub fn change(&mut self, turn: Turn) -> Result<(), ParmFault>
-        ensures { Gives (λ _. self.new) result (unary turn self.old) }
+    pub fn change(&mut self, operator: Unary) -> Result<(), ParmFault>
+        ensures { Gives (λ _. self.new) result (unary operator self.old) }
     {
         let number = self.pop_number()?;
-        self.push_number(turned(turn, number))
+        self.push_number(apply_unary(operator, number))
     }
 
     /// Puts the length of the text on top in its place.

@@ -1,4 +1,4 @@
-// Static variables.
+//! Static variables.
 use std::marker::Model;
 
 /// The static variables `A` to `Z` of parameter strings, which last from one expansion to the next.

@@ -1,4 +1,4 @@
-// What a run did first with each static variable.
+//! What a run did first with each static variable.
 ghost use Rattle.std.specs.Prelude.{◌≡◌, ◌↔◌, Contains, IsTrue, slice_index_or};
 ghost use Rattle.ti_parm.specs.Uses.{further, noted};
 ghost use Rattle.ti_parm.specs.declared.uses.FirstUse.TheVariants.{ReadFirst};

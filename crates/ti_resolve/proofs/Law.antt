@@ -40,7 +40,7 @@ fields-push : (raws : List RawEntry) (places : List ℕ) (place : ℕ) → field
 fields-push raws [] place = append-nil (fields_at raws place)
 fields-push raws (p ∷ places) place = ap (λ fs. fields_at raws p ++ fs) (fields-push raws places place) ∙ sym (append_assoc (fields_at raws p) (fields_of_all raws places) (fields_at raws place))
 
-holds-append : (xs ys : List ℕ) (q : ℕ) → holds (xs ++ ys) q ≡ (holds xs q || holds ys q)
+pub holds-append : (xs ys : List ℕ) (q : ℕ) → holds (xs ++ ys) q ≡ (holds xs q || holds ys q)
 holds-append [] ys q = refl
 holds-append (x ∷ xs) ys q =
     ⊎_elim

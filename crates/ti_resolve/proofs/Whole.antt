@@ -4,11 +4,11 @@ use Rattle.ti_caps.specs.Entry.{Content, value_at, bare_entry}
 use Rattle.ti_source.specs.declared.types.RawEntry.{RawEntry}
 use Rattle.ti_resolve.specs.declared.faults.ResolveFault.TheVariants.{NoSuchEntry}
 use Rattle.ti_resolve.specs.Uses.{place_named, names_at, value_given}
-use Rattle.ti_resolve.specs.Filling.{fields_of_all, settle_all, start}
+use Rattle.ti_resolve.specs.Filling.{fields_of_all, take_fields, start}
 use Rattle.ti_resolve.specs.Resolved.{IsResolved}
 use Rattle.ti_resolve.specs.Walk.{enter, walk_from, walk_of}
 use Rattle.ti_resolve.proofs.Law.{walk_is_whole}
-use Rattle.ti_resolve.proofs.Settled.{settled_names, settled_values}
+use Rattle.ti_resolve.proofs.Taken.{taken_names, taken_values}
 
 pub walk_none : (raws : List RawEntry) (name : List ℕ) → None ≡ place_named raws name → walk_of raws name ≡ Err (NoSuchEntry name)
 unfolding walk_of
@@ -22,7 +22,7 @@ bare_names : (names : List ℕ) → (bare_entry names).names ≡ names
 unfolding bare_entry
 bare_names names = refl
 
-pub resolved_is : (raws : List RawEntry) (name names after : List ℕ) (root : ℕ) (entry : Content) → Some root ≡ place_named raws name → enter 65 raws [] name root [] ≡ Ok after → names ≡ names_at raws root → entry ≡ (settle_all (start names) (fields_of_all raws after)).entry → IsResolved raws name entry
+pub resolved_is : (raws : List RawEntry) (name names after : List ℕ) (root : ℕ) (entry : Content) → Some root ≡ place_named raws name → enter 65 raws [] name root [] ≡ Ok after → names ≡ names_at raws root → entry ≡ (take_fields (start names) (fields_of_all raws after)).entry → IsResolved raws name entry
 resolved_is raws name names after root entry found walked named is =
     let whole = walk_is_whole raws 65 root name after walked in
     record {
@@ -30,6 +30,6 @@ resolved_is raws name names after root entry found walked named is =
       fields = whole.0;
       found = sym found;
       whole = whole.1;
-      names = ap (λ e. e.names) is ∙ (settled_names (start names) (fields_of_all raws after) ∙ (bare_names names ∙ named));
-      values = λ place inside. ap (λ e. value_at e place) is ∙ (settled_values names (fields_of_all raws after) place inside ∙ ap value_given (whole.2 place));
+      names = ap (λ e. e.names) is ∙ (taken_names (start names) (fields_of_all raws after) ∙ (bare_names names ∙ named));
+      values = λ place inside. ap (λ e. value_at e place) is ∙ (taken_values names (fields_of_all raws after) place inside ∙ ap value_given (whole.2 place));
     }

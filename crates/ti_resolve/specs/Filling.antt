@@ -12,15 +12,15 @@ pub record Filled : Type 0 where
   pub decided : List Bool
 
 -- a field decides, unless one before it did
-unfoldable pub settle_field : Filled → Field → Filled
-settle_field so_far (Set cap value) =
+unfoldable pub take_field : Filled → Field → Filled
+take_field so_far (Set cap value) =
     if slice_index_or so_far.decided cap false then so_far else record { entry = with_value so_far.entry cap (Some value); decided = slice_set so_far.decided cap true }
-settle_field so_far (Cancel cap) = record { entry = so_far.entry; decided = slice_set so_far.decided cap true }
-settle_field so_far (Include name) = so_far
+take_field so_far (Cancel cap) = record { entry = so_far.entry; decided = slice_set so_far.decided cap true }
+take_field so_far (Include name) = so_far
 
-abbrev pub settle_all : Filled → List Field → Filled
-settle_all so_far [] = so_far
-settle_all so_far (field ∷ fields) = settle_all (settle_field so_far field) fields
+abbrev pub take_fields : Filled → List Field → Filled
+take_fields so_far [] = so_far
+take_fields so_far (field ∷ fields) = take_fields (take_field so_far field) fields
 
 -- the fields of the entries at these places, one after another
 abbrev pub fields_of_all : List RawEntry → List ℕ → List Field

@@ -3,3 +3,4 @@ pub mod Uses
 pub mod Index
 pub mod Walk
 pub mod Resolved
+pub mod Faults

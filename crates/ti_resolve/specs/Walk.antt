@@ -18,7 +18,7 @@ abbrev pub holds : List ℕ → ℕ → Bool
 holds places place = list_any (λ p. p == place) places
 
 -- Where a use leads. An entry that is being walked is met again: a cycle. One that was finished adds
--- nothing. Behind the entry that was asked for, 64 entries can be entered.
+-- nothing. After the entry that was asked for, 64 entries can be entered.
 unfoldable pub target : Option ℕ → List ℕ → List ℕ → List ℕ → Result (Option ℕ) ResolveFault
 target None name chain entered = Err (NoSuchEntry name)
 target (Some place) name chain entered =
@@ -73,6 +73,6 @@ Tells (Cycle name) fault = Cycle name ≡ fault
 Tells (TooMany name) fault = TooMany name ≡ fault
 
 -- what was answered, seen by view, is what the walk gives
-abbrev pub Answers : {X Y : Type 0} → (X → Y) → Result X ResolveFault → Result Y ResolveFault → Type 0
-Answers view (Ok x) walk = walk ≡ Ok (view x)
-Answers view (Err fault) walk = FailsBy fault walk
+abbrev pub Gives : {X Y : Type 0} → (X → Y) → Result X ResolveFault → Result Y ResolveFault → Type 0
+Gives view (Ok x) walk = walk ≡ Ok (view x)
+Gives view (Err fault) walk = FailsBy fault walk

@@ -17,7 +17,7 @@ pub enum ResolveFault {
     /// An entry uses itself, by whatever way.
     #[error("Cycle")]
     Cycle(Bytes),
-    /// Memory ran out.
+    /// Out of memory: a growth was refused.
     #[error("NoMemory")]
     NoMemory,
     /// A 65th entry would be used.

@@ -4,16 +4,16 @@ ghost use Rattle.std.specs.Prelude.{◌≡◌, ◌<◌, Bool, false, List, ℕ, 
 ghost use Rattle.std.specs.List.{All, AllByRecursion};
 ghost use Rattle.ti_caps.specs.Entry.{FitsPlace, with_value};
 ghost use Rattle.ti_source.specs.Raw.{FitsField, IsRaw};
-ghost use Rattle.ti_resolve.specs.Filling.{Filled, fields_of_all, settle_all, settle_field, start};
+ghost use Rattle.ti_resolve.specs.Filling.{Filled, fields_of_all, take_fields, take_field, start};
 ghost use Rattle.ti_caps.specs.Fits.{names_fit};
 
 use crate::search::fields_of;
 use std::alloc::{AllocError, Global};
-use ti_caps::{Cap, Entry, Value};
+use ti_caps::{CAPABILITIES, Cap, Entry, Value};
 use ti_source::{Field, RawEntry};
 
-/// Gives the entry a copy of a value.
-fn give(entry: &mut Entry, cap: Cap, value: &Value) -> Result<(), AllocError>
+/// Sets a capability of the entry to a copy of a value.
+fn set_value(entry: &mut Entry, cap: Cap, value: &Value) -> Result<(), AllocError>
     requires { FitsPlace cap (Some value.now) }
     ensures { OnOk result (entry.new ≡ with_value entry.old cap (Some value.now)) }
 {
@@ -42,18 +42,18 @@ fn decide(decided: &mut [bool], cap: Cap)
 }
 
 /// Takes a field over, unless one about its capability came before.
-#[tactic(auto, unfolding(crate::specs::Filling::settle_field))]
-fn settle(entry: &mut Entry, decided: &mut [bool], field: &Field) -> Result<(), AllocError>
+#[tactic(auto, unfolding(crate::specs::Filling::take_field))]
+fn take_field(entry: &mut Entry, decided: &mut [bool], field: &Field) -> Result<(), AllocError>
     requires sized { length decided.old ≡ 497 }
     requires fits { FitsField field.now }
-    ensures { OnOk result (record { entry = entry.new; decided = decided.new } ≡ settle_field (record { entry = entry.old; decided = decided.old }) field.now) }
+    ensures { OnOk result (record { entry = entry.new; decided = decided.new } ≡ take_field (record { entry = entry.old; decided = decided.old }) field.now) }
 {
     match field {
         Field::Include(_) => {}
         Field::Cancel(cap) => decide(decided, *cap),
         Field::Set(cap, value) => {
             if !is_decided(decided, *cap) {
-                give(entry, *cap, value)?;
+                set_value(entry, *cap, value)?;
                 decide(decided, *cap);
             }
         }
@@ -62,20 +62,20 @@ fn settle(entry: &mut Entry, decided: &mut [bool], field: &Field) -> Result<(), 
 }
 
 /// Takes these fields over.
-fn settle_each(entry: &mut Entry, decided: &mut [bool], fields: &[Field]) -> Result<(), AllocError>
+fn take_each(entry: &mut Entry, decided: &mut [bool], fields: &[Field]) -> Result<(), AllocError>
     requires sized { length decided.old ≡ 497 }
     requires fits { AllByRecursion FitsField fields.now }
-    ensures { OnOk result (record { entry = entry.new; decided = decided.new } ≡ settle_all (record { entry = entry.old; decided = decided.old }) fields.now) }
+    ensures { OnOk result (record { entry = entry.new; decided = decided.new } ≡ take_fields (record { entry = entry.old; decided = decided.old }) fields.now) }
 {
     for field in fields {
-        settle(entry, decided, field)?;
+        take_field(entry, decided, field)?;
     }
     Ok(())
 }
 
 /// Takes over the fields of the entries at these places, one entry after another.
-#[tactic(auto, using(crate::proofs::Settled::fields_fit))]
-fn settle_entries(
+#[tactic(auto, using(crate::proofs::Taken::fields_fit))]
+fn take_entries(
     entry: &mut Entry,
     decided: &mut [bool],
     raws: &[RawEntry],
@@ -83,10 +83,10 @@ fn settle_entries(
 ) -> Result<(), AllocError>
     requires sized { length decided.old ≡ 497 }
     requires fit { AllByRecursion IsRaw raws.now }
-    ensures { OnOk result (record { entry = entry.new; decided = decided.new } ≡ settle_all (record { entry = entry.old; decided = decided.old }) (fields_of_all raws.now places.now)) }
+    ensures { OnOk result (record { entry = entry.new; decided = decided.new } ≡ take_fields (record { entry = entry.old; decided = decided.old }) (fields_of_all raws.now places.now)) }
 {
     for place in places {
-        settle_each(entry, decided, fields_of(raws, *place))?;
+        take_each(entry, decided, fields_of(raws, *place))?;
     }
     Ok(())
 }
@@ -100,10 +100,10 @@ pub(crate) fn filled(
 ) -> Result<Entry, AllocError>
     requires names { IsTrue (names_fit names.now) }
     requires fit { AllByRecursion IsRaw raws.now }
-    ensures { IfOk result (λ entry. entry ≡ (settle_all (start names.now) (fields_of_all raws.now places.now)).entry) }
+    ensures { IfOk result (λ entry. entry ≡ (take_fields (start names.now) (fields_of_all raws.now places.now)).entry) }
 {
     let mut entry = Entry::new(alloc, names)?;
-    let mut decided = vec![in alloc; false; 497]?;
-    settle_entries(&mut entry, decided.as_mut_slice(), raws, places)?;
+    let mut decided = vec![in alloc; false; CAPABILITIES]?;
+    take_entries(&mut entry, decided.as_mut_slice(), raws, places)?;
     Ok(entry)
 }

@@ -8,4 +8,6 @@ mod search;
 mod walk;
 
 pub use faults::ResolveFault;
-pub use resolving::{expands_once, resolve, resolved_once};
+pub use resolving::{
+    answers_once, expands_once, faults_are_so, resolve, resolved_once, walks_resolve,
+};

@@ -3,8 +3,9 @@
 ghost use Rattle.std.specs.Prelude.{◌≡◌, ◌<◌, [], IfOk, MatchResult, IsOk, length};
 ghost use Rattle.std.specs.List.{AllByRecursion};
 ghost use Rattle.ti_source.specs.Raw.{IsRaw};
+ghost use Rattle.ti_resolve.specs.Faults.{AnswersOnce, FaultsAreSo, WalksResolve};
 ghost use Rattle.ti_resolve.specs.Resolved.{ExpandsOnce, IsResolved, ResolvedOnce};
-ghost use Rattle.ti_resolve.specs.Walk.{Answers, FailsBy, enter, walk_of};
+ghost use Rattle.ti_resolve.specs.Walk.{Gives, FailsBy, enter, walk_of};
 
 use crate::faults::ResolveFault;
 use crate::fill::filled;
@@ -22,7 +23,7 @@ fn entered_from(
     root: usize,
 ) -> Result<Vec<usize>, ResolveFault>
     requires { root < length index.now.raws.now }
-    ensures { Answers (λ places. places.items) result (enter 65 index.now.raws.now [] name.now root []) }
+    ensures { Gives (λ places. places.items) result (enter 65 index.now.raws.now [] name.now root []) }
 {
     let mut chain = Vec::new(alloc);
     let mut entered = Vec::new(alloc);
@@ -74,4 +75,19 @@ pub fn expands_once()
 /// A law: a name asks for one entry.
 pub fn resolved_once()
     ensures { ResolvedOnce }
+{}
+
+/// A law: a walk without a fault resolves the name.
+pub fn walks_resolve()
+    ensures { WalksResolve }
+{}
+
+/// A law: what each fault of the walk says of the entries and their uses is so.
+pub fn faults_are_so()
+    ensures { FaultsAreSo }
+{}
+
+/// A law: a name has one answer. Where the walk has a fault, no entry is the answer, and no other fault.
+pub fn answers_once()
+    ensures { AnswersOnce }
 {}

@@ -2,12 +2,15 @@
 
 ghost use Rattle.std.specs.Prelude.{◌≡◌, ◌<◌, ℕ, List, [], ◌∷◌, ◌++◌, length, IfSome, IfOk, OnOk};
 ghost use Rattle.ti_resolve.specs.Uses.{place_named, uses_in};
-ghost use Rattle.ti_resolve.specs.Walk.{Answers, and_then, enter, follow_field, follow_uses, go_to, target};
+ghost use Rattle.ti_resolve.specs.Walk.{Gives, and_then, enter, follow_field, follow_uses, go_to, target};
 
 use crate::faults::ResolveFault;
 use crate::search::Index;
 use std::alloc::Global;
 use ti_source::Field;
+
+/// The most entries that uses reach, beside the one asked for.
+pub(crate) const MOST_USED: usize = 64;
 
 /// Where a use leads: to an entry that is to be entered, or to one that was.
 #[tactic(auto, using(crate::proofs::Told::told_fails), unfolding(crate::specs::Walk::target))]
@@ -18,7 +21,7 @@ fn lead(
     chain: &[usize],
     entered: &[usize],
 ) -> Result<Option<usize>, ResolveFault>
-    ensures value { Answers (λ place. place) result (target (place_named index.now.raws.now name.now) name.now chain.now entered.now) }
+    ensures value { Gives (λ place. place) result (target (place_named index.now.raws.now name.now) name.now chain.now entered.now) }
     ensures range { IfOk result (λ found. IfSome found (λ place. place < length index.now.raws.now)) }
 {
     let Some(place) = index.find(name) else {
@@ -30,7 +33,7 @@ fn lead(
     if entered.contains(&place) {
         return Ok(None);
     }
-    if entered.len() >= 65 {
+    if entered.len() > MOST_USED {
         return Err(ResolveFault::too_many(alloc, name));
     }
     Ok(Some(place))
@@ -51,7 +54,7 @@ pub(crate) fn enter(
     entered: &mut Vec<usize>,
 ) -> Result<(), ResolveFault>
     requires { place < length index.now.raws.now }
-    ensures walk { Answers (λ _. entered.new.items) result (enter depth index.now.raws.now chain.old.items name.now place entered.old.items) }
+    ensures walk { Gives (λ _. entered.new.items) result (enter depth index.now.raws.now chain.old.items name.now place entered.old.items) }
     ensures chain { OnOk result (chain.new.items ≡ chain.old.items) }
 {
     if depth == 0 {
@@ -81,7 +84,7 @@ fn follow_all(
     chain: &mut Vec<usize>,
     entered: &mut Vec<usize>,
 ) -> Result<(), ResolveFault>
-    ensures walk { Answers (λ _. entered.new.items) result (follow_uses (enter depth index.now.raws.now chain.old.items) index.now.raws.now chain.old.items (uses_in fields.now) entered.old.items) }
+    ensures walk { Gives (λ _. entered.new.items) result (follow_uses (enter depth index.now.raws.now chain.old.items) index.now.raws.now chain.old.items (uses_in fields.now) entered.old.items) }
     ensures chain { OnOk result (chain.new.items ≡ chain.old.items) }
 {
     for field in fields {
@@ -100,7 +103,7 @@ fn follow_field(
     chain: &mut Vec<usize>,
     entered: &mut Vec<usize>,
 ) -> Result<(), ResolveFault>
-    ensures walk { Answers (λ _. entered.new.items) result (follow_field (enter depth index.now.raws.now chain.old.items) index.now.raws.now chain.old.items field.now entered.old.items) }
+    ensures walk { Gives (λ _. entered.new.items) result (follow_field (enter depth index.now.raws.now chain.old.items) index.now.raws.now chain.old.items field.now entered.old.items) }
     ensures chain { OnOk result (chain.new.items ≡ chain.old.items) }
 {
     match field {
@@ -119,7 +122,7 @@ fn follow(
     chain: &mut Vec<usize>,
     entered: &mut Vec<usize>,
 ) -> Result<(), ResolveFault>
-    ensures walk { Answers (λ _. entered.new.items) result (and_then (target (place_named index.now.raws.now name.now) name.now chain.old.items entered.old.items) (go_to (enter depth index.now.raws.now chain.old.items name.now) entered.old.items)) }
+    ensures walk { Gives (λ _. entered.new.items) result (and_then (target (place_named index.now.raws.now name.now) name.now chain.old.items entered.old.items) (go_to (enter depth index.now.raws.now chain.old.items name.now) entered.old.items)) }
     ensures chain { OnOk result (chain.new.items ≡ chain.old.items) }
 {
     match lead(alloc, index, name, chain.as_slice(), entered.as_slice())? {

@@ -3,3 +3,6 @@ pub mod Wanting
 pub mod Righting
 pub mod Alike
 pub mod Telling
+pub mod Naming
+pub mod Reading
+pub mod Listing

@@ -6,3 +6,6 @@ pub mod Starts
 pub mod Wants
 pub mod Asked
 pub mod Right
+pub mod Names
+pub mod Params
+pub mod Lists

@@ -1,6 +1,9 @@
 //! Laws of the table, each for all sizes, rows and texts.
 ghost use Rattle.ti_rows.specs.Right.{StartsAllowed, AskedIsWanted, RecordedIsRight, OneLooks, ActivatesFrom};
 ghost use Rattle.ti_rows.specs.Looks.{EarlierKept};
+ghost use Rattle.ti_rows.specs.Names.{NamesRise, Named, FirstsInOrder, OrdersSmall};
+ghost use Rattle.ti_rows.specs.Lists.{FirstsInRange, NextFollows, LastIsLast, RanksBelow, OneOfRank, EachReached};
+ghost use Rattle.ti_rows.specs.Params.{FindsParams, ParamsFound, SameCount};
 
 /// The states from which a row is wanted to do its work are among those that its start allows.
 pub fn starts_allowed()
@@ -30,4 +33,50 @@ pub fn one_looks()
 /// What `smacs` and `rmacs` are for: a record shows which set is active in the end.
 pub fn activates_from()
     ensures { ActivatesFrom }
+{}
+
+/// The names of the checked capabilities rise, byte by byte.
+pub fn names_rise()
+    ensures { NamesRise }
+{}
+
+/// Each of their positions has its name in the table of terminfo(5).
+pub fn named()
+    ensures { Named }
+{}
+
+/// Each place has a first row, and each row's capability has one of the places.
+pub fn places()
+    ensures firsts { FirstsInOrder }
+    ensures orders { OrdersSmall }
+{}
+
+/// What `with_params` finds is the same capability with just those parameters, it finds it wherever there is
+/// one, and all rows of a capability have as many parameters.
+pub fn params_read_back()
+    ensures finds { FindsParams }
+    ensures found { ParamsFound }
+    ensures count { SameCount }
+{}
+
+/// The first list of each capability is in range, and has the first place.
+pub fn firsts_in_range()
+    ensures { FirstsInRange }
+{}
+
+/// What follows a list is of the same capability, in range, has the next place, and is above it.
+pub fn next_follows()
+    ensures { NextFollows }
+{}
+
+/// A list that nothing follows has the last place.
+pub fn last_is_last()
+    ensures { LastIsLast }
+{}
+
+/// Each list has one of its capability's places, no two lists have one, and each place is a list's.
+pub fn places_of_lists()
+    ensures below { RanksBelow }
+    ensures one { OneOfRank }
+    ensures each { EachReached }
 {}

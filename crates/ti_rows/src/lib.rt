@@ -7,8 +7,12 @@ mod bits;
 mod judging;
 pub mod laws;
 mod learning;
+mod lists;
+mod names;
+mod params;
 mod rows;
 mod starts;
 
 pub use judging::does_as_wanted;
+pub use params::Params;
 pub use rows::{Attributes, Looks, Marks, Row};

@@ -100,7 +100,7 @@ pub lines_cut : (lines : List (List ℕ)) (text : List ℕ) → HasLines lines t
 lines_cut [] text h = ap lines_of h
 lines_cut (line ∷ lines) text h = first_cut line h.0 text h.1 ∙ ap (λ ls. line ∷ ls) (lines_cut lines h.0 h.2)
 
--- the fields of a line behind this opener
+-- the fields of a line after this opener
 abbrev FieldsFrom : Opener → List (List ℕ) → List ℕ → List ℕ → Type 0
 FieldsFrom opener [] last line = (line ≡ last) × IsTrue (is_unended opener last)
 FieldsFrom opener (field ∷ fields) last line = (rest : List ℕ) × (line ≡ field ++ 44 ∷ rest) × IsTrue (is_one_field opener field) × HasFields fields last rest

@@ -24,7 +24,8 @@ use Rattle.ti_source.specs.declared.types.Note.{Note}
 use Rattle.ti_source.specs.declared.types.RawEntry.{RawEntry}
 use Rattle.ti_source.specs.declared.types.SourceFault.{SourceFault}
 use Rattle.ti_source.specs.Escapes.{stored, plain, letter_from, letter_value, letter_piece, third_at, second_at, escape_at, control_of, control_at, piece_at, is_octal, Decoding, put_first, decoding_from, decoding_of}
-use Rattle.ti_source.specs.Fields.{◌>>=◌, is_kind, is_use, flag_reading, number_reading, decoded_reading, string_reading, known_reading, named_reading, marked_reading, split_reading, is_skipped, reading_of, is_long, bounded_reading, ended_reading, with_reading, with_said, with_notes, repeats, cap_of, add_field, add_last, add_fields, add_cut, begins_unnamed, is_no_name, new_entry, named_entry, begun_by, entry_on}
+use Rattle.ti_source.specs.Fields.{◌>>=◌, is_use, flag_reading, number_reading, decoded_reading, string_reading, known_reading, named_reading, marked_reading, split_reading, is_skipped, reading_of, is_long, bounded_reading, ended_reading, with_reading, with_said, with_notes, repeats, cap_of, add_field, add_last, add_fields, add_cut, begins_unnamed, is_no_name, new_entry, named_entry, begun_by, entry_on}
+use Rattle.ti_caps.specs.Table.{is_kind}
 use Rattle.ti_source.specs.Layout.{is_white, skip_white, trim_end, ends_field, Cut, put_field, onto_ended, cut_from, cut_of, Marked, marked_in, lines_of}
 use Rattle.ti_source.specs.Numbers.{ranged, spelled_number, number_of}
 use Rattle.ti_source.specs.Raw.{FitsField, IsRaw}

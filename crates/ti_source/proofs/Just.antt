@@ -12,7 +12,7 @@ use Rattle.ti_caps.specs.Entry.{Content, value_at}
 use Rattle.ti_caps.specs.Table.{kind_of, place_of_rank}
 use Rattle.ti_source.specs.declared.types.Field.{Field}
 use Rattle.ti_source.specs.declared.types.Field.TheVariants.{Set}
-use Rattle.ti_source.specs.Fields.{is_kind}
+use Rattle.ti_caps.specs.Table.{is_kind}
 use Rattle.ti_source.specs.Printed.{place_fields, rank_fields, ranks_fields, kind_fields, fields_of, SetsAsIn, PrintsJust}
 use Rattle.ti_source.proofs.ReadBack.{of_kind}
 use Rattle.ti_source.proofs.Spellings.{choose}

@@ -14,7 +14,8 @@ use Rattle.ti_caps.specs.declared.value.Value.TheVariants as values
 use Rattle.ti_caps.specs.Entry.{Content, IsEntry, FitsPlace, value_at}
 use Rattle.ti_caps.specs.Table.{name_at, kind_of, place_of_rank}
 use Rattle.ti_source.specs.declared.types.FaultKind.TheVariants as faults
-use Rattle.ti_source.specs.Fields.{is_kind, new_entry}
+use Rattle.ti_source.specs.Fields.{new_entry}
+use Rattle.ti_caps.specs.Table.{is_kind}
 use Rattle.ti_source.specs.Layout.{lines_of}
 use Rattle.ti_source.specs.Printed.{fields_of, ReadsBack}
 use Rattle.ti_source.specs.Printing.{letter_for, octal, spelled_with, spelled, string_text, value_text, field_text, place_text, rank_text, ranks_text, kind_text, text_of}

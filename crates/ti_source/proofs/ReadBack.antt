@@ -20,7 +20,8 @@ use Rattle.ti_source.specs.declared.types.Field.{Field}
 use Rattle.ti_source.specs.declared.types.Field.TheVariants.{Set, Cancel, Include}
 use Rattle.ti_source.specs.declared.types.RawEntry.{RawEntry}
 use Rattle.ti_source.specs.Escapes.{decoding_of}
-use Rattle.ti_source.specs.Fields.{◌>>=◌, is_kind, flag_reading, number_reading, decoded_reading, string_reading, named_reading, split_reading, trimmed_reading, reading_of, is_long, bounded_reading, ended_reading, is_told, with_notes, with_field, with_said, with_reading, add_field, add_last, add_cut}
+use Rattle.ti_source.specs.Fields.{◌>>=◌, flag_reading, number_reading, decoded_reading, string_reading, named_reading, split_reading, trimmed_reading, reading_of, is_long, bounded_reading, ended_reading, is_told, with_notes, with_field, with_said, with_reading, add_field, add_last, add_cut}
+use Rattle.ti_caps.specs.Table.{is_kind}
 use Rattle.ti_source.specs.Layout.{onto_line, begins_feed, lines_of, is_white, onto_cut, cut_of, marked_in}
 use Rattle.ti_source.specs.Numbers.{number_of}
 use Rattle.ti_source.specs.Printing.{string_text, value_text, field_text}
@@ -101,7 +102,7 @@ quiet_body place value inside h k =
     quiet_byte 9 (name_at place ++ value_text value) (record { inside = refl; passes = λ rest. refl })
     (quiet_both (name_at place) (value_text value) (quiet_word (name_at place) (name_word place inside).word) (quiet_value place value h k))
 
--- the line of a field is that field and nothing behind its comma
+-- the line of a field is that field and nothing after its comma
 onto_front : (xs ys : List ℕ) (more : List (List ℕ)) (last : List ℕ) → onto_all xs (record { ended = ys ∷ more; last = last }) ≡ record { ended = (xs ++ ys) ∷ more; last = last }
 onto_front [] ys more last = refl
 onto_front (b ∷ xs) ys more last = ap (onto_cut b) (onto_front xs ys more last)

@@ -17,7 +17,8 @@ use Rattle.ti_source.specs.declared.types.Field.TheVariants.{Set, Include}
 use Rattle.ti_source.specs.declared.types.RawEntry.{RawEntry}
 use Rattle.ti_source.specs.declared.types.SourceFault.{SourceFault}
 use Rattle.ti_source.specs.Escapes.{Decoding, decoding_of}
-use Rattle.ti_source.specs.Fields.{◌>>=◌, is_kind, is_use, flag_reading, number_reading, decoded_reading, string_reading, named_reading, marked_reading, split_reading, is_skipped, trimmed_reading, reading_of, is_long, bounded_reading, ended_reading, with_reading, add_field, add_last, add_fields, add_cut, is_no_name, new_entry, named_entry, begun_by, entry_on}
+use Rattle.ti_source.specs.Fields.{◌>>=◌, is_use, flag_reading, number_reading, decoded_reading, string_reading, named_reading, marked_reading, split_reading, is_skipped, trimmed_reading, reading_of, is_long, bounded_reading, ended_reading, with_reading, add_field, add_last, add_fields, add_cut, is_no_name, new_entry, named_entry, begun_by, entry_on}
+use Rattle.ti_caps.specs.Table.{is_kind}
 use Rattle.ti_source.specs.Layout.{is_white, skip_white, trim_end, Cut, cut_of, mark_of, Marked, marked_with, marked_at, onto_name, marked_in, lines_of}
 use Rattle.ti_source.specs.Numbers.{number_of}
 use Rattle.ti_source.specs.Related.{NoMark, Means, IsFlag, IsNumber, IsString, Cancels, Uses, UnknownAlone, UnknownMarked, begins_field, White, PartSays, Blank, Commented, Said, HasFields, HasLines, Grows, FurtherLine, EntryLine, LineStands, Passed, Further, Begins, Stand, IsSource, ReadIsRelated, RelatedIsRead, FaultHasNone, FaultIsFirst}
@@ -290,7 +291,7 @@ grown_read number raw [] grown h = ap Ok (sym h)
 grown_read number raw (part ∷ parts) grown h =
     ap (λ r. (r >>= λ reading. Ok (with_reading number raw reading)) >>= λ next. add_fields number next parts) (part_read part h.0 h.1) ∙ grown_read number (with_reading number raw h.0) parts grown h.2
 
--- and behind the last comma
+-- and after the last comma
 never : (read : Result Reading FaultKind) (grown : RawEntry) → (read >>= λ reading. Err faults.OpenField) ≡ Ok grown → ⊥
 never (Ok reading) grown e = no_answer faults.OpenField grown e
 never (Err fault) grown e = no_answer fault grown e

@@ -20,7 +20,8 @@ use Rattle.ti_source.specs.declared.types.FaultKind.TheVariants as faults
 use Rattle.ti_source.specs.declared.types.Field.{Field}
 use Rattle.ti_source.specs.declared.types.Field.TheVariants.{Set, Cancel, Include}
 use Rattle.ti_source.specs.declared.types.RawEntry.{RawEntry}
-use Rattle.ti_source.specs.Fields.{◌>>=◌, is_kind, cap_of, is_cap, is_told, repeats, with_field, add_last, add_cut, begins_unnamed, is_no_name, new_entry, named_entry, begun_by, entry_on}
+use Rattle.ti_source.specs.Fields.{◌>>=◌, cap_of, is_cap, is_told, repeats, with_field, add_last, add_cut, begins_unnamed, is_no_name, new_entry, named_entry, begun_by, entry_on}
+use Rattle.ti_caps.specs.Table.{is_kind}
 use Rattle.ti_source.specs.Layout.{lines_of, is_white, ends_field, put_field, onto_cut, cut_from, cut_of}
 use Rattle.ti_source.specs.Printed.{place_fields, rank_fields, ranks_fields, kind_fields, fields_of}
 use Rattle.ti_source.specs.Printing.{value_text, field_text, place_text, rank_text, ranks_text, kind_text, text_of}

@@ -29,7 +29,7 @@ abbrev pub onto_all : List ℕ → Cut → Cut
 onto_all [] cut = cut
 onto_all (b ∷ rest) cut = onto_cut b (onto_all rest cut)
 
--- no comma among these bytes ends a field, and nothing is left open behind them
+-- no comma among these bytes ends a field, and nothing is left open after them
 abbrev pub Passes : List ℕ → Type 0
 Passes xs = (rest : List ℕ) → cut_from Nothing (xs ++ rest) ≡ onto_all xs (cut_from Nothing rest)
 

@@ -56,7 +56,7 @@ abbrev pub second_at : ℕ → List ℕ → Piece
 second_at value [] = plain value 2
 second_at value (c ∷ rest) = if is_octal c then third_at (value * 8 + (c - 48)) rest else plain value 2
 
--- what a backslash makes with what stands behind it: it cannot be the last byte
+-- what a backslash makes with what stands after it: it cannot be the last byte
 unfoldable pub escape_at : List ℕ → Option Piece
 escape_at [] = None
 escape_at (b ∷ rest) = if is_octal b then Some (second_at (b - 48) rest) else Some (letter_piece b)
@@ -65,7 +65,7 @@ escape_at (b ∷ rest) = if is_octal b then Some (second_at (b - 48) rest) else 
 abbrev pub control_of : ℕ → ℕ
 control_of b = if b == 63 then 127 else bit_and b 31
 
--- what a caret makes with what stands behind it: neither the end nor a comma
+-- what a caret makes with what stands after it: neither the end nor a comma
 unfoldable pub control_at : List ℕ → Option Piece
 control_at [] = None
 control_at (b ∷ rest) = if b == 44 then None else Some (plain (control_of b) 2)

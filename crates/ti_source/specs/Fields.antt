@@ -1,10 +1,9 @@
 -- What a field of terminfo(5) source says, and what an entry becomes by it.
 use Rattle.std.specs.Prelude.{ℕ, Bool, true, false, ◌&&◌, ◌||◌, List, [], ◌∷◌, ◌++◌, length, replicate, Option, Some, None, Result, Ok, Err, if◌then◌else◌, ◌==◌, nat_lt}
 use Rattle.std.specs.List.{list_any, list_all}
-use Rattle.ti_caps.specs.declared.types.Kind.{Kind}
 use Rattle.ti_caps.specs.declared.types.Kind.TheVariants as kinds
 use Rattle.ti_caps.specs.declared.value.Value.TheVariants as values
-use Rattle.ti_caps.specs.Table.{place_in, kind_of}
+use Rattle.ti_caps.specs.Table.{place_in, kind_of, is_kind}
 use Rattle.ti_source.specs.declared.types.FaultKind.{FaultKind}
 use Rattle.ti_source.specs.declared.types.FaultKind.TheVariants as faults
 use Rattle.ti_source.specs.declared.types.Field.{Field}
@@ -25,12 +24,6 @@ infixl 10 ◌>>=◌
 abbrev pub ◌>>=◌ : {A B : Type 0} → Result A FaultKind → (A → Result B FaultKind) → Result B FaultKind
 (Ok x) >>= f = f x
 (Err e) >>= f = Err e
-
-abbrev pub is_kind : Kind → Kind → Bool
-is_kind kinds.Flag kinds.Flag = true
-is_kind kinds.Number kinds.Number = true
-is_kind kinds.String kinds.String = true
-is_kind _ _ = false
 
 -- the text of an inclusion, use=name
 abbrev pub is_use : List ℕ → Bool
@@ -57,7 +50,7 @@ unfoldable pub string_reading : ℕ → List ℕ → Result Reading FaultKind
 string_reading cap value =
     if is_kind (kind_of cap) kinds.String then decoded_reading cap (decoding_of value) else Err faults.WrongKind
 
--- a field with a mark, whose name is known: what stands behind an @ is not read
+-- a field with a mark, whose name is known: what stands after an @ is not read
 abbrev pub known_reading : ℕ → Mark → List ℕ → Result Reading FaultKind
 known_reading cap At value = Ok (Says (Cancel cap) 0)
 known_reading cap Hash value = number_reading cap value
@@ -85,7 +78,7 @@ is_skipped (b ∷ rest) = b == 46
 abbrev pub trimmed_reading : List ℕ → Result Reading FaultKind
 trimmed_reading field = if is_skipped field then Ok Skipped else split_reading field (marked_in field)
 
--- what stands between two commas: the faults here come before that of a field that has no comma behind it
+-- what stands between two commas: the faults here come before that of a field that has no comma after it
 unfoldable pub reading_of : List ℕ → Result Reading FaultKind
 reading_of part = trimmed_reading (skip_white part)
 
@@ -145,7 +138,7 @@ unfoldable pub add_field : ℕ → RawEntry → List ℕ → Result RawEntry Fau
 add_field line raw part =
     ended_reading part >>= λ reading. Ok (with_reading line raw reading)
 
--- what stands behind the last comma has to be white space
+-- what stands after the last comma has to be white space
 unfoldable pub add_last : RawEntry → List ℕ → Result RawEntry FaultKind
 add_last raw part = if list_all is_white part then Ok raw else (reading_of part >>= λ reading. Err faults.OpenField)
 
@@ -153,7 +146,7 @@ abbrev pub add_fields : ℕ → RawEntry → List (List ℕ) → Result RawEntry
 add_fields line raw [] = Ok raw
 add_fields line raw (part ∷ parts) = add_field line raw part >>= λ next. add_fields line next parts
 
--- the fields of a line, or of what stands behind the names
+-- the fields of a line, or of what stands after the names
 unfoldable pub add_cut : ℕ → RawEntry → Cut → Result RawEntry FaultKind
 add_cut line raw cut = add_fields line raw cut.ended >>= λ next. add_last next cut.last
 

@@ -35,7 +35,7 @@ skip_white (b ∷ rest) = if is_white b then skip_white rest else b ∷ rest
 unfoldable pub trim_end : List ℕ → List ℕ
 trim_end bytes = reverse (skip_white (reverse bytes))
 
--- the fields of a line that end with a comma, and what stands behind the last comma
+-- the fields of a line that end with a comma, and what stands after the last comma
 pub record Cut : Type 0 where
   pub ended : List (List ℕ)
   pub last : List ℕ
@@ -52,7 +52,7 @@ abbrev pub onto_cut : ℕ → Cut → Cut
 onto_cut b cut = onto_ended b cut.ended cut.last
 
 -- A comma ends its field, but not where a backslash takes it: backslashes and carets are paired with the
--- bytes behind them from the front of the field.
+-- bytes after them from the front of the field.
 abbrev pub ends_field : Opener → ℕ → Bool
 ends_field opener b = ends_at_comma opener && (b == 44)
 
@@ -68,7 +68,7 @@ cut_of line = cut_from Nothing line
 abbrev pub mark_of : ℕ → Option Mark
 mark_of b = if b == 64 then Some At else (if b == 35 then Some Hash else (if b == 61 then Some Equals else None))
 
--- the name in a field, its first mark, and what stands behind the mark
+-- the name in a field, its first mark, and what stands after the mark
 pub record Marked : Type 0 where
   pub name : List ℕ
   pub mark : Mark

@@ -1,4 +1,4 @@
--- The numbers of terminfo(5): decimal, hexadecimal behind 0x, octal behind a 0.
+-- The numbers of terminfo(5): decimal, hexadecimal after 0x, octal after a 0.
 use Rattle.std.specs.Prelude.{ℕ, ◌+◌, ◌*◌, ◌-◌, ◌&&◌, List, [], ◌∷◌, Option, Some, None, Result, Ok, Err, if◌then◌else◌, ◌==◌, nat_le, nat_lt, option_and_then}
 use Rattle.ti_source.specs.declared.types.FaultKind.{FaultKind}
 use Rattle.ti_source.specs.declared.types.FaultKind.TheVariants.{BadNumber, NumberRange}
@@ -19,7 +19,7 @@ below_base base (Some digit) = if nat_lt digit base then Some digit else None
 unfoldable pub digit_in : ℕ → ℕ → Option ℕ
 digit_in base b = below_base base (digit_value b)
 
--- the number that digits spell behind those of a number before them
+-- the number that digits spell after those of a number before them
 abbrev pub digits_from : ℕ → ℕ → List ℕ → Option ℕ
 digits_from base before [] = Some before
 digits_from base before (b ∷ rest) = option_and_then (λ digit. digits_from base (before * base + digit) rest) (digit_in base b)
@@ -48,6 +48,6 @@ abbrev pub ranged : Option ℕ → Result ℕ FaultKind
 ranged None = Err BadNumber
 ranged (Some number) = if nat_le number 2147483647 then Ok number else Err NumberRange
 
--- the number that stands behind a #, or what is wrong with it
+-- the number that stands after a #, or what is wrong with it
 unfoldable pub number_of : List ℕ → Result ℕ FaultKind
 number_of value = ranged (spelled_number (trim_end value))

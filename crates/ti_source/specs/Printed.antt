@@ -9,7 +9,7 @@ use Rattle.ti_caps.specs.Table.{kind_of, place_of_rank}
 use Rattle.ti_source.specs.declared.types.Field.{Field}
 use Rattle.ti_source.specs.declared.types.Field.TheVariants.{Set, Cancel, Include}
 use Rattle.ti_source.specs.declared.types.RawEntry.{RawEntry}
-use Rattle.ti_source.specs.Fields.{is_kind}
+use Rattle.ti_caps.specs.Table.{is_kind}
 use Rattle.ti_source.specs.Printing.{text_of}
 use Rattle.ti_source.specs.Source.{source_of}
 

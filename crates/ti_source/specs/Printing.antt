@@ -7,7 +7,7 @@ use Rattle.ti_caps.specs.declared.value.Value.{Value}
 use Rattle.ti_caps.specs.declared.value.Value.TheVariants.{Flag, Number, String}
 use Rattle.ti_caps.specs.Entry.{Content, value_at}
 use Rattle.ti_caps.specs.Table.{name_at, kind_of, place_of_rank}
-use Rattle.ti_source.specs.Fields.{is_kind}
+use Rattle.ti_caps.specs.Table.{is_kind}
 
 -- what a backslash stands before: E n r t b f s for the bytes 27 10 13 9 8 12 32, and the marks , \ ^ :
 abbrev pub letter_for : ℕ → Option ℕ
@@ -37,7 +37,7 @@ spelled b = spelled_with b (letter_for b)
 unfoldable pub string_text : List ℕ → List ℕ
 string_text bytes = flat_map spelled bytes
 
--- what stands behind a name
+-- what stands after a name
 abbrev pub value_text : Value → List ℕ
 value_text Flag = []
 value_text (Number n) = 35 ∷ decimal n

@@ -30,7 +30,7 @@ ends_in_return [] = false
 ends_in_return (b ∷ []) = b == 13
 ends_in_return (b ∷ c ∷ line) = ends_in_return (c ∷ line)
 
--- The first line of a text, and what stands behind it. A line feed ends it, or a carriage return with a
+-- The first line of a text, and what stands after it. A line feed ends it, or a carriage return with a
 -- line feed, or the text.
 pub data FirstLine (line rest text : List ℕ) : Type 0 where
   Fed : text ≡ line ++ 10 ∷ rest → NoFeed line → ends_in_return line ≡ false → FirstLine line rest text
@@ -50,7 +50,7 @@ abbrev pub is_unended : Opener → List ℕ → Bool
 is_unended opener [] = true
 is_unended opener (b ∷ rest) = not (ends_field opener b) && is_unended (opener_after opener b) rest
 
--- the fields of a line, each with a comma behind it, and what stands behind the last comma
+-- the fields of a line, each with a comma after it, and what stands after the last comma
 abbrev pub HasFields : List (List ℕ) → List ℕ → List ℕ → Type 0
 HasFields [] last line = (line ≡ last) × IsTrue (is_unended Nothing last)
 HasFields (field ∷ fields) last line = (rest : List ℕ) × (line ≡ field ++ 44 ∷ rest) × IsTrue (is_one_field Nothing field) × HasFields fields last rest
@@ -75,8 +75,8 @@ abbrev pub begins_field : List ℕ → Bool
 begins_field [] = false
 begins_field (b ∷ rest) = not (is_white b) && not (b == 46)
 
--- What stands before a comma says: nothing where it is white space or, behind white space, begins with a
--- period; else what the field behind the white space says.
+-- What stands before a comma says: nothing where it is white space or, after white space, begins with a
+-- period; else what the field after the white space says.
 pub data PartSays (part : List ℕ) (reading : Reading) : Type 0 where
   Blank : White part → reading ≡ Skipped → PartSays part reading
   Commented : (white rest : List ℕ) → White white → part ≡ white ++ 46 ∷ rest → reading ≡ Skipped → PartSays part reading
@@ -87,7 +87,7 @@ abbrev pub Grows : ℕ → RawEntry → List (List ℕ) → RawEntry → Type 0
 Grows number raw [] grown = grown ≡ raw
 Grows number raw (part ∷ parts) grown = (reading : Reading) × PartSays part reading × Grows number (with_reading number raw reading) parts grown
 
--- a further line: behind its last comma stands white space alone
+-- a further line: after its last comma stands white space alone
 pub record FurtherLine (number : ℕ) (raw : RawEntry) (line : List ℕ) (grown : RawEntry) : Type 0 where
   pub fields : List (List ℕ)
   pub last : List ℕ
@@ -106,14 +106,14 @@ pub record EntryLine (number : ℕ) (line : List ℕ) (entry : RawEntry) : Type 
   pub short : length names ≤ 4095
   pub grows : Grows number (new_entry number names) fields entry
 
--- A line behind an entry that is open, and what the lines behind it stand for: comments and lines of white
+-- A line after an entry that is open, and what the lines after it stand for: comments and lines of white
 -- space are passed over, a line that begins with white space goes on with the entry, any other begins one.
 pub data LineStands (number : ℕ) (open_entry : Option RawEntry) (line : List ℕ) (entries : List RawEntry) (Behind : Option RawEntry → List RawEntry → Type 0) : Type 0 where
   Passed : is_passed line ≡ true → Behind open_entry entries → LineStands number open_entry line entries Behind
   Further : (raw grown : RawEntry) → is_passed line ≡ false → begins_white line ≡ true → open_entry ≡ Some raw → FurtherLine number raw line grown → Behind (Some grown) entries → LineStands number open_entry line entries Behind
   Begins : (entry : RawEntry) (others : List RawEntry) → is_passed line ≡ false → begins_white line ≡ false → EntryLine number line entry → entries ≡ option_to_list open_entry ++ others → Behind (Some entry) others → LineStands number open_entry line entries Behind
 
--- the lines from this number on, behind an entry that is open, stand for these entries
+-- the lines from this number on, after an entry that is open, stand for these entries
 abbrev pub Stand : ℕ → List (List ℕ) → Option RawEntry → List RawEntry → Type 0
 Stand number [] open_entry entries = entries ≡ option_to_list open_entry
 Stand number (line ∷ lines) open_entry entries = LineStands number open_entry line entries (Stand (number + 1) lines)
@@ -148,6 +148,6 @@ pub record FirstFault (lines : List (List ℕ)) (fault : SourceFault) : Type 0 w
   pub fine : Stand 1 before None entries
   pub stuck : (others : List RawEntry) → Stand 1 (before ++ line ∷ []) None others → ⊥
 
--- and the fault is told of that line
+-- and the fault is reported for that line
 abbrev pub FaultIsFirst : Type 0
 FaultIsFirst = (text : List ℕ) (fault : SourceFault) (lines : List (List ℕ)) → length text ≤ 16777216 → HasLines lines text → source_of text ≡ Err fault → FirstFault lines fault

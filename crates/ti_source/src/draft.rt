@@ -7,16 +7,12 @@ ghost use Rattle.ti_source.specs.Fields.{cap_of, is_told, repeats, note, with_no
 ghost use Rattle.ti_source.specs.Layout.{cut_of};
 ghost use Rattle.ti_source.specs.Source.{Gives};
 
-use crate::escapes::MAX_STRING;
 use crate::layout::{cut_field, is_blank};
 use crate::parts::{Reading, ended_reading, reading_of};
 use crate::types::{FaultKind, Field, Fields, Note, NoteKind, Notes, RawEntry};
 use std::alloc::{AllocError, Global};
 use std::marker::Model;
-use ti_caps::{Bytes, Cap, Kind, kind, position};
-
-/// How many capabilities there are.
-const CAPABILITIES: usize = 497;
+use ti_caps::{Bytes, CAPABILITIES, Cap, LONGEST};
 
 /// An entry as far as it has been read, and which capabilities its fields are on.
 #[derive(Drop)]
@@ -35,20 +31,6 @@ impl Model for Draft {
     ghost view = { λ d. d.entry };
 
     ghost invariant = { λ d. IsSeen d.entry.fields d.seen };
-}
-
-/// The place of a capability among all of them.
-#[tactic(auto, unfolding(ti_caps::specs::Table::place_from))]
-fn place(cap: Cap) -> usize
-    ensures value { result ≡ cap }
-    ensures range { result < 497 }
-{
-    let first = match kind(cap) {
-        Kind::Flag => 0,
-        Kind::Number => 44,
-        Kind::String => 83,
-    };
-    first + position(cap)
 }
 
 /// The capability that a field is on.
@@ -89,7 +71,7 @@ impl Draft {
     fn is_told(&self, cap: Cap) -> bool
         ensures { result ≡ is_told self.now.fields cap }
     {
-        self.seen[place(cap)]
+        self.seen[cap.place()]
     }
 
     fn repeats(&self, field: &Field) -> bool
@@ -122,7 +104,7 @@ impl Draft {
         let cap = cap_of(&field);
         self.entry.fields.push(field)?;
         if let Some(cap) = cap {
-            self.seen[place(cap)] = true;
+            self.seen[cap.place()] = true;
         }
         Ok(())
     }
@@ -151,7 +133,7 @@ impl Draft {
         }
     }
 
-    /// A field with a comma behind it.
+    /// A field with a comma after it.
     #[tactic(auto, unfolding(crate::specs::Fields::add_field))]
     fn add_part(&mut self, alloc: Global, line: u32, part: &[u8]) -> Result<(), FaultKind>
         ensures { Gives (λ _. self.new) result (add_field line self.old part.now) }
@@ -161,7 +143,7 @@ impl Draft {
             .map_err(|_| FaultKind::NoMemory)
     }
 
-    /// What stands behind the last comma.
+    /// What stands after the last comma.
     #[tactic(auto, unfolding(crate::specs::Fields::add_last))]
     fn add_last(&self, alloc: Global, part: &[u8]) -> Result<(), FaultKind>
         ensures { Gives (λ _. self.now) result (add_last self.now part.now) }
@@ -173,7 +155,7 @@ impl Draft {
         Err(FaultKind::OpenField)
     }
 
-    /// The fields of a further line, or of what stands behind the names.
+    /// The fields of a further line, or of what stands after the names.
     pub(crate) fn add_parts(
         &mut self,
         alloc: Global,
@@ -222,13 +204,13 @@ fn named_entry(alloc: Global, line: u32, names: &[u8]) -> Result<Draft, FaultKin
     if is_no_name(names) {
         return Err(FaultKind::NoName);
     }
-    if names.len() > MAX_STRING {
+    if names.len() > LONGEST {
         return Err(FaultKind::TooLong);
     }
     Draft::new(alloc, line, names).map_err(|_| FaultKind::NoMemory)
 }
 
-/// Names without a comma behind them.
+/// Names without a comma after them.
 fn open_names(names: &[u8]) -> Result<Draft, FaultKind>
     ensures { Gives (λ draft. draft) result (open_names names.now) }
 {

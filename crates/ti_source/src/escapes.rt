@@ -5,9 +5,7 @@ ghost use Rattle.ti_source.specs.Escapes.{stored, plain, is_octal, letter_value,
 
 use std::alloc::{AllocError, Global};
 use thiserror::Error;
-
-/// The most bytes that a string has.
-pub(crate) const MAX_STRING: usize = 4095;
+use ti_caps::LONGEST;
 
 /// Why a string cannot be taken out of its escapes.
 #[derive(Clone, Copy, Debug, PartialEq, Eq, Error)]
@@ -185,7 +183,7 @@ pub(crate) fn decode(alloc: Global, text: &[u8]) -> Result<Option<Decoded>, Allo
 
 /// The bytes that the value of a string stands for, by the escapes of terminfo(5). A comma stands for itself.
 ///
-/// `BadEscape` where an escape has no end, which is told before `TooLong`, for an answer of more than 4095
+/// `BadEscape` where an escape has no end, which is reported before `TooLong`, for an answer of more than 4095
 /// bytes.
 #[tactic(auto, unfolding(crate::specs::Escapes::unescaped))]
 pub fn unescape(alloc: Global, text: &[u8]) -> Result<Vec<u8>, EscapeFault>
@@ -195,7 +193,7 @@ pub fn unescape(alloc: Global, text: &[u8]) -> Result<Vec<u8>, EscapeFault>
     let Some(decoded) = decode(alloc, text).map_err(|_| EscapeFault::NoMemory)? else {
         return Err(EscapeFault::BadEscape);
     };
-    if decoded.bytes.len() > MAX_STRING {
+    if decoded.bytes.len() > LONGEST {
         return Err(EscapeFault::TooLong);
     }
     let Decoded { bytes, odd: _ } = decoded;

@@ -15,7 +15,7 @@ pub(crate) enum Mark {
     Equals,
 }
 
-/// What stands before a place of a text, and what stands behind the byte there.
+/// What stands before a place of a text, and what stands after the byte there.
 fn around(bytes: &[u8], at: usize) -> (&[u8], &[u8])
     requires { at < length bytes.now }
     ensures front { result.0.now ≡ take at bytes.now }
@@ -50,7 +50,7 @@ fn without_return(line: &[u8]) -> &[u8]
     }
 }
 
-/// The first line of a text, and what stands behind it. None where the text is empty.
+/// The first line of a text, and what stands after it. None where the text is empty.
 #[tactic(auto, using(crate::proofs::Layouts::line_cut, crate::proofs::Layouts::line_whole, crate::proofs::Tests::filled))]
 pub(crate) fn cut_line(text: &[u8]) -> Option<(&[u8], &[u8])>
     ensures found { IfSome result (λ x. lines_of text.now ≡ x.0.now ∷ lines_of x.1.now) }
@@ -129,7 +129,7 @@ fn field_end(line: &[u8]) -> Option<usize>
     None
 }
 
-/// The first field of a line that ends with a comma, and what stands behind the comma.
+/// The first field of a line that ends with a comma, and what stands after the comma.
 #[tactic(auto, using(crate::proofs::Layouts::field_cut, crate::proofs::Layouts::field_whole))]
 pub(crate) fn cut_field(line: &[u8]) -> Option<(&[u8], &[u8])>
     ensures found { IfSome result (λ x. cut_of line.now ≡ put_field x.0.now (cut_of x.1.now)) }
@@ -153,7 +153,7 @@ fn mark_of(byte: u8) -> Option<Mark>
     }
 }
 
-/// The name in a field, its first mark and what stands behind the mark. None where there is no mark.
+/// The name in a field, its first mark and what stands after the mark. None where there is no mark.
 pub(crate) fn marked(field: &[u8]) -> Option<(&[u8], Mark, &[u8])>
     ensures { option_map (λ m. marked_with m.0.now m.1 m.2.now) result ≡ marked_in field.now }
 {

@@ -3,6 +3,7 @@
 
 mod draft;
 mod escapes;
+mod hints;
 mod layout;
 mod numbers;
 mod parts;
@@ -11,6 +12,7 @@ mod source;
 mod types;
 
 pub use escapes::{EscapeFault, unescape};
+pub use hints::{Hint, percent_carets};
 pub use printing::{print, printing_reads_back};
 pub use source::{read, reading_is_the_relation};
 pub use types::{FaultKind, Field, Fields, Note, NoteKind, Notes, RawEntry, SourceFault};

@@ -6,9 +6,7 @@ ghost use Rattle.ti_source.specs.Source.{Gives};
 
 use crate::layout::trim_end;
 use crate::types::FaultKind;
-
-/// The greatest number.
-const GREATEST: u32 = 2_147_483_647;
+use ti_caps::GREATEST;
 
 fn digit_value(byte: u8) -> Option<u8>
     ensures { result ≡ digit_value byte }
@@ -93,7 +91,7 @@ fn spelled_number(text: &[u8]) -> Option<u32>
     }
 }
 
-/// The number that stands behind a `#`.
+/// The number that stands after a `#`.
 #[tactic(auto, unfolding(crate::specs::Numbers::number_of))]
 pub(crate) fn number_of(value: &[u8]) -> Result<u32, FaultKind>
     ensures given { Gives (λ n. n) result (number_of value.now) }

@@ -1,19 +1,18 @@
 //! What a field says.
 
 ghost use Rattle.std.specs.Prelude.{◌≡◌, ◌++◌, ◌∷◌, [], IfOk, option_map, Some};
-ghost use Rattle.ti_caps.specs.Table.{kind_of};
-ghost use Rattle.ti_source.specs.Fields.{is_kind, is_use, flag_reading, number_reading, string_reading, known_reading, named_reading, marked_reading, split_reading, is_skipped, trimmed_reading, reading_of, is_long, bounded_reading, ended_reading};
+ghost use Rattle.ti_source.specs.Fields.{is_use, flag_reading, number_reading, string_reading, known_reading, named_reading, marked_reading, split_reading, is_skipped, trimmed_reading, reading_of, is_long, bounded_reading, ended_reading};
 ghost use Rattle.ti_source.specs.Layout.{marked_in};
 ghost use Rattle.ti_source.specs.declared.parts.Reading.TheVariants.{Says};
 ghost use Rattle.ti_source.specs.declared.types.Field.TheVariants.{Include};
 ghost use Rattle.ti_source.specs.Source.{Gives};
 
-use crate::escapes::{Decoded, MAX_STRING, decode};
+use crate::escapes::{Decoded, decode};
 use crate::layout::{Mark, marked, skip_white, trim_end};
 use crate::numbers::number_of;
 use crate::types::{FaultKind, Field};
 use std::alloc::{AllocError, Global};
-use ti_caps::{Bytes, Cap, Kind, Value, by_name, kind};
+use ti_caps::{Bytes, Cap, Kind, LONGEST, Value, by_name, is_kind};
 
 /// What stands between two commas.
 #[derive(Drop)]
@@ -24,12 +23,6 @@ pub(crate) enum Reading {
     Unknown,
     /// A field, and how many odd escapes its string has.
     Says(Field, usize),
-}
-
-fn is_kind(cap: Cap, wanted: Kind) -> bool
-    ensures { result ≡ is_kind (kind_of cap) wanted }
-{
-    kind(cap) == wanted
 }
 
 fn is_use(name: &[u8]) -> bool
@@ -133,7 +126,7 @@ fn split_reading(alloc: Global, field: &[u8]) -> Result<Reading, FaultKind>
     }
 }
 
-fn is_skipped(field: &[u8]) -> bool
+pub(crate) fn is_skipped(field: &[u8]) -> bool
     ensures { result ≡ is_skipped field.now }
 {
     match field {
@@ -159,7 +152,7 @@ fn is_long(reading: &Reading) -> bool
 {
     match reading {
         Reading::Says(Field::Set(_, Value::String(bytes)), _) => bytes.as_slice().len()
-            > MAX_STRING,
+            > LONGEST,
         _ => false,
     }
 }

@@ -1,16 +1,15 @@
 //! Printing an entry.
 
 ghost use Rattle.std.specs.Prelude.{◌≡◌, ◌<◌, ◌/◌, ◌%◌, ◌+◌, ◌++◌, ◌∷◌, [], Ok, IfOk, OnOk, decimal, ◌&&◌, nat_le};
-ghost use Rattle.ti_source.specs.Fields.{is_kind};
 ghost use Rattle.ti_caps.specs.declared.types.Kind.TheVariants as kinds;
 ghost use Rattle.ti_caps.specs.Entry.{IsEntry, value_at};
-ghost use Rattle.ti_caps.specs.Table.{kind_of, name_at, place_of_rank};
+ghost use Rattle.ti_caps.specs.Table.{name_at, place_of_rank};
 ghost use Rattle.ti_source.specs.Printed.{PrintsJust, ReadsBack, raw_of};
 ghost use Rattle.ti_source.specs.Source.{source_of};
 ghost use Rattle.ti_source.specs.Printing.{letter_for, octal, spelled_with, spelled, string_text, value_text, field_text, place_text, rank_text, ranks_text, kind_text, text_of};
 
 use std::alloc::{AllocError, Global};
-use ti_caps::{Cap, Entry, Kind, Value, at_rank, kind, name};
+use ti_caps::{CAPABILITIES, Cap, Entry, Kind, Value, at_rank, is_kind, name};
 
 /// What a backslash stands before in place of a byte.
 fn letter_for(byte: u8) -> Option<u8>
@@ -79,7 +78,7 @@ fn push_number(alloc: Global, text: &mut Vec<u8>, number: u32) -> Result<(), All
     text.extend_from_slice(digits.as_bytes())
 }
 
-/// What stands behind a name.
+/// What stands after a name.
 fn push_value(alloc: Global, text: &mut Vec<u8>, value: &Value) -> Result<(), AllocError>
     ensures { OnOk result (text.new.items ≡ text.old.items ++ value_text value.now) }
 {
@@ -117,12 +116,6 @@ fn push_place(alloc: Global, text: &mut Vec<u8>, entry: &Entry, cap: Cap) -> Res
     }
 }
 
-fn is_of_kind(cap: Cap, wanted: Kind) -> bool
-    ensures { result ≡ is_kind (kind_of cap) wanted }
-{
-    kind(cap) == wanted
-}
-
 /// The field of the capability whose name has this rank, if it is of this kind.
 #[tactic(auto, unfolding(crate::specs::Printing::rank_text, ti_caps::specs::Table::place_ranked))]
 fn push_rank(
@@ -136,7 +129,7 @@ fn push_rank(
     ensures { OnOk result (text.new.items ≡ text.old.items ++ rank_text entry.now kind rank) }
 {
     match at_rank(rank) {
-        Some(cap) if is_of_kind(cap, kind) => push_place(alloc, text, entry, cap),
+        Some(cap) if is_kind(cap, kind) => push_place(alloc, text, entry, cap),
         _ => Ok(()),
     }
 }
@@ -146,13 +139,13 @@ fn push_rank(
 fn push_kind(alloc: Global, text: &mut Vec<u8>, entry: &Entry, kind: Kind) -> Result<(), AllocError>
     ensures { OnOk result (text.new.items ≡ text.old.items ++ kind_text entry.now kind) }
 {
-    for rank in 0..497 {
+    for rank in 0..CAPABILITIES {
         push_rank(alloc, text, entry, kind, rank)?;
     }
     Ok(())
 }
 
-/// The names on a line, and behind them flags, numbers and strings.
+/// The names on a line, and after them flags, numbers and strings.
 #[tactic(auto, unfolding(crate::specs::Printing::text_of))]
 fn text(alloc: Global, entry: &Entry) -> Result<Vec<u8>, AllocError>
     ensures value { IfOk result (λ v. v.items ≡ text_of entry.now) }
@@ -169,7 +162,7 @@ fn text(alloc: Global, entry: &Entry) -> Result<Vec<u8>, AllocError>
 /// The entry as a source text of terminfo(5): its names on a line, then a line for each capability, flags,
 /// numbers and strings, each kind in the order of the names' bytes. Reading it gives the entry back.
 ///
-/// The error is want of memory.
+/// The error is out of memory.
 #[tactic(auto, using(crate::proofs::Lengths::reads_back))]
 pub fn print(alloc: Global, entry: &Entry) -> Result<Vec<u8>, AllocError>
     ensures text { IfOk result (λ v. v.items ≡ text_of entry.now) }

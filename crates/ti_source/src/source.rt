@@ -31,13 +31,13 @@ fn is_comment(line: &[u8]) -> bool
     }
 }
 
-fn is_passed(line: &[u8]) -> bool
+pub(crate) fn is_passed(line: &[u8]) -> bool
     ensures { result ≡ is_passed line.now }
 {
     is_blank(line) || is_comment(line)
 }
 
-fn begins_white(line: &[u8]) -> bool
+pub(crate) fn begins_white(line: &[u8]) -> bool
     ensures { result ≡ begins_white line.now }
 {
     match line {
@@ -108,7 +108,7 @@ impl Reader {
 
 /// The entries of a source text of terminfo(5), each with notes on what is odd in it.
 ///
-/// The error is the first fault of the text. `TooLong` of line 0 says that the text has more than 16777216
+/// The error is the first fault of the text. `TooLong` of line 0 means that the text has more than 16777216
 /// bytes; `NoMemory` can come at any line.
 #[tactic(auto, using(crate::proofs::Fitting::entries_fit), unfolding(crate::specs::Source::source_of))]
 pub fn read(alloc: Global, text: &[u8]) -> Result<Vec<RawEntry>, SourceFault>
@@ -146,7 +146,7 @@ pub fn read(alloc: Global, text: &[u8]) -> Result<Vec<RawEntry>, SourceFault>
 }
 
 /// A law: what reading answers is what the relation between texts and entries allows, and nothing else;
-/// and a fault is told of the first line up to which there are no such entries.
+/// and a fault is reported for the first line up to which there are no such entries.
 pub fn reading_is_the_relation()
     ensures read { ReadIsRelated }
     ensures related { RelatedIsRead }

@@ -28,10 +28,10 @@ pub enum FaultKind {
     /// An escape in a string that has no end.
     #[error("BadEscape")]
     BadEscape,
-    /// Names or a string of more than 4095 bytes, or a text of more than 16777216, which is told of line 0.
+    /// Names or a string of more than 4095 bytes, or a text of more than 16777216, which is reported for line 0.
     #[error("TooLong")]
     TooLong,
-    /// The allocator refused.
+    /// Out of memory: the allocator refused.
     #[error("NoMemory")]
     NoMemory,
 }
@@ -107,7 +107,7 @@ impl Fields {
         self.fields.as_slice()
     }
 
-    /// One more field. The error is want of memory, and then nothing has changed.
+    /// One more field. The error is out of memory, and then nothing has changed.
     pub fn push(&mut self, field: Field) -> Result<(), AllocError>
         ensures ok { OnOk result (self.new ≡ self.old ++ field ∷ []) }
         ensures err { OnErr result (self.new ≡ self.old) }
@@ -163,7 +163,7 @@ impl Notes {
         self.notes.as_slice()
     }
 
-    /// One more note. The error is want of memory, and then nothing has changed.
+    /// One more note. The error is out of memory, and then nothing has changed.
     pub fn push(&mut self, note: Note) -> Result<(), AllocError>
         ensures ok { OnOk result (self.new ≡ self.old ++ note ∷ []) }
         ensures err { OnErr result (self.new ≡ self.old) }

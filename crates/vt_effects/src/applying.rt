@@ -3,7 +3,7 @@ ghost use Rattle.vt_effects.specs.Effect as spec;
 ghost use Rattle.vt_term.specs.Look.{blank};
 
 use crate::effects::{Effect, Erasure, Ink, Move, Region, Rendering, Scroll, Sets, Switch};
-use vt_term::{Charset, Color, Function, EraseExtent, Rendition, Settings, Terminal};
+use vt_term::{Charset, Color, EraseExtent, Function, Rendition, Settings, Terminal};
 
 /// Applies an effect to a terminal. That the moves stay on the screen, and that the margins, if it
 /// sets them, are in order and on the screen, is the caller's condition. What is open of a sequence

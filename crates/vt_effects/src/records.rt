@@ -348,7 +348,12 @@ fn mode_set(effect: Effect, kind: ModeKind, on: bool, number: u16) -> Option<Eff
     }
 }
 
-fn modes_set(mut effect: Effect, kind: ModeKind, on: bool, numbers: &[Option<u16>]) -> Option<Effect>
+fn modes_set(
+    mut effect: Effect,
+    kind: ModeKind,
+    on: bool,
+    numbers: &[Option<u16>],
+) -> Option<Effect>
     ensures { result ≡ spec.modes_set kind on numbers.now effect }
 {
     for number in numbers {

@@ -1,12 +1,14 @@
 //! `Display`: the cells, the cursor and the modes, and what each function does to them.
 
-ghost use Rattle.std.specs.Prelude.{◌≡◌, ◌==◌, ◌+◌, ◌-◌, ◌^◌, ◌<◌, ◌≤◌, min, max, nat_le, if◌then◌else◌, IfOk};
+ghost use Rattle.std.specs.Prelude.{◌≡◌, ◌==◌, ◌+◌, ◌-◌, ◌^◌, ◌<◌, ◌≤◌, min, max, nat_le, ◌&&◌, if◌then◌else◌, length, take, IfOk};
+ghost use Rattle.std.specs.List.{AllByRecursion};
 ghost use Rattle.vt_screen.specs.Grid.{look_at};
 ghost use Rattle.vt_screen.specs.Step as spec;
 ghost use Rattle.vt_screen.specs.Look.{IsPrinted};
 
 use crate::cells::Cell;
 use crate::functions::{CodeElement, EraseExtent, Function, ModeKind};
+use crate::pens::{Ink, Pen};
 use crate::printing;
 use crate::renditions::{Rendition, color_of};
 use crate::sizes::Size;
@@ -63,7 +65,7 @@ pub struct Display {
     row: usize,
     col: usize,
     pending: bool,
-    rendition: Rendition,
+    pen: Pen,
     charset: Charset,
     top: usize,
     bottom: usize,
@@ -84,7 +86,7 @@ impl Model for Display {
       row = d.row;
       col = d.col;
       pending = d.pending;
-      rendition = d.rendition;
+      rendition = d.pen;
       charset = d.charset;
       top = d.top;
       bottom = d.bottom;
@@ -100,7 +102,7 @@ impl Model for Display {
       row = d.row;
       col = d.col;
       pending = d.pending;
-      rendition = d.rendition;
+      rendition = d.pen;
       charset = d.charset;
       top = d.top;
       bottom = d.bottom;
@@ -127,7 +129,7 @@ impl Display {
             row: 0,
             col: 0,
             pending: false,
-            rendition: Rendition::plain(),
+            pen: Pen::new(Rendition::plain()),
             charset: Charset {
                 g0_graphic: false,
                 g1_graphic: false,
@@ -178,7 +180,7 @@ impl Display {
     pub fn rendition(&self) -> Rendition
         ensures { result ≡ self.now.rendition }
     {
-        self.rendition
+        self.pen.rendition()
     }
 
     /// Whether the cursor can be seen.
@@ -196,7 +198,7 @@ impl Display {
             row: self.row,
             col: self.col,
             pending: self.pending,
-            rendition: self.rendition,
+            rendition: self.pen.rendition(),
             charset: self.charset,
             top: self.top,
             bottom: self.bottom,
@@ -215,7 +217,7 @@ impl Display {
         self.row = settings.row;
         self.col = settings.col;
         self.pending = settings.pending;
-        self.rendition = settings.rendition;
+        self.pen = Pen::new(settings.rendition);
         self.charset = settings.charset;
         self.top = settings.top;
         self.bottom = settings.bottom;
@@ -250,7 +252,7 @@ impl Display {
         requires within { bottom < self.old.rows }
         ensures { self.new ≡ spec.lines_up top bottom n self.old }
     {
-        let blank = Cell::blank(self.rendition);
+        let blank = self.pen.blank();
         self.grid.scroll_up(top, bottom, n, blank);
     }
 
@@ -260,7 +262,7 @@ impl Display {
         requires within { bottom < self.old.rows }
         ensures { self.new ≡ spec.lines_down top bottom n self.old }
     {
-        let blank = Cell::blank(self.rendition);
+        let blank = self.pen.blank();
         self.grid.scroll_down(top, bottom, n, blank);
     }
 
@@ -317,14 +319,14 @@ impl Display {
     fn insert_cells(&mut self, n: u16)
         ensures { self.new ≡ spec.inserted n self.old }
     {
-        let blank = Cell::blank(self.rendition);
+        let blank = self.pen.blank();
         self.grid.insert(self.row, self.col, n as usize, blank);
     }
 
     fn delete_cells(&mut self, n: u16)
         ensures { self.new ≡ spec.deleted n self.old }
     {
-        let blank = Cell::blank(self.rendition);
+        let blank = self.pen.blank();
         self.grid.delete(self.row, self.col, n as usize, blank);
     }
 
@@ -341,8 +343,8 @@ impl Display {
         requires { IsPrinted byte }
         ensures { self.new ≡ spec.placed byte self.old }
     {
-        let graphic = self.charset.is_graphic() & (byte >= 95);
-        self.grid.set(self.row, self.col, Cell::new(byte, graphic, self.rendition));
+        let cell = self.pen.cell(byte, self.charset.is_graphic());
+        self.grid.set(self.row, self.col, cell);
         self.pending = (self.col + 1 == self.size.cols) & self.autowrap;
         self.col = (self.col + 1).min(self.size.cols - 1);
     }
@@ -354,6 +356,27 @@ impl Display {
         self.wrap();
         self.open();
         self.place(byte);
+    }
+
+    /// Prints the characters at the front of these bytes, as many as the cursor's line has room for, and none where
+    /// the first would wrap or insert. Returns how many.
+    pub fn print_front(&mut self, bytes: &[u8]) -> usize
+        ensures within { result ≤ length bytes.now }
+        ensures printed { AllByRecursion IsPrinted (take result bytes.now) }
+        ensures screen { self.new ≡ spec.all_printed (take result bytes.now) self.old }
+    {
+        if self.pending | self.inserting {
+            return 0;
+        }
+        let n = characters_before(bytes, self.size.cols - self.col);
+        let ink = Ink {
+            pen: &self.pen,
+            graphic: self.charset.is_graphic(),
+        };
+        self.grid.write(self.row, self.col, &bytes[..n], &ink);
+        self.pending = (self.col + n == self.size.cols) & self.autowrap;
+        self.col = (self.col + n).min(self.size.cols - 1);
+        n
     }
 
     fn tab(&mut self)
@@ -415,7 +438,7 @@ impl Display {
         requires within { to ≤ self.old.cols }
         ensures { self.new ≡ spec.part_erased from to self.old }
     {
-        let blank = Cell::blank(self.rendition);
+        let blank = self.pen.blank();
         self.grid.fill_part(self.row, from, to, blank);
     }
 
@@ -425,7 +448,7 @@ impl Display {
         requires within { to ≤ self.old.rows }
         ensures { self.new ≡ spec.lines_erased from to self.old }
     {
-        let blank = Cell::blank(self.rendition);
+        let blank = self.pen.blank();
         self.grid.fill_lines(from, to, blank);
     }
 
@@ -524,7 +547,8 @@ impl Display {
     fn select_rendition(&mut self, numbers: &[Option<u16>])
         ensures { self.new ≡ spec.act (Function.SelectRendition numbers.now) self.old }
     {
-        self.rendition = all_rendered(self.rendition, numbers);
+        let rendition = all_rendered(self.pen.rendition(), numbers);
+        self.pen = Pen::new(rendition);
     }
 
     fn set_mode(&mut self, kind: ModeKind, on: bool, number: u16)
@@ -692,4 +716,26 @@ fn all_rendered(mut now: Rendition, numbers: &[Option<u16>]) -> Rendition
         now = rendered(now, number.unwrap_or(0));
     }
     now
+}
+
+/// How many characters these bytes begin with, at most `limit`.
+fn characters_before(bytes: &[u8], limit: usize) -> usize
+    ensures within { result ≤ length bytes.now }
+    ensures few { result ≤ limit }
+    ensures printed { AllByRecursion IsPrinted (take result bytes.now) }
+{
+    let end = bytes.len().min(limit);
+    for k in 0..end {
+        if !is_printed(bytes[k]) {
+            return k;
+        }
+    }
+    end
+}
+
+/// Whether the byte is a character that has a picture.
+fn is_printed(byte: u8) -> bool
+    ensures { result ≡ (nat_le 32 byte && nat_le byte 126) }
+{
+    (32..=126).contains(&byte)
 }

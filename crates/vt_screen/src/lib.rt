@@ -6,6 +6,7 @@ mod cells;
 mod displays;
 mod functions;
 mod marks;
+mod pens;
 mod printing;
 mod renditions;
 mod sizes;

@@ -56,7 +56,7 @@ of_one_number_acts f [] = tt
 of_one_number_acts f (n ∷ []) = by_number_acts f n
 of_one_number_acts f (n ∷ m ∷ ns) = tt
 
-of_numbers_acts : (f : ℕ) (ns : List (Option ℕ)) → CanAct (of_numbers f ns)
+pub of_numbers_acts : (f : ℕ) (ns : List (Option ℕ)) → CanAct (of_numbers f ns)
 of_numbers_acts f ns = either_acts ((f == 72) || (f == 102)) (cursor_position ns) _ (λ e. cursor_position_acts ns) (either_acts (f == 114) (margins ns) _ (λ e. margins_acts ns)
     (either_acts (f == 109) (SelectRendition ns) _ (λ e. tt) (either_acts (f == 104) (Modes Standard true ns) _ (λ e. tt) (either_acts (f == 108) (Modes Standard false ns) _ (λ e. tt) (of_one_number_acts f ns)))))
 

@@ -9,3 +9,5 @@ pub mod Scanning
 pub mod Dropping
 pub mod Running
 pub mod Moving
+pub mod Charsets
+pub mod AtOnce

@@ -79,7 +79,7 @@ parted stage ns bytes e h = elim e [
 ]
 
 -- whole control sequences by their parts
-sequence_push : (front : List ℕ) (b : ℕ) → sequence (front ++ b ∷ []) ≡ named b front
+pub sequence_push : (front : List ℕ) (b : ℕ) → sequence (front ++ b ∷ []) ≡ named b front
 sequence_push front b =
     let n : length (front ++ b ∷ []) - 1 ≡ length front = omega (arith, length-append front (b ∷ [])) in
     let l : slice_index (front ++ b ∷ []) (length (front ++ b ∷ []) - 1) ≡ b = get_or_at front b [] 0 _ (sym n) in
@@ -157,7 +157,7 @@ told stage ns bytes seen f t e h =
     h t.0 t.3 (subst IsWhole (sym whole) t.4) ∙ ap function_of whole
 
 -- one byte more
-list_all_push : (front : List ℕ) (b : ℕ) (c : Bool) → is_numeral b ≡ c → list_all is_numeral front ≡ true → list_all is_numeral (front ++ b ∷ []) ≡ c
+pub list_all_push : (front : List ℕ) (b : ℕ) (c : Bool) → is_numeral b ≡ c → list_all is_numeral front ≡ true → list_all is_numeral (front ++ b ∷ []) ≡ c
 list_all_push [] b c e h = grind (arith, e)
 list_all_push (d ∷ front) b c e h = behind_true (is_numeral d) (list_all is_numeral front) (list_all is_numeral (front ++ b ∷ [])) c h (λ k. list_all_push front b c e k)
   where

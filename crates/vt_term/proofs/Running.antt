@@ -1,15 +1,18 @@
 -- Runs, one after another.
 use Rattle.std.proofs.Common.{◌≡◌, ℕ, ◌+◌, ◌<◌, ◌≤◌, List, [], ◌∷◌, ◌++◌, length, take, drop, get_or, ◌-◌, Option, None, Some, IfSome, zero, suc, inl, inr, length-append, refl, sym, ap, subst, ◌∙◌, arith, append_assoc}
 use Rattle.std.proofs.lemmas.Bool.{cases_lt}
-use Rattle.std.proofs.lemmas.List.{append-nil, take-take, take-append-drop, take_all, take_more, get_or_read}
+use Rattle.std.proofs.lemmas.List.{append-nil, take-take, take-append-drop, take_all, take_more, get_or_read, drop-take, length-drop}
 use Rattle.vt_screen.specs.Screen.{Screen, IsScreen}
 use Rattle.vt_screen.proofs.Keeps.{Kept}
 use Rattle.vt_term.specs.Screen.{State, IsOfSize}
 use Rattle.vt_term.specs.Text.{IsOpen, Splits, IsSplit}
-use Rattle.vt_term.specs.Step.{step, steps}
+use Rattle.vt_term.specs.Function.{Function}
+use Rattle.vt_term.specs.Step.{act, step, steps}
+use Rattle.vt_term.proofs.Dropping.{open_ignored}
 use Rattle.vt_term.specs.Run.{Runs, Sticks, RunsCut, LeadsTo, Reaches}
 use Rattle.vt_term.proofs.Keeps.{steps_kept}
-use Rattle.vt_term.proofs.Splitting.{GoesOn, goes_on, one_splitting, splits_append, splits_front, splits_open}
+use Rattle.vt_term.specs.Fronts.{GoesOn}
+use Rattle.vt_term.proofs.Splitting.{goes_on, one_splitting, splits_append, splits_front, splits_open}
 
 pub steps_append : (ts us : List (List ℕ)) (s : Screen) → steps (ts ++ us) s ≡ steps us (steps ts s)
 steps_append [] us s = refl
@@ -155,3 +158,25 @@ pub whole_text_first : (s t : State) (a b : List ℕ) (ts : List (List ℕ)) →
 whole_text_first s t a b ts e h k =
     let c : RunsCut s a b t = runs_cut s t a b k in
     subst (λ (x : State). Runs x b t) (runs_once s (record { screen = steps ts s.screen; rest = [] }) c.between a (text_runs s a ts e h) c.runs_first) c.runs_second
+
+-- ESC drops what is open
+from_open : (x : Screen) (r : List ℕ) (t : State) (bytes : List ℕ) → IsOpen r → Runs (record { screen = x; rest = [] }) (27 ∷ bytes) t → Runs (record { screen = x; rest = r }) (27 ∷ bytes) t
+from_open x [] t bytes o h = h
+from_open x (y ∷ ys) t bytes o h = record {
+  tokens = (y ∷ ys) ∷ h.tokens;
+  splits = (27 ∷ bytes, refl, inr (record { some = omega arith; fits = o; cut = inl refl }), h.splits);
+  screen = h.screen ∙ ap (λ (z : Screen). steps h.tokens z) (sym (ap (λ (f : Function). act f x) (open_ignored (y ∷ ys) o)));
+}
+
+pub escape_drops : (s t : State) (bytes : List ℕ) → IsOpen s.rest → Runs (record s { rest = [] }) (27 ∷ bytes) t → Runs s (27 ∷ bytes) t
+escape_drops s t bytes o h = from_open s.screen s.rest t bytes o h
+
+take_plus : (n m : ℕ) (xs : List ℕ) → take (n + m) xs ≡ take n xs ++ take m (drop n xs)
+take_plus n m xs = sym (take-append-drop n (take (n + m) xs)) ∙ ap (λ (l : List ℕ). l ++ drop n (take (n + m) xs)) (take-take n (n + m) xs (omega arith)) ∙ ap (λ (l : List ℕ). take n xs ++ l) (drop-take n m xs)
+
+-- so many bytes of what is left are run after those before them
+pub runs_further : (s t u : State) (bytes : List ℕ) (n m : ℕ) → Runs s (take n bytes) t → Runs t (take m (take (length bytes - n) (drop n bytes))) u → Runs s (take (n + m) bytes) u
+runs_further s t u bytes n m h k =
+    let left : take (length bytes - n) (drop n bytes) ≡ drop n bytes = take_all (length bytes - n) (drop n bytes) (omega (arith, length-drop n bytes)) in
+    let runs : Runs t (take m (drop n bytes)) u = subst (λ (l : List ℕ). Runs t (take m l) u) left k in
+    subst (λ (l : List ℕ). Runs s l u) (sym (take_plus n m bytes)) (runs_append s t u (take n bytes) (take m (drop n bytes)) h runs)

@@ -1,6 +1,7 @@
 -- A text falls into tokens in one way at most, and so do its fronts.
 use Rattle.std.proofs.Common.{◌≡◌, ℕ, ◌<◌, ◌⊎◌, length, inl, inr, List, [], ◌∷◌, ◌++◌, refl, sym, ap, subst, ◌∙◌, arith, append_assoc}
 use Rattle.std.proofs.lemmas.List.{append-nil}
+use Rattle.vt_term.specs.Fronts.{GoesOn}
 use Rattle.vt_term.specs.Text.{Cuts, IsCutBy, IsOpen, IsWhole, IsToken, Splits, IsSplit}
 use Rattle.vt_term.proofs.Sequences.{token_ends, token_not_open, token_stays, token_before, open_front, token_front, empty_open, escape_open}
 
@@ -41,11 +42,6 @@ open_whole text [] r h s = (refl, sym s.0)
 open_whole text (t ∷ ts) r h s = absurd (token_not_open t s.0 s.2 (subst IsOpen s.1 h))
 
 -- the tokens of a longer text are those of the shorter one and those of what follows its rest
-pub record GoesOn (ts us : List (List ℕ)) (rest more q : List ℕ) : Type 0 where
-  pub later : List (List ℕ)
-  pub splits : Splits (rest ++ more) later q
-  pub tokens : us ≡ ts ++ later
-
 pub goes_on : (text : List ℕ) (ts us : List (List ℕ)) (r more q : List ℕ) → Splits text ts r → Splits (text ++ more) us q → GoesOn ts us r more q
 goes_on text [] us r more q s k = record { later = us; splits = subst (λ (l : List ℕ). Splits (l ++ more) us q) s.0 k; tokens = refl }
 goes_on text (t ∷ ts) [] r more q s k =

@@ -12,3 +12,5 @@ pub mod Fault
 pub mod Printed
 pub mod ParserStates
 pub mod Moving
+pub mod Charsets
+pub mod Fronts

@@ -1,10 +1,10 @@
 -- What each stage of the parser says of the bytes so far. Only the parser's own clauses cite this file.
-use Rattle.std.specs.Prelude.{◌≡◌, ◌≢◌, ℕ, ◌-◌, ◌<◌, ◌≤◌, ◌==◌, ◌&&◌, Bool, true, false, List, [], ◌∷◌, ◌++◌, length, slice_index, Option, None, Some}
+use Rattle.std.specs.Prelude.{◌≡◌, ◌≢◌, ℕ, ◌-◌, ◌<◌, ◌≤◌, ◌==◌, ◌&&◌, Bool, true, false, List, [], ◌∷◌, ◌++◌, length, take, slice_index, Option, None, Some}
 use Rattle.std.specs.List.{list_all}
 use Rattle.vt_term.specs.declared.parser.ParserState.{ParserState}
 use Rattle.vt_term.specs.declared.parser.ParserState.TheVariants.{Outside, Escape, DesignatesG0, DesignatesG1, Intermediate, Introduced, Parameters, PrivateParameters, OtherParameters, Closed}
 use Rattle.vt_term.specs.Parameters.{numbers, is_numeral}
-use Rattle.vt_term.specs.Text.{sequence_limit, IsIntermediate, IsOpen, IsWhole}
+use Rattle.vt_term.specs.Text.{sequence_limit, IsFinal, IsIntermediate, IsOpen, IsWhole}
 use Rattle.vt_term.specs.Function.{function_of}
 use Rattle.vt_screen.specs.declared.functions.Function.TheVariants.{Ignored}
 
@@ -66,6 +66,14 @@ pub record IsParsing (stage : ParserState) (ns : List (Option ℕ)) (count capac
   pub room : sequence_limit ≤ capacity
   pub fits : IsOpen bytes
   pub at : IsAt stage ns bytes
+
+-- the bytes begin with parameters of these numbers, and a final byte stands after them at this place
+pub record ReadsTo (bytes : List ℕ) (ns : List (Option ℕ)) (at final : ℕ) : Type 0 where
+  pub within : at < length bytes
+  pub numeral : list_all is_numeral (take at bytes) ≡ true
+  pub read : ns ≡ numbers (take at bytes)
+  pub last : final ≡ slice_index bytes at
+  pub ends : IsFinal final
 
 -- what is kept of a token tells its function
 abbrev pub IsTold : Option ParserState → List (Option ℕ) → List ℕ → Type 0

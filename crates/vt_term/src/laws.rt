@@ -1,8 +1,11 @@
 //! Laws of splitting and running, each for all states and texts.
 ghost use Rattle.std.specs.Prelude.{◌≡◌, ℕ, ◌+◌, List, [], ◌∷◌, ◌++◌, length};
-ghost use Rattle.vt_term.specs.Screen.{State, IsOfSize};
-ghost use Rattle.vt_term.specs.Text.{Splits, IsSplit};
-ghost use Rattle.vt_term.specs.Step.{steps};
+ghost use Rattle.vt_term.specs.Function.{Function};
+ghost use Rattle.vt_term.specs.Screen.{Screen, State, IsOfSize};
+ghost use Rattle.vt_term.specs.Text.{IsOpen, Splits, IsSplit};
+ghost use Rattle.vt_term.specs.Fronts.{GoesOn};
+ghost use Rattle.vt_term.specs.Charsets.{charset_after};
+ghost use Rattle.vt_term.specs.Step.{act, steps};
 ghost use Rattle.vt_term.specs.Run.{Runs, RunsCut, Sticks};
 
 /// A text falls into tokens and an open rest in one way at most.
@@ -73,4 +76,19 @@ pub fn whole_text_rests()
 /// To run a whole text and then another text is to run both as one.
 pub fn whole_text_first()
     ensures { (s t : State) (a b : List ℕ) (ts : List (List ℕ)) → s.rest ≡ [] → Splits a ts [] → Runs s (a ++ b) t → Runs (record { screen = steps ts s.screen; rest = [] }) b t }
+{}
+
+/// The tokens of a front of a text are a front of its tokens.
+pub fn front_tokens()
+    ensures { (front more : List ℕ) (ts us : List (List ℕ)) (rest last : List ℕ) → Splits front ts rest → Splits (front ++ more) us last → GoesOn ts us rest more last }
+{}
+
+/// ESC drops what is open: a text that begins with it runs as if nothing had been open.
+pub fn escape_drops()
+    ensures { (s t : State) (bytes : List ℕ) → IsOpen s.rest → Runs (record s { rest = [] }) (27 ∷ bytes) t → Runs s (27 ∷ bytes) t }
+{}
+
+/// SO, SI and SCS change the character sets as they say, and no other function changes them.
+pub fn steps_charset()
+    ensures { (f : Function) (s : Screen) → (act f s).charset ≡ charset_after f s.charset }
 {}

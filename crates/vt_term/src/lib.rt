@@ -9,6 +9,7 @@ mod parser;
 mod settings;
 mod terminals;
 mod tokenizing;
+mod whole_sequences;
 
 pub use terminals::{Stuck, Terminal};
 pub use tokenizing::{Token, TokenFault, TokenFaultKind, place_after, tokens};

@@ -14,14 +14,14 @@ use std::alloc::{AllocError, Global};
 use std::marker::Model;
 use vt_screen::{CodeElement, Function};
 
-const ESCAPE: u8 = 27;
+pub(crate) const ESCAPE: u8 = 27;
 
 const CANCEL: u8 = 24;
 
 const SUBSTITUTE: u8 = 26;
 
 /// The most bytes that a sequence has.
-const SEQUENCE_LIMIT: usize = 256;
+pub(crate) const SEQUENCE_LIMIT: usize = 256;
 
 /// What a byte does behind what is open.
 pub(crate) enum Transition {
@@ -139,6 +139,14 @@ impl Parser {
         self.stage = behind(self.stage, &mut self.numbers, byte);
         self.count += 1;
         self.open_bytes = self.open_bytes.then(&byte);
+    }
+
+    /// Whether nothing is open.
+    pub(crate) fn is_outside(&self) -> bool
+        ensures nothing { result ≡ true → self.now ≡ [] }
+        ensures begun { IsOpen self.now }
+    {
+        matches!(self.stage, ParserState::Outside)
     }
 
     /// Drops what is open.
@@ -314,7 +322,7 @@ fn read_numeral(numbers: &mut Vec<Option<u16>>, byte: u8)
 }
 
 /// The number with one more digit; above 65535 it stays there.
-fn with_digit(number: Option<u16>, digit: u8) -> u16
+pub(crate) fn with_digit(number: Option<u16>, digit: u8) -> u16
     requires low { 48 ≤ digit }
     requires high { digit ≤ 57 }
     ensures { result ≡ min 65535 (10 * unwrap_or number 0 + (digit - 48)) }

@@ -1,9 +1,11 @@
 //! `Terminal`: a display with a parser, fed with bytes.
 
-ghost use Rattle.std.specs.Prelude.{◌≡◌, ◌<◌, IfOk, IfErr, OnOk};
+ghost use Rattle.std.specs.Prelude.{◌≡◌, ◌<◌, ◌≤◌, ◌+◌, [], ◌∷◌, length, take, IfOk, IfErr, OnOk};
 ghost use Rattle.vt_screen.specs.Grid.{look_at};
 
-use crate::parser::{Parser, Transition};
+use crate::functions::of_numbers;
+use crate::parser::{ESCAPE, Parser, Transition};
+use crate::whole_sequences::read_parameters;
 use std::alloc::{AllocError, Global};
 use std::marker::Model;
 use thiserror::Error;
@@ -57,12 +59,68 @@ impl Terminal {
         ensures cols { self.new.screen.cols ≡ self.old.screen.cols }
     {
         let _ = &self.parser;
-        for (at, byte) in bytes.iter().enumerate() {
-            if !self.accept(*byte) {
+        let mut at = 0;
+        while at < bytes.len() {
+            let taken = self.take_front(&bytes[at..]);
+            if taken > 0 {
+                at += taken;
+            } else if self.accept(bytes[at]) {
+                at += 1;
+            } else {
                 return Err(Stuck { at });
             }
         }
         Ok(())
+    }
+
+    /// Takes at once what these bytes begin with, where nothing is open: the characters that the cursor's line has room
+    /// for, or a whole control sequence of parameters. Returns how many bytes it took, 0 if it took nothing.
+    fn take_front(&mut self, bytes: &[u8]) -> usize
+        ensures within { result ≤ length bytes.now }
+        ensures runs { Runs self.old (take result bytes.now) self.new }
+        ensures rows { self.new.screen.rows ≡ self.old.screen.rows }
+        ensures cols { self.new.screen.cols ≡ self.old.screen.cols }
+    {
+        if !self.parser.is_outside() {
+            return 0;
+        }
+        match bytes {
+            [ESCAPE, b'[', rest @ ..] => self.take_sequence(rest),
+            _ => self.take_characters(bytes),
+        }
+    }
+
+    fn take_characters(&mut self, bytes: &[u8]) -> usize
+        requires { self.old.rest ≡ [] }
+        ensures within { result ≤ length bytes.now }
+        ensures runs { Runs self.old (take result bytes.now) self.new }
+        ensures rows { self.new.screen.rows ≡ self.old.screen.rows }
+        ensures cols { self.new.screen.cols ≡ self.old.screen.cols }
+    {
+        let _ = self.display.size();
+        self.display.print_front(bytes)
+    }
+
+    /// Takes the control sequence of which ESC and `[` come before these bytes. Returns the length of the whole, 0 if
+    /// it took nothing.
+    fn take_sequence(&mut self, bytes: &[u8]) -> usize
+        requires { self.old.rest ≡ [] }
+        ensures within { result ≤ length bytes.now + 2 }
+        ensures runs { Runs self.old (take result (27 ∷ 91 ∷ bytes.now)) self.new }
+        ensures rows { self.new.screen.rows ≡ self.old.screen.rows }
+        ensures cols { self.new.screen.cols ≡ self.old.screen.cols }
+    {
+        let _ = &self.parser;
+        let mut numbers = [None; 16];
+        match read_parameters(bytes, &mut numbers) {
+            Some(found) => {
+                let _ = self.display.size();
+                self.display
+                    .act(of_numbers(found.last, &numbers[..found.count]));
+                found.at + 3
+            }
+            None => 0,
+        }
     }
 
     /// Takes one byte. If it fits nothing, what was open is dropped.

@@ -16,15 +16,15 @@ pub returns-then-text-gt8-clause-value : goal.returns-then-text-gt8-clause-value
 returns-then-text-gt8-clause-value c = sym (place_in_none _ (too_long c))
 
 -- every key is lower
-past_the_last : (c : goal.Then-rank-eq497) (place : ℕ) → place < 497 → name_at place ≢ c.args.text.now
+past_the_last : (c : goal.Then-rank-eq-CAPABILITIES) (place : ℕ) → place < 497 → name_at place ≢ c.args.text.now
 past_the_last c =
     unnamed_at _ _ _ c.name_key.ensures c.lowest_rank-rank.ensures.below c.lowest_rank-rank.ensures.above (λ less. absurd (omega arith))
 
-pub returns-then-rank-eq497-clause-none : goal.returns-then-rank-eq497-clause-none
-returns-then-rank-eq497-clause-none c = past_the_last c
+pub returns-then-rank-eq-CAPABILITIES-clause-none : goal.returns-then-rank-eq-CAPABILITIES-clause-none
+returns-then-rank-eq-CAPABILITIES-clause-none c = past_the_last c
 
-pub returns-then-rank-eq497-clause-value : goal.returns-then-rank-eq497-clause-value
-returns-then-rank-eq497-clause-value c = sym (place_in_none _ (past_the_last c))
+pub returns-then-rank-eq-CAPABILITIES-clause-value : goal.returns-then-rank-eq-CAPABILITIES-clause-value
+returns-then-rank-eq-CAPABILITIES-clause-value c = sym (place_in_none _ (past_the_last c))
 
 -- the name of the lowest key that is not below differs
 another : (c : goal.Else-eq) (place : ℕ) → place < 497 → name_at place ≢ c.args.text.now

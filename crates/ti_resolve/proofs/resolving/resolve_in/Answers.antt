@@ -2,9 +2,9 @@ use Rattle.std.proofs.Common.{◌∙◌, sym, ap, subst, rules}
 use Rattle.std.specs.Prelude.{IsTrue}
 use Rattle.std.proofs.lemmas.Result.{err_from_is_err_and}
 use Rattle.ti_caps.specs.Fits.{names_fit}
-use Rattle.ti_resolve.specs.Filling.{fields_of_all, settle_all, start}
+use Rattle.ti_resolve.specs.Filling.{fields_of_all, take_fields, start}
 use Rattle.ti_resolve.specs.Walk.{FailsBy}
-use Rattle.ti_resolve.proofs.Settled.{names_fit_at}
+use Rattle.ti_resolve.proofs.Taken.{names_fit_at}
 use Rattle.ti_resolve.proofs.Told.{told_fails}
 use Rattle.ti_resolve.proofs.Whole.{walk_none, walk_is, resolved_is}
 use Rattle.ti_resolve.proofs.resolving.resolve_in.Goals as goal
@@ -24,7 +24,7 @@ filled-requires-clause-names c =
 pub returns-clause-entry : goal.returns-clause-entry
 returns-clause-entry c =
     resolved_is c.args.index.now.raws.now c.args.name.now c.names_of.result.now c.in_ok-entered.entered.items c.in-Some.root c.in_ok-entry.entry c.in-Some.ensures.value c.in_ok-entered.ensures c.names_of.ensures
-    (c.in_ok-entry.ensures ∙ ap (λ places. (settle_all (start c.names_of.result.now) (fields_of_all c.args.index.now.raws.now places)).entry) c.as_slice.ensures.value)
+    (c.in_ok-entry.ensures ∙ ap (λ places. (take_fields (start c.names_of.result.now) (fields_of_all c.args.index.now.raws.now places)).entry) c.as_slice.ensures.value)
 
 pub returns-clause-walk : goal.returns-clause-walk
 returns-clause-walk c =

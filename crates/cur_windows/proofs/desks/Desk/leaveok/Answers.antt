@@ -4,4 +4,4 @@ use Rattle.cur_windows.proofs.desks.Desk.leaveok.Goals as goal
 
 pub invariant_of-self : goal.invariant_of-self
 invariant_of-self c = closes_window _ _ c.args.id _ _ c.self.view_is c.self.invariant c.in_ok-slot.ensures.there refl
-    (legal_same _ _ c.in_ok-slot.ensures.placed.sheet.window refl refl refl refl refl refl)
+    (legal_same _ _ c.in_ok-slot.ensures.placed.canvas.window refl refl refl refl refl refl)

@@ -1,7 +1,7 @@
 use Rattle.std.proofs.Common.{refl}
-use Rattle.cur_windows.proofs.Settling.{new_from}
+use Rattle.cur_windows.proofs.Adding.{new_from}
 use Rattle.cur_windows.proofs.desks.Desk.new.Goals as goal
 
 pub invariant_of-result : goal.invariant_of-result
-invariant_of-result c = new_from 64 c.args.size.rows c.args.size.cols c.in_ok-grids.grids.items c.in_ok-origins.origins.items c.in_ok-windows.windows.items c.in_ok-grids-2.field-0 c.new-2.result
-    refl c.in_ok-grids.ensures c.in_ok-origins.ensures c.in_ok-windows.ensures c.args.size.limits.1 c.args.size.limits.3 c.in_ok-grids-2.ensures c.new-2.ensures.value c.new-2.ensures.legal
+invariant_of-result c = new_from 64 c.args.size.rows c.args.size.cols c.in_ok-grids.grids.items c.in_ok-origins.origins.items c.in_ok-windows.windows.items c.in_ok-grids-2.field-0 c.new.result
+    refl c.in_ok-grids.ensures c.in_ok-origins.ensures c.in_ok-windows.ensures c.args.size.limits.1 c.args.size.limits.3 c.in_ok-grids-2.ensures c.new.ensures.value c.new.ensures.legal

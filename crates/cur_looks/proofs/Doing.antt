@@ -1,0 +1,36 @@
+-- From a line of the certificate to a step.
+use Rattle.std.proofs.Common.{◌≡◌, ℕ, ◌+◌, ◌≤◌, Bool, true, false, List, [], length, Some, Result, refl, sym, ap, subst, ◌∙◌, arith}
+use Rattle.vt_term.specs.Screen.{State, Screen, IsOfSize}
+use Rattle.cur_wires.specs.Wire.{Sends}
+use Rattle.cur_steps.specs.Leads.{Ends}
+use Rattle.cur_steps.specs.Lines.{Closed, Drives}
+use Rattle.cur_steps.specs.Steps.{Steps}
+use Rattle.cur_steps.proofs.Stopping.{steps_line}
+use Rattle.cur_steps.proofs.Completing.{ends_sized}
+use Rattle.cur_looks.specs.Rows.{Row, Starts, Wants}
+use Rattle.cur_looks.specs.Certified.{Table, IsLost, IsReady, IsChecked, IsLine, IsPiece, Line, Ended, limit_of}
+use Rattle.cur_looks.specs.Beliefs.{Agrees, Belief, Turns}
+use Rattle.cur_looks.specs.declared.inks.Ink.{Ink}
+
+pub ready_lost : (t : Table) → IsChecked t → (s : State) → IsReady t s → IsLost t s
+ready_lost t checked s h = record {
+  sized = h.sized;
+  tame = h.tame;
+  reached = checked.settled_reached s.screen.charset h.settled;
+  margins = λ e. h.whole;
+  visible = h.visible;
+}
+
+pub agrees_lost : (t : Table) → IsChecked t → (g : ℕ → ℕ → Ink) (b : Belief) (s : State) → Agrees t g b s → IsLost t s
+agrees_lost t checked g b s h = ready_lost t checked s h.ready
+
+-- a line, sent where its row starts
+pub line_steps : {W T E : Type 0} (went : W → W → List ℕ → Type 0) (failures : W → ℕ) (a z : W) (answer : Result T E) (t : Table) → IsChecked t → (row : Row) (bytes : List ℕ) → t.line_of row ≡ Some bytes
+    → (n : ℕ) (g h : ℕ → ℕ → Ink) (b c : Belief) → limit_of t row ≤ n → Turns t row g b h c → Sends went failures a z bytes answer
+    → Steps went failures a z answer (IsPiece t) n (IsLost t) (Agrees t g b) (Agrees t h c)
+line_steps went failures a z answer t checked row bytes is n g h b c le turns sends =
+    let line : IsLine t row bytes = checked.lines row bytes is in
+    steps_line went failures a z answer (IsPiece t) n (Starts t.rows t.cols row) (Ended t row) (IsLost t) (Agrees t g b) (Agrees t h c) bytes (Line row is) (omega (arith, line.short, le)) line.drives
+    (λ s x. x.ready.rest) turns.starts (agrees_lost t checked g b)
+    (λ s x e. ends_sized t.rows t.cols s bytes (Closed (Ended t row s.screen)) (Agrees t h c) x.ready.sized (λ u sized k. turns.ends s u x sized k.rest k.screen) e)
+    (agrees_lost t checked h c) sends

@@ -1,0 +1,5 @@
+pub mod Doing
+pub mod Turning
+pub mod Telling
+pub mod Printing
+pub mod Sameness

@@ -1,0 +1,24 @@
+use Rattle.std.proofs.Common.{◌≡◌, ◌+◌, ◌*◌, Some, None, true, false, arith, refl}
+use Rattle.std.proofs.lemmas.Result.{err_from_is_err_and}
+use Rattle.cur_steps.proofs.Stopping.{steps_nothing, steps_none, steps_fail, steps_next, steps_wider}
+use Rattle.cur_looks.specs.Rows.{Civis, Cnorm, Cvvis}
+use Rattle.cur_looks.specs.Certified.{IsPiece, IsLost, has}
+use Rattle.cur_looks.specs.Beliefs.{Agrees, Belief, Hidden, Normal, Prominent, changes, modes_limit}
+use Rattle.cur_looks.proofs.Doing.{agrees_lost}
+use Rattle.cur_looks.proofs.Telling.{has_none, once}
+use Rattle.cur_looks.proofs.Turning.{hidden, normal, always_normal, stressed, stressed_without}
+use Rattle.cur_looks.proofs.modes.show.Goals as goal
+
+pub returns-in-Some-clause-step : goal.returns-in-Some-clause-step
+returns-in-Some-clause-step g c h =
+    let t = g.C.Certificate.table c.args.checked.now in
+    let b = c.args.belief.now in
+    c.send_line.ensures.step t.longest.cnorm h h b _ (omega arith) (normal t h b)
+
+pub returns-in-None-clause-step : goal.returns-in-None-clause-step
+returns-in-None-clause-step g c h =
+    let t = g.C.Certificate.table c.args.checked.now in
+    let b = c.args.belief.now in
+    let d : Belief = record b { mode = Some Normal } in
+    steps_nothing g.W.Wire.went g.W.Wire.failures g.met.W.Wire.lawful c.args.wire.now tt (IsPiece t) _ (IsLost t) (Agrees t h b) (Agrees t h d) (λ s x. x.ready.rest)
+    (always_normal t (has_none t Cnorm (c.in-None.ensures.none refl)) h b) (agrees_lost t c.rows.ensures.checked h b)

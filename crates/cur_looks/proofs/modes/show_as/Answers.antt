@@ -1,0 +1,37 @@
+use Rattle.std.proofs.Common.{◌≡◌, ◌+◌, ◌*◌, Some, None, true, false, arith, refl}
+use Rattle.std.proofs.lemmas.Result.{err_from_is_err_and}
+use Rattle.cur_steps.proofs.Stopping.{steps_nothing, steps_none, steps_fail, steps_next, steps_wider}
+use Rattle.cur_looks.specs.Rows.{Civis, Cnorm, Cvvis}
+use Rattle.cur_looks.specs.Certified.{IsPiece, IsLost, has}
+use Rattle.cur_looks.specs.Beliefs.{Agrees, Belief, Hidden, Normal, Prominent, changes, modes_limit}
+use Rattle.cur_looks.proofs.Doing.{agrees_lost}
+use Rattle.cur_looks.proofs.Telling.{has_none, once}
+use Rattle.cur_looks.proofs.Turning.{hidden, normal, always_normal, stressed, stressed_without}
+use Rattle.cur_looks.proofs.modes.show_as.Goals as goal
+
+pub returns-then-is_mode-clause-step : goal.returns-then-is_mode-clause-step
+returns-then-is_mode-clause-step g c h =
+    let t = g.C.Certificate.table c.args.checked.now in
+    let b = c.args.belief.now in
+    steps_none g.W.Wire.went g.W.Wire.failures g.met.W.Wire.lawful c.args.wire.now tt (IsPiece t) _ (IsLost t) (Agrees t h b) (λ s x. x.ready.rest) (agrees_lost t c.rows.ensures.checked h b)
+
+pub returns-in-Hidden-clause-step : goal.returns-in-Hidden-clause-step
+returns-in-Hidden-clause-step g c h =
+    let t = g.C.Certificate.table c.args.checked.now in
+    let b = c.args.belief.now in
+    steps_wider g.W.Wire.went g.W.Wire.failures c.args.wire.now c.hide.new.wire c.hide.result (IsPiece t) (t.longest.civis) (changes b.mode c.args.wanted * modes_limit t) (IsLost t) (Agrees t h b) (Agrees t h c.hide.new.belief) (Agrees t h b) (Agrees t h c.hide.new.belief)
+    (omega (arith, once _ (modes_limit t) (c.if-is_mode.ensures.counted refl))) (λ s x. x) (λ s x. x) (c.hide.ensures.step h)
+
+pub returns-in-Normal-clause-step : goal.returns-in-Normal-clause-step
+returns-in-Normal-clause-step g c h =
+    let t = g.C.Certificate.table c.args.checked.now in
+    let b = c.args.belief.now in
+    steps_wider g.W.Wire.went g.W.Wire.failures c.args.wire.now c.show.new.wire c.show.result (IsPiece t) (t.longest.cnorm) (changes b.mode c.args.wanted * modes_limit t) (IsLost t) (Agrees t h b) (Agrees t h c.show.new.belief) (Agrees t h b) (Agrees t h c.show.new.belief)
+    (omega (arith, once _ (modes_limit t) (c.if-is_mode.ensures.counted refl))) (λ s x. x) (λ s x. x) (c.show.ensures.step h)
+
+pub returns-in-Prominent-clause-step : goal.returns-in-Prominent-clause-step
+returns-in-Prominent-clause-step g c h =
+    let t = g.C.Certificate.table c.args.checked.now in
+    let b = c.args.belief.now in
+    steps_wider g.W.Wire.went g.W.Wire.failures c.args.wire.now c.show_stressed.new.wire c.show_stressed.result (IsPiece t) (modes_limit t) (changes b.mode c.args.wanted * modes_limit t) (IsLost t) (Agrees t h b) (Agrees t h c.show_stressed.new.belief) (Agrees t h b) (Agrees t h c.show_stressed.new.belief)
+    (omega (arith, once _ (modes_limit t) (c.if-is_mode.ensures.counted refl))) (λ s x. x) (λ s x. x) (c.show_stressed.ensures.step h)

@@ -1,0 +1,24 @@
+use Rattle.std.proofs.Common.{◌≡◌, ◌+◌, ◌*◌, Some, None, true, false, arith, refl}
+use Rattle.std.proofs.lemmas.Result.{err_from_is_err_and}
+use Rattle.cur_steps.proofs.Stopping.{steps_nothing, steps_none, steps_fail, steps_next, steps_wider}
+use Rattle.cur_looks.specs.Rows.{Civis, Cnorm, Cvvis}
+use Rattle.cur_looks.specs.Certified.{IsPiece, IsLost, has}
+use Rattle.cur_looks.specs.Beliefs.{Agrees, Belief, Hidden, Normal, Prominent, changes, modes_limit}
+use Rattle.cur_looks.proofs.Doing.{agrees_lost}
+use Rattle.cur_looks.proofs.Telling.{has_none, once}
+use Rattle.cur_looks.proofs.Turning.{hidden, normal, always_normal, stressed, stressed_without}
+use Rattle.cur_looks.proofs.modes.show_stressed.Goals as goal
+
+pub returns-in_err-show-clause-step : goal.returns-in_err-show-clause-step
+returns-in_err-show-clause-step g c h =
+    let e = err_from_is_err_and c.from_residual.result c.from_residual.ensures.1 in
+    let t = g.C.Certificate.table c.args.checked.now in
+    let b = c.args.belief.now in
+    rw e.1 (steps_fail g.W.Wire.went g.W.Wire.failures c.args.wire.now c.show.new.wire _ _ (IsPiece t) t.longest.cnorm (modes_limit t) (IsLost t) (Agrees t h b) (Agrees t h c.show.new.belief) (Agrees t h c.show.new.belief) (omega arith) (c.in_err-show.ensures.step h))
+
+pub returns-clause-step : goal.returns-clause-step
+returns-clause-step g c h =
+    let t = g.C.Certificate.table c.args.checked.now in
+    let b = c.args.belief.now in
+    steps_next g.W.Wire.went g.W.Wire.failures g.met.W.Wire.lawful c.args.wire.now c.show.new.wire c.stress.new.wire _ c.stress.result (IsPiece t) t.longest.cnorm t.longest.cvvis (modes_limit t) (IsLost t)
+    (Agrees t h b) (Agrees t h c.show.new.belief) (Agrees t h c.stress.new.belief) (omega arith) (c.in_ok-show.ensures.step h) (c.stress.ensures.step h)

@@ -1,0 +1,12 @@
+use Rattle.std.proofs.Common.{arith}
+use Rattle.cur_looks.specs.Inks.{tail_blank}
+use Rattle.cur_looks.proofs.Turning.{tail_erased}
+use Rattle.cur_looks.proofs.steps.erase_tail.Goals as goal
+
+pub returns : goal.returns
+returns g c =
+    let t = g.C.Certificate.table c.args.checked.now in
+    let b = c.args.belief.now in
+    record {
+      step = λ h. c.send_line.ensures.step t.longest.erasure h (tail_blank c.args.row c.args.col h) b b (omega arith) (tail_erased t h b c.args.row c.args.col c.requires.place c.requires.brush);
+    }

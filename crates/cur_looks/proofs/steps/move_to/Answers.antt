@@ -1,0 +1,20 @@
+use Rattle.std.proofs.Common.{◌*◌, refl}
+use Rattle.cur_steps.proofs.Stopping.{steps_none}
+use Rattle.cur_looks.specs.Certified.{IsPiece, IsLost}
+use Rattle.cur_looks.specs.Beliefs.{Agrees, moves}
+use Rattle.cur_looks.proofs.Doing.{agrees_lost}
+use Rattle.cur_looks.proofs.Telling.{once}
+use Rattle.cur_looks.proofs.Turning.{moved}
+use Rattle.cur_looks.proofs.steps.move_to.Goals as goal
+
+pub returns-then-stands-clause-step : goal.returns-then-stands-clause-step
+returns-then-stands-clause-step g c h =
+    let t = g.C.Certificate.table c.args.checked.now in
+    let b = c.args.belief.now in
+    steps_none g.W.Wire.went g.W.Wire.failures g.met.W.Wire.lawful c.args.wire.now tt (IsPiece t) _ (IsLost t) (Agrees t h b) (λ s x. x.ready.rest) (agrees_lost t c.rows.ensures.checked h b)
+
+pub returns-clause-step : goal.returns-clause-step
+returns-clause-step g c h =
+    let t = g.C.Certificate.table c.args.checked.now in
+    let b = c.args.belief.now in
+    c.send_line.ensures.step (moves b.place c.args.row c.args.col * t.longest.cup) h h b _ (once _ t.longest.cup (c.if-stands.ensures.counted refl)) (moved t h b c.args.row c.args.col)

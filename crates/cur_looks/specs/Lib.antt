@@ -1,0 +1,4 @@
+pub mod Rows
+pub mod Certified
+pub mod Inks
+pub mod Beliefs

@@ -1,0 +1,130 @@
+//! What is put into a place of the screen.
+ghost use Rattle.std.specs.Prelude.{◌≡◌, ℕ};
+ghost use Rattle.cur_looks.specs.Inks as spec;
+
+use crate::rows::Attributes;
+use vt_term::Color;
+
+/// How characters are printed: attributes, and colours where they aren't the default ones.
+#[derive(Clone, Copy)]
+pub struct Brush {
+    pub attributes: Attributes,
+    pub foreground: Option<Color>,
+    pub background: Option<Color>,
+}
+
+/// What is put into a place: a character of the plain or the graphic set, and how it is printed.
+#[derive(Clone, Copy)]
+pub struct Ink {
+    pub byte: u8,
+    pub graphic: bool,
+    pub brush: Brush,
+}
+
+/// A screen by its places.
+pub trait View {
+    ghost use Rattle.cur_looks.specs.declared.inks.Ink.{Ink};
+
+    ghost cells: { Self → ℕ → ℕ → Ink };
+
+    /// What is in a place; elsewhere something blank.
+    fn at(&self, row: usize, col: usize) -> Ink
+        ensures value { result ≡ cells self.now row col };
+}
+
+/// A blank screen.
+pub struct Blank;
+
+impl View for Blank {
+    ghost use Rattle.cur_looks.specs.Inks.{blank_ink};
+
+    ghost cells = { λ b i j. blank_ink };
+
+    fn at(&self, row: usize, col: usize) -> Ink
+        ensures value { result ≡ blank_ink }
+    {
+        Ink::blank()
+    }
+}
+
+impl Ink {
+    /// A space of no attributes and default colours.
+    pub fn blank() -> Ink
+        ensures value { result ≡ spec.blank_ink }
+    {
+        Ink {
+            byte: 32,
+            graphic: false,
+            brush: Brush::plain(),
+        }
+    }
+}
+
+impl Brush {
+    /// No attributes and default colours.
+    pub fn plain() -> Brush
+        ensures value { result ≡ spec.plain_brush }
+    {
+        Brush {
+            attributes: Attributes {
+                standout: false,
+                underline: false,
+                reverse: false,
+                blink: false,
+                dim: false,
+                bold: false,
+                invisible: false,
+            },
+            foreground: None,
+            background: None,
+        }
+    }
+}
+
+/// Whether two are printed in one way with one look.
+pub fn is_same(a: Ink, b: Ink) -> bool
+    ensures value { result ≡ spec.same a b }
+{
+    a.byte == b.byte && a.graphic == b.graphic && same_brush(a.brush, b.brush)
+}
+
+/// Whether two brushes are the same.
+pub(crate) fn same_brush(a: Brush, b: Brush) -> bool
+    ensures value { result ≡ spec.same_brush a b }
+{
+    same_attributes(a.attributes, b.attributes)
+        && same_color(a.foreground, b.foreground)
+        && same_color(a.background, b.background)
+}
+
+/// Whether two sets of attributes are the same.
+pub(crate) fn same_attributes(a: Attributes, b: Attributes) -> bool
+    ensures value { result ≡ spec.same_attributes a b }
+{
+    same_few(a, b) && same_others(a, b)
+}
+
+/// Whether two sets are the same in standout, underline and reverse.
+fn same_few(a: Attributes, b: Attributes) -> bool
+    ensures value { result ≡ spec.same_few a b }
+{
+    a.standout == b.standout && a.underline == b.underline && a.reverse == b.reverse
+}
+
+/// Whether two sets are the same in the other attributes.
+fn same_others(a: Attributes, b: Attributes) -> bool
+    ensures value { result ≡ spec.same_others a b }
+{
+    a.blink == b.blink && a.dim == b.dim && a.bold == b.bold && a.invisible == b.invisible
+}
+
+/// Whether two colours are the same.
+pub(crate) fn same_color(a: Option<Color>, b: Option<Color>) -> bool
+    ensures value { result ≡ spec.same_color a b }
+{
+    match (a, b) {
+        (None, None) => true,
+        (Some(a), Some(b)) => a.number() == b.number(),
+        _ => false,
+    }
+}

@@ -1,0 +1,20 @@
+//! Looks and beliefs: how a cell is to look on the terminal, what is known of the terminal, and the
+//! single steps of a painter.
+#![tactic(auto)]
+
+mod beliefs;
+mod cells;
+mod certificates;
+mod inks;
+mod lines;
+mod modes;
+mod rows;
+mod steps;
+
+pub use beliefs::{Belief, Mode, Place};
+pub use cells::{blank_tail, put_cell};
+pub use certificates::Certificate;
+pub use inks::{Blank, Brush, Ink, View, is_same};
+pub use modes::show_as;
+pub use rows::{Attributes, Looks, Marks, Row};
+pub use steps::move_to;

@@ -1,0 +1,99 @@
+//! How the cursor is shown.
+ghost use Rattle.std.specs.Prelude.{◌≡◌, ◌*◌, ℕ, true, false, Some, OnOk};
+ghost use Rattle.cur_steps.specs.Steps.{Steps};
+ghost use Rattle.cur_looks.specs.Rows.{Civis, Cnorm};
+ghost use Rattle.cur_looks.specs.Certified.{IsPiece, IsLost, has};
+ghost use Rattle.cur_looks.specs.Beliefs.{Agrees, Belief, CanHide, Hidden, Normal, Prominent, changes, modes_limit};
+ghost use Rattle.cur_looks.specs.declared.inks.Ink.{Ink};
+
+use crate::beliefs::{Belief, Mode};
+use crate::certificates::Certificate;
+use crate::lines::send_line;
+use crate::rows::Row;
+use cur_wires::{Wire, WireFault};
+
+/// The cursor disappears.
+fn hide<C: Certificate, W: Wire>(checked: &C, belief: &mut Belief, wire: &mut W) -> Result<(), WireFault>
+    requires line { has (C.table checked.now) Civis ≡ true }
+    requires back { has (C.table checked.now) Cnorm ≡ true }
+    ensures belief { belief.new ≡ record belief.old { mode = Some Hidden } }
+    ensures step { (g : ℕ → ℕ → Ink) → Steps W.went W.failures wire.old wire.new result (IsPiece (C.table checked.now)) ((C.table checked.now).longest.civis)
+        (IsLost (C.table checked.now)) (Agrees (C.table checked.now) g belief.old) (Agrees (C.table checked.now) g belief.new) }
+{
+    let _ = checked.rows();
+    belief.mode = Some(Mode::Hidden);
+    match checked.line(Row::Civis) {
+        Some(line) => send_line(checked, Row::Civis, line, wire),
+        None => Ok(()),
+    }
+}
+
+/// The cursor appears.
+fn show<C: Certificate, W: Wire>(checked: &C, belief: &mut Belief, wire: &mut W) -> Result<(), WireFault>
+    ensures belief { belief.new ≡ record belief.old { mode = Some Normal } }
+    ensures step { (g : ℕ → ℕ → Ink) → Steps W.went W.failures wire.old wire.new result (IsPiece (C.table checked.now)) ((C.table checked.now).longest.cnorm)
+        (IsLost (C.table checked.now)) (Agrees (C.table checked.now) g belief.old) (Agrees (C.table checked.now) g belief.new) }
+{
+    let _ = checked.rows();
+    belief.mode = Some(Mode::Normal);
+    match checked.line(Row::Cnorm) {
+        Some(line) => send_line(checked, Row::Cnorm, line, wire),
+        None => Ok(()),
+    }
+}
+
+/// The cursor, which is shown, becomes very visible.
+fn stress<C: Certificate, W: Wire>(checked: &C, belief: &mut Belief, wire: &mut W) -> Result<(), WireFault>
+    requires shown { belief.old.mode ≡ Some Normal }
+    ensures belief { belief.new ≡ record belief.old { mode = Some Prominent } }
+    ensures step { (g : ℕ → ℕ → Ink) → Steps W.went W.failures wire.old wire.new result (IsPiece (C.table checked.now)) ((C.table checked.now).longest.cvvis)
+        (IsLost (C.table checked.now)) (Agrees (C.table checked.now) g belief.old) (Agrees (C.table checked.now) g belief.new) }
+{
+    let _ = checked.rows();
+    belief.mode = Some(Mode::Prominent);
+    match checked.line(Row::Cvvis) {
+        Some(line) => send_line(checked, Row::Cvvis, line, wire),
+        None => Ok(()),
+    }
+}
+
+/// The cursor is shown very visibly.
+fn show_stressed<C: Certificate, W: Wire>(checked: &C, belief: &mut Belief, wire: &mut W) -> Result<(), WireFault>
+    ensures belief { OnOk result (belief.new ≡ record belief.old { mode = Some Prominent }) }
+    ensures step { (g : ℕ → ℕ → Ink) → Steps W.went W.failures wire.old wire.new result (IsPiece (C.table checked.now)) (modes_limit (C.table checked.now))
+        (IsLost (C.table checked.now)) (Agrees (C.table checked.now) g belief.old) (Agrees (C.table checked.now) g belief.new) }
+{
+    show(checked, belief, wire)?;
+    stress(checked, belief, wire)
+}
+
+/// Whether the mode is known to be this one.
+fn is_mode(now: Option<Mode>, wanted: Mode) -> bool
+    ensures so { result ≡ true → now ≡ Some wanted }
+    ensures counted { result ≡ false → changes now wanted ≡ 1 }
+{
+    matches!(
+        (now, wanted),
+        (Some(Mode::Hidden), Mode::Hidden)
+            | (Some(Mode::Normal), Mode::Normal)
+            | (Some(Mode::Prominent), Mode::Prominent)
+    )
+}
+
+/// The cursor is shown in this mode, if it isn't known to be.
+pub fn show_as<C: Certificate, W: Wire>(checked: &C, belief: &mut Belief, wire: &mut W, wanted: Mode) -> Result<(), WireFault>
+    requires lines { CanHide (C.table checked.now) wanted }
+    ensures belief { OnOk result (belief.new ≡ record belief.old { mode = Some wanted }) }
+    ensures step { (g : ℕ → ℕ → Ink) → Steps W.went W.failures wire.old wire.new result (IsPiece (C.table checked.now)) (changes belief.old.mode wanted * modes_limit (C.table checked.now))
+        (IsLost (C.table checked.now)) (Agrees (C.table checked.now) g belief.old) (Agrees (C.table checked.now) g belief.new) }
+{
+    let _ = checked.rows();
+    if is_mode(belief.mode, wanted) {
+        return Ok(());
+    }
+    match wanted {
+        Mode::Hidden => hide(checked, belief, wire),
+        Mode::Normal => show(checked, belief, wire),
+        Mode::Prominent => show_stressed(checked, belief, wire),
+    }
+}

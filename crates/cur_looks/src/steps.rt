@@ -1,0 +1,209 @@
+//! The single steps of a painter: each sends at most one line or one character.
+ghost use Rattle.std.specs.Prelude.{◌≡◌, ◌*◌, ◌<◌, ℕ, Bool, true, false, Option, Some, None};
+ghost use Rattle.vt_term.specs.Color.{Color};
+ghost use Rattle.vt_term.specs.Look.{IsPrinted};
+ghost use Rattle.cur_steps.specs.Steps.{Steps};
+ghost use Rattle.cur_looks.specs.Rows.{Op, El, Smacs};
+ghost use Rattle.cur_looks.specs.Certified.{IsPiece, IsLost, has};
+ghost use Rattle.cur_looks.specs.Inks.{put_at, tail_blank, plain_brush};
+ghost use Rattle.cur_looks.specs.Beliefs.{Agrees, Belief, moves, after_print, set_row};
+ghost use Rattle.cur_looks.specs.declared.inks.Brush.{Brush};
+ghost use Rattle.cur_looks.specs.declared.inks.Ink.{Ink};
+
+use crate::beliefs::{Belief, Place};
+use crate::certificates::Certificate;
+use crate::inks::{Brush, Ink, same_attributes};
+use crate::lines::send_line;
+use crate::rows::{Attributes, Row};
+use cur_wires::{Wire, WireFault, send_all};
+use vt_term::Color;
+
+/// The cursor goes to a place, if it isn't known to be there.
+pub fn move_to<C: Certificate, W: Wire>(checked: &C, belief: &mut Belief, wire: &mut W, row: usize, col: usize) -> Result<(), WireFault>
+    requires row { row < (C.table checked.now).rows }
+    requires col { col < (C.table checked.now).cols }
+    ensures belief { belief.new ≡ record belief.old { place = Some (record { row = row; col = col }) } }
+    ensures step { (g : ℕ → ℕ → Ink) → Steps W.went W.failures wire.old wire.new result (IsPiece (C.table checked.now)) (moves belief.old.place row col * (C.table checked.now).longest.cup)
+        (IsLost (C.table checked.now)) (Agrees (C.table checked.now) g belief.old) (Agrees (C.table checked.now) g belief.new) }
+{
+    let _ = checked.rows();
+    let _ = checked.cols();
+    if stands(belief.place, row, col) {
+        return Ok(());
+    }
+    belief.place = Some(Place { row, col });
+    let line = Row::Cup(row as u16, col as u16);
+    send_line(checked, line, checked.line(line).unwrap(), wire)
+}
+
+/// Whether the cursor is known to be there.
+fn stands(place: Option<Place>, row: usize, col: usize) -> bool
+    ensures here { result ≡ true → place ≡ Some (record { row = row; col = col }) }
+    ensures counted { result ≡ false → moves place row col ≡ 1 }
+{
+    match place {
+        Some(p) => p.row == row && p.col == col,
+        None => false,
+    }
+}
+
+/// The colours become the default ones.
+pub(crate) fn colors_off<C: Certificate, W: Wire>(checked: &C, belief: &mut Belief, wire: &mut W) -> Result<(), WireFault>
+    ensures belief { belief.new ≡ record belief.old { brush = record belief.old.brush { foreground = None; background = None } } }
+    ensures step { (g : ℕ → ℕ → Ink) → Steps W.went W.failures wire.old wire.new result (IsPiece (C.table checked.now)) (C.table checked.now).longest.op
+        (IsLost (C.table checked.now)) (Agrees (C.table checked.now) g belief.old) (Agrees (C.table checked.now) g belief.new) }
+{
+    let _ = checked.rows();
+    let plain = is_uncolored(belief.brush);
+    belief.brush.foreground = None;
+    belief.brush.background = None;
+    if plain {
+        return Ok(());
+    }
+    match checked.line(Row::Op) {
+        Some(line) => send_line(checked, Row::Op, line, wire),
+        None => Ok(()),
+    }
+}
+
+/// Whether a brush has the default colours.
+fn is_uncolored(brush: Brush) -> bool
+    ensures foreground { result ≡ true → brush.foreground ≡ None }
+    ensures background { result ≡ true → brush.background ≡ None }
+{
+    matches!((brush.foreground, brush.background), (None, None))
+}
+
+/// The attributes become these; the colours are the default ones before and after.
+pub(crate) fn attributes_as<C: Certificate, W: Wire>(checked: &C, belief: &mut Belief, wire: &mut W, wanted: Attributes) -> Result<(), WireFault>
+    requires foreground { belief.old.brush.foreground ≡ None }
+    requires background { belief.old.brush.background ≡ None }
+    ensures brush { belief.new.brush ≡ record { attributes = wanted; foreground = None; background = None } }
+    ensures place { belief.new.place ≡ belief.old.place }
+    ensures step { (g : ℕ → ℕ → Ink) → Steps W.went W.failures wire.old wire.new result (IsPiece (C.table checked.now)) (C.table checked.now).longest.sgr
+        (IsLost (C.table checked.now)) (Agrees (C.table checked.now) g belief.old) (Agrees (C.table checked.now) g belief.new) }
+{
+    let _ = checked.rows();
+    if same_attributes(belief.brush.attributes, wanted) {
+        belief.brush.attributes = wanted;
+        return Ok(());
+    }
+    belief.brush.attributes = wanted;
+    belief.graphic = None;
+    let line = Row::Sgr(wanted);
+    send_line(checked, line, checked.line(line).unwrap(), wire)
+}
+
+/// The foreground becomes this colour, or stays the default one.
+pub(crate) fn foreground_as<C: Certificate, W: Wire>(checked: &C, belief: &mut Belief, wire: &mut W, wanted: Option<Color>) -> Result<(), WireFault>
+    requires now { belief.old.brush.foreground ≡ None }
+    requires colors { has (C.table checked.now) Op ≡ false → wanted ≡ None }
+    ensures belief { belief.new ≡ record belief.old { brush = record belief.old.brush { foreground = wanted } } }
+    ensures step { (g : ℕ → ℕ → Ink) → Steps W.went W.failures wire.old wire.new result (IsPiece (C.table checked.now)) (C.table checked.now).longest.setaf
+        (IsLost (C.table checked.now)) (Agrees (C.table checked.now) g belief.old) (Agrees (C.table checked.now) g belief.new) }
+{
+    let _ = checked.rows();
+    belief.brush.foreground = wanted;
+    let Some(color) = wanted else {
+        return Ok(());
+    };
+    match checked.line(Row::Setaf(color)) {
+        Some(line) => send_line(checked, Row::Setaf(color), line, wire),
+        None => Ok(()),
+    }
+}
+
+/// The background becomes this colour, or stays the default one.
+pub(crate) fn background_as<C: Certificate, W: Wire>(checked: &C, belief: &mut Belief, wire: &mut W, wanted: Option<Color>) -> Result<(), WireFault>
+    requires now { belief.old.brush.background ≡ None }
+    requires colors { has (C.table checked.now) Op ≡ false → wanted ≡ None }
+    ensures belief { belief.new ≡ record belief.old { brush = record belief.old.brush { background = wanted } } }
+    ensures step { (g : ℕ → ℕ → Ink) → Steps W.went W.failures wire.old wire.new result (IsPiece (C.table checked.now)) (C.table checked.now).longest.setab
+        (IsLost (C.table checked.now)) (Agrees (C.table checked.now) g belief.old) (Agrees (C.table checked.now) g belief.new) }
+{
+    let _ = checked.rows();
+    belief.brush.background = wanted;
+    let Some(color) = wanted else {
+        return Ok(());
+    };
+    match checked.line(Row::Setab(color)) {
+        Some(line) => send_line(checked, Row::Setab(color), line, wire),
+        None => Ok(()),
+    }
+}
+
+/// The graphic or the plain set becomes the active one, if it isn't known to be.
+pub(crate) fn set_as<C: Certificate, W: Wire>(checked: &C, belief: &mut Belief, wire: &mut W, graphic: bool) -> Result<(), WireFault>
+    requires lines { has (C.table checked.now) Smacs ≡ false → graphic ≡ false }
+    ensures belief { belief.new ≡ record belief.old { graphic = Some graphic } }
+    ensures step { (g : ℕ → ℕ → Ink) → Steps W.went W.failures wire.old wire.new result (IsPiece (C.table checked.now)) (C.table checked.now).longest.sets
+        (IsLost (C.table checked.now)) (Agrees (C.table checked.now) g belief.old) (Agrees (C.table checked.now) g belief.new) }
+{
+    let _ = checked.rows();
+    if is_active(belief.graphic, graphic) {
+        return Ok(());
+    }
+    belief.graphic = Some(graphic);
+    let row = row_of_set(graphic);
+    match checked.line(row) {
+        Some(line) => send_line(checked, row, line, wire),
+        None => Ok(()),
+    }
+}
+
+/// The row whose line makes a set the active one.
+fn row_of_set(graphic: bool) -> Row
+    ensures { result ≡ set_row graphic }
+{
+    if graphic { Row::Smacs } else { Row::Rmacs }
+}
+
+/// Whether a set is known to be the active one.
+fn is_active(now: Option<bool>, graphic: bool) -> bool
+    ensures { result ≡ true → now ≡ Some graphic }
+{
+    match now {
+        Some(active) => active == graphic,
+        None => false,
+    }
+}
+
+/// A character where the cursor is known to be, printed in the brush and the set that are known.
+pub(crate) fn print_at<C: Certificate, W: Wire>(checked: &C, belief: &mut Belief, wire: &mut W, row: usize, col: usize, ink: Ink) -> Result<(), WireFault>
+    requires col { col < (C.table checked.now).cols }
+    requires printed { IsPrinted ink.byte }
+    requires place { belief.old.place ≡ Some (record { row = row; col = col }) }
+    requires brush { belief.old.brush ≡ ink.brush }
+    requires set { belief.old.graphic ≡ Some ink.graphic }
+    ensures belief { belief.new ≡ record belief.old { place = after_print (C.table checked.now).cols row col } }
+    ensures step { (g : ℕ → ℕ → Ink) → Steps W.went W.failures wire.old wire.new result (IsPiece (C.table checked.now)) 1
+        (IsLost (C.table checked.now)) (Agrees (C.table checked.now) g belief.old) (Agrees (C.table checked.now) (put_at row col ink g) belief.new) }
+{
+    let _ = checked.rows();
+    belief.place = after_of(checked.cols(), row, col);
+    send_all(wire, &[ink.byte])
+}
+
+/// Where the cursor is known to be after a character was printed there.
+fn after_of(cols: usize, row: usize, col: usize) -> Option<Place>
+    requires { col < cols }
+    ensures { result ≡ after_print cols row col }
+{
+    if col + 1 == cols {
+        None
+    } else {
+        Some(Place { row, col: col + 1 })
+    }
+}
+
+/// The line's end is erased from where the cursor is known to be.
+pub(crate) fn erase_tail<C: Certificate, W: Wire>(checked: &C, tail: &[u8], belief: &Belief, wire: &mut W, row: usize, col: usize) -> Result<(), WireFault>
+    requires tail { (C.table checked.now).line_of El ≡ Some tail.now }
+    requires place { belief.now.place ≡ Some (record { row = row; col = col }) }
+    requires brush { belief.now.brush ≡ plain_brush }
+    ensures step { (g : ℕ → ℕ → Ink) → Steps W.went W.failures wire.old wire.new result (IsPiece (C.table checked.now)) (C.table checked.now).longest.erasure
+        (IsLost (C.table checked.now)) (Agrees (C.table checked.now) g belief.now) (Agrees (C.table checked.now) (tail_blank row col g) belief.now) }
+{
+    let _ = belief;
+    send_line(checked, Row::El, tail, wire)
+}

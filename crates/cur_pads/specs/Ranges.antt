@@ -1,0 +1,16 @@
+-- Lines or columns that follow one another, and rectangles of them.
+use Rattle.std.specs.Prelude.{ℕ, ◌+◌, ◌-◌, nat_le, Option, Some, None, if◌then◌else◌, ℤ}
+use Rattle.cur_grid.specs.Windows.{place_below}
+use Rattle.cur_grid.specs.declared.spans.Span.{Span}
+
+abbrev pub up_to : ℕ → Option ℕ → Option Span
+up_to at (Some last) = Some (record { at = at; size = last - at + 1 })
+up_to at None = None
+
+-- the first one to the last one, if that is below the limit
+abbrev pub between : ℕ → ℤ → ℕ → Option Span
+between at last limit = up_to at (place_below last limit)
+
+-- so many from a place on, if they are all below the limit
+abbrev pub from : ℕ → ℕ → ℕ → Option Span
+from at size limit = if nat_le (at + size) limit then Some (record { at = at; size = size }) else None

@@ -1,0 +1,68 @@
+use Rattle.std.proofs.Common.{◌≡◌, ◌+◌, ◌*◌, ℕ, Ok, refl, subst, ◌∙◌, arith}
+use Rattle.std.proofs.lemmas.Result.{err_from_is_err_and}
+use Rattle.cur_wires.specs.declared.wires.WireFault.{WireFault}
+use Rattle.cur_looks.specs.Inks.{mixed}
+use Rattle.cur_paint.specs.Differ.{span, all_differ}
+use Rattle.cur_looks.specs.Certified.{IsPiece, IsLost, cell_limit}
+use Rattle.cur_looks.specs.Beliefs.{Agrees}
+use Rattle.cur_steps.specs.Steps.{Steps}
+use Rattle.cur_steps.proofs.Stopping.{steps_nothing, steps_next, steps_fail, steps_wider}
+use Rattle.cur_looks.proofs.Doing.{agrees_lost}
+use Rattle.cur_paint.proofs.Mixing.{all_more, all_grows, times_grows, sum_limit, none_done, all_done}
+use Rattle.cur_paint.proofs.rows.mend_rows.Goals as goal
+
+pub loop-row-init : goal.loop-row-init
+loop-row-init g c =
+    let t = g.C.Certificate.table c.args.checked.now in
+    let b = c.args.belief.now in
+    let old = g.O.View.cells c.args.old.now in
+    let new = g.N.View.cells c.args.new.now in
+    record {
+      idle = λ e. refl;
+      step = steps_nothing g.W.Wire.went g.W.Wire.failures g.met.W.Wire.lawful c.args.wire.now tt (IsPiece t) (0 * cell_limit t) (IsLost t) (Agrees t old b) (Agrees t (mixed old new 0 0) b)
+          (λ s x. x.ready.rest) (none_done t old new b) (agrees_lost t c.rows-row-end.ensures.checked old b);
+    }
+
+pub loop-row-preserved : goal.loop-row-preserved
+loop-row-preserved g c =
+    let t = g.C.Certificate.table c.args.checked.now in
+    let b = c.args.belief.now in
+    let old = g.O.View.cells c.args.old.now in
+    let new = g.N.View.cells c.args.new.now in
+    let row = c.loop-row.row in
+    let more = all_more old new t.cols row in
+    record {
+      idle = λ e. c.in_ok-mend_row.ensures.idle (omega (arith, e, more)) ∙ c.loop-row.invariant.idle (omega (arith, e, more));
+      step = steps_next g.W.Wire.went g.W.Wire.failures g.met.W.Wire.lawful c.args.wire.now c.loop-row.wire c.mend_row.new.wire _ (Ok tt) (IsPiece t)
+          (all_differ old new t.cols row * cell_limit t) (span old new row 0 t.cols * cell_limit t) (all_differ old new t.cols (row + 1) * cell_limit t) (IsLost t)
+          (Agrees t old b) (Agrees t (mixed old new row 0) c.loop-row.belief) (Agrees t (mixed old new (row + 1) 0) c.mend_row.new.belief)
+          (sum_limit _ _ _ (cell_limit t) more) c.loop-row.invariant.step c.in_ok-mend_row.ensures.step;
+    }
+
+pub returns-in_err-mend_row-clause-step : goal.returns-in_err-mend_row-clause-step
+returns-in_err-mend_row-clause-step g c =
+    let e = err_from_is_err_and c.from_residual.result c.from_residual.ensures.1 in
+    let t = g.C.Certificate.table c.args.checked.now in
+    let b = c.args.belief.now in
+    let old = g.O.View.cells c.args.old.now in
+    let new = g.N.View.cells c.args.new.now in
+    let row = c.loop-row.row in
+    rw e.1 (steps_fail g.W.Wire.went g.W.Wire.failures c.args.wire.now c.mend_row.new.wire _ _ (IsPiece t) (all_differ old new t.cols (row + 1) * cell_limit t) (all_differ old new t.cols t.rows * cell_limit t) (IsLost t)
+    (Agrees t old b) (Agrees t (mixed old new (row + 1) 0) c.mend_row.new.belief) (Agrees t new c.mend_row.new.belief)
+    (times_grows _ _ (cell_limit t) (all_grows old new t.cols (row + 1) t.rows (omega (arith, c.loop-row-test.true, c.rows-row-end.ensures.value))))
+    (steps_next g.W.Wire.went g.W.Wire.failures g.met.W.Wire.lawful c.args.wire.now c.loop-row.wire c.mend_row.new.wire _ _ (IsPiece t)
+    (all_differ old new t.cols row * cell_limit t) (span old new row 0 t.cols * cell_limit t) (all_differ old new t.cols (row + 1) * cell_limit t) (IsLost t)
+    (Agrees t old b) (Agrees t (mixed old new row 0) c.loop-row.belief) (Agrees t (mixed old new (row + 1) 0) c.mend_row.new.belief)
+    (sum_limit _ _ _ (cell_limit t) (all_more old new t.cols row)) c.loop-row.invariant.step c.in_err-mend_row.ensures.step))
+
+pub returns-clause-step : goal.returns-clause-step
+returns-clause-step g c =
+    let t = g.C.Certificate.table c.args.checked.now in
+    let b = c.args.belief.now in
+    let old = g.O.View.cells c.args.old.now in
+    let new = g.N.View.cells c.args.new.now in
+    let all : c.loop-row.row ≡ t.rows = omega (arith, c.rows-row-end.ensures.value) in
+    let P : ℕ → Type 0 = λ n. Steps {T = Unit {0}} {E = WireFault} g.W.Wire.went g.W.Wire.failures c.args.wire.now c.loop-row.wire (Ok tt) (IsPiece t) (all_differ old new t.cols n * cell_limit t) (IsLost t) (Agrees t old b) (Agrees t (mixed old new n 0) c.loop-row.belief) in
+    let limit = all_differ old new t.cols t.rows * cell_limit t in
+    steps_wider g.W.Wire.went g.W.Wire.failures c.args.wire.now c.loop-row.wire _ (IsPiece t) limit limit (IsLost t) (Agrees t old b) (Agrees t (mixed old new t.rows 0) c.loop-row.belief) (Agrees t old b) (Agrees t new c.loop-row.belief)
+    (omega arith) (λ s x. x) (all_done t old new c.loop-row.belief) (subst P all c.loop-row.invariant.step)

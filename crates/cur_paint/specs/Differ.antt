@@ -1,0 +1,18 @@
+-- In how many places two screens differ.
+use Rattle.std.specs.Prelude.{ℕ, ◌+◌, if◌then◌else◌, zero, suc}
+use Rattle.cur_looks.specs.Inks.{same}
+use Rattle.cur_looks.specs.declared.inks.Ink.{Ink}
+
+-- in one place: none or one
+abbrev pub differs : (ℕ → ℕ → Ink) → (ℕ → ℕ → Ink) → ℕ → ℕ → ℕ
+differs old new i j = if same (old i j) (new i j) then 0 else 1
+
+-- in so many places of a line from a column on
+abbrev pub span : (ℕ → ℕ → Ink) → (ℕ → ℕ → Ink) → ℕ → ℕ → ℕ → ℕ
+span old new i from zero = 0
+span old new i from (suc n) = span old new i from n + differs old new i (from + n)
+
+-- in so many lines
+abbrev pub all_differ : (ℕ → ℕ → Ink) → (ℕ → ℕ → Ink) → ℕ → ℕ → ℕ
+all_differ old new cols zero = 0
+all_differ old new cols (suc n) = all_differ old new cols n + span old new n 0 cols

@@ -1,5 +1,0 @@
-use Rattle.cur_windows.proofs.Settling.{settled_new}
-use Rattle.cur_windows.proofs.desks.Desk.place_new.Goals as goal
-
-pub invariant_of-self : goal.invariant_of-self
-invariant_of-self c = settled_new _ _ c.args.n c.args.grid c.args.origin c.args.window c.self.view_is c.self.invariant c.requires.number c.requires.free c.requires.sheet c.requires.whole c.requires.frame

@@ -1,5 +1,0 @@
-use Rattle.cur_windows.proofs.Sharing.{derwin_part}
-use Rattle.cur_windows.proofs.laws.derwin_makes_parts.Goals as goal
-
-pub returns : goal.returns
-returns c = derwin_part

@@ -1,0 +1,5 @@
+use Rattle.cur_windows.proofs.Showing.{screen_kept}
+use Rattle.cur_windows.proofs.virtual_screen.Virtual.show.Goals as goal
+
+pub invariant_of-self : goal.invariant_of-self
+invariant_of-self c = screen_kept _ _ _ _ _ c.self.view_is c.self.invariant c.copy_from.ensures.shape c.requires.cursor

@@ -1,0 +1,93 @@
+-- The virtual screen: what the terminal is to show (X/Open Curses Issue 7, noutrefresh, doupdate; "Color Manipulation").
+use Rattle.std.specs.Prelude.{◌≡◌, ℕ, ◌+◌, ◌<◌, ◌||◌, ◌==◌, List, length, slice_index_or, slice_set, replicate, Bool, false, Option, Some, None, IfSome, Result, Ok, Err, if◌then◌else◌, ℤ}
+use Rattle.grids.specs.declared.areas.Area.{Area}
+use Rattle.grids.specs.declared.areas.Place.{Place}
+use Rattle.cur_grid.specs.declared.refusals.Refusal.{Refusal}
+use Rattle.cur_grid.specs.declared.refusals.Refusal.TheVariants.{BadPair}
+use Rattle.cur_grid.specs.Grids.{Grid, line_at, copied, blank}
+use Rattle.cur_grid.specs.Windows.{place_below}
+use Rattle.cur_grid.specs.Calls.{place}
+use Rattle.cur_windows.specs.declared.slots.Slot.{Slot}
+use Rattle.cur_windows.specs.declared.virtual_screen.Colors.{Colors}
+use Rattle.cur_windows.specs.Desks.{State, grid_at, slot_of, with_window}
+use Rattle.cur_windows.specs.Making.{corner, window_only}
+
+pub record Screen : Type 0 where
+  pub rows : ℕ
+  pub cols : ℕ
+  pub grid : Grid
+  -- where the cursor is to stand, or none where it may stand anywhere
+  pub cursor : Option Place
+  -- the terminal is to be cleared first
+  pub clearok : Bool
+  -- the colours of the pairs
+  pub pairs : List Colors
+
+abbrev pub default_colors : Colors
+default_colors = record { foreground = None; background = None }
+
+abbrev pub colors_at : Screen → ℕ → Colors
+colors_at v p = slice_index_or v.pairs p default_colors
+
+-- the grid has the size, the cursor lies in it, and there are 64 pairs
+pub record IsScreen (v : Screen) : Type 0 where
+  pub lines : length v.grid ≡ v.rows
+  pub columns : (i : ℕ) → i < length v.grid → length (line_at v.grid i) ≡ v.cols
+  pub cursor : IfSome v.cursor (λ p. (p.row < v.rows) × (p.col < v.cols))
+  pub pairs : length v.pairs ≡ 64
+
+-- at first: spaces without attributes, the cursor at the corner, all pairs default on default
+abbrev pub new_screen : ℕ → ℕ → Screen
+new_screen rows cols = record {
+  rows = rows;
+  cols = cols;
+  grid = blank rows cols;
+  cursor = Some (place 0 0);
+  clearok = false;
+  pairs = replicate 64 default_colors;
+}
+
+-- what a refresh that was done leaves
+abbrev pub refreshed : Screen → Screen
+refreshed v = record v { clearok = false }
+
+abbrev pub initialized : Option ℕ → Option ℕ → Option ℕ → Screen → Screen × Result (Unit {0}) Refusal
+initialized (Some p) (Some f) (Some b) v =
+    if p == 0 then (v, Err BadPair) else (record v { pairs = slice_set v.pairs p (record { foreground = Some f; background = Some b }) }, Ok tt)
+initialized (Some p) (Some f) None v = (v, Err BadPair)
+initialized (Some p) None b v = (v, Err BadPair)
+initialized None f b v = (v, Err BadPair)
+
+-- init_pair: pairs 1 to 63, colours 0 to 7
+abbrev pub init_pair : ℤ → ℤ → ℤ → Screen → Screen × Result (Unit {0}) Refusal
+init_pair p f b v = initialized (place_below p 64) (place_below f 8) (place_below b 8) v
+
+-- a rectangle of the screen gets the cells of a grid from a place on
+abbrev pub shown : Area → Grid → Place → Option Place → Bool → Screen → Screen
+shown area g from cursor clears v = record v { grid = copied area from g v.grid; cursor = cursor; clearok = v.clearok || clears }
+
+-- the rectangle of a window on the screen, and where its cursor stands there
+abbrev pub area_on_screen : State → Slot → Area
+area_on_screen d s = record { top = (corner d s).0; left = (corner d s).1; rows = s.window.area.rows; cols = s.window.area.cols }
+
+abbrev pub cursor_on_screen : State → Slot → Option Place
+cursor_on_screen d s = if s.window.leaves then None else Some (place ((corner d s).0 + s.window.row) ((corner d s).1 + s.window.col))
+
+-- the desk and the screen after, and the answer
+abbrev pub Refresh : Type 0
+Refresh = State × Screen × Result (Unit {0}) Refusal
+
+abbrev pub refresh : State → Screen → Result (Unit {0}) Refusal → Refresh
+refresh d v r = (d, v, r)
+
+abbrev pub if_shown : {A : Type 0} → Result A Refusal → State → Screen → (A → Refresh) → Refresh
+if_shown (Ok a) d v next = next a
+if_shown (Err e) d v next = (d, v, Err e)
+
+-- noutrefresh: the whole window is copied, and its clearok goes over to the screen
+abbrev pub noutrefresh : State → Screen → ℕ → Refresh
+noutrefresh d v n = if_shown (slot_of d n) d v (λ s. if_shown (window_only d s) d v (λ u. (
+  with_window d n s (record s.window { clears = false }),
+  shown (area_on_screen d s) (grid_at d s.root) (place s.window.area.top s.window.area.left) (cursor_on_screen d s) s.window.clears v,
+  Ok tt,
+)))

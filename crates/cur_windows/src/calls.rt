@@ -1,0 +1,293 @@
+//! The calls on one window.
+ghost use Rattle.std.specs.Prelude.{◌≡◌, bit_and, bit_or, ◌-◌};
+ghost use Rattle.cur_windows.specs.Desks as spec;
+ghost use Rattle.cur_grid.specs.Calls as call;
+ghost use Rattle.cur_grid.specs.Windows as window;
+
+use crate::desks::Desk;
+use cur_grid::{Attrs, Border, Put, Refusal};
+
+// The calls on one window. Each refuses with `Full` a number above 63, and else with `NoWindow` one that names no
+// window; a refusal changes nothing, but for `NoScroll` and strings.
+impl Desk {
+    /// The cursor goes to a place of the window (X/Open Curses, `move`). `OutOfWindow` where there is none.
+    pub fn move_to(&mut self, id: usize, y: i32, x: i32) -> Result<(), Refusal>
+        ensures { spec.step self.new result ≡ spec.on_cursor self.old id (window.move_to y x) }
+    {
+        let mut slot = self.find(id)?;
+        let answer = slot.window.move_to(y, x);
+        self.windows[id] = Some(slot);
+        answer
+    }
+
+    /// The scrolling region becomes the lines from `top` to `bottom`. `BadRegion` where these aren't lines of the window, in order.
+    pub fn setscrreg(&mut self, id: usize, top: i32, bottom: i32) -> Result<(), Refusal>
+        ensures { spec.step self.new result ≡ spec.on_cursor self.old id (window.set_region top bottom) }
+    {
+        let mut slot = self.find(id)?;
+        let answer = slot.window.set_region(top, bottom);
+        self.windows[id] = Some(slot);
+        answer
+    }
+
+    /// The pair of written characters that have none. `BadPair` for a number that isn't 0 to 63.
+    pub fn color_set(&mut self, id: usize, pair: i32) -> Result<(), Refusal>
+        ensures { spec.step self.new result ≡ spec.on_cursor self.old id (window.set_pair pair) }
+    {
+        let mut slot = self.find(id)?;
+        let answer = slot.window.set_pair(pair);
+        self.windows[id] = Some(slot);
+        answer
+    }
+
+    /// The background of what is written and erased from now on. `BadCell` for a byte outside 32 to 126, else `BadPair`.
+    pub fn bkgdset(&mut self, id: usize, put: Put) -> Result<(), Refusal>
+        ensures { spec.step self.new result ≡ spec.on_cursor self.old id (window.set_background put) }
+    {
+        let mut slot = self.find(id)?;
+        let answer = slot.window.set_background(put);
+        self.windows[id] = Some(slot);
+        answer
+    }
+
+    /// Whether the window may scroll.
+    pub fn scrollok(&mut self, id: usize, on: bool) -> Result<(), Refusal>
+        ensures { spec.step self.new result ≡ spec.set self.old id (λ w. record w { scrolls = on }) }
+    {
+        let mut slot = self.find(id)?;
+        slot.window.scrolls = on;
+        self.windows[id] = Some(slot);
+        Ok(())
+    }
+
+    /// Whether the window's cursor may be left anywhere.
+    pub fn leaveok(&mut self, id: usize, on: bool) -> Result<(), Refusal>
+        ensures { spec.step self.new result ≡ spec.set self.old id (λ w. record w { leaves = on }) }
+    {
+        let mut slot = self.find(id)?;
+        slot.window.leaves = on;
+        self.windows[id] = Some(slot);
+        Ok(())
+    }
+
+    /// Whether the screen is to be cleared at the next refresh of this window.
+    pub fn clearok(&mut self, id: usize, on: bool) -> Result<(), Refusal>
+        ensures { spec.step self.new result ≡ spec.set self.old id (λ w. record w { clears = on }) }
+    {
+        let mut slot = self.find(id)?;
+        slot.window.clears = on;
+        self.windows[id] = Some(slot);
+        Ok(())
+    }
+
+    /// The attributes of what is written from now on.
+    pub fn attrset(&mut self, id: usize, attrs: Attrs) -> Result<(), Refusal>
+        ensures { spec.step self.new result ≡ spec.set self.old id (λ w. record w { attrs = attrs }) }
+    {
+        let mut slot = self.find(id)?;
+        slot.window.attrs = attrs;
+        self.windows[id] = Some(slot);
+        Ok(())
+    }
+
+    /// These attributes too are those of what is written from now on.
+    pub fn attron(&mut self, id: usize, attrs: Attrs) -> Result<(), Refusal>
+        ensures { spec.step self.new result ≡ spec.set self.old id (λ w. record w { attrs = record { 0 = bit_or w.attrs.0 attrs.0 } }) }
+    {
+        let mut slot = self.find(id)?;
+        slot.window.attrs = slot.window.attrs.with(attrs);
+        self.windows[id] = Some(slot);
+        Ok(())
+    }
+
+    /// These attributes are no longer those of what is written.
+    pub fn attroff(&mut self, id: usize, attrs: Attrs) -> Result<(), Refusal>
+        ensures { spec.step self.new result ≡ spec.set self.old id (λ w. record w { attrs = record { 0 = bit_and w.attrs.0 (255 - attrs.0) } }) }
+    {
+        let mut slot = self.find(id)?;
+        slot.window.attrs = slot.window.attrs.without(attrs);
+        self.windows[id] = Some(slot);
+        Ok(())
+    }
+
+    /// A character at the cursor, which moves on. `BadCell` for a byte above 127, else `BadPair` for a pair above 63, else
+    /// `NoScroll` where the cursor would leave the last line: the cell is written, and the cursor stays.
+    pub fn addch(&mut self, id: usize, put: Put) -> Result<(), Refusal>
+        ensures { spec.step self.new result ≡ spec.on_window self.old id (call.added put) }
+    {
+        let mut slot = self.find(id)?;
+        let grid = &mut self.grids[slot.root as usize];
+        let answer = slot.window.add(grid, put);
+        self.windows[id] = Some(slot);
+        answer
+    }
+
+    /// A string at the cursor. It stops at its first refusal, and what was written before stands.
+    pub fn addstr(&mut self, id: usize, text: &[u8]) -> Result<(), Refusal>
+        ensures { spec.step self.new result ≡ spec.on_window self.old id (call.added_all text.now) }
+    {
+        let mut slot = self.find(id)?;
+        let grid = &mut self.grids[slot.root as usize];
+        let answer = slot.window.add_all(grid, text);
+        self.windows[id] = Some(slot);
+        answer
+    }
+
+    /// The whole window is erased, and the cursor goes to its corner.
+    pub fn erase(&mut self, id: usize) -> Result<(), Refusal>
+        ensures { spec.step self.new result ≡ spec.on_window self.old id (call.erased) }
+    {
+        let mut slot = self.find(id)?;
+        let grid = &mut self.grids[slot.root as usize];
+        slot.window.erase(grid);
+        self.windows[id] = Some(slot);
+        Ok(())
+    }
+
+    /// As `erase`, and the screen is to be cleared at the next refresh of this window.
+    pub fn clear(&mut self, id: usize) -> Result<(), Refusal>
+        ensures { spec.step self.new result ≡ spec.on_window self.old id (call.cleared) }
+    {
+        let mut slot = self.find(id)?;
+        let grid = &mut self.grids[slot.root as usize];
+        slot.window.clear(grid);
+        self.windows[id] = Some(slot);
+        Ok(())
+    }
+
+    /// The background changes, in the window's cells too. `BadCell` for a byte outside 32 to 126, else `BadPair`.
+    pub fn bkgd(&mut self, id: usize, put: Put) -> Result<(), Refusal>
+        ensures { spec.step self.new result ≡ spec.on_window self.old id (call.change_background put) }
+    {
+        let mut slot = self.find(id)?;
+        let grid = &mut self.grids[slot.root as usize];
+        let answer = slot.window.change_background(grid, put);
+        self.windows[id] = Some(slot);
+        answer
+    }
+
+    /// A character comes in at the cursor, and the line's rest goes right. `BadCell` for a byte outside 32 to 126, else
+    /// `BadPair`.
+    pub fn insch(&mut self, id: usize, put: Put) -> Result<(), Refusal>
+        ensures { spec.step self.new result ≡ spec.on_grid self.old id (call.insert_char put) }
+    {
+        let slot = self.find(id)?;
+        let grid = &mut self.grids[slot.root as usize];
+        slot.window.insert_char(grid, put)
+    }
+
+    /// The cursor's cell goes, and the line's rest goes left.
+    pub fn delch(&mut self, id: usize) -> Result<(), Refusal>
+        ensures { spec.step self.new result ≡ spec.on_grid self.old id (call.delete_char) }
+    {
+        let slot = self.find(id)?;
+        let grid = &mut self.grids[slot.root as usize];
+        slot.window.delete_char(grid);
+        Ok(())
+    }
+
+    /// A line comes in at the cursor's, and those from there to the window's bottom go down.
+    pub fn insertln(&mut self, id: usize) -> Result<(), Refusal>
+        ensures { spec.step self.new result ≡ spec.on_grid self.old id (call.insert_line) }
+    {
+        let slot = self.find(id)?;
+        let grid = &mut self.grids[slot.root as usize];
+        slot.window.insert_line(grid);
+        Ok(())
+    }
+
+    /// The cursor's line goes, and those below it go up.
+    pub fn deleteln(&mut self, id: usize) -> Result<(), Refusal>
+        ensures { spec.step self.new result ≡ spec.on_grid self.old id (call.delete_line) }
+    {
+        let slot = self.find(id)?;
+        let grid = &mut self.grids[slot.root as usize];
+        slot.window.delete_line(grid);
+        Ok(())
+    }
+
+    /// The cells from the cursor to the line's end are erased.
+    pub fn clrtoeol(&mut self, id: usize) -> Result<(), Refusal>
+        ensures { spec.step self.new result ≡ spec.on_grid self.old id (call.clear_line) }
+    {
+        let slot = self.find(id)?;
+        let grid = &mut self.grids[slot.root as usize];
+        slot.window.clear_line(grid);
+        Ok(())
+    }
+
+    /// The cells from the cursor to the window's end are erased.
+    pub fn clrtobot(&mut self, id: usize) -> Result<(), Refusal>
+        ensures { spec.step self.new result ≡ spec.on_grid self.old id (call.clear_bottom) }
+    {
+        let slot = self.find(id)?;
+        let grid = &mut self.grids[slot.root as usize];
+        slot.window.clear_bottom(grid);
+        Ok(())
+    }
+
+    /// At most `n` cells from the cursor to the line's end. `BadCell` for a byte outside 32 to 126, else `BadPair`.
+    pub fn hline(&mut self, id: usize, put: Put, n: i32) -> Result<(), Refusal>
+        ensures { spec.step self.new result ≡ spec.on_grid self.old id (call.horizontal put n) }
+    {
+        let slot = self.find(id)?;
+        let grid = &mut self.grids[slot.root as usize];
+        slot.window.horizontal(grid, put, n)
+    }
+
+    /// At most `n` cells from the cursor to the window's bottom. `BadCell` for a byte outside 32 to 126, else `BadPair`.
+    pub fn vline(&mut self, id: usize, put: Put, n: i32) -> Result<(), Refusal>
+        ensures { spec.step self.new result ≡ spec.on_grid self.old id (call.vertical put n) }
+    {
+        let slot = self.find(id)?;
+        let grid = &mut self.grids[slot.root as usize];
+        slot.window.vertical(grid, put, n)
+    }
+
+    /// A border inside the window's edges. `BadCell` for a byte outside 32 to 126 anywhere in it, else `BadPair`.
+    pub fn border(&mut self, id: usize, border: &Border) -> Result<(), Refusal>
+        ensures { spec.step self.new result ≡ spec.on_grid self.old id (call.bordered border.now) }
+    {
+        let slot = self.find(id)?;
+        let grid = &mut self.grids[slot.root as usize];
+        slot.window.draw_border(grid, border)
+    }
+
+    /// The scrolling region goes up by `n` lines, down if negative. `NoScroll` for a window that may not scroll.
+    pub fn scroll(&mut self, id: usize, n: i32) -> Result<(), Refusal>
+        ensures { spec.step self.new result ≡ spec.on_grid self.old id (call.scroll_by n) }
+    {
+        let slot = self.find(id)?;
+        let grid = &mut self.grids[slot.root as usize];
+        slot.window.scroll(grid, n)
+    }
+
+    /// A border with these sides and the default corners (`box`). `BadCell` for a byte outside 32 to 126, else `BadPair`.
+    pub fn draw_box(&mut self, id: usize, vertical: Put, horizontal: Put) -> Result<(), Refusal>
+        ensures { spec.step self.new result ≡ spec.on_grid self.old id (call.bordered (call.box_of vertical horizontal)) }
+    {
+        self.border(id, &Border::sides(vertical, horizontal))
+    }
+
+    /// Changes nothing: lines are scrolled where it helps.
+    pub fn idlok(&self, id: usize, _on: bool) -> Result<(), Refusal>
+        ensures { spec.step self.now result ≡ spec.unchanged self.now id }
+    {
+        self.find(id).map(|_slot| ())
+    }
+
+    /// Changes nothing: whole windows are copied.
+    pub fn touchwin(&self, id: usize) -> Result<(), Refusal>
+        ensures { spec.step self.now result ≡ spec.unchanged self.now id }
+    {
+        self.find(id)?;
+        Ok(())
+    }
+
+    /// Changes nothing, and refuses no numbers: whole windows are copied.
+    pub fn touchline(&self, id: usize, _y: i32, _n: i32) -> Result<(), Refusal>
+        ensures { spec.step self.now result ≡ spec.unchanged self.now id }
+    {
+        self.touchwin(id)
+    }
+}

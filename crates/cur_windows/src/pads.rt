@@ -1,0 +1,128 @@
+//! What the crate of pads calls.
+ghost use Rattle.std.specs.Prelude.{◌≡◌, ◌<◌, ◌≤◌, ◌+◌, None, IfOk, IsOk, IfSome, MatchResult};
+ghost use Rattle.cur_grid.specs.Grids.{is_in};
+ghost use Rattle.cur_grid.specs.Windows.{IsWindow};
+ghost use Rattle.cur_grid.specs.Spans.{IsAreaWithin};
+ghost use Rattle.cur_windows.specs.Desks as spec;
+ghost use Rattle.cur_windows.specs.Making as make;
+ghost use Rattle.cur_windows.specs.Pads.{is_pad, pad_added, part_cursor, part_shown};
+
+use crate::desks::{Desk, blank_grid};
+use crate::slots::Origin;
+use crate::virtual_screen::Virtual;
+use cur_grid::{Refusal, Window};
+use grids::{Area, Place};
+use std::alloc::AllocError;
+
+// What the crate of pads calls. A pad is a window that lies on no screen; parts of it are shown.
+impl Desk {
+    /// Whether the number names a pad or a part of one. `Full`, `NoWindow`.
+    pub fn is_pad(&self, id: usize) -> Result<bool, Refusal>
+        ensures { result ≡ is_pad self.now id }
+    {
+        let slot = self.find(id)?;
+        Ok(self.origins[slot.root as usize].pad)
+    }
+
+    /// A new pad of 1 to 1000 rows and columns. That the number is free is the caller's condition. An error where a growth
+    /// was refused; then nothing has changed.
+    pub fn add_pad(&mut self, n: usize, rows: u16, cols: u16) -> Result<(), AllocError>
+        requires number { n < 64 }
+        requires free { spec.window_at self.old n ≡ None }
+        requires rows { (0 < rows) × (rows ≤ 1000) }
+        requires cols { (0 < cols) × (cols ≤ 1000) }
+        ensures { MatchResult result (λ u. self.new ≡ pad_added self.old n rows cols) (λ e. self.new ≡ self.old) }
+    {
+        let grid = blank_grid(self.alloc, rows, cols)?;
+        let origin = Origin {
+            top: 0,
+            left: 0,
+            pad: true,
+        };
+        let whole = Area {
+            top: 0,
+            left: 0,
+            rows,
+            cols,
+        };
+        self.add_root(n, grid, origin, Window::new(whole));
+        Ok(())
+    }
+
+    /// A new window that is a part of another one and shares its cells, at a place of it. That the number is free, that
+    /// there is such a window and that the part lies in it is the caller's condition.
+    pub fn add_subpad(&mut self, n: usize, id: usize, area: Area)
+        requires number { n < 64 }
+        requires free { spec.window_at self.old n ≡ None }
+        requires there { IsOk (spec.slot_of self.old id) }
+        requires inside { IfOk (spec.slot_of self.old id) (λ s. IsAreaWithin s.window.area.rows s.window.area.cols area) }
+        ensures { IfOk (spec.slot_of self.old id) (λ s. self.new ≡ make.subwindow_added self.old n id s area) }
+    {
+        let Ok(slot) = self.find(id) else {
+            return;
+        };
+        self.add_subwindow(n, id, &slot, area);
+    }
+
+    /// A part of a window is copied to a place of the virtual screen, whose cursor becomes the window's if the window
+    /// doesn't leave it and it lies in that part, else none; the window's `clearok` goes over to the screen. That there is
+    /// such a window, that the part lies in it and, where it is copied to, on the screen, and that the screen has the
+    /// desk's size is the caller's condition.
+    pub fn show_part(&mut self, id: usize, part: Area, to: Place, screen: &mut Virtual)
+        requires there { IsOk (spec.slot_of self.old id) }
+        requires inside { IfOk (spec.slot_of self.old id) (λ s. (part.top + part.rows ≤ s.window.area.rows) × (part.left + part.cols ≤ s.window.area.cols)) }
+        requires bottom { to.row + part.rows ≤ (self.old).rows }
+        requires right { to.col + part.cols ≤ (self.old).cols }
+        requires screen_rows { (screen.old).rows ≡ (self.old).rows }
+        requires screen_cols { (screen.old).cols ≡ (self.old).cols }
+        ensures { IfOk (spec.slot_of self.old id) (λ s. (self.new, screen.new) ≡ part_shown self.old screen.old id s part to) }
+    {
+        let Ok(mut slot) = self.find(id) else {
+            return;
+        };
+        let from = Place {
+            row: slot.window.area.top + part.top,
+            col: slot.window.area.left + part.left,
+        };
+        let area = Area {
+            top: to.row,
+            left: to.col,
+            ..part
+        };
+        // no screen is larger than a window may be
+        let _ = &self.rows;
+        let cursor = cursor_in_part(&slot.window, part, to);
+        screen.show(area, self.grid_of(&slot), from, cursor, slot.window.clears);
+        slot.window.clears = false;
+        self.windows[id] = Some(slot);
+    }
+}
+
+// Where the window's cursor stands if this part of it is shown from a place on.
+fn cursor_in_part(window: &Window, part: Area, to: Place) -> Option<Place>
+    requires window { IsWindow window.now }
+    requires height { to.row + part.rows ≤ 1000 }
+    requires width { to.col + part.cols ≤ 1000 }
+    ensures value { result ≡ part_cursor window.now part to }
+    ensures within { IfSome result (λ p. (p.row < to.row + part.rows) × (p.col < to.col + part.cols)) }
+{
+    if window.leaves {
+        return None;
+    }
+    if !is_in(part, window.row, window.col) {
+        return None;
+    }
+    Some(Place {
+        row: to.row + (window.row - part.top),
+        col: to.col + (window.col - part.left),
+    })
+}
+
+fn is_in(part: Area, row: u16, col: u16) -> bool
+    ensures { result ≡ is_in part row col }
+{
+    let (row, col) = (row as u32, col as u32);
+    let (top, left) = (part.top as u32, part.left as u32);
+    let rows = top <= row && row < top + part.rows as u32;
+    rows && left <= col && col < left + part.cols as u32
+}

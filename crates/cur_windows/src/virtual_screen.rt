@@ -1,0 +1,158 @@
+//! The virtual screen and its colour pairs.
+ghost use Rattle.std.specs.Prelude.{◌≡◌, ◌<◌, ◌≤◌, ◌+◌, IfOk, IfSome, replicate};
+ghost use Rattle.cur_grid.specs.Grids.{Fits, line_at, moved_to};
+ghost use Rattle.cur_windows.specs.VirtualScreen as spec;
+
+use crate::desks::blank_grid;
+use cur_grid::{Cell, PAIRS, Refusal, place_below};
+use grids::{Area, Grid, Place};
+use std::alloc::{AllocError, Global};
+use std::marker::Model;
+use vt_term::Size;
+
+// How many colours a pair may have.
+const COLORS: u16 = 8;
+
+/// The colours of a pair, 0 to 7 in the order of ECMA-48's SGR. None is the terminal's own.
+#[derive(Clone, Copy)]
+pub struct Colors {
+    pub foreground: Option<u8>,
+    pub background: Option<u8>,
+}
+
+/// What the terminal is to show: cells, a cursor or none, and the colours of the pairs.
+#[derive(Drop)]
+pub struct Virtual {
+    rows: u16,
+    cols: u16,
+    grid: Grid<Cell>,
+    cursor: Option<Place>,
+    clearok: bool,
+    pairs: Vec<Colors>,
+}
+
+impl Model for Virtual {
+    ghost use Rattle.cur_windows.specs.VirtualScreen.{Screen, IsScreen};
+
+    ghost Value = { Screen };
+
+    ghost view = { λ v. record { rows = v.rows; cols = v.cols; grid = v.grid; cursor = v.cursor; clearok = v.clearok; pairs = v.pairs.items } };
+
+    ghost invariant = { λ v. IsScreen (record { rows = v.rows; cols = v.cols; grid = v.grid; cursor = v.cursor; clearok = v.clearok; pairs = v.pairs.items }) };
+}
+
+impl Virtual {
+    /// The first screen: spaces without attributes, the cursor at the corner, all pairs default on default. An error where a
+    /// growth was refused.
+    pub fn new(alloc: Global, size: Size) -> Result<Virtual, AllocError>
+        ensures { IfOk result (λ screen. screen ≡ spec.new_screen size.rows size.cols) }
+    {
+        let (rows, cols) = (size.rows as u16, size.cols as u16);
+        let pairs = default_pairs(alloc)?;
+        Ok(Virtual {
+            rows,
+            cols,
+            grid: blank_grid(alloc, rows, cols)?,
+            cursor: Some(Place { row: 0, col: 0 }),
+            clearok: false,
+            pairs,
+        })
+    }
+
+    /// One line. That it is on the screen is the caller's condition.
+    pub fn row(&self, y: u16) -> &[Cell]
+        requires { y < (self.now).rows }
+        ensures value { result.now ≡ line_at (self.now).grid y }
+        ensures legal { spec.IsScreen self.now }
+    {
+        self.grid.line(y as usize)
+    }
+
+    /// Where the cursor is to stand, or none where it may stand anywhere.
+    pub fn cursor(&self) -> Option<Place>
+        ensures { result ≡ (self.now).cursor }
+    {
+        self.cursor
+    }
+
+    /// Whether the terminal is to be cleared first.
+    pub fn clearok(&self) -> bool
+        ensures { result ≡ (self.now).clearok }
+    {
+        self.clearok
+    }
+
+    /// To be called after a refresh that was done: nothing is to be cleared any more.
+    pub fn shown(&mut self)
+        ensures { self.new ≡ spec.refreshed self.old }
+    {
+        self.clearok = false;
+    }
+
+    /// The colours of a pair (`init_pair`). `BadPair` for a pair that isn't 1 to 63, or a colour that isn't 0 to 7; then
+    /// nothing has changed.
+    pub fn init_pair(&mut self, pair: i32, foreground: i32, background: i32) -> Result<(), Refusal>
+        ensures { (self.new, result) ≡ spec.init_pair pair foreground background self.old }
+    {
+        let Some(pair) = place_below(pair, PAIRS as u16) else {
+            return Err(Refusal::BadPair);
+        };
+        let Some(foreground) = place_below(foreground, COLORS) else {
+            return Err(Refusal::BadPair);
+        };
+        let Some(background) = place_below(background, COLORS) else {
+            return Err(Refusal::BadPair);
+        };
+        if pair == 0 {
+            return Err(Refusal::BadPair);
+        }
+        self.pairs[pair as usize] = Colors {
+            foreground: Some(foreground as u8),
+            background: Some(background as u8),
+        };
+        Ok(())
+    }
+
+    /// The colours of a pair below 64, which is the caller's condition: foreground and background.
+    pub fn pair(&self, pair: u8) -> (Option<u8>, Option<u8>)
+        requires { pair < 64 }
+        ensures { result ≡ ((spec.colors_at self.now pair).foreground, (spec.colors_at self.now pair).background) }
+    {
+        let colors = self.pairs[pair as usize];
+        (colors.foreground, colors.background)
+    }
+
+    // A rectangle gets the cells of a grid from a place on.
+    pub(crate) fn show(
+        &mut self,
+        area: Area,
+        grid: &Grid<Cell>,
+        from: Place,
+        cursor: Option<Place>,
+        clears: bool,
+    )
+        requires rows { area.top + area.rows ≤ (self.old).rows }
+        requires cols { area.left + area.cols ≤ (self.old).cols }
+        requires source { Fits (moved_to area from) grid.now }
+        requires cursor { IfSome cursor (λ p. (p.row < (self.old).rows) × (p.col < (self.old).cols)) }
+        ensures { self.new ≡ spec.shown area grid.now from cursor clears self.old }
+    {
+        self.grid.copy_from(area, grid, from);
+        self.cursor = cursor;
+        self.clearok = self.clearok | clears;
+    }
+}
+
+fn default_pairs(alloc: Global) -> Result<Vec<Colors>, AllocError>
+    ensures { IfOk result (λ pairs. pairs.items ≡ replicate 64 spec.default_colors) }
+{
+    let colors = Colors {
+        foreground: None,
+        background: None,
+    };
+    let mut pairs = Vec::with_capacity(alloc, PAIRS as usize)?;
+    for _k in 0..PAIRS {
+        pairs.push(colors)?;
+    }
+    Ok(pairs)
+}

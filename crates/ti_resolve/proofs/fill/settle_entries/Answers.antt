@@ -1,9 +1,0 @@
-use Rattle.std.proofs.Common.{refl, arith}
-use Rattle.ti_resolve.proofs.Settled.{entries_go_on}
-use Rattle.ti_resolve.proofs.fill.settle_entries.Goals as goal
-
-pub loop-place-preserved : goal.loop-place-preserved
-loop-place-preserved c = record {
-  sized = omega arith;
-  settled = entries_go_on c.args.raws.now c.args.places.now c.loop-place.place-index _ c.fields_of.result.now _ _ _ (omega arith) refl c.fields_of.ensures c.in_ok-settle_each.ensures c.loop-place.invariant.settled;
-}

@@ -1,0 +1,4 @@
+pub mod Dropping
+pub mod Changing
+pub mod Leading
+pub mod Fronting

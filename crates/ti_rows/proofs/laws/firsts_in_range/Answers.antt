@@ -1,0 +1,5 @@
+use Rattle.ti_rows.proofs.Listing.{firsts_in_range}
+use Rattle.ti_rows.proofs.laws.firsts_in_range.Goals as goal
+
+pub returns : goal.returns
+returns c = firsts_in_range

@@ -1,0 +1,5 @@
+use Rattle.ti_rows.proofs.Naming.{names_rise}
+use Rattle.ti_rows.proofs.laws.names_rise.Goals as goal
+
+pub returns : goal.returns
+returns c = names_rise
