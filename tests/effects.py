@@ -188,7 +188,7 @@ def main():
         print("effects: the strings of the system's terminals are skipped, since infocmp or tput is missing")
     with tempfile.TemporaryDirectory() as work:
         given = b"".join(case for _, case, _ in mine + theirs)
-        printed = run_cases(probe(work, "effects_probe.txt", ["vt_words"]), [Case(given=given)])[0].out
+        printed = run_cases(probe(work, "effects_probe.txt"), [Case(given=given)])[0].out
     printed = printed.decode("latin-1").splitlines()
     if len(printed) != len(mine) + len(theirs):
         sys.exit(f"effects: {len(printed)} lines were printed for {len(mine) + len(theirs)} cases")
