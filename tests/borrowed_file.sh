@@ -1,5 +1,5 @@
 #!/bin/sh
-# What `decode` gives lends its bytes from the file: a program that keeps it, or its names, for longer than the
+# What `decode` returns borrows from the file: a program that keeps it, or its names, for longer than the
 # file must not compile. The compiler refuses that before any proof, so no must-fail edit can show it.
 # The same program with a file that lives long enough is taken, and runs.
 set -eu

@@ -1,7 +1,7 @@
 #!/bin/sh
-# A line that `row_mut` lends holds the desk: a program that makes another call on the desk while the line is still used
+# A row that `row_mut` returns borrows the desk: a program that makes another call on the desk while the row is still used
 # must not compile. The compiler refuses that before any proof, so no must-fail edit can show it.
-# The same program with the call behind the line's last use is taken, and runs.
+# The same program with the call after the last use of the row compiles, and runs.
 set -eu
 cd -- "$(dirname -- "$0")/.."
 . tests/probing
@@ -49,8 +49,8 @@ probe looked_at 'let _ = desk.touchwin(0);' '' '' &
 probe drawn_on '' 'let _ = desk.erase(0);' '' &
 wait
 
-must_run "$work/right" "borrowed_row: a program that is done with its line is refused"
+must_run "$work/right" "borrowed_row: a program that is done with its row is refused"
 for held in changed looked_at drawn_on; do
-    must_not_compile "$work/$held" 'error\[borrow-e0\(499\|502\)\]' "borrowed_row: a desk may be $held while a line of it is held"
+    must_not_compile "$work/$held" 'error\[borrow-e0\(499\|502\)\]' "borrowed_row: a desk may be $held while a row of it is borrowed"
 done
-echo "borrowed_row: while a line is held, no other call on the desk compiles"
+echo "borrowed_row: while a row is borrowed, no other call on the desk compiles"

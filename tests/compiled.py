@@ -133,7 +133,7 @@ def compare(label, mine, other):
         for it in names:
             if mine[1].get(it) != other[1].get(it):
                 print(f"  {it}: {mine[1].get(it)} and {other[1].get(it)}", file=sys.stderr)
-        sys.exit(f"compiled: {label}: ncurses tells {other and other[0]}, and here it is {mine and mine[0]}")
+        sys.exit(f"compiled: {label}: ncurses has {other and other[0]}, and ticurses {mine and mine[0]}")
 
 
 def compiled_there(folder, name, text):
@@ -185,9 +185,9 @@ def main():
         for at, name in enumerate(names):
             cases.append(Case(["tic", f"{at}.ti:{name}", "--out", place_for(f"{work}/{at}", name)]))
         data = {f"{at}.ti": text for at, (text, _) in enumerate(sources)}
-        told = run_cases(f"{TOP}/crates/ticurses", cases, data)
+        ran = run_cases(f"{TOP}/crates/ticurses", cases, data)
         written = [theirs(f"{work}/{at}", name)[1] for at, name in enumerate(names)]
-    for (folder, name, _), (_, other), mine in zip(entries, read, told):
+    for (folder, name, _), (_, other), mine in zip(entries, read, ran):
         compare(f"{folder}/{name} read here", fields_of(mine.out), other)
     for at, (name, (_, wanted)) in enumerate(zip(names, sources)):
         compare(f"{name} written here", wanted, written[at])

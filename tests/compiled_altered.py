@@ -119,7 +119,7 @@ def main():
         wanted = "".join(f"{line_of(it)}\n" for it in files[at : at + 4000])
         cases.append(Case(given=given, wanted=wanted.encode()))
     with tempfile.TemporaryDirectory() as work:
-        run_cases(probe(work, "compiled_altered_probe.txt", ["ti_compiled"]), cases)
+        run_cases(probe(work, "compiled_altered_probe.txt"), cases)
     read_well = sum(re.match("[A-Z]", line_of(it)) is None for it in files)
     print(f"compiled_altered: {len(files)} files, cut or altered at each byte of {len(FILES)} small ones, have the answers of a")
     print(f"compiled_altered: plain reader, {read_well} of them an entry and the others a fault")

@@ -155,7 +155,7 @@ def expanded(terminal, strings, name, params):
 
 
 def system_lines():
-    """The label, the case and a test of what is told, of each string of the terminals that the system knows; and the
+    """The label, the case and a test of what is printed, for each string of the terminals that the system knows; and the
     names of these."""
     lines, known = [], []
     for terminal in TERMINALS:
@@ -174,10 +174,10 @@ def system_lines():
     return lines, known
 
 
-def is_wanted(told, wanted, free):
+def is_wanted(printed, wanted, free):
     """Whether the words that must be there are, and beside them only those that may."""
-    words = [word for word in told.split() if word != "-" and not word.startswith(free)]
-    return told[:4] != "none" and bool(re.fullmatch(wanted, " ".join(words)))
+    words = [word for word in printed.split() if word != "-" and not word.startswith(free)]
+    return printed[:4] != "none" and bool(re.fullmatch(wanted, " ".join(words)))
 
 
 def main():
@@ -188,26 +188,26 @@ def main():
         print("effects: the strings of the system's terminals are skipped, since infocmp or tput is missing")
     with tempfile.TemporaryDirectory() as work:
         given = b"".join(case for _, case, _ in mine + theirs)
-        told = run_cases(probe(work, "effects_probe.txt", ["vt_words"]), [Case(given=given)])[0].out
-    told = told.decode("latin-1").splitlines()
-    if len(told) != len(mine) + len(theirs):
-        sys.exit(f"effects: {len(told)} lines are told of {len(mine) + len(theirs)}")
+        printed = run_cases(probe(work, "effects_probe.txt"), [Case(given=given)])[0].out
+    printed = printed.decode("latin-1").splitlines()
+    if len(printed) != len(mine) + len(theirs):
+        sys.exit(f"effects: {len(printed)} lines were printed for {len(mine) + len(theirs)} cases")
     bad = 0
-    for (label, _, wanted), line in zip(mine, told):
+    for (label, _, wanted), line in zip(mine, printed):
         if line != wanted and not (wanted == "none" and re.fullmatch("none [0-9a-f]+", line)):
             bad += 1
-            print(f"effects: {label}\neffects:   is told to be {line}", file=sys.stderr)
-    for (label, _, (wanted, free)), line in zip(theirs, told[len(mine) :]):
+            print(f"effects: {label}\neffects:   printed {line}", file=sys.stderr)
+    for (label, _, (wanted, free)), line in zip(theirs, printed[len(mine) :]):
         if not is_wanted(line, wanted, free):
             bad += 1
-            print(f"effects: {label}\neffects:   is told to be {line}, and {wanted or '-'} was wanted", file=sys.stderr)
+            print(f"effects: {label}\neffects:   printed {line}, expected {wanted or '-'}", file=sys.stderr)
     if bad:
         sys.exit(f"effects: {bad} lines differ")
     summary(mine, theirs, known)
 
 
 def summary(mine, theirs, known):
-    """Tells what was compared."""
+    """Prints what was compared."""
     kinds = {letter: [wanted for _, case, wanted in mine if case[:1] == letter] for letter in (b"e", b"r", b"c")}
     texts = {wanted for _, _, wanted in mine} - {"none"}
     print(f"effects: {len(kinds[b'e'])} strings from their starts have the records worked out by hand, {kinds[b'e'].count('none')}")

@@ -29,7 +29,7 @@ while read -r file; do
     source=source$((count / 40))
     [ $((count % 40)) -ne 0 ] || set -- "$@" "$source=$work/$source"
     cat "$work/text" >>"$work/$source"
-    # a compiled file of ncurses may tell a cancellation; for us it is that the capability is not there
+    # a compiled file of ncurses may have a cancellation; here that is an absent capability
     grep -v '^	[A-Za-z0-9]*@,$' "$work/text" >"$work/texts/$name"
     : >"$work/cases/$name"
     printf '%s\n' infocmp "$source:$name" >"$work/cases/$name.args"
@@ -54,7 +54,7 @@ for text in "$work/texts"/*; do
     tic -o "$work/a" "$text" 2>"$work/said" || continue
     if ! tic -o "$work/b" "$work/ours/$name" 2>"$work/said" || ! diff -r "$work/a" "$work/b" >"$work/said" 2>&1; then
         cat "$work/said" >&2
-        echo "infocmp: tic makes another file of $name as we print it" >&2
+        echo "infocmp: tic makes another file of $name as ticurses prints it" >&2
         exit 1
     fi
     rm -r "$work/a" "$work/b"
@@ -64,4 +64,4 @@ if [ "$same" -eq 0 ]; then
     echo "infocmp: none of the descriptions could be compared" >&2
     exit 1
 fi
-echo "infocmp: $same of the system's descriptions are the same as we print them"
+echo "infocmp: $same of the system's descriptions are the same as ticurses prints them"

@@ -7,7 +7,8 @@ cd -- "$(dirname -- "$0")/.."
 
 work=$(mktemp -d)
 trap 'rm -rf "$work"' EXIT
-lay "$work/libraries" $(libraries)
+# shellcheck disable=SC2046
+lay "$work/libraries" $(used tests/libraries/*.txt)
 fill "$work/libraries" tests/libraries
 attempt "$work/libraries" --test
 must_run "$work/libraries" "libraries: not each test of the libraries' calls passes"

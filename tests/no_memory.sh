@@ -1,6 +1,6 @@
 #!/bin/sh
 # The calls that are to take no memory take none: a program that makes all of them asks for memory as often as the same program
-# without them. A contract can't say this, since a body that asks for memory and gives it back meets it too.
+# without them. A contract can't say this, since a body that requests memory and drops it meets it too.
 set -eu
 cd -- "$(dirname -- "$0")/.."
 . tests/probing
@@ -11,7 +11,7 @@ trap 'rm -rf "$work"' EXIT
 # count NAME CALLS: runs the program with these calls, true or false; `allocations` of NAME.log is how often it asked
 count() {
     # shellcheck disable=SC2046
-    lay "$work/$1" $(libraries)
+    lay "$work/$1" $(used tests/no_memory_probe.txt)
     sed "s/^const CALLS: bool = true;/const CALLS: bool = $2;/" tests/no_memory_probe.txt >"$work/$1/crates/probe/src/main.rt"
     # no program asks so often, so no request is refused, and they are counted
     attempt "$work/$1" --fail-alloc 1000000

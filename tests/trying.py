@@ -96,11 +96,12 @@ def write_case(path, case):
         write(f"{path}.stdout", case.wanted)
 
 
-def probe(work, source, names):
-    """Makes a program of the source text, a file of this folder, over copies of these crates and those that they stand
-    on, and returns the folder of its crate. Nothing of it stands in the repository, so that no check reads it."""
+def probe(work, source):
+    """Makes a program of the source text, a file of this folder, over copies of the crates that it uses and those that they
+    stand on, and returns the folder of its crate. Nothing of it stands in the repository, so that no check reads it."""
     uses = listing.listed()
-    laid = listing.below(names, uses)
+    named = re.findall(rb"^ *use (\w+)::", held_in(f"{TOP}/tests/{source}"), re.M)
+    laid = listing.below(sorted({it.decode() for it in named} & set(uses)), uses)
     for crate in laid:
         for part in ("src", "specs", "proofs"):
             if os.path.isdir(f"{TOP}/crates/{crate}/{part}"):
