@@ -1,0 +1,4 @@
+pub mod Cutting
+pub mod Hexing
+pub mod NumbersRead
+pub mod LinesRead

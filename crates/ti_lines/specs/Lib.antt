@@ -1,0 +1,3 @@
+pub mod Cut
+pub mod Hex
+pub mod Lines

@@ -1,0 +1,13 @@
+//! The lines of a certificate: each as a value, its text, and back.
+#![tactic(auto)]
+
+mod cuts;
+mod hexes;
+mod lines;
+mod reading;
+mod writing;
+
+pub use lines::RowLine;
+pub use reading::read_row_line;
+
+pub mod laws;
