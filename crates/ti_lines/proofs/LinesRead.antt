@@ -1,14 +1,13 @@
 -- A line's text, read and written.
-use Rattle.std.proofs.Common.{◌≡◌, ◌≢◌, ℕ, zero, suc, ◌+◌, ◌-◌, ◌<◌, ◌==◌, ◌&&◌, not, Bool, true, false, List, [], ◌∷◌, ◌++◌, length, Option, Some, None, IfSome, Result, Ok, Err, IfOk, refl, sym, ap, ◌∙◌, subst, arith, ◌/◌, ◌%◌, inl, inr, append_assoc, append-nil}
+use Rattle.std.proofs.Common.{◌≡◌, ◌≢◌, ℕ, zero, suc, ◌<◌, ◌==◌, not, Bool, true, List, [], ◌∷◌, ◌++◌, length, Option, Some, None, IfSome, Result, Ok, Err, IfOk, refl, sym, ap, ◌∙◌, subst, arith, ◌/◌, ◌%◌, inl, inr, append_assoc, append-nil}
 use Rattle.std.specs.Fmt.{decimal}
-use Rattle.std.specs.List.{AllByRecursion, list_all}
+use Rattle.std.specs.List.{AllByRecursion}
 use Rattle.std.specs.Option.{option_map, option_and_then}
-use Rattle.std.specs.Prelude.{slice_index, bytes_eq}
+use Rattle.std.specs.Prelude.{slice_index}
 use Rattle.std.specs.Cmp.Lexicographic.{slice_cmp}
 use Rattle.std.specs.Ordering.{nat_cmp, is_eq}
-use Rattle.std.specs.declared.cmp.Ordering.{Ordering}
 use Rattle.std.specs.declared.cmp.Ordering.TheVariants.{Less}
-use Rattle.std.proofs.lemmas.Bool.{agree_below, agree_below_at, and_parts, cases_order, true≢false}
+use Rattle.std.proofs.lemmas.Bool.{agree_below, agree_below_at, cases_order, true≢false}
 use Rattle.std.proofs.lemmas.Map.Text.{is_eq-slice_cmp}
 use Rattle.std.proofs.lemmas.Slice.Eq.{bytes_eq-Decides}
 use Rattle.std.proofs.lemmas.Option.{same_Some, none-some, option_and_then_some}
@@ -31,7 +30,7 @@ use Rattle.ti_lines.proofs.Cutting.{lacks, cut_front, cut_is, IsCut}
 use Rattle.ti_lines.proofs.Hexing.{hex_written, hex_read, IsHex, both}
 
 -- the value behind `option_map`
-mapped : {A B : Type 0} (f : A → B) (o : Option A) (z : B) → option_map f o ≡ Some z → (y : A) × (o ≡ Some y) × (f y ≡ z)
+pub mapped : {A B : Type 0} (f : A → B) (o : Option A) (z : B) → option_map f o ≡ Some z → (y : A) × (o ≡ Some y) × (f y ≡ z)
 mapped f None z h = absurd (none-some z h)
 mapped f (Some y) z h = (y, refl, same_Some (f y) z h)
 
@@ -243,3 +242,8 @@ pub found_each : {E : Type 0} (text name rest : List ℕ) (first : Row) (r : Res
     → IfOk r (λ found. (line : RowLine) → IsTextOf text line → found ≡ Some line)
 found_each text name rest first (Ok found) h named e = λ line t. e ∙ line_read text name rest first line h named t
 found_each text name rest first (Err x) h named e = tt
+
+pub one_line : (text : List ℕ) (a b : RowLine) → IsTextOf text a → IsTextOf text b → a ≡ b
+one_line text a b h k =
+    let cut_so : cut_at 32 text ≡ Some (name_of a.row, rest_text a) = ap (λ (x : List ℕ). cut_at 32 x) (sym h.spelled) ∙ cut_line a in
+    same_Some a b (sym (line_read text (name_of a.row) (rest_text a) a.row a cut_so refl h) ∙ line_read text (name_of a.row) (rest_text a) a.row b cut_so refl k)

@@ -1,5 +1,5 @@
 -- A line of a certificate about a checked capability: its name, its parameters, its bytes, and their effect.
-use Rattle.std.specs.Prelude.{ℕ, zero, suc, length, ◌<◌, ◌≡◌, List, [], ◌∷◌, ◌++◌, Option, None, Some}
+use Rattle.std.specs.Prelude.{ℕ, zero, suc, length, ◌<◌, ◌≡◌, List, [], ◌∷◌, ◌++◌, Option, Some}
 use Rattle.std.specs.Fmt.{decimal}
 use Rattle.std.specs.List.{AllByRecursion}
 use Rattle.std.specs.Option.{option_map, option_and_then}

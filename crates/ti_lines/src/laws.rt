@@ -1,6 +1,7 @@
-//! Laws.
-ghost use Rattle.std.specs.Prelude.{◌≡◌, ◌<◌, ℕ, List};
+//! Laws of lines.
+ghost use Rattle.ti_lines.specs.Texts.{OneLine};
 
-pub fn probe()
-    ensures { (n : ℕ) → n ≡ n }
+/// No text is that of two lines about capabilities.
+pub fn one_line()
+    ensures { OneLine }
 {}

@@ -1,4 +1,4 @@
-use Rattle.std.proofs.Common.{◌≡◌, sym, ◌∙◌, ap}
+use Rattle.std.proofs.Common.{◌∙◌, ap}
 use Rattle.ti_lines.proofs.Cutting.{around, cut_found}
 use Rattle.ti_lines.proofs.cuts.cut.Goals as goal
 

@@ -1,4 +1,4 @@
-use Rattle.std.proofs.Common.{◌≡◌, sym}
+use Rattle.std.proofs.Common.{sym}
 use Rattle.ti_lines.proofs.LinesRead.{no_line, no_name, found_written, found_each}
 use Rattle.ti_lines.proofs.reading.read_row_line.Goals as goal
 
