@@ -2,6 +2,8 @@
 //! are just that.
 #![tactic(auto)]
 
+mod agreeing;
 mod sending;
 
+pub use agreeing::{AgreeFault, Lines, all_agree};
 pub use sending::{Unsent, send};
