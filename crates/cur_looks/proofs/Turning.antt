@@ -20,7 +20,7 @@ pub free_of : (t : Table) (s : State) → IsReady t s → IsFree t.rows t.cols s
 free_of t s h = record { any = any_of t s h; top = h.whole.top; bottom = h.whole.bottom }
 
 -- a state that a line led to, by the screen that is wanted
-by_screen : (t : Table) (Q : State → Type 0) (u : State) (x : Screen) → IsOfSize t.rows t.cols u → u.rest ≡ [] → u.screen ≡ x
+pub by_screen : (t : Table) (Q : State → Type 0) (u : State) (x : Screen) → IsOfSize t.rows t.cols u → u.rest ≡ [] → u.screen ≡ x
     → (IsOfSize t.rows t.cols (record { screen = x; rest = [] }) → Q (record { screen = x; rest = [] })) → Q u
 by_screen t Q u x sized closed e f =
     let P : List ℕ → Type 0 = λ l. IsOfSize t.rows t.cols (record { screen = u.screen; rest = l }) → Q (record { screen = u.screen; rest = l }) in
