@@ -1,38 +1,57 @@
 #!/bin/sh
-# How fast `ticurses feed` is beside libvterm (Debian: libvterm-dev), on one stream of 16 MiB of text, moves,
-# colours, erasures and scrolling at 24 by 80: megabytes a second of processor time over the whole run of either
-# program, the best of five, in turn. Both read the file and print the screen, and the screens must be the same.
+# How fast `ticurses feed` is beside libvterm (Debian: libvterm-dev): 16 MiB of each kind of stream that stream.awk
+# writes, at 24 by 80 and at 200 by 500, in megabytes a second of processor time over the whole run of either program,
+# the best of five, in turn. Both read the file and print the screen, and the screens must be the same.
+# feed.sh KIND..: those kinds alone. Without libvterm or a C compiler it says so and measures ticurses alone.
 set -eu
 cd -- "$(dirname -- "$0")"
 work=$(mktemp -d)
 trap 'rm -rf "$work"' EXIT
-bytes=16777216
+[ $# -gt 0 ] || set -- text mixed scrolling painting sequences colours
 
-awk -v bytes="$bytes" -f stream.awk >"$work/stream"
-if ! cc -O2 -o "$work/peer" peer.c -lvterm 2>"$work/log"; then
-    cat "$work/log" >&2
-    echo "feed: libvterm or a C compiler is missing" >&2
-    exit 1
+peer=$work/peer
+if ! cc -O2 -o "$peer" peer.c -lvterm 2>"$work/log"; then
+    peer=
+    echo "feed: libvterm or a C compiler is missing, so ticurses is measured alone"
 fi
 # builds it where it has to be, and leaves that out of the time
-../ticurses feed 24 80 "$work/stream" >"$work/ours"
-"$work/peer" 24 80 "$work/stream" >"$work/theirs"
-if ! cmp -s "$work/ours" "$work/theirs"; then
-    echo "feed: the screens differ" >&2
-    exit 1
-fi
+../ticurses --version >/dev/null
+ours=../crates/ticurses/out/ticurses
 
 # seconds PROGRAM..: the processor time of one run
 seconds() {
     { LC_ALL=C bash -c 'TIMEFORMAT="%U %S"; time "$@" >/dev/null 2>&1' bash "$@"; } 2>&1 | awk '{ print $1 + $2 }'
 }
-for turn in 1 2 3 4 5; do
-    echo "ticurses $(seconds ../crates/ticurses/out/ticurses feed 24 80 "$work/stream")"
-    echo "libvterm $(seconds "$work/peer" 24 80 "$work/stream")"
-done | awk -v bytes="$bytes" '
-    !($1 in best) || $2 < best[$1] { best[$1] = $2 }
-    END {
-        for (name in best)
-            printf "%s %.3f s, %.0f MB/s\n", name, best[name], bytes / 1000000 / best[name]
-        printf "ratio %.2f\n", best["libvterm"] / best["ticurses"]
-    }'
+
+# measure KIND ROWS COLS
+measure() {
+    awk -v kind="$1" -v rows="$2" -v cols="$3" -v bytes=1048576 -f stream.awk >"$work/part"
+    for part in 1 2 3 4 5 6 7 8 9 10 11 12 13 14 15 16; do
+        cat "$work/part"
+    done >"$work/stream"
+    "$ours" feed "$2" "$3" "$work/stream" >"$work/ours"
+    if [ -n "$peer" ]; then
+        "$peer" "$2" "$3" "$work/stream" >"$work/theirs"
+        if ! cmp -s "$work/ours" "$work/theirs"; then
+            echo "feed: the screens of the stream $1 differ at $2 by $3" >&2
+            exit 1
+        fi
+    fi
+    for turn in 1 2 3 4 5; do
+        echo "ticurses $(seconds "$ours" feed "$2" "$3" "$work/stream")"
+        [ -z "$peer" ] || echo "libvterm $(seconds "$peer" "$2" "$3" "$work/stream")"
+    done | awk -v kind="$1" -v rows="$2" -v cols="$3" '
+        !($1 in best) || $2 < best[$1] { best[$1] = $2 }
+        END {
+            size = 16 * 1048576 / 1000000
+            printf "%-10s %3d by %-4d ticurses %4.0f MB/s", kind, rows, cols, size / best["ticurses"]
+            if ("libvterm" in best)
+                printf ", libvterm %4.0f MB/s, ratio %.1f", size / best["libvterm"], best["libvterm"] / best["ticurses"]
+            printf "\n"
+        }'
+}
+
+for kind; do
+    measure "$kind" 24 80
+    measure "$kind" 200 500
+done

@@ -10,7 +10,7 @@ use crate::cells::Cell;
 use crate::functions::{CodeElement, EraseExtent, Function, ModeKind};
 use crate::pens::{Ink, Pen};
 use crate::printing;
-use crate::renditions::{Rendition, color_of};
+use crate::renditions::{Rendition, RenditionChange};
 use crate::sizes::Size;
 use grids::Grid;
 use std::alloc::{AllocError, Global};
@@ -651,61 +651,9 @@ fn last_row(last: usize, rows: usize) -> usize
 fn rendered(now: Rendition, number: u16) -> Rendition
     ensures { result ≡ spec.rendered number now }
 {
-    match number {
-        0 => Rendition::plain(),
-        1 => Rendition { bold: true, ..now },
-        2 => Rendition { faint: true, ..now },
-        4 => Rendition {
-            underline: true,
-            ..now
-        },
-        5 => Rendition { blink: true, ..now },
-        7 => Rendition {
-            negative: true,
-            ..now
-        },
-        8 => Rendition {
-            concealed: true,
-            ..now
-        },
-        22 => Rendition {
-            bold: false,
-            faint: false,
-            ..now
-        },
-        24 => Rendition {
-            underline: false,
-            ..now
-        },
-        25 => Rendition {
-            blink: false,
-            ..now
-        },
-        27 => Rendition {
-            negative: false,
-            ..now
-        },
-        28 => Rendition {
-            concealed: false,
-            ..now
-        },
-        30..=37 => Rendition {
-            foreground: Some(color_of(number - 30)),
-            ..now
-        },
-        39 => Rendition {
-            foreground: None,
-            ..now
-        },
-        40..=47 => Rendition {
-            background: Some(color_of(number - 40)),
-            ..now
-        },
-        49 => Rendition {
-            background: None,
-            ..now
-        },
-        _ => now,
+    match RenditionChange::of(number) {
+        Some(change) => now.changed(change),
+        None => now,
     }
 }
 

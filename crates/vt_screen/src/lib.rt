@@ -14,5 +14,5 @@ mod sizes;
 pub use cells::Cell;
 pub use displays::{Charset, Display, Settings};
 pub use functions::{CodeElement, EraseExtent, Function, ModeKind, Parameters};
-pub use renditions::{Color, Rendition, color_of};
+pub use renditions::{Color, Rendition, RenditionChange, color_of};
 pub use sizes::{MAX_COLS, MAX_ROWS, Size};

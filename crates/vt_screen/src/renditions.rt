@@ -2,6 +2,7 @@
 
 ghost use Rattle.std.specs.Prelude.{◌≡◌, ◌<◌};
 ghost use Rattle.vt_screen.specs.Color.{color};
+ghost use Rattle.vt_screen.specs.Rendering as spec;
 
 /// One of the eight colours of ECMA-48's SGR 30 to 37 and 40 to 47, in their order.
 #[derive(Clone, Copy, Debug, PartialEq, Eq)]
@@ -82,6 +83,117 @@ impl Rendition {
             concealed: false,
             foreground: None,
             background: None,
+        }
+    }
+}
+
+/// What one number of SGR changes (ECMA-48 8.3.117).
+#[derive(Clone, Copy, Debug, PartialEq, Eq)]
+pub enum RenditionChange {
+    /// No marks and the default colours.
+    Plain,
+    Bold,
+    Faint,
+    Underline,
+    Blink,
+    Negative,
+    Concealed,
+    /// Neither bold nor faint.
+    NormalIntensity,
+    NotUnderlined,
+    Steady,
+    Positive,
+    Revealed,
+    /// `None` for the default colour.
+    Foreground(Option<Color>),
+    /// `None` for the default colour.
+    Background(Option<Color>),
+}
+
+impl RenditionChange {
+    /// The change that a number of SGR stands for; `None` for a number that changes nothing here.
+    pub fn of(number: u16) -> Option<RenditionChange>
+        ensures { result ≡ spec.change_of number }
+    {
+        Some(match number {
+            0 => RenditionChange::Plain,
+            1 => RenditionChange::Bold,
+            2 => RenditionChange::Faint,
+            4 => RenditionChange::Underline,
+            5 => RenditionChange::Blink,
+            7 => RenditionChange::Negative,
+            8 => RenditionChange::Concealed,
+            22 => RenditionChange::NormalIntensity,
+            24 => RenditionChange::NotUnderlined,
+            25 => RenditionChange::Steady,
+            27 => RenditionChange::Positive,
+            28 => RenditionChange::Revealed,
+            30..=37 => RenditionChange::Foreground(Some(color_of(number - 30))),
+            39 => RenditionChange::Foreground(None),
+            40..=47 => RenditionChange::Background(Some(color_of(number - 40))),
+            49 => RenditionChange::Background(None),
+            _ => return None,
+        })
+    }
+}
+
+impl Rendition {
+    /// The rendition after a change.
+    pub fn changed(self, change: RenditionChange) -> Rendition
+        ensures { result ≡ spec.changed change self }
+    {
+        match change {
+            RenditionChange::Plain => Rendition::plain(),
+            RenditionChange::Bold => Rendition { bold: true, ..self },
+            RenditionChange::Faint => Rendition {
+                faint: true,
+                ..self
+            },
+            RenditionChange::Underline => Rendition {
+                underline: true,
+                ..self
+            },
+            RenditionChange::Blink => Rendition {
+                blink: true,
+                ..self
+            },
+            RenditionChange::Negative => Rendition {
+                negative: true,
+                ..self
+            },
+            RenditionChange::Concealed => Rendition {
+                concealed: true,
+                ..self
+            },
+            RenditionChange::NormalIntensity => Rendition {
+                bold: false,
+                faint: false,
+                ..self
+            },
+            RenditionChange::NotUnderlined => Rendition {
+                underline: false,
+                ..self
+            },
+            RenditionChange::Steady => Rendition {
+                blink: false,
+                ..self
+            },
+            RenditionChange::Positive => Rendition {
+                negative: false,
+                ..self
+            },
+            RenditionChange::Revealed => Rendition {
+                concealed: false,
+                ..self
+            },
+            RenditionChange::Foreground(color) => Rendition {
+                foreground: color,
+                ..self
+            },
+            RenditionChange::Background(color) => Rendition {
+                background: color,
+                ..self
+            },
         }
     }
 }

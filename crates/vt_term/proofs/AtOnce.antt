@@ -13,7 +13,7 @@ use Rattle.vt_term.specs.Screen.{State}
 use Rattle.vt_term.specs.Text.{IsParameter, IsPrinted, IsOpen, IsWhole, Splits}
 use Rattle.vt_term.specs.Parameters.{numbers, is_numeral}
 use Rattle.vt_term.specs.ParserStates.{ReadsTo}
-use Rattle.vt_term.specs.Function.{of_numbers, function_of}
+use Rattle.vt_term.specs.Function.{of_numbers, of_private_numbers, function_of}
 use Rattle.vt_term.specs.Step.{steps}
 use Rattle.vt_term.specs.Run.{Runs}
 use Rattle.vt_term.proofs.Sequences.{empty_open}
@@ -76,6 +76,29 @@ pub sequence_runs : (x : Screen) (rest bytes : List ℕ) (ns : List (Option ℕ)
     → Runs (record { screen = x; rest = rest }) (take (at + 3) (27 ∷ 91 ∷ bytes)) (record { screen = act (of_numbers final ns) x; rest = rest })
 sequence_runs x rest bytes ns at final e short h =
     subst (λ (r : List ℕ). Runs (record { screen = x; rest = r }) (take (at + 3) (27 ∷ 91 ∷ bytes)) (record { screen = act (of_numbers final ns) x; rest = r })) (sym e) (nothing_open x bytes ns at final short h)
+
+private_spelled : (bytes : List ℕ) (at final : ℕ) → at < length bytes → final ≡ get_or bytes at 0 → take (at + 4) (27 ∷ 91 ∷ 63 ∷ bytes) ≡ 27 ∷ 91 ∷ 63 ∷ (take at bytes ++ final ∷ [])
+private_spelled bytes at final lt e =
+    let n : at + 4 ≡ suc (suc (suc (at + 1))) = omega arith in
+    ap (λ (n : ℕ). take n (27 ∷ 91 ∷ 63 ∷ bytes)) n ∙ ap (λ (l : List ℕ). 27 ∷ 91 ∷ 63 ∷ l) (take_more bytes at 0 lt ∙ ap (λ (b : ℕ). take at bytes ++ b ∷ []) (sym e))
+
+nothing_open_private : (x : Screen) (bytes : List ℕ) (ns : List (Option ℕ)) (at final : ℕ) → at + 4 ≤ 256 → ReadsTo bytes ns at final
+    → Runs (record { screen = x; rest = [] }) (take (at + 4) (27 ∷ 91 ∷ 63 ∷ bytes)) (record { screen = act (of_private_numbers final ns) x; rest = [] })
+nothing_open_private x bytes ns at final short h =
+    let s : State = record { screen = x; rest = [] } in
+    let front : List ℕ = take at bytes in
+    let token : List ℕ = 27 ∷ 91 ∷ 63 ∷ (front ++ final ∷ []) in
+    let size : length token ≤ 256 = omega (arith, length-append front (final ∷ []), length-take at bytes) in
+    let whole : IsWhole token = inr (inl (record { parameters = 63 ∷ front; intermediates = []; final = final; spelled = refl; each_parameter = ((omega arith, omega arith), parameters_fit front h.numeral); each_intermediate = tt; ends = h.ends; short = size })) in
+    let asks : function_of token ≡ of_private_numbers final ns = sequence_push (63 ∷ front) final ∙ rw (h.numeral) (ap (of_private_numbers final) (sym h.read)) in
+    let runs : Runs s token (record { screen = act (function_of token) x; rest = [] }) = text_runs s token (token ∷ []) refl ([], sym (append-nil token), inl whole, (refl, empty_open)) in
+    subst (λ (l : List ℕ). Runs s l (record { screen = act (of_private_numbers final ns) x; rest = [] })) (sym (private_spelled bytes at final h.within h.last))
+    (subst (λ (f : Function). Runs s token (record { screen = act f x; rest = [] })) asks runs)
+
+pub private_runs : (x : Screen) (rest bytes : List ℕ) (ns : List (Option ℕ)) (at final : ℕ) → rest ≡ [] → at + 4 ≤ 256 → ReadsTo bytes ns at final
+    → Runs (record { screen = x; rest = rest }) (take (at + 4) (27 ∷ 91 ∷ 63 ∷ bytes)) (record { screen = act (of_private_numbers final ns) x; rest = rest })
+private_runs x rest bytes ns at final e short h =
+    subst (λ (r : List ℕ). Runs (record { screen = x; rest = r }) (take (at + 4) (27 ∷ 91 ∷ 63 ∷ bytes)) (record { screen = act (of_private_numbers final ns) x; rest = r })) (sym e) (nothing_open_private x bytes ns at final short h)
 
 -- one byte more of the parameters
 pub semicolon_more : (bytes : List ℕ) (at : ℕ) (old : List (Option ℕ)) (count : ℕ) (number : Option ℕ) → at < length bytes → get_or bytes at 0 ≡ 59 → count < length old → take count old ++ number ∷ [] ≡ numbers (take at bytes)

@@ -60,7 +60,7 @@ pub of_numbers_acts : (f : ℕ) (ns : List (Option ℕ)) → CanAct (of_numbers 
 of_numbers_acts f ns = either_acts ((f == 72) || (f == 102)) (cursor_position ns) _ (λ e. cursor_position_acts ns) (either_acts (f == 114) (margins ns) _ (λ e. margins_acts ns)
     (either_acts (f == 109) (SelectRendition ns) _ (λ e. tt) (either_acts (f == 104) (Modes Standard true ns) _ (λ e. tt) (either_acts (f == 108) (Modes Standard false ns) _ (λ e. tt) (of_one_number_acts f ns)))))
 
-of_private_acts : (f : ℕ) (ns : List (Option ℕ)) → CanAct (of_private_numbers f ns)
+pub of_private_acts : (f : ℕ) (ns : List (Option ℕ)) → CanAct (of_private_numbers f ns)
 of_private_acts f ns = either_acts (f == 104) (Modes Private true ns) _ (λ e. tt) (either_acts (f == 108) (Modes Private false ns) Ignored (λ e. tt) tt)
 
 marked_acts : (f : ℕ) (front : List ℕ) → CanAct (marked f front)

@@ -14,3 +14,4 @@ pub mod ParserStates
 pub mod Moving
 pub mod Charsets
 pub mod Fronts
+pub mod Rendering

@@ -15,5 +15,5 @@ pub use terminals::{Stuck, Terminal};
 pub use tokenizing::{Token, TokenFault, TokenFaultKind, place_after, tokens};
 pub use vt_screen::{
     Cell, Charset, CodeElement, Color, EraseExtent, Function, MAX_COLS, MAX_ROWS, ModeKind,
-    Parameters, Rendition, Settings, Size, color_of,
+    Parameters, Rendition, RenditionChange, Settings, Size, color_of,
 };

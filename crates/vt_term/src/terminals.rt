@@ -3,7 +3,7 @@
 ghost use Rattle.std.specs.Prelude.{◌≡◌, ◌<◌, ◌≤◌, ◌+◌, [], ◌∷◌, length, take, IfOk, IfErr, OnOk};
 ghost use Rattle.vt_screen.specs.Grid.{look_at};
 
-use crate::functions::of_numbers;
+use crate::functions::{of_numbers, of_private_numbers};
 use crate::parser::{ESCAPE, Parser, Transition};
 use crate::whole_sequences::read_parameters;
 use std::alloc::{AllocError, Global};
@@ -85,6 +85,7 @@ impl Terminal {
             return 0;
         }
         match bytes {
+            [ESCAPE, b'[', b'?', rest @ ..] => self.take_private(rest),
             [ESCAPE, b'[', rest @ ..] => self.take_sequence(rest),
             _ => self.take_characters(bytes),
         }
@@ -118,6 +119,27 @@ impl Terminal {
                 self.display
                     .act(of_numbers(found.last, &numbers[..found.count]));
                 found.at + 3
+            }
+            None => 0,
+        }
+    }
+
+    /// Takes the control sequence of which ESC, `[` and `?` come before these bytes, in the same way.
+    fn take_private(&mut self, bytes: &[u8]) -> usize
+        requires { self.old.rest ≡ [] }
+        ensures within { result ≤ length bytes.now + 3 }
+        ensures runs { Runs self.old (take result (27 ∷ 91 ∷ 63 ∷ bytes.now)) self.new }
+        ensures rows { self.new.screen.rows ≡ self.old.screen.rows }
+        ensures cols { self.new.screen.cols ≡ self.old.screen.cols }
+    {
+        let _ = &self.parser;
+        let mut numbers = [None; 16];
+        match read_parameters(bytes, &mut numbers) {
+            Some(found) => {
+                let _ = self.display.size();
+                let function = of_private_numbers(found.last, &numbers[..found.count]);
+                self.display.act(function);
+                found.at + 4
             }
             None => 0,
         }

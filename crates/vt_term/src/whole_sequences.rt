@@ -20,12 +20,12 @@ pub(crate) fn read_parameters(bytes: &[u8], numbers: &mut [Option<u16>]) -> Opti
     requires { 0 < length numbers.old }
     ensures len { length numbers.new ≡ length numbers.old }
     ensures count { IfSome result (λ found. found.count ≤ length numbers.new) }
-    ensures short { IfSome result (λ found. found.at + 3 ≤ sequence_limit) }
+    ensures short { IfSome result (λ found. found.at + 4 ≤ sequence_limit) }
     ensures read { IfSome result (λ found. ReadsTo bytes.now (take found.count numbers.new) found.at found.last) }
 {
     let mut count = 0;
     let mut number = None;
-    for at in 0..bytes.len().min(SEQUENCE_LIMIT - 2) {
+    for at in 0..bytes.len().min(SEQUENCE_LIMIT - 3) {
         let byte = bytes[at];
         match byte {
             b'0'..=b'9' => number = Some(with_digit(number, byte)),

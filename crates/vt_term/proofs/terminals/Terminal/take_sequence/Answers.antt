@@ -1,4 +1,4 @@
-use Rattle.std.proofs.Common.{◌∙◌, ap}
+use Rattle.std.proofs.Common.{◌∙◌, ap, arith}
 use Rattle.vt_screen.proofs.Keeps.{act_kept}
 use Rattle.vt_term.specs.Screen.{State}
 use Rattle.vt_term.proofs.Keeps.{of_numbers_acts}
@@ -7,7 +7,7 @@ use Rattle.vt_term.proofs.terminals.Terminal.take_sequence.Goals as goal
 
 pub returns-in-Some-clause-runs : goal.returns-in-Some-clause-runs
 returns-in-Some-clause-runs c = rw (c.act.ensures, c.of_numbers.ensures, ← c.self.view_is)
-    (sequence_runs c.self.inside.display c.self.inside.parser c.args.bytes.now _ c.in-Some.found.at c.in-Some.found.last (ap (λ (s : State). s.rest) c.self.view_is ∙ c.requires) c.in-Some.ensures.short c.in-Some.ensures.read)
+    (sequence_runs c.self.inside.display c.self.inside.parser c.args.bytes.now _ c.in-Some.found.at c.in-Some.found.last (ap (λ (s : State). s.rest) c.self.view_is ∙ c.requires) (omega (arith, c.in-Some.ensures.short)) c.in-Some.ensures.read)
 
 pub returns-in-Some-clause-rows : goal.returns-in-Some-clause-rows
 returns-in-Some-clause-rows c = rw (c.act.ensures, c.of_numbers.ensures, ← c.self.view_is) (act_kept _ _ (of_numbers_acts c.in-Some.found.last _) c.size.ensures.screen).rows
