@@ -8,7 +8,7 @@ ghost use Rattle.ti_reach.specs.Reach as spec;
 ghost use Rattle.vt_term.specs.Run as run;
 
 use std::alloc::Global;
-use ti_parm::{Param, ParmFault, Statics, expand, strip_delays};
+use ti_parm::{Param, ParmFault};
 use vt_effects::{Effect, Margins, Move, Start, effect_of};
 use vt_term::{Size, Token, TokenFaultKind, place_after, tokens};
 
@@ -51,20 +51,20 @@ pub fn reach_cup(alloc: Global, string: &[u8], size: Size) -> Result<(), Miss>
     ensures first { IfErr result (λ miss. spec.ReachesBefore string.now size.rows size.cols miss.row miss.col) }
     ensures why { IfErr result (λ miss. spec.TellsWhy string.now size.rows size.cols miss.row miss.col miss.kind) }
 {
-    let mut expanded = Vec::new(alloc);
+    let mut bytes = Vec::new(alloc);
     for row in 0..size.rows {
-        reach_row(alloc, string, size, row, &mut expanded)?;
+        reach_row(alloc, string, size, row, &mut bytes)?;
     }
     Ok(())
 }
 
-/// Whether the string reaches each place of one row. `expanded` is room for the bytes of one place.
+/// Whether the string reaches each place of one row. `bytes` is room for what is sent for one place.
 fn reach_row(
     alloc: Global,
     string: &[u8],
     size: Size,
     row: usize,
-    expanded: &mut Vec<u8>,
+    bytes: &mut Vec<u8>,
 ) -> Result<(), Miss>
     requires { row < size.rows }
     ensures reached { OnOk result (spec.ReachesInRow string.now size.rows size.cols row size.cols) }
@@ -74,7 +74,7 @@ fn reach_row(
     ensures why { IfErr result (λ miss. spec.TellsWhy string.now size.rows size.cols row miss.col miss.kind) }
 {
     for col in 0..size.cols {
-        match reach_place(alloc, string, size, row, col, expanded) {
+        match reach_place(alloc, string, size, row, col, bytes) {
             Ok(()) => {}
             Err(kind) => return Err(Miss { row, col, kind }),
         }
@@ -89,35 +89,34 @@ fn reach_place(
     size: Size,
     row: usize,
     col: usize,
-    expanded: &mut Vec<u8>,
+    bytes: &mut Vec<u8>,
 ) -> Result<(), MissKind>
     requires row_in { row < size.rows }
     requires col_in { col < size.cols }
     ensures reached { OnOk result (spec.Reaches string.now size.rows size.cols row col) }
     ensures why { IfErr result (λ kind. spec.TellsWhy string.now size.rows size.cols row col kind) }
 {
-    let bytes = send(alloc, string, row, col, expanded)?;
+    send(alloc, string, row, col, bytes)?;
     check_bytes(alloc, bytes.as_slice(), size, row, col)
 }
 
-/// What the string sends for one place.
+/// What the string sends for one place, in place of what `bytes` held.
 fn send(
     alloc: Global,
     string: &[u8],
     row: usize,
     col: usize,
-    expanded: &mut Vec<u8>,
-) -> Result<Vec<u8>, MissKind>
+    bytes: &mut Vec<u8>,
+) -> Result<(), MissKind>
     requires row_in { row < 500 }
     requires col_in { col < 500 }
-    ensures sends { IfOk result (λ bytes. sent string.now (spec.place row col) ≡ Ok bytes.items) }
+    ensures sends { OnOk result (sent string.now (spec.place row col) ≡ Ok bytes.new.items) }
     ensures why { IfErr result (λ kind. spec.TellsWhyUnsent string.now row col kind) }
 {
-    let mut statics = Statics::new();
-    expanded.clear();
+    bytes.clear();
     let params = [Param::Number(row as i32), Param::Number(col as i32)];
-    match expand(alloc, string, &params, &mut statics, expanded) {
-        Ok(()) => strip_delays(alloc, expanded.as_slice()).map_err(|_| MissKind::NoMemory),
+    match ti_parm::sent(alloc, string, &params, bytes) {
+        Ok(()) => Ok(()),
         Err(ParmFault::NoMemory) => Err(MissKind::NoMemory),
         Err(_) => Err(MissKind::Parm),
     }
