@@ -79,6 +79,7 @@ FILES = {
     "no_names_long": packed(4096).replace(b"m", b"#", 1),
     "longest": EVEN + b"x" * (131072 - len(EVEN)),
     "too_long": EVEN + b"x" * (131073 - len(EVEN)),
+    "caret": b"a|a,\n\tsetaf=%p1%p2%^%d,\n",
     "hostile": b"a|a, use=\x1b[31m,\n",
     "latin": b"h\xe9",
     "wrap": b"abcde",
@@ -169,6 +170,8 @@ RUNS = [
 # a word that is not UTF-8
 RUNS.append((["feed", "2", "2", "no\udcff"], 2, "", None))
 
+CARET = "hint line 2: in setaf `%^` is read as `%` and a control character; exclusive or is written `%\\^`"
+
 # the words, and the last line of standard error, in plain words
 EXPLAINED = [
     (["infocmp", "wrong_kind"], "'wrong_kind' looks like terminfo source text: one of its entries is named as FILE:NAME"),
@@ -192,6 +195,8 @@ EXPLAINED = [
     (["tic", "notes:a"], "unknown names: xyz (1), zzz (1)"),
     (["infocmp", "too_deep:e0"], "'e65' is the 65th entry that is used, and 64 are allowed, in too_deep"),
     (["infocmp", "hostile:a"], "'\\033[31m' is not the name of an entry in hostile"),
+    (["tic", "caret:a"], CARET),
+    (["infocmp", "caret:a"], CARET),
     (["infocmp", "too_long"], "'too_long' has more than 131072 bytes"),
     (["infocmp", "absent:a"], "'absent': there is no such file or folder"),
     (["infocmp", "/:a"], "'/' is a folder"),

@@ -16,7 +16,7 @@ use crate::remarks::Remarks;
 use crate::sizes::{number_word, size_of};
 use smallvec::SmallVec;
 use std::alloc::{AllocError, Global};
-use ti_parm::{Param, ParmFault, Statics, expand, strip_delays};
+use ti_parm::{Param, ParmFault};
 use ti_reach::{MissKind, reach_cup};
 use ti_source::{EscapeFault, unescape};
 use vt_term::{Size, Terminal, TokenFaultKind, tokens};
@@ -138,18 +138,15 @@ fn send(
     ensures bytes { IfOk result (λ bytes. sent string.now (values_of params.now) ≡ Ok bytes.items) }
     ensures failure { IfErr result (λ e. TellsParm string.now (values_of params.now) e) }
 {
-    let mut expanded = Vec::new(alloc);
-    let mut statics = Statics::new();
-    match expand(alloc, string, params, &mut statics, &mut expanded) {
-        Ok(()) => {}
-        Err(ParmFault::NoMemory) => return Err(Failure::NoMemory),
+    let mut bytes = Vec::new(alloc);
+    match ti_parm::sent(alloc, string, params, &mut bytes) {
+        Ok(()) => Ok(bytes),
+        Err(ParmFault::NoMemory) => Err(Failure::NoMemory),
         Err(fault) => {
             explain_parm(fault, remarks);
-            return Err(Failure::Refused(Refusal::Parm(fault)));
+            Err(Failure::Refused(Refusal::Parm(fault)))
         }
     }
-    let sent = strip_delays(alloc, expanded.as_slice())?;
-    Ok(sent)
 }
 
 /// The line that says where the bytes leave the cursor.

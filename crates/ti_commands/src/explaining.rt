@@ -4,12 +4,12 @@ use crate::entries::Found;
 use crate::failure::{Failure, Refusal};
 use crate::remarks::Remarks;
 use crate::source_lines::{Field, faulty_field, line_of};
-use std::alloc::Global;
-use ti_caps::{Kind, by_name, kind};
+use std::alloc::{AllocError, Global};
+use ti_caps::{Kind, by_name, kind, name};
 use ti_compiled::PackFault;
 use ti_parm::ParmFault;
 use ti_resolve::ResolveFault;
-use ti_source::{EscapeFault, FaultKind, SourceFault};
+use ti_source::{EscapeFault, FaultKind, SourceFault, percent_carets};
 use vt_term::{TokenFault, TokenFaultKind};
 
 /// Why a source text has no such entry.
@@ -28,10 +28,28 @@ pub fn explain_source(
             if let Err(Refusal::Resolve(fault)) = &found.entry {
                 explain_resolving(alloc, path, fault, remarks);
             }
+            let _ = hint_carets(alloc, text, remarks);
         }
         Err(_) => {}
     }
 }
+
+/// A line for each `%^` in a string: by the rules of escapes it is `%` and a control character, and some mean
+/// exclusive or.
+fn hint_carets(alloc: Global, text: &[u8], remarks: &mut Remarks) -> Result<(), AllocError> {
+    for hint in percent_carets(alloc, text)?.as_slice() {
+        let line = hint.line;
+        let mut words = Vec::new(alloc);
+        words.extend_from_slice(format!(in alloc; "hint line {line}: in ")?.as_bytes())?;
+        words.extend_from_slice(name(hint.cap))?;
+        words.extend_from_slice(CARET)?;
+        remarks.add_words(words.as_slice());
+    }
+    Ok(())
+}
+
+const CARET: &[u8] =
+    b" `%^` is read as `%` and a control character; exclusive or is written `%\\^`";
 
 /// A fault of a source text, with the field that has it where that is one field's.
 fn explain_fault(

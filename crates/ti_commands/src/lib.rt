@@ -25,4 +25,4 @@ pub use feeding::feed_file;
 pub use files::{Cause, FileFault, Files};
 pub use output::{Output, Unwritten, Written};
 pub use remarks::{Remarks, write_shown};
-pub use replying::{give, write_bytes};
+pub use replying::{write_reply, write_text};

@@ -9,7 +9,7 @@ use crate::output::Output;
 
 /// Writes what a reply has for standard output, also where the reply failed: then its failure comes
 /// before that of the output.
-pub fn give<O: Output>(out: &mut O, reply: Reply) -> Result<(), Failure>
+pub fn write_reply<O: Output>(out: &mut O, reply: Reply) -> Result<(), Failure>
     ensures done { OnOk result (reply.failure ≡ None) }
     ensures written { OnOk result (Appends (O.contents out.old) (O.contents out.new) reply.text.items) }
     ensures failure { IfErr result (λ failure. EndsAs reply.failure (Appends (O.contents out.old) (O.contents out.new) reply.text.items) (O.has_failed out.new) failure) }
@@ -19,7 +19,7 @@ pub fn give<O: Output>(out: &mut O, reply: Reply) -> Result<(), Failure>
         text,
         failure,
     } = reply;
-    let written = write_bytes(out, text.as_slice());
+    let written = write_text(out, text.as_slice());
     match failure {
         None => written,
         Some(failure) => Err(unwritten(failure, written.is_err())),
@@ -37,7 +37,7 @@ fn unwritten(failure: Failure, is_unwritten: bool) -> Failure
 }
 
 /// Writes all the bytes, or answers that the output failed.
-pub fn write_bytes<O: Output>(out: &mut O, bytes: &[u8]) -> Result<(), Failure>
+pub fn write_text<O: Output>(out: &mut O, bytes: &[u8]) -> Result<(), Failure>
     ensures written { OnOk result (Appends (O.contents out.old) (O.contents out.new) bytes.now) }
     ensures failure { IfErr result (λ failure. failure ≡ Failure.Output) }
     ensures failed { OnErr result (O.has_failed out.new ≡ true) }

@@ -7,7 +7,7 @@ use std::io::Write;
 use ti_arguments::{Answer, LineFault, Request, parse_line};
 use ti_commands::{
     Comparison, Expansion, Failure, Files, Output, Remarks, Reply, Written, compare_entries,
-    compile_entry, expand_string, feed_file, give, print_entry, report, write_bytes,
+    compile_entry, expand_string, feed_file, print_entry, report, write_reply, write_text,
 };
 
 /// Does what the words after the program's own name ask for: the answer goes to `out`, notes and a
@@ -51,9 +51,9 @@ fn perform<F: Files, O: Output, E: Write>(
         Ok(Answer::Request(request)) => {
             let reply = reply_to(alloc, &request, files, remarks)?;
             let _ = err.write_all(reply.notes.as_slice());
-            give(out, reply)
+            write_reply(out, reply)
         }
-        Ok(Answer::Text(text)) => write_bytes(out, text.as_bytes()),
+        Ok(Answer::Text(text)) => write_text(out, text.as_bytes()),
         Err(LineFault::Usage(text)) => Err(Failure::Usage(text)),
         Err(LineFault::NoMemory) => Err(Failure::NoMemory),
     }
