@@ -8,7 +8,7 @@ cd -- "$(dirname -- "$0")/.."
 
 work=$(mktemp -d)
 trap 'rm -rf "$work"' EXIT
-lay "$work/command" ti_caps ti_source ti_resolve ti_compiled ti_parm vt_screen vt_term ti_reach ti_commands
+lay "$work/command" ti_commands ti_arguments
 cp crates/ticurses/src/*.rt "$work/command/crates/probe/src"
 printf '\n#[cfg(test)]\nmod tests;\n' >>"$work/command/crates/probe/src/main.rt"
 cp tests/command_tests.txt "$work/command/crates/probe/src/tests.rt"

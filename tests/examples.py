@@ -79,6 +79,8 @@ FILES = {
     "no_names_long": packed(4096).replace(b"m", b"#", 1),
     "longest": EVEN + b"x" * (131072 - len(EVEN)),
     "too_long": EVEN + b"x" * (131073 - len(EVEN)),
+    "hostile": b"a|a, use=\x1b[31m,\n",
+    "latin": b"h\xe9",
     "wrap": b"abcde",
     "scroll": b"abcdefghi",
     "bell": bytes.fromhex("1b5b07"),
@@ -164,6 +166,48 @@ RUNS = [
     (["feed", "2", "4", "absent"], 3, "", "file: absent\n"),
 ]
 
+# a word that is not UTF-8
+RUNS.append((["feed", "2", "2", "no\udcff"], 2, "", None))
+
+# the words, and the last line of standard error, in plain words
+EXPLAINED = [
+    (["infocmp", "wrong_kind"], "'wrong_kind' looks like terminfo source text: one of its entries is named as FILE:NAME"),
+    (["infocmp", "even_swapped"], "'even_swapped' is not a compiled terminfo file: it begins with neither 1a 01 nor 1e 02"),
+    (["infocmp", "-c", "even.out", "even_short"], "'even_short' ends within the header or a section of a compiled terminfo file"),
+    (["infocmp", "-c", "even_short", "even.out"], "'even_short' ends within the header or a section of a compiled terminfo file"),
+    (
+        ["tic", "wrong_kind:a"],
+        "'cols=80' in line 1 of wrong_kind: this capability is of another kind; it is written as NAME#NUMBER",
+    ),
+    (
+        ["tic", "wrong_octal:a"],
+        "'cols#08' in line 1 of wrong_octal: the number is neither decimal, nor 0x and hexadecimal digits, nor 0 and octal digits",
+    ),
+    (["tic", "past_range:a"], "'cols#2147483648' in line 1 of past_range: the number is above 2147483647"),
+    (
+        ["tic", "open_field:a"],
+        "'open_field', line 1: a field ends with a comma on its own line;"
+        " ncurses writes source text in this form by `infocmp -1` and `tic -I -1`",
+    ),
+    (["tic", "notes:a"], "unknown names: xyz (1), zzz (1)"),
+    (["infocmp", "too_deep:e0"], "'e65' is the 65th entry that is used, and 64 are allowed, in too_deep"),
+    (["infocmp", "hostile:a"], "'\\033[31m' is not the name of an entry in hostile"),
+    (["infocmp", "too_long"], "'too_long' has more than 131072 bytes"),
+    (["infocmp", "absent:a"], "'absent': there is no such file or folder"),
+    (["infocmp", "/:a"], "'/' is a folder"),
+    (["feed", "2", "4", "bell"], "'bell': byte 2 is 7, which does not continue the sequence before it"),
+    (["feed", "2", "4", "latin"], "'latin': byte 1 is 233, and the terminal takes 7-bit text, bytes 0 to 127"),
+    (["expand", "a\\E[1", "2", "4"], "'the bytes sent': the sequence that begins at byte 1 is not complete"),
+    (["expand", "%q", "2", "4"], "'STRING' has a `%` that does not begin a code"),
+    (["tic", "too_large:m", "--out", "/"], "'/': the compiled file would have more than 4096 bytes, or than 32768 where a number is above 32767"),
+    (["tic", "even:a", "--out", "/"], "'/' is a folder"),
+    (["tic", "even:a", "--out", "/dev/full"], "'/dev/full': there is no space left for it"),
+    (["tic", "even:a", "--out", "even"], "'even' is the file that the entry is read from"),
+]
+
+# what begins no further line
+FIXED = (b"refused:", b"note ", b"file:", b"call ")
+
 # an entry, and the bytes that `tic --out` writes of it; none: it refuses, and writes no file
 WRITTEN = [
     ("even:a", EVEN),
@@ -188,12 +232,44 @@ WRITTEN = [
 
 
 def judge(words, told, status, out, err):
-    """Ends the script where a run told something else; what is None was not known before."""
-    right = told.status == status
-    right = right and (out is None or told.out == out.encode()) and (err is None or told.err == err.encode())
+    """Ends the script where a run told something else; what is None was not known before. Below the lines of standard
+    error that are known stands at most one more, in plain words."""
+    right = told.status == status and (out is None or told.out == out.encode())
+    if err is not None:
+        further = told.err.removeprefix(err.encode())
+        right = right and told.err.startswith(err.encode()) and further.count(b"\n") <= 1
+        right = right and not further.startswith(FIXED) and (bool(err) or not further)
+        right = right and all(byte == 10 or 32 <= byte <= 126 for byte in further)
     # where the words are wrong, something says so
     if not right or (status == 2 and not told.err):
         sys.exit(f"examples: {words}: status {told.status}, {told.out}, {told.err}")
+
+
+def judge_explained(words, told, last):
+    """Ends the script where the last line of standard error is another one."""
+    if told.err.splitlines()[-1:] != [last.encode()]:
+        sys.exit(f"examples: {words}: {told.err}")
+
+
+def judge_kept(work):
+    """A file that `tic --out` can't replace is as before, and nothing is left beside it; one that it replaces keeps its
+    permissions, and a link stays a link."""
+    kept = f"{work}/kept"
+    os.mkdir(kept)
+    for name in ("file", "other"):
+        with open(f"{kept}/{name}", "wb") as file:
+            file.write(b"as before")
+    os.chmod(f"{kept}/file", 0o640)
+    os.symlink("file", f"{kept}/link")
+    cases = [Case(["tic", "too_large:m", "--out", f"{kept}/other"]), Case(["tic", "even:a", "--out", f"{kept}/link"])]
+    refused, written = run_cases(f"{TOP}/crates/ticurses", cases, FILES)
+    judge(["tic", "too_large:m", "--out"], refused, 1, "", "refused: TooLarge\n")
+    judge(["tic", "even:a", "--out"], written, 0, "", "")
+    held = {name: open(f"{kept}/{name}", "rb").read() for name in os.listdir(kept)}
+    if held != {"other": b"as before", "file": EVEN, "link": EVEN} or not os.path.islink(f"{kept}/link"):
+        sys.exit(f"examples: tic --out left {held}")
+    if os.stat(f"{kept}/file").st_mode & 0o777 != 0o640:
+        sys.exit("examples: tic --out changed the permissions of its file")
 
 
 def judge_neither(told):
@@ -211,6 +287,7 @@ def main():
         cases = [Case(words) for words, _, _, _ in RUNS]
         for at, (entry, _) in enumerate(WRITTEN):
             cases.append(Case(["tic", entry, "--out", f"{work}/{at}"]))
+        cases += [Case(words) for words, _ in EXPLAINED]
         told = run_cases(f"{TOP}/crates/ticurses", cases, FILES)
         for (words, *wanted), answer in zip(RUNS, told):
             judge(words, answer, *wanted)
@@ -220,6 +297,10 @@ def main():
             judge(["tic", entry, "--out"], answer, 0 if file else 1, "", "" if file else "refused: TooLarge\n")
             if os.path.exists(f"{work}/{at}") != bool(file) or file and open(f"{work}/{at}", "rb").read() != file:
                 sys.exit(f"examples: tic {entry} --out wrote another file")
+        for (words, last), answer in zip(EXPLAINED, told[len(RUNS) + len(WRITTEN) :]):
+            judge_explained(words, answer, last)
+        judge_kept(work)
+    print(f"examples: {len(EXPLAINED)} failures are explained, and a file that can't be replaced is as before")
     print(f"examples: {len(RUNS)} runs told what they are to tell, and {len(WRITTEN)} of `tic --out` wrote their file or none")
 
 

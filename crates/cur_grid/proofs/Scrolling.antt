@@ -49,24 +49,24 @@ choice_third : (b c : Bool) (x y z : Content) → b ≡ false → z ≡ (if b th
 choice_third b c x y z e = rw (e) refl
 
 -- a rectangle was copied, and another one filled
-both_off : (a b : Area) (from : Place) (c : Content) (g : Grid) (i j : ℕ) → is_in a i j ≡ false → is_in b i j ≡ false → cell_at (filled a c (copied b from g g)) i j ≡ cell_at g i j
+pub both_off : (a b : Area) (from : Place) (c : Content) (g : Grid) (i j : ℕ) → is_in a i j ≡ false → is_in b i j ≡ false → cell_at (filled a c (copied b from g g)) i j ≡ cell_at g i j
 both_off a b from c g i j one two =
     cell_at-drawn_in_off a (λ i j old. c) (copied b from g g) i j one ∙ cell_at-drawn_in_off b (taken b from g) g i j two
 
-copied_there : (a b : Area) (from : Place) (c : Content) (g : Grid) (i j row col : ℕ) → is_in a i j ≡ false → is_in b i j ≡ true → j < length (line_at g i) → from.row + (i - b.top) ≡ row → from.col + (j - b.left) ≡ col → col < length (line_at g row) →
+pub copied_there : (a b : Area) (from : Place) (c : Content) (g : Grid) (i j row col : ℕ) → is_in a i j ≡ false → is_in b i j ≡ true → j < length (line_at g i) → from.row + (i - b.top) ≡ row → from.col + (j - b.left) ≡ col → col < length (line_at g row) →
     cell_at (filled a c (copied b from g g)) i j ≡ cell_at g row col
 copied_there a b from c g i j row col off on near r h known =
     cell_at-drawn_in_off a (λ i j old. c) (copied b from g g) i j off ∙ cell_at-drawn_in b (taken b from g) g i j on near
     ∙ ap (λ (k : ℕ). base.cell_at (cell_at g i j) g k (from.col + (j - b.left))) r ∙ ap (λ (k : ℕ). base.cell_at (cell_at g i j) g row k) h
     ∙ get_or_default (line_at g row) col (cell_at g i j) space known
 
-filled_there : (a b : Area) (from : Place) (c : Content) (g : Grid) (i j : ℕ) → is_in a i j ≡ true → j < length (line_at g i) → cell_at (filled a c (copied b from g g)) i j ≡ c
+pub filled_there : (a b : Area) (from : Place) (c : Content) (g : Grid) (i j : ℕ) → is_in a i j ≡ true → j < length (line_at g i) → cell_at (filled a c (copied b from g g)) i j ≡ c
 filled_there a b from c g i j on near =
     let h : Grid = copied b from g g in
     let shape : shape_of h ≡ shape_of g = shape_of-drawn (λ i j old. if is_in b i j then taken b from g i j old else old) g in
     cell_at-drawn_in a (λ i j old. c) h i j on (let line : length (line_at h i) ≡ length (line_at g i) = shape_of-line g h i shape in omega arith)
 
-line_long : (g : Grid) (w : Window) (y x : ℕ) → IsCanvas g w → y < w.area.rows → x < w.area.cols → w.area.left + x < length (line_at g (w.area.top + y))
+pub line_long : (g : Grid) (w : Window) (y x : ℕ) → IsCanvas g w → y < w.area.rows → x < w.area.cols → w.area.left + x < length (line_at g (w.area.top + y))
 line_long g w y x is lt lt2 = let rows = is.fits.rows in let cols = is.fits.cols (w.area.top + y) (omega arith) in omega arith
 
 pub up_by_place : (g : Grid) (w : Window) (n y x : ℕ) → IsCanvas g w → y < w.area.rows → x < w.area.cols → cell_of w (lines_up w w.region_top (region_height w) n g) y x ≡ went_up w n g y x

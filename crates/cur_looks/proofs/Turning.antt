@@ -1,10 +1,10 @@
 -- What each line does to a state that agrees with what is believed.
 use Rattle.std.proofs.Common.{◌≡◌, ℕ, ◌+◌, ◌-◌, ◌<◌, ◌≤◌, ◌==◌, ◌&&◌, ◌⊎◌, Bool, true, false, nat_le, List, [], Option, Some, None, refl, sym, ap, subst, ◌∙◌, inl, inr, arith, if◌then◌else◌}
-use Rattle.vt_term.specs.Look.{Rendition, Look, IsPrinted, blank}
+use Rattle.vt_term.specs.Look.{Rendition, Look, IsPrinted, blank, space}
 use Rattle.vt_term.specs.Grid.{look_at, drawn}
 use Rattle.vt_term.specs.Screen.{Screen, State, IsOfSize, is_graphic, Charset}
 use Rattle.vt_term.specs.Color.{Color}
-use Rattle.vt_term.proofs.Grids.{look_at-drawn}
+use Rattle.grids.proofs.Drawing.{cell_at-drawn}
 use Rattle.cur_looks.specs.declared.rows.Attributes.{Attributes}
 use Rattle.cur_looks.specs.declared.inks.Brush.{Brush}
 use Rattle.cur_looks.specs.declared.inks.Ink.{Ink}
@@ -20,7 +20,7 @@ pub free_of : (t : Table) (s : State) → IsReady t s → IsFree t.rows t.cols s
 free_of t s h = record { any = any_of t s h; top = h.whole.top; bottom = h.whole.bottom }
 
 -- a state that a line led to, by the screen that is wanted
-by_screen : (t : Table) (Q : State → Type 0) (u : State) (x : Screen) → IsOfSize t.rows t.cols u → u.rest ≡ [] → u.screen ≡ x
+pub by_screen : (t : Table) (Q : State → Type 0) (u : State) (x : Screen) → IsOfSize t.rows t.cols u → u.rest ≡ [] → u.screen ≡ x
     → (IsOfSize t.rows t.cols (record { screen = x; rest = [] }) → Q (record { screen = x; rest = [] })) → Q u
 by_screen t Q u x sized closed e f =
     let P : List ℕ → Type 0 = λ l. IsOfSize t.rows t.cols (record { screen = u.screen; rest = l }) → Q (record { screen = u.screen; rest = l }) in
@@ -174,7 +174,7 @@ tail_erased t g b r c p q = record {
       (λ k. record {
         ready = record { sized = k; rest = refl; tame = record { autowrap = h.ready.tame.autowrap; inserting = h.ready.tame.inserting }; whole = record { top = h.ready.whole.top; bottom = h.ready.whole.bottom }; settled = h.ready.settled; visible = h.ready.visible };
         cells = λ i j li lj.
-            look_at-drawn (λ i j old. if (i == s.screen.row) && nat_le s.screen.col j then blank s.screen.rendition else old) s.screen.grid i j
+            cell_at-drawn (λ i j old. if (i == s.screen.row) && nat_le s.screen.col j then blank s.screen.rendition else old) space s.screen.grid i j
             (omega (arith, h.ready.sized.state.screen.columns i (omega (arith, h.ready.sized.rows)), h.ready.sized.cols))
             ∙ ap (λ (n : ℕ). if (i == n) && nat_le s.screen.col j then blank s.screen.rendition else look_at s.screen.grid i j) at.0
             ∙ ap (λ (n : ℕ). if (i == r) && nat_le n j then blank s.screen.rendition else look_at s.screen.grid i j) at.1

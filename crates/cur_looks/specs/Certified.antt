@@ -135,6 +135,7 @@ pub record IsChecked (t : Table) : Type 0 where
   pub size : IsSize t.rows t.cols
   pub lines : (row : Row) (bytes : List ℕ) → t.line_of row ≡ Some bytes → IsLine t row bytes
   pub moves : (r c : ℕ) → r < t.rows → c < t.cols → has t (Cup r c) ≡ true
+  pub clears : has t Clear ≡ true
   pub attributes : (a : Attributes) → has t (Sgr a) ≡ true
   pub foregrounds : has t Op ≡ true → (c : Color) → has t (Setaf c) ≡ true
   pub backgrounds : has t Op ≡ true → (c : Color) → has t (Setab c) ≡ true

@@ -1,3 +1,4 @@
 pub mod Backing
 pub mod Passing
 pub mod Places
+pub mod Ranks

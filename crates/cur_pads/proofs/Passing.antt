@@ -13,7 +13,8 @@ use Rattle.cur_windows.specs.Desks.{State, IsDesk, IsPlaced, slot_of, grid_at, o
 use Rattle.cur_grid.specs.Spans.{rectangle}
 use Rattle.cur_windows.specs.Pads.{part_shown}
 use Rattle.cur_windows.specs.VirtualScreen.{Screen, Refresh, if_shown, refresh}
-use Rattle.cur_pads.specs.Laws.{IsShown, ShowsCells, is_between}
+use Rattle.cur_windows.specs.Places.{is_between}
+use Rattle.cur_pads.specs.Laws.{IsShown, ShowsCells}
 use Rattle.cur_pads.specs.Making.{pad_only, pad_of}
 use Rattle.cur_pads.specs.Ranges.{between, from, up_to}
 use Rattle.cur_pads.specs.Showing.{done, start}

@@ -1,14 +1,12 @@
 -- What showing a part of a pad does to each place of the screen (X/Open Curses Issue 7, pnoutrefresh).
-use Rattle.std.specs.Prelude.{◌≡◌, ℕ, ◌+◌, ◌-◌, ◌<◌, ◌&&◌, nat_le, length, Bool, Ok, Err, IfOk, if◌then◌else◌, ℤ, pos}
+use Rattle.std.specs.Prelude.{◌≡◌, ℕ, ◌+◌, ◌-◌, ◌<◌, ◌&&◌, length, Ok, Err, IfOk, if◌then◌else◌, ℤ, pos}
 use Rattle.cur_grid.specs.declared.refusals.Refusal.{Refusal}
 use Rattle.cur_grid.specs.Grids.{line_at, cell_at}
 use Rattle.cur_windows.specs.declared.slots.Slot.{Slot}
 use Rattle.cur_windows.specs.Desks.{State, cell, slot_of}
+use Rattle.cur_windows.specs.Places.{is_between}
 use Rattle.cur_windows.specs.VirtualScreen.{Screen, Refresh}
 use Rattle.cur_pads.specs.Showing.{start, pnoutrefresh}
-
-abbrev pub is_between : ℕ → ℕ → ℕ → Bool
-is_between first last i = nat_le first i && nat_le i last
 
 -- the places from (top, left) to (bottom, right) have the pad's cells from (y, x) on, all others what they had
 abbrev pub IsShown : State → Slot → Screen → Screen → ℕ → ℕ → ℕ → ℕ → ℕ → ℕ → Type 0

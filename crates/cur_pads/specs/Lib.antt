@@ -2,4 +2,5 @@
 pub mod Laws
 pub mod Making
 pub mod Ranges
+pub mod Refusals
 pub mod Showing

@@ -1,2 +1,5 @@
 pub mod Mixing
 pub mod Bounding
+pub mod Reaching
+pub mod Renewing
+pub mod Updating

@@ -1,2 +1,4 @@
 pub mod Differ
 pub mod Limits
+pub mod Cleared
+pub mod Update

@@ -1,5 +1,10 @@
 //! The painter's heart: from what a terminal is known to show to what it is to show.
 #![tactic(auto)]
 
+mod laws;
 mod painting;
 mod rows;
+mod updates;
+
+pub use laws::bounded;
+pub use updates::{Session, Status, Wanted, update};

@@ -26,10 +26,10 @@ no_some (Some s) e is A = absurd cc
 windows_other : (ws : List (Option Slot)) (n m : ℕ) (o : Option Slot) → m ≢ n → get_or (set ws n o) m None ≡ get_or ws m None
 windows_other ws n m o other = get_or-set_other ws n m o None other
 
-blank_length : (rows cols : ℕ) → length (blank rows cols) ≡ rows
+pub blank_length : (rows cols : ℕ) → length (blank rows cols) ≡ rows
 blank_length rows cols = length-replicate rows (replicate cols space)
 
-blank_line : (rows cols i : ℕ) → i < rows → length (line_at (blank rows cols) i) ≡ cols
+pub blank_line : (rows cols i : ℕ) → i < rows → length (line_at (blank rows cols) i) ≡ cols
 blank_line rows cols i lt = ap length (get_or-replicate rows i (replicate cols space) [] lt) ∙ length-replicate cols space
 
 pub blank_whole : (rows cols : ℕ) → IsWhole (whole_area rows cols) (blank rows cols)

@@ -52,7 +52,7 @@ within_after d m t (Ok a) next p = p a refl
 within_after d m t (Err e) next p = only_same d m t
 
 -- ---- the lines and columns lie in the target
-copy_span_inj : (s t : CopySpan) → Some s ≡ Some t → s ≡ t
+pub copy_span_inj : (s t : CopySpan) → Some s ≡ Some t → s ≡ t
 copy_span_inj s t e = cc
 
 if_copy_span : (b : Bool) (s v : CopySpan) → (if b then Some s else None) ≡ Some v → (b ≡ true) × (s ≡ v)
@@ -66,10 +66,10 @@ if_number : (b : Bool) (a k : ℕ) → (if b then Some a else None) ≡ Some k �
 if_number true a k h = (refl, num_inj a k h)
 if_number false a k h = absurd cc
 
-le_tested : (m n : ℕ) → nat_le m n ≡ true → m ≤ n
+pub le_tested : (m n : ℕ) → nat_le m n ≡ true → m ≤ n
 le_tested m n e = grind (arith, nat_tests)
 
-lt_tested : (m n : ℕ) → nat_lt m n ≡ true → m < n
+pub lt_tested : (m n : ℕ) → nat_lt m n ≡ true → m < n
 lt_tested m n e = grind (arith, nat_tests)
 
 start_below : (z : ℤ) (m k : ℕ) → start_within z 1 m ≡ Some k → k + 1 ≤ m

@@ -4,6 +4,8 @@ pub mod Copied
 pub mod Copies
 pub mod Lending
 pub mod Adding
+pub mod Places
+pub mod Ranks
 pub mod Sharing
 pub mod Showing
 pub mod Viewing

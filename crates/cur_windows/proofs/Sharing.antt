@@ -30,7 +30,7 @@ part_cell d s t y x i j is =
     ∙ ap (λ (k : ℕ). cell_at (grid_at d s.root) k (t.window.area.left + j)) row
     ∙ ap (λ (k : ℕ). cell_at (grid_at d s.root) (s.window.area.top + (y + i)) k) col
 
-after_good : {A : Type 0} (d : State) (r : Result A Refusal) (next : A → DeskStep) (P : DeskStep → Type 0) → (after r d next).1 ≡ Ok tt → ((a : A) → r ≡ Ok a → (next a).1 ≡ Ok tt → P (next a)) → P (after r d next)
+pub after_good : {A : Type 0} (d : State) (r : Result A Refusal) (next : A → DeskStep) (P : DeskStep → Type 0) → (after r d next).1 ≡ Ok tt → ((a : A) → r ≡ Ok a → (next a).1 ≡ Ok tt → P (next a)) → P (after r d next)
 after_good d (Ok a) next P h p = p a refl h
 after_good d (Err e) next P h p = absurd cc
 
@@ -75,11 +75,11 @@ room_below : (b : Bool) (r : Result (Unit {0}) Refusal) (u : Unit {0}) → (if b
 room_below true r u h = absurd cc
 room_below false r u h = refl
 
-clamped : (n : ℕ) → nat_lt 63 n ≡ false → n < 64
-clamped n e = grind (arith, nat_tests)
+low_number : (n : ℕ) → nat_lt 63 n ≡ false → n < 64
+low_number n e = grind (arith, nat_tests)
 
 free_few : (d : State) (n : ℕ) (u : Unit {0}) → free d n ≡ Ok u → n < 64
-free_few d n u h = clamped n (room_below (nat_lt 63 n) _ u h)
+free_few d n u h = low_number n (room_below (nat_lt 63 n) _ u h)
 
 made_part : (d : State) (n w : ℕ) (s : Slot) (lines cols : ℤ) (y x : ℕ) → length d.windows ≡ 64 → n < 64 → (subwindow_at d n w s lines cols (pos y) (pos x)).1 ≡ Ok tt →
     (t : Slot) → window_at (subwindow_at d n w s lines cols (pos y) (pos x)).0 n ≡ Some t → IsSubwindowOf s t y x

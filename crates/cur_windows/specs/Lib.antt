@@ -5,6 +5,8 @@ pub mod Laws
 pub mod Lending
 pub mod Making
 pub mod Pads
+pub mod Places
+pub mod Refusals
 pub mod Rows
 pub mod VirtualScreen
 pub mod Sizes

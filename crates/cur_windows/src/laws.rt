@@ -6,11 +6,15 @@ ghost use Rattle.cur_grid.specs.Laws.{IsLocal};
 ghost use Rattle.cur_grid.specs.Calls as calls;
 ghost use Rattle.cur_grid.specs.Windows as window_calls;
 ghost use Rattle.cur_windows.specs.Copying as copying;
-ghost use Rattle.cur_windows.specs.Desks.{State, IsDesk, slot_of, window_at, grid_at, cell, on_window, on_grid, on_cursor};
+ghost use Rattle.cur_windows.specs.Desks.{State, IsDesk, slot_of, window_at, grid_at, cell, on_window, on_grid, on_cursor, set, unchanged};
 ghost use Rattle.cur_windows.specs.Laws.{OnlyWithin, Apart, IsSubwindowOf, UnchangedIfRefused};
 ghost use Rattle.cur_windows.specs.Making as making;
+ghost use Rattle.cur_grid.specs.Refusals.{IsFirstOf};
+ghost use Rattle.cur_windows.specs.Refusals as causes;
 ghost use Rattle.cur_windows.specs.Rows.{line_of, line_area, row_written, written_through};
+ghost use Rattle.cur_windows.specs.Places.{IsWindowShown, IsCopied, IsOverlaid, IsCopyOf};
 ghost use Rattle.cur_windows.specs.Views.{window_cells};
+ghost use Rattle.cur_windows.specs.VirtualScreen.{Screen, noutrefresh};
 
 use crate::desks::Desk;
 use crate::slots::{Origin, Slot};
@@ -117,4 +121,69 @@ pub fn lines_are_written_in_place()
     ensures inside { (d : State) (n : ℕ) (s : Slot) (y x : ℕ) (cells : List Content) → IsDesk d → slot_of d n ≡ Ok s → y < s.window.area.rows → x < s.window.area.cols → x < length cells → cell (row_written d s y cells) s y x ≡ slice_index_or cells x space }
     ensures outside { (d : State) (n k : ℕ) (s : Slot) (y i j : ℕ) (cells : List Content) → IsDesk d → slot_of d n ≡ Ok s → (k ≢ s.root) ⊎ (is_in (line_area s y (length cells)) i j ≡ false) → cell_at (grid_at (row_written d s y cells) k) i j ≡ cell_at (grid_at d k) i j }
     ensures windows { (d : State) (s : Slot) (y m : ℕ) (cells : List Content) → window_at (row_written d s y cells) m ≡ window_at d m }
+{}
+
+/// `noutrefresh` gives each place of the virtual screen under the window the window's cell, and leaves all others.
+pub fn windows_are_shown_by_place()
+    ensures { (d : State) (v : Screen) (n : ℕ) (s : Slot) → IsDesk d → slot_of d n ≡ Ok s → (noutrefresh d v n).2 ≡ Ok tt → IsWindowShown d s v (noutrefresh d v n).1 }
+{}
+
+/// `overlay`, `overwrite` and `copywin` give each place of the target that is copied to the source's cell as it was
+/// before the call, and leave all others. `copywin` refuses every negative number.
+pub fn copies_are_made_by_place()
+    ensures overlay { (d : State) (skip : Bool) (n m : ℕ) (s t : Slot) → IsDesk d → slot_of d n ≡ Ok s → slot_of d m ≡ Ok t → (copying.common_part skip d n m).1 ≡ Ok tt → IsOverlaid d (copying.common_part skip d n m).0 s t skip }
+    ensures copywin { (d : State) (n m sr sc dr dc er ec : ℕ) (skip : Bool) (s t : Slot) → IsDesk d → slot_of d n ≡ Ok s → slot_of d m ≡ Ok t → (copying.copywin d n m (pos sr) (pos sc) (pos dr) (pos dc) (pos er) (pos ec) skip).1 ≡ Ok tt → IsCopied d (copying.copywin d n m (pos sr) (pos sc) (pos dr) (pos dc) (pos er) (pos ec) skip).0 s t skip sr sc dr dc er ec }
+{}
+
+/// What `dupwin` makes has the window's cells on a grid of its own, so that what is written in the one leaves the other.
+pub fn duplicates_are_apart()
+    ensures copy { (d : State) (n w : ℕ) (s t : Slot) → IsDesk d → slot_of d w ≡ Ok s → (making.dupwin d n w).1 ≡ Ok tt → window_at (making.dupwin d n w).0 n ≡ Some t → IsCopyOf d (making.dupwin d n w).0 s t }
+    ensures written_copy { (d e f : State) (n : ℕ) (s t : Slot) (y x : ℕ) → IsCopyOf d e s t → OnlyWithin e f n t → y < s.window.area.rows → x < s.window.area.cols → cell f s y x ≡ cell d s y x }
+    ensures written_original { (d e f : State) (w : ℕ) (s t : Slot) (y x : ℕ) → IsCopyOf d e s t → OnlyWithin e f w s → y < t.window.area.rows → x < t.window.area.cols → cell f t y x ≡ cell e t y x }
+{}
+
+/// The refusal of a call that makes, moves or deletes a window is the first in the order of ranks that there is cause for.
+/// `NoMemory`, the last of all, is reported only where there is cause for none of these.
+pub fn refused_making_is_ranked()
+    ensures newwin { (d : State) (n : ℕ) (lines cols y x : ℤ) → IsFirstOf (causes.newwin d n lines cols y x) (making.newwin d n lines cols y x).1 }
+    ensures derwin { (d : State) (n w : ℕ) (lines cols y x : ℤ) → IsFirstOf (causes.derwin d n w lines cols y x) (making.derwin d n w lines cols y x).1 }
+    ensures subwin { (d : State) (n w : ℕ) (lines cols y x : ℤ) → IsFirstOf (causes.subwin d n w lines cols y x) (making.subwin d n w lines cols y x).1 }
+    ensures dupwin { (d : State) (n w : ℕ) → IsFirstOf (causes.dupwin d n w) (making.dupwin d n w).1 }
+    ensures delwin { (d : State) (n : ℕ) → IsFirstOf (causes.delwin d n) (making.delwin d n).1 }
+    ensures mvwin { (d : State) (n : ℕ) (y x : ℤ) → IsFirstOf (causes.mvwin d n y x) (making.mvwin d n y x).1 }
+{}
+
+/// So is that of a call that copies.
+pub fn refused_copying_is_ranked()
+    ensures overlay { (d : State) (skip : Bool) (n m : ℕ) → IsFirstOf (causes.overlay d n m) (copying.common_part skip d n m).1 }
+    ensures copywin { (d : State) (n m : ℕ) (sr sc dr dc er ec : ℤ) (skip : Bool) → IsFirstOf (causes.copywin d n m sr sc dr dc er ec) (copying.copywin d n m sr sc dr dc er ec skip).1 }
+    ensures noutrefresh { (d : State) (v : Screen) (n : ℕ) → IsFirstOf (causes.noutrefresh d n) (noutrefresh d v n).2 }
+{}
+
+/// So is that of a call on one window that sets its cursor, region, pair, options or background.
+pub fn refused_setting_is_ranked()
+    ensures move_to { (d : State) (n : ℕ) (y x : ℤ) → IsFirstOf (causes.move_to d n y x) (on_cursor d n (window_calls.move_to y x)).1 }
+    ensures setscrreg { (d : State) (n : ℕ) (top bottom : ℤ) → IsFirstOf (causes.setscrreg d n top bottom) (on_cursor d n (window_calls.set_region top bottom)).1 }
+    ensures color_set { (d : State) (n : ℕ) (pair : ℤ) → IsFirstOf (causes.color_set d n pair) (on_cursor d n (window_calls.set_pair pair)).1 }
+    ensures bkgdset { (d : State) (n : ℕ) (put : Put) → IsFirstOf (causes.with_cell d n put) (on_cursor d n (window_calls.set_background put)).1 }
+    ensures options { (d : State) (n : ℕ) (change : Window → Window) → IsFirstOf (causes.any_window d n) (set d n change).1 }
+    ensures touchwin { (d : State) (n : ℕ) → IsFirstOf (causes.any_window d n) (unchanged d n).1 }
+{}
+
+/// So is that of a call that writes or erases. A string stops at its first refusal, whatever the ranks.
+pub fn refused_writing_is_ranked()
+    ensures addch { (d : State) (n : ℕ) (put : Put) → IsFirstOf (causes.addch d n put) (on_window d n (calls.added put)).1 }
+    ensures border { (d : State) (n : ℕ) (border : Border) → IsFirstOf (causes.border d n border) (on_grid d n (calls.bordered border)).1 }
+    ensures insch { (d : State) (n : ℕ) (put : Put) → IsFirstOf (causes.with_cell d n put) (on_grid d n (calls.insert_char put)).1 }
+    ensures hline { (d : State) (n : ℕ) (put : Put) (count : ℤ) → IsFirstOf (causes.with_cell d n put) (on_grid d n (calls.horizontal put count)).1 }
+    ensures vline { (d : State) (n : ℕ) (put : Put) (count : ℤ) → IsFirstOf (causes.with_cell d n put) (on_grid d n (calls.vertical put count)).1 }
+    ensures bkgd { (d : State) (n : ℕ) (put : Put) → IsFirstOf (causes.with_cell d n put) (on_window d n (calls.change_background put)).1 }
+    ensures scroll { (d : State) (n : ℕ) (count : ℤ) → IsFirstOf (causes.scroll d n) (on_grid d n (calls.scroll_by count)).1 }
+    ensures erase { (d : State) (n : ℕ) → IsFirstOf (causes.any_window d n) (on_window d n calls.erased).1 }
+    ensures clear { (d : State) (n : ℕ) → IsFirstOf (causes.any_window d n) (on_window d n calls.cleared).1 }
+    ensures delch { (d : State) (n : ℕ) → IsFirstOf (causes.any_window d n) (on_grid d n calls.delete_char).1 }
+    ensures insertln { (d : State) (n : ℕ) → IsFirstOf (causes.any_window d n) (on_grid d n calls.insert_line).1 }
+    ensures deleteln { (d : State) (n : ℕ) → IsFirstOf (causes.any_window d n) (on_grid d n calls.delete_line).1 }
+    ensures clrtoeol { (d : State) (n : ℕ) → IsFirstOf (causes.any_window d n) (on_grid d n calls.clear_line).1 }
+    ensures clrtobot { (d : State) (n : ℕ) → IsFirstOf (causes.any_window d n) (on_grid d n calls.clear_bottom).1 }
 {}

@@ -1,7 +1,7 @@
 -- Charsets that tokens reach.
 use Rattle.std.proofs.Math.Seq.{drop-cons}
 use Rattle.std.proofs.Common.{◌≡◌, ◌⊎◌, ◌&&◌, ◌<◌, ◌+◌, suc, drop, length, get_or, arith, inl, inr, ℕ, Bool, true, false, if◌then◌else◌, List, [], ◌∷◌, ◌++◌, refl, sym, ap, ◌∙◌}
-use Rattle.vt_term.specs.Function.{Function, function_of, ShiftOut, ShiftIn, Designate}
+use Rattle.vt_term.specs.Function.{Function, function_of, CodeElement, G0, G1, ShiftOut, ShiftIn, Designate}
 use Rattle.vt_term.specs.Screen.{Charset}
 use Rattle.ti_charsets.specs.declared.reach.Reach.{Reach}
 use Rattle.ti_charsets.specs.Charsets.{reset_charset, charset_after, IsAmong, Reached, AtReset, AfterToken, makes_g0_graphic, makes_g1_graphic, shifts_out, some_make, reach_of, within, can_have, joined}
@@ -67,11 +67,11 @@ some_of mark token (t ∷ ts) (inr a) h = some_later (mark (function_of t)) (som
 
 -- what turns a mark on does just that
 g0_made : (f : Function) (c : Charset) → makes_g0_graphic f ≡ true → charset_after f c ≡ record c { g0_graphic = true }
-g0_made (Designate false true) c h = refl
+g0_made (Designate G0 true) c h = refl
 g0_made _ c h = cc
 
 g1_made : (f : Function) (c : Charset) → makes_g1_graphic f ≡ true → charset_after f c ≡ record c { g1_graphic = true }
-g1_made (Designate true true) c h = refl
+g1_made (Designate G1 true) c h = refl
 g1_made _ c h = cc
 
 out_made : (f : Function) (c : Charset) → shifts_out f ≡ true → charset_after f c ≡ record c { shifted_out = true }
@@ -80,22 +80,22 @@ out_made _ c h = cc
 
 -- a mark that is on was on, or was turned on
 g0_before : (f : Function) (c : Charset) → (charset_after f c).g0_graphic ≡ true → (c.g0_graphic ≡ true) ⊎ (makes_g0_graphic f ≡ true)
-g0_before (Designate false true) c h = inr refl
-g0_before (Designate false false) c h = cc
-g0_before (Designate true g) c h = inl h
+g0_before (Designate G0 true) c h = inr refl
+g0_before (Designate G0 false) c h = cc
+g0_before (Designate G1 g) c h = inl h
 g0_before _ c h = inl h
 
 g1_before : (f : Function) (c : Charset) → (charset_after f c).g1_graphic ≡ true → (c.g1_graphic ≡ true) ⊎ (makes_g1_graphic f ≡ true)
-g1_before (Designate true true) c h = inr refl
-g1_before (Designate true false) c h = cc
-g1_before (Designate false g) c h = inl h
+g1_before (Designate G1 true) c h = inr refl
+g1_before (Designate G1 false) c h = cc
+g1_before (Designate G0 g) c h = inl h
 g1_before _ c h = inl h
 
 out_before : (f : Function) (c : Charset) → (charset_after f c).shifted_out ≡ true → (c.shifted_out ≡ true) ⊎ (shifts_out f ≡ true)
 out_before ShiftOut c h = inr refl
 out_before ShiftIn c h = cc
-out_before (Designate false g) c h = inl h
-out_before (Designate true g) c h = inl h
+out_before (Designate G0 g) c h = inl h
+out_before (Designate G1 g) c h = inl h
 out_before _ c h = inl h
 
 -- each mark that is on can be on

@@ -1,21 +1,14 @@
 -- Which character sets a terminal can have after strings that are sent whole or in part (VT100 user guide, "Select
 -- character set"; ECMA-48 8.3.76 and 8.3.126, LS0 and LS1: SI and SO).
 use Rattle.std.specs.Prelude.{ℕ, ◌≡◌, ◌⊎◌, ◌&&◌, Bool, true, false, if◌then◌else◌, List, [], ◌∷◌}
-use Rattle.vt_term.specs.Function.{Function, function_of, ShiftOut, ShiftIn, Designate}
+use Rattle.vt_term.specs.Function.{Function, function_of, CodeElement, G0, G1, ShiftOut, ShiftIn, Designate}
 use Rattle.vt_term.specs.Screen.{Charset}
+pub use Rattle.vt_term.specs.Charsets.{charset_after}
 use Rattle.ti_charsets.specs.declared.reach.Reach.{Reach}
 
 -- the sets of a terminal in its reset state
 abbrev pub reset_charset : Charset
 reset_charset = record { g0_graphic = false; g1_graphic = false; shifted_out = false }
-
--- the sets after a function: four of them change the sets
-abbrev pub charset_after : Function → Charset → Charset
-charset_after ShiftOut c = record c { shifted_out = true }
-charset_after ShiftIn c = record c { shifted_out = false }
-charset_after (Designate false graphic) c = record c { g0_graphic = graphic }
-charset_after (Designate true graphic) c = record c { g1_graphic = graphic }
-charset_after _ c = c
 
 -- the sets after tokens, one after another
 abbrev pub charset_over : List (List ℕ) → Charset → Charset
@@ -34,11 +27,11 @@ pub data Reached (tokens : List (List ℕ)) : Charset → Type 0 where
 
 -- what turns a mark of the sets on
 abbrev pub makes_g0_graphic : Function → Bool
-makes_g0_graphic (Designate false true) = true
+makes_g0_graphic (Designate G0 true) = true
 makes_g0_graphic _ = false
 
 abbrev pub makes_g1_graphic : Function → Bool
-makes_g1_graphic (Designate true true) = true
+makes_g1_graphic (Designate G1 true) = true
 makes_g1_graphic _ = false
 
 abbrev pub shifts_out : Function → Bool

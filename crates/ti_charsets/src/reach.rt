@@ -3,7 +3,7 @@
 ghost use Rattle.std.specs.Prelude.{◌≡◌, if◌then◌else◌, true, false, ◌++◌, [], ◌∷◌, ℕ, List};
 ghost use Rattle.ti_charsets.specs.Charsets.{can_have, joined, makes_g0_graphic, makes_g1_graphic, reach_of, shifts_out};
 
-use vt_term::{Charset, Function, Token};
+use vt_term::{Charset, CodeElement, Function, Token};
 
 /// Which marks of the character sets tokens can turn on. A charset is reached by tokens exactly if
 /// they turn on each of its marks that is on, since every mark is off in the reset state.
@@ -17,13 +17,13 @@ pub struct Reach {
 fn makes_g0_graphic(function: Function<'_>) -> bool
     ensures { result ≡ makes_g0_graphic function.entry }
 {
-    matches!(function, Function::Designate(false, true))
+    matches!(function, Function::Designate(CodeElement::G0, true))
 }
 
 fn makes_g1_graphic(function: Function<'_>) -> bool
     ensures { result ≡ makes_g1_graphic function.entry }
 {
-    matches!(function, Function::Designate(true, true))
+    matches!(function, Function::Designate(CodeElement::G1, true))
 }
 
 fn shifts_out(function: Function<'_>) -> bool

@@ -3,3 +3,4 @@ pub mod Listings
 pub mod Expansions
 pub mod Colons
 pub mod Feeds
+pub mod Comparisons

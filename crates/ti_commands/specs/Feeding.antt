@@ -1,11 +1,12 @@
--- What `feed` answers. What a path holds is not known here: there are bytes of which the reply tells.
-use Rattle.std.specs.Prelude.{◌≡◌, ◌≤◌, ℕ, List, [], None, length}
+-- What `feed` answers, by what its file holds.
+use Rattle.std.specs.Prelude.{◌≡◌, ℕ, List, [], None}
 use Rattle.std.specs.String.{string_bytes}
 use Rattle.vt_term.specs.Printed.{screen_text}
 use Rattle.vt_term.specs.Run.{Runs, Sticks}
 use Rattle.vt_term.specs.Screen.{State, reset}
 use Rattle.vt_term.specs.Size.{IsSize}
 use Rattle.ti_commands.specs.Failing.{WrongSize}
+use Rattle.ti_commands.specs.Holding.{HasBytes, Held}
 use Rattle.ti_commands.specs.Words.{GivesNumber}
 use Rattle.ti_commands.specs.declared.failure.Failure.{Failure}
 use Rattle.ti_commands.specs.declared.failure.Failure.TheVariants.{Refused, Usage, File, NoMemory}
@@ -41,31 +42,27 @@ TellsStuck rows cols bytes (Refused (Stuck stuck)) = SticksIn rows cols bytes st
 TellsStuck rows cols bytes NoMemory = Unit {0}
 TellsStuck rows cols bytes _ = ⊥
 
--- the reply is the screen after a file's bytes
-pub record ShowsScreen (rows cols : List ℕ) (reply : Reply) : Type 0 where
+-- the reply is the screen after the bytes of the file at a path
+pub record ShowsScreen (held : Held) (rows cols path : List ℕ) (reply : Reply) : Type 0 where
   pub given : SizeGiven rows cols
-  pub bytes : List ℕ
-  pub short : length bytes ≤ 16777216
-  pub shows : ShowsAfter given.asked.height given.asked.width bytes reply.text.items
+  pub shows : HasBytes (held path) 16777216 (λ bytes. ShowsAfter given.asked.height given.asked.width bytes reply.text.items)
   pub notes : reply.notes.items ≡ []
   pub done : reply.failure ≡ None
 
--- a file's bytes stick at this place
-pub record SticksAt (rows cols : List ℕ) (at : ℕ) : Type 0 where
+-- the bytes of the file at a path stick at this place
+pub record SticksAt (held : Held) (rows cols path : List ℕ) (at : ℕ) : Type 0 where
   pub given : SizeGiven rows cols
-  pub bytes : List ℕ
-  pub short : length bytes ≤ 16777216
-  pub sticks : SticksIn given.asked.height given.asked.width bytes at
+  pub sticks : HasBytes (held path) 16777216 (λ bytes. SticksIn given.asked.height given.asked.width bytes at)
 
-abbrev pub RefusesFeeding : List ℕ → List ℕ → Refusal → Type 0
-RefusesFeeding rows cols Size = (asked : SizeAsked rows cols) × (IsSize asked.height asked.width → ⊥)
-RefusesFeeding rows cols (Stuck stuck) = SticksAt rows cols stuck.at
-RefusesFeeding rows cols _ = ⊥
+abbrev pub RefusesFeeding : Held → List ℕ → List ℕ → List ℕ → Refusal → Type 0
+RefusesFeeding held rows cols path Size = (asked : SizeAsked rows cols) × (IsSize asked.height asked.width → ⊥)
+RefusesFeeding held rows cols path (Stuck stuck) = SticksAt held rows cols path stuck.at
+RefusesFeeding held rows cols path _ = ⊥
 
 -- the words come first, then the size, then the file, then its bytes
-abbrev pub FailsToFeed : List ℕ → List ℕ → List ℕ → Failure → Type 0
-FailsToFeed rows cols path (Usage told) = WrongSize rows cols (Usage told)
-FailsToFeed rows cols path (Refused refusal) = RefusesFeeding rows cols refusal
-FailsToFeed rows cols path (File told) = SizeGiven rows cols × (string_bytes told ≡ path)
-FailsToFeed rows cols path NoMemory = Unit {0}
-FailsToFeed rows cols path _ = ⊥
+abbrev pub FailsToFeed : Held → List ℕ → List ℕ → List ℕ → Failure → Type 0
+FailsToFeed held rows cols path (Usage told) = WrongSize rows cols (Usage told)
+FailsToFeed held rows cols path (Refused refusal) = RefusesFeeding held rows cols path refusal
+FailsToFeed held rows cols path (File told) = SizeGiven rows cols × (string_bytes told ≡ path)
+FailsToFeed held rows cols path NoMemory = Unit {0}
+FailsToFeed held rows cols path _ = ⊥

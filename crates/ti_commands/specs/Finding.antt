@@ -1,4 +1,4 @@
--- What an ENTRY word gives. What a path holds is not known here: there are bytes of which the answer tells.
+-- What an ENTRY word gives, by what its file holds.
 use Rattle.std.specs.Prelude.{◌≡◌, ◌≢◌, ◌<◌, ◌≤◌, ◌⊎◌, ℕ, List, [], ◌∷◌, ◌++◌, Result, Ok, Err, codes, length, slice_index}
 use Rattle.std.specs.Fmt.{decimal}
 use Rattle.std.specs.List.{flat_map}
@@ -14,6 +14,7 @@ use Rattle.ti_source.specs.declared.types.NoteKind.{NoteKind}
 use Rattle.ti_source.specs.declared.types.NoteKind.TheVariants.{UnknownName, Duplicate, OddEscape}
 use Rattle.ti_source.specs.declared.types.RawEntry.{RawEntry}
 use Rattle.ti_commands.specs.Failing.{TellsFile}
+use Rattle.ti_commands.specs.Holding.{HasBytes, Held}
 use Rattle.ti_commands.specs.declared.failure.Failure.{Failure}
 use Rattle.ti_commands.specs.declared.failure.Failure.TheVariants.{Refused, NoMemory}
 use Rattle.ti_commands.specs.declared.failure.Refusal.{Refusal}
@@ -65,17 +66,11 @@ pub record IsOfFile (bytes notes : List ℕ) (entry : Result Content Refusal) : 
   pub tells : notes ≡ []
   pub gives : FitsTo packed entry
 
--- a file's bytes, of at most so many, of which this holds
-pub record HasBytes (limit : ℕ) (P : List ℕ → Type 0) : Type 0 where
-  pub bytes : List ℕ
-  pub short : length bytes ≤ limit
-  pub holds : P bytes
-
 -- the word's notes, and its entry or the entry's refusal
-abbrev pub Finds : List ℕ → List ℕ → Result Content Refusal → Type 0
-Finds word notes entry =
-    ((path : List ℕ) × (name : List ℕ) × IsPathAndName word path name × HasBytes 16777216 (λ bytes. IsOfSource bytes name notes entry))
-    ⊎ (IsPath word × HasBytes 131072 (λ bytes. IsOfFile bytes notes entry))
+abbrev pub Finds : Held → List ℕ → List ℕ → Result Content Refusal → Type 0
+Finds held word notes entry =
+    ((path : List ℕ) × (name : List ℕ) × IsPathAndName word path name × HasBytes (held path) 16777216 (λ bytes. IsOfSource bytes name notes entry))
+    ⊎ (IsPath word × HasBytes (held word) 131072 (λ bytes. IsOfFile bytes notes entry))
 
 -- the source text has a fault
 abbrev pub TellsSource : List ℕ → Failure → Type 0
@@ -90,15 +85,15 @@ TellsPacked bytes NoMemory = Unit {0}
 TellsPacked bytes _ = ⊥
 
 -- the file at a path can't be had, or can't be read
-abbrev pub FailsInSource : List ℕ → Failure → Type 0
-FailsInSource path failure = TellsFile path failure ⊎ HasBytes 16777216 (λ bytes. TellsSource bytes failure)
+abbrev pub FailsInSource : Held → List ℕ → Failure → Type 0
+FailsInSource held path failure = TellsFile path failure ⊎ HasBytes (held path) 16777216 (λ bytes. TellsSource bytes failure)
 
-abbrev pub FailsInFile : List ℕ → Failure → Type 0
-FailsInFile path failure = TellsFile path failure ⊎ HasBytes 131072 (λ bytes. TellsPacked bytes failure)
+abbrev pub FailsInFile : Held → List ℕ → Failure → Type 0
+FailsInFile held path failure = TellsFile path failure ⊎ HasBytes (held path) 131072 (λ bytes. TellsPacked bytes failure)
 
-abbrev pub FailsToFind : List ℕ → Failure → Type 0
-FailsToFind word failure = ((path : List ℕ) × (name : List ℕ) × IsPathAndName word path name × FailsInSource path failure) ⊎ (IsPath word × FailsInFile word failure)
+abbrev pub FailsToFind : Held → List ℕ → Failure → Type 0
+FailsToFind held word failure = ((path : List ℕ) × (name : List ℕ) × IsPathAndName word path name × FailsInSource held path failure) ⊎ (IsPath word × FailsInFile held word failure)
 
 -- the word has no entry, as this failure says
-abbrev pub LacksEntry : List ℕ → Failure → Type 0
-LacksEntry word failure = FailsToFind word failure ⊎ ((refusal : Refusal) × (notes : List ℕ) × (failure ≡ Refused refusal) × Finds word notes (Err refusal))
+abbrev pub LacksEntry : Held → List ℕ → Failure → Type 0
+LacksEntry held word failure = FailsToFind held word failure ⊎ ((refusal : Refusal) × (notes : List ℕ) × (failure ≡ Refused refusal) × Finds held word notes (Err refusal))

@@ -1,4 +1,5 @@
 pub mod Words
+pub mod Holding
 pub mod Status
 pub mod Failing
 pub mod Listing

@@ -8,8 +8,7 @@ use Rattle.ti_caps.specs.declared.types.Kind.TheVariants as kinds
 use Rattle.ti_caps.specs.declared.value.Value.{Value}
 use Rattle.ti_caps.specs.declared.value.Value.TheVariants.{Flag, Number, String}
 use Rattle.ti_caps.specs.Entry.{Content, value_at}
-use Rattle.ti_caps.specs.Table.{kind_of, name_at, place_of_rank}
-use Rattle.ti_source.specs.Fields.{is_kind}
+use Rattle.ti_caps.specs.Table.{is_kind, kind_of, name_at, place_of_rank}
 use Rattle.ti_commands.specs.declared.describing.Comparison.{Comparison}
 use Rattle.ti_commands.specs.declared.describing.Comparison.TheVariants.{Common, Neither}
 

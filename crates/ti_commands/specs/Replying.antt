@@ -5,6 +5,7 @@ use Rattle.ti_caps.specs.Entry.{Content}
 use Rattle.ti_compiled.specs.Written.{packing_of}
 use Rattle.ti_source.specs.Printing.{text_of}
 use Rattle.ti_commands.specs.Finding.{Finds, LacksEntry}
+use Rattle.ti_commands.specs.Holding.{Held, Stored}
 use Rattle.ti_commands.specs.Listing.{comparison_text}
 use Rattle.ti_commands.specs.declared.describing.Comparison.{Comparison}
 use Rattle.ti_commands.specs.declared.failure.Failure.{Failure}
@@ -15,8 +16,8 @@ use Rattle.ti_commands.specs.declared.failure.Reply.{Reply}
 use denote.Ref.{Bor}
 
 -- the word gives this entry
-abbrev pub GivesEntry : List ℕ → Content → Type 0
-GivesEntry word entry = (notes : List ℕ) × Finds word notes (Ok entry)
+abbrev pub GivesEntry : Held → List ℕ → Content → Type 0
+GivesEntry held word entry = (notes : List ℕ) × Finds held word notes (Ok entry)
 
 -- the reply is this text alone
 pub record IsText (text : List ℕ) (reply : Reply) : Type 0 where
@@ -25,52 +26,54 @@ pub record IsText (text : List ℕ) (reply : Reply) : Type 0 where
   pub done : reply.failure ≡ None
 
 -- the entry's text
-pub record IsPrinted (word : List ℕ) (reply : Reply) : Type 0 where
+pub record IsPrinted (held : Held) (word : List ℕ) (reply : Reply) : Type 0 where
   pub entry : Content
-  pub gives : GivesEntry word entry
+  pub gives : GivesEntry held word entry
   pub prints : IsText (text_of entry) reply
 
 -- the list of what is common to two entries, or in neither
-pub record IsCompared (first second : List ℕ) (comparison : Comparison) (reply : Reply) : Type 0 where
+pub record IsCompared (held : Held) (first second : List ℕ) (comparison : Comparison) (reply : Reply) : Type 0 where
   pub one : Content
   pub other : Content
-  pub gives_one : GivesEntry first one
-  pub gives_other : GivesEntry second other
+  pub gives_one : GivesEntry held first one
+  pub gives_other : GivesEntry held second other
   pub lists : IsText (comparison_text comparison one other) reply
 
 -- what is lacking for a comparison: the first word comes first
-pub record LacksSecond (first second : List ℕ) (failure : Failure) : Type 0 where
+pub record LacksSecond (held : Held) (first second : List ℕ) (failure : Failure) : Type 0 where
   pub one : Content
-  pub gives_one : GivesEntry first one
-  pub lacks : LacksEntry second failure
+  pub gives_one : GivesEntry held first one
+  pub lacks : LacksEntry held second failure
 
--- that a path holds these bytes
-abbrev pub Keeps : Type 1
-Keeps = List ℕ → List ℕ → Type 0
-
--- the entry's compiled file was stored at a path
-pub record IsStored (entry : Content) (path : List ℕ) (keeps : Keeps) : Type 0 where
+-- the entry's compiled file was stored at a path, and nothing else has changed
+pub record IsStored (entry : Content) (path : List ℕ) (before after : Held) : Type 0 where
   pub file : List ℕ
   pub packs : packing_of entry ≡ Ok file
-  pub kept : keeps path file
+  pub stored : Stored before after path file
 
--- how the storing of an entry's compiled file ends
-abbrev pub Stores : Content → List ℕ → Keeps → Option Failure → Type 0
-Stores entry path keeps None = IsStored entry path keeps
-Stores entry path keeps (Some (File told)) = ((file : List ℕ) × (packing_of entry ≡ Ok file)) × (string_bytes told ≡ path)
-Stores entry path keeps (Some (Refused (Pack fault))) = packing_of entry ≡ Err fault
-Stores entry path keeps (Some NoMemory) = Unit {0}
-Stores entry path keeps (Some _) = ⊥
+-- the compiled file could not be stored
+pub record IsUnstored (entry : Content) (path told : List ℕ) : Type 0 where
+  pub file : List ℕ
+  pub packs : packing_of entry ≡ Ok file
+  pub named : told ≡ path
+
+-- how the storing of an entry's compiled file ends: where it fails, all files are as before
+abbrev pub Stores : Content → List ℕ → Held → Held → Option Failure → Type 0
+Stores entry path before after None = IsStored entry path before after
+Stores entry path before after (Some (File told)) = IsUnstored entry path (string_bytes told) × (after ≡ before)
+Stores entry path before after (Some (Refused (Pack fault))) = (packing_of entry ≡ Err fault) × (after ≡ before)
+Stores entry path before after (Some NoMemory) = after ≡ before
+Stores entry path before after (Some _) = ⊥
 
 -- how a command ends that was to compile an entry: it may not have one, or not want its file
-abbrev pub Outcome : Result Content Refusal → Option (Bor (List ℕ)) → Keeps → Option Failure → Type 0
-Outcome (Err refusal) out keeps failure = failure ≡ Some (Refused refusal)
-Outcome (Ok entry) None keeps failure = failure ≡ None
-Outcome (Ok entry) (Some path) keeps failure = Stores entry path.now keeps failure
+abbrev pub Outcome : Result Content Refusal → Option (Bor (List ℕ)) → Held → Held → Option Failure → Type 0
+Outcome (Err refusal) out before after failure = (failure ≡ Some (Refused refusal)) × (after ≡ before)
+Outcome (Ok entry) None before after failure = (failure ≡ None) × (after ≡ before)
+Outcome (Ok entry) (Some path) before after failure = Stores entry path.now before after failure
 
 -- the notes of what the word gives, and its outcome
-pub record IsCompiled (word : List ℕ) (out : Option (Bor (List ℕ))) (keeps : Keeps) (reply : Reply) : Type 0 where
+pub record IsCompiled (word : List ℕ) (out : Option (Bor (List ℕ))) (before after : Held) (reply : Reply) : Type 0 where
   pub entry : Result Content Refusal
-  pub finds : Finds word reply.notes.items entry
+  pub finds : Finds before word reply.notes.items entry
   pub no_text : reply.text.items ≡ []
-  pub outcome : Outcome entry out keeps reply.failure
+  pub outcome : Outcome entry out before after reply.failure

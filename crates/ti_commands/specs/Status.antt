@@ -1,5 +1,5 @@
 -- The exit status of the program.
-use Rattle.std.specs.Prelude.{◌≡◌, ℕ, Option, Some, None}
+use Rattle.std.specs.Prelude.{◌≡◌, ◌⊎◌, ℕ, Bool, true, false, Option, Some, None}
 use Rattle.ti_commands.specs.declared.failure.Failure.{Failure}
 use Rattle.ti_commands.specs.declared.failure.Failure.TheVariants.{Refused, RefusedUnwritten, Usage, File, Output, NoMemory}
 
@@ -12,7 +12,12 @@ status_of (File path) = 3
 status_of Output = 3
 status_of NoMemory = 4
 
--- a reply that failed keeps its status, and one that did not can fail by the output alone
-abbrev pub FailsAs : Option Failure → Failure → Type 0
-FailsAs None failure = failure ≡ Output
-FailsAs (Some told) failure = status_of failure ≡ status_of told
+-- the failure of a reply whose output failed or not
+abbrev pub IsUnwritten : Failure → Bool → Failure → Type 0
+IsUnwritten (Refused refusal) true failure = failure ≡ RefusedUnwritten refusal
+IsUnwritten told unwritten failure = failure ≡ told
+
+-- how a reply ends that has this failure or none, where its text was written or the output has failed
+abbrev pub EndsAs : Option Failure → Type 0 → Bool → Failure → Type 0
+EndsAs None written failed failure = (failure ≡ Output) × (failed ≡ true)
+EndsAs (Some told) written failed failure = (IsUnwritten told false failure × written) ⊎ (IsUnwritten told true failure × (failed ≡ true))

@@ -1,18 +1,19 @@
 //! The commands `tic` and `infocmp`.
 
-ghost use Rattle.std.specs.Prelude.{◌≡◌, ◌⊎◌, ◌<◌, ◌++◌, [], IfErr, IfOk, OnOk, if◌then◌else◌};
+ghost use Rattle.std.specs.Prelude.{◌≡◌, ◌⊎◌, ◌<◌, ◌++◌, [], IfErr, IfOk, OnErr, OnOk, if◌then◌else◌};
 ghost use Rattle.ti_caps.specs.Entry.{value_at};
-ghost use Rattle.ti_caps.specs.Table.{kind_of, place_of_rank};
-ghost use Rattle.ti_source.specs.Fields.{is_kind};
+ghost use Rattle.ti_caps.specs.Table.{place_of_rank};
 ghost use Rattle.ti_commands.specs.Listing.{comparison_text, is_listed, is_listed_at, kind_lines, name_line, same_value};
 ghost use Rattle.ti_commands.specs.Finding.{FailsToFind, LacksEntry};
 ghost use Rattle.ti_commands.specs.Replying.{GivesEntry, IsCompared, IsCompiled, IsPrinted, LacksSecond, Outcome, Stores};
 
 use crate::entries::{Found, find_entry};
-use crate::failure::{Failure, Refusal, Reply, file_failure};
+use crate::failure::{Failure, Refusal, Reply};
 use crate::files::{FileFault, Files};
+use crate::reading::file_fault;
+use crate::remarks::Remarks;
 use std::alloc::{AllocError, Global};
-use ti_caps::{Cap, Entry, Kind, Value, at_rank, kind, name};
+use ti_caps::{CAPABILITIES, Cap, Entry, Kind, Value, at_rank, is_kind, name};
 use ti_compiled::{PackFault, encode};
 use ti_source::print;
 
@@ -22,12 +23,19 @@ pub fn compile_entry<F: Files>(
     word: &str,
     out: Option<&str>,
     files: &mut F,
+    remarks: &mut Remarks,
 ) -> Result<Reply, Failure>
-    ensures reply { IfOk result (λ reply. IsCompiled word.now out.entry (F.keeps files.new) reply) }
-    ensures failure { IfErr result (λ e. FailsToFind word.now e ⊎ (e ≡ Failure.NoMemory)) }
+    ensures reply { IfOk result (λ reply. IsCompiled word.now out.entry (F.holds files.old) (F.holds files.new) reply) }
+    ensures failure { IfErr result (λ e. FailsToFind (F.holds files.old) word.now e ⊎ (e ≡ Failure.NoMemory)) }
+    ensures kept { OnErr result (F.holds files.new ≡ F.holds files.old) }
 {
-    let Found { notes, entry } = find_entry(alloc, files, word)?;
-    let failure = stored(alloc, files, out, entry)?;
+    let Found {
+        notes,
+        entry,
+        unknown,
+    } = find_entry(alloc, files, word, remarks)?;
+    let failure = stored(alloc, files, out, entry, remarks)?;
+    remarks.add_words(unknown.as_slice());
     Ok(Reply {
         notes,
         text: Vec::new(alloc),
@@ -41,15 +49,21 @@ fn stored<F: Files>(
     files: &mut F,
     out: Option<&str>,
     entry: Result<Entry, Refusal>,
+    remarks: &mut Remarks,
 ) -> Result<Option<Failure>, AllocError>
-    ensures { IfOk result (λ failure. Outcome entry out.entry (F.keeps files.new) failure) }
+    ensures outcome { IfOk result (λ failure. Outcome entry out.entry (F.holds files.old) (F.holds files.new) failure) }
+    ensures kept { OnErr result (F.holds files.new ≡ F.holds files.old) }
 {
     match (entry, out) {
-        (Ok(entry), Some(path)) => store_entry(alloc, files, path, &entry),
+        (Ok(entry), Some(path)) => store_entry(alloc, files, path, &entry, remarks),
         (Ok(_), None) => Ok(None),
         (Err(refusal), _) => Ok(Some(Failure::Refused(refusal))),
     }
 }
+
+/// What is said of a path whose compiled file would be too large.
+const TOO_LARGE: &[u8] =
+    b": the compiled file would have more than 4096 bytes, or than 32768 where a number is above 32767";
 
 /// Writes the compiled form of an entry to the file at `path`.
 fn store_entry<F: Files>(
@@ -57,27 +71,38 @@ fn store_entry<F: Files>(
     files: &mut F,
     path: &str,
     entry: &Entry,
+    remarks: &mut Remarks,
 ) -> Result<Option<Failure>, AllocError>
-    ensures { IfOk result (λ failure. Stores entry.now path.now (F.keeps files.new) failure) }
+    ensures outcome { IfOk result (λ failure. Stores entry.now path.now (F.holds files.old) (F.holds files.new) failure) }
+    ensures kept { OnErr result (F.holds files.new ≡ F.holds files.old) }
 {
     let file = match encode(alloc, entry) {
         Ok(file) => file,
         Err(PackFault::NoMemory) => return Err(AllocError),
-        Err(fault) => return Ok(Some(Failure::Refused(Refusal::Pack(fault)))),
+        Err(fault) => {
+            remarks.add(path.as_bytes(), TOO_LARGE);
+            return Ok(Some(Failure::Refused(Refusal::Pack(fault))));
+        }
     };
     match files.store(path, file.as_slice()) {
         Ok(()) => Ok(None),
         Err(FileFault::NoMemory) => Err(AllocError),
-        Err(FileFault::Failed) => Ok(Some(file_failure(alloc, path))),
+        Err(fault) => Ok(Some(file_fault(alloc, path, fault, remarks))),
     }
 }
 
 /// Prints an entry.
-pub fn print_entry<F: Files>(alloc: Global, word: &str, files: &mut F) -> Result<Reply, Failure>
-    ensures reply { IfOk result (λ reply. IsPrinted word.now reply) }
-    ensures failure { IfErr result (λ e. LacksEntry word.now e ⊎ (e ≡ Failure.NoMemory)) }
+pub fn print_entry<F: Files>(
+    alloc: Global,
+    word: &str,
+    files: &mut F,
+    remarks: &mut Remarks,
+) -> Result<Reply, Failure>
+    ensures reply { IfOk result (λ reply. IsPrinted (F.holds files.old) word.now reply) }
+    ensures failure { IfErr result (λ e. LacksEntry (F.holds files.old) word.now e ⊎ (e ≡ Failure.NoMemory)) }
+    ensures kept { F.holds files.new ≡ F.holds files.old }
 {
-    let entry = entry_of(alloc, files, word)?;
+    let entry = entry_of(alloc, files, word, remarks)?;
     let text = print(alloc, &entry)?;
     Ok(Reply::of_text(alloc, text))
 }
@@ -98,25 +123,34 @@ pub fn compare_entries<F: Files>(
     second: &str,
     comparison: Comparison,
     files: &mut F,
+    remarks: &mut Remarks,
 ) -> Result<Reply, Failure>
-    ensures reply { IfOk result (λ reply. IsCompared first.now second.now comparison reply) }
-    ensures failure { IfErr result (λ e. LacksEntry first.now e ⊎ LacksSecond first.now second.now e ⊎ (e ≡ Failure.NoMemory)) }
+    ensures reply { IfOk result (λ reply. IsCompared (F.holds files.old) first.now second.now comparison reply) }
+    ensures failure { IfErr result (λ e. LacksEntry (F.holds files.old) first.now e ⊎ LacksSecond (F.holds files.old) first.now second.now e ⊎ (e ≡ Failure.NoMemory)) }
+    ensures kept { F.holds files.new ≡ F.holds files.old }
 {
-    let one = entry_of(alloc, files, first)?;
-    let other = entry_of(alloc, files, second)?;
+    let one = entry_of(alloc, files, first, remarks)?;
+    let other = entry_of(alloc, files, second, remarks)?;
     let text = compare(alloc, &one, &other, comparison)?;
     Ok(Reply::of_text(alloc, text))
 }
 
 /// The entry that the word gives.
-fn entry_of<F: Files>(alloc: Global, files: &mut F, word: &str) -> Result<Entry, Failure>
-    ensures entry { IfOk result (λ entry. GivesEntry word.now entry) }
-    ensures failure { IfErr result (λ e. LacksEntry word.now e) }
+fn entry_of<F: Files>(
+    alloc: Global,
+    files: &mut F,
+    word: &str,
+    remarks: &mut Remarks,
+) -> Result<Entry, Failure>
+    ensures entry { IfOk result (λ entry. GivesEntry (F.holds files.old) word.now entry) }
+    ensures failure { IfErr result (λ e. LacksEntry (F.holds files.old) word.now e) }
+    ensures kept { F.holds files.new ≡ F.holds files.old }
 {
     let Found {
         notes: _notes,
         entry,
-    } = find_entry(alloc, files, word)?;
+        unknown: _unknown,
+    } = find_entry(alloc, files, word, remarks)?;
     match entry {
         Ok(entry) => Ok(entry),
         Err(refusal) => Err(Failure::Refused(refusal)),
@@ -150,7 +184,7 @@ fn push_kind(
 ) -> Result<(), AllocError>
     ensures { OnOk result (lines.new.items ≡ lines.old.items ++ kind_lines comparison first.now second.now wanted) }
 {
-    for rank in 0..497 {
+    for rank in 0..CAPABILITIES {
         push_rank(first, second, comparison, wanted, rank, lines)?;
     }
     Ok(())
@@ -170,17 +204,11 @@ fn push_rank(
     ensures { let cap = place_of_rank rank in OnOk result (lines.new.items ≡ lines.old.items ++ (if is_listed_at comparison first.now second.now wanted cap then name_line cap else [])) }
 {
     match at_rank(rank) {
-        Some(cap) if is_of_kind(cap, wanted) && is_listed(first, second, comparison, cap) => {
+        Some(cap) if is_kind(cap, wanted) && is_listed(first, second, comparison, cap) => {
             push_name(cap, lines)
         }
         _ => Ok(()),
     }
-}
-
-fn is_of_kind(cap: Cap, wanted: Kind) -> bool
-    ensures { result ≡ is_kind (kind_of cap) wanted }
-{
-    kind(cap) == wanted
 }
 
 fn push_name(cap: Cap, lines: &mut Vec<u8>) -> Result<(), AllocError>

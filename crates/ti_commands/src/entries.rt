@@ -3,11 +3,15 @@
 ghost use Rattle.std.specs.Prelude.{◌≡◌, ◌++◌, IfErr, IfNone, IfOk, IfSome, OnOk};
 ghost use Rattle.std.specs.List.{AllByRecursion, flat_map};
 ghost use Rattle.ti_source.specs.Raw.{IsRaw};
-ghost use Rattle.ti_commands.specs.Finding.{FailsInFile, FailsInSource, FailsToFind, Finds, FitsTo, HasBytes, IsOfFile, IsOfSource, IsPath, IsPathAndName, ResolvesTo, TellsPacked, TellsSource, note_line, note_name, notes_text};
+ghost use Rattle.ti_commands.specs.Holding.{HasBytes};
+ghost use Rattle.ti_commands.specs.Finding.{FailsInFile, FailsInSource, FailsToFind, Finds, FitsTo, IsOfFile, IsOfSource, IsPath, IsPathAndName, ResolvesTo, TellsPacked, TellsSource, note_line, note_name, notes_text};
 
+use crate::explaining::{explain_packed, explain_source};
 use crate::failure::{Failure, Refusal};
 use crate::files::Files;
 use crate::reading::read_whole;
+use crate::remarks::Remarks;
+use crate::unknown_names::unknown_names;
 use std::alloc::{AllocError, Global};
 use ti_caps::Entry;
 use ti_compiled::{PackFault, Packed, decode};
@@ -27,16 +31,24 @@ pub struct Found {
     pub notes: Vec<u8>,
     /// The entry, or why it can't be had.
     pub entry: Result<Entry, Refusal>,
+    /// A line that counts the names in the source file that no capability has, if there are any.
+    pub unknown: Vec<u8>,
 }
 
 /// Reads the file that the word names, and finds or unpacks its entry.
-pub fn find_entry<F: Files>(alloc: Global, files: &mut F, word: &str) -> Result<Found, Failure>
-    ensures found { IfOk result (λ found. Finds word.now found.notes.items found.entry) }
-    ensures failure { IfErr result (λ e. FailsToFind word.now e) }
+pub fn find_entry<F: Files>(
+    alloc: Global,
+    files: &mut F,
+    word: &str,
+    remarks: &mut Remarks,
+) -> Result<Found, Failure>
+    ensures found { IfOk result (λ found. Finds (F.holds files.old) word.now found.notes.items found.entry) }
+    ensures failure { IfErr result (λ e. FailsToFind (F.holds files.old) word.now e) }
+    ensures kept { F.holds files.new ≡ F.holds files.old }
 {
     match path_and_name(word) {
-        Some((path, name)) => find_in_source(alloc, files, path, name),
-        None => unpack(alloc, files, word),
+        Some((path, name)) => find_in_source(alloc, files, path, name, remarks),
+        None => unpack(alloc, files, word, remarks),
     }
 }
 
@@ -53,13 +65,16 @@ fn find_in_source<F: Files>(
     files: &mut F,
     path: &str,
     name: &str,
+    remarks: &mut Remarks,
 ) -> Result<Found, Failure>
-    ensures found { IfOk result (λ found. HasBytes 16777216 (λ bytes. IsOfSource bytes name.now found.notes.items found.entry)) }
-    ensures failure { IfErr result (λ e. FailsInSource path.now e) }
+    ensures found { IfOk result (λ found. HasBytes (F.holds files.old path.now) 16777216 (λ bytes. IsOfSource bytes name.now found.notes.items found.entry)) }
+    ensures failure { IfErr result (λ e. FailsInSource (F.holds files.old) path.now e) }
+    ensures kept { F.holds files.new ≡ F.holds files.old }
 {
-    let text = read_whole(alloc, files, path, SOURCE_LIMIT)?;
-    let found = find_in_text(alloc, text.as_slice(), name)?;
-    Ok(found)
+    let text = read_whole(alloc, files, path, SOURCE_LIMIT, remarks)?;
+    let found = find_in_text(alloc, text.as_slice(), name);
+    explain_source(alloc, path, text.as_slice(), &found, remarks);
+    found
 }
 
 /// The entry of this name in a source text.
@@ -71,7 +86,12 @@ fn find_in_text(alloc: Global, text: &[u8], name: &str) -> Result<Found, Failure
         Ok(raws) => {
             let notes = note_lines(alloc, raws.as_slice())?;
             let entry = resolved(alloc, raws.as_slice(), name)?;
-            Ok(Found { notes, entry })
+            let unknown = unknown_names(alloc, text)?;
+            Ok(Found {
+                notes,
+                entry,
+                unknown,
+            })
         }
         Err(fault) => match fault.kind {
             FaultKind::NoMemory => Err(Failure::NoMemory),
@@ -136,13 +156,20 @@ fn note_name(kind: NoteKind) -> &'static str
     }
 }
 
-fn unpack<F: Files>(alloc: Global, files: &mut F, path: &str) -> Result<Found, Failure>
-    ensures found { IfOk result (λ found. HasBytes 131072 (λ bytes. IsOfFile bytes found.notes.items found.entry)) }
-    ensures failure { IfErr result (λ e. FailsInFile path.now e) }
+fn unpack<F: Files>(
+    alloc: Global,
+    files: &mut F,
+    path: &str,
+    remarks: &mut Remarks,
+) -> Result<Found, Failure>
+    ensures found { IfOk result (λ found. HasBytes (F.holds files.old path.now) 131072 (λ bytes. IsOfFile bytes found.notes.items found.entry)) }
+    ensures failure { IfErr result (λ e. FailsInFile (F.holds files.old) path.now e) }
+    ensures kept { F.holds files.new ≡ F.holds files.old }
 {
-    let file = read_whole(alloc, files, path, COMPILED_LIMIT)?;
-    let found = unpack_file(alloc, file.as_slice())?;
-    Ok(found)
+    let file = read_whole(alloc, files, path, COMPILED_LIMIT, remarks)?;
+    let found = unpack_file(alloc, file.as_slice());
+    explain_packed(path, file.as_slice(), &found, remarks);
+    found
 }
 
 /// The entry of a compiled file.
@@ -154,6 +181,7 @@ fn unpack_file(alloc: Global, file: &[u8]) -> Result<Found, Failure>
         Ok(packed) => Ok(Found {
             notes: Vec::new(alloc),
             entry: unpacked(alloc, &packed)?,
+            unknown: Vec::new(alloc),
         }),
         Err(fault) => Err(Failure::Refused(Refusal::Pack(fault))),
     }

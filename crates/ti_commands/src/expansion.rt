@@ -10,7 +10,9 @@ ghost use Rattle.ti_commands.specs.Failing.{TellsUsage, WrongParam, param_usage}
 ghost use Rattle.ti_commands.specs.Words.{GiveParams, GivesParam, texts_of};
 
 use crate::decimal::decimal_number;
+use crate::explaining::{explain_escape, explain_parm, explain_token};
 use crate::failure::{Failure, Refusal, Reply};
+use crate::remarks::Remarks;
 use crate::sizes::{number_word, size_of};
 use smallvec::SmallVec;
 use std::alloc::{AllocError, Global};
@@ -38,25 +40,33 @@ pub struct Expansion<'a> {
 }
 
 /// Expands the string and shows where it leaves the cursor of a blank terminal.
-pub fn expand_string(alloc: Global, words: &Expansion<'_>) -> Result<Reply, Failure>
+pub fn expand_string(
+    alloc: Global,
+    words: &Expansion<'_>,
+    remarks: &mut Remarks,
+) -> Result<Reply, Failure>
     ensures reply { IfOk result (λ reply. IsExpanded words.now reply) }
     ensures failure { IfErr result (λ e. FailsToExpand words.now e) }
 {
     let rows = number_word(alloc, "ROWS", words.rows)?;
     let cols = number_word(alloc, "COLS", words.cols)?;
     let params = read_params(alloc, words.params)?;
-    let size = size_of(rows, cols)?;
+    let size = size_of(alloc, rows, cols, remarks)?;
     let string = match unescape(alloc, words.string.as_bytes()) {
         Ok(string) => string,
-        Err(fault) => return Err(escape_failure(fault)),
+        Err(fault) => {
+            explain_escape(fault, remarks);
+            return Err(escape_failure(fault));
+        }
     };
-    let sent = send(alloc, string.as_slice(), params.as_slice())?;
+    let sent = send(alloc, string.as_slice(), params.as_slice(), remarks)?;
     let shown = show(
         alloc,
         size,
         string.as_slice(),
         sent.as_slice(),
         words.judges_cup,
+        remarks,
     )?;
     Ok(shown)
 }
@@ -68,6 +78,7 @@ fn show(
     string: &[u8],
     sent: &[u8],
     judges_cup: bool,
+    remarks: &mut Remarks,
 ) -> Result<Reply, AllocError>
     ensures { IfOk result (λ reply. Shows judges_cup size.rows size.cols string.now sent.now reply) }
 {
@@ -75,11 +86,14 @@ fn show(
         Ok(_) => Ok(Reply::of_text(alloc, whole_text(alloc, size, string, sent, judges_cup)?)),
         Err(fault) => match fault.kind {
             TokenFaultKind::NoMemory => Err(AllocError),
-            _ => Ok(Reply {
-                notes: Vec::new(alloc),
-                text: hex_line(alloc, sent)?,
-                failure: Some(Failure::Refused(Refusal::Token(fault))),
-            }),
+            _ => {
+                explain_token(alloc, sent, fault, remarks);
+                Ok(Reply {
+                    notes: Vec::new(alloc),
+                    text: hex_line(alloc, sent)?,
+                    failure: Some(Failure::Refused(Refusal::Token(fault))),
+                })
+            }
         },
     }
 }
@@ -115,7 +129,12 @@ fn hex_line(alloc: Global, sent: &[u8]) -> Result<Vec<u8>, AllocError>
 }
 
 /// What the string sends: its expansion without delays.
-fn send(alloc: Global, string: &[u8], params: &[Param<'_>]) -> Result<Vec<u8>, Failure>
+fn send(
+    alloc: Global,
+    string: &[u8],
+    params: &[Param<'_>],
+    remarks: &mut Remarks,
+) -> Result<Vec<u8>, Failure>
     ensures bytes { IfOk result (λ bytes. sent string.now (values_of params.now) ≡ Ok bytes.items) }
     ensures failure { IfErr result (λ e. TellsParm string.now (values_of params.now) e) }
 {
@@ -124,7 +143,10 @@ fn send(alloc: Global, string: &[u8], params: &[Param<'_>]) -> Result<Vec<u8>, F
     match expand(alloc, string, params, &mut statics, &mut expanded) {
         Ok(()) => {}
         Err(ParmFault::NoMemory) => return Err(Failure::NoMemory),
-        Err(fault) => return Err(Failure::Refused(Refusal::Parm(fault))),
+        Err(fault) => {
+            explain_parm(fault, remarks);
+            return Err(Failure::Refused(Refusal::Parm(fault)));
+        }
     }
     let sent = strip_delays(alloc, expanded.as_slice())?;
     Ok(sent)

@@ -5,6 +5,7 @@ ghost use Rattle.ti_commands.specs.Status.{status_of};
 ghost use Rattle.ti_commands.specs.Failing.{TellsFile, TellsUsage};
 ghost use Rattle.ti_commands.specs.declared.failure.Failure.TheVariants.{NoMemory};
 
+use crate::remarks::{Remarks, write_shown};
 use std::alloc::{AllocError, AllocFailed, Global};
 use std::io;
 use std::io::Write;
@@ -70,26 +71,20 @@ pub enum Refusal {
     Pack(PackFault),
 }
 
-/// Why a command ends with another status than 0. The text is what standard error gets.
-#[derive(Debug, Drop, Error)]
+/// Why a command ends with another status than 0.
+#[derive(Debug, Drop)]
 pub enum Failure {
     /// The command's own answer is no.
-    #[error("refused: {0}\n")]
     Refused(Refusal),
     /// The answer is no, and what stands beside it could not be written.
-    #[error("refused: {0}\noutput\n")]
     RefusedUnwritten(Refusal),
-    /// The line can't be understood; the text says why.
-    #[error("{0}")]
+    /// A usage error; the text says which.
     Usage(String),
     /// The file of this path can't be read or written, or is too long.
-    #[error("file: {0}\n")]
     File(String),
     /// Standard output didn't take the answer.
-    #[error("output\n")]
     Output,
-    /// A request for memory was refused.
-    #[error("no memory\n")]
+    /// Out of memory.
     NoMemory,
 }
 
@@ -133,8 +128,8 @@ pub fn file_failure(alloc: Global, path: &str) -> Failure
     }
 }
 
-/// The failure of a line that this text explains.
-pub fn wrong_line(alloc: Global, text: &str) -> Failure
+/// The failure of a line that can't be understood, as this text says.
+pub fn usage_error(alloc: Global, text: &str) -> Failure
     ensures { TellsUsage text.now result }
 {
     match String::from_str(alloc, text) {
@@ -143,25 +138,63 @@ pub fn wrong_line(alloc: Global, text: &str) -> Failure
     }
 }
 
-/// Tells the failure on `err`, and answers the exit status. A standard error that takes nothing
-/// changes neither.
-pub fn told<E: Write>(failure: &Failure, err: &mut E) -> u8
+/// Writes the failure's line and the further lines to `err`, and answers the exit status. A standard error that
+/// takes nothing changes nothing.
+pub fn report<E: Write>(failure: &Failure, remarks: &Remarks, err: &mut E) -> u8
     ensures { result ≡ status_of failure.now }
 {
-    let _ = match failure {
-        Failure::Refused(Refusal::Resolve(fault)) => tell_name(fault, err),
-        _ => write!(err, "{failure}"),
-    };
+    let _ = write_failure(failure, remarks, err);
     failure.status()
 }
 
-/// A name is told as the bytes that it has in the source.
-fn tell_name<E: Write>(fault: &ResolveFault, err: &mut E) -> io::Result<()> {
-    write!(err, "refused: {fault} ")?;
-    match fault {
-        ResolveFault::NoSuchEntry(name) | ResolveFault::Cycle(name) | ResolveFault::TooMany(name) =>
-            err.write_all(name.as_slice())?,
-        ResolveFault::NoMemory => {}
+fn write_failure<E: Write>(failure: &Failure, remarks: &Remarks, err: &mut E) -> io::Result<()> {
+    match failure {
+        Failure::Refused(refusal) => write_refusal(refusal, err)?,
+        Failure::RefusedUnwritten(refusal) => {
+            write_refusal(refusal, err)?;
+            err.write_all(OUTPUT)?;
+        }
+        Failure::Usage(text) => write_lines(text.as_bytes(), err)?,
+        Failure::File(path) => {
+            err.write_all(b"file: ")?;
+            write_shown(err, path.as_bytes())?;
+            err.write_all(b"\n")?;
+        }
+        Failure::Output => err.write_all(OUTPUT)?,
+        Failure::NoMemory => err.write_all(b"no memory\n")?,
+    }
+    err.write_all(remarks.as_slice())
+}
+
+/// The fixed line, and in plain words what happened.
+const OUTPUT: &[u8] =
+    b"output\nstandard output is closed or full: the answer was not written, or only in part\n";
+
+/// A name stands in the line as the source has it, but for bytes that could begin a sequence.
+fn write_refusal<E: Write>(refusal: &Refusal, err: &mut E) -> io::Result<()> {
+    write!(err, "refused: {refusal}")?;
+    if let Refusal::Resolve(
+        ResolveFault::NoSuchEntry(name) | ResolveFault::Cycle(name) | ResolveFault::TooMany(name),
+    ) = refusal
+    {
+        err.write_all(b" ")?;
+        write_shown(err, name.as_slice())?;
     }
     err.write_all(b"\n")
+}
+
+/// A text of several lines.
+fn write_lines<E: Write>(text: &[u8], err: &mut E) -> io::Result<()> {
+    let mut rest = text;
+    for _ in 0..=text.len() {
+        match rest.iter().position(|byte| *byte == b'\n') {
+            Some(end) => {
+                write_shown(err, &rest[..end])?;
+                err.write_all(b"\n")?;
+                rest = &rest[end + 1..];
+            }
+            None => return write_shown(err, rest),
+        }
+    }
+    Ok(())
 }

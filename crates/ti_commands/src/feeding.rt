@@ -1,11 +1,13 @@
 //! The command `feed`.
 
-ghost use Rattle.std.specs.Prelude.{IfErr, IfOk};
+ghost use Rattle.std.specs.Prelude.{◌≡◌, IfErr, IfOk};
 ghost use Rattle.ti_commands.specs.Feeding.{FailsToFeed, ShowsAfter, ShowsScreen, TellsStuck};
 
+use crate::explaining::explain_stuck;
 use crate::failure::{Failure, Refusal, Reply};
 use crate::files::Files;
 use crate::reading::read_whole;
+use crate::remarks::Remarks;
 use crate::sizes::{number_word, size_of};
 use std::alloc::Global;
 use vt_term::{Size, Terminal};
@@ -21,26 +23,37 @@ pub fn feed_file<F: Files>(
     cols: &str,
     path: &str,
     files: &mut F,
+    remarks: &mut Remarks,
 ) -> Result<Reply, Failure>
-    ensures reply { IfOk result (λ reply. ShowsScreen rows.now cols.now reply) }
-    ensures failure { IfErr result (λ e. FailsToFeed rows.now cols.now path.now e) }
+    ensures reply { IfOk result (λ reply. ShowsScreen (F.holds files.old) rows.now cols.now path.now reply) }
+    ensures failure { IfErr result (λ e. FailsToFeed (F.holds files.old) rows.now cols.now path.now e) }
+    ensures kept { F.holds files.new ≡ F.holds files.old }
 {
     let rows = number_word(alloc, "ROWS", rows)?;
     let cols = number_word(alloc, "COLS", cols)?;
-    let size = size_of(rows, cols)?;
-    let bytes = read_whole(alloc, files, path, LIMIT)?;
-    let text = screen_after(alloc, size, bytes.as_slice())?;
+    let size = size_of(alloc, rows, cols, remarks)?;
+    let bytes = read_whole(alloc, files, path, LIMIT, remarks)?;
+    let text = screen_after(alloc, size, path, bytes.as_slice(), remarks)?;
     Ok(Reply::of_text(alloc, text))
 }
 
 /// The screen of a terminal after these bytes.
-fn screen_after(alloc: Global, size: Size, bytes: &[u8]) -> Result<Vec<u8>, Failure>
+fn screen_after(
+    alloc: Global,
+    size: Size,
+    path: &str,
+    bytes: &[u8],
+    remarks: &mut Remarks,
+) -> Result<Vec<u8>, Failure>
     ensures text { IfOk result (λ text. ShowsAfter size.rows size.cols bytes.now text.items) }
     ensures failure { IfErr result (λ e. TellsStuck size.rows size.cols bytes.now e) }
 {
     let mut terminal = Terminal::new(alloc, size)?;
     match terminal.feed(bytes) {
         Ok(()) => Ok(terminal.print_screen(alloc)?),
-        Err(stuck) => Err(Failure::Refused(Refusal::Stuck(stuck))),
+        Err(stuck) => {
+            explain_stuck(alloc, path.as_bytes(), bytes, stuck.at, remarks);
+            Err(Failure::Refused(Refusal::Stuck(stuck)))
+        }
     }
 }

@@ -1,30 +1,76 @@
 //! The files that a command reads and writes.
 
-ghost use Rattle.std.specs.Prelude.{⊤, ℕ, List, OnOk};
+ghost use Rattle.std.specs.Prelude.{◌≡◌, ◌≢◌, ℕ, List, Option, None, IfOk, OnErr, OnOk};
+ghost use Rattle.ti_commands.specs.Holding.{AreBytesOf, IsLeft};
 
-use std::io::Read;
+use std::io;
+use std::io::{ErrorKind, Read};
+
+/// Why the system refused a file, as far as it says.
+#[derive(Clone, Copy, Debug, PartialEq, Eq)]
+pub enum Cause {
+    /// There is no such file or folder.
+    Missing,
+    /// The path is a folder's.
+    Directory,
+    /// Permission is denied.
+    Denied,
+    /// The device is full.
+    Full,
+    /// The file to be written is one that was read.
+    Source,
+    /// Anything else.
+    Other,
+}
 
 /// Why a file could not be read or written.
 #[derive(Clone, Copy, Debug, PartialEq, Eq)]
 pub enum FileFault {
     /// The system refused.
-    Failed,
-    /// Want of memory.
+    Failed(Cause),
+    /// Out of memory.
     NoMemory,
+}
+
+impl From<io::Error> for FileFault {
+    fn from(error: io::Error) -> FileFault {
+        FileFault::of_kind(error.kind())
+    }
+}
+
+impl FileFault {
+    /// The fault that an error of the system's files is.
+    pub fn of_kind(kind: ErrorKind) -> FileFault {
+        match kind {
+            ErrorKind::OutOfMemory => FileFault::NoMemory,
+            ErrorKind::NotFound | ErrorKind::NotADirectory => FileFault::Failed(Cause::Missing),
+            ErrorKind::IsADirectory => FileFault::Failed(Cause::Directory),
+            ErrorKind::PermissionDenied | ErrorKind::ReadOnlyFilesystem => {
+                FileFault::Failed(Cause::Denied)
+            }
+            ErrorKind::StorageFull | ErrorKind::QuotaExceeded => FileFault::Failed(Cause::Full),
+            _ => FileFault::Failed(Cause::Other),
+        }
+    }
 }
 
 /// Where a command finds its files: the system's, or a test's own in memory.
 pub trait Files {
-    /// That the file at this path holds these bytes, where that is known.
-    ghost keeps: { Self → List ℕ → List ℕ → Type 0 } = { λ _ _ _. ⊤ };
+    /// The bytes of the file at a path, where they are known.
+    ghost holds: { Self → List ℕ → Option (List ℕ) } = { λ _ _. None };
 
     /// An opened file, read from its front.
     type File: Read + Drop;
 
-    /// Opens the file at `path` for reading.
-    fn reader(&mut self, path: &str) -> Result<Self::File, FileFault>;
+    /// Opens the file at `path` for reading: what is left to read is what the path holds.
+    fn reader(&mut self, path: &str) -> Result<Self::File, FileFault>
+        ensures bytes { IfOk result (λ file. IsLeft (holds self.old path.now) (Self.File.remaining file)) }
+        ensures kept { holds self.new ≡ holds self.old };
 
-    /// Makes the file at `path` hold just these bytes.
+    /// Makes the file at `path` hold just these bytes, and no other path anything else. After an error
+    /// each file is as before.
     fn store(&mut self, path: &str, bytes: &[u8]) -> Result<(), FileFault>
-        ensures { OnOk result (keeps self.new path.now bytes.now) };
+        ensures stored { OnOk result (AreBytesOf (holds self.new path.now) bytes.now) }
+        ensures others { OnOk result ((other : List ℕ) → other ≢ path.now → holds self.new other ≡ holds self.old other) }
+        ensures kept { OnErr result (holds self.new ≡ holds self.old) };
 }

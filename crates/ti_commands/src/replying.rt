@@ -1,17 +1,18 @@
 //! How a reply is given.
 
-ghost use Rattle.std.specs.Prelude.{◌≡◌, None, Some, IfErr, OnOk};
+ghost use Rattle.std.specs.Prelude.{◌≡◌, None, IfErr, OnErr, OnOk, true};
 ghost use Rattle.std.specs.Io.KnownBytes.{Appends};
-ghost use Rattle.ti_commands.specs.Status.{FailsAs};
+ghost use Rattle.ti_commands.specs.Status.{EndsAs, IsUnwritten};
 
 use crate::failure::{Failure, Reply};
-use std::io::Write;
+use crate::output::Output;
 
-/// Writes what a reply has for standard output. A reply's failure comes before that of the output.
-pub fn give<O: Write>(out: &mut O, reply: Reply) -> Result<(), Failure>
+/// Writes what a reply has for standard output, also where the reply failed: then its failure comes
+/// before that of the output.
+pub fn give<O: Output>(out: &mut O, reply: Reply) -> Result<(), Failure>
     ensures done { OnOk result (reply.failure ≡ None) }
     ensures written { OnOk result (Appends (O.contents out.old) (O.contents out.new) reply.text.items) }
-    ensures failure { IfErr result (λ failure. FailsAs reply.failure failure) }
+    ensures failure { IfErr result (λ failure. EndsAs reply.failure (Appends (O.contents out.old) (O.contents out.new) reply.text.items) (O.has_failed out.new) failure) }
 {
     let Reply {
         notes: _notes,
@@ -27,7 +28,7 @@ pub fn give<O: Write>(out: &mut O, reply: Reply) -> Result<(), Failure>
 
 /// The failure, which also says whether the output failed.
 fn unwritten(failure: Failure, is_unwritten: bool) -> Failure
-    ensures { FailsAs (Some failure) result }
+    ensures { IsUnwritten failure is_unwritten result }
 {
     match failure {
         Failure::Refused(refusal) if is_unwritten => Failure::RefusedUnwritten(refusal),
@@ -36,12 +37,10 @@ fn unwritten(failure: Failure, is_unwritten: bool) -> Failure
 }
 
 /// Writes all the bytes, or answers that the output failed.
-pub fn write_bytes<O: Write>(out: &mut O, bytes: &[u8]) -> Result<(), Failure>
+pub fn write_bytes<O: Output>(out: &mut O, bytes: &[u8]) -> Result<(), Failure>
     ensures written { OnOk result (Appends (O.contents out.old) (O.contents out.new) bytes.now) }
     ensures failure { IfErr result (λ failure. failure ≡ Failure.Output) }
+    ensures failed { OnErr result (O.has_failed out.new ≡ true) }
 {
-    match out.write_all(bytes) {
-        Ok(()) => out.flush().map_err(|_| Failure::Output),
-        Err(_) => Err(Failure::Output),
-    }
+    out.put(bytes).map_err(|_| Failure::Output)
 }

@@ -6,7 +6,9 @@ ghost use Rattle.ti_commands.specs.Failing.{TellsUsage, WrongNumber, number_usag
 ghost use Rattle.ti_commands.specs.Words.{GivesNumber};
 
 use crate::decimal::decimal_number;
+use crate::explaining::explain_size;
 use crate::failure::{Failure, Refusal};
+use crate::remarks::Remarks;
 use std::alloc::Global;
 use vt_term::Size;
 
@@ -22,12 +24,18 @@ pub fn number_word(alloc: Global, name: &str, word: &str) -> Result<u32, Failure
 }
 
 /// A size of a terminal, or its refusal.
-pub fn size_of(rows: u32, cols: u32) -> Result<Size, Failure>
+pub fn size_of(alloc: Global, rows: u32, cols: u32, remarks: &mut Remarks) -> Result<Size, Failure>
     ensures size { IfOk result (λ size. (size.rows ≡ rows) × (size.cols ≡ cols)) }
     ensures within { IsOk result ↔ IsSize rows cols }
     ensures refusal { IfErr result (λ e. e ≡ Failure.Refused Refusal.Size) }
 {
-    Size::new(rows as usize, cols as usize).ok_or(Failure::Refused(Refusal::Size))
+    match Size::new(rows as usize, cols as usize) {
+        Some(size) => Ok(size),
+        None => {
+            explain_size(alloc, rows, cols, remarks);
+            Err(Failure::Refused(Refusal::Size))
+        }
+    }
 }
 
 /// A word that stands where a number belongs.

@@ -2,7 +2,7 @@
 use Rattle.std.proofs.Common.{◌≡◌, ℕ, ◌+◌, ◌-◌, ◌<◌, Bool, true, false, if◌then◌else◌, List, [], ◌∷◌, ◌++◌, Option, refl, sym, ap, ◌∙◌, subst, arith}
 use Rattle.vt_term.specs.Look.{Rendition, plain, space, blank}
 use Rattle.vt_term.specs.Grid.{look_at}
-use Rattle.vt_screen.proofs.Grids.{look_at-drawn}
+use Rattle.grids.proofs.Drawing.{cell_at-drawn}
 use Rattle.vt_term.specs.Screen.{State, Screen, IsScreen, IsOfSize, Charset, is_graphic}
 use Rattle.vt_term.specs.Step.{steps}
 use Rattle.vt_term.specs.Run.{Runs}
@@ -138,7 +138,7 @@ all_blank : (rows cols : ℕ) (e : Effect) (t : Screen) → IsScreen t → t.row
 all_blank rows cols e t h r c clears p i j li lj =
     ap (λ (x : Scroll). look_at (scrolled x t.top t.bottom (blank t.rendition) (erased e.erasure t.row t.col (blank t.rendition) t.grid)) i j) clears.scroll
     ∙ ap (λ (x : Erasure). look_at (erased x t.row t.col (blank t.rendition) t.grid) i j) clears.erasure
-    ∙ look_at-drawn (λ i j old. if true then blank t.rendition else old) t.grid i j (omega (arith, h.columns i (omega (arith, r)), c))
+    ∙ cell_at-drawn (λ i j old. if true then blank t.rendition else old) space t.grid i j (omega (arith, h.columns i (omega (arith, r)), c))
     ∙ ap (λ (x : Rendition). blank x) p
 
 free_allows : (rows cols : ℕ) (t : State) → IsOfSize rows cols t → IsTame t.screen → HasWholeMargins t.screen → Allows rows cols (free_start rows cols) t.screen

@@ -1,4 +1,3 @@
 pub mod Dropping
-pub mod Changing
 pub mod Leading
 pub mod Fronting

@@ -13,6 +13,7 @@ use Rattle.vt_effects.specs.declared.starts.Start.{Start}
 use Rattle.vt_effects.specs.declared.starts.Margins.TheVariants as margins
 use Rattle.vt_effects.specs.Effect.{nothing_rendered}
 use Rattle.vt_effects.specs.Record.{record_of}
+use Rattle.vt_effects.specs.Settings.{EachTame, EachKeepsMargins, EachKeepsVisible}
 use Rattle.ti_charsets.specs.Charsets.{charset_after}
 
 -- the bytes are whole tokens with this record from that start
@@ -58,7 +59,12 @@ pub data MayWiden (rows cols : ℕ) (csr : List ℕ) : Bool → Type 0 where
 abbrev pub StaysIn : (Charset → Bool) → List (List ℕ) → Type 0
 StaysIn reached tokens = AllByRecursion (λ t. (c : Charset) → reached c ≡ true → reached (charset_after (function_of t) c) ≡ true) tokens
 
--- the line changes margins only where lines do that at all, and so with visibility
-pub record MayCut (sets_margins shows : Bool) (e : Effect) : Type 0 where
-  pub margins : sets_margins ≡ false → e.margins ≡ None
-  pub visible : shows ≡ false → e.visible ≡ switches.Kept
+-- Whole tokens that may be cut off: each leaves autowrap on and insertion off and leads out of no charset that can be
+-- had, and none changes margins or visibility where lines don't do that.
+pub record MayBeCut (rows : ℕ) (sets_margins shows : Bool) (reached : Charset → Bool) (bytes : List ℕ) : Type 0 where
+  pub tokens : List (List ℕ)
+  pub whole : Splits bytes tokens []
+  pub tame : EachTame tokens
+  pub stays : StaysIn reached tokens
+  pub margins : sets_margins ≡ false → EachKeepsMargins rows tokens
+  pub visible : shows ≡ false → EachKeepsVisible tokens

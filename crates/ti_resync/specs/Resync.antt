@@ -7,7 +7,7 @@ use Rattle.vt_effects.specs.declared.starts.Start.{Start}
 use Rattle.vt_effects.specs.Effect.{rendered, designated}
 use Rattle.vt_effects.specs.Settings.{IsTame, SameMargins}
 use Rattle.ti_resync.specs.Lost.{IsLost, IsBlank, EndsIn}
-use Rattle.ti_resync.specs.Lines.{HasLine, free_start, IsQuiet, Clears, MayWiden, StaysIn, MayCut}
+use Rattle.ti_resync.specs.Lines.{HasLine, free_start, IsQuiet, Clears, MayWiden, MayBeCut}
 
 -- nothing open, this rendition, these sets, and all other settings as they were
 pub record Settled (rows cols : ℕ) (r : Rendition) (c : Charset) (s t : State) : Type 0 where
@@ -40,8 +40,15 @@ ResyncLeads = (rows cols : ℕ) (sets_margins shows : Bool) (front csr clear mor
     → MayWiden rows cols csr sets_margins → HasLine rows cols (free_start rows cols) clear e → Clears e
     → (s : State) → IsLost rows cols sets_margins shows reached s → EndsIn s (front ++ (csr ++ clear)) (IsBlank rows cols s.screen.visible)
 
--- A line that is cut off anywhere leads from a lost state with nothing open to a lost state.
+-- A line that is cut off anywhere leads from a lost state with nothing open to a lost state; the whole line leaves nothing open.
 abbrev pub FrontsStay : Type 0
-FrontsStay = (rows cols : ℕ) (sets_margins shows : Bool) (start : Start) (bytes : List ℕ) (e : Effect) (reached : Charset → Bool) (line : HasLine rows cols start bytes e)
-    → StaysIn reached line.tokens → MayCut sets_margins shows e
+FrontsStay = (rows cols : ℕ) (sets_margins shows : Bool) (reached : Charset → Bool) (bytes : List ℕ) → MayBeCut rows sets_margins shows reached bytes
     → (s : State) → s.rest ≡ [] → IsLost rows cols sets_margins shows reached s → (front back : List ℕ) → bytes ≡ front ++ back → EndsIn s front (IsLost rows cols sets_margins shows reached)
+
+pub record IsLostAndClosed (rows cols : ℕ) (sets_margins shows : Bool) (reached : Charset → Bool) (s : State) : Type 0 where
+  pub rest : s.rest ≡ []
+  pub lost : IsLost rows cols sets_margins shows reached s
+
+abbrev pub WholesStay : Type 0
+WholesStay = (rows cols : ℕ) (sets_margins shows : Bool) (reached : Charset → Bool) (bytes : List ℕ) → MayBeCut rows sets_margins shows reached bytes
+    → (s : State) → s.rest ≡ [] → IsLost rows cols sets_margins shows reached s → EndsIn s bytes (IsLostAndClosed rows cols sets_margins shows reached)

@@ -1,6 +1,6 @@
 //! Laws of lines by their records, for all sizes, lines and states.
 
-ghost use Rattle.ti_resync.specs.Resync.{QuietSettles, NothingSettles, SettlingJoins, ResyncLeads, FrontsStay};
+ghost use Rattle.ti_resync.specs.Resync.{QuietSettles, NothingSettles, SettlingJoins, ResyncLeads, FrontsStay, WholesStay};
 
 /// A line that sets no margins and doesn't show or hide the cursor settles rendition and sets from
 /// every state with nothing open, whatever its margins, and keeps the margins and the visibility.
@@ -18,7 +18,9 @@ pub fn resync_leads()
     ensures { ResyncLeads }
 {}
 
-/// The bytes of a line, cut off anywhere, lead from a lost state with nothing open to a lost state.
+/// The bytes of a line, cut off anywhere, lead from a lost state with nothing open to a lost state;
+/// the whole line leaves nothing open.
 pub fn fronts_stay()
-    ensures { FrontsStay }
+    ensures front { FrontsStay }
+    ensures whole { WholesStay }
 {}

@@ -15,4 +15,4 @@ pub use escapes::{EscapeFault, unescape};
 pub use hints::{Hint, percent_carets};
 pub use printing::{print, printing_reads_back};
 pub use source::{read, reading_is_the_relation};
-pub use types::{FaultKind, Field, Fields, Note, NoteKind, Notes, RawEntry, SourceFault};
+pub use types::{FaultKind, Field, Fields, Items, Note, NoteKind, Notes, RawEntry, SourceFault};

@@ -151,8 +151,7 @@ fn is_long(reading: &Reading) -> bool
     ensures { result ≡ is_long reading.now }
 {
     match reading {
-        Reading::Says(Field::Set(_, Value::String(bytes)), _) => bytes.as_slice().len()
-            > LONGEST,
+        Reading::Says(Field::Set(_, Value::String(bytes)), _) => bytes.as_slice().len() > LONGEST,
         _ => false,
     }
 }

@@ -8,6 +8,7 @@ ghost use Rattle.ti_source.specs.Printed.{PrintsJust, ReadsBack, raw_of};
 ghost use Rattle.ti_source.specs.Source.{source_of};
 ghost use Rattle.ti_source.specs.Printing.{letter_for, octal, spelled_with, spelled, string_text, value_text, field_text, place_text, rank_text, ranks_text, kind_text, text_of};
 
+use itoa::Buffer;
 use std::alloc::{AllocError, Global};
 use ti_caps::{CAPABILITIES, Cap, Entry, Kind, Value, at_rank, is_kind, name};
 
@@ -71,22 +72,22 @@ fn push_string(text: &mut Vec<u8>, bytes: &[u8]) -> Result<(), AllocError>
     Ok(())
 }
 
-fn push_number(alloc: Global, text: &mut Vec<u8>, number: u32) -> Result<(), AllocError>
+fn push_number(text: &mut Vec<u8>, number: u32) -> Result<(), AllocError>
     ensures { OnOk result (text.new.items ≡ text.old.items ++ decimal number) }
 {
-    let digits = format!(in alloc; "{number}")?;
-    text.extend_from_slice(digits.as_bytes())
+    let mut digits = Buffer::new();
+    text.extend_from_slice(digits.format(number).as_bytes())
 }
 
 /// What stands after a name.
-fn push_value(alloc: Global, text: &mut Vec<u8>, value: &Value) -> Result<(), AllocError>
+fn push_value(text: &mut Vec<u8>, value: &Value) -> Result<(), AllocError>
     ensures { OnOk result (text.new.items ≡ text.old.items ++ value_text value.now) }
 {
     match value {
         Value::Flag => Ok(()),
         Value::Number(number) => {
             text.push(b'#')?;
-            push_number(alloc, text, *number)
+            push_number(text, *number)
         }
         Value::String(bytes) => {
             text.push(b'=')?;
@@ -97,50 +98,44 @@ fn push_value(alloc: Global, text: &mut Vec<u8>, value: &Value) -> Result<(), Al
 
 /// A field on its line.
 #[tactic(auto, unfolding(crate::specs::Printing::field_text))]
-fn push_field(alloc: Global, text: &mut Vec<u8>, cap: Cap, value: &Value) -> Result<(), AllocError>
+fn push_field(text: &mut Vec<u8>, cap: Cap, value: &Value) -> Result<(), AllocError>
     ensures { OnOk result (text.new.items ≡ text.old.items ++ field_text cap value.now) }
 {
     text.push(b'\t')?;
     text.extend_from_slice(name(cap))?;
-    push_value(alloc, text, value)?;
+    push_value(text, value)?;
     text.extend_from_slice(b",\n")
 }
 
 /// The field of a capability, if the entry has it.
-fn push_place(alloc: Global, text: &mut Vec<u8>, entry: &Entry, cap: Cap) -> Result<(), AllocError>
+fn push_place(text: &mut Vec<u8>, entry: &Entry, cap: Cap) -> Result<(), AllocError>
     ensures { OnOk result (text.new.items ≡ text.old.items ++ place_text cap (value_at entry.now cap)) }
 {
     match entry.value(cap) {
         None => Ok(()),
-        Some(value) => push_field(alloc, text, cap, value),
+        Some(value) => push_field(text, cap, value),
     }
 }
 
 /// The field of the capability whose name has this rank, if it is of this kind.
 #[tactic(auto, unfolding(crate::specs::Printing::rank_text, ti_caps::specs::Table::place_ranked))]
-fn push_rank(
-    alloc: Global,
-    text: &mut Vec<u8>,
-    entry: &Entry,
-    kind: Kind,
-    rank: usize,
-) -> Result<(), AllocError>
+fn push_rank(text: &mut Vec<u8>, entry: &Entry, kind: Kind, rank: usize) -> Result<(), AllocError>
     requires { rank < 497 }
     ensures { OnOk result (text.new.items ≡ text.old.items ++ rank_text entry.now kind rank) }
 {
     match at_rank(rank) {
-        Some(cap) if is_kind(cap, kind) => push_place(alloc, text, entry, cap),
+        Some(cap) if is_kind(cap, kind) => push_place(text, entry, cap),
         _ => Ok(()),
     }
 }
 
 /// The fields of a kind in the order of their names.
 #[tactic(auto, unfolding(crate::specs::Printing::kind_text))]
-fn push_kind(alloc: Global, text: &mut Vec<u8>, entry: &Entry, kind: Kind) -> Result<(), AllocError>
+fn push_kind(text: &mut Vec<u8>, entry: &Entry, kind: Kind) -> Result<(), AllocError>
     ensures { OnOk result (text.new.items ≡ text.old.items ++ kind_text entry.now kind) }
 {
     for rank in 0..CAPABILITIES {
-        push_rank(alloc, text, entry, kind, rank)?;
+        push_rank(text, entry, kind, rank)?;
     }
     Ok(())
 }
@@ -153,9 +148,9 @@ fn text(alloc: Global, entry: &Entry) -> Result<Vec<u8>, AllocError>
 {
     let mut text = Vec::from_slice(alloc, entry.names())?;
     text.extend_from_slice(b",\n")?;
-    push_kind(alloc, &mut text, entry, Kind::Flag)?;
-    push_kind(alloc, &mut text, entry, Kind::Number)?;
-    push_kind(alloc, &mut text, entry, Kind::String)?;
+    push_kind(&mut text, entry, Kind::Flag)?;
+    push_kind(&mut text, entry, Kind::Number)?;
+    push_kind(&mut text, entry, Kind::String)?;
     Ok(text)
 }
 

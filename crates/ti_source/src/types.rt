@@ -76,117 +76,69 @@ pub enum Field {
     Include(Bytes),
 }
 
-/// The fields of an entry in their order. Contracts see the list of them.
+/// Items that are owned, in their order. Contracts see the list of them.
 #[derive(Debug, Drop)]
-pub struct Fields {
-    fields: Vec<Field>,
+pub struct Items<T> {
+    items: Vec<T>,
 }
 
-impl Model for Fields {
+impl<T> Model for Items<T> {
     ghost use Rattle.std.specs.Prelude.{List};
-    ghost use Rattle.ti_source.specs.declared.types.Field.{Field};
 
-    ghost Value = { List Field };
+    ghost Value = { List T };
 
-    ghost view = { λ f. f.fields.items };
+    ghost view = { λ i. i.items.items };
 }
 
-impl Fields {
-    /// No fields yet.
-    pub fn new(alloc: Global) -> Fields
+impl<T> Items<T> {
+    /// No items yet. It takes no memory.
+    pub fn new(alloc: Global) -> Items<T>
         ensures { result ≡ [] }
     {
-        Fields {
-            fields: Vec::new(alloc),
+        Items {
+            items: Vec::new(alloc),
         }
     }
 
-    pub fn as_slice(&self) -> &[Field]
+    /// The items as a slice.
+    pub fn as_slice(&self) -> &[T]
         ensures { result.now ≡ self.now }
     {
-        self.fields.as_slice()
+        self.items.as_slice()
     }
 
-    /// One more field. The error is out of memory, and then nothing has changed.
-    pub fn push(&mut self, field: Field) -> Result<(), AllocError>
-        ensures ok { OnOk result (self.new ≡ self.old ++ field ∷ []) }
-        ensures err { OnErr result (self.new ≡ self.old) }
+    /// The items of a vector. It takes no memory.
+    pub fn from_vec(items: Vec<T>) -> Items<T>
+        ensures { result ≡ items.items }
     {
-        self.fields.push(field)?;
-        Ok(())
+        Items { items }
     }
 
-    /// The fields of a vector, which takes no memory.
-    pub fn from_vec(fields: Vec<Field>) -> Fields
-        ensures { result ≡ fields.items }
-    {
-        Fields { fields }
-    }
-
-    /// The vector of the fields, which takes no memory.
-    pub fn into_vec(self) -> Vec<Field>
+    /// The vector of the items. It takes no memory.
+    pub fn into_vec(self) -> Vec<T>
         ensures { result.items ≡ self }
     {
-        let Fields { fields } = self;
-        fields
+        let Items { items } = self;
+        items
     }
 }
 
-/// The notes of an entry in the order of the text. Contracts see the list of them.
-#[derive(Debug, Drop)]
-pub struct Notes {
-    notes: Vec<Note>,
-}
-
-impl Model for Notes {
-    ghost use Rattle.std.specs.Prelude.{List};
-    ghost use Rattle.ti_source.specs.declared.types.Note.{Note};
-
-    ghost Value = { List Note };
-
-    ghost view = { λ n. n.notes.items };
-}
-
-impl Notes {
-    /// No notes yet.
-    pub fn new(alloc: Global) -> Notes
-        ensures { result ≡ [] }
-    {
-        Notes {
-            notes: Vec::new(alloc),
-        }
-    }
-
-    pub fn as_slice(&self) -> &[Note]
-        ensures { result.now ≡ self.now }
-    {
-        self.notes.as_slice()
-    }
-
-    /// One more note. The error is out of memory, and then nothing has changed.
-    pub fn push(&mut self, note: Note) -> Result<(), AllocError>
-        ensures ok { OnOk result (self.new ≡ self.old ++ note ∷ []) }
+impl<T: Drop> Items<T> {
+    /// One more item. The error is out of memory, and then nothing has changed.
+    pub fn push(&mut self, item: T) -> Result<(), AllocError>
+        ensures ok { OnOk result (self.new ≡ self.old ++ item ∷ []) }
         ensures err { OnErr result (self.new ≡ self.old) }
     {
-        self.notes.push(note)?;
+        self.items.push(item)?;
         Ok(())
     }
-
-    /// The notes of a vector, which takes no memory.
-    pub fn from_vec(notes: Vec<Note>) -> Notes
-        ensures { result ≡ notes.items }
-    {
-        Notes { notes }
-    }
-
-    /// The vector of the notes, which takes no memory.
-    pub fn into_vec(self) -> Vec<Note>
-        ensures { result.items ≡ self }
-    {
-        let Notes { notes } = self;
-        notes
-    }
 }
+
+/// The fields of an entry in the order of the text.
+pub type Fields = Items<Field>;
+
+/// The notes of an entry in the order of the text.
+pub type Notes = Items<Note>;
 
 /// An entry as a source text has it, its inclusions not yet resolved.
 #[derive(Debug, Drop)]

@@ -9,7 +9,7 @@ use std::io::ErrorKind;
 use std::process::ExitCode;
 use std::rt::Env;
 use stored::Stored;
-use ti_commands::{Failure, told, wrong_line};
+use ti_commands::{Failure, Remarks, report, usage_error};
 
 /// `command` over the words of the line, the system's files, standard output and standard error.
 fn main(rt: HostRuntime) -> ExitCode {
@@ -17,11 +17,11 @@ fn main(rt: HostRuntime) -> ExitCode {
         Ok(words) => run::command(
             rt.alloc(),
             words.as_slice(),
-            &mut Stored::new(&rt),
+            &mut Stored::new(rt.alloc(), &rt),
             &mut rt.stdout(),
             &mut rt.stderr(),
         ),
-        Err(failure) => told(&failure, &mut rt.stderr()),
+        Err(failure) => report(&failure, &Remarks::new(rt.alloc()), &mut rt.stderr()),
     })
 }
 
@@ -31,7 +31,7 @@ fn words_of(rt: &HostRuntime) -> Result<Vec<String>, Failure> {
     match env::args(rt) {
         Ok(words) => Ok(words.skip(1).collect(rt.alloc())?),
         Err(error) if error.kind() == ErrorKind::InvalidData => {
-            Err(wrong_line(rt.alloc(), NOT_UTF_8))
+            Err(usage_error(rt.alloc(), NOT_UTF_8))
         }
         Err(_) => Err(Failure::NoMemory),
     }

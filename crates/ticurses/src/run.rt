@@ -6,8 +6,8 @@ use std::alloc::Global;
 use std::io::Write;
 use ti_arguments::{Answer, LineFault, Request, parse_line};
 use ti_commands::{
-    Comparison, Expansion, Failure, Files, Reply, compare_entries, compile_entry, expand_string,
-    feed_file, give, print_entry, told, write_bytes,
+    Comparison, Expansion, Failure, Files, Output, Remarks, Reply, Written, compare_entries,
+    compile_entry, expand_string, feed_file, give, print_entry, report, write_bytes,
 };
 
 /// Does what the words after the program's own name ask for: the answer goes to `out`, notes and a
@@ -22,22 +22,34 @@ pub fn command<F: Files, O: Write, E: Write>(
 ) -> u8
     ensures { result ≤ 4 }
 {
-    match perform(alloc, words, files, out, err) {
-        Ok(()) => 0,
-        Err(failure) => told(&failure, err),
+    let mut remarks = Remarks::new(alloc);
+    match perform(
+        alloc,
+        words,
+        files,
+        &mut Written::new(out),
+        err,
+        &mut remarks,
+    ) {
+        Ok(()) => {
+            let _ = err.write_all(remarks.as_slice());
+            0
+        }
+        Err(failure) => report(&failure, &remarks, err),
     }
 }
 
-fn perform<F: Files, O: Write, E: Write>(
+fn perform<F: Files, O: Output, E: Write>(
     alloc: Global,
     words: &[String],
     files: &mut F,
     out: &mut O,
     err: &mut E,
+    remarks: &mut Remarks,
 ) -> Result<(), Failure> {
     match parse_line(alloc, words) {
         Ok(Answer::Request(request)) => {
-            let reply = reply_to(alloc, &request, files)?;
+            let reply = reply_to(alloc, &request, files, remarks)?;
             let _ = err.write_all(reply.notes.as_slice());
             give(out, reply)
         }
@@ -52,6 +64,7 @@ fn reply_to<F: Files>(
     alloc: Global,
     request: &Request<'_>,
     files: &mut F,
+    remarks: &mut Remarks,
 ) -> Result<Reply, Failure> {
     match request {
         Request::Expand {
@@ -69,15 +82,16 @@ fn reply_to<F: Files>(
                 params: params.as_slice(),
                 judges_cup: *cup,
             },
+            remarks,
         ),
-        Request::Feed { rows, cols, file } => feed_file(alloc, rows, cols, file, files),
-        Request::Tic { entry, out } => compile_entry(alloc, entry, *out, files),
-        Request::Print { entry } => print_entry(alloc, entry, files),
+        Request::Feed { rows, cols, file } => feed_file(alloc, rows, cols, file, files, remarks),
+        Request::Tic { entry, out } => compile_entry(alloc, entry, *out, files, remarks),
+        Request::Print { entry } => print_entry(alloc, entry, files, remarks),
         Request::Common { first, second } => {
-            compare_entries(alloc, first, second, Comparison::Common, files)
+            compare_entries(alloc, first, second, Comparison::Common, files, remarks)
         }
         Request::Neither { first, second } => {
-            compare_entries(alloc, first, second, Comparison::Neither, files)
+            compare_entries(alloc, first, second, Comparison::Neither, files, remarks)
         }
     }
 }

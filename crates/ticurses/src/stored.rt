@@ -1,37 +1,115 @@
 //! The system's files.
 
-use std::io::ErrorKind;
+use std::alloc::Global;
+use std::fs::{Metadata, OpenFile, Permissions};
+use std::io::{ErrorKind, Write};
+use std::os::unix::fs::MetadataExt;
 use std::{fs, io, rt};
-use ti_commands::{FileFault, Files};
+use ti_commands::{Cause, FileFault, Files};
 
-/// The system's files.
+/// The most names that are tried for a temporary file.
+const TEMPORARY_NAMES: u32 = 100;
+
+/// The system's files, as a command reads and writes them.
 #[derive(Drop)]
 pub struct Stored<'a, R> {
+    alloc: Global,
     rt: &'a R,
+    /// The file that was opened last, by its device and its number there.
+    last_read: Option<(u64, u64)>,
 }
 
 impl<'a, R: rt::Files> Stored<'a, R> {
     /// The files that the runtime reaches.
-    pub fn new(rt: &'a R) -> Stored<'a, R> {
-        Stored { rt }
+    pub fn new(alloc: Global, rt: &'a R) -> Stored<'a, R> {
+        Stored {
+            alloc,
+            rt,
+            last_read: None,
+        }
+    }
+
+    /// Fills a new file beside `path` and renames it, so that `path` has all the bytes or is as before.
+    fn replace(
+        &self,
+        path: &str,
+        permissions: Option<Permissions>,
+        bytes: &[u8],
+    ) -> Result<(), FileFault> {
+        for number in 0..TEMPORARY_NAMES {
+            let Ok(temporary) = format!(in self.alloc; "{path}.tmp{number}") else {
+                return Err(FileFault::NoMemory);
+            };
+            match fs::File::create_new(self.rt, temporary.as_str()) {
+                Ok(file) => return self.fill(file, temporary.as_str(), path, permissions, bytes),
+                Err(error) if error.kind() == ErrorKind::AlreadyExists => {}
+                Err(error) => return Err(FileFault::from(error)),
+            }
+        }
+        Err(FileFault::Failed(Cause::Other))
+    }
+
+    fn fill(
+        &self,
+        file: R::File,
+        temporary: &str,
+        path: &str,
+        permissions: Option<Permissions>,
+        bytes: &[u8],
+    ) -> Result<(), FileFault> {
+        let renamed = match write_synced(file, permissions, bytes) {
+            Ok(()) => fs::rename(self.rt, temporary, path),
+            Err(error) => Err(error),
+        };
+        match renamed {
+            Ok(()) => Ok(()),
+            Err(error) => {
+                let _ = fs::remove_file(self.rt, temporary);
+                Err(FileFault::from(error))
+            }
+        }
     }
 }
 
-fn fault_of(error: &io::Error) -> FileFault {
-    match error.kind() {
-        ErrorKind::OutOfMemory => FileFault::NoMemory,
-        _ => FileFault::Failed,
+/// Writes the bytes to an empty file, until the device has them.
+fn write_synced<F: Write + OpenFile + Drop>(
+    mut file: F,
+    permissions: Option<Permissions>,
+    bytes: &[u8],
+) -> io::Result<()> {
+    file.write_all(bytes)?;
+    if let Some(permissions) = permissions {
+        file.set_permissions(permissions)?;
     }
+    file.sync_all()
+}
+
+fn identity(metadata: &Metadata) -> (u64, u64) {
+    (metadata.dev(), metadata.ino())
 }
 
 impl<R: rt::Files> Files for Stored<'_, R> {
     type File = R::File;
 
     fn reader(&mut self, path: &str) -> Result<R::File, FileFault> {
-        fs::open(self.rt, path).map_err(|error| fault_of(&error))
+        let file = fs::open(self.rt, path)?;
+        self.last_read = Some(identity(&file.metadata()?));
+        Ok(file)
     }
 
+    /// A file is replaced as a whole, through links too; what is no file, as a terminal or a pipe, is written.
     fn store(&mut self, path: &str, bytes: &[u8]) -> Result<(), FileFault> {
-        fs::write(self.rt, path, bytes).map_err(|error| fault_of(&error))
+        match fs::metadata(self.rt, path) {
+            Ok(metadata) if self.last_read == Some(identity(&metadata)) => {
+                Err(FileFault::Failed(Cause::Source))
+            }
+            Ok(metadata) if metadata.is_file() => {
+                let target = self.rt.canonicalize(self.alloc, path)?.into_string();
+                self.replace(target.as_str(), Some(metadata.permissions()), bytes)
+            }
+            Ok(_) => Ok(fs::write(self.rt, path, bytes)?),
+            Err(error) if error.kind() == ErrorKind::NotFound => self.replace(path, None, bytes),
+            Err(error) => Err(FileFault::from(error)),
+        }
     }
 }

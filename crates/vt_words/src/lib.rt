@@ -8,5 +8,6 @@ mod reading;
 mod spelling;
 mod words;
 
+pub use numbers::number_at;
 pub use reading::read;
 pub use spelling::text;

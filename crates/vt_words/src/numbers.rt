@@ -29,9 +29,10 @@ fn digits_value(digits: &[u8]) -> Option<u16>
     Some(number)
 }
 
-/// The number that these digits are.
+/// The number that these decimal digits are. `None` for none, for leading zeros, for a number above
+/// 65535, and for any other byte.
 #[tactic(auto, unfolding(crate::specs::Reading::number_at))]
-pub(crate) fn number_at(digits: &[u8]) -> Option<u16>
+pub fn number_at(digits: &[u8]) -> Option<u16>
     ensures { result ≡ spec.number_at digits.now }
 {
     match digits {

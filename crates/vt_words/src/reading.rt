@@ -15,6 +15,7 @@ use vt_effects::{Effect, Erasure, Ink, Move, Region, Rendering, Scroll, Sets, Sw
 /// between two words.
 #[tactic(auto, using(crate::proofs::Texts::reads_spelled, crate::proofs::Texts::reads_plain, crate::proofs::Texts::spelled_reads))]
 pub fn read(text: &[u8]) -> Option<Effect>
+    ensures value { result ≡ spec.effect_in text.now }
     ensures spelled { IfSome result (λ effect. spelled effect ≡ text.now) }
     ensures plain { IfSome result (λ effect. IsPlain effect) }
     ensures each { (effect : declared.Effect) → IsPlain effect → spelled effect ≡ text.now → result ≡ Some effect }

@@ -7,4 +7,4 @@ use Rattle.ti_commands.proofs.describing.entry_of.Goals as goal
 pub returns-clause-failure : goal.returns-clause-failure
 returns-clause-failure g c =
     let found = c.in_ok-_notes.field-0 in
-    inr (c.in-Err.refusal, found.notes.items, refl, subst (λ (entry : Result Content Refusal). Finds c.args.word.now found.notes.items entry) c.in-Err.is c.in_ok-_notes.ensures.found)
+    inr (c.in-Err.refusal, found.notes.items, refl, subst (λ (entry : Result Content Refusal). Finds (g.F.Files.holds c.args.files.now) c.args.word.now found.notes.items entry) c.in-Err.is c.in_ok-_notes.ensures.found)

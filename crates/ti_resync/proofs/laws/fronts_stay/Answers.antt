@@ -1,5 +1,8 @@
-use Rattle.ti_resync.proofs.Fronting.{fronts_stay}
+use Rattle.ti_resync.proofs.Fronting.{fronts_stay, wholes_stay}
 use Rattle.ti_resync.proofs.laws.fronts_stay.Goals as goal
 
-pub returns : goal.returns
-returns c = fronts_stay
+pub returns-clause-front : goal.returns-clause-front
+returns-clause-front c = fronts_stay
+
+pub returns-clause-whole : goal.returns-clause-whole
+returns-clause-whole c = wholes_stay

@@ -1,0 +1,45 @@
+use Rattle.cur_looks.specs.declared.rows.Row.TheVariants.{Clear}
+use Rattle.cur_paint.proofs.Reaching.{IsThere, there}
+use Rattle.cur_paint.proofs.Renewing.{draws_fresh, draws_lost, draws_known, draws_clear}
+use Rattle.cur_paint.proofs.updates.draw.Goals as goal
+
+pub returns-in-Known-true : goal.returns-in-Known-true
+returns-in-Known-true g c =
+    let t = g.C.Certificate.table c.args.checked.now in
+    let old = g.O.View.cells c.args.old.now in
+    let new = g.N.View.cells c.args.new.now in
+    let k : IsThere (t.line_of Clear) = there (t.line_of Clear) c.rows.ensures.checked.clears in
+    record {
+      draws = draws_clear g.W.Wire.went g.W.Wire.failures c.args.wire.now c.clear_first.new.wire c.clear_first.result t old new c.args.wanted c.args.status c.args.belief.now c.clear_first.new.belief
+          c.in-Known-true.is-0 c.in-Known-true.is-1 k.bytes k.is (c.clear_first.ensures.step k.bytes k.is old) c.clear_first.ensures.there c.clear_first.ensures.mode;
+    }
+
+pub returns-in-Known-false : goal.returns-in-Known-false
+returns-in-Known-false g c =
+    let t = g.C.Certificate.table c.args.checked.now in
+    let old = g.O.View.cells c.args.old.now in
+    let new = g.N.View.cells c.args.new.now in
+    record {
+      draws = draws_known g.W.Wire.went g.W.Wire.failures c.args.wire.now c.paint.new.wire c.paint.result t old new c.args.wanted c.args.status c.args.belief.now c.paint.new.belief
+          c.in-Known-false.is-0 c.in-Known-false.is-1 c.paint.ensures.step c.paint.ensures.there c.paint.ensures.mode;
+    }
+
+pub returns-in-Fresh-default : goal.returns-in-Fresh-default
+returns-in-Fresh-default g c =
+    let t = g.C.Certificate.table c.args.checked.now in
+    let old = g.O.View.cells c.args.old.now in
+    let new = g.N.View.cells c.args.new.now in
+    record {
+      draws = draws_fresh g.W.Wire.went g.W.Wire.failures c.args.wire.now c.repaint.new.wire c.repaint.result t old new c.args.wanted c.args.status c.args.belief.now c.repaint.new.belief
+          c.in-Fresh-default.is-0 c.repaint.ensures.step c.repaint.ensures.there c.repaint.ensures.mode;
+    }
+
+pub returns-in-Lost-default : goal.returns-in-Lost-default
+returns-in-Lost-default g c =
+    let t = g.C.Certificate.table c.args.checked.now in
+    let old = g.O.View.cells c.args.old.now in
+    let new = g.N.View.cells c.args.new.now in
+    record {
+      draws = draws_lost g.W.Wire.went g.W.Wire.failures c.args.wire.now c.repaint-in-Lost-default.new.wire c.repaint-in-Lost-default.result t old new c.args.wanted c.args.status c.args.belief.now c.repaint-in-Lost-default.new.belief
+          c.in-Lost-default.is-0 c.repaint-in-Lost-default.ensures.step c.repaint-in-Lost-default.ensures.there c.repaint-in-Lost-default.ensures.mode;
+    }

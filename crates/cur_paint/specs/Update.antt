@@ -1,0 +1,110 @@
+-- What a refresh promises, done or cut short.
+use Rattle.std.specs.Prelude.{ℕ, ◌+◌, ◌*◌, ◌<◌, ◌≤◌, ◌≡◌, Bool, true, false, List, [], ◌++◌, length, Option, Some, None, Result, Ok, Err, OnOk, if◌then◌else◌}
+use Rattle.std.specs.List.{AllByRecursion, concat}
+use Rattle.vt_term.specs.Grid.{look_at}
+use Rattle.vt_term.specs.Screen.{State, is_graphic}
+use Rattle.cur_steps.specs.Leads.{Ends}
+use Rattle.cur_steps.specs.Steps.{Steps}
+use Rattle.cur_wires.specs.Wire.{Rose}
+use Rattle.cur_looks.specs.declared.rows.Row.TheVariants.{Clear}
+use Rattle.cur_looks.specs.Certified.{Table, IsLost, IsWhole, IsPiece, cell_limit}
+use Rattle.cur_looks.specs.Inks.{look_of}
+use Rattle.cur_looks.specs.Beliefs.{Agrees, is_shown}
+use Rattle.cur_looks.specs.declared.beliefs.Belief.{Belief}
+use Rattle.cur_looks.specs.declared.beliefs.Place.{Place}
+use Rattle.cur_looks.specs.declared.beliefs.Mode.{Mode}
+use Rattle.cur_looks.specs.declared.inks.Ink.{Ink}
+use Rattle.cur_paint.specs.Limits.{paint_limit, fresh_limit, IsPlaced}
+use Rattle.cur_paint.specs.declared.updates.Wanted.{Wanted}
+use Rattle.cur_paint.specs.declared.updates.Session.{Session}
+use Rattle.cur_paint.specs.declared.updates.Status.{Status}
+use Rattle.cur_paint.specs.declared.updates.Status.TheVariants.{Fresh, Known, Lost}
+
+-- nothing open, the margins are the whole screen, the sets reached, and the cursor is visible; all else is free
+pub record IsFresh (t : Table) (s : State) : Type 0 where
+  pub lost : IsLost t s
+  pub rest : s.rest ≡ []
+  pub whole : IsWhole s.screen
+  pub visible : s.screen.visible ≡ true
+
+-- the states that the terminal may be in: with the cells of the last refresh that was done and what is believed where it is known
+abbrev pub Fits : Table → (ℕ → ℕ → Ink) → Status → Belief → State → Type 0
+Fits t shown Fresh b s = IsFresh t s
+Fits t shown Known b s = Agrees t shown b s
+Fits t shown Lost b s = IsLost t s
+
+abbrev pub IsCursor : Option Place → ℕ → ℕ → Type 0
+IsCursor None row col = Unit {0}
+IsCursor (Some p) row col = (row ≡ p.row) × (col ≡ p.col)
+
+-- nothing is open, each cell has the look of the screen's, the cursor is where it is wanted, if a place is, and visible as is wanted
+pub record Shows (t : Table) (g : ℕ → ℕ → Ink) (w : Wanted) (s : State) : Type 0 where
+  pub closed : s.rest ≡ []
+  pub cells : (i j : ℕ) → i < t.rows → j < t.cols → look_at s.screen.grid i j ≡ look_of t.looks (g i j)
+  pub cursor : IsCursor w.cursor s.screen.row s.screen.col
+  pub visible : s.screen.visible ≡ is_shown w.mode
+
+pub record BeginsWith (first bytes : List ℕ) : Type 0 where
+  pub more : List ℕ
+  pub begins : bytes ≡ first ++ more
+
+pub record BeginsClear (t : Table) (bytes : List ℕ) : Type 0 where
+  pub line : List ℕ
+  pub is : t.line_of Clear ≡ Some line
+  pub begins : BeginsWith line bytes
+
+-- a known session begins with `clear` where that is asked for, and any other with the resynchronization
+abbrev pub Begins : Table → Status → Bool → List ℕ → Type 0
+Begins t Known true bytes = BeginsClear t bytes
+Begins t Known false bytes = Unit {0}
+Begins t _ clear bytes = BeginsWith t.resync bytes
+
+-- characters and lines that begin so, and lead each state of the kind to one that shows the screen
+pub record Lawful (t : Table) (kind : State → Type 0) (status : Status) (bytes : List ℕ) (g : ℕ → ℕ → Ink) (w : Wanted) : Type 0 where
+  pub pieces : List (List ℕ)
+  pub made : bytes ≡ concat pieces
+  pub each : AllByRecursion (IsPiece t) pieces
+  pub begins : Begins t status w.clear bytes
+  pub shows : (s : State) → kind s → Ends s bytes (Shows t g w)
+
+abbrev pub refresh_limit : Table → (ℕ → ℕ → Ink) → (ℕ → ℕ → Ink) → Status → Belief → Wanted → ℕ
+refresh_limit t shown g Known b w = if w.clear then fresh_limit t else paint_limit t shown g b w.cursor w.mode
+refresh_limit t shown g _ b w = fresh_limit t
+
+-- what goes out in a refresh
+pub record Draws {W T E : Type 0} (went : W → W → List ℕ → Type 0) (failures : W → ℕ) (old new : W) (answer : Result T E) (t : Table) (shown g : ℕ → ℕ → Ink) (w : Wanted) (status : Status) (b after : Belief) : Type 0 where
+  pub step : Steps went failures old new answer (IsPiece t) (refresh_limit t shown g status b w) (IsLost t) (Fits t shown status b) (Agrees t g after)
+  pub begins : Begins t status w.clear step.bytes
+  pub there : OnOk answer (IsPlaced w.cursor after.place)
+  pub mode : OnOk answer (after.mode ≡ Some w.mode)
+
+-- the same from one kind of states, with what it begins with
+pub record Anew {W T E : Type 0} (went : W → W → List ℕ → Type 0) (failures : W → ℕ) (old new : W) (answer : Result T E) (t : Table) (before after : State → Type 0) (first : List ℕ) : Type 0 where
+  pub step : Steps went failures old new answer (IsPiece t) (fresh_limit t) (IsLost t) before after
+  pub begins : BeginsWith first step.bytes
+
+-- A refresh that was done: every state that fits before, run over what went out, shows the screen and fits after. The bytes are lawful
+-- and keep the bound.
+pub record Refreshed {W : Type 0} (went : W → W → List ℕ → Type 0) (old new : W) (t : Table) (shown g : ℕ → ℕ → Ink) (w : Wanted) (before after : Session) : Type 0 where
+  pub bytes : List ℕ
+  pub sent : went old new bytes
+  pub bound : length bytes ≤ refresh_limit t shown g before.status before.belief w
+  pub lawful : Lawful t (Fits t shown before.status before.belief) before.status bytes g w
+  pub fits : (s : State) → Fits t shown before.status before.belief s → Ends s bytes (Fits t g Known after.belief)
+  pub known : after.status ≡ Known
+  pub mode : after.belief.mode ≡ Some w.mode
+
+-- A refresh that the wire cut short: a front of lawful bytes went out, and the terminal may be in any state that fits a lost session.
+pub record CutShort {W : Type 0} (went : W → W → List ℕ → Type 0) (failures : W → ℕ) (old new : W) (t : Table) (shown g : ℕ → ℕ → Ink) (w : Wanted) (before after : Session) : Type 0 where
+  pub front : List ℕ
+  pub back : List ℕ
+  pub sent : went old new front
+  pub failed : Rose (failures old) (failures new)
+  pub bound : length front ≤ refresh_limit t shown g before.status before.belief w
+  pub lawful : Lawful t (Fits t shown before.status before.belief) before.status (front ++ back) g w
+  pub fits : (s : State) → Fits t shown before.status before.belief s → Ends s front (IsLost t)
+  pub lost : after.status ≡ Lost
+
+abbrev pub Refreshes : {W T E : Type 0} → (W → W → List ℕ → Type 0) → (W → ℕ) → W → W → Result T E → Table → (ℕ → ℕ → Ink) → (ℕ → ℕ → Ink) → Wanted → Session → Session → Type 0
+Refreshes went failures old new (Ok x) t shown g w before after = Refreshed went old new t shown g w before after
+Refreshes went failures old new (Err e) t shown g w before after = CutShort went failures old new t shown g w before after

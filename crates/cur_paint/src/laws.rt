@@ -1,0 +1,17 @@
+//! Laws of the bound.
+ghost use Rattle.std.specs.Prelude.{◌≡◌, ◌≤◌, ◌+◌, ◌*◌, ℕ, Option, Some};
+ghost use Rattle.cur_looks.specs.Certified.{Table, cell_limit};
+ghost use Rattle.cur_looks.specs.declared.beliefs.Belief.{Belief};
+ghost use Rattle.cur_looks.specs.declared.beliefs.Place.{Place};
+ghost use Rattle.cur_looks.specs.declared.beliefs.Mode.{Mode};
+ghost use Rattle.cur_looks.specs.declared.inks.Ink.{Ink};
+ghost use Rattle.cur_paint.specs.Differ.{all_differ};
+ghost use Rattle.cur_paint.specs.Limits.{IsPlaced, paint_limit};
+
+/// What a refresh of a known terminal sends at most: so many times the bytes of a cell as cells differ, and
+/// once more for the cursor. Nothing where no cell differs, the mode is the shown one, and the cursor is where
+/// it is wanted.
+pub fn bounded()
+    ensures most { (t : Table) (old new : ℕ → ℕ → Ink) (b : Belief) (cursor : Option Place) (mode : Mode) → paint_limit t old new b cursor mode ≤ (all_differ old new t.cols t.rows + 1) * cell_limit t }
+    ensures none { (t : Table) (old new : ℕ → ℕ → Ink) (b : Belief) (cursor : Option Place) (mode : Mode) → all_differ old new t.cols t.rows ≡ 0 → IsPlaced cursor b.place → b.mode ≡ Some mode → paint_limit t old new b cursor mode ≡ 0 }
+{}

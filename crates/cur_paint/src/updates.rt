@@ -1,0 +1,153 @@
+//! A refresh: what differs where the terminal is known, and all anew where it isn't.
+ghost use Rattle.std.specs.Prelude.{◌≡◌, ℕ, List, true, Some, None, OnOk};
+ghost use Rattle.cur_looks.specs.declared.rows.Row.TheVariants.{Clear};
+ghost use Rattle.cur_looks.specs.Certified.{IsLost};
+ghost use Rattle.cur_looks.specs.Inks.{CanShow};
+ghost use Rattle.cur_looks.specs.Beliefs.{Agrees, CanHide};
+ghost use Rattle.cur_looks.specs.declared.inks.Ink.{Ink};
+ghost use Rattle.cur_paint.specs.Limits.{IsWithin, IsPlaced};
+ghost use Rattle.cur_paint.specs.declared.updates.Status.TheVariants.{Fresh};
+ghost use Rattle.cur_paint.specs.Cleared.{at_start, cleared};
+ghost use Rattle.cur_paint.specs.Update.{Anew, Draws, Refreshes};
+
+use crate::painting::paint;
+use cur_looks::{Belief, Blank, Brush, Certificate, Ink, Mode, Place, Row, View};
+use cur_wires::{Wire, WireFault, send_all};
+use vt_term::Color;
+
+/// What is known of the terminal as a whole.
+#[derive(Clone, Copy)]
+pub enum Status {
+    /// It is at rest, and what it shows isn't known.
+    Fresh,
+    /// It shows the screen of the last refresh.
+    Known,
+    /// An output failed.
+    Lost,
+}
+
+/// What is known of the terminal.
+#[derive(Clone, Copy)]
+pub struct Session {
+    pub status: Status,
+    pub belief: Belief,
+}
+
+/// What is wanted beside the cells: the cursor's place, if it matters, its mode, and whether all is
+/// cleared first.
+#[derive(Clone, Copy)]
+pub struct Wanted {
+    pub cursor: Option<Place>,
+    pub mode: Mode,
+    pub clear: bool,
+}
+
+impl Session {
+    /// Nothing is known yet.
+    pub fn new() -> Session
+        ensures fresh { result.status ≡ Fresh }
+    {
+        Session {
+            status: Status::Fresh,
+            belief: start_belief(),
+        }
+    }
+}
+
+/// What is known after the resynchronization.
+fn start_belief() -> Belief
+    ensures value { result ≡ at_start }
+{
+    Belief {
+        place: Some(Place { row: 0, col: 0 }),
+        brush: Brush::plain(),
+        graphic: Some(false),
+        mode: None,
+    }
+}
+
+/// A screen of spaces on one background.
+#[derive(Drop)]
+struct Cleared {
+    background: Option<Color>,
+}
+
+impl View for Cleared {
+    ghost use Rattle.cur_paint.specs.Cleared.{cleared};
+
+    ghost cells = { λ c. cleared c.background };
+
+    fn at(&self, row: usize, col: usize) -> Ink
+        ensures value { result ≡ cleared self.now.background row col }
+    {
+        let mut ink = Ink::blank();
+        ink.brush.background = self.background;
+        ink
+    }
+}
+
+/// From any lost state: all anew.
+fn repaint<C: Certificate, N: View, W: Wire>(checked: &C, belief: &mut Belief, wire: &mut W, new: &N, wanted: Wanted) -> Result<(), WireFault>
+    requires drawable { CanShow (C.table checked.now) (N.cells new.now) }
+    requires cursor { IsWithin (C.table checked.now) wanted.cursor }
+    requires lines { CanHide (C.table checked.now) wanted.mode }
+    ensures there { OnOk result (IsPlaced wanted.cursor belief.new.place) }
+    ensures mode { OnOk result (belief.new.mode ≡ Some wanted.mode) }
+    ensures step { Anew W.went W.failures wire.old wire.new result (C.table checked.now) (IsLost (C.table checked.now)) (Agrees (C.table checked.now) (N.cells new.now) belief.new) (C.table checked.now).resync }
+{
+    let _ = checked.rows();
+    *belief = start_belief();
+    send_all(wire, checked.resync())?;
+    paint(checked, belief, wire, &Blank, new, wanted.cursor, wanted.mode)
+}
+
+/// From a known state: all is cleared, and painted anew.
+fn clear_first<C: Certificate, N: View, W: Wire>(checked: &C, belief: &mut Belief, wire: &mut W, new: &N, wanted: Wanted) -> Result<(), WireFault>
+    requires drawable { CanShow (C.table checked.now) (N.cells new.now) }
+    requires cursor { IsWithin (C.table checked.now) wanted.cursor }
+    requires lines { CanHide (C.table checked.now) wanted.mode }
+    ensures there { OnOk result (IsPlaced wanted.cursor belief.new.place) }
+    ensures mode { OnOk result (belief.new.mode ≡ Some wanted.mode) }
+    ensures step { (line : List ℕ) → (C.table checked.now).line_of Clear ≡ Some line → (shown : ℕ → ℕ → Ink)
+        → Anew W.went W.failures wire.old wire.new result (C.table checked.now) (Agrees (C.table checked.now) shown belief.old) (Agrees (C.table checked.now) (N.cells new.now) belief.new) line }
+{
+    let _ = checked.rows();
+    let cleared = Cleared {
+        background: belief.brush.background,
+    };
+    belief.place = Some(Place { row: 0, col: 0 });
+    send_all(wire, checked.line(Row::Clear).unwrap())?;
+    paint(checked, belief, wire, &cleared, new, wanted.cursor, wanted.mode)
+}
+
+/// What differs where the terminal is known and isn't to be cleared, else all.
+fn draw<C: Certificate, O: View, N: View, W: Wire>(checked: &C, status: Status, belief: &mut Belief, wire: &mut W, old: &O, new: &N, wanted: Wanted) -> Result<(), WireFault>
+    requires drawable { CanShow (C.table checked.now) (N.cells new.now) }
+    requires cursor { IsWithin (C.table checked.now) wanted.cursor }
+    requires lines { CanHide (C.table checked.now) wanted.mode }
+    ensures draws { Draws W.went W.failures wire.old wire.new result (C.table checked.now) (O.cells old.now) (N.cells new.now) wanted status belief.old belief.new }
+{
+    let _ = checked.rows();
+    match (status, wanted.clear) {
+        (Status::Known, false) => paint(checked, belief, wire, old, new, wanted.cursor, wanted.mode),
+        (Status::Known, true) => clear_first(checked, belief, wire, new, wanted),
+        (Status::Fresh, _) => repaint(checked, belief, wire, new, wanted),
+        (Status::Lost, _) => repaint(checked, belief, wire, new, wanted),
+    }
+}
+
+/// Makes the terminal show the new screen. The old one is what it shows, where that is known. On
+/// `WireFault` a front of lawful bytes went out, and the session is lost.
+pub fn update<C: Certificate, O: View, N: View, W: Wire>(checked: &C, session: &mut Session, wire: &mut W, old: &O, new: &N, wanted: Wanted) -> Result<(), WireFault>
+    requires drawable { CanShow (C.table checked.now) (N.cells new.now) }
+    requires cursor { IsWithin (C.table checked.now) wanted.cursor }
+    requires lines { CanHide (C.table checked.now) wanted.mode }
+    ensures refreshes { Refreshes W.went W.failures wire.old wire.new result (C.table checked.now) (O.cells old.now) (N.cells new.now) wanted session.old session.new }
+{
+    let _ = checked.rows();
+    let status = session.status;
+    session.status = Status::Lost;
+    draw(checked, status, &mut session.belief, wire, old, new, wanted)?;
+    session.status = Status::Known;
+    Ok(())
+}

@@ -1,0 +1,5 @@
+pub mod Cutting
+pub mod Hexing
+pub mod NumbersRead
+pub mod LinesRead
+pub mod HeadsRead

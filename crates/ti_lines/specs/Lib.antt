@@ -1,0 +1,5 @@
+pub mod Cut
+pub mod Hex
+pub mod Lines
+pub mod Heads
+pub mod Texts

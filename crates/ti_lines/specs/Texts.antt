@@ -1,0 +1,46 @@
+-- A certificate's text and what it says: ASCII, each line ended by LF; the first line with the size, that of the alternate
+-- characters where there are any, the lines about capabilities, and the last.
+use Rattle.std.specs.Prelude.{ℕ, ◌≡◌, List, [], ◌∷◌, ◌++◌, Option, None, Some}
+use Rattle.std.specs.List.{AllByRecursion}
+use Rattle.hex.specs.Hex.{IsBytes}
+use Rattle.ti_lines.specs.declared.lines.RowLine.{RowLine}
+use Rattle.ti_lines.specs.Heads.{size_text, acsc_text, end_text, IsSizeText}
+use Rattle.ti_lines.specs.Lines.{line_text, IsLine, IsTextOf}
+
+-- what a certificate says
+pub record Certificate : Type 0 where
+  pub rows : ℕ
+  pub cols : ℕ
+  pub acsc : Option (List ℕ)
+  pub lines : List RowLine
+
+abbrev pub acsc_lines : Option (List ℕ) → List (List ℕ)
+acsc_lines None = []
+acsc_lines (Some bytes) = acsc_text bytes ∷ []
+
+abbrev pub row_lines : List RowLine → List (List ℕ)
+row_lines [] = end_text ∷ []
+row_lines (line ∷ lines) = line_text line ∷ row_lines lines
+
+abbrev pub texts_of : Certificate → List (List ℕ)
+texts_of c = size_text c.rows c.cols ∷ (acsc_lines c.acsc ++ row_lines c.lines)
+
+-- an LF behind each
+abbrev pub ended : List (List ℕ) → List ℕ
+ended [] = []
+ended (line ∷ lines) = line ++ 10 ∷ ended lines
+
+abbrev pub HasBytes : Option (List ℕ) → Type 0
+HasBytes None = Unit {0}
+HasBytes (Some bytes) = IsBytes bytes
+
+-- the text of a certificate that says this
+pub record IsCertificateText (text : List ℕ) (c : Certificate) : Type 0 where
+  pub size : IsSizeText (size_text c.rows c.cols) c.rows c.cols
+  pub acsc : HasBytes c.acsc
+  pub lines : AllByRecursion IsLine c.lines
+  pub spelled : ended (texts_of c) ≡ text
+
+-- no text is that of two lines
+abbrev pub OneLine : Type 0
+OneLine = (text : List ℕ) (a b : RowLine) → IsTextOf text a → IsTextOf text b → a ≡ b

@@ -1,0 +1,84 @@
+ghost use Rattle.std.specs.Prelude.{◌≡◌, ◌≤◌, [], Some, length, IfOk, IfSome, IfNone, option_map};
+ghost use Rattle.ti_lines.specs.declared.lines.RowLine as declared;
+ghost use Rattle.ti_lines.specs.Lines as spec;
+
+use crate::cuts::cut;
+use crate::hexes::hex_at;
+use crate::lines::RowLine;
+use std::alloc::{AllocError, Global};
+use ti_caps::Bytes;
+use ti_rows::{Params, Row};
+use vt_words::{number_at, read};
+
+/// The line about a checked capability that has this text, without its LF. `None` if there is none:
+/// for another name than that of a checked capability, another number of parameters than it has,
+/// numbers with leading zeros or above 65535, hexadecimal digits in upper case, and an effect that
+/// isn't in its one form. Whether a size allows the parameters is another question. An `AllocError`
+/// comes if there is no memory for the bytes.
+pub fn read_row_line(alloc: Global, text: &[u8]) -> Result<Option<RowLine>, AllocError>
+    ensures found { IfOk result (λ found. IfSome found (λ line. spec.IsTextOf text.now line)) }
+    ensures each { IfOk result (λ found. (line : declared.RowLine) → spec.IsTextOf text.now line → found ≡ Some line) }
+{
+    match cut(b' ', text) {
+        None => Ok(None),
+        Some((name, rest)) => match Row::named(name) {
+            None => Ok(None),
+            Some(first) => line_of(alloc, first, rest),
+        },
+    }
+}
+
+/// The line of a capability whose parameters, bytes and effect are this text.
+fn line_of(alloc: Global, first: Row, text: &[u8]) -> Result<Option<RowLine>, AllocError>
+    ensures { IfOk result (λ found. found ≡ spec.line_of first text.now) }
+{
+    match row_before(first, text) {
+        None => Ok(None),
+        Some((row, rest)) => line_behind(alloc, row, rest),
+    }
+}
+
+/// The row whose parameters come first, and what stands behind them.
+fn row_before(first: Row, text: &[u8]) -> Option<(Row, &[u8])>
+    ensures { option_map (λ x. (x.0, x.1.now)) result ≡ spec.row_before first text.now }
+{
+    let mut numbers = Params::new();
+    let rest = numbers_before(first.param_count(), text, &mut numbers)?;
+    let row = first.with_params(numbers.as_slice())?;
+    Some((row, rest))
+}
+
+/// So many numbers, which are pushed, and what stands behind the space behind the last.
+fn numbers_before<'a>(count: usize, text: &'a [u8], numbers: &mut Params) -> Option<&'a [u8]>
+    requires empty { numbers.old.items ≡ [] }
+    requires room { count ≤ 9 }
+    ensures { option_map (λ rest. (numbers.new.items, rest.now)) result ≡ spec.numbers_before count [] text.now }
+{
+    let mut rest = text;
+    for _ in 0..count {
+        let (word, behind) = cut(b' ', rest)?;
+        numbers.push(number_at(word)?);
+        rest = behind;
+    }
+    Some(rest)
+}
+
+/// The bytes and the effect behind a row.
+fn line_behind(alloc: Global, row: Row, text: &[u8]) -> Result<Option<RowLine>, AllocError>
+    ensures { IfOk result (λ found. found ≡ spec.line_behind row text.now) }
+{
+    match cut(b' ', text) {
+        None => Ok(None),
+        Some((word, rest)) => match read(rest) {
+            None => Ok(None),
+            Some(effect) => match hex_at(alloc, word)? {
+                None => Ok(None),
+                Some(bytes) => Ok(Some(RowLine {
+                    row,
+                    bytes: Bytes::from_vec(bytes),
+                    effect,
+                })),
+            },
+        },
+    }
+}
