@@ -10,7 +10,7 @@ use Rattle.vt_term.specs.Function.{Function, Print, function_of, single}
 use Rattle.vt_term.specs.Step.{act}
 use Rattle.vt_term.specs.Step as step
 use Rattle.vt_term.specs.Run.{Runs}
-use Rattle.vt_term.proofs.Grids.{look_at-drawn}
+use Rattle.grids.specs.Grids.{is_in, one}
 use Rattle.vt_term.proofs.Sequences.{empty_open}
 use Rattle.vt_term.proofs.Running.{text_runs, run_keeps}
 use Rattle.cur_wires.specs.Wire.{Sends}
@@ -24,7 +24,7 @@ use Rattle.cur_looks.specs.Certified.{Table, IsLost, IsChecked, IsPiece, Charact
 use Rattle.cur_looks.specs.Inks.{rendition_of, look_of, put_at}
 use Rattle.cur_looks.specs.Beliefs.{Agrees, Belief, Place, IsHere, IsSo, after_print}
 use Rattle.cur_looks.proofs.Doing.{agrees_lost}
-use Rattle.cur_looks.proofs.Turning.{drawn_look}
+use Rattle.cur_looks.proofs.Turning.{drawn_look, look_at-drawn, one_place}
 
 -- a token is run where nothing is open
 token_runs : (s : State) (token : List ℕ) (x : Screen) → s.rest ≡ [] → IsWhole token → act (function_of token) s.screen ≡ x → Runs s token (record { screen = x; rest = [] })
@@ -87,8 +87,9 @@ typed_agrees t g b r c x lc printed poised s h =
       there = record {
         ready = record { sized = run_keeps t.rows t.cols s u (x.byte ∷ []) h.ready.sized runs; rest = refl; tame = record { autowrap = h.ready.tame.autowrap; inserting = h.ready.tame.inserting }; whole = record { top = h.ready.whole.top; bottom = h.ready.whole.bottom }; settled = h.ready.settled; visible = h.ready.visible };
         cells = λ i j li lj.
-            look_at-drawn (λ i j old. if (i == s.screen.row) && (j == s.screen.col) then step.shown s.screen x.byte else old) s.screen.grid i j
+            look_at-drawn (λ i j old. if is_in (one s.screen.row s.screen.col) i j then step.shown s.screen x.byte else old) s.screen.grid i j
             (omega (arith, h.ready.sized.state.screen.columns i (omega (arith, h.ready.sized.rows)), h.ready.sized.cols))
+            ∙ ap (λ (p : Bool). if p then step.shown s.screen x.byte else look_at s.screen.grid i j) (one_place s.screen.row s.screen.col i j)
             ∙ ap (λ (n : ℕ). if (i == n) && (j == s.screen.col) then step.shown s.screen x.byte else look_at s.screen.grid i j) at.0
             ∙ ap (λ (n : ℕ). if (i == r) && (j == n) then step.shown s.screen x.byte else look_at s.screen.grid i j) at.1
             ∙ drawn_look t ((i == r) && (j == c)) (step.shown s.screen x.byte) (look_at s.screen.grid i j) x (g i j) (shown_as t s.screen x set so) (h.cells i j li lj);
