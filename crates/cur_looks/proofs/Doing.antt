@@ -7,7 +7,9 @@ use Rattle.cur_steps.specs.Lines.{Closed, Drives}
 use Rattle.cur_steps.specs.Steps.{Steps}
 use Rattle.cur_steps.proofs.Stopping.{steps_line}
 use Rattle.cur_steps.proofs.Completing.{ends_sized}
-use Rattle.cur_looks.specs.Rows.{Row, Starts, Wants}
+use Rattle.ti_rows.specs.declared.rows.Row.{Row}
+use Rattle.ti_rows.specs.Starts.{Starts}
+use Rattle.ti_rows.specs.Wants.{Wants}
 use Rattle.cur_looks.specs.Certified.{Table, IsLost, IsReady, IsChecked, IsLine, IsPiece, Line, Ended, limit_of}
 use Rattle.cur_looks.specs.Beliefs.{Agrees, Belief, Turns}
 use Rattle.cur_looks.specs.declared.inks.Ink.{Ink}

@@ -2,7 +2,7 @@
 use Rattle.std.proofs.Common.{◌≡◌, ℕ, ◌+◌, ◌-◌, ◌<◌, ◌≤◌, ◌==◌, ◌&&◌, Bool, true, false, nat_le, min, List, [], ◌∷◌, ◌++◌, Option, Some, None, Result, refl, sym, ap, subst, ◌∙◌, inl, arith, if◌then◌else◌}
 use Rattle.std.proofs.lemmas.List.{append-nil}
 use Rattle.std.proofs.lemmas.Bool.Decides.{nat_tests}
-use Rattle.vt_term.specs.Look.{Rendition, Look, IsPrinted, space}
+use Rattle.vt_term.specs.Look.{Rendition, Look, IsPrinted}
 use Rattle.vt_term.specs.Grid.{look_at, put}
 use Rattle.vt_term.specs.Screen.{Screen, State, is_graphic}
 use Rattle.vt_term.specs.Text.{IsWhole, IsOpen}
@@ -11,7 +11,6 @@ use Rattle.vt_term.specs.Step.{act}
 use Rattle.vt_term.specs.Step as step
 use Rattle.vt_term.specs.Run.{Runs}
 use Rattle.grids.specs.Grids.{is_in, one}
-use Rattle.grids.proofs.Drawing.{cell_at-drawn}
 use Rattle.vt_term.proofs.Sequences.{empty_open}
 use Rattle.vt_term.proofs.Running.{text_runs, run_keeps}
 use Rattle.cur_wires.specs.Wire.{Sends}
@@ -25,11 +24,7 @@ use Rattle.cur_looks.specs.Certified.{Table, IsLost, IsChecked, IsPiece, Charact
 use Rattle.cur_looks.specs.Inks.{rendition_of, look_of, put_at}
 use Rattle.cur_looks.specs.Beliefs.{Agrees, Belief, Place, IsHere, IsSo, after_print}
 use Rattle.cur_looks.proofs.Doing.{agrees_lost}
-use Rattle.cur_looks.proofs.Turning.{drawn_look}
-
--- a rectangle of one place
-in_one : (r c i j : ℕ) (x y : Look) → (if is_in (one r c) i j then x else y) ≡ (if (i == r) && (j == c) then x else y)
-in_one r c i j x y = grind (arith, nat_tests)
+use Rattle.cur_looks.proofs.Turning.{drawn_look, look_at-drawn, one_place}
 
 -- a token is run where nothing is open
 token_runs : (s : State) (token : List ℕ) (x : Screen) → s.rest ≡ [] → IsWhole token → act (function_of token) s.screen ≡ x → Runs s token (record { screen = x; rest = [] })
@@ -92,9 +87,9 @@ typed_agrees t g b r c x lc printed poised s h =
       there = record {
         ready = record { sized = run_keeps t.rows t.cols s u (x.byte ∷ []) h.ready.sized runs; rest = refl; tame = record { autowrap = h.ready.tame.autowrap; inserting = h.ready.tame.inserting }; whole = record { top = h.ready.whole.top; bottom = h.ready.whole.bottom }; settled = h.ready.settled; visible = h.ready.visible };
         cells = λ i j li lj.
-            cell_at-drawn (λ i j old. if is_in (one s.screen.row s.screen.col) i j then step.shown s.screen x.byte else old) space s.screen.grid i j
+            look_at-drawn (λ i j old. if is_in (one s.screen.row s.screen.col) i j then step.shown s.screen x.byte else old) s.screen.grid i j
             (omega (arith, h.ready.sized.state.screen.columns i (omega (arith, h.ready.sized.rows)), h.ready.sized.cols))
-            ∙ in_one s.screen.row s.screen.col i j (step.shown s.screen x.byte) (look_at s.screen.grid i j)
+            ∙ ap (λ (p : Bool). if p then step.shown s.screen x.byte else look_at s.screen.grid i j) (one_place s.screen.row s.screen.col i j)
             ∙ ap (λ (n : ℕ). if (i == n) && (j == s.screen.col) then step.shown s.screen x.byte else look_at s.screen.grid i j) at.0
             ∙ ap (λ (n : ℕ). if (i == r) && (j == n) then step.shown s.screen x.byte else look_at s.screen.grid i j) at.1
             ∙ drawn_look t ((i == r) && (j == c)) (step.shown s.screen x.byte) (look_at s.screen.grid i j) x (g i j) (shown_as t s.screen x set so) (h.cells i j li lj);

@@ -2,7 +2,7 @@
 use Rattle.std.proofs.Common.{◌≡◌, ℕ, ◌==◌, ◌&&◌, Bool, true, false, Option, Some, None, refl, sym, ap, ◌∙◌, arith}
 use Rattle.std.proofs.lemmas.Bool.Decides.{nat_tests}
 use Rattle.vt_term.specs.Color.{Color, color_number, Black, Red, Green, Yellow, Blue, Magenta, Cyan, White, color}
-use Rattle.cur_looks.specs.declared.rows.Attributes.{Attributes}
+use Rattle.ti_rows.specs.declared.rows.Attributes.{Attributes}
 use Rattle.cur_looks.specs.declared.inks.Brush.{Brush}
 use Rattle.cur_looks.specs.declared.inks.Ink.{Ink}
 use Rattle.cur_looks.specs.Inks.{alike, same_few, same_others, same_attributes, same_color, same_brush, same}

@@ -1,17 +1,31 @@
 -- What each line does to a state that agrees with what is believed.
-use Rattle.std.proofs.Common.{◌≡◌, ℕ, ◌+◌, ◌-◌, ◌<◌, ◌≤◌, ◌==◌, ◌&&◌, ◌⊎◌, Bool, true, false, nat_le, List, [], Option, Some, None, refl, sym, ap, subst, ◌∙◌, inl, inr, arith, if◌then◌else◌}
+use Rattle.std.proofs.Common.{◌≡◌, ℕ, ◌+◌, ◌-◌, ◌<◌, ◌≤◌, ◌==◌, ◌&&◌, ◌⊎◌, Bool, true, false, nat_le, List, [], length, Option, Some, None, refl, sym, ap, subst, ◌∙◌, inl, inr, arith, if◌then◌else◌}
+use Rattle.std.proofs.lemmas.Bool.Decides.{nat_tests}
 use Rattle.vt_term.specs.Look.{Rendition, Look, IsPrinted, blank, space}
-use Rattle.vt_term.specs.Grid.{look_at, drawn}
+use Rattle.vt_term.specs.Grid.{Grid, line_at, look_at, drawn}
 use Rattle.vt_term.specs.Screen.{Screen, State, IsOfSize, is_graphic, Charset}
 use Rattle.vt_term.specs.Color.{Color}
 use Rattle.grids.proofs.Drawing.{cell_at-drawn}
-use Rattle.cur_looks.specs.declared.rows.Attributes.{Attributes}
+use Rattle.grids.specs.Grids.{is_in, one}
+use Rattle.ti_rows.specs.declared.rows.Attributes.{Attributes}
 use Rattle.cur_looks.specs.declared.inks.Brush.{Brush}
 use Rattle.cur_looks.specs.declared.inks.Ink.{Ink}
-use Rattle.cur_looks.specs.Rows.{Row, Cup, Sgr, Setaf, Setab, Op, Smacs, Rmacs, El, Civis, Cnorm, Cvvis, IsAny, IsFree, IsCalm, IsTame, marked, shown, Renders, Appears}
+use Rattle.ti_rows.specs.declared.rows.Row.{Row}
+use Rattle.ti_rows.specs.declared.rows.Row.TheVariants.{Cup, Sgr, Setaf, Setab, Op, Smacs, Rmacs, El, Civis, Cnorm, Cvvis}
+use Rattle.ti_rows.specs.Starts.{IsAny, IsFree, IsCalm}
+use Rattle.ti_rows.specs.Wants.{marked, Renders, Appears}
+use Rattle.ti_rows.specs.Looks.{shown}
+use Rattle.vt_effects.specs.Settings.{IsTame}
 use Rattle.cur_looks.specs.Certified.{Table, IsReady, IsWhole, IsChecked, Ended, has, limit_of}
 use Rattle.cur_looks.specs.Inks.{rendition_of, look_of, IsColored, tail_blank, blank_ink, plain_brush}
 use Rattle.cur_looks.specs.Beliefs.{Agrees, Belief, Place, Turns, IsHere, IsSo, set_row, Mode, Hidden, Normal, Prominent, IsSeen, is_shown}
+
+pub look_at-drawn : (f : ℕ → ℕ → Look → Look) (g : Grid) (i j : ℕ) → j < length (line_at g i) → look_at (drawn f g) i j ≡ f i j (look_at g i j)
+look_at-drawn f g i j lt = cell_at-drawn f space g i j lt
+
+-- the rectangle of one place
+pub one_place : (r c i j : ℕ) → is_in (one r c) i j ≡ ((i == r) && (j == c))
+one_place r c i j = grind (arith, nat_tests)
 
 pub any_of : (t : Table) (s : State) → IsReady t s → IsAny t.rows t.cols s.screen
 any_of t s h = record { screen = h.sized.state.screen; rows_are = h.sized.rows; cols_are = h.sized.cols; tame = h.tame }
@@ -174,7 +188,7 @@ tail_erased t g b r c p q = record {
       (λ k. record {
         ready = record { sized = k; rest = refl; tame = record { autowrap = h.ready.tame.autowrap; inserting = h.ready.tame.inserting }; whole = record { top = h.ready.whole.top; bottom = h.ready.whole.bottom }; settled = h.ready.settled; visible = h.ready.visible };
         cells = λ i j li lj.
-            cell_at-drawn (λ i j old. if (i == s.screen.row) && nat_le s.screen.col j then blank s.screen.rendition else old) space s.screen.grid i j
+            look_at-drawn (λ i j old. if (i == s.screen.row) && nat_le s.screen.col j then blank s.screen.rendition else old) s.screen.grid i j
             (omega (arith, h.ready.sized.state.screen.columns i (omega (arith, h.ready.sized.rows)), h.ready.sized.cols))
             ∙ ap (λ (n : ℕ). if (i == n) && nat_le s.screen.col j then blank s.screen.rendition else look_at s.screen.grid i j) at.0
             ∙ ap (λ (n : ℕ). if (i == r) && nat_le n j then blank s.screen.rendition else look_at s.screen.grid i j) at.1

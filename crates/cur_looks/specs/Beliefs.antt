@@ -2,7 +2,9 @@
 use Rattle.std.specs.Prelude.{ℕ, ◌+◌, ◌<◌, ◌≡◌, ◌==◌, ◌&&◌, Bool, true, false, Option, Some, None, if◌then◌else◌, List, []}
 use Rattle.vt_term.specs.Grid.{look_at}
 use Rattle.vt_term.specs.Screen.{State, Screen, Charset, IsOfSize, is_graphic}
-use Rattle.cur_looks.specs.Rows.{Row, Starts, Smacs, Rmacs, Civis, Cnorm}
+use Rattle.ti_rows.specs.declared.rows.Row.{Row}
+use Rattle.ti_rows.specs.declared.rows.Row.TheVariants.{Smacs, Rmacs, Civis, Cnorm}
+use Rattle.ti_rows.specs.Starts.{Starts}
 use Rattle.cur_looks.specs.Certified.{Table, IsReady, Ended, has}
 use Rattle.cur_looks.specs.Inks.{rendition_of, look_of, IsColored}
 use Rattle.cur_looks.specs.declared.inks.Ink.{Ink}

@@ -8,9 +8,13 @@ use Rattle.vt_term.specs.Grid.{look_at}
 use Rattle.vt_term.specs.Screen.{State, Screen, Charset, IsOfSize, is_graphic}
 use Rattle.cur_steps.specs.Leads.{Ends}
 use Rattle.cur_steps.specs.Lines.{Drives}
-use Rattle.cur_looks.specs.declared.rows.Attributes.{Attributes}
-use Rattle.cur_looks.specs.declared.rows.Looks.{Looks}
-use Rattle.cur_looks.specs.Rows.{Row, Clear, Cup, El, El1, Ed, Ech, Sgr, Sgr0, Setaf, Setab, Op, Smul, Rev, Blink, Dim, Bold, Invis, Smso, Smacs, Rmacs, Csr, Ind, Ri, Civis, Cnorm, Cvvis, Smcup, Rmcup, Bel, IsTame, Starts, Wants}
+use Rattle.ti_rows.specs.declared.rows.Attributes.{Attributes}
+use Rattle.ti_rows.specs.declared.rows.Looks.{Looks}
+use Rattle.ti_rows.specs.declared.rows.Row.{Row}
+use Rattle.ti_rows.specs.declared.rows.Row.TheVariants.{Clear, Cup, El, El1, Ed, Ech, Sgr, Sgr0, Setaf, Setab, Op, Smul, Rev, Blink, Dim, Bold, Invis, Smso, Smacs, Rmacs, Csr, Ind, Ri, Civis, Cnorm, Cvvis, Smcup, Rmcup, Bel}
+use Rattle.ti_rows.specs.Starts.{Starts}
+use Rattle.ti_rows.specs.Wants.{Wants}
+use Rattle.vt_effects.specs.Settings.{IsTame}
 
 -- for each group of capabilities the length of its longest line, 0 where it has none
 pub record Longest : Type 0 where

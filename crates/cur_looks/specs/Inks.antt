@@ -2,11 +2,13 @@
 use Rattle.std.specs.Prelude.{ℕ, ◌≡◌, ◌==◌, ◌&&◌, ◌||◌, nat_le, nat_lt, Bool, true, false, Option, Some, None, if◌then◌else◌}
 use Rattle.vt_term.specs.Color.{Color, color_number}
 use Rattle.vt_term.specs.Look.{Look, Rendition, IsPrinted}
-use Rattle.cur_looks.specs.declared.rows.Attributes.{Attributes}
-use Rattle.cur_looks.specs.declared.rows.Looks.{Looks}
+use Rattle.ti_rows.specs.declared.rows.Attributes.{Attributes}
+use Rattle.ti_rows.specs.declared.rows.Looks.{Looks}
 use Rattle.cur_looks.specs.declared.inks.Brush.{Brush}
 use Rattle.cur_looks.specs.declared.inks.Ink.{Ink}
-use Rattle.cur_looks.specs.Rows.{Op, Smacs, marked, shown}
+use Rattle.ti_rows.specs.declared.rows.Row.TheVariants.{Op, Smacs}
+use Rattle.ti_rows.specs.Wants.{marked}
+use Rattle.ti_rows.specs.Looks.{shown}
 use Rattle.cur_looks.specs.Certified.{Table, has}
 
 -- [Look]: the union of the attributes' marks, and the colours

@@ -1,4 +1,3 @@
-pub mod Rows
 pub mod Certified
 pub mod Inks
 pub mod Beliefs

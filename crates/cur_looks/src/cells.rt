@@ -1,7 +1,7 @@
 //! A cell, and the end of a line, each in as few of the single steps as its look needs.
 ghost use Rattle.std.specs.Prelude.{◌≡◌, ◌<◌, ℕ, Some, None, OnOk, IfOk};
 ghost use Rattle.cur_steps.specs.Steps.{Steps};
-ghost use Rattle.cur_looks.specs.Rows.{El};
+ghost use Rattle.ti_rows.specs.declared.rows.Row.TheVariants.{El};
 ghost use Rattle.cur_looks.specs.Certified.{IsPiece, IsLost, cell_limit};
 ghost use Rattle.cur_looks.specs.Inks.{IsInk, IsColored, put_at, tail_blank, plain_brush};
 ghost use Rattle.cur_looks.specs.Beliefs.{Agrees, Belief, plain_limit, colors_limit, brush_limit, ready_limit, stamp_limit};
@@ -10,12 +10,19 @@ ghost use Rattle.cur_looks.specs.declared.inks.Ink.{Ink};
 use crate::beliefs::Belief;
 use crate::certificates::Certificate;
 use crate::inks::{Brush, Ink, same_brush};
-use crate::rows::Attributes;
-use crate::steps::{attributes_as, background_as, colors_off, erase_tail, foreground_as, move_to, print_at, set_as};
+use crate::steps::{
+    attributes_as, background_as, colors_off, erase_tail, foreground_as, move_to, print_at, set_as,
+};
 use cur_wires::{Wire, WireFault};
+use ti_rows::Attributes;
 
 /// The attributes become these, and the colours the default ones.
-fn plainly_as<C: Certificate, W: Wire>(checked: &C, belief: &mut Belief, wire: &mut W, wanted: Attributes) -> Result<(), WireFault>
+fn plainly_as<C: Certificate, W: Wire>(
+    checked: &C,
+    belief: &mut Belief,
+    wire: &mut W,
+    wanted: Attributes,
+) -> Result<(), WireFault>
     ensures brush { OnOk result (belief.new.brush ≡ record { attributes = wanted; foreground = None; background = None }) }
     ensures place { OnOk result (belief.new.place ≡ belief.old.place) }
     ensures step { (g : ℕ → ℕ → Ink) → Steps W.went W.failures wire.old wire.new result (IsPiece (C.table checked.now)) (plain_limit (C.table checked.now))
@@ -26,7 +33,12 @@ fn plainly_as<C: Certificate, W: Wire>(checked: &C, belief: &mut Belief, wire: &
 }
 
 /// The colours become these, from the default ones.
-fn colors_as<C: Certificate, W: Wire>(checked: &C, belief: &mut Belief, wire: &mut W, wanted: Brush) -> Result<(), WireFault>
+fn colors_as<C: Certificate, W: Wire>(
+    checked: &C,
+    belief: &mut Belief,
+    wire: &mut W,
+    wanted: Brush,
+) -> Result<(), WireFault>
     requires attributes { belief.old.brush ≡ record { attributes = wanted.attributes; foreground = None; background = None } }
     requires colored { IsColored (C.table checked.now) wanted }
     ensures brush { OnOk result (belief.new.brush ≡ wanted) }
@@ -39,7 +51,12 @@ fn colors_as<C: Certificate, W: Wire>(checked: &C, belief: &mut Belief, wire: &m
 }
 
 /// The brush becomes this one.
-fn brush_as<C: Certificate, W: Wire>(checked: &C, belief: &mut Belief, wire: &mut W, wanted: Brush) -> Result<(), WireFault>
+fn brush_as<C: Certificate, W: Wire>(
+    checked: &C,
+    belief: &mut Belief,
+    wire: &mut W,
+    wanted: Brush,
+) -> Result<(), WireFault>
     requires colored { IsColored (C.table checked.now) wanted }
     ensures brush { OnOk result (belief.new.brush ≡ wanted) }
     ensures place { OnOk result (belief.new.place ≡ belief.old.place) }
@@ -55,7 +72,14 @@ fn brush_as<C: Certificate, W: Wire>(checked: &C, belief: &mut Belief, wire: &mu
 }
 
 /// The cursor is in a place, and the brush is this one.
-fn poise<C: Certificate, W: Wire>(checked: &C, belief: &mut Belief, wire: &mut W, row: usize, col: usize, wanted: Brush) -> Result<(), WireFault>
+fn poise<C: Certificate, W: Wire>(
+    checked: &C,
+    belief: &mut Belief,
+    wire: &mut W,
+    row: usize,
+    col: usize,
+    wanted: Brush,
+) -> Result<(), WireFault>
     requires row { row < (C.table checked.now).rows }
     requires col { col < (C.table checked.now).cols }
     requires colored { IsColored (C.table checked.now) wanted }
@@ -69,7 +93,14 @@ fn poise<C: Certificate, W: Wire>(checked: &C, belief: &mut Belief, wire: &mut W
 }
 
 /// A character in its set, where the cursor is known to be and in the brush that is known.
-fn stamp<C: Certificate, W: Wire>(checked: &C, belief: &mut Belief, wire: &mut W, row: usize, col: usize, ink: Ink) -> Result<(), WireFault>
+fn stamp<C: Certificate, W: Wire>(
+    checked: &C,
+    belief: &mut Belief,
+    wire: &mut W,
+    row: usize,
+    col: usize,
+    ink: Ink,
+) -> Result<(), WireFault>
     requires col { col < (C.table checked.now).cols }
     requires ink { IsInk (C.table checked.now) ink }
     requires place { belief.old.place ≡ Some (record { row = row; col = col }) }
@@ -82,7 +113,14 @@ fn stamp<C: Certificate, W: Wire>(checked: &C, belief: &mut Belief, wire: &mut W
 }
 
 /// One cell.
-pub fn put_cell<C: Certificate, W: Wire>(checked: &C, belief: &mut Belief, wire: &mut W, row: usize, col: usize, ink: Ink) -> Result<(), WireFault>
+pub fn put_cell<C: Certificate, W: Wire>(
+    checked: &C,
+    belief: &mut Belief,
+    wire: &mut W,
+    row: usize,
+    col: usize,
+    ink: Ink,
+) -> Result<(), WireFault>
     requires row { row < (C.table checked.now).rows }
     requires col { col < (C.table checked.now).cols }
     requires ink { IsInk (C.table checked.now) ink }
@@ -94,7 +132,14 @@ pub fn put_cell<C: Certificate, W: Wire>(checked: &C, belief: &mut Belief, wire:
 }
 
 /// A line is blank from a place on.
-pub fn blank_tail<C: Certificate, W: Wire>(checked: &C, belief: &mut Belief, wire: &mut W, row: usize, col: usize, tail: &[u8]) -> Result<(), WireFault>
+pub fn blank_tail<C: Certificate, W: Wire>(
+    checked: &C,
+    belief: &mut Belief,
+    wire: &mut W,
+    row: usize,
+    col: usize,
+    tail: &[u8],
+) -> Result<(), WireFault>
     requires row { row < (C.table checked.now).rows }
     requires col { col < (C.table checked.now).cols }
     requires tail { (C.table checked.now).line_of El ≡ Some tail.now }

@@ -2,7 +2,7 @@
 ghost use Rattle.std.specs.Prelude.{◌≡◌, IfSome, Some, None};
 ghost use Rattle.cur_looks.specs.Certified.{Table, IsChecked};
 
-use crate::rows::Row;
+use ti_rows::Row;
 
 /// A verified certificate: the strings of an entry for a size, of which all is known that a painter needs.
 pub trait Certificate {

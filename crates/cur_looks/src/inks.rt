@@ -2,7 +2,7 @@
 ghost use Rattle.std.specs.Prelude.{◌≡◌, ℕ};
 ghost use Rattle.cur_looks.specs.Inks as spec;
 
-use crate::rows::Attributes;
+use ti_rows::Attributes;
 use vt_term::Color;
 
 /// How characters are printed: attributes, and colours where they aren't the default ones.

@@ -8,7 +8,6 @@ mod certificates;
 mod inks;
 mod lines;
 mod modes;
-mod rows;
 mod steps;
 
 pub use beliefs::{Belief, Mode, Place};
@@ -16,5 +15,5 @@ pub use cells::{blank_tail, put_cell};
 pub use certificates::Certificate;
 pub use inks::{Blank, Brush, Ink, View, is_same};
 pub use modes::show_as;
-pub use rows::{Attributes, Looks, Marks, Row};
 pub use steps::move_to;
+pub use ti_rows::{Attributes, Looks, Marks, Row};

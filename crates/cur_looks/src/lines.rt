@@ -6,11 +6,16 @@ ghost use Rattle.cur_looks.specs.Beliefs.{Agrees, Belief, Turns};
 ghost use Rattle.cur_looks.specs.declared.inks.Ink.{Ink};
 
 use crate::certificates::Certificate;
-use crate::rows::Row;
 use cur_wires::{Wire, WireFault, send_all};
+use ti_rows::Row;
 
 /// A row's line goes out. It leads from whatever belief the row starts from to what the row makes of it.
-pub(crate) fn send_line<C: Certificate, W: Wire>(checked: &C, row: Row, bytes: &[u8], wire: &mut W) -> Result<(), WireFault>
+pub(crate) fn send_line<C: Certificate, W: Wire>(
+    checked: &C,
+    row: Row,
+    bytes: &[u8],
+    wire: &mut W,
+) -> Result<(), WireFault>
     requires line { (C.table checked.now).line_of row ≡ Some bytes.now }
     ensures step { (n : ℕ) (g h : ℕ → ℕ → Ink) (b c : Belief) → limit_of (C.table checked.now) row ≤ n → Turns (C.table checked.now) row g b h c
         → Steps W.went W.failures wire.old wire.new result (IsPiece (C.table checked.now)) n (IsLost (C.table checked.now)) (Agrees (C.table checked.now) g b) (Agrees (C.table checked.now) h c) }

@@ -1,7 +1,7 @@
 //! How the cursor is shown.
 ghost use Rattle.std.specs.Prelude.{◌≡◌, ◌*◌, ℕ, true, false, Some, OnOk};
 ghost use Rattle.cur_steps.specs.Steps.{Steps};
-ghost use Rattle.cur_looks.specs.Rows.{Civis, Cnorm};
+ghost use Rattle.ti_rows.specs.declared.rows.Row.TheVariants.{Civis, Cnorm};
 ghost use Rattle.cur_looks.specs.Certified.{IsPiece, IsLost, has};
 ghost use Rattle.cur_looks.specs.Beliefs.{Agrees, Belief, CanHide, Hidden, Normal, Prominent, changes, modes_limit};
 ghost use Rattle.cur_looks.specs.declared.inks.Ink.{Ink};
@@ -9,11 +9,15 @@ ghost use Rattle.cur_looks.specs.declared.inks.Ink.{Ink};
 use crate::beliefs::{Belief, Mode};
 use crate::certificates::Certificate;
 use crate::lines::send_line;
-use crate::rows::Row;
 use cur_wires::{Wire, WireFault};
+use ti_rows::Row;
 
 /// The cursor disappears.
-fn hide<C: Certificate, W: Wire>(checked: &C, belief: &mut Belief, wire: &mut W) -> Result<(), WireFault>
+fn hide<C: Certificate, W: Wire>(
+    checked: &C,
+    belief: &mut Belief,
+    wire: &mut W,
+) -> Result<(), WireFault>
     requires line { has (C.table checked.now) Civis ≡ true }
     requires back { has (C.table checked.now) Cnorm ≡ true }
     ensures belief { belief.new ≡ record belief.old { mode = Some Hidden } }
@@ -29,7 +33,11 @@ fn hide<C: Certificate, W: Wire>(checked: &C, belief: &mut Belief, wire: &mut W)
 }
 
 /// The cursor appears.
-fn show<C: Certificate, W: Wire>(checked: &C, belief: &mut Belief, wire: &mut W) -> Result<(), WireFault>
+fn show<C: Certificate, W: Wire>(
+    checked: &C,
+    belief: &mut Belief,
+    wire: &mut W,
+) -> Result<(), WireFault>
     ensures belief { belief.new ≡ record belief.old { mode = Some Normal } }
     ensures step { (g : ℕ → ℕ → Ink) → Steps W.went W.failures wire.old wire.new result (IsPiece (C.table checked.now)) ((C.table checked.now).longest.cnorm)
         (IsLost (C.table checked.now)) (Agrees (C.table checked.now) g belief.old) (Agrees (C.table checked.now) g belief.new) }
@@ -43,7 +51,11 @@ fn show<C: Certificate, W: Wire>(checked: &C, belief: &mut Belief, wire: &mut W)
 }
 
 /// The cursor, which is shown, becomes very visible.
-fn stress<C: Certificate, W: Wire>(checked: &C, belief: &mut Belief, wire: &mut W) -> Result<(), WireFault>
+fn stress<C: Certificate, W: Wire>(
+    checked: &C,
+    belief: &mut Belief,
+    wire: &mut W,
+) -> Result<(), WireFault>
     requires shown { belief.old.mode ≡ Some Normal }
     ensures belief { belief.new ≡ record belief.old { mode = Some Prominent } }
     ensures step { (g : ℕ → ℕ → Ink) → Steps W.went W.failures wire.old wire.new result (IsPiece (C.table checked.now)) ((C.table checked.now).longest.cvvis)
@@ -58,7 +70,11 @@ fn stress<C: Certificate, W: Wire>(checked: &C, belief: &mut Belief, wire: &mut 
 }
 
 /// The cursor is shown very visibly.
-fn show_stressed<C: Certificate, W: Wire>(checked: &C, belief: &mut Belief, wire: &mut W) -> Result<(), WireFault>
+fn show_stressed<C: Certificate, W: Wire>(
+    checked: &C,
+    belief: &mut Belief,
+    wire: &mut W,
+) -> Result<(), WireFault>
     ensures belief { OnOk result (belief.new ≡ record belief.old { mode = Some Prominent }) }
     ensures step { (g : ℕ → ℕ → Ink) → Steps W.went W.failures wire.old wire.new result (IsPiece (C.table checked.now)) (modes_limit (C.table checked.now))
         (IsLost (C.table checked.now)) (Agrees (C.table checked.now) g belief.old) (Agrees (C.table checked.now) g belief.new) }
@@ -81,7 +97,12 @@ fn is_mode(now: Option<Mode>, wanted: Mode) -> bool
 }
 
 /// The cursor is shown in this mode, if it isn't known to be.
-pub fn show_as<C: Certificate, W: Wire>(checked: &C, belief: &mut Belief, wire: &mut W, wanted: Mode) -> Result<(), WireFault>
+pub fn show_as<C: Certificate, W: Wire>(
+    checked: &C,
+    belief: &mut Belief,
+    wire: &mut W,
+    wanted: Mode,
+) -> Result<(), WireFault>
     requires lines { CanHide (C.table checked.now) wanted }
     ensures belief { OnOk result (belief.new ≡ record belief.old { mode = Some wanted }) }
     ensures step { (g : ℕ → ℕ → Ink) → Steps W.went W.failures wire.old wire.new result (IsPiece (C.table checked.now)) (changes belief.old.mode wanted * modes_limit (C.table checked.now))

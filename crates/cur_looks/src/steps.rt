@@ -3,7 +3,7 @@ ghost use Rattle.std.specs.Prelude.{◌≡◌, ◌*◌, ◌<◌, ℕ, Bool, true
 ghost use Rattle.vt_term.specs.Color.{Color};
 ghost use Rattle.vt_term.specs.Look.{IsPrinted};
 ghost use Rattle.cur_steps.specs.Steps.{Steps};
-ghost use Rattle.cur_looks.specs.Rows.{Op, El, Smacs};
+ghost use Rattle.ti_rows.specs.declared.rows.Row.TheVariants.{Op, El, Smacs};
 ghost use Rattle.cur_looks.specs.Certified.{IsPiece, IsLost, has};
 ghost use Rattle.cur_looks.specs.Inks.{put_at, tail_blank, plain_brush};
 ghost use Rattle.cur_looks.specs.Beliefs.{Agrees, Belief, moves, after_print, set_row};
@@ -14,12 +14,18 @@ use crate::beliefs::{Belief, Place};
 use crate::certificates::Certificate;
 use crate::inks::{Brush, Ink, same_attributes};
 use crate::lines::send_line;
-use crate::rows::{Attributes, Row};
 use cur_wires::{Wire, WireFault, send_all};
+use ti_rows::{Attributes, Row};
 use vt_term::Color;
 
 /// The cursor goes to a place, if it isn't known to be there.
-pub fn move_to<C: Certificate, W: Wire>(checked: &C, belief: &mut Belief, wire: &mut W, row: usize, col: usize) -> Result<(), WireFault>
+pub fn move_to<C: Certificate, W: Wire>(
+    checked: &C,
+    belief: &mut Belief,
+    wire: &mut W,
+    row: usize,
+    col: usize,
+) -> Result<(), WireFault>
     requires row { row < (C.table checked.now).rows }
     requires col { col < (C.table checked.now).cols }
     ensures belief { belief.new ≡ record belief.old { place = Some (record { row = row; col = col }) } }
@@ -48,7 +54,11 @@ fn stands(place: Option<Place>, row: usize, col: usize) -> bool
 }
 
 /// The colours become the default ones.
-pub(crate) fn colors_off<C: Certificate, W: Wire>(checked: &C, belief: &mut Belief, wire: &mut W) -> Result<(), WireFault>
+pub(crate) fn colors_off<C: Certificate, W: Wire>(
+    checked: &C,
+    belief: &mut Belief,
+    wire: &mut W,
+) -> Result<(), WireFault>
     ensures belief { belief.new ≡ record belief.old { brush = record belief.old.brush { foreground = None; background = None } } }
     ensures step { (g : ℕ → ℕ → Ink) → Steps W.went W.failures wire.old wire.new result (IsPiece (C.table checked.now)) (C.table checked.now).longest.op
         (IsLost (C.table checked.now)) (Agrees (C.table checked.now) g belief.old) (Agrees (C.table checked.now) g belief.new) }
@@ -75,7 +85,12 @@ fn is_uncolored(brush: Brush) -> bool
 }
 
 /// The attributes become these; the colours are the default ones before and after.
-pub(crate) fn attributes_as<C: Certificate, W: Wire>(checked: &C, belief: &mut Belief, wire: &mut W, wanted: Attributes) -> Result<(), WireFault>
+pub(crate) fn attributes_as<C: Certificate, W: Wire>(
+    checked: &C,
+    belief: &mut Belief,
+    wire: &mut W,
+    wanted: Attributes,
+) -> Result<(), WireFault>
     requires foreground { belief.old.brush.foreground ≡ None }
     requires background { belief.old.brush.background ≡ None }
     ensures brush { belief.new.brush ≡ record { attributes = wanted; foreground = None; background = None } }
@@ -95,7 +110,12 @@ pub(crate) fn attributes_as<C: Certificate, W: Wire>(checked: &C, belief: &mut B
 }
 
 /// The foreground becomes this colour, or stays the default one.
-pub(crate) fn foreground_as<C: Certificate, W: Wire>(checked: &C, belief: &mut Belief, wire: &mut W, wanted: Option<Color>) -> Result<(), WireFault>
+pub(crate) fn foreground_as<C: Certificate, W: Wire>(
+    checked: &C,
+    belief: &mut Belief,
+    wire: &mut W,
+    wanted: Option<Color>,
+) -> Result<(), WireFault>
     requires now { belief.old.brush.foreground ≡ None }
     requires colors { has (C.table checked.now) Op ≡ false → wanted ≡ None }
     ensures belief { belief.new ≡ record belief.old { brush = record belief.old.brush { foreground = wanted } } }
@@ -114,7 +134,12 @@ pub(crate) fn foreground_as<C: Certificate, W: Wire>(checked: &C, belief: &mut B
 }
 
 /// The background becomes this colour, or stays the default one.
-pub(crate) fn background_as<C: Certificate, W: Wire>(checked: &C, belief: &mut Belief, wire: &mut W, wanted: Option<Color>) -> Result<(), WireFault>
+pub(crate) fn background_as<C: Certificate, W: Wire>(
+    checked: &C,
+    belief: &mut Belief,
+    wire: &mut W,
+    wanted: Option<Color>,
+) -> Result<(), WireFault>
     requires now { belief.old.brush.background ≡ None }
     requires colors { has (C.table checked.now) Op ≡ false → wanted ≡ None }
     ensures belief { belief.new ≡ record belief.old { brush = record belief.old.brush { background = wanted } } }
@@ -133,7 +158,12 @@ pub(crate) fn background_as<C: Certificate, W: Wire>(checked: &C, belief: &mut B
 }
 
 /// The graphic or the plain set becomes the active one, if it isn't known to be.
-pub(crate) fn set_as<C: Certificate, W: Wire>(checked: &C, belief: &mut Belief, wire: &mut W, graphic: bool) -> Result<(), WireFault>
+pub(crate) fn set_as<C: Certificate, W: Wire>(
+    checked: &C,
+    belief: &mut Belief,
+    wire: &mut W,
+    graphic: bool,
+) -> Result<(), WireFault>
     requires lines { has (C.table checked.now) Smacs ≡ false → graphic ≡ false }
     ensures belief { belief.new ≡ record belief.old { graphic = Some graphic } }
     ensures step { (g : ℕ → ℕ → Ink) → Steps W.went W.failures wire.old wire.new result (IsPiece (C.table checked.now)) (C.table checked.now).longest.sets
@@ -169,7 +199,14 @@ fn is_active(now: Option<bool>, graphic: bool) -> bool
 }
 
 /// A character where the cursor is known to be, printed in the brush and the set that are known.
-pub(crate) fn print_at<C: Certificate, W: Wire>(checked: &C, belief: &mut Belief, wire: &mut W, row: usize, col: usize, ink: Ink) -> Result<(), WireFault>
+pub(crate) fn print_at<C: Certificate, W: Wire>(
+    checked: &C,
+    belief: &mut Belief,
+    wire: &mut W,
+    row: usize,
+    col: usize,
+    ink: Ink,
+) -> Result<(), WireFault>
     requires col { col < (C.table checked.now).cols }
     requires printed { IsPrinted ink.byte }
     requires place { belief.old.place ≡ Some (record { row = row; col = col }) }
@@ -197,7 +234,14 @@ fn after_of(cols: usize, row: usize, col: usize) -> Option<Place>
 }
 
 /// The line's end is erased from where the cursor is known to be.
-pub(crate) fn erase_tail<C: Certificate, W: Wire>(checked: &C, tail: &[u8], belief: &Belief, wire: &mut W, row: usize, col: usize) -> Result<(), WireFault>
+pub(crate) fn erase_tail<C: Certificate, W: Wire>(
+    checked: &C,
+    tail: &[u8],
+    belief: &Belief,
+    wire: &mut W,
+    row: usize,
+    col: usize,
+) -> Result<(), WireFault>
     requires tail { (C.table checked.now).line_of El ≡ Some tail.now }
     requires place { belief.now.place ≡ Some (record { row = row; col = col }) }
     requires brush { belief.now.brush ≡ plain_brush }

@@ -51,9 +51,9 @@ span_more old new i from n = let same : suc n ≡ n + 1 = omega arith in let P :
 pub span_grows : (old new : ℕ → ℕ → Ink) (i from n m : ℕ) → n ≤ m → span old new i from n ≤ span old new i from m
 span_grows old new i from n zero le = let P : ℕ → Type 0 = λ k. span old new i from k ≤ 0 in let same : 0 ≡ n = omega arith in subst P same (omega arith)
 span_grows old new i from n (suc m) le = elim (cases_lt n (suc m)) [
-    | inl lt ↦ (let h : span old new i from n ≤ span old new i from m = span_grows old new i from n m (omega arith) in omega (arith, h))
-    | inr ge ↦ (let P : ℕ → Type 0 = λ k. span old new i from k ≤ span old new i from (suc m) in let same : suc m ≡ n = omega arith in subst P same (omega arith))
-  ]
+  | inl lt ↦ (let h : span old new i from n ≤ span old new i from m = span_grows old new i from n m (omega arith) in omega (arith, h))
+  | inr ge ↦ (let P : ℕ → Type 0 = λ k. span old new i from k ≤ span old new i from (suc m) in let same : suc m ≡ n = omega arith in subst P same (omega arith))
+]
 
 pub times_grows : (a b l : ℕ) → a ≤ b → a * l ≤ b * l
 times_grows a b l le = grind arith
@@ -90,9 +90,9 @@ all_more old new cols n = let same : suc n ≡ n + 1 = omega arith in let P : �
 pub all_grows : (old new : ℕ → ℕ → Ink) (cols n m : ℕ) → n ≤ m → all_differ old new cols n ≤ all_differ old new cols m
 all_grows old new cols n zero le = let P : ℕ → Type 0 = λ k. all_differ old new cols k ≤ 0 in let same : 0 ≡ n = omega arith in subst P same (omega arith)
 all_grows old new cols n (suc m) le = elim (cases_lt n (suc m)) [
-    | inl lt ↦ (let h : all_differ old new cols n ≤ all_differ old new cols m = all_grows old new cols n m (omega arith) in omega (arith, h))
-    | inr ge ↦ (let P : ℕ → Type 0 = λ k. all_differ old new cols k ≤ all_differ old new cols (suc m) in let same : suc m ≡ n = omega arith in subst P same (omega arith))
-  ]
+  | inl lt ↦ (let h : all_differ old new cols n ≤ all_differ old new cols m = all_grows old new cols n m (omega arith) in omega (arith, h))
+  | inr ge ↦ (let P : ℕ → Type 0 = λ k. all_differ old new cols k ≤ all_differ old new cols (suc m) in let same : suc m ≡ n = omega arith in subst P same (omega arith))
+]
 
 -- a line is done
 pub row_done : (t : Table) (old new : ℕ → ℕ → Ink) (r : ℕ) (b : Belief) (s : State) → Agrees t (mixed old new r t.cols) b s → Agrees t (mixed old new (r + 1) 0) b s

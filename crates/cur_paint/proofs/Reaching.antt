@@ -4,14 +4,13 @@ use Rattle.vt_term.specs.Color.{Color}
 use Rattle.vt_term.specs.Look.{Rendition, Look, IsPrinted, blank}
 use Rattle.vt_term.specs.Grid.{look_at, drawn}
 use Rattle.vt_term.specs.Screen.{State, Screen}
-use Rattle.vt_term.proofs.Grids.{look_at-drawn}
 use Rattle.cur_steps.specs.Leads.{Ends, Leads}
 use Rattle.cur_steps.specs.Lines.{Closed, Reaches}
 use Rattle.cur_steps.proofs.Stopping.{leads_line}
 use Rattle.cur_steps.proofs.Completing.{ends_as, ends_sized, reaches_then, reaches_piece, reaches_as, reaches_self}
-use Rattle.cur_looks.specs.declared.rows.Row.{Row}
-use Rattle.cur_looks.specs.declared.rows.Attributes.{Attributes}
-use Rattle.cur_looks.specs.declared.rows.Row.TheVariants.{Clear, Cup, Sgr, Setaf, Setab, Op, Civis, Cnorm, Cvvis}
+use Rattle.ti_rows.specs.declared.rows.Row.{Row}
+use Rattle.ti_rows.specs.declared.rows.Attributes.{Attributes}
+use Rattle.ti_rows.specs.declared.rows.Row.TheVariants.{Clear, Cup, Sgr, Setaf, Setab, Op, Civis, Cnorm, Cvvis}
 use Rattle.cur_looks.specs.declared.beliefs.Belief.{Belief}
 use Rattle.cur_looks.specs.declared.beliefs.Place.{Place}
 use Rattle.cur_looks.specs.declared.beliefs.Mode.{Mode}

@@ -6,7 +6,7 @@ use Rattle.vt_term.specs.Screen.{State, is_graphic}
 use Rattle.cur_steps.specs.Leads.{Ends}
 use Rattle.cur_steps.specs.Steps.{Steps}
 use Rattle.cur_wires.specs.Wire.{Rose}
-use Rattle.cur_looks.specs.declared.rows.Row.TheVariants.{Clear}
+use Rattle.ti_rows.specs.declared.rows.Row.TheVariants.{Clear}
 use Rattle.cur_looks.specs.Certified.{Table, IsLost, IsWhole, IsPiece, cell_limit}
 use Rattle.cur_looks.specs.Inks.{look_of}
 use Rattle.cur_looks.specs.Beliefs.{Agrees, is_shown}

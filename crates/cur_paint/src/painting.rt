@@ -12,7 +12,12 @@ use cur_looks::{Belief, Certificate, Mode, Place, View, move_to, show_as};
 use cur_wires::{Wire, WireFault};
 
 /// The cursor's last move, if a place is wanted.
-fn place_cursor<C: Certificate, W: Wire>(checked: &C, belief: &mut Belief, wire: &mut W, cursor: Option<Place>) -> Result<(), WireFault>
+fn place_cursor<C: Certificate, W: Wire>(
+    checked: &C,
+    belief: &mut Belief,
+    wire: &mut W,
+    cursor: Option<Place>,
+) -> Result<(), WireFault>
     requires cursor { IsWithin (C.table checked.now) cursor }
     ensures there { OnOk result (IsPlaced cursor belief.new.place) }
     ensures mode { OnOk result (belief.new.mode ≡ belief.old.mode) }
@@ -27,7 +32,13 @@ fn place_cursor<C: Certificate, W: Wire>(checked: &C, belief: &mut Belief, wire:
 }
 
 /// The cursor's mode, and its place.
-fn settle<C: Certificate, W: Wire>(checked: &C, belief: &mut Belief, wire: &mut W, cursor: Option<Place>, mode: Mode) -> Result<(), WireFault>
+fn settle<C: Certificate, W: Wire>(
+    checked: &C,
+    belief: &mut Belief,
+    wire: &mut W,
+    cursor: Option<Place>,
+    mode: Mode,
+) -> Result<(), WireFault>
     requires cursor { IsWithin (C.table checked.now) cursor }
     requires lines { CanHide (C.table checked.now) mode }
     ensures there { OnOk result (IsPlaced cursor belief.new.place) }
@@ -40,7 +51,15 @@ fn settle<C: Certificate, W: Wire>(checked: &C, belief: &mut Belief, wire: &mut 
 }
 
 /// All that differs, and then the cursor.
-pub(crate) fn paint<C: Certificate, O: View, N: View, W: Wire>(checked: &C, belief: &mut Belief, wire: &mut W, old: &O, new: &N, cursor: Option<Place>, mode: Mode) -> Result<(), WireFault>
+pub(crate) fn paint<C: Certificate, O: View, N: View, W: Wire>(
+    checked: &C,
+    belief: &mut Belief,
+    wire: &mut W,
+    old: &O,
+    new: &N,
+    cursor: Option<Place>,
+    mode: Mode,
+) -> Result<(), WireFault>
     requires drawable { CanShow (C.table checked.now) (N.cells new.now) }
     requires cursor { IsWithin (C.table checked.now) cursor }
     requires lines { CanHide (C.table checked.now) mode }

@@ -10,7 +10,15 @@ use cur_looks::{Belief, Certificate, Ink, Row, View, blank_tail, is_same, put_ce
 use cur_wires::{Wire, WireFault};
 
 /// One cell, where it differs.
-fn mend_cell<C: Certificate, O: View, N: View, W: Wire>(checked: &C, belief: &mut Belief, wire: &mut W, old: &O, new: &N, row: usize, col: usize) -> Result<(), WireFault>
+fn mend_cell<C: Certificate, O: View, N: View, W: Wire>(
+    checked: &C,
+    belief: &mut Belief,
+    wire: &mut W,
+    old: &O,
+    new: &N,
+    row: usize,
+    col: usize,
+) -> Result<(), WireFault>
     requires drawable { CanShow (C.table checked.now) (N.cells new.now) }
     requires row { row < (C.table checked.now).rows }
     requires col { col < (C.table checked.now).cols }
@@ -27,7 +35,16 @@ fn mend_cell<C: Certificate, O: View, N: View, W: Wire>(checked: &C, belief: &mu
 }
 
 /// So many cells of a line from a column on.
-fn mend_span<C: Certificate, O: View, N: View, W: Wire>(checked: &C, belief: &mut Belief, wire: &mut W, old: &O, new: &N, row: usize, from: usize, count: usize) -> Result<(), WireFault>
+fn mend_span<C: Certificate, O: View, N: View, W: Wire>(
+    checked: &C,
+    belief: &mut Belief,
+    wire: &mut W,
+    old: &O,
+    new: &N,
+    row: usize,
+    from: usize,
+    count: usize,
+) -> Result<(), WireFault>
     requires drawable { CanShow (C.table checked.now) (N.cells new.now) }
     requires row { row < (C.table checked.now).rows }
     requires col { from + count ≤ (C.table checked.now).cols }
@@ -71,7 +88,15 @@ fn blank_from<N: View>(new: &N, row: usize, cols: usize) -> usize
 }
 
 /// A line's end that is to be blank: erased where that can be, or cell by cell.
-fn mend_tail<C: Certificate, O: View, N: View, W: Wire>(checked: &C, belief: &mut Belief, wire: &mut W, old: &O, new: &N, row: usize, from: usize) -> Result<(), WireFault>
+fn mend_tail<C: Certificate, O: View, N: View, W: Wire>(
+    checked: &C,
+    belief: &mut Belief,
+    wire: &mut W,
+    old: &O,
+    new: &N,
+    row: usize,
+    from: usize,
+) -> Result<(), WireFault>
     requires drawable { CanShow (C.table checked.now) (N.cells new.now) }
     requires row { row < (C.table checked.now).rows }
     requires col { from ≤ (C.table checked.now).cols }
@@ -92,7 +117,14 @@ fn mend_tail<C: Certificate, O: View, N: View, W: Wire>(checked: &C, belief: &mu
 }
 
 /// One line.
-fn mend_row<C: Certificate, O: View, N: View, W: Wire>(checked: &C, belief: &mut Belief, wire: &mut W, old: &O, new: &N, row: usize) -> Result<(), WireFault>
+fn mend_row<C: Certificate, O: View, N: View, W: Wire>(
+    checked: &C,
+    belief: &mut Belief,
+    wire: &mut W,
+    old: &O,
+    new: &N,
+    row: usize,
+) -> Result<(), WireFault>
     requires drawable { CanShow (C.table checked.now) (N.cells new.now) }
     requires row { row < (C.table checked.now).rows }
     ensures idle { OnOk result (span (O.cells old.now) (N.cells new.now) row 0 (C.table checked.now).cols ≡ 0 → belief.new ≡ belief.old) }
@@ -106,7 +138,13 @@ fn mend_row<C: Certificate, O: View, N: View, W: Wire>(checked: &C, belief: &mut
 }
 
 /// All lines.
-pub(crate) fn mend_rows<C: Certificate, O: View, N: View, W: Wire>(checked: &C, belief: &mut Belief, wire: &mut W, old: &O, new: &N) -> Result<(), WireFault>
+pub(crate) fn mend_rows<C: Certificate, O: View, N: View, W: Wire>(
+    checked: &C,
+    belief: &mut Belief,
+    wire: &mut W,
+    old: &O,
+    new: &N,
+) -> Result<(), WireFault>
     requires drawable { CanShow (C.table checked.now) (N.cells new.now) }
     ensures idle { OnOk result (all_differ (O.cells old.now) (N.cells new.now) (C.table checked.now).cols (C.table checked.now).rows ≡ 0 → belief.new ≡ belief.old) }
     ensures step { Steps W.went W.failures wire.old wire.new result (IsPiece (C.table checked.now)) (all_differ (O.cells old.now) (N.cells new.now) (C.table checked.now).cols (C.table checked.now).rows * cell_limit (C.table checked.now))

@@ -1,6 +1,6 @@
 //! A refresh: what differs where the terminal is known, and all anew where it isn't.
 ghost use Rattle.std.specs.Prelude.{◌≡◌, ℕ, List, true, Some, None, OnOk};
-ghost use Rattle.cur_looks.specs.declared.rows.Row.TheVariants.{Clear};
+ghost use Rattle.ti_rows.specs.declared.rows.Row.TheVariants.{Clear};
 ghost use Rattle.cur_looks.specs.Certified.{IsLost};
 ghost use Rattle.cur_looks.specs.Inks.{CanShow};
 ghost use Rattle.cur_looks.specs.Beliefs.{Agrees, CanHide};
@@ -87,7 +87,13 @@ impl View for Cleared {
 }
 
 /// From any lost state: all anew.
-fn repaint<C: Certificate, N: View, W: Wire>(checked: &C, belief: &mut Belief, wire: &mut W, new: &N, wanted: Wanted) -> Result<(), WireFault>
+fn repaint<C: Certificate, N: View, W: Wire>(
+    checked: &C,
+    belief: &mut Belief,
+    wire: &mut W,
+    new: &N,
+    wanted: Wanted,
+) -> Result<(), WireFault>
     requires drawable { CanShow (C.table checked.now) (N.cells new.now) }
     requires cursor { IsWithin (C.table checked.now) wanted.cursor }
     requires lines { CanHide (C.table checked.now) wanted.mode }
@@ -98,11 +104,25 @@ fn repaint<C: Certificate, N: View, W: Wire>(checked: &C, belief: &mut Belief, w
     let _ = checked.rows();
     *belief = start_belief();
     send_all(wire, checked.resync())?;
-    paint(checked, belief, wire, &Blank, new, wanted.cursor, wanted.mode)
+    paint(
+        checked,
+        belief,
+        wire,
+        &Blank,
+        new,
+        wanted.cursor,
+        wanted.mode,
+    )
 }
 
 /// From a known state: all is cleared, and painted anew.
-fn clear_first<C: Certificate, N: View, W: Wire>(checked: &C, belief: &mut Belief, wire: &mut W, new: &N, wanted: Wanted) -> Result<(), WireFault>
+fn clear_first<C: Certificate, N: View, W: Wire>(
+    checked: &C,
+    belief: &mut Belief,
+    wire: &mut W,
+    new: &N,
+    wanted: Wanted,
+) -> Result<(), WireFault>
     requires drawable { CanShow (C.table checked.now) (N.cells new.now) }
     requires cursor { IsWithin (C.table checked.now) wanted.cursor }
     requires lines { CanHide (C.table checked.now) wanted.mode }
@@ -117,11 +137,27 @@ fn clear_first<C: Certificate, N: View, W: Wire>(checked: &C, belief: &mut Belie
     };
     belief.place = Some(Place { row: 0, col: 0 });
     send_all(wire, checked.line(Row::Clear).unwrap())?;
-    paint(checked, belief, wire, &cleared, new, wanted.cursor, wanted.mode)
+    paint(
+        checked,
+        belief,
+        wire,
+        &cleared,
+        new,
+        wanted.cursor,
+        wanted.mode,
+    )
 }
 
 /// What differs where the terminal is known and isn't to be cleared, else all.
-fn draw<C: Certificate, O: View, N: View, W: Wire>(checked: &C, status: Status, belief: &mut Belief, wire: &mut W, old: &O, new: &N, wanted: Wanted) -> Result<(), WireFault>
+fn draw<C: Certificate, O: View, N: View, W: Wire>(
+    checked: &C,
+    status: Status,
+    belief: &mut Belief,
+    wire: &mut W,
+    old: &O,
+    new: &N,
+    wanted: Wanted,
+) -> Result<(), WireFault>
     requires drawable { CanShow (C.table checked.now) (N.cells new.now) }
     requires cursor { IsWithin (C.table checked.now) wanted.cursor }
     requires lines { CanHide (C.table checked.now) wanted.mode }
@@ -129,7 +165,15 @@ fn draw<C: Certificate, O: View, N: View, W: Wire>(checked: &C, status: Status, 
 {
     let _ = checked.rows();
     match (status, wanted.clear) {
-        (Status::Known, false) => paint(checked, belief, wire, old, new, wanted.cursor, wanted.mode),
+        (Status::Known, false) => paint(
+            checked,
+            belief,
+            wire,
+            old,
+            new,
+            wanted.cursor,
+            wanted.mode,
+        ),
         (Status::Known, true) => clear_first(checked, belief, wire, new, wanted),
         (Status::Fresh, _) => repaint(checked, belief, wire, new, wanted),
         (Status::Lost, _) => repaint(checked, belief, wire, new, wanted),
@@ -138,7 +182,14 @@ fn draw<C: Certificate, O: View, N: View, W: Wire>(checked: &C, status: Status, 
 
 /// Makes the terminal show the new screen. The old one is what it shows, where that is known. On
 /// `WireFault` a front of lawful bytes went out, and the session is lost.
-pub fn update<C: Certificate, O: View, N: View, W: Wire>(checked: &C, session: &mut Session, wire: &mut W, old: &O, new: &N, wanted: Wanted) -> Result<(), WireFault>
+pub fn update<C: Certificate, O: View, N: View, W: Wire>(
+    checked: &C,
+    session: &mut Session,
+    wire: &mut W,
+    old: &O,
+    new: &N,
+    wanted: Wanted,
+) -> Result<(), WireFault>
     requires drawable { CanShow (C.table checked.now) (N.cells new.now) }
     requires cursor { IsWithin (C.table checked.now) wanted.cursor }
     requires lines { CanHide (C.table checked.now) wanted.mode }

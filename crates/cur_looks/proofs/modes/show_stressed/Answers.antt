@@ -1,7 +1,7 @@
 use Rattle.std.proofs.Common.{◌≡◌, ◌+◌, ◌*◌, Some, None, true, false, arith, refl}
 use Rattle.std.proofs.lemmas.Result.{err_from_is_err_and}
 use Rattle.cur_steps.proofs.Stopping.{steps_nothing, steps_none, steps_fail, steps_next, steps_wider}
-use Rattle.cur_looks.specs.Rows.{Civis, Cnorm, Cvvis}
+use Rattle.ti_rows.specs.declared.rows.Row.TheVariants.{Civis, Cnorm, Cvvis}
 use Rattle.cur_looks.specs.Certified.{IsPiece, IsLost, has}
 use Rattle.cur_looks.specs.Beliefs.{Agrees, Belief, Hidden, Normal, Prominent, changes, modes_limit}
 use Rattle.cur_looks.proofs.Doing.{agrees_lost}

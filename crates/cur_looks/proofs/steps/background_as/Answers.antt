@@ -1,7 +1,7 @@
 use Rattle.std.proofs.Common.{◌≡◌, Option, Some, None, true, false, arith, refl, ap, sym, ◌∙◌}
 use Rattle.vt_term.specs.Color.{Color}
 use Rattle.cur_steps.proofs.Stopping.{steps_nothing}
-use Rattle.cur_looks.specs.Rows.{Op, Setab}
+use Rattle.ti_rows.specs.declared.rows.Row.TheVariants.{Op, Setab}
 use Rattle.cur_looks.specs.Certified.{IsPiece, IsLost, has}
 use Rattle.cur_looks.specs.Beliefs.{Agrees, Belief}
 use Rattle.cur_looks.proofs.Doing.{agrees_lost}

@@ -1,4 +1,4 @@
-use Rattle.cur_looks.specs.declared.rows.Row.TheVariants.{Clear}
+use Rattle.ti_rows.specs.declared.rows.Row.TheVariants.{Clear}
 use Rattle.cur_paint.proofs.Reaching.{IsThere, there}
 use Rattle.cur_paint.proofs.Renewing.{draws_fresh, draws_lost, draws_known, draws_clear}
 use Rattle.cur_paint.proofs.updates.draw.Goals as goal
