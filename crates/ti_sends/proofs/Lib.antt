@@ -1,2 +1,3 @@
 pub mod Valuing
 pub mod Walking
+pub mod Matching

@@ -1,11 +1,11 @@
 -- All parameter lists of a capability, one after another.
-use Rattle.std.proofs.Common.{◌≡◌, ◌<◌, ◌≤◌, ◌+◌, ◌-◌, ◌*◌, ◌==◌, ℕ, List, Option, None, Some, if◌then◌else◌, refl, sym, ap, subst, ◌∙◌, arith, below_more}
+use Rattle.std.proofs.Common.{◌≡◌, ◌<◌, ◌+◌, ◌-◌, ◌*◌, ◌==◌, ℕ, List, Option, None, if◌then◌else◌, refl, sym, ap, subst, ◌∙◌, arith, below_more}
 use Rattle.vt_term.specs.Size.{IsSize}
 use Rattle.ti_rows.specs.declared.rows.Row.{Row}
 use Rattle.ti_rows.specs.declared.rows.Row.TheVariants.{Cup, Hpa, Vpa, Cub, Cuf, Cuu, Cud, Ech, Sgr, Setaf, Setab, Csr}
 use Rattle.ti_rows.specs.Names.{order}
-use Rattle.ti_rows.specs.Lists.{IsInRange, above, next, rank, count, Follows, NextFollows, LastIsLast, RanksBelow, OneOfRank}
-use Rattle.ti_rows.proofs.Listing.{next_follows, last_is_last, ranks_below, one_of_rank}
+use Rattle.ti_rows.specs.Lists.{IsInRange, above, next, rank, count, Follows}
+use Rattle.ti_rows.proofs.Listing.{last_is_last, ranks_below, one_of_rank}
 use Rattle.ti_sends.specs.Agreeing.{LineSends, AllSend, SendsAt}
 
 -- how many lists the capability at a place has

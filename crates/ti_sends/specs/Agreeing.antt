@@ -1,11 +1,11 @@
 -- Whether lines are what an entry's string sends.
-use Rattle.std.specs.Prelude.{ℕ, ◌≡◌, ◌<◌, List, Option, Some}
+use Rattle.std.specs.Prelude.{ℕ, ◌≡◌, List, Option, Some}
 use Rattle.ti_rows.specs.declared.rows.Row.{Row}
 use Rattle.ti_rows.specs.Names.{order}
 use Rattle.ti_rows.specs.Lists.{IsInRange, rank}
 use Rattle.ti_sends.specs.Sends.{Sends}
 use Rattle.ti_sends.specs.declared.agreeing.AgreeFault.{AgreeFault}
-use Rattle.ti_sends.specs.declared.agreeing.AgreeFault.TheVariants.{Disagree, NoMemory}
+use Rattle.ti_sends.specs.declared.agreeing.AgreeFault.TheVariants.{Disagree, Unwanted, NoMemory}
 
 -- the row's line has the bytes that the string sends
 pub record LineSends (string : List ℕ) (line : Option (List ℕ)) (row : Row) : Type 0 where
@@ -22,6 +22,14 @@ abbrev pub SendsAt : ℕ → ℕ → List ℕ → (Row → Option (List ℕ)) �
 SendsAt rows cols string line_of n k = (row : Row) → order row ≡ n → IsInRange rows cols row → rank rows cols row ≡ k → LineSends string (line_of row) row
 
 -- a parameter list whose line is another, or isn't there
-abbrev pub IsDisagreement : ℕ → ℕ → List ℕ → (Row → Option (List ℕ)) → AgreeFault → Type 0
-IsDisagreement rows cols string line_of (Disagree row) = IsInRange rows cols row × (LineSends string (line_of row) row → ⊥)
-IsDisagreement rows cols string line_of NoMemory = Unit {0}
+abbrev pub IsDisagreement : ℕ → ℕ → List ℕ → (Row → Option (List ℕ)) → ℕ → AgreeFault → Type 0
+IsDisagreement rows cols string line_of n (Disagree row) = (order row ≡ n) × IsInRange rows cols row × (LineSends string (line_of row) row → ⊥)
+IsDisagreement rows cols string line_of n (Unwanted row) = ⊥
+IsDisagreement rows cols string line_of n NoMemory = Unit {0}
+
+-- the capability at a place has a line
+pub record SomeLine (line_of : Row → Option (List ℕ)) (n : ℕ) : Type 0 where
+  pub row : Row
+  pub of_cap : order row ≡ n
+  pub bytes : List ℕ
+  pub there : line_of row ≡ Some bytes

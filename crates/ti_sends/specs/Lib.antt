@@ -1,2 +1,3 @@
 pub mod Sends
 pub mod Agreeing
+pub mod Entries

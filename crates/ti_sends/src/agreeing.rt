@@ -1,6 +1,6 @@
 //! Whether lines are what an entry's strings send.
 
-ghost use Rattle.std.specs.Prelude.{◌≡◌, IfErr, List, OnOk, Option, ℕ, option_copied};
+ghost use Rattle.std.specs.Prelude.{◌≡◌, None, true, false, IfErr, List, OnOk, Option, ℕ, option_copied};
 ghost use Rattle.ti_rows.specs.Lists.{IsFirst, IsInRange};
 ghost use Rattle.ti_rows.specs.Names.{order};
 ghost use Rattle.ti_rows.specs.declared.rows.Row.{Row};
@@ -19,6 +19,11 @@ pub trait Lines {
     /// The bytes of the row's line, where there is one.
     fn line(&self, row: Row) -> Option<&[u8]>
         ensures { option_copied result ≡ line_of self.now row };
+
+    /// Whether the row's capability has a line, for whatever parameters.
+    fn has_any(&self, row: Row) -> bool
+        ensures some { result ≡ true → spec.SomeLine (line_of self.now) (order row) }
+        ensures none { result ≡ false → (other : Row) → order other ≡ order row → line_of self.now other ≡ None };
 }
 
 /// Why lines aren't those of an entry.
@@ -26,6 +31,8 @@ pub trait Lines {
 pub enum AgreeFault {
     /// The string sends other bytes for this row, or none, or there is no line.
     Disagree(Row),
+    /// The row's capability has a line, but the entry has no such string or it isn't checked.
+    Unwanted(Row),
     /// Out of memory.
     NoMemory,
 }
@@ -40,7 +47,7 @@ fn row_agrees<L: Lines>(
 ) -> Result<(), AgreeFault>
     requires { IsInRange size.rows size.cols row }
     ensures sends { OnOk result (spec.LineSends string.now (L.line_of lines.now row) row) }
-    ensures fault { IfErr result (spec.IsDisagreement size.rows size.cols string.now (L.line_of lines.now)) }
+    ensures fault { IfErr result (spec.IsDisagreement size.rows size.cols string.now (L.line_of lines.now) (order row)) }
 {
     let bytes = match send(alloc, string, row) {
         Ok(bytes) => bytes,
@@ -67,7 +74,7 @@ pub fn all_agree<L: Lines>(
 ) -> Result<(), AgreeFault>
     requires { IsFirst size.rows size.cols first }
     ensures sends { OnOk result (spec.AllSend size.rows size.cols string.now (L.line_of lines.now) (order first)) }
-    ensures fault { IfErr result (spec.IsDisagreement size.rows size.cols string.now (L.line_of lines.now)) }
+    ensures fault { IfErr result (spec.IsDisagreement size.rows size.cols string.now (L.line_of lines.now) (order first)) }
 {
     let mut row = first;
     loop {

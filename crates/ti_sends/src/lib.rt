@@ -3,7 +3,9 @@
 #![tactic(auto)]
 
 mod agreeing;
+mod entries;
 mod sending;
 
 pub use agreeing::{AgreeFault, Lines, all_agree};
+pub use entries::{Group, entry_agrees, is_checked};
 pub use sending::{Unsent, send};

@@ -21,7 +21,6 @@ pub enum Unsent {
     NoMemory,
 }
 
-
 /// The row's parameters, as a string takes them.
 fn values(row: Row) -> ArrayVec<Param<'static>, 9>
     ensures { values_of result.items ≡ spec.values row }

@@ -1,5 +1,4 @@
-use Rattle.std.proofs.Common.{sym, ◌∙◌, subst, ◌<◌, ◌≡◌, ◌+◌, ℕ}
-use Rattle.ti_rows.specs.Lists.{Follows, rank}
+use Rattle.std.proofs.Common.{sym, ◌∙◌, subst, ◌<◌, ℕ}
 use Rattle.ti_rows.specs.Names.{order}
 use Rattle.ti_rows.proofs.Listing.{next_follows}
 use Rattle.ti_sends.specs.Agreeing.{SendsAt}
@@ -18,7 +17,7 @@ loop-next-preserved g c =
       range = f.range;
       same = f.same_order ∙ c.loop-next.invariant.same;
       before = subst (λ (n : ℕ). (k : ℕ) → k < n → SendsAt c.args.size.rows c.args.size.cols c.args.string.now (g.L.Lines.line_of c.args.lines.now) (order c.args.first) k) (sym f.rank_next)
-        (one_more c.args.size.rows c.args.size.cols c.args.string.now (g.L.Lines.line_of c.args.lines.now) (order c.args.first) c.loop-next.row c.loop-next.invariant.range c.loop-next.invariant.same c.in_ok-row_agrees.ensures.sends c.loop-next.invariant.before);
+          (one_more c.args.size.rows c.args.size.cols c.args.string.now (g.L.Lines.line_of c.args.lines.now) (order c.args.first) c.loop-next.row c.loop-next.invariant.range c.loop-next.invariant.same c.in_ok-row_agrees.ensures.sends c.loop-next.invariant.before);
     }
 
 pub returns-in-None-clause-sends : goal.returns-in-None-clause-sends
