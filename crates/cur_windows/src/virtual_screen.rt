@@ -1,10 +1,10 @@
 //! The virtual screen and its colour pairs.
 ghost use Rattle.std.specs.Prelude.{◌≡◌, ◌<◌, ◌≤◌, ◌+◌, IfOk, IfSome, replicate};
-ghost use Rattle.cur_grid.specs.Grids.{Fits, line_at, moved_to};
+ghost use Rattle.cur_drawing.specs.Grids.{Fits, line_at, moved_to};
 ghost use Rattle.cur_windows.specs.VirtualScreen as spec;
 
 use crate::desks::blank_grid;
-use cur_grid::{Cell, PAIRS, Refusal, place_below};
+use cur_drawing::{Cell, PAIRS, Refusal, place_below};
 use grids::{Area, Grid, Place};
 use std::alloc::{AllocError, Global};
 use std::marker::Model;
