@@ -1,6 +1,6 @@
 //! Attributes and cells (X/Open Curses Issue 7, "Attributes", "Characters").
-ghost use Rattle.std.specs.Prelude.{⊤, ◌≡◌, ◌<◌, ◌≤◌, ◌-◌, ◌==◌, [], ◌∷◌, codes, bit_or, bit_and};
-ghost use Rattle.cur_drawing.specs.Cells.{IsPrinted, space, restyled};
+ghost use Rattle.std.specs.Prelude.{ℕ, length, slice_index_or, ⊤, ◌≡◌, ◌<◌, ◌≤◌, ◌-◌, ◌==◌, [], ◌∷◌, codes, bit_or, bit_and};
+ghost use Rattle.cur_drawing.specs.Cells.{IsPrinted, IsCell, space, restyled};
 
 use bitflags::{Flag, Flags, bitflag_items};
 use std::marker::Model;
@@ -161,5 +161,14 @@ impl Cell {
             self.attrs().without(was.attrs()).with(new.attrs()),
             pair,
         )
+    }
+}
+
+/// Each of these cells holds a character of 32 to 126 and a pair below 64, as every cell does.
+pub fn all_cells(cells: &[Cell])
+    ensures { (k : ℕ) → k < length cells.now → IsCell (slice_index_or cells.now k space) }
+{
+    for k in 0..cells.len() {
+        let _ = (cells[k].byte(), cells[k].pair());
     }
 }
