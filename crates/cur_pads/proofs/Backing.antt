@@ -1,13 +1,13 @@
 -- A refused call gives the desk, and the screen, back.
 use Rattle.std.proofs.Common.{ℕ, refl, Result, Ok, Err, ℤ, pos}
-use Rattle.cur_grid.specs.declared.refusals.Refusal.{Refusal}
-use Rattle.cur_grid.specs.declared.refusals.Refusal.TheVariants.{OutOfScreen, OutOfWindow}
-use Rattle.cur_grid.specs.Calls.{place}
+use Rattle.cur_drawing.specs.declared.refusals.Refusal.{Refusal}
+use Rattle.cur_drawing.specs.declared.refusals.Refusal.TheVariants.{OutOfScreen, OutOfWindow}
+use Rattle.cur_drawing.specs.Calls.{place}
 use Rattle.cur_windows.specs.Copying.{in_order}
 use Rattle.cur_windows.specs.Desks.{State, DeskStep, after}
 use Rattle.cur_windows.specs.Laws.{UnchangedIfRefused}
 use Rattle.cur_windows.specs.Making.{free, in_range, subwindow_added}
-use Rattle.cur_grid.specs.Spans.{rectangle, area_within}
+use Rattle.cur_drawing.specs.Spans.{rectangle, area_within}
 use Rattle.cur_windows.specs.Pads.{pad_added, part_shown}
 use Rattle.cur_windows.specs.VirtualScreen.{Screen, Refresh, if_shown}
 use Rattle.cur_pads.specs.Laws.{BothUnchangedIfRefused}

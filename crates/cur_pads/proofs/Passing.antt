@@ -2,15 +2,15 @@
 use Rattle.std.proofs.Common.{◌≡◌, ℕ, ◌+◌, ◌-◌, ◌<◌, ◌≤◌, ◌&&◌, ◌||◌, length, nat_le, nat_lt, Bool, true, false, refl, sym, ap, ◌∙◌, arith, if◌then◌else◌, Option, Some, None, Result, Ok, Err, ℤ, pos}
 use Rattle.std.proofs.lemmas.Bool.Decides.{nat_tests}
 use Rattle.grids.specs.declared.areas.Area.{Area}
-use Rattle.cur_grid.specs.declared.refusals.Refusal.{Refusal}
-use Rattle.cur_grid.specs.declared.refusals.Refusal.TheVariants.{BadRegion, PadKind, OutOfScreen, OutOfWindow}
-use Rattle.cur_grid.specs.Grids.{Grid, Fits, line_at, cell_at, copied, moved_to}
-use Rattle.cur_grid.specs.Calls.{place}
-use Rattle.cur_grid.specs.declared.spans.Span.{Span}
+use Rattle.cur_drawing.specs.declared.refusals.Refusal.{Refusal}
+use Rattle.cur_drawing.specs.declared.refusals.Refusal.TheVariants.{BadRegion, PadKind, OutOfScreen, OutOfWindow}
+use Rattle.cur_drawing.specs.Grids.{Grid, Fits, line_at, cell_at, copied, moved_to}
+use Rattle.cur_drawing.specs.Calls.{place}
+use Rattle.cur_drawing.specs.declared.spans.Span.{Span}
 use Rattle.cur_windows.specs.declared.slots.Slot.{Slot}
 use Rattle.cur_windows.specs.Copying.{in_order}
 use Rattle.cur_windows.specs.Desks.{State, IsDesk, IsPlaced, slot_of, grid_at, origin_at}
-use Rattle.cur_grid.specs.Spans.{rectangle}
+use Rattle.cur_drawing.specs.Spans.{rectangle}
 use Rattle.cur_windows.specs.Pads.{part_shown}
 use Rattle.cur_windows.specs.VirtualScreen.{Screen, Refresh, if_shown, refresh}
 use Rattle.cur_windows.specs.Places.{is_between}

@@ -4,10 +4,10 @@ use Rattle.std.proofs.lemmas.Bool.Decides.{nat_tests}
 use Rattle.grids.specs.declared.areas.Area.{Area}
 use Rattle.std.proofs.lemmas.List.{get_or_default}
 use Rattle.grids.specs.Grids as base
-use Rattle.cur_grid.specs.Cells.{Content, space}
-use Rattle.cur_grid.specs.Grids.{Grid, line_at, cell_at, copied, is_in, taken}
-use Rattle.cur_grid.specs.Calls.{place}
-use Rattle.cur_grid.proofs.Drawing.{cell_at-drawn}
+use Rattle.cur_drawing.specs.Cells.{Content, space}
+use Rattle.cur_drawing.specs.Grids.{Grid, line_at, cell_at, copied, is_in, taken}
+use Rattle.cur_drawing.specs.Calls.{place}
+use Rattle.cur_drawing.proofs.Drawing.{cell_at-drawn}
 use Rattle.cur_windows.specs.Places.{is_between}
 
 abbrev pub area_of : ℕ → ℕ → ℕ → ℕ → Area

@@ -2,12 +2,12 @@
 use Rattle.std.proofs.Common.{◌≡◌, ℕ, ◌&&◌, ◌||◌, nat_lt, not, [], ◌∷◌, Bool, true, false, Option, Some, None, Result, Ok, Err, ℤ, pos, refl, ◌∙◌, if◌then◌else◌}
 use Rattle.std.specs.Prelude.{is_some, int_lt}
 use Rattle.grids.specs.declared.areas.Area.{Area}
-use Rattle.cur_grid.specs.declared.refusals.Refusal.{Refusal}
-use Rattle.cur_grid.specs.declared.refusals.Refusal.TheVariants.{OutOfWindow, OutOfScreen, PadKind, BadRegion, NumberUsed, Full}
-use Rattle.cur_grid.specs.declared.spans.Span.{Span}
-use Rattle.cur_grid.specs.Calls.{place}
-use Rattle.cur_grid.specs.Refusals.{IsFirstOf, first_refusal}
-use Rattle.cur_grid.specs.Spans.{rectangle, is_negative}
+use Rattle.cur_drawing.specs.declared.refusals.Refusal.{Refusal}
+use Rattle.cur_drawing.specs.declared.refusals.Refusal.TheVariants.{OutOfWindow, OutOfScreen, PadKind, BadRegion, NumberUsed, Full}
+use Rattle.cur_drawing.specs.declared.spans.Span.{Span}
+use Rattle.cur_drawing.specs.Calls.{place}
+use Rattle.cur_drawing.specs.Refusals.{IsFirstOf, first_refusal}
+use Rattle.cur_drawing.specs.Spans.{rectangle, is_negative}
 use Rattle.cur_windows.specs.declared.slots.Slot.{Slot}
 use Rattle.cur_windows.specs.Copying.{in_order}
 use Rattle.cur_windows.specs.Desks.{State, DeskStep, after, slot_of, some_slot, window_at}

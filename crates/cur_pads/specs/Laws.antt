@@ -1,7 +1,7 @@
 -- What showing a part of a pad does to each place of the screen (X/Open Curses Issue 7, pnoutrefresh).
 use Rattle.std.specs.Prelude.{◌≡◌, ℕ, ◌+◌, ◌-◌, ◌<◌, ◌&&◌, length, Ok, Err, IfOk, if◌then◌else◌, ℤ, pos}
-use Rattle.cur_grid.specs.declared.refusals.Refusal.{Refusal}
-use Rattle.cur_grid.specs.Grids.{line_at, cell_at}
+use Rattle.cur_drawing.specs.declared.refusals.Refusal.{Refusal}
+use Rattle.cur_drawing.specs.Grids.{line_at, cell_at}
 use Rattle.cur_windows.specs.declared.slots.Slot.{Slot}
 use Rattle.cur_windows.specs.Desks.{State, cell, slot_of}
 use Rattle.cur_windows.specs.Places.{is_between}

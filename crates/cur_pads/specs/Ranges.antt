@@ -1,7 +1,7 @@
 -- Lines or columns that follow one another, and rectangles of them.
 use Rattle.std.specs.Prelude.{ℕ, ◌+◌, ◌-◌, nat_le, Option, Some, None, if◌then◌else◌, ℤ}
-use Rattle.cur_grid.specs.Windows.{place_below}
-use Rattle.cur_grid.specs.declared.spans.Span.{Span}
+use Rattle.cur_drawing.specs.Windows.{place_below}
+use Rattle.cur_drawing.specs.declared.spans.Span.{Span}
 
 abbrev pub up_to : ℕ → Option ℕ → Option Span
 up_to at (Some last) = Some (record { at = at; size = last - at + 1 })

@@ -1,9 +1,9 @@
 -- What each call is refused for, in the order of ranks. No condition depends on another one.
 use Rattle.std.specs.Prelude.{ℕ, ◌&&◌, ◌||◌, not, is_some, List, [], ◌∷◌, Bool, false, Option, Some, None, ℤ, int_lt, pos}
-use Rattle.cur_grid.specs.declared.refusals.Refusal.TheVariants.{NoWindow, OutOfWindow, OutOfScreen, PadKind, BadRegion, NumberUsed, Full}
-use Rattle.cur_grid.specs.declared.spans.Span.{Span}
-use Rattle.cur_grid.specs.Refusals.{Condition}
-use Rattle.cur_grid.specs.Spans.{is_negative}
+use Rattle.cur_drawing.specs.declared.refusals.Refusal.TheVariants.{NoWindow, OutOfWindow, OutOfScreen, PadKind, BadRegion, NumberUsed, Full}
+use Rattle.cur_drawing.specs.declared.spans.Span.{Span}
+use Rattle.cur_drawing.specs.Refusals.{Condition}
+use Rattle.cur_drawing.specs.Spans.{is_negative}
 use Rattle.cur_windows.specs.Desks.{State}
 use Rattle.cur_windows.specs.Refusals.{above_63, is_used, window_is, is_pad, lies_outside}
 use Rattle.cur_pads.specs.Making.{side}

@@ -1,10 +1,10 @@
 -- Showing a part of a pad (X/Open Curses Issue 7, pnoutrefresh).
 use Rattle.std.specs.Prelude.{ℕ, Ok, ℤ, pos, negsuc}
-use Rattle.cur_grid.specs.declared.refusals.Refusal.TheVariants.{OutOfScreen, OutOfWindow}
-use Rattle.cur_grid.specs.Calls.{place}
+use Rattle.cur_drawing.specs.declared.refusals.Refusal.TheVariants.{OutOfScreen, OutOfWindow}
+use Rattle.cur_drawing.specs.Calls.{place}
 use Rattle.cur_windows.specs.Copying.{in_order}
 use Rattle.cur_windows.specs.Desks.{State}
-use Rattle.cur_grid.specs.Spans.{rectangle}
+use Rattle.cur_drawing.specs.Spans.{rectangle}
 use Rattle.cur_windows.specs.Pads.{part_shown}
 use Rattle.cur_windows.specs.VirtualScreen.{Screen, Refresh, if_shown}
 use Rattle.cur_pads.specs.Making.{pad_of}

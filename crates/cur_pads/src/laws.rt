@@ -5,7 +5,7 @@ ghost use Rattle.cur_windows.specs.Laws.{UnchangedIfRefused};
 ghost use Rattle.cur_windows.specs.VirtualScreen.{Screen};
 ghost use Rattle.cur_pads.specs.Laws.{BothUnchangedIfRefused, ShowsCells};
 ghost use Rattle.cur_pads.specs.Making.{newpad, subpad};
-ghost use Rattle.cur_grid.specs.Refusals.{IsFirstOf};
+ghost use Rattle.cur_drawing.specs.Refusals.{IsFirstOf};
 ghost use Rattle.cur_pads.specs.Refusals as causes;
 ghost use Rattle.cur_pads.specs.Showing.{pnoutrefresh};
 

@@ -4,7 +4,7 @@ ghost use Rattle.cur_windows.specs.Desks.{step};
 ghost use Rattle.cur_pads.specs.Making as spec;
 
 use crate::checks::pad_size;
-use cur_grid::{Geometry, LONGEST, area_within};
+use cur_drawing::{Geometry, LONGEST, area_within};
 use cur_windows::{Desk, Refusal, in_range};
 
 /// A new pad of 1 to 1000 lines and as many columns (X/Open Curses, `newpad`). `Full` for a number above 63,

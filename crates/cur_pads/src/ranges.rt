@@ -3,7 +3,7 @@ ghost use Rattle.std.specs.Prelude.{◌≡◌, ◌+◌, ◌<◌, ◌≤◌, ◌�
 ghost use Rattle.cur_pads.specs.Ranges.{between, from};
 ghost use Rattle.cur_pads.specs.Showing as show;
 
-use cur_grid::Span;
+use cur_drawing::Span;
 
 /// The number, or 0 for a negative one.
 pub(crate) fn at_least_zero(n: i32) -> i32

@@ -5,7 +5,7 @@ ghost use Rattle.cur_pads.specs.Showing.{pnoutrefresh};
 
 use crate::checks::pad_size;
 use crate::ranges::{at_least_zero, between, from, start};
-use cur_grid::rectangle;
+use cur_drawing::rectangle;
 use cur_windows::{Desk, Place, Refusal, Virtual, in_order};
 
 /// The pad's cells from a row and a column on are copied to the rows `top` to `bottom` and columns `left` to `right` of the

@@ -5,17 +5,17 @@ use Rattle.std.proofs.lemmas.Bool.Decides.{nat_tests}
 use Rattle.std.proofs.lemmas.Bool.{cases_lt}
 use Rattle.std.proofs.lemmas.List.{get_or-set_same, get_or-set_other, length-set, length-replicate, get_or-replicate, get_or_past}
 use Rattle.grids.specs.declared.areas.Area.{Area}
-use Rattle.cur_grid.specs.declared.windows.Window.{Window}
-use Rattle.cur_grid.specs.Cells.{space}
-use Rattle.cur_grid.specs.Grids.{Grid, Fits, line_at, shape_of, blank}
-use Rattle.cur_grid.specs.Windows.{IsWindow, fresh}
-use Rattle.cur_grid.specs.Calls.{IsCanvas}
-use Rattle.cur_grid.proofs.Drawing.{fits_same}
+use Rattle.cur_drawing.specs.declared.windows.Window.{Window}
+use Rattle.cur_drawing.specs.Cells.{space}
+use Rattle.cur_drawing.specs.Grids.{Grid, Fits, line_at, shape_of, blank}
+use Rattle.cur_drawing.specs.Windows.{IsWindow, fresh}
+use Rattle.cur_drawing.specs.Calls.{IsCanvas}
+use Rattle.cur_drawing.proofs.Drawing.{fits_same}
 use Rattle.cur_windows.specs.declared.slots.Slot.{Slot}
 use Rattle.cur_windows.specs.declared.slots.Origin.{Origin}
 use Rattle.cur_windows.specs.Desks.{State, grid_at, origin_at, window_at, IsWhole, IsPlaced, IsFramed, IsDesk, whole_area, on_screen}
 use Rattle.cur_windows.specs.Making.{IsInFrame, root_added, inside, has_child, is_child, is_parent}
-use Rattle.cur_grid.specs.Spans.{IsAreaWithin}
+use Rattle.cur_drawing.specs.Spans.{IsAreaWithin}
 use Rattle.cur_windows.proofs.Closing.{placed_same, whole_same, some_kept, some_inj, is_some}
 
 pub no_some : (o : Option Slot) → o ≡ None → IsSome o → (A : Type 0) → A

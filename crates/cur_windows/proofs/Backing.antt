@@ -1,21 +1,21 @@
 -- A refused call gives the desk back.
 use Rattle.std.proofs.Common.{◌≡◌, ◌≢◌, ℕ, nat_lt, nat_le, List, [], Bool, true, false, Option, Some, None, Result, Ok, Err, ℤ, set, refl, sym, ap, ◌∙◌, if◌then◌else◌}
 use Rattle.std.proofs.lemmas.List.{set-get_or}
-use Rattle.cur_grid.specs.declared.puts.Put.{Put}
-use Rattle.cur_grid.specs.declared.refusals.Refusal.{Refusal}
-use Rattle.cur_grid.specs.declared.refusals.Refusal.TheVariants.{NoScroll, Full, BadRegion, OutOfWindow, OutOfScreen}
-use Rattle.cur_grid.specs.declared.windows.Window.{Window}
-use Rattle.cur_grid.specs.Grids.{Grid}
-use Rattle.cur_grid.specs.Windows as window_calls
-use Rattle.cur_grid.specs.Calls.{Canvas, CanvasStep, canvas}
-use Rattle.cur_grid.specs.Laws as acts
+use Rattle.cur_drawing.specs.declared.puts.Put.{Put}
+use Rattle.cur_drawing.specs.declared.refusals.Refusal.{Refusal}
+use Rattle.cur_drawing.specs.declared.refusals.Refusal.TheVariants.{NoScroll, Full, BadRegion, OutOfWindow, OutOfScreen}
+use Rattle.cur_drawing.specs.declared.windows.Window.{Window}
+use Rattle.cur_drawing.specs.Grids.{Grid}
+use Rattle.cur_drawing.specs.Windows as window_calls
+use Rattle.cur_drawing.specs.Calls.{Canvas, CanvasStep, canvas}
+use Rattle.cur_drawing.specs.Laws as acts
 use Rattle.cur_windows.specs.declared.copying.CopySpan.{CopySpan}
 use Rattle.cur_windows.specs.declared.slots.Slot.{Slot}
 use Rattle.cur_windows.specs.Copying as copying
 use Rattle.cur_windows.specs.Desks as desks
 use Rattle.cur_windows.specs.Desks.{State, DeskStep, after, grid_at, window_at, slot_of, some_slot, with_window, with_canvas}
 use Rattle.cur_windows.specs.Laws.{UnchangedIfRefused}
-use Rattle.cur_grid.specs.Spans as spans
+use Rattle.cur_drawing.specs.Spans as spans
 use Rattle.cur_windows.specs.Making as making
 
 some_found : (o : Option Slot) (s : Slot) → some_slot o ≡ Ok s → o ≡ Some s

@@ -3,11 +3,11 @@ use Rattle.std.proofs.Common.{◌≡◌, ℕ, ◌<◌, List, [], Option, Some, N
 use Rattle.std.proofs.lemmas.Bool.{cases_eq}
 use Rattle.std.proofs.lemmas.List.{get_or-set_same, get_or-set_other, length-set, get_or_default}
 use Rattle.grids.specs.declared.areas.Area.{Area}
-use Rattle.cur_grid.specs.declared.windows.Window.{Window}
-use Rattle.cur_grid.specs.Grids.{Grid, Fits, shape_of}
-use Rattle.cur_grid.specs.Windows.{IsWindow}
-use Rattle.cur_grid.specs.Calls.{IsCanvas, IsKept}
-use Rattle.cur_grid.proofs.Drawing.{fits_same, shape_of-line, shape_of-length}
+use Rattle.cur_drawing.specs.declared.windows.Window.{Window}
+use Rattle.cur_drawing.specs.Grids.{Grid, Fits, shape_of}
+use Rattle.cur_drawing.specs.Windows.{IsWindow}
+use Rattle.cur_drawing.specs.Calls.{IsCanvas, IsKept}
+use Rattle.cur_drawing.proofs.Drawing.{fits_same, shape_of-line, shape_of-length}
 use Rattle.cur_windows.specs.declared.slots.Slot.{Slot}
 use Rattle.cur_windows.specs.declared.slots.Origin.{Origin}
 use Rattle.cur_windows.specs.Desks.{State, grid_at, origin_at, window_at, IsWhole, IsPlaced, IsFramed, IsDesk}

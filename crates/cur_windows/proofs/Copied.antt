@@ -3,18 +3,18 @@ use Rattle.std.proofs.Common.{◌≡◌, ℕ, ◌+◌, ◌-◌, ◌<◌, ◌≤�
 use Rattle.std.proofs.lemmas.Bool.Decides.{nat_tests}
 use Rattle.grids.specs.declared.areas.Area.{Area}
 use Rattle.grids.specs.declared.areas.Place.{Place}
-use Rattle.cur_grid.specs.declared.refusals.Refusal.{Refusal}
-use Rattle.cur_grid.specs.declared.refusals.Refusal.TheVariants.{OutOfWindow}
-use Rattle.cur_grid.specs.Cells.{unless_space}
-use Rattle.cur_grid.specs.Grids.{Grid, cell_at, is_in, overlaid, combined, taken}
-use Rattle.cur_grid.proofs.Drawing.{cell_at-drawn_in_off}
+use Rattle.cur_drawing.specs.declared.refusals.Refusal.{Refusal}
+use Rattle.cur_drawing.specs.declared.refusals.Refusal.TheVariants.{OutOfWindow}
+use Rattle.cur_drawing.specs.Cells.{unless_space}
+use Rattle.cur_drawing.specs.Grids.{Grid, cell_at, is_in, overlaid, combined, taken}
+use Rattle.cur_drawing.proofs.Drawing.{cell_at-drawn_in_off}
 use Rattle.cur_windows.specs.declared.copying.CopySpan.{CopySpan}
 use Rattle.cur_windows.specs.declared.slots.Slot.{Slot}
 use Rattle.cur_windows.specs.Copying.{target_area, source_place, spans_copied, copied_or, matched, common, copy_span_at, copy_span_between, common_part, common_copied, copywin, in_order}
 use Rattle.cur_windows.specs.Desks.{State, DeskStep, IsDesk, IsPlaced, after, grid_at, window_at, slot_of}
 use Rattle.cur_windows.specs.Laws.{OnlyWithin}
 use Rattle.cur_windows.specs.Making.{in_range, window_only}
-use Rattle.cur_grid.specs.Spans.{start_within}
+use Rattle.cur_drawing.specs.Spans.{start_within}
 use Rattle.cur_windows.specs.VirtualScreen.{area_on_screen}
 use Rattle.cur_windows.proofs.Backing.{found_there}
 use Rattle.cur_windows.proofs.Sharing.{ok_inj}

@@ -3,13 +3,13 @@ use Rattle.std.proofs.Common.{ℤ, Option, Result, Ok, Err, ◌≡◌, ◌≢◌
 use Rattle.std.proofs.lemmas.List.{get_or-set_other, length-set, get_or_default, set-set, take_at}
 use Rattle.grids.specs.declared.areas.Area.{Area}
 use Rattle.grids.specs.declared.areas.Place.{Place}
-use Rattle.cur_grid.specs.Cells.{unless_space}
-use Rattle.cur_grid.specs.Grids.{Grid, overlaid, combined, taken, is_in, shape_of}
-use Rattle.cur_grid.proofs.Drawing.{shape_of-drawn}
+use Rattle.cur_drawing.specs.Cells.{unless_space}
+use Rattle.cur_drawing.specs.Grids.{Grid, overlaid, combined, taken, is_in, shape_of}
+use Rattle.cur_drawing.proofs.Drawing.{shape_of-drawn}
 use Rattle.cur_windows.specs.declared.copying.CopySpan.{CopySpan}
 use Rattle.cur_windows.specs.declared.slots.Slot.{Slot}
-use Rattle.cur_grid.specs.declared.refusals.Refusal.{Refusal}
-use Rattle.cur_grid.specs.declared.refusals.Refusal.TheVariants.{OutOfWindow}
+use Rattle.cur_drawing.specs.declared.refusals.Refusal.{Refusal}
+use Rattle.cur_drawing.specs.declared.refusals.Refusal.TheVariants.{OutOfWindow}
 use Rattle.cur_windows.specs.Desks.{State, DeskStep, IsDesk, slot_of, after}
 use Rattle.cur_windows.specs.Making.{in_range}
 use Rattle.cur_windows.specs.Copying.{spans_copied, target_area, source_place, copied_or, copywin, in_order, matched}

@@ -4,12 +4,12 @@ use Rattle.std.proofs.lemmas.Bool.{cases_eq, cases_lt}
 use Rattle.std.proofs.lemmas.Bool.Decides.{nat_tests}
 use Rattle.std.proofs.lemmas.List.{get_or-set_same, get_or-set_other, length-set, length-drop, length-take-le, get_or-take, get_or-drop, get_or_past, get_or_default}
 use Rattle.grids.specs.declared.areas.Area.{Area}
-use Rattle.cur_grid.specs.Cells.{Content, space}
-use Rattle.cur_grid.specs.Grids.{Grid, line_at, cell_at, one, filled, part_written, is_in, shape_of}
-use Rattle.cur_grid.proofs.Drawing.{shape_of-drawn, fits_same, cell_at-drawn_in, cell_at-drawn_in_off}
+use Rattle.cur_drawing.specs.Cells.{Content, space}
+use Rattle.cur_drawing.specs.Grids.{Grid, line_at, cell_at, one, filled, part_written, is_in, shape_of}
+use Rattle.cur_drawing.proofs.Drawing.{shape_of-drawn, fits_same, cell_at-drawn_in, cell_at-drawn_in_off}
 use Rattle.grids.specs.Grids as base
 use Rattle.grids.proofs.Drawing.{drawn_same}
-use Rattle.cur_grid.specs.declared.refusals.Refusal.{Refusal}
+use Rattle.cur_drawing.specs.declared.refusals.Refusal.{Refusal}
 use Rattle.cur_windows.specs.declared.slots.Slot.{Slot}
 use Rattle.cur_windows.specs.Desks.{State, IsDesk, IsPlaced, grid_at, slot_of, cell}
 use Rattle.cur_windows.specs.Rows.{IsLine, row_written, line_area, place_written, written_through}

@@ -4,13 +4,13 @@ use Rattle.std.proofs.lemmas.Bool.Decides.{nat_tests}
 use Rattle.std.proofs.lemmas.List.{get_or-set_same, get_or-set_other}
 use Rattle.grids.specs.declared.areas.Area.{Area}
 use Rattle.grids.specs.declared.areas.Place.{Place}
-use Rattle.cur_grid.specs.declared.refusals.Refusal.{Refusal}
-use Rattle.cur_grid.specs.declared.refusals.Refusal.TheVariants.{Full, NumberUsed, BadRegion, OutOfWindow}
-use Rattle.cur_grid.specs.Cells.{Content, copied_cell}
-use Rattle.cur_grid.specs.Grids.{Grid, Fits, is_in, line_at, cell_at, overlaid, blank}
-use Rattle.cur_grid.specs.Calls.{place}
-use Rattle.cur_grid.specs.Spans.{start_within}
-use Rattle.cur_grid.proofs.ByPlace.{copied_by_place, overlaid_by_place}
+use Rattle.cur_drawing.specs.declared.refusals.Refusal.{Refusal}
+use Rattle.cur_drawing.specs.declared.refusals.Refusal.TheVariants.{Full, NumberUsed, BadRegion, OutOfWindow}
+use Rattle.cur_drawing.specs.Cells.{Content, copied_cell}
+use Rattle.cur_drawing.specs.Grids.{Grid, Fits, is_in, line_at, cell_at, overlaid, blank}
+use Rattle.cur_drawing.specs.Calls.{place}
+use Rattle.cur_drawing.specs.Spans.{start_within}
+use Rattle.cur_drawing.proofs.ByPlace.{copied_by_place, overlaid_by_place}
 use Rattle.cur_windows.specs.declared.copying.CopySpan.{CopySpan}
 use Rattle.cur_windows.specs.declared.slots.Slot.{Slot}
 use Rattle.cur_windows.specs.Copying.{target_area, source_place, spans_copied, copied_or, matched, copy_span_at, copy_span_between, common_part, common_copied, copywin, in_order}

@@ -2,19 +2,19 @@
 use Rattle.std.proofs.Common.{◌≡◌, ℕ, ◌+◌, zero, suc, ◌==◌, ◌&&◌, ◌||◌, nat_lt, nat_le, not, [], ◌∷◌, Bool, true, false, Option, Some, None, Result, Ok, Err, ℤ, pos, refl, ap, ◌∙◌, if◌then◌else◌}
 use Rattle.std.specs.Prelude.{is_some, is_ok, int_lt, bit_xor, ◌-ℤ◌}
 use Rattle.grids.specs.declared.areas.Area.{Area}
-use Rattle.cur_grid.specs.declared.puts.Put.{Put}
-use Rattle.cur_grid.specs.declared.puts.Border.{Border}
-use Rattle.cur_grid.specs.declared.refusals.Refusal.{Refusal}
-use Rattle.cur_grid.specs.declared.refusals.Refusal.TheVariants.{NoWindow, OutOfWindow, OutOfScreen, HasChildren, IsSub, PadKind, NoScroll, BadRegion, NumberUsed, BadCell, Full, IsScreen, BadPair}
-use Rattle.cur_grid.specs.declared.spans.Span.{Span}
-use Rattle.cur_grid.specs.declared.windows.Window.{Window}
-use Rattle.cur_grid.specs.Calls as calls
-use Rattle.cur_grid.specs.Calls.{Canvas, CanvasStep, canvas}
-use Rattle.cur_grid.specs.Grids.{filled}
-use Rattle.cur_grid.specs.Refusals.{IsFirstOf, first_refusal}
-use Rattle.cur_grid.specs.Spans.{rectangle, span_within, is_negative, start_within}
-use Rattle.cur_grid.specs.Windows as window_calls
-use Rattle.cur_grid.specs.Windows.{WindowStep, cells_of, content, checked, is_printed, is_pair, place_below, as_is}
+use Rattle.cur_drawing.specs.declared.puts.Put.{Put}
+use Rattle.cur_drawing.specs.declared.puts.Border.{Border}
+use Rattle.cur_drawing.specs.declared.refusals.Refusal.{Refusal}
+use Rattle.cur_drawing.specs.declared.refusals.Refusal.TheVariants.{NoWindow, OutOfWindow, OutOfScreen, HasChildren, IsSub, PadKind, NoScroll, BadRegion, NumberUsed, BadCell, Full, IsScreen, BadPair}
+use Rattle.cur_drawing.specs.declared.spans.Span.{Span}
+use Rattle.cur_drawing.specs.declared.windows.Window.{Window}
+use Rattle.cur_drawing.specs.Calls as calls
+use Rattle.cur_drawing.specs.Calls.{Canvas, CanvasStep, canvas}
+use Rattle.cur_drawing.specs.Grids.{filled}
+use Rattle.cur_drawing.specs.Refusals.{IsFirstOf, first_refusal}
+use Rattle.cur_drawing.specs.Spans.{rectangle, span_within, is_negative, start_within}
+use Rattle.cur_drawing.specs.Windows as window_calls
+use Rattle.cur_drawing.specs.Windows.{WindowStep, cells_of, content, checked, is_printed, is_pair, place_below, as_is}
 use Rattle.cur_windows.specs.declared.copying.CopySpan.{CopySpan}
 use Rattle.cur_windows.specs.declared.slots.Slot.{Slot}
 use Rattle.cur_windows.specs.Copying as copying

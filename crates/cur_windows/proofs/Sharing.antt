@@ -4,19 +4,19 @@ use Rattle.std.proofs.lemmas.Bool.Decides.{nat_tests}
 use Rattle.std.proofs.lemmas.Int.{ints}
 use Rattle.std.proofs.lemmas.List.{get_or-set_same, get_or-set_other, get_or-take, get_or-drop}
 use Rattle.grids.specs.declared.areas.Area.{Area}
-use Rattle.cur_grid.specs.declared.refusals.Refusal.{Refusal}
-use Rattle.cur_grid.specs.declared.refusals.Refusal.TheVariants.{Full, BadRegion, OutOfWindow}
-use Rattle.cur_grid.specs.declared.windows.Window.{Window}
-use Rattle.cur_grid.specs.Cells.{Content, space}
-use Rattle.cur_grid.specs.Grids.{Grid, Fits, cell_at, line_at}
-use Rattle.cur_grid.specs.Windows.{fresh}
-use Rattle.cur_grid.specs.declared.spans.Span.{Span}
+use Rattle.cur_drawing.specs.declared.refusals.Refusal.{Refusal}
+use Rattle.cur_drawing.specs.declared.refusals.Refusal.TheVariants.{Full, BadRegion, OutOfWindow}
+use Rattle.cur_drawing.specs.declared.windows.Window.{Window}
+use Rattle.cur_drawing.specs.Cells.{Content, space}
+use Rattle.cur_drawing.specs.Grids.{Grid, Fits, cell_at, line_at}
+use Rattle.cur_drawing.specs.Windows.{fresh}
+use Rattle.cur_drawing.specs.declared.spans.Span.{Span}
 use Rattle.cur_windows.specs.declared.slots.Origin.{Origin}
 use Rattle.cur_windows.specs.declared.slots.Slot.{Slot}
 use Rattle.cur_windows.specs.Desks.{State, DeskStep, IsDesk, IsPlaced, after, grid_at, window_at, slot_of, cell}
 use Rattle.cur_windows.specs.Laws.{IsSubwindowOf}
 use Rattle.cur_windows.specs.Making.{in_range, free, inside, subwindow_added, subwindow_at, window_only, derwin, subwin, corner, root_added}
-use Rattle.cur_grid.specs.Spans.{area_within, span_within, rectangle, is_negative}
+use Rattle.cur_drawing.specs.Spans.{area_within, span_within, rectangle, is_negative}
 use Rattle.cur_windows.specs.Views.{window_cells}
 use Rattle.cur_windows.proofs.Closing.{some_inj}
 use Rattle.cur_windows.proofs.Adding.{no_some}

@@ -2,8 +2,8 @@
 use Rattle.std.proofs.Common.{◌≡◌, ℕ, ◌<◌, [], Option, Bool, IfSome, length, get_or, arith, ap, sym, subst, ◌∙◌}
 use Rattle.std.proofs.lemmas.List.{get_or_default}
 use Rattle.grids.specs.declared.areas.Place.{Place}
-use Rattle.cur_grid.specs.Grids.{Grid, shape_of}
-use Rattle.cur_grid.proofs.Drawing.{shape_of-line, shape_of-length}
+use Rattle.cur_drawing.specs.Grids.{Grid, shape_of}
+use Rattle.cur_drawing.proofs.Drawing.{shape_of-line, shape_of-length}
 use Rattle.cur_windows.specs.Desks.{State, IsDesk, grid_at}
 use Rattle.cur_windows.specs.VirtualScreen.{Screen, IsScreen}
 

@@ -2,8 +2,8 @@
 use Rattle.std.proofs.Common.{◌≡◌, ℕ, ◌+◌, ◌-◌, ◌<◌, ◌≤◌, List, [], length, take, drop, arith, ap, sym, subst, ◌∙◌}
 use Rattle.std.proofs.lemmas.List.{get_or-map, get_or-take, get_or-drop, length-map, length-take-le, length-drop}
 use Rattle.grids.specs.declared.areas.Area.{Area}
-use Rattle.cur_grid.specs.Cells.{Content}
-use Rattle.cur_grid.specs.Grids.{Grid, Fits, line_at}
+use Rattle.cur_drawing.specs.Cells.{Content}
+use Rattle.cur_drawing.specs.Grids.{Grid, Fits, line_at}
 use Rattle.cur_windows.specs.Views.{window_cells, cut}
 
 lines_there : (a : Area) (g : Grid) → Fits a g → length (take a.rows (drop a.top g)) ≡ a.rows

@@ -4,12 +4,12 @@ use Rattle.std.proofs.lemmas.Bool.{cases_eq}
 use Rattle.std.proofs.lemmas.Bool.Decides.{nat_tests}
 use Rattle.std.proofs.lemmas.List.{get_or-set_same, get_or-set_other}
 use Rattle.grids.specs.declared.areas.Area.{Area}
-use Rattle.cur_grid.specs.declared.refusals.Refusal.{Refusal}
-use Rattle.cur_grid.specs.declared.windows.Window.{Window}
-use Rattle.cur_grid.specs.Grids.{Grid, is_in, cell_at}
-use Rattle.cur_grid.specs.Windows.{WindowStep}
-use Rattle.cur_grid.specs.Calls.{Canvas, CanvasStep, canvas}
-use Rattle.cur_grid.specs.Laws.{IsLocal, Stays}
+use Rattle.cur_drawing.specs.declared.refusals.Refusal.{Refusal}
+use Rattle.cur_drawing.specs.declared.windows.Window.{Window}
+use Rattle.cur_drawing.specs.Grids.{Grid, is_in, cell_at}
+use Rattle.cur_drawing.specs.Windows.{WindowStep}
+use Rattle.cur_drawing.specs.Calls.{Canvas, CanvasStep, canvas}
+use Rattle.cur_drawing.specs.Laws.{IsLocal, Stays}
 use Rattle.cur_windows.specs.declared.slots.Slot.{Slot}
 use Rattle.cur_windows.specs.Desks as desks
 use Rattle.cur_windows.specs.Desks.{State, DeskStep, IsDesk, IsPlaced, after, grid_at, window_at, slot_of, with_window, with_canvas, cell}

@@ -3,15 +3,15 @@
 use Rattle.std.specs.Prelude.{ℕ, ◌+◌, ◌-◌, ◌≤◌, ◌||◌, nat_lt, min, max, slice_set, Bool, Option, Some, None, Result, Ok, Err, if◌then◌else◌, ℤ, int_lt}
 use Rattle.grids.specs.declared.areas.Area.{Area}
 use Rattle.grids.specs.declared.areas.Place.{Place}
-use Rattle.cur_grid.specs.declared.refusals.Refusal.{Refusal}
-use Rattle.cur_grid.specs.declared.refusals.Refusal.TheVariants.{BadRegion, OutOfWindow}
-use Rattle.cur_grid.specs.Grids.{overlaid}
-use Rattle.cur_grid.specs.Calls.{place}
+use Rattle.cur_drawing.specs.declared.refusals.Refusal.{Refusal}
+use Rattle.cur_drawing.specs.declared.refusals.Refusal.TheVariants.{BadRegion, OutOfWindow}
+use Rattle.cur_drawing.specs.Grids.{overlaid}
+use Rattle.cur_drawing.specs.Calls.{place}
 use Rattle.cur_windows.specs.declared.copying.CopySpan.{CopySpan}
 use Rattle.cur_windows.specs.declared.slots.Slot.{Slot}
 use Rattle.cur_windows.specs.Desks.{State, DeskStep, after, slot_of, grid_at}
 use Rattle.cur_windows.specs.Making.{in_range, window_only}
-use Rattle.cur_grid.specs.Spans.{start_within}
+use Rattle.cur_drawing.specs.Spans.{start_within}
 use Rattle.cur_windows.specs.VirtualScreen.{area_on_screen}
 
 -- the lines or columns lie in a source and a destination of so many

@@ -2,13 +2,13 @@
 -- parent's root, so that it shows and changes its parent's cells.
 use Rattle.std.specs.Prelude.{◌≡◌, ℕ, ◌+◌, ◌<◌, ◌≤◌, nat_lt, List, [], length, slice_index_or, slice_set, Bool, false, Option, Some, None, IsSome, Result, Ok, Err, if◌then◌else◌, replicate}
 use Rattle.grids.specs.declared.areas.Area.{Area}
-use Rattle.cur_grid.specs.declared.refusals.Refusal.{Refusal}
-use Rattle.cur_grid.specs.declared.refusals.Refusal.TheVariants.{NoWindow, Full}
-use Rattle.cur_grid.specs.declared.windows.Window.{Window}
-use Rattle.cur_grid.specs.Cells.{Content}
-use Rattle.cur_grid.specs.Grids.{Grid, line_at, cell_at, blank}
-use Rattle.cur_grid.specs.Windows.{WindowStep, fresh}
-use Rattle.cur_grid.specs.Calls.{Canvas, CanvasStep, IsCanvas, canvas}
+use Rattle.cur_drawing.specs.declared.refusals.Refusal.{Refusal}
+use Rattle.cur_drawing.specs.declared.refusals.Refusal.TheVariants.{NoWindow, Full}
+use Rattle.cur_drawing.specs.declared.windows.Window.{Window}
+use Rattle.cur_drawing.specs.Cells.{Content}
+use Rattle.cur_drawing.specs.Grids.{Grid, line_at, cell_at, blank}
+use Rattle.cur_drawing.specs.Windows.{WindowStep, fresh}
+use Rattle.cur_drawing.specs.Calls.{Canvas, CanvasStep, IsCanvas, canvas}
 use Rattle.cur_windows.specs.declared.slots.Origin.{Origin}
 use Rattle.cur_windows.specs.declared.slots.Slot.{Slot}
 

@@ -1,7 +1,7 @@
 -- What holds of the calls, whatever each of them does.
 use Rattle.std.specs.Prelude.{◌≡◌, ◌≢◌, ◌⊎◌, ℕ, ◌+◌, true, false, Err}
-use Rattle.cur_grid.specs.declared.refusals.Refusal.{Refusal}
-use Rattle.cur_grid.specs.Grids.{is_in, cell_at}
+use Rattle.cur_drawing.specs.declared.refusals.Refusal.{Refusal}
+use Rattle.cur_drawing.specs.Grids.{is_in, cell_at}
 use Rattle.cur_windows.specs.declared.slots.Slot.{Slot}
 use Rattle.cur_windows.specs.Desks.{State, DeskStep, grid_at, window_at}
 

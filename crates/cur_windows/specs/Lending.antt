@@ -1,9 +1,9 @@
 -- A line of a window that is lent for writing, as a slice of its cells.
 use Rattle.std.specs.Prelude.{ℕ, List, slice_set}
 use Rattle.std.specs.Borrow.{Lends, MutBor, Fml, Array, follows}
-use Rattle.cur_grid.specs.Cells.{Content}
-use Rattle.cur_grid.specs.Grids.{part_written}
-use Rattle.cur_grid.specs.contracts.cells.Cell.{the_row as cell_row}
+use Rattle.cur_drawing.specs.Cells.{Content}
+use Rattle.cur_drawing.specs.Grids.{part_written}
+use Rattle.cur_drawing.specs.contracts.cells.Cell.{the_row as cell_row}
 use Rattle.cur_windows.specs.Desks.{State, grid_at}
 use Rattle.cur_windows.specs.Rows.{row_written}
 use Rattle.cur_windows.specs.contracts.desks.Desk.{the_row as desk_row}

@@ -1,13 +1,13 @@
 -- Making, moving and deleting windows (X/Open Curses Issue 7, newwin, subwin, derwin, delwin, mvwin).
 use Rattle.std.specs.Prelude.{ℕ, ◌+◌, ◌<◌, ◌≤◌, ◌==◌, ◌&&◌, ◌||◌, nat_lt, not, List, [], ◌∷◌, length, slice_set, Bool, true, false, Option, Some, None, Result, Ok, Err, if◌then◌else◌, ℤ, pos, ◌-ℤ◌}
 use Rattle.grids.specs.declared.areas.Area.{Area}
-use Rattle.cur_grid.specs.declared.refusals.Refusal.{Refusal}
-use Rattle.cur_grid.specs.declared.refusals.Refusal.TheVariants.{Full, NumberUsed, OutOfScreen, OutOfWindow, PadKind, IsScreen, HasChildren, IsSub}
-use Rattle.cur_grid.specs.declared.windows.Window.{Window}
-use Rattle.cur_grid.specs.Grids.{Grid, blank, line_at, copied}
-use Rattle.cur_grid.specs.Windows.{fresh}
-use Rattle.cur_grid.specs.Calls.{place}
-use Rattle.cur_grid.specs.Spans.{area_within, start_within}
+use Rattle.cur_drawing.specs.declared.refusals.Refusal.{Refusal}
+use Rattle.cur_drawing.specs.declared.refusals.Refusal.TheVariants.{Full, NumberUsed, OutOfScreen, OutOfWindow, PadKind, IsScreen, HasChildren, IsSub}
+use Rattle.cur_drawing.specs.declared.windows.Window.{Window}
+use Rattle.cur_drawing.specs.Grids.{Grid, blank, line_at, copied}
+use Rattle.cur_drawing.specs.Windows.{fresh}
+use Rattle.cur_drawing.specs.Calls.{place}
+use Rattle.cur_drawing.specs.Spans.{area_within, start_within}
 use Rattle.cur_windows.specs.declared.slots.Origin.{Origin}
 use Rattle.cur_windows.specs.declared.slots.Slot.{Slot}
 use Rattle.cur_windows.specs.Desks.{State, DeskStep, after, slot_of, grid_at, origin_at, window_at, on_screen, whole_area}

@@ -3,11 +3,11 @@
 use Rattle.std.specs.Prelude.{ℕ, ◌+◌, ◌-◌, Bool, true, false, Option, Some, None, Result, Ok, Err, if◌then◌else◌}
 use Rattle.grids.specs.declared.areas.Area.{Area}
 use Rattle.grids.specs.declared.areas.Place.{Place}
-use Rattle.cur_grid.specs.declared.refusals.Refusal.{Refusal}
-use Rattle.cur_grid.specs.declared.windows.Window.{Window}
-use Rattle.cur_grid.specs.Grids.{blank, is_in, moved_to}
-use Rattle.cur_grid.specs.Windows.{fresh}
-use Rattle.cur_grid.specs.Calls.{place}
+use Rattle.cur_drawing.specs.declared.refusals.Refusal.{Refusal}
+use Rattle.cur_drawing.specs.declared.windows.Window.{Window}
+use Rattle.cur_drawing.specs.Grids.{blank, is_in, moved_to}
+use Rattle.cur_drawing.specs.Windows.{fresh}
+use Rattle.cur_drawing.specs.Calls.{place}
 use Rattle.cur_windows.specs.declared.slots.Slot.{Slot}
 use Rattle.cur_windows.specs.Desks.{State, slot_of, grid_at, origin_at, on_screen, whole_area, with_window}
 use Rattle.cur_windows.specs.Making.{root_added}

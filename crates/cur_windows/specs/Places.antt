@@ -1,7 +1,7 @@
 -- What copies leave, place by place (X/Open Curses Issue 7, noutrefresh, overlay, overwrite, copywin, dupwin).
 use Rattle.std.specs.Prelude.{◌≡◌, ◌≢◌, ℕ, ◌+◌, ◌-◌, ◌<◌, ◌&&◌, nat_le, length, Bool, if◌then◌else◌}
-use Rattle.cur_grid.specs.Cells.{copied_cell}
-use Rattle.cur_grid.specs.Grids.{is_in, line_at, cell_at}
+use Rattle.cur_drawing.specs.Cells.{copied_cell}
+use Rattle.cur_drawing.specs.Grids.{is_in, line_at, cell_at}
 use Rattle.cur_windows.specs.declared.slots.Slot.{Slot}
 use Rattle.cur_windows.specs.Desks.{State, cell}
 use Rattle.cur_windows.specs.Making.{corner}

@@ -1,11 +1,11 @@
 -- One line of a window that is lent for writing.
 use Rattle.std.specs.Prelude.{ℕ, List, ◌+◌, ◌<◌, nat_lt, slice_set, Result, Ok, Err, if◌then◌else◌}
 use Rattle.grids.specs.declared.areas.Area.{Area}
-use Rattle.cur_grid.specs.declared.refusals.Refusal.{Refusal}
-use Rattle.cur_grid.specs.declared.refusals.Refusal.TheVariants.{OutOfWindow}
-use Rattle.cur_grid.specs.Cells.{Content}
-use Rattle.cur_grid.specs.Grids.{one, filled, part_written}
-use Rattle.cur_grid.specs.Calls.{IsCanvas}
+use Rattle.cur_drawing.specs.declared.refusals.Refusal.{Refusal}
+use Rattle.cur_drawing.specs.declared.refusals.Refusal.TheVariants.{OutOfWindow}
+use Rattle.cur_drawing.specs.Cells.{Content}
+use Rattle.cur_drawing.specs.Grids.{one, filled, part_written}
+use Rattle.cur_drawing.specs.Calls.{IsCanvas}
 use Rattle.cur_windows.specs.declared.rows.RowMut.{RowMut}
 use Rattle.cur_windows.specs.declared.slots.Slot.{Slot}
 use Rattle.cur_windows.specs.Desks.{State, grid_at, slot_of}

@@ -1,9 +1,9 @@
 -- What is seen of a window: its cells, as a grid of its own.
 use Rattle.std.specs.Prelude.{◌+◌, ◌≤◌, ℕ, List, map, take, drop, Result, Ok, Err}
 use Rattle.grids.specs.declared.areas.Area.{Area}
-use Rattle.cur_grid.specs.declared.refusals.Refusal.{Refusal}
-use Rattle.cur_grid.specs.Cells.{Content}
-use Rattle.cur_grid.specs.Grids.{Grid, Fits}
+use Rattle.cur_drawing.specs.declared.refusals.Refusal.{Refusal}
+use Rattle.cur_drawing.specs.Cells.{Content}
+use Rattle.cur_drawing.specs.Grids.{Grid, Fits}
 use Rattle.cur_windows.specs.declared.slots.Slot.{Slot}
 use Rattle.cur_windows.specs.Desks.{State, grid_at, slot_of}
 

@@ -2,11 +2,11 @@
 use Rattle.std.specs.Prelude.{◌≡◌, ℕ, ◌+◌, ◌<◌, ◌||◌, ◌==◌, List, length, slice_index_or, slice_set, replicate, Bool, false, Option, Some, None, IfSome, Result, Ok, Err, if◌then◌else◌, ℤ}
 use Rattle.grids.specs.declared.areas.Area.{Area}
 use Rattle.grids.specs.declared.areas.Place.{Place}
-use Rattle.cur_grid.specs.declared.refusals.Refusal.{Refusal}
-use Rattle.cur_grid.specs.declared.refusals.Refusal.TheVariants.{BadPair}
-use Rattle.cur_grid.specs.Grids.{Grid, line_at, copied, blank}
-use Rattle.cur_grid.specs.Windows.{place_below}
-use Rattle.cur_grid.specs.Calls.{place}
+use Rattle.cur_drawing.specs.declared.refusals.Refusal.{Refusal}
+use Rattle.cur_drawing.specs.declared.refusals.Refusal.TheVariants.{BadPair}
+use Rattle.cur_drawing.specs.Grids.{Grid, line_at, copied, blank}
+use Rattle.cur_drawing.specs.Windows.{place_below}
+use Rattle.cur_drawing.specs.Calls.{place}
 use Rattle.cur_windows.specs.declared.slots.Slot.{Slot}
 use Rattle.cur_windows.specs.declared.virtual_screen.Colors.{Colors}
 use Rattle.cur_windows.specs.Desks.{State, grid_at, slot_of, with_window}

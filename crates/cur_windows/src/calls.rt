@@ -1,11 +1,11 @@
 //! The calls on one window.
 ghost use Rattle.std.specs.Prelude.{◌≡◌, bit_and, bit_or, ◌-◌};
 ghost use Rattle.cur_windows.specs.Desks as spec;
-ghost use Rattle.cur_grid.specs.Calls as call;
-ghost use Rattle.cur_grid.specs.Windows as window;
+ghost use Rattle.cur_drawing.specs.Calls as call;
+ghost use Rattle.cur_drawing.specs.Windows as window;
 
 use crate::desks::Desk;
-use cur_grid::{Attrs, Border, Put, Refusal};
+use cur_drawing::{Attrs, Border, Put, Refusal};
 
 // The calls on one window. Each refuses with `Full` a number above 63, and else with `NoWindow` one that names no
 // window; a refusal changes nothing, but for `NoScroll` and strings.

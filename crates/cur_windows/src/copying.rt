@@ -1,14 +1,14 @@
 //! Copying between windows: overlay, overwrite and copywin.
 ghost use Rattle.std.specs.Prelude.{◌≡◌, ◌<◌, ◌≤◌, ◌≤ℤ◌, ◌+◌, IfSome, OnOk, [], true, false, length, slice_index_or, slice_set};
-ghost use Rattle.cur_grid.specs.Grids.{Fits, overlaid, moved_to, shape_of};
-ghost use Rattle.cur_grid.specs.Calls.{IsCanvas};
+ghost use Rattle.cur_drawing.specs.Grids.{Fits, overlaid, moved_to, shape_of};
+ghost use Rattle.cur_drawing.specs.Calls.{IsCanvas};
 ghost use Rattle.cur_windows.specs.Desks as spec;
 ghost use Rattle.cur_windows.specs.Copying.{IsWithin, common, common_part, copied_or, copywin, in_order, matched, spans_copied};
 
 use crate::desks::Desk;
 use crate::making::in_range;
 use crate::slots::Slot;
-use cur_grid::{Cell, Refusal, SkipSpaces, start_within};
+use cur_drawing::{Cell, Refusal, SkipSpaces, start_within};
 use grids::{Area, Grid, Place};
 use std::mem;
 

@@ -1,11 +1,11 @@
 //! The desk: grids, and the windows that are rectangles of them.
 ghost use Rattle.std.specs.Prelude.{◌≡◌, ◌<◌, ◌≤◌, Some, None, IfOk, [], replicate, false};
-ghost use Rattle.cur_grid.specs.Grids.{blank};
+ghost use Rattle.cur_drawing.specs.Grids.{blank};
 ghost use Rattle.cur_windows.specs.Desks as spec;
 ghost use Rattle.cur_windows.specs.Desks.{IsPlaced, IsDesk};
 
 use crate::slots::{Origin, Slot};
-use cur_grid::{Cell, Refusal, Window};
+use cur_drawing::{Cell, Refusal, Window};
 use grids::{Area, Grid};
 use std::alloc::{AllocError, Global};
 use std::marker::Model;

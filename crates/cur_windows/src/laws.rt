@@ -1,15 +1,15 @@
 //! Laws of the calls, each for all desks.
 ghost use Rattle.std.specs.Prelude.{◌≡◌, ◌≢◌, ◌⊎◌, ℕ, ◌+◌, ◌<◌, Bool, false, List, length, slice_index_or, Some, None, Ok, Err, IfOk, ℤ, pos};
-ghost use Rattle.cur_grid.specs.Cells.{Content, space};
-ghost use Rattle.cur_grid.specs.Grids.{Grid, cell_at, is_in};
-ghost use Rattle.cur_grid.specs.Laws.{IsLocal};
-ghost use Rattle.cur_grid.specs.Calls as calls;
-ghost use Rattle.cur_grid.specs.Windows as window_calls;
+ghost use Rattle.cur_drawing.specs.Cells.{Content, space};
+ghost use Rattle.cur_drawing.specs.Grids.{Grid, cell_at, is_in};
+ghost use Rattle.cur_drawing.specs.Laws.{IsLocal};
+ghost use Rattle.cur_drawing.specs.Calls as calls;
+ghost use Rattle.cur_drawing.specs.Windows as window_calls;
 ghost use Rattle.cur_windows.specs.Copying as copying;
 ghost use Rattle.cur_windows.specs.Desks.{State, IsDesk, slot_of, window_at, grid_at, cell, on_window, on_grid, on_cursor, set, unchanged};
 ghost use Rattle.cur_windows.specs.Laws.{OnlyWithin, Apart, IsSubwindowOf, UnchangedIfRefused};
 ghost use Rattle.cur_windows.specs.Making as making;
-ghost use Rattle.cur_grid.specs.Refusals.{IsFirstOf};
+ghost use Rattle.cur_drawing.specs.Refusals.{IsFirstOf};
 ghost use Rattle.cur_windows.specs.Refusals as causes;
 ghost use Rattle.cur_windows.specs.Rows.{line_of, line_area, row_written, written_through};
 ghost use Rattle.cur_windows.specs.Places.{IsWindowShown, IsCopied, IsOverlaid, IsCopyOf};
@@ -18,7 +18,7 @@ ghost use Rattle.cur_windows.specs.VirtualScreen.{Screen, noutrefresh};
 
 use crate::desks::Desk;
 use crate::slots::{Origin, Slot};
-use cur_grid::{Border, Cell, Put, Refusal, Window};
+use cur_drawing::{Border, Cell, Put, Refusal, Window};
 
 /// A call on one window changes no cell outside the window's rectangle, and no other window. That what it does to the
 /// window and its grid stays inside is a law of each such call.

@@ -1,15 +1,15 @@
 //! Making, moving and deleting windows.
 ghost use Rattle.std.specs.Prelude.{◌≡◌, ◌<◌, ◌≤◌, ◌+◌, ◌⊎◌, Ok, Err, Some, None, IfOk, OnOk, length, slice_set, false, slice_index_or, ◌-ℤ◌, pos};
-ghost use Rattle.cur_grid.specs.Grids.{blank};
-ghost use Rattle.cur_grid.specs.Windows.{fresh};
-ghost use Rattle.cur_grid.specs.Calls.{IsCanvas};
-ghost use Rattle.cur_grid.specs.Spans.{IsAreaWithin};
+ghost use Rattle.cur_drawing.specs.Grids.{blank};
+ghost use Rattle.cur_drawing.specs.Windows.{fresh};
+ghost use Rattle.cur_drawing.specs.Calls.{IsCanvas};
+ghost use Rattle.cur_drawing.specs.Spans.{IsAreaWithin};
 ghost use Rattle.cur_windows.specs.Desks as spec;
 ghost use Rattle.cur_windows.specs.Making as make;
 
 use crate::desks::{Desk, WINDOWS, blank_grid};
 use crate::slots::{Origin, Slot};
-use cur_grid::{Cell, Geometry, Refusal, Window, area_within, start_within};
+use cur_drawing::{Cell, Geometry, Refusal, Window, area_within, start_within};
 use grids::{Area, Grid, Place};
 
 // Making, moving and deleting windows. A refusal changes nothing.

@@ -1,8 +1,8 @@
 //! What the crate of pads calls.
 ghost use Rattle.std.specs.Prelude.{◌≡◌, ◌<◌, ◌≤◌, ◌+◌, None, IfOk, IsOk, IfSome, MatchResult};
-ghost use Rattle.cur_grid.specs.Grids.{is_in};
-ghost use Rattle.cur_grid.specs.Windows.{IsWindow};
-ghost use Rattle.cur_grid.specs.Spans.{IsAreaWithin};
+ghost use Rattle.cur_drawing.specs.Grids.{is_in};
+ghost use Rattle.cur_drawing.specs.Windows.{IsWindow};
+ghost use Rattle.cur_drawing.specs.Spans.{IsAreaWithin};
 ghost use Rattle.cur_windows.specs.Desks as spec;
 ghost use Rattle.cur_windows.specs.Making as make;
 ghost use Rattle.cur_windows.specs.Pads.{is_pad, pad_added, part_cursor, part_shown};
@@ -10,7 +10,7 @@ ghost use Rattle.cur_windows.specs.Pads.{is_pad, pad_added, part_cursor, part_sh
 use crate::desks::{Desk, blank_grid};
 use crate::slots::Origin;
 use crate::virtual_screen::Virtual;
-use cur_grid::{Refusal, Window};
+use cur_drawing::{Refusal, Window};
 use grids::{Area, Place};
 use std::alloc::AllocError;
 

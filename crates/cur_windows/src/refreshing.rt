@@ -1,7 +1,7 @@
 //! Copying a window to the virtual screen.
 ghost use Rattle.std.specs.Prelude.{◌≡◌, ◌<◌, ◌≤◌, ◌+◌, IfSome, Some, None, if◌then◌else◌, false};
-ghost use Rattle.cur_grid.specs.Calls.{IsCanvas, place};
-ghost use Rattle.cur_grid.specs.Windows.{IsWindow};
+ghost use Rattle.cur_drawing.specs.Calls.{IsCanvas, place};
+ghost use Rattle.cur_drawing.specs.Windows.{IsWindow};
 ghost use Rattle.cur_windows.specs.Desks as spec;
 ghost use Rattle.cur_windows.specs.Making as make;
 ghost use Rattle.cur_windows.specs.VirtualScreen.{refresh, noutrefresh, area_on_screen, cursor_on_screen};
@@ -9,7 +9,7 @@ ghost use Rattle.cur_windows.specs.VirtualScreen.{refresh, noutrefresh, area_on_
 use crate::desks::Desk;
 use crate::slots::Slot;
 use crate::virtual_screen::Virtual;
-use cur_grid::{Cell, Refusal};
+use cur_drawing::{Cell, Refusal};
 use grids::{Area, Grid, Place};
 
 impl Desk {

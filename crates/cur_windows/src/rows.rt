@@ -1,13 +1,13 @@
 //! One line of a window, lent for writing.
 ghost use Rattle.std.specs.Prelude.{◌≡◌, ◌<◌, ◌≤◌, ◌+◌, ◌-◌, IfOk, length, take, drop, slice_set};
-ghost use Rattle.cur_grid.specs.Grids.{Fits, filled, line_at, one};
+ghost use Rattle.cur_drawing.specs.Grids.{Fits, filled, line_at, one};
 ghost use Rattle.cur_windows.specs.Desks as spec;
 ghost use Rattle.cur_windows.specs.Rows.{IsLine, line_of, lent_of, place_written};
 ghost use Rattle.cur_windows.specs.Views.{cut};
 
 use crate::desks::Desk;
 use crate::slots::Slot;
-use cur_grid::{Cell, Refusal};
+use cur_drawing::{Cell, Refusal};
 
 /// One line of a window that is lent for writing. While it is held, nothing else can be done with the desk.
 #[derive(Drop)]

@@ -3,7 +3,7 @@ ghost use Rattle.std.specs.Prelude.{◌≡◌};
 ghost use Rattle.cur_windows.specs.Sizes.{window_size};
 
 use crate::desks::Desk;
-use cur_grid::Refusal;
+use cur_drawing::Refusal;
 
 // How large the screen and its windows are.
 impl Desk {

@@ -1,5 +1,5 @@
 //! Where windows and their grids lie.
-use cur_grid::Window;
+use cur_drawing::Window;
 
 /// Where a grid lies on the screen, and whether it is a pad's, which lies nowhere.
 #[derive(Clone, Copy)]

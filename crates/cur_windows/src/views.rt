@@ -1,12 +1,12 @@
 //! A window's cells, for reading.
 ghost use Rattle.std.specs.Prelude.{◌≡◌, ◌<◌, ◌≤◌, ◌+◌, ℕ, length};
-ghost use Rattle.cur_grid.specs.Grids.{Grid, line_at};
+ghost use Rattle.cur_drawing.specs.Grids.{Grid, line_at};
 ghost use Rattle.cur_windows.specs.Desks as spec;
 ghost use Rattle.cur_windows.specs.Views.{IsSeen, seen, window_cells};
 
 use crate::desks::Desk;
 use crate::slots::Slot;
-use cur_grid::{Cell, Refusal};
+use cur_drawing::{Cell, Refusal};
 use grids::{Area, Grid};
 use std::marker::Model;
 
@@ -37,7 +37,7 @@ pub struct WindowView<'a> {
 }
 
 impl<'a> Model for WindowView<'a> {
-    ghost use Rattle.cur_grid.specs.Grids.{Grid};
+    ghost use Rattle.cur_drawing.specs.Grids.{Grid};
     ghost use Rattle.cur_windows.specs.Views.{IsSeen, window_cells};
 
     ghost Value = { Grid };

@@ -1,10 +1,11 @@
 //! The virtual screen and its colour pairs.
-ghost use Rattle.std.specs.Prelude.{◌≡◌, ◌<◌, ◌≤◌, ◌+◌, IfOk, IfSome, replicate};
-ghost use Rattle.cur_grid.specs.Grids.{Fits, line_at, moved_to};
+ghost use Rattle.std.specs.Prelude.{ℕ, length, slice_index_or, ◌≡◌, ◌<◌, ◌≤◌, ◌+◌, IfOk, IfSome, replicate};
+ghost use Rattle.cur_drawing.specs.Cells.{IsCell, space};
+ghost use Rattle.cur_drawing.specs.Grids.{Fits, line_at, moved_to};
 ghost use Rattle.cur_windows.specs.VirtualScreen as spec;
 
 use crate::desks::blank_grid;
-use cur_grid::{Cell, PAIRS, Refusal, place_below};
+use cur_drawing::{Cell, PAIRS, Refusal, all_cells, place_below};
 use grids::{Area, Grid, Place};
 use std::alloc::{AllocError, Global};
 use std::marker::Model;
@@ -59,13 +60,24 @@ impl Virtual {
         })
     }
 
-    /// One line. That it is on the screen is the caller's condition.
+    /// Its lines and columns.
+    pub fn size(&self) -> (u16, u16)
+        ensures { result ≡ ((self.now).rows, (self.now).cols) }
+    {
+        (self.rows, self.cols)
+    }
+
+    /// One line; each of its cells holds a character of 32 to 126 and a pair below 64. That it is on the screen is the
+    /// caller's condition.
     pub fn row(&self, y: u16) -> &[Cell]
         requires { y < (self.now).rows }
         ensures value { result.now ≡ line_at (self.now).grid y }
+        ensures cells { (x : ℕ) → x < length result.now → IsCell (slice_index_or result.now x space) }
         ensures legal { spec.IsScreen self.now }
     {
-        self.grid.line(y as usize)
+        let cells = self.grid.line(y as usize);
+        all_cells(cells);
+        cells
     }
 
     /// Where the cursor is to stand, or none where it may stand anywhere.

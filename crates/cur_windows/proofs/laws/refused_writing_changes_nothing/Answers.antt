@@ -1,5 +1,5 @@
-use Rattle.cur_grid.specs.Calls as calls
-use Rattle.cur_grid.proofs.Refusing as refusing
+use Rattle.cur_drawing.specs.Calls as calls
+use Rattle.cur_drawing.proofs.Refusing as refusing
 use Rattle.cur_windows.proofs.Backing as backing
 use Rattle.cur_windows.proofs.laws.refused_writing_changes_nothing.Goals as goal
 

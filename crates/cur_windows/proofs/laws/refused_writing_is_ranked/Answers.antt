@@ -1,5 +1,5 @@
 use Rattle.std.proofs.Common.{refl}
-use Rattle.cur_grid.specs.Calls as calls
+use Rattle.cur_drawing.specs.Calls as calls
 use Rattle.cur_windows.proofs.Ranks as ranks
 use Rattle.cur_windows.proofs.laws.refused_writing_is_ranked.Goals as goal
 

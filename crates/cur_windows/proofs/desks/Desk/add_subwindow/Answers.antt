@@ -1,5 +1,5 @@
 use Rattle.std.proofs.Common.{ap}
-use Rattle.cur_grid.specs.declared.windows.Window.{Window}
+use Rattle.cur_drawing.specs.declared.windows.Window.{Window}
 use Rattle.cur_windows.proofs.Adding.{subwindow_added_new}
 use Rattle.cur_windows.proofs.desks.Desk.add_subwindow.Goals as goal
 

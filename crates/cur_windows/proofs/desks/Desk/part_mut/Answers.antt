@@ -1,4 +1,4 @@
-use Rattle.cur_grid.specs.Grids.{part_written}
+use Rattle.cur_drawing.specs.Grids.{part_written}
 use Rattle.cur_windows.specs.Desks.{State}
 use Rattle.cur_windows.proofs.Lending.{closes_root, part_shape}
 use Rattle.cur_windows.proofs.desks.Desk.part_mut.Goals as goal

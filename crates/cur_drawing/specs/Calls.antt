@@ -1,0 +1,259 @@
+-- What a call does to one window and the grid under it (X/Open Curses Issue 7, the reference pages of the calls
+-- named). A step is the canvas after it and the answer; where it is a refusal, what was done before it stays.
+use Rattle.std.specs.Prelude.{◌≡◌, ℕ, ◌+◌, ◌-◌, ◌%◌, ◌==◌, ◌&&◌, ◌||◌, zero, suc, min, nat_lt, List, [], ◌∷◌, true, Result, Ok, Err, if◌then◌else◌, bit_xor, ℤ, pos, negsuc}
+use Rattle.grids.specs.declared.areas.Place.{Place}
+use Rattle.cur_drawing.specs.declared.puts.Put.{Put}
+use Rattle.cur_drawing.specs.declared.puts.Border.{Border}
+use Rattle.cur_drawing.specs.declared.refusals.Refusal.{Refusal}
+use Rattle.cur_drawing.specs.declared.refusals.Refusal.TheVariants.{NoScroll}
+use Rattle.cur_drawing.specs.declared.windows.Window.{Window}
+use Rattle.cur_drawing.specs.Cells.{Content}
+use Rattle.cur_drawing.specs.Grids.{Grid, Fits, filled, shifted, recolored, shape_of}
+use Rattle.cur_drawing.specs.Windows.{IsWindow, WindowStep, lines_of, cells_of, column_of, content, checked, is_printed, is_pair, count_to, as_is, IsPut}
+
+-- a window and the grid under it
+pub record Canvas : Type 0 where
+  pub grid : Grid
+  pub window : Window
+
+abbrev pub canvas : Grid → Window → Canvas
+canvas g w = record { grid = g; window = w }
+
+pub record IsCanvas (g : Grid) (w : Window) : Type 0 where
+  pub window : IsWindow w
+  pub fits : Fits w.area g
+
+-- after a step the window stands where it stood, and the grid has its shape
+pub record IsKept (g : Grid) (w : Window) (h : Grid) (v : Window) : Type 0 where
+  pub canvas : IsCanvas h v
+  pub shape : shape_of h ≡ shape_of g
+  pub area : v.area ≡ w.area
+
+abbrev pub CanvasStep : Type 0
+CanvasStep = Canvas × Result (Unit {0}) Refusal
+
+abbrev pub step : Grid → Window → Result (Unit {0}) Refusal → CanvasStep
+step g w r = (canvas g w, r)
+
+abbrev pub done : Grid → Window → CanvasStep
+done g w = (canvas g w, Ok tt)
+
+-- what follows is done only if nothing was refused, and what was done stands
+abbrev pub and_then : CanvasStep → (Canvas → CanvasStep) → CanvasStep
+and_then (s, Ok u) next = next s
+and_then (s, Err e) next = (s, Err e)
+
+-- the rest is done only if the check passes
+abbrev pub if_accepted : Result (Unit {0}) Refusal → Canvas → CanvasStep → CanvasStep
+if_accepted (Ok u) s rest = rest
+if_accepted (Err e) s rest = (s, Err e)
+
+-- a call on the window alone
+abbrev pub alone : (Window → WindowStep) → Canvas → CanvasStep
+alone act s = (canvas s.grid (act s.window).0, (act s.window).1)
+
+-- ---- shifting
+
+abbrev pub place : ℕ → ℕ → Place
+place row col = record { row = row; col = col }
+
+-- of `height` lines from `from` on, the upper n go, the others go up, and the background comes in below
+abbrev pub lines_up : Window → ℕ → ℕ → ℕ → Grid → Grid
+lines_up w from height n g =
+    filled (lines_of w (from + (height - min n height)) (min n height)) w.background
+    (shifted (lines_of w from (height - min n height)) (place (w.area.top + (from + min n height)) w.area.left) g)
+
+-- the lower n go, the others go down, and the background comes in above
+abbrev pub lines_down : Window → ℕ → ℕ → ℕ → Grid → Grid
+lines_down w from height n g =
+    filled (lines_of w from (min n height)) w.background
+    (shifted (lines_of w (from + min n height) (height - min n height)) (place (w.area.top + from) w.area.left) g)
+
+abbrev pub region_height : Window → ℕ
+region_height w = w.region_bottom + 1 - w.region_top
+
+-- the scrolling region up by n, down if negative
+abbrev pub scrolled : ℤ → Window → Grid → Grid
+scrolled (pos n) w g = lines_up w w.region_top (region_height w) n g
+scrolled (negsuc n) w g = lines_down w w.region_top (region_height w) (n + 1) g
+
+-- the cell comes in at the cursor, and the line's rest goes right
+abbrev pub inserted : Content → Window → Grid → Grid
+inserted c w g =
+    filled (cells_of w w.row w.col 1) c
+    (shifted (cells_of w w.row (w.col + 1) (w.area.cols - (w.col + 1))) (place (w.area.top + w.row) (w.area.left + w.col)) g)
+
+-- the cursor's cell goes, the line's rest goes left, and the background comes in at the line's end
+abbrev pub deleted : Window → Grid → Grid
+deleted w g =
+    filled (cells_of w w.row (w.area.cols - 1) 1) w.background
+    (shifted (cells_of w w.row w.col (w.area.cols - (w.col + 1))) (place (w.area.top + w.row) (w.area.left + (w.col + 1))) g)
+
+-- ---- erasing
+
+-- from the cursor to the line's end
+abbrev pub line_cleared : Window → Grid → Grid
+line_cleared w g = filled (cells_of w w.row w.col (w.area.cols - w.col)) w.background g
+
+-- and all lines below
+abbrev pub bottom_cleared : Window → Grid → Grid
+bottom_cleared w g = filled (lines_of w (w.row + 1) (w.area.rows - (w.row + 1))) w.background (line_cleared w g)
+
+-- erase
+abbrev pub erased : Canvas → CanvasStep
+erased s = done (filled s.window.area s.window.background s.grid) (record s.window { row = 0; col = 0 })
+
+-- clear
+abbrev pub cleared : Canvas → CanvasStep
+cleared s = done (filled s.window.area s.window.background s.grid) (record s.window { row = 0; col = 0; clears = true })
+
+-- ---- writing
+
+abbrev pub advanced : Canvas → CanvasStep
+advanced s =
+    if s.window.scrolls && (s.window.row == s.window.region_bottom) then
+    done (lines_up s.window s.window.region_top (region_height s.window) 1 s.grid) (record s.window { col = 0 })
+    else if (s.window.row + 1) == s.window.area.rows then (s, Err NoScroll)
+    else done s.grid (record s.window { row = s.window.row + 1; col = 0 })
+
+-- a character at the cursor
+abbrev pub written : Put → Canvas → CanvasStep
+written p s =
+    let g = filled (cells_of s.window s.window.row s.window.col 1) (content s.window p) s.grid in
+    if nat_lt (s.window.col + 1) s.window.area.cols then done g (record s.window { col = s.window.col + 1 })
+    else advanced (canvas g s.window)
+
+-- n times the same character
+abbrev pub written_times : ℕ → Put → Canvas → CanvasStep
+written_times zero p s = (s, Ok tt)
+written_times (suc n) p s = and_then (written p s) (λ t. written_times n p t)
+
+-- the spaces of a tab: to the next multiple of 8, or the line's end
+abbrev pub tab_width : Window → ℕ
+tab_width w = min (8 - w.col % 8) (w.area.cols - w.col)
+
+-- one byte below 128: newline, tab, backspace, return, the other controls as ^X, and the rest as they are
+abbrev pub character : Put → Canvas → CanvasStep
+character p s =
+    if p.byte == 10 then advanced (canvas (line_cleared s.window s.grid) s.window)
+    else if p.byte == 9 then written_times (tab_width s.window) (record p { byte = 32 }) s
+    else if p.byte == 8 then done s.grid (record s.window { col = s.window.col - 1 })
+    else if p.byte == 13 then done s.grid (record s.window { col = 0 })
+    else if nat_lt p.byte 32 || (p.byte == 127) then
+    and_then (written (record p { byte = 94 }) s) (λ t. written (record p { byte = bit_xor p.byte 64 }) t)
+    else written p s
+
+-- addch
+abbrev pub added : Put → Canvas → CanvasStep
+added p s = if_accepted (checked (nat_lt p.byte 128) (is_pair p.pair)) s (character p s)
+
+abbrev pub plain : ℕ → Put
+plain byte = record { byte = byte; attrs = record { 0 = 0 }; pair = 0 }
+
+-- addstr
+abbrev pub added_all : List ℕ → Canvas → CanvasStep
+added_all [] s = (s, Ok tt)
+added_all (b ∷ bs) s = and_then (added (plain b) s) (λ t. added_all bs t)
+
+-- ---- the other calls
+
+abbrev pub checked_cell : Put → Result (Unit {0}) Refusal
+checked_cell p = checked (is_printed p.byte) (is_pair p.pair)
+
+-- insch
+abbrev pub insert_char : Put → Canvas → CanvasStep
+insert_char p s = if_accepted (checked_cell p) s (done (inserted (content s.window p) s.window s.grid) s.window)
+
+-- hline, to the line's end at most
+abbrev pub horizontal : Put → ℤ → Canvas → CanvasStep
+horizontal p n s = if_accepted (checked_cell p) s
+    (done (filled (cells_of s.window s.window.row s.window.col (count_to n (s.window.area.cols - s.window.col))) (content s.window p) s.grid) s.window)
+
+-- vline, to the window's bottom at most
+abbrev pub vertical : Put → ℤ → Canvas → CanvasStep
+vertical p n s = if_accepted (checked_cell p) s
+    (done (filled (column_of s.window s.window.row s.window.col (count_to n (s.window.area.rows - s.window.row))) (content s.window p) s.grid) s.window)
+
+abbrev pub checked_border : Border → Result (Unit {0}) Refusal
+checked_border b = checked
+    ((is_printed b.left.byte && is_printed b.right.byte && is_printed b.top.byte && is_printed b.bottom.byte)
+    && (is_printed b.top_left.byte && is_printed b.top_right.byte) && (is_printed b.bottom_left.byte && is_printed b.bottom_right.byte))
+    ((is_pair b.left.pair && is_pair b.right.pair && is_pair b.top.pair && is_pair b.bottom.pair)
+    && (is_pair b.top_left.pair && is_pair b.top_right.pair) && (is_pair b.bottom_left.pair && is_pair b.bottom_right.pair))
+
+-- scroll
+abbrev pub scroll_by : ℤ → Canvas → CanvasStep
+scroll_by n s = if s.window.scrolls then done (scrolled n s.window s.grid) s.window else (s, Err NoScroll)
+
+-- bkgd: the cells' old background goes, the new one comes
+abbrev pub change_background : Put → Canvas → CanvasStep
+change_background p s = if_accepted (checked_cell p) s
+    (done (recolored s.window.area s.window.background (as_is p) s.grid) (record s.window { background = as_is p }))
+
+-- insertln, deleteln: to the window's bottom
+abbrev pub insert_line : Canvas → CanvasStep
+insert_line s = done (lines_down s.window s.window.row (s.window.area.rows - s.window.row) 1 s.grid) s.window
+
+abbrev pub delete_line : Canvas → CanvasStep
+delete_line s = done (lines_up s.window s.window.row (s.window.area.rows - s.window.row) 1 s.grid) s.window
+
+-- delch
+abbrev pub delete_char : Canvas → CanvasStep
+delete_char s = done (deleted s.window s.grid) s.window
+
+-- clrtoeol, clrtobot
+abbrev pub clear_line : Canvas → CanvasStep
+clear_line s = done (line_cleared s.window s.grid) s.window
+
+abbrev pub clear_bottom : Canvas → CanvasStep
+clear_bottom s = done (bottom_cleared s.window s.grid) s.window
+
+-- each part of the border is what a cell may hold
+pub record IsBorder (b : Border) : Type 0 where
+  pub left : IsPut b.left
+  pub right : IsPut b.right
+  pub top : IsPut b.top
+  pub bottom : IsPut b.bottom
+  pub top_left : IsPut b.top_left
+  pub top_right : IsPut b.top_right
+  pub bottom_left : IsPut b.bottom_left
+  pub bottom_right : IsPut b.bottom_right
+
+-- its four sides, top and bottom first
+abbrev pub sides : Border → Window → Grid → Grid
+sides b w g =
+    filled (column_of w 0 (w.area.cols - 1) w.area.rows) (content w b.right)
+    (filled (column_of w 0 0 w.area.rows) (content w b.left)
+    (filled (lines_of w (w.area.rows - 1) 1) (content w b.bottom)
+    (filled (lines_of w 0 1) (content w b.top) g)))
+
+abbrev pub corners : Border → Window → Grid → Grid
+corners b w g =
+    filled (cells_of w (w.area.rows - 1) (w.area.cols - 1) 1) (content w b.bottom_right)
+    (filled (cells_of w (w.area.rows - 1) 0 1) (content w b.bottom_left)
+    (filled (cells_of w 0 (w.area.cols - 1) 1) (content w b.top_right)
+    (filled (cells_of w 0 0 1) (content w b.top_left) g)))
+
+-- border: top, bottom, left and right side, and then the corners
+abbrev pub bordered : Border → Canvas → CanvasStep
+bordered b s = if_accepted (checked_border b) s (done (corners b s.window (sides b s.window s.grid)) s.window)
+
+-- ---- default cells: characters of the alternate set (X/Open Curses Issue 7, "Line drawing")
+abbrev pub drawn_line : ℕ → Put
+drawn_line byte = record { byte = byte; attrs = record { 0 = 128 }; pair = 0 }
+
+abbrev pub default_border : Border
+default_border = record {
+  left = drawn_line 120;
+  right = drawn_line 120;
+  top = drawn_line 113;
+  bottom = drawn_line 113;
+  top_left = drawn_line 108;
+  top_right = drawn_line 107;
+  bottom_left = drawn_line 109;
+  bottom_right = drawn_line 106;
+}
+
+-- box: the default corners
+abbrev pub box_of : Put → Put → Border
+box_of v h = record default_border { left = v; right = v; top = h; bottom = h }

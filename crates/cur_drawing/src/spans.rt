@@ -1,0 +1,93 @@
+//! Runs of lines or columns, and the rectangles that they make.
+ghost use Rattle.std.specs.Prelude.{◌≡◌, ◌<◌, ◌≤◌, ◌+◌, IfOk, IfSome, pos};
+ghost use Rattle.cur_drawing.specs.Spans.{IsAreaWithin, start_within, span_within, area_within, rectangle};
+
+use crate::refusals::Refusal;
+use grids::Area;
+
+/// A run of lines or columns: the first one, and how many.
+#[derive(Clone, Copy)]
+pub struct Span {
+    pub at: u16,
+    pub size: u16,
+}
+
+/// The lines or columns from a place on: so many, or all up to the limit where the number is 0. None where they aren't
+/// all below the limit.
+fn span_within(size: i32, at: i64, limit: u16) -> Option<Span>
+    ensures value { result ≡ span_within size at limit }
+    ensures within { IfSome result (λ s. (0 < s.size) × (s.at + s.size ≤ limit)) }
+{
+    if size < 0 || at < 0 || at >= limit as i64 {
+        return None;
+    }
+    let at = at as u16;
+    let room = limit - at;
+    if size == 0 {
+        return Some(Span { at, size: room });
+    }
+    if size > room as i32 {
+        return None;
+    }
+    Some(Span {
+        at,
+        size: size as u16,
+    })
+}
+
+/// The rectangle of these lines and columns.
+pub fn rectangle(rows: Option<Span>, cols: Option<Span>, outside: Refusal) -> Result<Area, Refusal>
+    ensures { result ≡ rectangle rows cols outside }
+{
+    let (Some(rows), Some(cols)) = (rows, cols) else {
+        return Err(outside);
+    };
+    Ok(Area {
+        top: rows.at,
+        left: cols.at,
+        rows: rows.size,
+        cols: cols.size,
+    })
+}
+
+/// The place of so many lines or columns, if they are all below the limit.
+pub fn start_within(at: i32, size: u16, limit: u16) -> Option<u16>
+    ensures value { result ≡ start_within at size limit }
+    ensures number { IfSome result (λ place. at ≡ pos place) }
+    ensures within { IfSome result (λ place. place + size ≤ limit) }
+{
+    if at < 0 || at as i64 + size as i64 > limit as i64 {
+        return None;
+    }
+    Some(at as u16)
+}
+
+/// The size and the place that a call asks for.
+#[derive(Clone, Copy)]
+pub struct Geometry {
+    pub lines: i32,
+    pub cols: i32,
+    pub y: i64,
+    pub x: i64,
+}
+
+/// The rectangle of a size at a place, in so many rows and columns. `BadRegion` for a negative size, else the given
+/// refusal where it doesn't lie in them.
+pub fn area_within(
+    height: u16,
+    width: u16,
+    geometry: Geometry,
+    outside: Refusal,
+) -> Result<Area, Refusal>
+    ensures value { result ≡ area_within height width geometry.lines geometry.cols geometry.y geometry.x outside }
+    ensures within { IfOk result (IsAreaWithin height width) }
+{
+    if geometry.lines < 0 || geometry.cols < 0 {
+        return Err(Refusal::BadRegion);
+    }
+    rectangle(
+        span_within(geometry.lines, geometry.y, height),
+        span_within(geometry.cols, geometry.x, width),
+        outside,
+    )
+}

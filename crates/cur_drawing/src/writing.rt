@@ -1,0 +1,285 @@
+//! Writing, drawing and scrolling in one window.
+ghost use Rattle.std.specs.Prelude.{◌≡◌, ◌<◌, ◌≤◌, ◌+◌, ◌-◌, min};
+ghost use Rattle.cur_drawing.specs.Cells.{IsPrinted};
+ghost use Rattle.cur_drawing.specs.Grids.{shape_of};
+ghost use Rattle.cur_drawing.specs.Windows.{IsWindow};
+ghost use Rattle.cur_drawing.specs.Calls.{IsCanvas, IsKept, canvas, step, done, advanced, written, written_times, character, added, added_all, erased, cleared, insert_char, horizontal, vertical, IsBorder, sides, corners, bordered, scrolled, scroll_by, change_background, tab_width, region_height};
+
+use crate::cells::Cell;
+use crate::puts::{Border, Put};
+use crate::refusals::Refusal;
+use crate::rules::Restyle;
+use crate::windows::{LONGEST, Window, count_to};
+use grids::Grid;
+
+// What a window writes into its grid.
+impl Window {
+    /// A character at the cursor, which goes on (`addch`). A space becomes the background's character; a newline clears
+    /// to the line's end and goes to the next one, a tab writes spaces, a backspace and a return move the cursor, any
+    /// other control is written as `^X`.
+    ///
+    /// `BadCell` for a byte above 127, else `BadPair` for a pair above 63: nothing has changed. `NoScroll` where the
+    /// cursor would leave the last line: what was written stands, the cursor stays where it was written last.
+    pub fn add(&mut self, grid: &mut Grid<Cell>, put: Put) -> Result<(), Refusal>
+        requires { IsCanvas grid.old self.old }
+        ensures value { step grid.new self.new result ≡ added put (canvas grid.old self.old) }
+        ensures kept { IsKept grid.old self.old grid.new self.new }
+    {
+        put.check_written()?;
+        self.add_character(grid, put)
+    }
+
+    /// A string at the cursor (`addstr`). It stops at the first refusal, and what was written before it stands.
+    pub fn add_all(&mut self, grid: &mut Grid<Cell>, text: &[u8]) -> Result<(), Refusal>
+        requires { IsCanvas grid.old self.old }
+        ensures value { step grid.new self.new result ≡ added_all text.now (canvas grid.old self.old) }
+        ensures kept { IsKept grid.old self.old grid.new self.new }
+    {
+        for byte in text {
+            self.add(grid, Put::plain(*byte))?;
+        }
+        Ok(())
+    }
+
+    /// The whole window is erased, and the cursor goes to its corner (`erase`).
+    pub fn erase(&mut self, grid: &mut Grid<Cell>)
+        requires { IsCanvas grid.old self.old }
+        ensures value { done grid.new self.new ≡ erased (canvas grid.old self.old) }
+        ensures kept { IsKept grid.old self.old grid.new self.new }
+    {
+        grid.fill(self.area, self.background);
+        self.row = 0;
+        self.col = 0;
+    }
+
+    /// As `erase`, and the screen is to be cleared at the next refresh of this window (`clear`).
+    pub fn clear(&mut self, grid: &mut Grid<Cell>)
+        requires { IsCanvas grid.old self.old }
+        ensures value { done grid.new self.new ≡ cleared (canvas grid.old self.old) }
+        ensures kept { IsKept grid.old self.old grid.new self.new }
+    {
+        self.erase(grid);
+        self.clears = true;
+    }
+
+    /// A character comes in at the cursor, and the line's rest goes right; the cursor stays (`insch`). `BadCell` for a
+    /// byte outside 32 to 126, else `BadPair`; then nothing has changed.
+    pub fn insert_char(&self, grid: &mut Grid<Cell>, put: Put) -> Result<(), Refusal>
+        requires { IsCanvas grid.old self.now }
+        ensures value { step grid.new self.now result ≡ insert_char put (canvas grid.old self.now) }
+        ensures shape { shape_of grid.new ≡ shape_of grid.old }
+    {
+        put.check_cell()?;
+        self.insert_cell(grid, self.content(put));
+        Ok(())
+    }
+
+    /// At most `n` cells from the cursor to the line's end, which stays (`hline`). `BadCell` for a byte outside 32 to
+    /// 126, else `BadPair`; then nothing has changed.
+    pub fn horizontal(&self, grid: &mut Grid<Cell>, put: Put, n: i32) -> Result<(), Refusal>
+        requires { IsCanvas grid.old self.now }
+        ensures value { step grid.new self.now result ≡ horizontal put n (canvas grid.old self.now) }
+        ensures shape { shape_of grid.new ≡ shape_of grid.old }
+    {
+        put.check_cell()?;
+        let n = count_to(n, self.area.cols - self.col);
+        self.fill_cells(grid, self.row, self.col, n, self.content(put));
+        Ok(())
+    }
+
+    /// At most `n` cells from the cursor to the window's bottom, which stays (`vline`). `BadCell` for a byte outside 32
+    /// to 126, else `BadPair`; then nothing has changed.
+    pub fn vertical(&self, grid: &mut Grid<Cell>, put: Put, n: i32) -> Result<(), Refusal>
+        requires { IsCanvas grid.old self.now }
+        ensures value { step grid.new self.now result ≡ vertical put n (canvas grid.old self.now) }
+        ensures shape { shape_of grid.new ≡ shape_of grid.old }
+    {
+        put.check_cell()?;
+        let n = count_to(n, self.area.rows - self.row);
+        self.fill_column(grid, self.row, self.col, n, self.content(put));
+        Ok(())
+    }
+
+    /// A border just inside the window's edges (`border`, `box`). `BadCell` for a byte outside 32 to 126 anywhere in it,
+    /// else `BadPair`; then nothing has changed.
+    pub fn draw_border(&self, grid: &mut Grid<Cell>, border: &Border) -> Result<(), Refusal>
+        requires { IsCanvas grid.old self.now }
+        ensures value { step grid.new self.now result ≡ bordered border.now (canvas grid.old self.now) }
+        ensures shape { shape_of grid.new ≡ shape_of grid.old }
+    {
+        border.check_cells()?;
+        self.draw_sides(grid, border);
+        self.draw_corners(grid, border);
+        Ok(())
+    }
+
+    /// The lines of the scrolling region go up by `n`, down if it is negative (`scroll`). `NoScroll` for a window that
+    /// may not scroll; then nothing has changed.
+    pub fn scroll(&self, grid: &mut Grid<Cell>, n: i32) -> Result<(), Refusal>
+        requires { IsCanvas grid.old self.now }
+        ensures value { step grid.new self.now result ≡ scroll_by n (canvas grid.old self.now) }
+        ensures shape { shape_of grid.new ≡ shape_of grid.old }
+    {
+        if !self.scrolls {
+            return Err(Refusal::NoScroll);
+        }
+        self.scroll_region(grid, n);
+        Ok(())
+    }
+
+    /// The background changes, in the cells too: its old character becomes the new one, its old attributes and pair the
+    /// new ones (`bkgd`). `BadCell` for a byte outside 32 to 126, else `BadPair`; then nothing has changed.
+    pub fn change_background(&mut self, grid: &mut Grid<Cell>, put: Put) -> Result<(), Refusal>
+        requires { IsCanvas grid.old self.old }
+        ensures value { step grid.new self.new result ≡ change_background put (canvas grid.old self.old) }
+        ensures kept { IsKept grid.old self.old grid.new self.new }
+    {
+        put.check_cell()?;
+        let new = Cell::new(put.byte, put.attrs, put.pair);
+        grid.redraw(
+            self.area,
+            &Restyle {
+                was: self.background,
+                new,
+            },
+        );
+        self.background = new;
+        Ok(())
+    }
+
+    fn draw_sides(&self, grid: &mut Grid<Cell>, border: &Border)
+        requires canvas { IsCanvas grid.old self.now }
+        requires border { IsBorder border.now }
+        ensures value { grid.new ≡ sides border.now self.now grid.old }
+        ensures shape { shape_of grid.new ≡ shape_of grid.old }
+    {
+        let last = self.area.rows - 1;
+        let right = self.area.cols - 1;
+        self.fill_lines(grid, 0, 1, self.content(border.top));
+        self.fill_lines(grid, last, 1, self.content(border.bottom));
+        self.fill_column(grid, 0, 0, self.area.rows, self.content(border.left));
+        self.fill_column(grid, 0, right, self.area.rows, self.content(border.right));
+    }
+
+    fn draw_corners(&self, grid: &mut Grid<Cell>, border: &Border)
+        requires canvas { IsCanvas grid.old self.now }
+        requires border { IsBorder border.now }
+        ensures value { grid.new ≡ corners border.now self.now grid.old }
+        ensures shape { shape_of grid.new ≡ shape_of grid.old }
+    {
+        let last = self.area.rows - 1;
+        let right = self.area.cols - 1;
+        self.fill_cells(grid, 0, 0, 1, self.content(border.top_left));
+        self.fill_cells(grid, 0, right, 1, self.content(border.top_right));
+        self.fill_cells(grid, last, 0, 1, self.content(border.bottom_left));
+        self.fill_cells(grid, last, right, 1, self.content(border.bottom_right));
+    }
+
+    fn scroll_region(&self, grid: &mut Grid<Cell>, n: i32)
+        requires { IsCanvas grid.old self.now }
+        ensures value { grid.new ≡ scrolled n self.now grid.old }
+        ensures shape { shape_of grid.new ≡ shape_of grid.old }
+    {
+        let height = self.region_bottom + 1 - self.region_top;
+        if n < 0 {
+            self.lines_down(grid, self.region_top, height, clamped(n.unsigned_abs()));
+        } else {
+            self.lines_up(grid, self.region_top, height, clamped(n.unsigned_abs()));
+        }
+    }
+
+    // The cursor goes to the next line.
+    fn advance(&mut self, grid: &mut Grid<Cell>) -> Result<(), Refusal>
+        requires { IsCanvas grid.old self.old }
+        ensures value { step grid.new self.new result ≡ advanced (canvas grid.old self.old) }
+        ensures kept { IsKept grid.old self.old grid.new self.new }
+    {
+        if self.scrolls && self.row == self.region_bottom {
+            let height = self.region_bottom + 1 - self.region_top;
+            self.lines_up(grid, self.region_top, height, 1);
+            self.col = 0;
+            return Ok(());
+        }
+        if self.row + 1 == self.area.rows {
+            return Err(Refusal::NoScroll);
+        }
+        self.row += 1;
+        self.col = 0;
+        Ok(())
+    }
+
+    // A character at the cursor, which moves on.
+    fn write(&mut self, grid: &mut Grid<Cell>, put: Put) -> Result<(), Refusal>
+        requires canvas { IsCanvas grid.old self.old }
+        requires byte { IsPrinted put.byte }
+        requires pair { put.pair < 64 }
+        ensures value { step grid.new self.new result ≡ written put (canvas grid.old self.old) }
+        ensures kept { IsKept grid.old self.old grid.new self.new }
+    {
+        self.fill_cells(grid, self.row, self.col, 1, self.content(put));
+        if self.col + 1 < self.area.cols {
+            self.col += 1;
+            return Ok(());
+        }
+        self.advance(grid)
+    }
+
+    fn write_times(&mut self, grid: &mut Grid<Cell>, n: u16, put: Put) -> Result<(), Refusal>
+        requires canvas { IsCanvas grid.old self.old }
+        requires byte { IsPrinted put.byte }
+        requires pair { put.pair < 64 }
+        ensures value { step grid.new self.new result ≡ written_times n put (canvas grid.old self.old) }
+        ensures kept { IsKept grid.old self.old grid.new self.new }
+    {
+        for _time in 0..n {
+            self.write(grid, put)?;
+        }
+        Ok(())
+    }
+
+    // One byte below 128.
+    fn add_character(&mut self, grid: &mut Grid<Cell>, put: Put) -> Result<(), Refusal>
+        requires canvas { IsCanvas grid.old self.old }
+        requires byte { put.byte < 128 }
+        requires pair { put.pair < 64 }
+        ensures value { step grid.new self.new result ≡ character put (canvas grid.old self.old) }
+        ensures kept { IsKept grid.old self.old grid.new self.new }
+    {
+        match put.byte {
+            b'\n' => {
+                self.clear_line(grid);
+                self.advance(grid)
+            }
+            b'\t' => {
+                let width = (8 - self.col % 8).min(self.area.cols - self.col);
+                self.write_times(grid, width, Put { byte: 32, ..put })
+            }
+            8 => {
+                self.col = self.col.saturating_sub(1);
+                Ok(())
+            }
+            b'\r' => {
+                self.col = 0;
+                Ok(())
+            }
+            0..32 | 127 => {
+                self.write(grid, Put { byte: b'^', ..put })?;
+                self.write(
+                    grid,
+                    Put {
+                        byte: put.byte ^ 64,
+                        ..put
+                    },
+                )
+            }
+            _ => self.write(grid, put),
+        }
+    }
+}
+
+// A number of lines that scrolls as far as this one: no window has more lines than that.
+fn clamped(n: u32) -> u16
+    ensures { result ≡ min n 1000 }
+{
+    n.min(LONGEST as u32) as u16
+}
