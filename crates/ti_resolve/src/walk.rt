@@ -47,7 +47,7 @@ fn lead(
 pub(crate) fn enter(
     alloc: Global,
     index: &Index<'_>,
-    depth: u32,
+    depth: usize,
     name: &[u8],
     place: usize,
     chain: &mut Vec<usize>,
@@ -79,7 +79,7 @@ pub(crate) fn enter(
 fn follow_all(
     alloc: Global,
     index: &Index<'_>,
-    depth: u32,
+    depth: usize,
     fields: &[Field],
     chain: &mut Vec<usize>,
     entered: &mut Vec<usize>,
@@ -98,7 +98,7 @@ fn follow_all(
 fn follow_field(
     alloc: Global,
     index: &Index<'_>,
-    depth: u32,
+    depth: usize,
     field: &Field,
     chain: &mut Vec<usize>,
     entered: &mut Vec<usize>,
@@ -117,7 +117,7 @@ fn follow_field(
 fn follow(
     alloc: Global,
     index: &Index<'_>,
-    depth: u32,
+    depth: usize,
     name: &[u8],
     chain: &mut Vec<usize>,
     entered: &mut Vec<usize>,
