@@ -1,7 +1,8 @@
 #!/bin/sh
 # How fast `ticurses feed` is beside libvterm (Debian: libvterm-dev): 16 MiB of each kind of stream that stream.awk
 # writes, at 24 by 80 and at 200 by 500, in megabytes a second of processor time over the whole run of either program,
-# the best of five, in turn. Both read the file and print the screen, and the screens must be the same.
+# the best of five, in turn. Both read the file and print the screen, and the screens must be the same. At 200 by 500
+# libvterm, which moves every cell to scroll, gets one of the 16 MiB.
 # feed.sh KIND..: those kinds alone. Without libvterm or a C compiler it says so and measures ticurses alone.
 set -eu
 cd -- "$(dirname -- "$0")"
@@ -29,9 +30,11 @@ measure() {
     for part in 1 2 3 4 5 6 7 8 9 10 11 12 13 14 15 16; do
         cat "$work/part"
     done >"$work/stream"
-    "$ours" feed "$2" "$3" "$work/stream" >"$work/ours"
+    share=stream
+    [ "$2" = 24 ] || share=part
+    "$ours" feed "$2" "$3" "$work/$share" >"$work/ours"
     if [ -n "$peer" ]; then
-        "$peer" "$2" "$3" "$work/stream" >"$work/theirs"
+        "$peer" "$2" "$3" "$work/$share" >"$work/theirs"
         if ! cmp -s "$work/ours" "$work/theirs"; then
             echo "feed: the screens of the stream $1 differ at $2 by $3" >&2
             exit 1
@@ -39,14 +42,16 @@ measure() {
     fi
     for turn in 1 2 3 4 5; do
         echo "ticurses $(seconds "$ours" feed "$2" "$3" "$work/stream")"
-        [ -z "$peer" ] || echo "libvterm $(seconds "$peer" "$2" "$3" "$work/stream")"
-    done | awk -v kind="$1" -v rows="$2" -v cols="$3" '
+        [ -z "$peer" ] || echo "libvterm $(seconds "$peer" "$2" "$3" "$work/$share")"
+    done | awk -v kind="$1" -v rows="$2" -v cols="$3" -v parts="$([ $share = part ] && echo 1 || echo 16)" '
         !($1 in best) || $2 < best[$1] { best[$1] = $2 }
         END {
-            size = 16 * 1048576 / 1000000
-            printf "%-10s %3d by %-4d ticurses %4.0f MB/s", kind, rows, cols, size / best["ticurses"]
-            if ("libvterm" in best)
-                printf ", libvterm %4.0f MB/s, ratio %.1f", size / best["libvterm"], best["libvterm"] / best["ticurses"]
+            ours = 16 * 1.048576 / best["ticurses"]
+            printf "%-10s %3d by %-4d ticurses %4.0f MB/s", kind, rows, cols, ours
+            if ("libvterm" in best) {
+                theirs = parts * 1.048576 / best["libvterm"]
+                printf ", libvterm %5.1f MB/s, ratio %.1f", theirs, ours / theirs
+            }
             printf "\n"
         }'
 }
