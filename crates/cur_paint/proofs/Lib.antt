@@ -3,3 +3,4 @@ pub mod Bounding
 pub mod Reaching
 pub mod Renewing
 pub mod Updating
+pub mod Ringing

@@ -1,10 +1,12 @@
 //! The painter's heart: from what a terminal is known to show to what it is to show.
 #![tactic(auto)]
 
+mod bells;
 mod laws;
 mod painting;
 mod rows;
 mod updates;
 
+pub use bells::{Unsent, beep};
 pub use laws::bounded;
 pub use updates::{Session, Status, Wanted, update};
