@@ -4,3 +4,4 @@ pub mod Reaching
 pub mod Renewing
 pub mod Updating
 pub mod Ringing
+pub mod Ending

@@ -36,12 +36,12 @@ rung_fresh t checked line is s h =
     let its : IsLine t Bel line = checked.lines Bel line is in
     ends_sized t.rows t.cols s line (Closed (Ended t Bel s.screen)) (IsFresh t) h.lost.sized
     (λ u sized k. by_screen t (IsFresh t) u s.screen sized k.rest k.screen.wants
-        (λ size. record {
-          lost = record { sized = size; tame = h.lost.tame; reached = h.lost.reached; margins = h.lost.margins; visible = h.lost.visible };
-          rest = refl;
-          whole = h.whole;
-          visible = h.visible;
-        }))
+    (λ size. record {
+      lost = record { sized = size; tame = h.lost.tame; reached = h.lost.reached; margins = h.lost.margins; visible = h.lost.visible };
+      rest = refl;
+      whole = h.whole;
+      visible = h.visible;
+    }))
     (its.drives.right s h.rest (record { any = record { screen = h.lost.sized.state.screen; rows_are = h.lost.sized.rows; cols_are = h.lost.sized.cols; tame = h.lost.tame }; top = h.whole.top; bottom = h.whole.bottom }))
 
 pub rung_fits : (t : Table) → IsChecked t → (line : List ℕ) → t.line_of Bel ≡ Some line → (status : Status) → (status ≡ Lost → ⊥) → (b : Belief) (g : ℕ → ℕ → Ink) (s : State) → Fits t g status b s → Ends s line (Fits t g status b)

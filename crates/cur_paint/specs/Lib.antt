@@ -3,3 +3,4 @@ pub mod Limits
 pub mod Cleared
 pub mod Update
 pub mod Beep
+pub mod Finish

@@ -20,7 +20,11 @@ pub enum Unsent {
 
 /// Rings the bell. It is refused where the entry has no `bel`, and then by a lost session; on a wire's
 /// fault a front of the string went out, and the session is lost.
-pub fn beep<C: Certificate, W: Wire>(checked: &C, session: &mut Session, wire: &mut W) -> Result<(), Unsent>
+pub fn beep<C: Certificate, W: Wire>(
+    checked: &C,
+    session: &mut Session,
+    wire: &mut W,
+) -> Result<(), Unsent>
     ensures beeps { Beeps W.went W.failures wire.old wire.new result (C.table checked.now) session.old session.new }
 {
     let _ = checked.rows();

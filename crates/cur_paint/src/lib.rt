@@ -2,11 +2,13 @@
 #![tactic(auto)]
 
 mod bells;
+mod endings;
 mod laws;
 mod painting;
 mod rows;
 mod updates;
 
 pub use bells::{Unsent, beep};
+pub use endings::finish;
 pub use laws::bounded;
 pub use updates::{Session, Status, Wanted, update};
