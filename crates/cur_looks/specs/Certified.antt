@@ -82,11 +82,12 @@ Activates Smacs c = is_graphic c ≡ true
 Activates Rmacs c = is_graphic c ≡ false
 Activates _ c = Unit {0}
 
--- the end of a row's line: as is wanted, and the sets settled as they were
+-- the end of a row's line: as is wanted, and the sets reached, and settled if they were
 pub record Ended (t : Table) (row : Row) (s u : Screen) : Type 0 where
   pub wants : Wants t.looks row s u
   pub settled : settles row ≡ true → t.settled s.charset ≡ true → t.settled u.charset ≡ true
   pub active : t.settled s.charset ≡ true → Activates row u.charset
+  pub reached : t.reached s.charset ≡ true → t.reached u.charset ≡ true
 
 abbrev pub limit_of : Table → Row → ℕ
 limit_of t (Cup r c) = t.longest.cup

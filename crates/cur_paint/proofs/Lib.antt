@@ -3,3 +3,5 @@ pub mod Bounding
 pub mod Reaching
 pub mod Renewing
 pub mod Updating
+pub mod Ringing
+pub mod Ending

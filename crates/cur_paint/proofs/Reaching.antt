@@ -30,7 +30,7 @@ use Rattle.cur_paint.specs.declared.updates.Wanted.{Wanted}
 use Rattle.cur_paint.proofs.Mixing.{agrees_as, agrees_at, mixed_put, row_done, all_done, none_done}
 
 -- what a line does
-line_ends : (t : Table) → IsChecked t → (row : Row) (bytes : List ℕ) → t.line_of row ≡ Some bytes → (g h : ℕ → ℕ → Ink) (b c : Belief) → Turns t row g b h c → (s : State) → Agrees t g b s → Ends s bytes (Agrees t h c)
+pub line_ends : (t : Table) → IsChecked t → (row : Row) (bytes : List ℕ) → t.line_of row ≡ Some bytes → (g h : ℕ → ℕ → Ink) (b c : Belief) → Turns t row g b h c → (s : State) → Agrees t g b s → Ends s bytes (Agrees t h c)
 line_ends t checked row bytes is g h b c turns s x =
     let line : IsLine t row bytes = checked.lines row bytes is in
     ends_sized t.rows t.cols s bytes (Closed (Ended t row s.screen)) (Agrees t h c) x.ready.sized (λ u sized k. turns.ends s u x sized k.rest k.screen) (line.drives.right s x.ready.rest (turns.starts s x))

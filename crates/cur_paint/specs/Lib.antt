@@ -2,3 +2,5 @@ pub mod Differ
 pub mod Limits
 pub mod Cleared
 pub mod Update
+pub mod Beep
+pub mod Finish

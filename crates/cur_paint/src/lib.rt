@@ -1,10 +1,14 @@
 //! The painter's heart: from what a terminal is known to show to what it is to show.
 #![tactic(auto)]
 
+mod bells;
+mod endings;
 mod laws;
 mod painting;
 mod rows;
 mod updates;
 
+pub use bells::{Unsent, beep};
+pub use endings::finish;
 pub use laws::bounded;
 pub use updates::{Session, Status, Wanted, update};

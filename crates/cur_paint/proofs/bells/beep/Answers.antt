@@ -1,0 +1,47 @@
+use Rattle.std.proofs.Common.{◌≡◌, ℕ, true, false, List, Some, refl, sym, ◌∙◌}
+use Rattle.ti_rows.specs.declared.rows.Row.TheVariants.{Bel}
+use Rattle.cur_paint.specs.declared.updates.Status.TheVariants.{Lost}
+use Rattle.cur_paint.proofs.Ringing.{rung_fits, rung_short}
+use Rattle.cur_paint.proofs.bells.beep.Goals as goal
+
+not_both : true ≡ false → ⊥
+not_both e = cc
+
+pub returns-in-Ok : goal.returns-in-Ok
+returns-in-Ok g c =
+    let t = g.C.Certificate.table c.args.checked.now in
+    let before = c.args.session.now in
+    let line : List ℕ = c.in-Some.line.now in
+    let is : t.line_of Bel ≡ Some line = c.in-Some.ensures.value in
+    let some : before.status ≡ Lost → ⊥ = λ e. not_both (sym (c.is_lost.ensures.only e) ∙ c.if-is_lost.false) in
+    record {
+      beeps = record {
+        line = line;
+        is = is;
+        sent = c.in-Ok.ensures.sends;
+        same = refl;
+        fits = rung_fits t c.rows.ensures.checked line is before.status some before.belief;
+      };
+    }
+
+pub returns-in-Err : goal.returns-in-Err
+returns-in-Err g c =
+    let t = g.C.Certificate.table c.args.checked.now in
+    let before = c.args.session.now in
+    let line : List ℕ = c.in-Some.line.now in
+    let is : t.line_of Bel ≡ Some line = c.in-Some.ensures.value in
+    let some : before.status ≡ Lost → ⊥ = λ e. not_both (sym (c.is_lost.ensures.only e) ∙ c.if-is_lost.false) in
+    let stops = c.in-Err.ensures.sends in
+    record {
+      beeps = record {
+        line = line;
+        is = is;
+        front = stops.front;
+        back = stops.back;
+        parts = stops.parts;
+        sent = stops.sent;
+        failed = stops.failed;
+        fits = rung_short t c.rows.ensures.checked line is before.status some before.belief stops.front stops.back stops.parts;
+        lost = refl;
+      };
+    }

@@ -1,0 +1,34 @@
+use Rattle.std.proofs.lemmas.Result.{err_from_is_err_and}
+use Rattle.std.proofs.Common.{refl}
+use Rattle.cur_paint.proofs.Ending.{finish_leads}
+use Rattle.cur_paint.proofs.endings.finish.Goals as goal
+
+pub returns-in_err-send_finish : goal.returns-in_err-send_finish
+returns-in_err-send_finish g c =
+    let e = err_from_is_err_and c.from_residual.result c.from_residual.ensures.1 in
+    let t = g.C.Certificate.table c.args.checked.now in
+    let before = c.args.session.now in
+    let stops = c.in_err-send_finish.ensures.sends in
+    rw e.1 (record {
+      finishes = record {
+        front = stops.front;
+        back = stops.back;
+        parts = stops.parts;
+        sent = stops.sent;
+        failed = stops.failed;
+        fits = λ h s fit. (finish_leads t c.rows.ensures.checked h before.status before.belief).leads.cut stops.front stops.back stops.parts s fit;
+        lost = refl;
+      };
+    })
+
+pub returns : goal.returns
+returns g c =
+    let t = g.C.Certificate.table c.args.checked.now in
+    let before = c.args.session.now in
+    record {
+      finishes = record {
+        sent = c.in_ok-send_finish.ensures.sends;
+        fits = λ h s fit. (finish_leads t c.rows.ensures.checked h before.status before.belief).leads.ends s fit;
+        fresh = refl;
+      };
+    }

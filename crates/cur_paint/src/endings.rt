@@ -1,0 +1,93 @@
+//! The end of a program's screen.
+ghost use Rattle.std.specs.Prelude.{◌≡◌};
+ghost use Rattle.cur_wires.specs.Wire.{Sends};
+ghost use Rattle.cur_paint.specs.declared.updates.Status.TheVariants.{Lost};
+ghost use Rattle.cur_paint.specs.Finish.{Finishes, end_text, finish_text, from_cnorm_text, from_cup_text, from_rmacs_text, text_of};
+
+use crate::updates::{Session, Status};
+use cur_looks::{Certificate, Row};
+use cur_wires::{Wire, WireFault, send_all};
+
+/// A row's line, if there is one.
+fn send_row<C: Certificate, W: Wire>(checked: &C, row: Row, wire: &mut W) -> Result<(), WireFault>
+    ensures sends { Sends W.went W.failures wire.old wire.new (text_of (C.table checked.now) row) result }
+{
+    match checked.line(row) {
+        Some(line) => send_all(wire, line),
+        None => Ok(()),
+    }
+}
+
+/// The cursor becomes visible, and the screen from before comes back.
+fn send_from_cnorm<C: Certificate, W: Wire>(checked: &C, wire: &mut W) -> Result<(), WireFault>
+    ensures sends { Sends W.went W.failures wire.old wire.new (from_cnorm_text (C.table checked.now)) result }
+{
+    send_row(checked, Row::Cnorm, wire)?;
+    send_row(checked, Row::Rmcup, wire)
+}
+
+/// The same, after the cursor went to the last line.
+fn send_from_cup<C: Certificate, W: Wire>(checked: &C, wire: &mut W) -> Result<(), WireFault>
+    ensures sends { Sends W.went W.failures wire.old wire.new (from_cup_text (C.table checked.now)) result }
+{
+    let row = Row::Cup(checked.rows() as u16 - 1, 0);
+    send_row(checked, row, wire)?;
+    send_from_cnorm(checked, wire)
+}
+
+/// The same, after the plain set became the active one.
+fn send_from_rmacs<C: Certificate, W: Wire>(checked: &C, wire: &mut W) -> Result<(), WireFault>
+    ensures sends { Sends W.went W.failures wire.old wire.new (from_rmacs_text (C.table checked.now)) result }
+{
+    send_row(checked, Row::Rmacs, wire)?;
+    send_from_cup(checked, wire)
+}
+
+/// The same, after all attributes went off.
+fn send_end<C: Certificate, W: Wire>(checked: &C, wire: &mut W) -> Result<(), WireFault>
+    ensures sends { Sends W.went W.failures wire.old wire.new (end_text (C.table checked.now)) result }
+{
+    send_row(checked, Row::Sgr0, wire)?;
+    send_from_rmacs(checked, wire)
+}
+
+/// The same, after the resynchronization.
+fn send_anew<C: Certificate, W: Wire>(checked: &C, wire: &mut W) -> Result<(), WireFault>
+    ensures sends { Sends W.went W.failures wire.old wire.new (finish_text (C.table checked.now) Lost) result }
+{
+    send_all(wire, checked.resync())?;
+    send_end(checked, wire)
+}
+
+/// What a session of this status ends with.
+fn send_finish<C: Certificate, W: Wire>(
+    checked: &C,
+    status: Status,
+    wire: &mut W,
+) -> Result<(), WireFault>
+    ensures sends { Sends W.went W.failures wire.old wire.new (finish_text (C.table checked.now) status) result }
+{
+    match status {
+        Status::Fresh => Ok(()),
+        Status::Known => send_end(checked, wire),
+        Status::Lost => send_anew(checked, wire),
+    }
+}
+
+/// Ends a program's screen: sends `sgr0`, `rmacs`, `cup` to the last line's first column, `cnorm` and
+/// `rmcup`, those that the entry has, after the resynchronization if the session is lost; nothing if it is
+/// fresh. Then it is fresh. On a wire's fault a front of that went out, and the session is lost.
+pub fn finish<C: Certificate, W: Wire>(
+    checked: &C,
+    session: &mut Session,
+    wire: &mut W,
+) -> Result<(), WireFault>
+    ensures finishes { Finishes W.went W.failures wire.old wire.new result (C.table checked.now) session.old session.new }
+{
+    let _ = checked.rows();
+    let status = session.status;
+    session.status = Status::Lost;
+    send_finish(checked, status, wire)?;
+    session.status = Status::Fresh;
+    Ok(())
+}
