@@ -14,7 +14,7 @@ use Rattle.vt_term.specs.Run.{Runs, Sticks}
 use Rattle.vt_term.specs.Screen.{State, reset}
 use Rattle.vt_term.specs.Size.{IsSize}
 use Rattle.vt_term.specs.declared.terminals.Stuck.{Stuck}
-use Rattle.ti_commands.specs.Expanding.{Asked, FailsToExpand, IsExpanded, JudgesCup, Shows, ShowsCursor, TellsParm, cursor_line, escape_failure, no_line, serves, misses}
+use Rattle.ti_commands.specs.Expanding.{Asked, FailsToExpand, IsExpanded, JudgesCup, Shows, ShowsCursor, IsParmFailure, cursor_line, escape_failure, no_line, serves, misses}
 use Rattle.ti_commands.specs.declared.expansion.Expansion.{Expansion}
 use Rattle.ti_commands.specs.declared.failure.Failure.{Failure}
 use Rattle.ti_commands.specs.declared.failure.Failure.TheVariants.{Refused, RefusedUnwritten, Usage, File, Output, NoMemory}
@@ -31,7 +31,7 @@ escape_fails words asked escape_faults.BadEscape size h = (asked, size, h)
 escape_fails words asked escape_faults.TooLong size h = (asked, size, h)
 escape_fails words asked escape_faults.NoMemory size h = tt
 
-pub sending_fails : (words : Expansion) (asked : Asked words) (string : List ℕ) (e : Failure) → IsSize asked.rows asked.cols → unescaped words.string.now ≡ Ok string → TellsParm string asked.values e → FailsToExpand words e
+pub sending_fails : (words : Expansion) (asked : Asked words) (string : List ℕ) (e : Failure) → IsSize asked.rows asked.cols → unescaped words.string.now ≡ Ok string → IsParmFailure string asked.values e → FailsToExpand words e
 sending_fails words asked string (Refused refusals.Size) size q h = absurd h
 sending_fails words asked string (Refused (refusals.Escape fault)) size q h = absurd h
 sending_fails words asked string (Refused (refusals.Parm fault)) size q h = (asked, size, (string, q, h))
@@ -68,10 +68,10 @@ pub escape_told : (words : Expansion) (asked : Asked words) (text : List ℕ) (f
 escape_told words asked text fault e size t h q =
     subst (λ (f : Failure). FailsToExpand words f) (sym q) (escape_fails words asked fault size (subst (λ (l : List ℕ). FailsBy fault (unescaped l)) t h))
 
-pub sending_told : (words : Expansion) (asked : Asked words) (text string slice : List ℕ) (given : List Param) (e : Failure) → IsSize asked.rows asked.cols → text ≡ words.string.now → unescaped text ≡ Ok string → slice ≡ string → values_of given ≡ asked.values → TellsParm slice (values_of given) e → FailsToExpand words e
+pub sending_told : (words : Expansion) (asked : Asked words) (text string slice : List ℕ) (given : List Param) (e : Failure) → IsSize asked.rows asked.cols → text ≡ words.string.now → unescaped text ≡ Ok string → slice ≡ string → values_of given ≡ asked.values → IsParmFailure slice (values_of given) e → FailsToExpand words e
 sending_told words asked text string slice given e size t u s g h =
     sending_fails words asked string e size (ap unescaped (sym t) ∙ u)
-    (subst (λ (l : List ℕ). TellsParm l asked.values e) s (subst (λ (l : List Value). TellsParm slice l e) g h))
+    (subst (λ (l : List ℕ). IsParmFailure l asked.values e) s (subst (λ (l : List Value). IsParmFailure slice l e) g h))
 
 pub expanded : (words : Expansion) (asked : Asked words) (text string slice other : List ℕ) (given : List Param) (bytes shown : List ℕ) (rows cols : ℕ) (reply : Reply) → IsSize asked.rows asked.cols → text ≡ words.string.now → unescaped text ≡ Ok string → slice ≡ string → values_of given ≡ asked.values → sent slice (values_of given) ≡ Ok bytes → other ≡ string → shown ≡ bytes → rows ≡ asked.rows → cols ≡ asked.cols → Shows words.judges_cup rows cols other shown reply → IsExpanded words reply
 expanded words asked text string slice other given bytes shown rows cols reply size t u s g q o b r k h = record {

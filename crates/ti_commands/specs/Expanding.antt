@@ -104,10 +104,10 @@ escape_failure escape_faults.BadEscape = Refused (Escape escape_faults.BadEscape
 escape_failure escape_faults.TooLong = Refused (Escape escape_faults.TooLong)
 
 -- the expansion's fault
-abbrev pub TellsParm : List ℕ → List Value → Failure → Type 0
-TellsParm string values (Refused (Parm fault)) = sent string values ≡ Err fault
-TellsParm string values NoMemory = Unit {0}
-TellsParm string values _ = ⊥
+abbrev pub IsParmFailure : List ℕ → List Value → Failure → Type 0
+IsParmFailure string values (Refused (Parm fault)) = sent string values ≡ Err fault
+IsParmFailure string values NoMemory = Unit {0}
+IsParmFailure string values _ = ⊥
 
 -- a word is wrong: first the rows, then the columns, then the parameters
 abbrev pub WrongWords : Expansion → Failure → Type 0

@@ -7,16 +7,16 @@ use Rattle.ti_commands.specs.declared.failure.Failure.{Failure}
 use Rattle.ti_commands.specs.declared.failure.Failure.TheVariants.{Usage, File, NoMemory}
 
 -- the line is wrong, and this text says why
-abbrev pub TellsUsage : List ℕ → Failure → Type 0
-TellsUsage text (Usage told) = string_bytes told ≡ text
-TellsUsage text NoMemory = Unit {0}
-TellsUsage text _ = ⊥
+abbrev pub IsUsageError : List ℕ → Failure → Type 0
+IsUsageError text (Usage told) = string_bytes told ≡ text
+IsUsageError text NoMemory = Unit {0}
+IsUsageError text _ = ⊥
 
 -- the file at this path can't be had
-abbrev pub TellsFile : List ℕ → Failure → Type 0
-TellsFile path (File told) = string_bytes told ≡ path
-TellsFile path NoMemory = Unit {0}
-TellsFile path _ = ⊥
+abbrev pub IsFileFailure : List ℕ → Failure → Type 0
+IsFileFailure path (File told) = string_bytes told ≡ path
+IsFileFailure path NoMemory = Unit {0}
+IsFileFailure path _ = ⊥
 
 -- what a word is told that stands where a number belongs, or a parameter
 abbrev pub number_usage : List ℕ → List ℕ → List ℕ
@@ -29,7 +29,7 @@ param_usage word =
 
 -- the word of this name is no number
 abbrev pub WrongNumber : List ℕ → List ℕ → Failure → Type 0
-WrongNumber name word failure = (IsNumberWord word → ⊥) × TellsUsage (number_usage name word) failure
+WrongNumber name word failure = (IsNumberWord word → ⊥) × IsUsageError (number_usage name word) failure
 
 -- a word of the size is none: the rows come first
 abbrev pub WrongSize : List ℕ → List ℕ → Failure → Type 0
@@ -44,4 +44,4 @@ pub record WrongParam (words : List (List ℕ)) (failure : Failure) : Type 0 whe
   pub values : List Value
   pub before : GiveParams front values
   pub nothing : (value : Value) → GivesParam word value → ⊥
-  pub told : TellsUsage (param_usage word) failure
+  pub told : IsUsageError (param_usage word) failure

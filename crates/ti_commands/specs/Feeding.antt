@@ -37,10 +37,10 @@ pub record SticksIn (rows cols : ℕ) (bytes : List ℕ) (at : ℕ) : Type 0 whe
   pub after : State
   pub sticks : Sticks (reset rows cols) bytes at after
 
-abbrev pub TellsStuck : ℕ → ℕ → List ℕ → Failure → Type 0
-TellsStuck rows cols bytes (Refused (Stuck stuck)) = SticksIn rows cols bytes stuck.at
-TellsStuck rows cols bytes NoMemory = Unit {0}
-TellsStuck rows cols bytes _ = ⊥
+abbrev pub IsStuckFailure : ℕ → ℕ → List ℕ → Failure → Type 0
+IsStuckFailure rows cols bytes (Refused (Stuck stuck)) = SticksIn rows cols bytes stuck.at
+IsStuckFailure rows cols bytes NoMemory = Unit {0}
+IsStuckFailure rows cols bytes _ = ⊥
 
 -- the reply is the screen after the bytes of the file at a path
 pub record ShowsScreen (held : Held) (rows cols path : List ℕ) (reply : Reply) : Type 0 where

@@ -13,7 +13,7 @@ use Rattle.ti_source.specs.declared.types.Note.{Note}
 use Rattle.ti_source.specs.declared.types.NoteKind.{NoteKind}
 use Rattle.ti_source.specs.declared.types.NoteKind.TheVariants.{UnknownName, Duplicate, OddEscape}
 use Rattle.ti_source.specs.declared.types.RawEntry.{RawEntry}
-use Rattle.ti_commands.specs.Failing.{TellsFile}
+use Rattle.ti_commands.specs.Failing.{IsFileFailure}
 use Rattle.ti_commands.specs.Holding.{HasBytes, Held}
 use Rattle.ti_commands.specs.declared.failure.Failure.{Failure}
 use Rattle.ti_commands.specs.declared.failure.Failure.TheVariants.{Refused, NoMemory}
@@ -73,23 +73,23 @@ Finds held word notes entry =
     ⊎ (IsPath word × HasBytes (held word) 131072 (λ bytes. IsOfFile bytes notes entry))
 
 -- the source text has a fault
-abbrev pub TellsSource : List ℕ → Failure → Type 0
-TellsSource bytes (Refused (Source fault)) = FailsBy fault.kind fault (source_of bytes) × (fault.kind ≢ fault_kinds.NoMemory)
-TellsSource bytes NoMemory = Unit {0}
-TellsSource bytes _ = ⊥
+abbrev pub IsSourceFailure : List ℕ → Failure → Type 0
+IsSourceFailure bytes (Refused (Source fault)) = FailsBy fault.kind fault (source_of bytes) × (fault.kind ≢ fault_kinds.NoMemory)
+IsSourceFailure bytes NoMemory = Unit {0}
+IsSourceFailure bytes _ = ⊥
 
 -- the compiled file has a fault
-abbrev pub TellsPacked : List ℕ → Failure → Type 0
-TellsPacked bytes (Refused (Pack fault)) = read_of bytes ≡ Err fault
-TellsPacked bytes NoMemory = Unit {0}
-TellsPacked bytes _ = ⊥
+abbrev pub IsPackFailure : List ℕ → Failure → Type 0
+IsPackFailure bytes (Refused (Pack fault)) = read_of bytes ≡ Err fault
+IsPackFailure bytes NoMemory = Unit {0}
+IsPackFailure bytes _ = ⊥
 
 -- the file at a path can't be had, or can't be read
 abbrev pub FailsInSource : Held → List ℕ → Failure → Type 0
-FailsInSource held path failure = TellsFile path failure ⊎ HasBytes (held path) 16777216 (λ bytes. TellsSource bytes failure)
+FailsInSource held path failure = IsFileFailure path failure ⊎ HasBytes (held path) 16777216 (λ bytes. IsSourceFailure bytes failure)
 
 abbrev pub FailsInFile : Held → List ℕ → Failure → Type 0
-FailsInFile held path failure = TellsFile path failure ⊎ HasBytes (held path) 131072 (λ bytes. TellsPacked bytes failure)
+FailsInFile held path failure = IsFileFailure path failure ⊎ HasBytes (held path) 131072 (λ bytes. IsPackFailure bytes failure)
 
 abbrev pub FailsToFind : Held → List ℕ → Failure → Type 0
 FailsToFind held word failure = ((path : List ℕ) × (name : List ℕ) × IsPathAndName word path name × FailsInSource held path failure) ⊎ (IsPath word × FailsInFile held word failure)

@@ -13,7 +13,7 @@ pub record GivesNumber (word : List ℕ) (n : ℕ) : Type 0 where
   pub is_number : IsNumberWord word
   pub value : n ≡ digits_value 10 word
 
--- the word of a parameter gives this value: a number, or the text behind `s:`
+-- the word of a parameter gives this value: a number, or the text after `s:`
 abbrev pub GivesParam : List ℕ → Value → Type 0
 GivesParam word (Number n) = IsNumberWord word × (n ≡ pos (digits_value 10 word))
 GivesParam word (Text text) = word ≡ codes "s:" ++ text

@@ -17,7 +17,7 @@ use ti_caps::{CAPABILITIES, Cap, Entry, Kind, Value, at_rank, is_kind, name};
 use ti_compiled::{PackFault, encode};
 use ti_source::print;
 
-/// Tells the notes of a source file, and writes the entry's compiled form to the file at `out` if there is one.
+/// Reports the notes of a source file, and writes the entry's compiled form to the file at `out` if there is one.
 pub fn compile_entry<F: Files>(
     alloc: Global,
     word: &str,
@@ -43,7 +43,7 @@ pub fn compile_entry<F: Files>(
     })
 }
 
-/// Writes the compiled form of an entry if there is a path for it, or tells the entry's refusal.
+/// Writes the compiled form of an entry if there is a path for it, or answers the entry's refusal.
 fn stored<F: Files>(
     alloc: Global,
     files: &mut F,

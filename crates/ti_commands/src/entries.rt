@@ -4,7 +4,7 @@ ghost use Rattle.std.specs.Prelude.{◌≡◌, ◌++◌, IfErr, IfNone, IfOk, If
 ghost use Rattle.std.specs.List.{AllByRecursion, flat_map};
 ghost use Rattle.ti_source.specs.Raw.{IsRaw};
 ghost use Rattle.ti_commands.specs.Holding.{HasBytes};
-ghost use Rattle.ti_commands.specs.Finding.{FailsInFile, FailsInSource, FailsToFind, Finds, FitsTo, IsOfFile, IsOfSource, IsPath, IsPathAndName, ResolvesTo, TellsPacked, TellsSource, note_line, note_name, notes_text};
+ghost use Rattle.ti_commands.specs.Finding.{FailsInFile, FailsInSource, FailsToFind, Finds, FitsTo, IsOfFile, IsOfSource, IsPath, IsPathAndName, ResolvesTo, IsPackFailure, IsSourceFailure, note_line, note_name, notes_text};
 
 use crate::explaining::{explain_packed, explain_source};
 use crate::failure::{Failure, Refusal};
@@ -80,7 +80,7 @@ fn find_in_source<F: Files>(
 /// The entry of this name in a source text.
 fn find_in_text(alloc: Global, text: &[u8], name: &str) -> Result<Found, Failure>
     ensures found { IfOk result (λ found. IsOfSource text.now name.now found.notes.items found.entry) }
-    ensures failure { IfErr result (λ e. TellsSource text.now e) }
+    ensures failure { IfErr result (λ e. IsSourceFailure text.now e) }
 {
     match read(alloc, text) {
         Ok(raws) => {
@@ -175,7 +175,7 @@ fn unpack<F: Files>(
 /// The entry of a compiled file.
 fn unpack_file(alloc: Global, file: &[u8]) -> Result<Found, Failure>
     ensures found { IfOk result (λ found. IsOfFile file.now found.notes.items found.entry) }
-    ensures failure { IfErr result (λ e. TellsPacked file.now e) }
+    ensures failure { IfErr result (λ e. IsPackFailure file.now e) }
 {
     match decode(file) {
         Ok(packed) => Ok(Found {

@@ -5,8 +5,8 @@ ghost use Rattle.std.specs.String.{string_bytes};
 ghost use Rattle.ti_parm.specs.Meaning.{sent};
 ghost use Rattle.ti_reach.specs.Reach.{IsWhole};
 ghost use Rattle.ti_parm.specs.Value.{Value, value_of, values_of};
-ghost use Rattle.ti_commands.specs.Expanding.{FailsToExpand, IsExpanded, JudgesCup, Shows, ShowsAll, ShowsCursor, TellsParm, cursor_line, escape_failure, hex_line, no_line};
-ghost use Rattle.ti_commands.specs.Failing.{TellsUsage, WrongParam, param_usage};
+ghost use Rattle.ti_commands.specs.Expanding.{FailsToExpand, IsExpanded, JudgesCup, Shows, ShowsAll, ShowsCursor, IsParmFailure, cursor_line, escape_failure, hex_line, no_line};
+ghost use Rattle.ti_commands.specs.Failing.{IsUsageError, WrongParam, param_usage};
 ghost use Rattle.ti_commands.specs.Words.{GiveParams, GivesParam, texts_of};
 
 use crate::decimal::decimal_number;
@@ -136,7 +136,7 @@ fn send(
     remarks: &mut Remarks,
 ) -> Result<Vec<u8>, Failure>
     ensures bytes { IfOk result (λ bytes. sent string.now (values_of params.now) ≡ Ok bytes.items) }
-    ensures failure { IfErr result (λ e. TellsParm string.now (values_of params.now) e) }
+    ensures failure { IfErr result (λ e. IsParmFailure string.now (values_of params.now) e) }
 {
     let mut bytes = Vec::new(alloc);
     match ti_parm::sent(alloc, string, params, &mut bytes) {
@@ -209,7 +209,7 @@ fn read_params<'a>(alloc: Global, words: &[&'a str]) -> Result<Params<'a>, Failu
     Ok(params)
 }
 
-/// The parameter that a word gives: the text behind `s:`, or a decimal number.
+/// The parameter that a word gives: the text after `s:`, or a decimal number.
 fn parameter<'a>(word: &'a str) -> Option<Param<'a>>
     ensures param { IfSome result (λ param. GivesParam word.now (value_of param)) }
     ensures none { IfNone result ((value : Value) → GivesParam word.now value → ⊥) }
@@ -225,7 +225,7 @@ fn parameter<'a>(word: &'a str) -> Option<Param<'a>>
 
 /// A word that is no parameter.
 fn not_a_parameter(alloc: Global, word: &str) -> Failure
-    ensures { TellsUsage (param_usage word.now) result }
+    ensures { IsUsageError (param_usage word.now) result }
 {
     let text = format!(in alloc;
         "error: invalid value '{word}' for PARAM: a decimal number up to 2147483647, or s: and a text, is wanted\n\n\

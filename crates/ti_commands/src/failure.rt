@@ -2,7 +2,7 @@
 
 ghost use Rattle.std.specs.Prelude.{◌≡◌, [], None};
 ghost use Rattle.ti_commands.specs.Status.{status_of};
-ghost use Rattle.ti_commands.specs.Failing.{TellsFile, TellsUsage};
+ghost use Rattle.ti_commands.specs.Failing.{IsFileFailure, IsUsageError};
 ghost use Rattle.ti_commands.specs.declared.failure.Failure.TheVariants.{NoMemory};
 
 use crate::remarks::{Remarks, write_shown};
@@ -63,7 +63,7 @@ pub enum Refusal {
     /// The source text has a fault.
     #[error("{0}")]
     Source(SourceFault),
-    /// The entry can't be had from its source; the name stands behind the kind.
+    /// The entry can't be had from its source; the name follows the kind.
     #[error("{0}")]
     Resolve(ResolveFault),
     /// The compiled file has a fault, or the entry can't be compiled.
@@ -120,7 +120,7 @@ impl<T: Drop> From<AllocFailed<T>> for Failure {
 
 /// The failure of the file at `path`.
 pub fn file_failure(alloc: Global, path: &str) -> Failure
-    ensures { TellsFile path.now result }
+    ensures { IsFileFailure path.now result }
 {
     match String::from_str(alloc, path) {
         Ok(path) => Failure::File(path),
@@ -130,7 +130,7 @@ pub fn file_failure(alloc: Global, path: &str) -> Failure
 
 /// The failure of a line that can't be understood, as this text says.
 pub fn usage_error(alloc: Global, text: &str) -> Failure
-    ensures { TellsUsage text.now result }
+    ensures { IsUsageError text.now result }
 {
     match String::from_str(alloc, text) {
         Ok(text) => Failure::Usage(text),

@@ -1,7 +1,7 @@
 //! The command `feed`.
 
 ghost use Rattle.std.specs.Prelude.{◌≡◌, IfErr, IfOk};
-ghost use Rattle.ti_commands.specs.Feeding.{FailsToFeed, ShowsAfter, ShowsScreen, TellsStuck};
+ghost use Rattle.ti_commands.specs.Feeding.{FailsToFeed, ShowsAfter, ShowsScreen, IsStuckFailure};
 
 use crate::explaining::explain_stuck;
 use crate::failure::{Failure, Refusal, Reply};
@@ -46,7 +46,7 @@ fn screen_after(
     remarks: &mut Remarks,
 ) -> Result<Vec<u8>, Failure>
     ensures text { IfOk result (λ text. ShowsAfter size.rows size.cols bytes.now text.items) }
-    ensures failure { IfErr result (λ e. TellsStuck size.rows size.cols bytes.now e) }
+    ensures failure { IfErr result (λ e. IsStuckFailure size.rows size.cols bytes.now e) }
 {
     let mut terminal = Terminal::new(alloc, size)?;
     match terminal.feed(bytes) {

@@ -40,7 +40,7 @@ impl From<io::Error> for FileFault {
 
 impl FileFault {
     /// The fault that an error of the system's files is.
-    pub fn of_kind(kind: ErrorKind) -> FileFault {
+    fn of_kind(kind: ErrorKind) -> FileFault {
         match kind {
             ErrorKind::OutOfMemory => FileFault::NoMemory,
             ErrorKind::NotFound | ErrorKind::NotADirectory => FileFault::Failed(Cause::Missing),

@@ -24,5 +24,5 @@ pub use failure::{Failure, Refusal, Reply, report, usage_error};
 pub use feeding::feed_file;
 pub use files::{Cause, FileFault, Files};
 pub use output::{Output, Unwritten, Written};
-pub use remarks::{Remarks, write_shown};
+pub use remarks::Remarks;
 pub use replying::{write_reply, write_text};

@@ -1,7 +1,7 @@
 //! Whole files, up to a limit.
 
 ghost use Rattle.std.specs.Prelude.{◌≡◌, ◌≤◌, IfErr, IfOk, vec_len};
-ghost use Rattle.ti_commands.specs.Failing.{TellsFile};
+ghost use Rattle.ti_commands.specs.Failing.{IsFileFailure};
 ghost use Rattle.ti_commands.specs.Holding.{AreBytesOf, AreFirstBytesOf};
 
 use crate::failure::{Failure, file_failure};
@@ -21,7 +21,7 @@ pub fn read_whole<F: Files>(
 ) -> Result<Vec<u8>, Failure>
     ensures whole { IfOk result (λ bytes. AreBytesOf (F.holds files.old path.now) bytes.items) }
     ensures short { IfOk result (λ bytes. vec_len bytes ≤ limit) }
-    ensures failure { IfErr result (λ e. TellsFile path.now e) }
+    ensures failure { IfErr result (λ e. IsFileFailure path.now e) }
     ensures kept { F.holds files.new ≡ F.holds files.old }
 {
     match read_up_to(alloc, files, path, u64::from(limit) + 1) {
@@ -54,7 +54,7 @@ fn read_up_to<F: Files>(
 
 /// The failure of the file at `path` that has this fault.
 pub fn file_fault(alloc: Global, path: &str, fault: FileFault, remarks: &mut Remarks) -> Failure
-    ensures { TellsFile path.now result }
+    ensures { IsFileFailure path.now result }
 {
     match fault {
         FileFault::NoMemory => Failure::NoMemory,

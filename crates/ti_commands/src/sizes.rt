@@ -2,7 +2,7 @@
 
 ghost use Rattle.std.specs.Prelude.{◌≡◌, ◌↔◌, IfErr, IfOk, IsOk};
 ghost use Rattle.vt_term.specs.Size.{IsSize};
-ghost use Rattle.ti_commands.specs.Failing.{TellsUsage, WrongNumber, number_usage};
+ghost use Rattle.ti_commands.specs.Failing.{IsUsageError, WrongNumber, number_usage};
 ghost use Rattle.ti_commands.specs.Words.{GivesNumber};
 
 use crate::decimal::decimal_number;
@@ -40,7 +40,7 @@ pub fn size_of(alloc: Global, rows: u32, cols: u32, remarks: &mut Remarks) -> Re
 
 /// A word that stands where a number belongs.
 fn not_a_number(alloc: Global, name: &str, word: &str) -> Failure
-    ensures { TellsUsage (number_usage name.now word.now) result }
+    ensures { IsUsageError (number_usage name.now word.now) result }
 {
     let text = format!(in alloc;
         "error: invalid value '{word}' for {name}: a decimal number up to 2147483647 is wanted\n\n\

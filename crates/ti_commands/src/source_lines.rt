@@ -68,14 +68,14 @@ pub fn line_of(text: &[u8], number: u32) -> &[u8] {
 pub fn faulty_field(line: &[u8], fault: FaultKind) -> Option<Field<'_>> {
     let mut rest = line;
     for _ in 0..=line.len() {
-        let (field, behind) = next_field(rest);
+        let (field, after) = next_field(rest);
         if field.has(fault) {
             return Some(field);
         }
-        if behind.is_empty() {
+        if after.is_empty() {
             return None;
         }
-        rest = behind;
+        rest = after;
     }
     None
 }

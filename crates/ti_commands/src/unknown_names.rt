@@ -46,11 +46,11 @@ fn count_line<'a>(line: &'a [u8], listed: &mut Vec<Counted<'a>>) -> Result<usize
         if rest.is_empty() {
             break;
         }
-        let (field, behind) = next_field(rest);
+        let (field, after) = next_field(rest);
         if field.is_unknown() && !count_name(field.name, listed)? {
             others = others.saturating_add(1);
         }
-        rest = behind;
+        rest = after;
     }
     Ok(others)
 }
