@@ -13,7 +13,7 @@ trap 'rm -rf "$work"' EXIT
 rounds() {
     lane=$work/lane$1
     n=$1
-    lay "$lane" ti_commands vt_words cur_update cur_grid cur_windows cur_pads
+    lay "$lane" $(used tests/refusals/*.txt)
     fill "$lane" tests/refusals
     while [ "$n" -le 60 ]; do
         # the other tests of a round may fail of it, as they take every want of memory for a failure

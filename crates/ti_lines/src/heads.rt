@@ -4,7 +4,7 @@ ghost use Rattle.ti_lines.specs.Heads as spec;
 use crate::cuts::cut;
 use crate::hexes::hex_at;
 use std::alloc::{AllocError, Global};
-use vt_words::number_at;
+use vt_notation::number_at;
 
 /// The rows and columns of a certificate's first line, `ticert 2 R C`, given without its LF. `None` for
 /// any other text.

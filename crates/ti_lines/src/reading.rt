@@ -8,7 +8,7 @@ use crate::lines::RowLine;
 use std::alloc::{AllocError, Global};
 use ti_caps::Bytes;
 use ti_rows::{Params, Row};
-use vt_words::{number_at, read};
+use vt_notation::{number_at, read};
 
 /// The line about a checked capability that has this text, without its LF. `None` if there is none:
 /// for another name than that of a checked capability, another number of parameters than it has,

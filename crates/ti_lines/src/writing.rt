@@ -17,7 +17,7 @@ impl RowLine {
         push_numbers(alloc, self.row.params().as_slice(), &mut text)?;
         push_hex(alloc, self.bytes.as_slice(), &mut text)?;
         text.push(b' ')?;
-        let effect = vt_words::text(alloc, &self.effect)?;
+        let effect = vt_notation::text(alloc, &self.effect)?;
         text.extend_from_slice(&effect)?;
         Ok(text)
     }
