@@ -19,6 +19,7 @@ use Rattle.ti_checked.specs.Judged.{IsJudged}
 use Rattle.ti_checked.specs.Checked.{JudgedIsChecked}
 use Rattle.ti_checked.proofs.Judging.{may_be_cut, line}
 use Rattle.ti_checked.proofs.Resyncing.{resyncs}
+use Rattle.ti_checked.proofs.Holding.{sets_hold}
 
 -- from a lost state with nothing open: cut off anywhere, and as a whole
 record Passes (t : Table) (bytes : List ℕ) : Type 0 where
@@ -91,4 +92,5 @@ judged_is_checked t j = record {
   lines = line t j;
   resyncs = resyncs t j;
   resync_fronts = λ s lost front back parts. resync_cut t j (resync t) j.rest j.escapes (passes_resync t j) s lost front back parts;
+  sets = sets_hold t j;
 }

@@ -1,3 +1,4 @@
 pub mod Judging
 pub mod Resyncing
+pub mod Holding
 pub mod Cutting

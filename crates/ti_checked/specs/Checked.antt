@@ -8,6 +8,7 @@ use Rattle.ti_rows.specs.Wants.{Wants}
 use Rattle.ti_rows.specs.Right.{IsRight, sets_visible}
 use Rattle.ti_resync.specs.Lost.{EndsIn, IsBlank}
 use Rattle.ti_checked.specs.Table.{Table, has, resync, IsLost, keeps_settled, Activates}
+use Rattle.ti_checked.specs.Sets.{SetsHold}
 use Rattle.ti_checked.specs.Judged.{IsJudged}
 
 -- the end of a line's run, with nothing open: as is wanted, and settled charsets lead to settled ones
@@ -30,6 +31,7 @@ pub record IsChecked (t : Table) : Type 0 where
   -- from every lost state, whatever is open, to a blank screen at rest; and where it is cut off, to a lost state
   pub resyncs : (s : State) → IsLost t s → EndsIn s (resync t) (IsBlank t.rows t.cols s.screen.visible)
   pub resync_fronts : (s : State) → IsLost t s → (front back : List ℕ) → resync t ≡ front ++ back → EndsIn s front (IsLost t)
+  pub sets : SetsHold t
 
 abbrev pub JudgedIsChecked : Type 0
 JudgedIsChecked = (t : Table) → IsJudged t → IsChecked t

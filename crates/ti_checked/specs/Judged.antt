@@ -10,6 +10,8 @@ use Rattle.ti_rows.specs.declared.rows.Row.{Row}
 use Rattle.ti_rows.specs.declared.rows.Row.TheVariants.{Csr, Clear, Sgr0, Smcup, Enacs, Rmacs}
 use Rattle.ti_rows.specs.Asked.{start_of, asked}
 use Rattle.ti_resync.specs.Lines.{StaysIn}
+use Rattle.ti_charsets.specs.Charsets.{reset_charset}
+use Rattle.ti_checked.specs.Sets.{has_sets}
 use Rattle.ti_checked.specs.Table.{Table, has, resync, widening, keeps_settled, Activates}
 
 -- the record of the bytes from the row's start is the one that the table asks for
@@ -59,3 +61,8 @@ pub record IsJudged (t : Table) : Type 0 where
   pub rest : List ℕ
   pub escapes : resync t ≡ 27 ∷ rest
   pub quiet : (c : Charset) → t.reached c ≡ true → is_graphic (left_of changes c) ≡ false
+  -- the sets: what is reached, what is settled, and that the latter is plain where lines can't switch sets
+  pub starts : t.reached reset_charset ≡ true
+  pub first_settled : (c : Charset) → t.reached c ≡ true → t.settled (left_of changes c) ≡ true
+  pub settled_reached : (c : Charset) → t.settled c ≡ true → t.reached c ≡ true
+  pub plain : has_sets t ≡ false → (c : Charset) → t.settled c ≡ true → is_graphic c ≡ false

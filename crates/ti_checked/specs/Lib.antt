@@ -1,3 +1,4 @@
 pub mod Table
+pub mod Sets
 pub mod Judged
 pub mod Checked
