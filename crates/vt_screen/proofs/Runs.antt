@@ -1,14 +1,14 @@
 -- Characters one after another in one line.
-use Rattle.std.proofs.Common.{◌≡◌, ℕ, ◌+◌, ◌-◌, ◌<◌, ◌≤◌, ◌&&◌, ◌||◌, ◌==◌, nat_le, nat_lt, min, Bool, true, false, List, [], ◌∷◌, ◌++◌, length, take, get_or, set, refl, sym, ap, subst, ◌∙◌, arith, if◌then◌else◌}
+use Rattle.std.proofs.Common.{◌≡◌, ℕ, ◌+◌, ◌-◌, ◌<◌, ◌≤◌, ◌&&◌, ◌||◌, ◌==◌, nat_le, min, Bool, true, false, List, [], ◌∷◌, ◌++◌, length, take, get_or, set, refl, sym, ap, subst, ◌∙◌, arith, if◌then◌else◌}
 use Rattle.std.specs.List.{AllByRecursion}
 use Rattle.std.proofs.lemmas.Bool.{or_parts}
 use Rattle.std.proofs.lemmas.Bool.Decides.{nat_tests}
 use Rattle.std.proofs.lemmas.List.{set-set, set-get_or, get_or-set_same, length-set, take_more, length-take}
 use Rattle.vt_screen.specs.declared.functions.Function.TheVariants.{Print}
-use Rattle.vt_screen.specs.Look.{Look, IsPrinted, shown_by}
+use Rattle.vt_screen.specs.Look.{Look, IsPrinted}
 use Rattle.vt_screen.specs.Grid.{Grid, line_at, put, written}
 use Rattle.vt_screen.specs.Screen.{Screen, IsScreen}
-use Rattle.vt_screen.specs.Step.{shown, placed, printed, opened, wrapped, inserted, line_feed, all_printed}
+use Rattle.vt_screen.specs.Step.{shown, placed, printed, opened, inserted, line_feed, all_printed}
 use Rattle.grids.proofs.Drawing.{set_is_filled}
 use Rattle.vt_screen.proofs.Keeps.{Kept, same_kept, kept_again, act_kept}
 

@@ -57,7 +57,7 @@ pub struct Settings {
     pub visible: bool,
 }
 
-/// The display and all modes: a terminal without what is open of a sequence.
+/// The display and all modes: a terminal but for the sequence that is open.
 #[derive(Drop)]
 pub struct Display {
     size: Size,
@@ -117,7 +117,7 @@ impl Display {
     ghost use Rattle.vt_screen.specs.Printed.{screen_text};
     ghost use Rattle.vt_screen.specs.Settings.{settings_of, with_settings};
 
-    /// The reset state. It fails where a request for memory is refused.
+    /// A display in the reset state. Fails only when out of memory.
     pub fn new(alloc: Global, size: Size) -> Result<Display, AllocError>
         ensures { IfOk result (λ d. d ≡ reset_screen size.rows size.cols) }
     {
@@ -152,7 +152,7 @@ impl Display {
         self.size
     }
 
-    /// What stands in a place, whose row and column the caller keeps within the size.
+    /// The cell at a place; rows and columns count from 0.
     pub fn cell(&self, row: usize, col: usize) -> Cell
         requires row_within { row < self.now.rows }
         requires col_within { col < self.now.cols }
@@ -224,7 +224,7 @@ impl Display {
         self.visible = settings.visible;
     }
 
-    /// The screen as a text. It fails where a request for memory is refused.
+    /// The screen as a text. Fails only when out of memory.
     pub fn print_screen(&self, alloc: Global) -> Result<Vec<u8>, AllocError>
         ensures { IfOk result (λ text. text.items ≡ screen_text self.now) }
     {

@@ -10,7 +10,7 @@ use Rattle.vt_screen.specs.Step.{act, printed, all_printed}
 use Rattle.vt_screen.specs.declared.functions.Function.{Function}
 use Rattle.vt_screen.specs.declared.functions.Function.TheVariants.{Print}
 use Rattle.vt_term.specs.Screen.{State}
-use Rattle.vt_term.specs.Text.{IsParameter, IsPrinted, IsOpen, IsWhole, Splits}
+use Rattle.vt_term.specs.Text.{IsParameter, IsPrinted, IsWhole, Splits}
 use Rattle.vt_term.specs.Parameters.{numbers, is_numeral}
 use Rattle.vt_term.specs.ParserStates.{ReadsTo}
 use Rattle.vt_term.specs.Function.{of_numbers, of_private_numbers, function_of}

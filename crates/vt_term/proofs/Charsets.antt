@@ -4,7 +4,7 @@ use Rattle.std.specs.Option.{unwrap_or}
 use Rattle.vt_term.specs.Screen.{Screen, Charset}
 use Rattle.vt_term.specs.Step.{act, line_feed, printed, wrapped, opened, mode_set, all_modes_set, in_region}
 use Rattle.vt_term.specs.Charsets.{charset_after}
-use Rattle.vt_term.specs.Function.{Function, CodeElement, G0, G1, ModeKind, Standard, Private, EraseExtent, ToEnd, FromStart, Whole, Print, LineFeed, CarriageReturn, Backspace, Tab, ShiftOut, ShiftIn, ReverseIndex, NextLine, CursorUp, CursorDown, CursorForward, CursorBack, CursorColumn, CursorRow, CursorPosition, EraseLine, EraseDisplay, EraseCells, InsertCells, DeleteCells, InsertLines, DeleteLines, ScrollUp, ScrollDown, Margins, Designate, SelectRendition, Modes, Ignored}
+use Rattle.vt_term.specs.Function.{Function, G0, G1, ModeKind, Standard, Private, ToEnd, FromStart, Whole, Print, LineFeed, CarriageReturn, Backspace, Tab, ShiftOut, ShiftIn, ReverseIndex, NextLine, CursorUp, CursorDown, CursorForward, CursorBack, CursorColumn, CursorRow, CursorPosition, EraseLine, EraseDisplay, EraseCells, InsertCells, DeleteCells, InsertLines, DeleteLines, ScrollUp, ScrollDown, Margins, Designate, SelectRendition, Modes, Ignored}
 
 either_charset : (b : Bool) (c : Charset) (x y : Screen) → x.charset ≡ c → y.charset ≡ c → (if b then x else y).charset ≡ c
 either_charset true c x y h k = h

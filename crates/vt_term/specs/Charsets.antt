@@ -1,5 +1,5 @@
 -- The character sets G0 and G1 after each function (ECMA-35, locking shifts and designation; VT100 user guide, SCS).
-use Rattle.std.specs.Prelude.{ℕ, Bool, true, false}
+use Rattle.std.specs.Prelude.{true, false}
 use Rattle.vt_term.specs.Function.{Function, ShiftOut, ShiftIn, Designate, G0, G1}
 use Rattle.vt_term.specs.Screen.{Charset}
 

@@ -11,14 +11,14 @@ use std::marker::Model;
 use thiserror::Error;
 use vt_screen::{Cell, Display, Rendition, Size};
 
-/// A byte of a stream that fits nothing, by its place in what was fed.
+/// The byte at this place of what was fed can neither continue what is open nor begin anything.
 #[derive(Clone, Copy, Debug, PartialEq, Eq, Error)]
 #[error("Stuck {at}")]
 pub struct Stuck {
     pub at: usize,
 }
 
-/// A terminal: the display with its modes, and what has come of a sequence.
+/// A character terminal: the display with its modes, and the sequence that is open, if any.
 #[derive(Drop)]
 pub struct Terminal {
     pub(crate) display: Display,
@@ -41,7 +41,7 @@ impl Terminal {
     ghost use Rattle.vt_term.specs.Run.{Runs, Sticks, Accepts};
     ghost use Rattle.vt_screen.specs.Printed.{screen_text};
 
-    /// A terminal in the reset state.
+    /// A terminal in the reset state. Fails only when out of memory.
     pub fn new(alloc: Global, size: Size) -> Result<Terminal, AllocError>
         ensures { IfOk result (λ terminal. terminal ≡ reset size.rows size.cols) }
     {
@@ -50,8 +50,8 @@ impl Terminal {
         Ok(Terminal { display, parser })
     }
 
-    /// Takes more of the stream, in pieces of any length. At a byte that fits nothing it stops: the
-    /// bytes before it were taken, and what was open is dropped.
+    /// Feeds more of the stream, in pieces of any length; takes no memory. Stops at a byte that fits nothing: the bytes
+    /// before it were taken, that one was not, and an open sequence is dropped, so that a later call goes on from there.
     pub fn feed(&mut self, bytes: &[u8]) -> Result<(), Stuck>
         ensures ok { OnOk result (Runs self.old bytes.now self.new) }
         ensures stuck { IfErr result (λ e. Sticks self.old bytes.now e.at self.new) }
@@ -145,7 +145,7 @@ impl Terminal {
         }
     }
 
-    /// Takes one byte. If it fits nothing, what was open is dropped.
+    /// Takes one byte, and returns whether it could; if not, what was open is dropped.
     fn accept(&mut self, byte: u8) -> bool
         ensures accepts { Accepts self.old byte result self.new }
         ensures rows { self.new.screen.rows ≡ self.old.screen.rows }
@@ -188,7 +188,7 @@ impl Terminal {
         self.display.size()
     }
 
-    /// What stands in a place, whose row and column the caller keeps within the size.
+    /// The cell at a place; rows and columns count from 0.
     pub fn cell(&self, row: usize, col: usize) -> Cell
         requires row_within { row < self.now.screen.rows }
         requires col_within { col < self.now.screen.cols }

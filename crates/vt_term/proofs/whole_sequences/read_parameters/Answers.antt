@@ -1,4 +1,4 @@
-use Rattle.std.proofs.Common.{rules, ◌≡◌, ◌∙◌, ◌+◌, ◌<◌, length, inl, inr, sym, arith}
+use Rattle.std.proofs.Common.{◌∙◌, ◌<◌, length, inl, inr, arith}
 use Rattle.std.proofs.lemmas.List.{length-set}
 use Rattle.vt_term.proofs.AtOnce.{semicolon_more, digit_more, numeral_more}
 use Rattle.vt_term.proofs.whole_sequences.read_parameters.Goals as goal
