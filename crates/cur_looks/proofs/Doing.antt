@@ -1,15 +1,13 @@
 -- From a line of the certificate to a step.
-use Rattle.std.proofs.Common.{◌≡◌, ℕ, ◌+◌, ◌≤◌, Bool, true, false, List, [], length, Some, Result, refl, sym, ap, subst, ◌∙◌, arith}
-use Rattle.vt_term.specs.Screen.{State, Screen, IsOfSize}
+use Rattle.std.proofs.Common.{◌≡◌, ℕ, ◌≤◌, List, Some, Result, arith}
+use Rattle.vt_term.specs.Screen.{State}
 use Rattle.cur_wires.specs.Wire.{Sends}
-use Rattle.cur_steps.specs.Leads.{Ends}
-use Rattle.cur_steps.specs.Lines.{Closed, Drives}
+use Rattle.cur_steps.specs.Lines.{Closed}
 use Rattle.cur_steps.specs.Steps.{Steps}
 use Rattle.cur_steps.proofs.Stopping.{steps_line}
 use Rattle.cur_steps.proofs.Completing.{ends_sized}
 use Rattle.ti_rows.specs.declared.rows.Row.{Row}
 use Rattle.ti_rows.specs.Starts.{Starts}
-use Rattle.ti_rows.specs.Wants.{Wants}
 use Rattle.cur_looks.specs.Certified.{Table, IsLost, IsReady, IsChecked, IsLine, IsPiece, Line, Ended, limit_of}
 use Rattle.cur_looks.specs.Beliefs.{Agrees, Belief, Turns}
 use Rattle.cur_looks.specs.declared.inks.Ink.{Ink}

@@ -2,10 +2,10 @@
 use Rattle.std.proofs.Common.{◌≡◌, ℕ, ◌+◌, ◌-◌, ◌<◌, ◌≤◌, ◌==◌, ◌&&◌, Bool, true, false, nat_le, min, List, [], ◌∷◌, ◌++◌, Option, Some, None, Result, refl, sym, ap, subst, ◌∙◌, inl, arith, if◌then◌else◌}
 use Rattle.std.proofs.lemmas.List.{append-nil}
 use Rattle.std.proofs.lemmas.Bool.Decides.{nat_tests}
-use Rattle.vt_term.specs.Look.{Rendition, Look, IsPrinted}
+use Rattle.vt_term.specs.Look.{Rendition, IsPrinted}
 use Rattle.vt_term.specs.Grid.{look_at, put}
 use Rattle.vt_term.specs.Screen.{Screen, State, is_graphic}
-use Rattle.vt_term.specs.Text.{IsWhole, IsOpen}
+use Rattle.vt_term.specs.Text.{IsWhole}
 use Rattle.vt_term.specs.Function.{Function, Print, function_of, single}
 use Rattle.vt_term.specs.Step.{act}
 use Rattle.vt_term.specs.Step as step

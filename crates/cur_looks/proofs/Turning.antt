@@ -1,24 +1,22 @@
 -- What each line does to a state that agrees with what is believed.
-use Rattle.std.proofs.Common.{◌≡◌, ℕ, ◌+◌, ◌-◌, ◌<◌, ◌≤◌, ◌==◌, ◌&&◌, ◌⊎◌, Bool, true, false, nat_le, List, [], length, Option, Some, None, refl, sym, ap, subst, ◌∙◌, inl, inr, arith, if◌then◌else◌}
+use Rattle.std.proofs.Common.{◌≡◌, ℕ, ◌<◌, ◌≤◌, ◌==◌, ◌&&◌, ◌⊎◌, Bool, true, false, nat_le, List, [], length, Option, Some, None, refl, sym, ap, subst, ◌∙◌, inl, inr, arith, if◌then◌else◌}
 use Rattle.std.proofs.lemmas.Bool.Decides.{nat_tests}
-use Rattle.vt_term.specs.Look.{Rendition, Look, IsPrinted, blank, space}
+use Rattle.vt_term.specs.Look.{Rendition, Look, blank, space}
 use Rattle.vt_term.specs.Grid.{Grid, line_at, look_at, drawn}
-use Rattle.vt_term.specs.Screen.{Screen, State, IsOfSize, is_graphic, Charset}
+use Rattle.vt_term.specs.Screen.{Screen, State, IsOfSize, is_graphic}
 use Rattle.vt_term.specs.Color.{Color}
 use Rattle.grids.proofs.Drawing.{cell_at-drawn}
 use Rattle.grids.specs.Grids.{is_in, one}
 use Rattle.ti_rows.specs.declared.rows.Attributes.{Attributes}
 use Rattle.cur_looks.specs.declared.inks.Brush.{Brush}
 use Rattle.cur_looks.specs.declared.inks.Ink.{Ink}
-use Rattle.ti_rows.specs.declared.rows.Row.{Row}
 use Rattle.ti_rows.specs.declared.rows.Row.TheVariants.{Cup, Sgr, Setaf, Setab, Op, Smacs, Rmacs, El, Civis, Cnorm, Cvvis}
-use Rattle.ti_rows.specs.Starts.{IsAny, IsFree, IsCalm}
+use Rattle.ti_rows.specs.Starts.{IsAny, IsFree}
 use Rattle.ti_rows.specs.Wants.{marked, Renders, Appears}
 use Rattle.ti_rows.specs.Looks.{shown}
-use Rattle.vt_effects.specs.Settings.{IsTame}
-use Rattle.cur_looks.specs.Certified.{Table, IsReady, IsWhole, IsChecked, Ended, has, limit_of}
+use Rattle.cur_looks.specs.Certified.{Table, IsReady, IsChecked, has, limit_of}
 use Rattle.cur_looks.specs.Inks.{rendition_of, look_of, IsColored, tail_blank, blank_ink, plain_brush}
-use Rattle.cur_looks.specs.Beliefs.{Agrees, Belief, Place, Turns, IsHere, IsSo, set_row, Mode, Hidden, Normal, Prominent, IsSeen, is_shown}
+use Rattle.cur_looks.specs.Beliefs.{Agrees, Belief, Place, Turns, IsHere, set_row, Mode, Hidden, Normal, Prominent, IsSeen, is_shown}
 
 pub look_at-drawn : (f : ℕ → ℕ → Look → Look) (g : Grid) (i j : ℕ) → j < length (line_at g i) → look_at (drawn f g) i j ≡ f i j (look_at g i j)
 look_at-drawn f g i j lt = cell_at-drawn f space g i j lt

@@ -1,7 +1,7 @@
 -- What is believed of the terminal, and when a state agrees with it.
-use Rattle.std.specs.Prelude.{ℕ, ◌+◌, ◌<◌, ◌≡◌, ◌==◌, ◌&&◌, Bool, true, false, Option, Some, None, if◌then◌else◌, List, []}
+use Rattle.std.specs.Prelude.{ℕ, ◌+◌, ◌<◌, ◌≡◌, ◌==◌, ◌&&◌, Bool, true, false, Option, Some, None, if◌then◌else◌, []}
 use Rattle.vt_term.specs.Grid.{look_at}
-use Rattle.vt_term.specs.Screen.{State, Screen, Charset, IsOfSize, is_graphic}
+use Rattle.vt_term.specs.Screen.{State, IsOfSize, is_graphic}
 use Rattle.ti_rows.specs.declared.rows.Row.{Row}
 use Rattle.ti_rows.specs.declared.rows.Row.TheVariants.{Smacs, Rmacs, Civis, Cnorm}
 use Rattle.ti_rows.specs.Starts.{Starts}

@@ -1,6 +1,6 @@
 -- What ends a program's screen, and where it leads.
-use Rattle.std.proofs.Common.{◌≡◌, ℕ, ◌+◌, ◌-◌, ◌<◌, ◌≤◌, Bool, true, false, List, [], ◌∷◌, ◌++◌, length, Option, Some, None, is_some, refl, sym, ap, subst, ◌∙◌, arith}
-use Rattle.vt_term.specs.Screen.{State, Screen, IsOfSize}
+use Rattle.std.proofs.Common.{◌≡◌, ℕ, ◌-◌, true, false, List, [], ◌∷◌, ◌++◌, length, Option, Some, None, is_some, refl, sym, ap, subst, arith}
+use Rattle.vt_term.specs.Screen.{State, IsOfSize}
 use Rattle.vt_term.specs.Look.{plain}
 use Rattle.cur_steps.specs.Leads.{Ends, Leads}
 use Rattle.cur_steps.specs.Lines.{Closed}
@@ -12,7 +12,7 @@ use Rattle.ti_rows.specs.declared.rows.Row.TheVariants.{Cup, Sgr0, Rmacs, Cnorm,
 use Rattle.ti_rows.specs.Starts.{Starts}
 use Rattle.cur_looks.specs.declared.beliefs.Belief.{Belief}
 use Rattle.cur_looks.specs.declared.inks.Ink.{Ink}
-use Rattle.cur_looks.specs.Certified.{Table, IsLost, IsReady, IsBlank, IsChecked, IsLine, IsPiece, Line, Ended}
+use Rattle.cur_looks.specs.Certified.{Table, IsLost, IsReady, IsChecked, IsLine, IsPiece, Line, Ended}
 use Rattle.cur_looks.proofs.Doing.{ready_lost}
 use Rattle.cur_looks.proofs.Turning.{any_of, free_of, by_screen}
 use Rattle.cur_paint.specs.Update.{Fits, IsFresh}

@@ -1,16 +1,13 @@
 -- From anywhere some lawful bytes make the terminal show a screen: the resynchronization, and then every cell.
-use Rattle.std.proofs.Common.{◌≡◌, ℕ, ◌+◌, ◌<◌, ◌≤◌, ◌==◌, ◌&&◌, Bool, true, false, zero, suc, List, [], ◌∷◌, length, Option, Some, None, is_some, refl, sym, ap, subst, ◌∙◌, arith, nat_le}
+use Rattle.std.proofs.Common.{◌≡◌, ℕ, ◌+◌, ◌<◌, ◌≤◌, Bool, true, false, zero, suc, List, [], ◌∷◌, length, Option, Some, None, is_some, refl, ap, subst, ◌∙◌, arith}
 use Rattle.vt_term.specs.Color.{Color}
-use Rattle.vt_term.specs.Look.{Rendition, Look, IsPrinted, blank}
-use Rattle.vt_term.specs.Grid.{look_at, drawn}
-use Rattle.vt_term.specs.Screen.{State, Screen}
+use Rattle.vt_term.specs.Screen.{State}
 use Rattle.cur_steps.specs.Leads.{Ends, Leads}
 use Rattle.cur_steps.specs.Lines.{Closed, Reaches}
 use Rattle.cur_steps.proofs.Stopping.{leads_line}
 use Rattle.cur_steps.proofs.Completing.{ends_as, ends_sized, reaches_then, reaches_piece, reaches_as, reaches_self}
 use Rattle.ti_rows.specs.declared.rows.Row.{Row}
-use Rattle.ti_rows.specs.declared.rows.Attributes.{Attributes}
-use Rattle.ti_rows.specs.declared.rows.Row.TheVariants.{Clear, Cup, Sgr, Setaf, Setab, Op, Civis, Cnorm, Cvvis}
+use Rattle.ti_rows.specs.declared.rows.Row.TheVariants.{Cup, Sgr, Setaf, Setab, Op, Civis, Cnorm, Cvvis}
 use Rattle.cur_looks.specs.declared.beliefs.Belief.{Belief}
 use Rattle.cur_looks.specs.declared.beliefs.Place.{Place}
 use Rattle.cur_looks.specs.declared.beliefs.Mode.{Mode}
@@ -18,13 +15,13 @@ use Rattle.cur_looks.specs.declared.beliefs.Mode.TheVariants.{Hidden, Normal, Pr
 use Rattle.cur_looks.specs.declared.inks.Brush.{Brush}
 use Rattle.cur_looks.specs.declared.inks.Ink.{Ink}
 use Rattle.cur_looks.specs.Certified.{Table, IsLost, IsBlank, IsLine, IsChecked, IsPiece, Line, Character, Ended, has}
-use Rattle.cur_looks.specs.Inks.{CanShow, IsInk, IsColored, mixed, put_at, blank_ink, plain_brush, no_attributes, look_of, rendition_of}
+use Rattle.cur_looks.specs.Inks.{CanShow, IsInk, IsColored, mixed, put_at, blank_ink, plain_brush, no_attributes, rendition_of}
 use Rattle.cur_looks.specs.Beliefs.{Agrees, Turns, IsHere, IsSeen, is_shown, after_print, set_row, CanHide}
 use Rattle.cur_looks.proofs.Doing.{agrees_lost}
 use Rattle.cur_looks.proofs.Turning.{moved, attributes_set, foreground_set, background_set, colors_gone, no_color_lines, brush_as, colored_has, set_chosen, set_absent, hidden, normal, always_normal, stressed, stressed_without}
-use Rattle.cur_looks.proofs.Printing.{IsPoised, typed_agrees}
+use Rattle.cur_looks.proofs.Printing.{typed_agrees}
 use Rattle.cur_paint.specs.Limits.{IsWithin, IsPlaced}
-use Rattle.cur_paint.specs.Cleared.{at_start, cleared}
+use Rattle.cur_paint.specs.Cleared.{at_start}
 use Rattle.cur_paint.specs.Update.{Shows, IsCursor}
 use Rattle.cur_paint.specs.declared.updates.Wanted.{Wanted}
 use Rattle.cur_paint.proofs.Mixing.{agrees_as, agrees_at, mixed_put, row_done, all_done, none_done}

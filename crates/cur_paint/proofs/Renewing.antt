@@ -1,12 +1,12 @@
 -- All anew: what begins with the resynchronization, or with the clearing.
-use Rattle.std.proofs.Common.{◌≡◌, ℕ, ◌+◌, ◌≤◌, ◌==◌, ◌&&◌, Bool, true, false, if◌then◌else◌, List, [], ◌++◌, length, Option, Some, None, Result, Err, refl, sym, ap, subst, ◌∙◌, arith}
+use Rattle.std.proofs.Common.{◌≡◌, ℕ, ◌+◌, ◌≤◌, Bool, true, false, List, [], ◌++◌, length, Some, Result, Err, refl, sym, ap, subst, ◌∙◌, arith}
 use Rattle.std.proofs.lemmas.List.{append-nil}
 use Rattle.std.specs.Prelude.{OnOk}
 use Rattle.vt_term.specs.Look.{Rendition, blank}
-use Rattle.vt_term.specs.Grid.{look_at, drawn}
-use Rattle.vt_term.specs.Screen.{State, Screen}
+use Rattle.vt_term.specs.Grid.{drawn}
+use Rattle.vt_term.specs.Screen.{State}
 use Rattle.cur_wires.specs.Wire.{IsWire, StopsIn}
-use Rattle.cur_steps.specs.Leads.{Ends, Leads}
+use Rattle.cur_steps.specs.Leads.{Leads}
 use Rattle.cur_steps.specs.Steps.{Steps, then_kind}
 use Rattle.cur_steps.proofs.Leading.{leads_then, leads_wider}
 use Rattle.cur_steps.proofs.Painting.{sends_then}
@@ -15,13 +15,12 @@ use Rattle.ti_rows.specs.declared.rows.Row.TheVariants.{Clear}
 use Rattle.cur_looks.specs.declared.beliefs.Belief.{Belief}
 use Rattle.cur_looks.specs.declared.inks.Ink.{Ink}
 use Rattle.cur_looks.specs.Certified.{Table, IsLost, IsBlank, IsChecked, IsPiece}
-use Rattle.cur_looks.specs.Inks.{blank_ink, look_of, rendition_of}
+use Rattle.cur_looks.specs.Inks.{blank_ink}
 use Rattle.cur_looks.specs.Beliefs.{Agrees, Turns}
-use Rattle.cur_looks.proofs.Doing.{agrees_lost, ready_lost}
 use Rattle.cur_looks.proofs.Turning.{free_of, by_screen, look_at-drawn}
 use Rattle.cur_paint.specs.Cleared.{at_start, cleared}
 use Rattle.cur_paint.specs.Limits.{fresh_limit, IsPlaced, paint_limit}
-use Rattle.cur_paint.specs.Update.{Anew, BeginsWith, Draws, Fits, IsFresh}
+use Rattle.cur_paint.specs.Update.{Anew, Draws, IsFresh}
 use Rattle.cur_paint.specs.declared.updates.Wanted.{Wanted}
 use Rattle.cur_paint.specs.declared.updates.Status.{Status}
 use Rattle.cur_paint.specs.declared.updates.Status.TheVariants.{Fresh, Known, Lost}

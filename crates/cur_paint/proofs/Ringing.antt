@@ -1,6 +1,6 @@
 -- What the bell's string does to a state that fits.
-use Rattle.std.proofs.Common.{◌≡◌, ℕ, true, false, List, [], ◌++◌, Some, refl, sym, ap}
-use Rattle.vt_term.specs.Screen.{State, Screen}
+use Rattle.std.proofs.Common.{◌≡◌, ℕ, List, ◌++◌, Some, refl}
+use Rattle.vt_term.specs.Screen.{State}
 use Rattle.cur_steps.specs.Leads.{Ends}
 use Rattle.cur_steps.specs.Lines.{Closed}
 use Rattle.cur_steps.proofs.Completing.{ends_sized}

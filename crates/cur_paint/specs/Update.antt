@@ -1,18 +1,17 @@
 -- What a refresh promises, done or cut short.
-use Rattle.std.specs.Prelude.{ℕ, ◌+◌, ◌*◌, ◌<◌, ◌≤◌, ◌≡◌, Bool, true, false, List, [], ◌++◌, length, Option, Some, None, Result, Ok, Err, OnOk, if◌then◌else◌}
+use Rattle.std.specs.Prelude.{ℕ, ◌<◌, ◌≤◌, ◌≡◌, Bool, true, false, List, [], ◌++◌, length, Option, Some, None, Result, Ok, Err, OnOk, if◌then◌else◌}
 use Rattle.std.specs.List.{AllByRecursion, concat}
 use Rattle.vt_term.specs.Grid.{look_at}
-use Rattle.vt_term.specs.Screen.{State, is_graphic}
+use Rattle.vt_term.specs.Screen.{State}
 use Rattle.cur_steps.specs.Leads.{Ends}
 use Rattle.cur_steps.specs.Steps.{Steps}
 use Rattle.cur_wires.specs.Wire.{Rose}
 use Rattle.ti_rows.specs.declared.rows.Row.TheVariants.{Clear}
-use Rattle.cur_looks.specs.Certified.{Table, IsLost, IsWhole, IsPiece, cell_limit}
+use Rattle.cur_looks.specs.Certified.{Table, IsLost, IsWhole, IsPiece}
 use Rattle.cur_looks.specs.Inks.{look_of}
 use Rattle.cur_looks.specs.Beliefs.{Agrees, is_shown}
 use Rattle.cur_looks.specs.declared.beliefs.Belief.{Belief}
 use Rattle.cur_looks.specs.declared.beliefs.Place.{Place}
-use Rattle.cur_looks.specs.declared.beliefs.Mode.{Mode}
 use Rattle.cur_looks.specs.declared.inks.Ink.{Ink}
 use Rattle.cur_paint.specs.Limits.{paint_limit, fresh_limit, IsPlaced}
 use Rattle.cur_paint.specs.declared.updates.Wanted.{Wanted}

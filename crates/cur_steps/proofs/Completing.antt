@@ -1,13 +1,13 @@
 -- What some pieces reach, one after another.
 use Rattle.std.proofs.Common.{◌≡◌, ℕ, List, [], ◌∷◌, ◌++◌, refl, sym, ap, subst, ◌∙◌}
 use Rattle.std.proofs.lemmas.List.{append-nil}
-use Rattle.std.specs.List.{AllByRecursion, concat}
-use Rattle.vt_term.specs.Screen.{State, Screen, IsOfSize}
+use Rattle.std.specs.List.{concat}
+use Rattle.vt_term.specs.Screen.{State, IsOfSize}
 use Rattle.vt_term.specs.Text.{IsOpen}
 use Rattle.vt_term.proofs.Sequences.{empty_open}
 use Rattle.vt_term.proofs.Running.{runs_nothing, run_keeps}
 use Rattle.cur_steps.specs.Leads.{Ends}
-use Rattle.cur_steps.specs.Lines.{Closed, Drives, Reaches}
+use Rattle.cur_steps.specs.Lines.{Reaches}
 use Rattle.cur_steps.proofs.Leading.{concat-append, all_append, ends_then}
 
 -- the state does not change

@@ -1,9 +1,8 @@
-use Rattle.std.proofs.Common.{◌+◌, ◌*◌, arith}
+use Rattle.std.proofs.Common.{◌*◌, arith}
 use Rattle.std.proofs.lemmas.Result.{err_from_is_err_and}
 use Rattle.cur_steps.proofs.Stopping.{steps_fail, steps_next}
-use Rattle.cur_looks.specs.Certified.{IsPiece, IsLost, cell_limit}
-use Rattle.cur_looks.specs.Inks.{put_at, tail_blank}
-use Rattle.cur_looks.specs.Beliefs.{Agrees, moves, plain_limit, colors_limit, brush_limit, ready_limit, stamp_limit}
+use Rattle.cur_looks.specs.Certified.{IsPiece, IsLost}
+use Rattle.cur_looks.specs.Beliefs.{Agrees, moves, brush_limit, ready_limit}
 use Rattle.cur_looks.proofs.Telling.{moves_few, at_most}
 use Rattle.cur_looks.proofs.cells.poise.Goals as goal
 

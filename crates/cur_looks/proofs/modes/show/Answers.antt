@@ -1,12 +1,11 @@
-use Rattle.std.proofs.Common.{◌≡◌, ◌+◌, ◌*◌, Some, None, true, false, arith, refl}
-use Rattle.std.proofs.lemmas.Result.{err_from_is_err_and}
-use Rattle.cur_steps.proofs.Stopping.{steps_nothing, steps_none, steps_fail, steps_next, steps_wider}
-use Rattle.ti_rows.specs.declared.rows.Row.TheVariants.{Civis, Cnorm, Cvvis}
-use Rattle.cur_looks.specs.Certified.{IsPiece, IsLost, has}
-use Rattle.cur_looks.specs.Beliefs.{Agrees, Belief, Hidden, Normal, Prominent, changes, modes_limit}
+use Rattle.std.proofs.Common.{Some, arith, refl}
+use Rattle.cur_steps.proofs.Stopping.{steps_nothing}
+use Rattle.ti_rows.specs.declared.rows.Row.TheVariants.{Cnorm}
+use Rattle.cur_looks.specs.Certified.{IsPiece, IsLost}
+use Rattle.cur_looks.specs.Beliefs.{Agrees, Belief, Normal}
 use Rattle.cur_looks.proofs.Doing.{agrees_lost}
-use Rattle.cur_looks.proofs.Telling.{has_none, once}
-use Rattle.cur_looks.proofs.Turning.{hidden, normal, always_normal, stressed, stressed_without}
+use Rattle.cur_looks.proofs.Telling.{has_none}
+use Rattle.cur_looks.proofs.Turning.{normal, always_normal}
 use Rattle.cur_looks.proofs.modes.show.Goals as goal
 
 pub returns-in-Some-clause-step : goal.returns-in-Some-clause-step

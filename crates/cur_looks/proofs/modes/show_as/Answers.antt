@@ -1,12 +1,9 @@
-use Rattle.std.proofs.Common.{◌≡◌, ◌+◌, ◌*◌, Some, None, true, false, arith, refl}
-use Rattle.std.proofs.lemmas.Result.{err_from_is_err_and}
-use Rattle.cur_steps.proofs.Stopping.{steps_nothing, steps_none, steps_fail, steps_next, steps_wider}
-use Rattle.ti_rows.specs.declared.rows.Row.TheVariants.{Civis, Cnorm, Cvvis}
-use Rattle.cur_looks.specs.Certified.{IsPiece, IsLost, has}
-use Rattle.cur_looks.specs.Beliefs.{Agrees, Belief, Hidden, Normal, Prominent, changes, modes_limit}
+use Rattle.std.proofs.Common.{◌*◌, arith, refl}
+use Rattle.cur_steps.proofs.Stopping.{steps_none, steps_wider}
+use Rattle.cur_looks.specs.Certified.{IsPiece, IsLost}
+use Rattle.cur_looks.specs.Beliefs.{Agrees, changes, modes_limit}
 use Rattle.cur_looks.proofs.Doing.{agrees_lost}
-use Rattle.cur_looks.proofs.Telling.{has_none, once}
-use Rattle.cur_looks.proofs.Turning.{hidden, normal, always_normal, stressed, stressed_without}
+use Rattle.cur_looks.proofs.Telling.{once}
 use Rattle.cur_looks.proofs.modes.show_as.Goals as goal
 
 pub returns-then-is_mode-clause-step : goal.returns-then-is_mode-clause-step

@@ -1,4 +1,4 @@
-use Rattle.std.proofs.Common.{◌≡◌, Option, Some, None, true, false, arith, refl, ap, sym, ◌∙◌}
+use Rattle.std.proofs.Common.{◌≡◌, Option, Some, true, false, arith, refl, ap, sym, ◌∙◌}
 use Rattle.vt_term.specs.Color.{Color}
 use Rattle.cur_steps.proofs.Stopping.{steps_nothing}
 use Rattle.ti_rows.specs.declared.rows.Row.TheVariants.{Op, Setab}

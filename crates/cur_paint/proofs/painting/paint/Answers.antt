@@ -1,12 +1,11 @@
-use Rattle.std.proofs.Common.{◌≡◌, ◌+◌, ◌*◌, ap, arith}
+use Rattle.std.proofs.Common.{◌*◌}
 use Rattle.std.proofs.lemmas.Result.{err_from_is_err_and}
-use Rattle.cur_steps.proofs.Stopping.{steps_none, steps_fail, steps_next, on_ok_map}
+use Rattle.cur_steps.proofs.Stopping.{steps_fail, steps_next}
 use Rattle.cur_looks.specs.Certified.{IsPiece, IsLost, cell_limit}
-use Rattle.cur_looks.specs.Beliefs.{Agrees, changes, modes_limit}
+use Rattle.cur_looks.specs.Beliefs.{Agrees}
 use Rattle.cur_looks.specs.declared.beliefs.Belief.{Belief}
-use Rattle.cur_looks.proofs.Doing.{agrees_lost}
 use Rattle.cur_paint.specs.Differ.{all_differ}
-use Rattle.cur_paint.specs.Limits.{last_move, settle_limit, paint_limit}
+use Rattle.cur_paint.specs.Limits.{settle_limit, paint_limit}
 use Rattle.cur_paint.proofs.Bounding.{limit_sum, limit_more}
 use Rattle.cur_paint.proofs.painting.paint.Goals as goal
 

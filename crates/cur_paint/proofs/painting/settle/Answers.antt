@@ -1,13 +1,10 @@
-use Rattle.std.proofs.Common.{◌≡◌, ◌+◌, ◌*◌, ap, arith}
+use Rattle.std.proofs.Common.{◌*◌, ap, arith}
 use Rattle.std.proofs.lemmas.Result.{err_from_is_err_and}
-use Rattle.cur_steps.proofs.Stopping.{steps_none, steps_fail, steps_next, on_ok_map}
-use Rattle.cur_looks.specs.Certified.{IsPiece, IsLost, cell_limit}
+use Rattle.cur_steps.proofs.Stopping.{steps_fail, steps_next}
+use Rattle.cur_looks.specs.Certified.{IsPiece, IsLost}
 use Rattle.cur_looks.specs.Beliefs.{Agrees, changes, modes_limit}
 use Rattle.cur_looks.specs.declared.beliefs.Belief.{Belief}
-use Rattle.cur_looks.proofs.Doing.{agrees_lost}
-use Rattle.cur_paint.specs.Differ.{all_differ}
-use Rattle.cur_paint.specs.Limits.{last_move, settle_limit, paint_limit}
-use Rattle.cur_paint.proofs.Bounding.{limit_sum, limit_more}
+use Rattle.cur_paint.specs.Limits.{last_move, settle_limit}
 use Rattle.cur_paint.proofs.painting.settle.Goals as goal
 
 pub returns-in_err-show_as-clause-step : goal.returns-in_err-show_as-clause-step

@@ -1,15 +1,13 @@
-use Rattle.std.proofs.Common.{◌≡◌, ◌≤◌, ℕ, List, Option, Some, Err, length, refl, sym, subst, ◌∙◌, arith}
+use Rattle.std.proofs.Common.{◌≡◌, ◌≤◌, ℕ, List, Option, Some, Err, length, subst, arith}
 use Rattle.std.proofs.lemmas.Result.{err_from_is_err_and}
 use Rattle.cur_wires.specs.declared.wires.WireFault.{WireFault}
 use Rattle.ti_rows.specs.declared.rows.Row.TheVariants.{Clear}
 use Rattle.cur_looks.specs.declared.beliefs.Belief.{Belief}
-use Rattle.cur_looks.specs.declared.inks.Ink.{Ink}
-use Rattle.cur_looks.specs.Certified.{IsLost}
 use Rattle.cur_looks.specs.Beliefs.{Agrees}
 use Rattle.cur_looks.proofs.Doing.{agrees_lost}
 use Rattle.cur_looks.proofs.Telling.{line_is}
 use Rattle.cur_paint.specs.Cleared.{cleared}
-use Rattle.cur_paint.specs.Limits.{paint_limit, fresh_limit}
+use Rattle.cur_paint.specs.Limits.{paint_limit}
 use Rattle.cur_paint.specs.Update.{Anew}
 use Rattle.cur_paint.proofs.Bounding.{fresh_enough}
 use Rattle.cur_paint.proofs.Renewing.{anew_failed, anew_then, clear_leads}
