@@ -1,9 +1,9 @@
 -- What a table says of charsets holds at least those that a terminal can have.
-use Rattle.std.proofs.Common.{◌≡◌, ◌⊎◌, inl, inr, ℕ, Bool, true, false, List, [], ◌∷◌, ◌++◌, Option, Some, None, refl, sym, ap, subst, ◌∙◌}
+use Rattle.std.proofs.Common.{◌≡◌, inl, inr, ℕ, true, List, [], ◌∷◌, ◌++◌, Option, Some, None, refl, sym, ap, subst, ◌∙◌}
 use Rattle.std.specs.List.{AllByRecursion}
 use Rattle.vt_term.specs.Text.{Splits}
 use Rattle.vt_term.specs.Function.{function_of}
-use Rattle.vt_term.specs.Screen.{Screen, Charset, is_graphic, reset_screen}
+use Rattle.vt_term.specs.Screen.{Screen, Charset, reset_screen}
 use Rattle.vt_term.specs.Step.{step, steps}
 use Rattle.vt_term.proofs.Charsets.{act_charset}
 use Rattle.vt_term.proofs.Splitting.{one_splitting, splits_append, empty_splits}
@@ -12,13 +12,12 @@ use Rattle.vt_effects.specs.declared.effects.Sets.{Sets}
 use Rattle.vt_effects.specs.Effect.{designated}
 use Rattle.vt_effects.specs.Settings.{SetsAs}
 use Rattle.vt_effects.proofs.Saying.{records_tell}
-use Rattle.ti_charsets.specs.Charsets.{charset_after, charset_over, IsAmong, reset_charset}
+use Rattle.ti_charsets.specs.Charsets.{charset_after, charset_over, IsAmong}
 use Rattle.ti_rows.specs.declared.rows.Row.{Row}
 use Rattle.ti_rows.specs.declared.rows.Row.TheVariants.{Clear, Smcup, Enacs, Sgr0, Rmacs}
 use Rattle.ti_rows.specs.Asked.{start_of}
-use Rattle.ti_resync.specs.Lines.{StaysIn}
-use Rattle.ti_checked.specs.Table.{Table, or_nothing, part, widening, resync, resync_front, keeps_settled}
-use Rattle.ti_checked.specs.Sets.{Occurs, CanHave, AtReset, AfterToken, LeadsBy, CanSettle, AfterResync, AfterLine, has_sets, SetsHold}
+use Rattle.ti_checked.specs.Table.{Table, or_nothing, part, widening, resync, resync_front}
+use Rattle.ti_checked.specs.Sets.{CanHave, AtReset, AfterToken, LeadsBy, CanSettle, AfterResync, AfterLine, SetsHold}
 use Rattle.ti_checked.specs.Judged.{JudgedLine, ChangesSets, NoLine, ByLine, changed, left_of, IsJudged}
 
 over_append : (ts us : List (List ℕ)) (c : Charset) → charset_over (ts ++ us) c ≡ charset_over us (charset_over ts c)
@@ -91,8 +90,8 @@ leads_resync : (t : Table) (j : IsJudged t) → Leads (resync t) (λ c. left_of 
 unfolding resync
 leads_resync t j = leads_joined (resync_front t) (part t (widening t) ++ part t Clear) (λ c. left_of j.changes c) (λ c. c)
     (leads_joined (part t Smcup ++ part t Enacs) (part t Sgr0 ++ part t Rmacs) (λ c. changed j.changes.enacs (changed j.changes.smcup c)) (λ c. changed j.changes.rmacs (changed j.changes.sgr0 c))
-      (leads_joined (part t Smcup) (part t Enacs) (λ c. changed j.changes.smcup c) (λ c. changed j.changes.enacs c) (leads_part t Smcup j.changes.smcup j.smcup) (leads_part t Enacs j.changes.enacs j.enacs))
-      (leads_joined (part t Sgr0) (part t Rmacs) (λ c. changed j.changes.sgr0 c) (λ c. changed j.changes.rmacs c) (leads_part t Sgr0 j.changes.sgr0 j.sgr0) (leads_part t Rmacs j.changes.rmacs j.rmacs)))
+    (leads_joined (part t Smcup) (part t Enacs) (λ c. changed j.changes.smcup c) (λ c. changed j.changes.enacs c) (leads_part t Smcup j.changes.smcup j.smcup) (leads_part t Enacs j.changes.enacs j.enacs))
+    (leads_joined (part t Sgr0) (part t Rmacs) (λ c. changed j.changes.sgr0 c) (λ c. changed j.changes.rmacs c) (leads_part t Sgr0 j.changes.sgr0 j.sgr0) (leads_part t Rmacs j.changes.rmacs j.rmacs)))
     (leads_joined (part t (widening t)) (part t Clear) (λ c. c) (λ c. c) (widen_keeps t j (t.line_of (widening t)) refl) (clear_keeps t j (t.line_of Clear) refl))
 
 -- there is one splitting, so there is one such charset

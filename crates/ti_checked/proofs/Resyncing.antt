@@ -1,5 +1,5 @@
 -- The lines of a resynchronization, one after another.
-use Rattle.std.proofs.Common.{◌≡◌, ℕ, List, ◌++◌, Option, Some, None, refl, sym, ap, subst, ◌∙◌}
+use Rattle.std.proofs.Common.{Bool, ◌≡◌, ℕ, List, ◌++◌, Option, Some, None, refl, sym, ap, subst, ◌∙◌}
 use Rattle.std.specs.Prelude.{is_some}
 use Rattle.vt_term.specs.Look.{Rendition, plain}
 use Rattle.vt_term.specs.Screen.{State}
@@ -7,13 +7,14 @@ use Rattle.vt_effects.specs.declared.effects.Effect.{Effect}
 use Rattle.vt_effects.specs.declared.effects.Sets.{Sets}
 use Rattle.vt_effects.specs.Effect.{rendered, designated}
 use Rattle.ti_rows.specs.declared.rows.Row.{Row}
-use Rattle.ti_rows.specs.declared.rows.Row.TheVariants.{Clear, Smcup, Enacs, Sgr0, Rmacs, Cnorm}
+use Rattle.ti_rows.specs.declared.rows.Row.TheVariants.{Clear, Smcup, Enacs, Sgr0, Rmacs}
 use Rattle.ti_rows.specs.Asked.{start_of}
 use Rattle.ti_resync.specs.Lost.{EndsIn, IsBlank}
+use Rattle.ti_resync.specs.Lost as lost
 use Rattle.ti_resync.specs.Lines.{HasLine, free_start, IsQuiet, SetsMargins, Clears, MayWiden, Absent, Present}
 use Rattle.ti_resync.specs.Resync.{Settles}
 use Rattle.ti_resync.proofs.Leading.{quiet_settles, nothing_settles, settles_then, resync_leads}
-use Rattle.ti_checked.specs.Table.{Table, has, or_nothing, part, widening, resync, resync_front, IsLost}
+use Rattle.ti_checked.specs.Table.{Table, has, or_nothing, part, widening, resync, resync_front}
 use Rattle.ti_checked.specs.Judged.{JudgedLine, ChangesSets, NoLine, ByLine, changed, left_of, IsJudged}
 
 -- a line of one of the four rows, or none, with what it does to the rendition
@@ -109,9 +110,9 @@ clears_all t bytes l = record {
   visible = ap (λ (e : Effect). e.visible) l.asked_for;
 }
 
-pub resyncs : (t : Table) (j : IsJudged t) (s : State) → IsLost t s → EndsIn s (resync t) (IsBlank t.rows t.cols s.screen.visible)
+pub resyncs : (t : Table) (j : IsJudged t) (shows : Bool) (s : State) → lost.IsLost t.rows t.cols (has t (widening t)) shows t.reached s → EndsIn s (resync t) (IsBlank t.rows t.cols s.screen.visible)
 unfolding resync
-resyncs t j s lost =
+resyncs t j shows s known =
     let a = settles_by t Smcup j.changes.smcup (quiet_smcup t) j.smcup in
     let b = settles_by t Enacs j.changes.enacs (quiet_enacs t) j.enacs in
     let p = makes_plain t j j.sgr0 in
@@ -122,5 +123,5 @@ resyncs t j s lost =
     let l : JudgedLine t Clear j.clear_bytes = j.lines Clear j.clear_bytes j.clears in
     let same : part t Clear ≡ j.clear_bytes = part_is t Clear (Some j.clear_bytes) j.clears in
     let clear : HasLine t.rows t.cols (free_start t.rows t.cols) (part t Clear) l.effect = subst (λ (x : List ℕ). HasLine t.rows t.cols (free_start t.rows t.cols) x l.effect) (sym same) (has_line t Clear j.clear_bytes l) in
-    resync_leads t.rows t.cols (has t (widening t)) (has t Cnorm) (resync_front t) (part t (widening t)) (part t Clear) j.rest (λ r. p.render (b.render (a.render r))) (λ c. left_of j.changes c) t.reached l.effect
-    j.escapes front (λ r. p.makes (b.render (a.render r))) j.quiet (may_widen t j (t.line_of (widening t)) refl) clear (clears_all t j.clear_bytes l) s lost
+    resync_leads t.rows t.cols (has t (widening t)) shows (resync_front t) (part t (widening t)) (part t Clear) j.rest (λ r. p.render (b.render (a.render r))) (λ c. left_of j.changes c) t.reached l.effect
+    j.escapes front (λ r. p.makes (b.render (a.render r))) j.quiet (may_widen t j (t.line_of (widening t)) refl) clear (clears_all t j.clear_bytes l) s known

@@ -1,5 +1,5 @@
 -- What may be relied on of strings that were judged, by runs of a terminal alone.
-use Rattle.std.specs.Prelude.{ℕ, ◌≡◌, true, List, [], ◌++◌, Some}
+use Rattle.std.specs.Prelude.{ℕ, ◌≡◌, Bool, true, List, [], ◌++◌, Some}
 use Rattle.vt_term.specs.Screen.{State, Screen}
 use Rattle.ti_rows.specs.declared.rows.Row.{Row}
 use Rattle.ti_rows.specs.declared.rows.Row.TheVariants.{Cnorm}
@@ -7,7 +7,8 @@ use Rattle.ti_rows.specs.Starts.{Starts}
 use Rattle.ti_rows.specs.Wants.{Wants}
 use Rattle.ti_rows.specs.Right.{IsRight, sets_visible}
 use Rattle.ti_resync.specs.Lost.{EndsIn, IsBlank}
-use Rattle.ti_checked.specs.Table.{Table, has, resync, IsLost, keeps_settled, Activates}
+use Rattle.ti_resync.specs.Lost as lost
+use Rattle.ti_checked.specs.Table.{Table, has, widening, resync, IsLost, keeps_settled, Activates}
 use Rattle.ti_checked.specs.Sets.{SetsHold}
 use Rattle.ti_checked.specs.Judged.{IsJudged}
 
@@ -28,8 +29,9 @@ pub record IsLine (t : Table) (row : Row) (bytes : List ℕ) : Type 0 where
 
 pub record IsChecked (t : Table) : Type 0 where
   pub lines : (row : Row) (bytes : List ℕ) → t.line_of row ≡ Some bytes → IsLine t row bytes
-  -- from every lost state, whatever is open, to a blank screen at rest; and where it is cut off, to a lost state
-  pub resyncs : (s : State) → IsLost t s → EndsIn s (resync t) (IsBlank t.rows t.cols s.screen.visible)
+  -- from every lost state, whatever is open and whether the cursor is visible or not, to a blank screen at rest; and
+  -- where it is cut off, to a lost state
+  pub resyncs : (shows : Bool) (s : State) → lost.IsLost t.rows t.cols (has t (widening t)) shows t.reached s → EndsIn s (resync t) (IsBlank t.rows t.cols s.screen.visible)
   pub resync_fronts : (s : State) → IsLost t s → (front back : List ℕ) → resync t ≡ front ++ back → EndsIn s front (IsLost t)
   pub sets : SetsHold t
 
