@@ -1,5 +1,5 @@
 #!/bin/sh
-# Each request for memory is refused in turn. A test of refusals/, named refused_.., prints `refused: CALL` where a call answered that
+# Each request for memory is refused in turn. A test of memory/, named refused_.., prints `refused: CALL` where a call answered that
 # memory is wanting (and checks that nothing else has changed). The Nth request is refused for N = 1, 2, .. until no call meets the
 # refusal, and each call named in memory.txt must have met one. As many rounds go side by side as there are processors.
 set -eu
@@ -13,8 +13,8 @@ trap 'rm -rf "$work"' EXIT
 rounds() {
     lane=$work/lane$1
     n=$1
-    lay "$lane" $(used tests/refusals/*.txt)
-    fill "$lane" tests/refusals
+    lay "$lane" $(used tests/memory/*.txt)
+    fill "$lane" tests/memory
     while [ "$n" -le 60 ]; do
         # the other tests of a round may fail of it, as they take every want of memory for a failure
         attempt "$lane" --test --fail-alloc "$n"
