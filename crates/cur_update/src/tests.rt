@@ -1,3 +1,4 @@
+//! Tests of painting.
 ghost use Rattle.std.specs.Prelude.{◌≡◌, ◌≤◌};
 
 use crate::plains::Plain;

@@ -1,3 +1,4 @@
+//! A terminal in its reset state that is fed what the painter sent.
 ghost use Rattle.std.specs.Prelude.{◌<◌, map, IsTrue, IfSome};
 ghost use Rattle.cur_update.specs.Plain.{Shows, fits_size};
 

@@ -1,3 +1,4 @@
+//! Cutting a line at its first space.
 ghost use Rattle.std.specs.List.{position};
 ghost use Rattle.std.specs.Prelude.{◌≡◌, ◌==◌, ◌<◌, ◌+◌, length, take, drop, option_map, IfSome};
 ghost use Rattle.ti_lines.specs.Cut.{cut_at};

@@ -1,3 +1,4 @@
+//! The lines of a certificate about no capability: the first, that of alternate characters, and the last.
 ghost use Rattle.std.specs.Prelude.{◌≡◌, ℕ, List, Some, IfOk, IfSome, option_map};
 ghost use Rattle.ti_lines.specs.Heads as spec;
 

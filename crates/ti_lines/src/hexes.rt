@@ -1,3 +1,4 @@
+//! Bytes as hexadecimal words.
 ghost use Rattle.std.specs.Prelude.{◌≡◌, ◌&&◌, nat_le, IfOk, option_map};
 ghost use Rattle.hex.specs.Hex.{decode_of};
 ghost use Rattle.ti_lines.specs.Hex as spec;

@@ -1,3 +1,4 @@
+//! A line of a certificate as a value.
 use ti_caps::Bytes;
 use ti_rows::Row;
 use vt_effects::Effect;

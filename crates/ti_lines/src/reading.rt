@@ -1,3 +1,4 @@
+//! Reading a line about a checked capability.
 ghost use Rattle.std.specs.Prelude.{◌≡◌, ◌≤◌, [], Some, length, IfOk, IfSome, IfNone, option_map};
 ghost use Rattle.ti_lines.specs.declared.lines.RowLine as declared;
 ghost use Rattle.ti_lines.specs.Lines as spec;

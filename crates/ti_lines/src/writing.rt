@@ -1,3 +1,4 @@
+//! The text of a line about a checked capability.
 ghost use Rattle.std.specs.Fmt.{decimal};
 ghost use Rattle.std.specs.Prelude.{◌≡◌, ◌++◌, ◌∷◌, [], OnOk, IfOk};
 ghost use Rattle.ti_lines.specs.Hex.{hex_text};

@@ -1,3 +1,4 @@
+//! The effect that the table asks for, row by row.
 ghost use Rattle.std.specs.Prelude.{◌≡◌, ◌&&◌, ◌||◌};
 ghost use Rattle.ti_rows.specs.Asked as spec;
 ghost use Rattle.ti_rows.specs.Looks as looks;

@@ -1,3 +1,4 @@
+//! Sets of attributes as numbers of seven binary digits.
 ghost use Rattle.std.specs.Prelude.{◌≡◌, ◌<◌, ◌≤◌};
 ghost use Rattle.ti_rows.specs.Bits as spec;
 

@@ -1,3 +1,4 @@
+//! Whether tokens have the effect that the table asks for.
 ghost use Rattle.std.specs.Prelude.{◌≡◌, ℕ, List, [], IsTrue, Some};
 ghost use Rattle.ti_rows.specs.Asked as spec;
 ghost use Rattle.ti_rows.specs.Right.{IsRight};

@@ -1,3 +1,4 @@
+//! What the lines of single attributes say of the marks that each attribute shows.
 ghost use Rattle.std.specs.Prelude.{◌≡◌};
 ghost use Rattle.ti_rows.specs.Looks as spec;
 

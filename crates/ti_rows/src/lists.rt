@@ -1,3 +1,4 @@
+//! The parameter lists of each capability, in ascending order.
 ghost use Rattle.std.specs.Prelude.{◌≡◌, ◌+◌, ◌-◌, ◌<◌, ◌≤◌, ◌↔◌, IsTrue};
 ghost use Rattle.ti_rows.specs.Bits as bits;
 ghost use Rattle.ti_rows.specs.Lists as spec;

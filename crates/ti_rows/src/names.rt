@@ -1,3 +1,4 @@
+//! The checked capabilities by name and in order.
 ghost use Rattle.std.specs.Prelude.{◌≡◌, ◌≢◌, ◌+◌, ◌<◌, Some, IfSome, IfNone};
 ghost use Rattle.ti_rows.specs.Names as spec;
 ghost use Rattle.ti_rows.specs.Rows as rows;

@@ -1,3 +1,4 @@
+//! A row of the table: a checked capability with its parameters.
 use vt_term::Color;
 
 /// The attributes that a parameter list of `sgr` asks for. The other two of its nine numbers, for

@@ -1,3 +1,4 @@
+//! The states from which a row is judged.
 ghost use Rattle.std.specs.Prelude.{◌≡◌};
 ghost use Rattle.ti_rows.specs.Asked as spec;
 

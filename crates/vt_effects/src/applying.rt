@@ -1,3 +1,4 @@
+//! Applying an effect to a terminal.
 ghost use Rattle.std.specs.Prelude.{◌≡◌, ◌<◌, ◌≤◌};
 ghost use Rattle.vt_effects.specs.Effect as spec;
 ghost use Rattle.vt_term.specs.Look.{blank};

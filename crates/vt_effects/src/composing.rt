@@ -1,3 +1,4 @@
+//! One effect and then another, as one.
 ghost use Rattle.std.specs.Prelude.{◌≡◌, IfSome};
 ghost use Rattle.vt_effects.specs.Compose as spec;
 

@@ -1,3 +1,4 @@
+//! Effect records and their parts.
 ghost use Rattle.std.specs.Prelude.{◌≡◌};
 ghost use Rattle.vt_effects.specs.Effect as spec;
 ghost use Rattle.vt_effects.specs.Record as records;

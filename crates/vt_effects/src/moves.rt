@@ -1,3 +1,4 @@
+//! Moves of the cursor by rows or columns, one after another.
 ghost use Rattle.std.specs.Prelude.{◌≡◌, ◌+◌, ◌-◌, ◌<◌, ◌≤◌, ◌^◌};
 ghost use Rattle.vt_effects.specs.Effect as meaning;
 ghost use Rattle.vt_effects.specs.Fits.{BackFits, ForwardFits};

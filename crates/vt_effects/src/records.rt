@@ -1,3 +1,4 @@
+//! The effect of tokens from every state that a start allows.
 ghost use Rattle.vt_effects.specs.Sound.{StepsAs, RunsAs};
 ghost use Rattle.std.specs.Prelude.{◌≡◌, IfSome, ◌<◌, ◌≤◌, ◌-◌, min};
 ghost use Rattle.vt_effects.specs.Record as spec;

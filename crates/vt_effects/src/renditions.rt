@@ -1,3 +1,4 @@
+//! What SGR does to a rendition, as part of an effect.
 ghost use Rattle.std.specs.Prelude.{◌≡◌};
 ghost use Rattle.vt_effects.specs.Record as spec;
 

@@ -1,3 +1,5 @@
+//! Sets of states from which an effect is stated.
+
 /// What is known of the margins of a start.
 #[derive(Clone, Copy, Debug, PartialEq, Eq)]
 pub enum Margins {

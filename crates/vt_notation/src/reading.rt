@@ -1,3 +1,4 @@
+//! Reading an effect's text.
 ghost use Rattle.std.specs.Prelude.{◌≡◌, ◌∷◌, [], ◌<◌, ◌==◌, ℕ, Some, IfSome, IfNone, option_map, length, take, drop, ◌+◌};
 ghost use Rattle.std.specs.List.{position};
 ghost use Rattle.vt_effects.specs.declared.effects.Effect as declared;

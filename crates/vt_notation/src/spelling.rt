@@ -1,3 +1,4 @@
+//! The text of an effect.
 ghost use Rattle.std.specs.Prelude.{◌≡◌, ◌<◌, ◌++◌, OnOk, IfOk, length};
 ghost use Rattle.std.specs.Fmt.{decimal};
 ghost use Rattle.vt_notation.specs.Text as spec;

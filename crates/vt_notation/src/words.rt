@@ -1,3 +1,4 @@
+//! The words of an effect's text.
 use vt_effects::{Effect, Erasure, Ink, Move, Region, Scroll, Sets, Switch};
 
 /// What becomes of the marks of the rendition.
