@@ -1,8 +1,9 @@
 -- What SGR and modes do is what the record says.
-use Rattle.std.proofs.Common.{◌≡◌, ℕ, ◌==◌, ◌&&◌, nat_le, Bool, true, false, if◌then◌else◌, List, [], ◌∷◌, Option, Some, refl, sym, ap, ◌∙◌}
+use Rattle.std.proofs.Common.{◌≡◌, ℕ, ◌==◌, ◌&&◌, nat_le, Bool, true, false, if◌then◌else◌, List, [], ◌∷◌, Option, Some, None, refl, sym, ap, ◌∙◌}
 use Rattle.std.specs.Option.{unwrap_or}
 use Rattle.std.proofs.lemmas.Option.{option_and_then_some}
-use Rattle.vt_term.specs.Rendering.{RenditionChange, changed_if}
+use Rattle.vt_term.specs.Rendering.{RenditionChange, change_of, changed, changed_if}
+use Rattle.vt_term.specs.Rendering as changes
 use Rattle.vt_term.specs.Function.{ModeKind, Standard, Private}
 use Rattle.vt_term.specs.Look.{Rendition}
 use Rattle.vt_term.specs.Screen.{Screen}
@@ -10,21 +11,33 @@ use Rattle.vt_term.specs.Step as step
 use Rattle.vt_effects.specs.declared.effects.Rendering.{Rendering}
 use Rattle.vt_effects.specs.declared.effects.Effect.{Effect}
 use Rattle.vt_effects.specs.Effect.{rendered, applied}
-use Rattle.vt_effects.specs.Record.{rendering, all_renderings, mode_set, modes_set}
+use Rattle.vt_effects.specs.Record.{changing, changing_if, rendering, all_renderings, mode_set, modes_set}
 use Rattle.vt_effects.proofs.Moving.{chosen, given, not_found}
 
-either_rendered : (b : Bool) (p q : Rendering) (x y : Rendition) (u v : Option RenditionChange) → rendered p x ≡ changed_if u y → rendered q x ≡ changed_if v y → rendered (if b then p else q) x ≡ changed_if (if b then u else v) y
-either_rendered true p q x y u v h k = h
-either_rendered false p q x y u v h k = k
+change_rendered : (c : RenditionChange) (r : Rendering) (x : Rendition) → rendered (changing c r) x ≡ changed c (rendered r x)
+change_rendered changes.Plain r x = refl
+change_rendered changes.Bold r x = refl
+change_rendered changes.Faint r x = refl
+change_rendered changes.Underline r x = refl
+change_rendered changes.Blink r x = refl
+change_rendered changes.Negative r x = refl
+change_rendered changes.Concealed r x = refl
+change_rendered changes.NormalIntensity r x = refl
+change_rendered changes.NotUnderlined r x = refl
+change_rendered changes.Steady r x = refl
+change_rendered changes.Positive r x = refl
+change_rendered changes.Revealed r x = refl
+change_rendered (changes.Foreground None) r x = refl
+change_rendered (changes.Foreground (Some c)) r x = refl
+change_rendered (changes.Background None) r x = refl
+change_rendered (changes.Background (Some c)) r x = refl
+
+change_if_rendered : (c : Option RenditionChange) (r : Rendering) (x : Rendition) → rendered (changing_if c r) x ≡ changed_if c (rendered r x)
+change_if_rendered None r x = refl
+change_if_rendered (Some c) r x = change_rendered c r x
 
 number_rendered : (n : ℕ) (r : Rendering) (x : Rendition) → rendered (rendering n r) x ≡ step.rendered n (rendered r x)
-number_rendered n r x =
-    either_rendered (n == 0) _ _ x _ _ _ refl (either_rendered (n == 1) _ _ x _ _ _ refl (either_rendered (n == 2) _ _ x _ _ _ refl
-    (either_rendered (n == 4) _ _ x _ _ _ refl (either_rendered (n == 5) _ _ x _ _ _ refl (either_rendered (n == 7) _ _ x _ _ _ refl
-    (either_rendered (n == 8) _ _ x _ _ _ refl (either_rendered (n == 22) _ _ x _ _ _ refl (either_rendered (n == 24) _ _ x _ _ _ refl
-    (either_rendered (n == 25) _ _ x _ _ _ refl (either_rendered (n == 27) _ _ x _ _ _ refl (either_rendered (n == 28) _ _ x _ _ _ refl
-    (either_rendered (nat_le 30 n && nat_le n 37) _ _ x _ _ _ refl (either_rendered (n == 39) _ _ x _ _ _ refl
-    (either_rendered (nat_le 40 n && nat_le n 47) _ _ x _ _ _ refl (either_rendered (n == 49) _ _ x _ _ _ refl refl)))))))))))))))
+number_rendered n r x = change_if_rendered (change_of n) r x
 
 pub numbers_rendered : (ns : List (Option ℕ)) (r : Rendering) (x : Rendition) → rendered (all_renderings ns r) x ≡ step.all_rendered ns (rendered r x)
 numbers_rendered [] r x = refl

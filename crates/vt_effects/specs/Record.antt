@@ -2,7 +2,9 @@
 -- them has no record, and then the string has none.
 use Rattle.std.specs.Prelude.{ℕ, ◌+◌, ◌-◌, ◌*◌, ◌/◌, ◌==◌, ◌&&◌, nat_le, nat_lt, min, Bool, true, false, List, [], ◌∷◌, if◌then◌else◌, Option, None, Some}
 use Rattle.std.specs.Option.{unwrap_or, option_and_then}
-use Rattle.vt_term.specs.Color.{color}
+use Rattle.vt_term.specs.Color.{Color}
+use Rattle.vt_term.specs.Rendering.{RenditionChange, change_of}
+use Rattle.vt_term.specs.Rendering as changes
 use Rattle.vt_term.specs.Function.{CodeElement, G0, G1, ModeKind, Standard, Private, EraseExtent, ToEnd, FromStart, function_of, Function, Print, LineFeed, CarriageReturn, Backspace, Tab, ShiftOut, ShiftIn, ReverseIndex, NextLine, CursorUp, CursorDown, CursorForward, CursorBack, CursorColumn, CursorRow, CursorPosition, EraseLine, EraseDisplay, EraseCells, InsertCells, DeleteCells, InsertLines, DeleteLines, ScrollUp, ScrollDown, Designate, SelectRendition, Modes, Ignored}
 use Rattle.vt_term.specs.Function as functions
 use Rattle.vt_effects.specs.declared.effects.Move.{Move}
@@ -163,7 +165,7 @@ display_erased ToEnd e = if is_first e.row && is_first e.col then screen_erased 
 display_erased FromStart e = None
 display_erased functions.Whole e = screen_erased e
 
--- one number of SGR (ECMA-48 8.3.117)
+-- all marks off, and the default colours
 abbrev pub all_off : Rendering
 all_off = record {
   bold = switches.Off;
@@ -176,33 +178,35 @@ all_off = record {
   background = inks.Default;
 }
 
-abbrev pub colored : ℕ → Rendering → Rendering
-colored n r =
-    if nat_le 30 n && nat_le n 37 then record r { foreground = inks.Color (color (n - 30)) }
-    else (if n == 39 then record r { foreground = inks.Default }
-    else (if nat_le 40 n && nat_le n 47 then record r { background = inks.Color (color (n - 40)) }
-    else (if n == 49 then record r { background = inks.Default }
-    else r)))
+abbrev pub ink_of : Option Color → Ink
+ink_of None = inks.Default
+ink_of (Some color) = inks.Color color
 
-abbrev pub turned_off : ℕ → Rendering → Rendering
-turned_off n r =
-    if n == 22 then record r { bold = switches.Off; faint = switches.Off }
-    else (if n == 24 then record r { underline = switches.Off }
-    else (if n == 25 then record r { blink = switches.Off }
-    else (if n == 27 then record r { negative = switches.Off }
-    else (if n == 28 then record r { concealed = switches.Off }
-    else colored n r))))
+-- what one of the changes that SGR has makes of a rendering
+abbrev pub changing : RenditionChange → Rendering → Rendering
+changing changes.Plain r = all_off
+changing changes.Bold r = record r { bold = switches.On }
+changing changes.Faint r = record r { faint = switches.On }
+changing changes.Underline r = record r { underline = switches.On }
+changing changes.Blink r = record r { blink = switches.On }
+changing changes.Negative r = record r { negative = switches.On }
+changing changes.Concealed r = record r { concealed = switches.On }
+changing changes.NormalIntensity r = record r { bold = switches.Off; faint = switches.Off }
+changing changes.NotUnderlined r = record r { underline = switches.Off }
+changing changes.Steady r = record r { blink = switches.Off }
+changing changes.Positive r = record r { negative = switches.Off }
+changing changes.Revealed r = record r { concealed = switches.Off }
+changing (changes.Foreground c) r = record r { foreground = ink_of c }
+changing (changes.Background c) r = record r { background = ink_of c }
 
+-- a number that stands for no change is ignored
+abbrev pub changing_if : Option RenditionChange → Rendering → Rendering
+changing_if None r = r
+changing_if (Some change) r = changing change r
+
+-- one number of SGR (ECMA-48 8.3.117)
 abbrev pub rendering : ℕ → Rendering → Rendering
-rendering n r =
-    if n == 0 then all_off
-    else (if n == 1 then record r { bold = switches.On }
-    else (if n == 2 then record r { faint = switches.On }
-    else (if n == 4 then record r { underline = switches.On }
-    else (if n == 5 then record r { blink = switches.On }
-    else (if n == 7 then record r { negative = switches.On }
-    else (if n == 8 then record r { concealed = switches.On }
-    else turned_off n r))))))
+rendering n r = changing_if (change_of n) r
 
 -- all numbers of SGR, one after another; the default is 0
 abbrev pub all_renderings : List (Option ℕ) → Rendering → Rendering

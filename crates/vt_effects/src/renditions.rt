@@ -3,94 +3,52 @@ ghost use Rattle.std.specs.Prelude.{◌≡◌};
 ghost use Rattle.vt_effects.specs.Record as spec;
 
 use crate::effects::{Ink, Rendering, Switch};
-use vt_term::color_of;
+use vt_term::{Color, RenditionChange};
 
-/// A rendering, and then one number of SGR.
+/// The ink that a colour of SGR is; `None` is the default colour.
+fn ink_of(color: Option<Color>) -> Ink
+    ensures { result ≡ spec.ink_of color }
+{
+    match color {
+        None => Ink::Default,
+        Some(color) => Ink::Color(color),
+    }
+}
+
+/// A rendering, and then one change.
+fn changing(now: Rendering, change: RenditionChange) -> Rendering
+    ensures { result ≡ spec.changing change now }
+{
+    let mut then = now;
+    match change {
+        RenditionChange::Plain => then = Rendering::all_off(),
+        RenditionChange::Bold => then.bold = Switch::On,
+        RenditionChange::Faint => then.faint = Switch::On,
+        RenditionChange::Underline => then.underline = Switch::On,
+        RenditionChange::Blink => then.blink = Switch::On,
+        RenditionChange::Negative => then.negative = Switch::On,
+        RenditionChange::Concealed => then.concealed = Switch::On,
+        RenditionChange::NormalIntensity => {
+            then.bold = Switch::Off;
+            then.faint = Switch::Off;
+        }
+        RenditionChange::NotUnderlined => then.underline = Switch::Off,
+        RenditionChange::Steady => then.blink = Switch::Off,
+        RenditionChange::Positive => then.negative = Switch::Off,
+        RenditionChange::Revealed => then.concealed = Switch::Off,
+        RenditionChange::Foreground(color) => then.foreground = ink_of(color),
+        RenditionChange::Background(color) => then.background = ink_of(color),
+    }
+    then
+}
+
+/// A rendering, and then one number of SGR; one that stands for no change is ignored.
 fn rendering(now: Rendering, number: u16) -> Rendering
     ensures { result ≡ spec.rendering number now }
 {
-    match number {
-        0 => Rendering::all_off(),
-        1 => Rendering {
-            bold: Switch::On,
-            ..now
-        },
-        2 => Rendering {
-            faint: Switch::On,
-            ..now
-        },
-        4 => Rendering {
-            underline: Switch::On,
-            ..now
-        },
-        5 => Rendering {
-            blink: Switch::On,
-            ..now
-        },
-        7 => Rendering {
-            negative: Switch::On,
-            ..now
-        },
-        8 => Rendering {
-            concealed: Switch::On,
-            ..now
-        },
-        _ => turned_off(now, number),
-    }
-}
-
-/// A rendering, and then a number of SGR that turns marks off or sets a colour.
-fn turned_off(now: Rendering, number: u16) -> Rendering
-    ensures { result ≡ spec.turned_off number now }
-{
-    match number {
-        22 => Rendering {
-            bold: Switch::Off,
-            faint: Switch::Off,
-            ..now
-        },
-        24 => Rendering {
-            underline: Switch::Off,
-            ..now
-        },
-        25 => Rendering {
-            blink: Switch::Off,
-            ..now
-        },
-        27 => Rendering {
-            negative: Switch::Off,
-            ..now
-        },
-        28 => Rendering {
-            concealed: Switch::Off,
-            ..now
-        },
-        _ => colored(now, number),
-    }
-}
-
-/// A rendering, and then a number of SGR that sets a colour; any other number is ignored.
-fn colored(now: Rendering, number: u16) -> Rendering
-    ensures { result ≡ spec.colored number now }
-{
-    match number {
-        30..=37 => Rendering {
-            foreground: Ink::Color(color_of(number - 30)),
-            ..now
-        },
-        39 => Rendering {
-            foreground: Ink::Default,
-            ..now
-        },
-        40..=47 => Rendering {
-            background: Ink::Color(color_of(number - 40)),
-            ..now
-        },
-        49 => Rendering {
-            background: Ink::Default,
-            ..now
-        },
-        _ => now,
+    match RenditionChange::of(number) {
+        None => now,
+        Some(change) => changing(now, change),
     }
 }
 
