@@ -1,9 +1,9 @@
 #!/bin/sh
-# How fast `ticurses feed` is beside libvterm (Debian: libvterm-dev): 16 MiB of each kind of stream that stream.awk
-# writes, at 24 by 80 and at 200 by 500, in megabytes a second of processor time over the whole run of either program,
-# the best of five, in turn. Both read the file and print the screen, and the screens must be the same. At 200 by 500
-# libvterm, which moves every cell to scroll, gets one of the 16 MiB.
-# feed.sh KIND..: those kinds alone. Without libvterm or a C compiler it says so and measures ticurses alone.
+# How fast `ticurses feed` is beside libvterm (Debian: libvterm-dev) and the vt100 crate (Debian: librust-vt100-dev,
+# cargo): 16 MiB of each kind of stream that stream.awk writes, at 24 by 80 and at 200 by 500, in megabytes a second of
+# processor time over the whole run of each program, the best of five, in turn. All read the file and print the screen,
+# and libvterm's must be the same. At 200 by 500 libvterm, which moves every cell to scroll, gets one of the 16 MiB.
+# feed.sh KIND..: those kinds alone. A peer that can't be built is left out, with a line.
 set -eu
 cd -- "$(dirname -- "$0")"
 work=$(mktemp -d)
@@ -13,7 +13,18 @@ trap 'rm -rf "$work"' EXIT
 peer=$work/peer
 if ! cc -O2 -o "$peer" peer.c -lvterm 2>"$work/log"; then
     peer=
-    echo "feed: libvterm or a C compiler is missing, so ticurses is measured alone"
+    echo "feed: libvterm is left out, since it or a C compiler is missing"
+fi
+# Debian's crates are folders that cargo reads without a network
+crate=$work/vt100
+mkdir -p "$crate/src" "$crate/.cargo"
+cp vt100_peer.rs "$crate/src/main.rs"
+printf '[package]\nname = "peer"\nversion = "0.0.0"\nedition = "2021"\n[dependencies]\nvt100 = "0.15"\n' >"$crate/Cargo.toml"
+printf '[source.crates-io]\nreplace-with = "debian"\n[source.debian]\ndirectory = "/usr/share/cargo/registry"\n' >"$crate/.cargo/config.toml"
+other=$crate/target/release/peer
+if ! (cd "$crate" && cargo build --release --offline) >"$work/log" 2>&1; then
+    other=
+    echo "feed: the vt100 crate is left out, since it or cargo is missing"
 fi
 # builds it where it has to be, and leaves that out of the time
 ../ticurses --version >/dev/null
@@ -43,6 +54,7 @@ measure() {
     for turn in 1 2 3 4 5; do
         echo "ticurses $(seconds "$ours" feed "$2" "$3" "$work/stream")"
         [ -z "$peer" ] || echo "libvterm $(seconds "$peer" "$2" "$3" "$work/$share")"
+        [ -z "$other" ] || echo "vt100 $(seconds "$other" "$2" "$3" "$work/stream")"
     done | awk -v kind="$1" -v rows="$2" -v cols="$3" -v parts="$([ $share = part ] && echo 1 || echo 16)" '
         !($1 in best) || $2 < best[$1] { best[$1] = $2 }
         END {
@@ -51,6 +63,10 @@ measure() {
             if ("libvterm" in best) {
                 theirs = parts * 1.048576 / best["libvterm"]
                 printf ", libvterm %5.1f MB/s, ratio %.1f", theirs, ours / theirs
+            }
+            if ("vt100" in best) {
+                other = 16 * 1.048576 / best["vt100"]
+                printf ", vt100 %5.1f MB/s, ratio %.1f", other, ours / other
             }
             printf "\n"
         }'

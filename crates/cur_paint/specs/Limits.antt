@@ -1,4 +1,4 @@
--- Where the cursor is wanted, and the most that is sent.
+-- (Serves the code alone.) Where the cursor is wanted, and the most that is sent.
 use Rattle.std.specs.Prelude.{ℕ, ◌+◌, ◌*◌, ◌<◌, ◌≡◌, ◌==◌, ◌&&◌, Bool, Option, Some, None, length, if◌then◌else◌}
 use Rattle.cur_looks.specs.Certified.{Table, cell_limit}
 use Rattle.cur_looks.specs.Beliefs.{moves, changes, modes_limit}

@@ -1,4 +1,4 @@
--- The kinds of state that a painter of a plain grid comes through, from line to line and place to place.
+-- (Serves the code alone.) The kinds of state that a painter of a plain grid comes through, from line to line and place to place.
 use Rattle.std.specs.Prelude.{ℕ, ◌<◌, ◌≡◌, List}
 use Rattle.vt_term.specs.Grid.{look_at}
 use Rattle.vt_term.specs.Screen.{State}

@@ -1,4 +1,4 @@
--- A wire whose bytes are counted.
+-- (Serves the code alone.) A wire whose bytes are counted.
 use Rattle.std.specs.Prelude.{ℕ, ◌+◌, ◌^◌, ◌<◌, ◌≡◌, List, ◌++◌, length, refl}
 use Rattle.std.specs.Borrow.{MutBor}
 use Rattle.std.proofs.Common.{◌∙◌, arith, length-append}

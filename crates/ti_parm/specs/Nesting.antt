@@ -1,4 +1,4 @@
--- The shape of conditionals, one code after the other.
+-- (Serves the code alone.) The shape of conditionals, one code after the other.
 use Rattle.std.specs.Prelude.{List, [], ◌∷◌, Result, Ok, Err, Option, Some, None}
 use Rattle.ti_parm.specs.Fault.{◌>>=◌}
 use Rattle.ti_parm.specs.declared.code.Code.{Code}

@@ -1,4 +1,4 @@
--- Running from a place in a string on.
+-- (Serves the code alone.) Running from a place in a string on.
 use Rattle.std.specs.Prelude.{ℕ, Bool, true, false, List, Result, Ok, Err}
 use Rattle.ti_parm.specs.Fault.{◌>>=◌}
 use Rattle.ti_parm.specs.declared.code.Mark.TheVariants.{Then, Else, End}

@@ -1,4 +1,4 @@
--- Going over parts that are not run.
+-- (Serves the code alone.) Going over parts that are not run.
 use Rattle.std.specs.Prelude.{ℕ, zero, suc, Bool, true, false, Option, Some, None}
 use Rattle.ti_parm.specs.declared.code.Code.{Code}
 use Rattle.ti_parm.specs.declared.code.Code.TheVariants.{Act, If, Of}

@@ -1,4 +1,4 @@
--- The index of names, which serves the code's look-up alone.
+-- (Serves the code alone.) The index of names, which serves the code's look-up alone.
 use Rattle.std.specs.Prelude.{ℕ, ◌≡◌, Bool, List, Option, Some, None, if◌then◌else◌}
 use Rattle.std.specs.BTreeMap.{BTreeMap, get_by}
 use Rattle.std.specs.Cmp.Lexicographic.{slice_cmp}

@@ -1,4 +1,4 @@
--- What scans of a text answer: places in it.
+-- (Serves the code alone.) What scans of a text answer: places in it.
 use Rattle.std.specs.Prelude.{ℕ, ◌+◌, suc, List, [], ◌∷◌, ◌++◌, Option, Some, None, if◌then◌else◌, ◌==◌, option_map}
 use Rattle.ti_caps.specs.declared.fits.Opener.{Opener}
 use Rattle.ti_caps.specs.Fits.{opener_after}

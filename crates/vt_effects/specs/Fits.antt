@@ -1,4 +1,4 @@
--- Sums that fit the numbers of a move.
+-- (Serves the code alone.) Sums that fit the numbers of a move.
 use Rattle.std.specs.Prelude.{ℕ, ◌+◌, ◌≤◌}
 use Rattle.vt_effects.specs.declared.effects.Move.{Move}
 use Rattle.vt_effects.specs.declared.effects.Move.TheVariants as moves

@@ -1,4 +1,4 @@
--- How a text is read, word by word. Only the reader's own clauses cite this file.
+-- (Serves the code alone.) How a text is read, word by word. Only the reader's own clauses cite this file.
 use Rattle.std.specs.Prelude.{ℕ, ◌+◌, ◌-◌, ◌*◌, ◌==◌, ◌&&◌, nat_le, nat_lt, bytes_eq, Bool, true, if◌then◌else◌, List, [], ◌∷◌, Option, None, Some}
 use Rattle.std.specs.Option.{option_map, option_or, option_and_then}
 use Rattle.std.specs.List.{list_all, slice_split}

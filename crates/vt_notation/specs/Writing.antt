@@ -1,4 +1,4 @@
--- How a text is written, word by word. Only the writer's own clauses cite this file.
+-- (Serves the code alone.) How a text is written, word by word. Only the writer's own clauses cite this file.
 use Rattle.std.specs.Prelude.{ℕ, List, [], ◌∷◌, ◌++◌}
 
 -- a space behind the words before

@@ -1,4 +1,4 @@
--- What each stage of the parser says of the bytes so far. Only the parser's own clauses cite this file.
+-- (Serves the code alone.) What each stage of the parser says of the bytes so far. Only the parser's own clauses cite this file.
 use Rattle.std.specs.Prelude.{◌≡◌, ◌≢◌, ℕ, ◌-◌, ◌<◌, ◌≤◌, ◌==◌, ◌&&◌, Bool, true, false, List, [], ◌∷◌, ◌++◌, length, take, slice_index, Option, None, Some}
 use Rattle.std.specs.List.{list_all}
 use Rattle.vt_term.specs.declared.parser.ParserState.{ParserState}
