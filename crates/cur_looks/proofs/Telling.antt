@@ -1,4 +1,4 @@
--- Lines behind options, and limits.
+-- Lines after options, and limits.
 use Rattle.std.proofs.Common.{◌≡◌, ℕ, ◌*◌, ◌≤◌, ◌==◌, ◌&&◌, Bool, true, false, zero, suc, if◌then◌else◌, List, Option, Some, None, Bor, IfSome, is_some, subst, sym, ap, arith}
 use Rattle.ti_rows.specs.declared.rows.Row.{Row}
 use Rattle.cur_looks.specs.Certified.{Table, has}

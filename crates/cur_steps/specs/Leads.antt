@@ -10,7 +10,7 @@ pub record Ends (before : State) (bytes : List ℕ) (kind : State → Type 0) : 
   pub runs : Runs before bytes after
   pub there : kind after
 
--- The bytes are pieces of this sort, one behind another, and at most so many.
+-- The bytes are pieces of this sort, one after another, and at most so many.
 -- They lead every state of the kind before to one of the kind after.
 -- Where only a front of them is run, the state is one of the kind between.
 pub record Leads (IsPiece : List ℕ → Type 0) (limit : ℕ) (between before : State → Type 0) (bytes : List ℕ) (after : State → Type 0) : Type 0 where

@@ -57,11 +57,11 @@ is_grid size lines h =
           all_printed (get_or lines row []) f.printed k (omega (arith, f.columns)));
     }
 
--- the line behind a reference
+-- the line after a reference
 pub line_behind : (lines : List (Bor (List ℕ))) (row : ℕ) (d : Bor (List ℕ)) → row < length lines → get_or (map (λ (line : Bor (List ℕ)). line.now) lines) row [] ≡ (get_or lines row d).now
 line_behind lines row d lt = get_or-map (λ (line : Bor (List ℕ)). line.now) lines row d [] lt
 
--- a line behind a reference is one of the grid's
+-- a line after a reference is one of the grid's
 pub behind_fits : (size : Extent) (lines : List (Bor (List ℕ))) (row : ℕ) (d : Bor (List ℕ)) → fits_size size (map (λ (line : Bor (List ℕ)). line.now) lines) ≡ true → row < length lines
     → LineFits size (get_or lines row d).now
 behind_fits size lines row d h lt =
@@ -71,7 +71,7 @@ behind_fits size lines row d h lt =
 pub behind_rows : (size : Extent) (lines : List (Bor (List ℕ))) → fits_size size (map (λ (line : Bor (List ℕ)). line.now) lines) ≡ true → length lines ≡ size.rows
 behind_rows size lines h = sym (length-map lines (λ (line : Bor (List ℕ)). line.now)) ∙ rows_fit size (map (λ (line : Bor (List ℕ)). line.now) lines) h
 
--- the lines before, one line and the lines behind it are all lines
+-- the lines before, one line and the lines after it are all lines
 pub limits_add : (before behind rows one last : ℕ) → before + 1 + behind ≡ rows → (before * one + one) + (behind * one + last) ≤ rows * one + last
 limits_add before behind rows one last e =
     let f : (n : ℕ) → n ≡ rows → (before * one + one) + (behind * one + last) ≡ n * one + last → (before * one + one) + (behind * one + last) ≤ rows * one + last =

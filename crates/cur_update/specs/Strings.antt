@@ -1,4 +1,4 @@
--- (Serves the code alone.) Strings that lie one behind another in one list of bytes.
+-- (Serves the code alone.) Strings that lie one after another in one list of bytes.
 use Rattle.std.specs.Prelude.{ℕ, ◌≤◌, ◌≡◌, List, [], ◌∷◌, slice_range}
 
 -- the bytes, cut where each string ends

@@ -5,7 +5,7 @@ ghost use Rattle.cur_update.specs.Strings.{cut_at, EndsHere};
 use std::alloc::{AllocError, Global};
 use std::marker::Model;
 
-/// Byte strings, packed one behind another.
+/// Byte strings, packed one after another.
 #[derive(Drop)]
 pub(crate) struct Strings {
     bytes: Vec<u8>,

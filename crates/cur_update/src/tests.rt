@@ -9,7 +9,7 @@ use std::process::Abort;
 use std::test::Fail;
 use vt_term::{Size, Terminal};
 
-/// A wire that takes one byte at a time and tells nothing of what went out.
+/// A wire that takes one byte at a time and records nothing of what went out.
 #[derive(Drop)]
 struct Narrow {
     tape: Tape,

@@ -1,4 +1,4 @@
-//! A wire over memory that fails where it is told.
+//! A wire over memory that fails at given places.
 ghost use Rattle.std.specs.Prelude.{◌≡◌, ◌<◌, ◌≤◌, [], length, min, take, is_ok, IfOk, OnErr};
 ghost use Rattle.cur_wires.specs.Tape.{after_send, room};
 ghost use Rattle.cur_wires.specs.Fuse.{until_failure, counted_down, passed};
@@ -9,7 +9,7 @@ use crate::wires::{Wire, WireFault};
 use std::alloc::{AllocError, Global};
 use std::marker::Model;
 
-/// A wire over memory that fails where it is told, to try what a failure at each byte does.
+/// A wire over memory that fails at given places, to try what a failure at each byte does.
 #[derive(Drop)]
 pub struct Fuse {
     tape: Tape,

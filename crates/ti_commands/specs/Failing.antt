@@ -1,4 +1,4 @@
--- What is told of a word that is wrong, and of a file. Want of memory can come at any time and says nothing.
+-- What is told of a word that is wrong, and of a file. Running out of memory can come at any time and says nothing.
 use Rattle.std.specs.Prelude.{◌≡◌, ◌⊎◌, ℕ, List, ◌∷◌, ◌++◌, codes}
 use Rattle.std.specs.String.{string_bytes}
 use Rattle.ti_parm.specs.Value.{Value}

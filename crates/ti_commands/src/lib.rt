@@ -1,4 +1,4 @@
-//! What the program's commands do once their words are told apart: the reply to each, and how a reply ends in
+//! What the program's commands do once the line is parsed: the reply to each, and how a reply ends in
 //! what was written and in the exit status.
 #![tactic(auto)]
 

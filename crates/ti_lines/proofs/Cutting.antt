@@ -7,7 +7,7 @@ use Rattle.std.proofs.lemmas.Bool.Decides.{nat_tests}
 use Rattle.std.proofs.lemmas.Option.{some_pair_parts}
 use Rattle.ti_lines.specs.Cut.{cut_at}
 
--- so many bytes before, and what is behind one more
+-- so many bytes before, and what is after one more
 abbrev pub around : List ℕ → Option ℕ → Option (List ℕ × List ℕ)
 around text o = option_map (λ n. (take n text, drop (n + 1) text)) o
 

@@ -29,7 +29,7 @@ use Rattle.ti_lines.specs.Lines.{numbers_text, line_text, IsLine, IsTextOf, numb
 use Rattle.ti_lines.proofs.Cutting.{lacks, cut_front, cut_is, IsCut}
 use Rattle.ti_lines.proofs.Hexing.{hex_written, hex_read, IsHex, both}
 
--- the value behind `option_map`
+-- the value after `option_map`
 pub mapped : {A B : Type 0} (f : A → B) (o : Option A) (z : B) → option_map f o ≡ Some z → (y : A) × (o ≡ Some y) × (f y ≡ z)
 mapped f None z h = absurd (none-some z h)
 mapped f (Some y) z h = (y, refl, same_Some (f y) z h)
@@ -137,7 +137,7 @@ behind_read row bytes e h p =
     ∙ ap (λ (o : Option Effect). option_and_then (λ effect. option_map (λ b. record { row = row; bytes = b; effect = effect }) (hex_in (hex_text bytes))) o) (spelled_reads e (spelled e) p refl)
     ∙ ap (λ (o : Option (List ℕ)). option_map (λ b. record { row = row; bytes = b; effect = e }) o) (hex_read bytes h)
 
--- the whole line behind its name
+-- the whole line after its name
 abbrev rest_text : RowLine → List ℕ
 rest_text line = numbers_text (params line.row) ++ behind_text line.bytes line.effect
 
@@ -228,7 +228,7 @@ line_written text name rest first line h named so =
       spelled = ap (λ (n : List ℕ). n ++ 32 ∷ rest_text line) (ap name_in_order r.same_order ∙ named) ∙ ap (λ (t : List ℕ). name ++ 32 ∷ t) r.text_is ∙ sym (cut_is 32 text name rest h).parts;
     }
 
--- what a reader answers of a line behind its name
+-- what a reader answers of a line after its name
 some_written : (text name rest : List ℕ) (first : Row) (found : Option RowLine) → cut_at 32 text ≡ Some (name, rest) → name_of first ≡ name → found ≡ line_of first rest → IfSome found (λ line. IsTextOf text line)
 some_written text name rest first None h named e = tt
 some_written text name rest first (Some line) h named e = line_written text name rest first line h named (sym e)

@@ -27,7 +27,7 @@ size_text rows cols = first_word ++ 32 ∷ (version ++ 32 ∷ (decimal rows ++ 3
 abbrev pub acsc_text : List ℕ → List ℕ
 acsc_text bytes = acsc_word ++ 32 ∷ hex_text bytes
 
--- what stands behind a word and a space
+-- what follows a word and a space
 abbrev pub behind_word : List ℕ → List ℕ → Option (List ℕ)
 behind_word word text = option_and_then (λ p. if bytes_eq p.0 word then Some p.1 else None) (cut_at 32 text)
 

@@ -13,7 +13,7 @@ use Rattle.ti_lines.specs.Cut.{cut_at}
 use Rattle.ti_lines.specs.Hex.{hex_text, hex_in}
 use Rattle.ti_lines.specs.declared.lines.RowLine.{RowLine}
 
--- each number in decimal, and a space behind it
+-- each number in decimal, and a space after it
 abbrev pub numbers_text : List ℕ → List ℕ
 numbers_text [] = []
 numbers_text (n ∷ ns) = decimal n ++ 32 ∷ numbers_text ns
@@ -33,16 +33,16 @@ pub record IsTextOf (text : List ℕ) (line : RowLine) : Type 0 where
   pub line_is : IsLine line
   pub spelled : line_text line ≡ text
 
--- reading: so many numbers, and what stands behind the space behind the last
+-- reading: so many numbers, and what follows the space after the last
 abbrev pub numbers_before : ℕ → List ℕ → List ℕ → Option (List ℕ × List ℕ)
 numbers_before zero done text = Some (done, text)
 numbers_before (suc count) done text = option_and_then (λ p. option_and_then (λ n. numbers_before count (done ++ n ∷ []) p.1) (number_at p.0)) (cut_at 32 text)
 
--- the row whose parameters come first, and what stands behind them
+-- the row whose parameters come first, and what follows them
 abbrev pub row_before : Row → List ℕ → Option (Row × List ℕ)
 row_before first text = option_and_then (λ p. option_map (λ row. (row, p.1)) (with_params first p.0)) (numbers_before (length (params first)) [] text)
 
--- the bytes and the effect behind a row
+-- the bytes and the effect after a row
 abbrev pub line_behind : Row → List ℕ → Option RowLine
 line_behind row text = option_and_then (λ p. option_and_then (λ effect. option_map (λ bytes. record { row = row; bytes = bytes; effect = effect }) (hex_in p.0)) (effect_in p.1)) (cut_at 32 text)
 

@@ -25,7 +25,7 @@ row_lines (line ∷ lines) = line_text line ∷ row_lines lines
 abbrev pub texts_of : Certificate → List (List ℕ)
 texts_of c = size_text c.rows c.cols ∷ (acsc_lines c.acsc ++ row_lines c.lines)
 
--- an LF behind each
+-- an LF after each
 abbrev pub ended : List (List ℕ) → List ℕ
 ended [] = []
 ended (line ∷ lines) = line ++ 10 ∷ ended lines

@@ -3,7 +3,7 @@ ghost use Rattle.std.specs.List.{position};
 ghost use Rattle.std.specs.Prelude.{◌≡◌, ◌==◌, ◌<◌, ◌+◌, length, take, drop, option_map, IfSome};
 ghost use Rattle.ti_lines.specs.Cut.{cut_at};
 
-/// What stands before and behind the first such byte.
+/// What stands before and after the first such byte.
 #[tactic(auto, using(crate::proofs::Cutting::cut_found))]
 pub(crate) fn cut(byte: u8, text: &[u8]) -> Option<(&[u8], &[u8])>
     ensures { option_map (λ x. (x.0.now, x.1.now)) result ≡ cut_at byte text.now }

@@ -50,7 +50,7 @@ fn acsc_in(alloc: Global, text: &[u8]) -> Result<Option<Vec<u8>>, AllocError>
     }
 }
 
-/// What stands behind this word and a space.
+/// What follows this word and a space.
 fn behind_word<'a>(word: &[u8], text: &'a [u8]) -> Option<&'a [u8]>
     ensures { option_map (λ rest. rest.now) result ≡ spec.behind_word word.now text.now }
 {

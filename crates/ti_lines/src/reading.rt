@@ -39,7 +39,7 @@ fn line_of(alloc: Global, first: Row, text: &[u8]) -> Result<Option<RowLine>, Al
     }
 }
 
-/// The row whose parameters come first, and what stands behind them.
+/// The row whose parameters come first, and what follows them.
 fn row_before(first: Row, text: &[u8]) -> Option<(Row, &[u8])>
     ensures { option_map (λ x. (x.0, x.1.now)) result ≡ spec.row_before first text.now }
 {
@@ -49,7 +49,7 @@ fn row_before(first: Row, text: &[u8]) -> Option<(Row, &[u8])>
     Some((row, rest))
 }
 
-/// So many numbers, which are pushed, and what stands behind the space behind the last.
+/// So many numbers, which are pushed, and what follows the space after the last.
 fn numbers_before<'a>(count: usize, text: &'a [u8], numbers: &mut Params) -> Option<&'a [u8]>
     requires empty { numbers.old.items ≡ [] }
     requires room { count ≤ 9 }
@@ -64,7 +64,7 @@ fn numbers_before<'a>(count: usize, text: &'a [u8], numbers: &mut Params) -> Opt
     Some(rest)
 }
 
-/// The bytes and the effect behind a row.
+/// The bytes and the effect after a row.
 fn line_behind(alloc: Global, row: Row, text: &[u8]) -> Result<Option<RowLine>, AllocError>
     ensures { IfOk result (λ found. found ≡ spec.line_behind row text.now) }
 {

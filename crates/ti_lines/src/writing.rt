@@ -24,7 +24,7 @@ impl RowLine {
     }
 }
 
-/// Each number in decimal, and a space behind it.
+/// Each number in decimal, and a space after it.
 fn push_numbers(alloc: Global, numbers: &[u16], text: &mut Vec<u8>) -> Result<(), AllocError>
     ensures { OnOk result (text.new.items ≡ text.old.items ++ spec.numbers_text numbers.now) }
 {

@@ -69,7 +69,7 @@ only : (t : Bool) (o p : Option ℕ) → (if t then Some 0 else option_map suc o
 only true o p h f = cc
 only false o p h f = ap (option_map suc) (f (none_moved o h))
 
--- the first part has no LF, if the first LF stands behind it
+-- the first part has no LF, if the first LF follows it
 pub none_before : (text more : List ℕ) → line_end text ≡ None → line_end (take (length text) (text ++ more)) ≡ None
 none_before [] more h = refl
 none_before (b ∷ text) more h = only (is_feed b) (line_end text) (line_end (take (length text) (text ++ more))) h (none_before text more)

@@ -36,6 +36,6 @@ HaltsBy old new NoMemory = Unit {0}
 abbrev pub next_line : ℕ → ℕ → Next
 next_line at budget = if nat_lt at budget then Line at else Long
 
--- behind so many bytes that have no LF there are no more
+-- after so many bytes that have no LF there are no more
 abbrev pub next_end : ℕ → Next
 next_end count = if count == 0 then End else Unended

@@ -45,7 +45,7 @@ are_bits a b c = nat_le a 1 && (nat_le b 1 && nat_le c 1)
 abbrev pub ends_bits : ℕ → ℕ → ℕ → Bool
 ends_bits a x y = nat_le a 1 && (x == 0 && y == 0)
 
--- each of the first seven is 0 or 1, and the two behind them are 0
+-- each of the first seven is 0 or 1, and the two after them are 0
 abbrev pub nine_bits : List ℕ → Option Attributes
 nine_bits (s ∷ u ∷ r ∷ k ∷ d ∷ b ∷ i ∷ x ∷ y ∷ []) =
     if are_bits s u r && (are_bits k d b && ends_bits i x y)

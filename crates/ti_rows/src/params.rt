@@ -152,7 +152,7 @@ fn are_bits(a: u16, b: u16, c: u16) -> bool
     a <= 1 && b <= 1 && c <= 1
 }
 
-/// Whether the last of seven is a bit, and the two behind it are 0.
+/// Whether the last of seven is a bit, and the two after it are 0.
 fn ends_bits(a: u16, x: u16, y: u16) -> bool
     ensures { result ≡ spec.ends_bits a x y }
 {

@@ -73,7 +73,7 @@ el_record rows cols start = of_splitting rows cols start el_text (el_text ∷ []
 pub sgr0_record : (rows cols : ℕ) (start : Start) → HasRecord rows cols start sgr0_text made_plain
 sgr0_record rows cols start = of_splitting rows cols start sgr0_text (sgr0_text ∷ []) made_plain (one_token sgr0_text sgr0_token) refl
 
--- the tokens behind the first
+-- the tokens after the first
 then_named : (rows cols : ℕ) (start : Start) (token next : List ℕ) (e f : Effect) → extended rows cols start (function_of token) unchanged ≡ Some e → extended rows cols start (function_of next) e ≡ Some f → record_of rows cols start (token ∷ next ∷ []) ≡ Some f
 then_named rows cols start token next e f h k = rw (h, k) refl
 

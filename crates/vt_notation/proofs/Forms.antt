@@ -78,7 +78,7 @@ fixed_written w z h =
     branch (IsWord w z) (is_all show_name w) _ _ z (λ t e. whole_word show_name w (Shows switches.On) z t e (record { text = refl; plain = tt; some = omega arith })) (λ h.
     branch (IsWord w z) (is_all hide_name w) _ _ z (λ t e. whole_word hide_name w (Shows switches.Off) z t e (record { text = refl; plain = tt; some = omega arith })) (λ h. absurd (cc)) h) h) h) h) h) h) h) h) h
 
--- a move behind its name
+-- a move after its name
 record IsMove (name rest : List ℕ) (m : Move) : Type 0 where
   text : name ++ rest ≡ move_text name m
   plain : IsPlainMove m
@@ -185,7 +185,7 @@ pub record IsRead (t : List ℕ) (x : Word) : Type 0 where
   pub some : 0 < length t
   pub spaces : lacks 32 t ≡ true
 
--- a number behind a name, and two that are not 0
+-- a number after a name, and two that are not 0
 to_read : (b : Move → Word) (k : ℕ) → k < 65536 → option_or (option_or (option_map b (option_map (λ n. moves.To n) (number_at (decimal k)))) None) None ≡ Some (b (moves.To k))
 to_read b k h = ap (λ (o : Option ℕ). option_or (option_or (option_map b (option_map (λ n. moves.To n) o)) None) None) (number_reads k h)
 

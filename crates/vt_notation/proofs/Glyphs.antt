@@ -39,7 +39,7 @@ by_first : (front word : List ℕ) (t : Bool) → behind front word ≡ (if poin
 by_first front word true h = h
 by_first front word false h = refl
 
--- what std says of a front is what is behind it
+-- what std says of a front is what is after it
 behind_is : (front word : List ℕ) → behind front word ≡ (if pointwise nat_eq (take (length front) word) front then Some (drop (length front) word) else None)
 behind_is [] word = refl
 behind_is (x ∷ xs) [] = refl

@@ -22,7 +22,7 @@ use Rattle.vt_notation.specs.declared.words.Marks.{Marks}
 use Rattle.vt_notation.specs.declared.words.Found.{Found}
 use Rattle.vt_notation.specs.Text.{is_dot, row_name, col_name, nopend, all_name, tail_name, head_name, rest_name, next_name, up_name, down_name, look_name, ink_name, set_name, rows_name, show_name, hide_name}
 
--- what stands behind this front
+-- what follows this front
 abbrev pub behind : List ℕ → List ℕ → Option (List ℕ)
 behind [] word = Some word
 behind (x ∷ xs) [] = None
@@ -69,7 +69,7 @@ move_at name word = option_and_then all_signed (behind name word)
 abbrev pub next_at : List ℕ → Option ℕ
 next_at word = option_and_then (λ digits. positive (number_at digits)) (behind next_name word)
 
--- letters behind a name, not each of them a dot
+-- letters after a name, not each of them a dot
 abbrev pub letters_at : List ℕ → List ℕ → Option (List ℕ)
 letters_at name word = option_and_then (λ letters. if list_all is_dot letters then None else Some letters) (behind name word)
 
@@ -197,7 +197,7 @@ put (Chooses s) e = record e { charset = s }
 put (Rows r) e = record e { margins = Some r }
 put (Shows s) e = record e { visible = s }
 
--- a word more, of a kind behind those before
+-- a word more, of a kind after those before
 abbrev pub put_next : Found → Word → Option Found
 put_next found word = if nat_le found.next (rank word) then Some (record { effect = put word found.effect; next = rank word + 1 }) else None
 
@@ -211,7 +211,7 @@ with_words found (w ∷ ws) = option_and_then (λ f. with_words f ws) (with_word
 abbrev pub words_of : List ℕ → List (List ℕ)
 words_of text = parts_of 32 text
 
--- behind what is found
+-- after what is found
 unfoldable pub read_behind : Found → List ℕ → Option Found
 read_behind found text = with_words found (words_of text)
 

@@ -26,7 +26,7 @@ row_name = 114 ∷ 111 ∷ 119 ∷ []
 abbrev pub col_name : List ℕ
 col_name = 99 ∷ 111 ∷ 108 ∷ []
 
--- =k, -k or +k behind the name; what is kept has no text
+-- =k, -k or +k after the name; what is kept has no text
 abbrev pub move_text : List ℕ → Move → List ℕ
 move_text name moves.Kept = []
 move_text name (moves.To k) = name ++ 61 ∷ decimal k
@@ -92,7 +92,7 @@ ink_letter (inks.Color c) = 48 + color_number c
 abbrev pub is_dot : ℕ → Bool
 is_dot b = b == 46
 
--- letters behind a name, unless each of them is a dot
+-- letters after a name, unless each of them is a dot
 abbrev pub lettered : List ℕ → List ℕ → List ℕ
 lettered name letters = if list_all is_dot letters then [] else name ++ letters
 

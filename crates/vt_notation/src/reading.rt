@@ -60,7 +60,7 @@ fn position_of(byte: u8, text: &[u8]) -> Option<usize>
     text.iter().position(|other| *other == byte)
 }
 
-/// What stands before the first such byte, and what behind it.
+/// What stands before the first such byte, and what after it.
 #[tactic(auto, using(crate::proofs::Cuts::cut_found, crate::proofs::Cuts::cut_none))]
 fn cut(byte: u8, text: &[u8]) -> Option<(&[u8], &[u8])>
     ensures found { IfSome result (λ x. spec.parts_of byte text.now ≡ x.0.now ∷ spec.parts_of byte x.1.now) }
@@ -73,7 +73,7 @@ fn cut(byte: u8, text: &[u8]) -> Option<(&[u8], &[u8])>
     }
 }
 
-/// What stands before and behind the byte at a place.
+/// What stands before and after the byte at a place.
 #[tactic(auto, using(std::proofs::lemmas::List::take_rest))]
 fn before_and_behind(bytes: &[u8], at: usize) -> (&[u8], &[u8])
     requires { at < length bytes.now }
@@ -232,7 +232,7 @@ fn lettered_at(word: &[u8]) -> Option<Word>
     }
 }
 
-/// What stands behind this front.
+/// What follows this front.
 #[tactic(auto, using(crate::proofs::Glyphs::stripped))]
 fn behind<'a>(front: &[u8], word: &'a [u8]) -> Option<&'a [u8]>
     ensures { option_map (λ rest. rest.now) result ≡ spec.behind front.now word.now }
@@ -284,7 +284,7 @@ fn region_of(lines: &[u8]) -> Option<Region>
     }
 }
 
-/// The letters behind a name, not each of them a dot.
+/// The letters after a name, not each of them a dot.
 fn letters_at<'a>(name: &[u8], word: &'a [u8]) -> Option<&'a [u8]>
     ensures { option_map (λ letters. letters.now) result ≡ spec.letters_at name.now word.now }
 {

@@ -235,7 +235,7 @@ impl Display {
         Ok(text)
     }
 
-    /// Moves the cursor, which is no longer behind the last column.
+    /// Moves the cursor, which is no longer after the last column.
     fn go_to(&mut self, row: usize, col: usize)
         requires row_within { row < self.old.rows }
         requires col_within { col < self.old.cols }

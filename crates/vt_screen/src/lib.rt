@@ -1,5 +1,5 @@
 //! The display of a character terminal with its modes, and what each function of the terminal does
-//! to it. How bytes ask for functions is told in `vt_term`, whose helper this is.
+//! to it. How bytes ask for functions is defined in `vt_term`, whose helper this is.
 #![tactic(auto)]
 
 mod cells;

@@ -219,7 +219,7 @@ unnumbered begun (c ∷ front) b e some h k = record {
     unmarked : (c : ℕ) (x y : Bool) → (is_numeral c && x) ≡ true → ((c == 63) && y) ≡ false
     unmarked c x y h = grind (arith, nat_tests)
 
--- behind numbers
+-- after numbers
 pub more_numbers : (stage : ParserState) (old new : List (Option ℕ)) (begun : List ℕ) (b : ℕ) → IsNumbered old begun → (is_numeral b ≡ true → stage ≡ Parameters)
     → (is_numeral b ≡ true → (front : List ℕ) → old ≡ numbers front → new ≡ numbers (front ++ b ∷ [])) → (is_numeral b ≡ false → NamesNothing (begun ++ b ∷ []) → IsAt stage new (begun ++ b ∷ [])) → IsAt stage new (begun ++ b ∷ [])
 more_numbers stage old new begun b h at more other = by_test (is_numeral b) refl

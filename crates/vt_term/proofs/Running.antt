@@ -18,7 +18,7 @@ pub steps_append : (ts us : List (List ℕ)) (s : Screen) → steps (ts ++ us) s
 steps_append [] us s = refl
 steps_append (t ∷ ts) us s = steps_append ts us (step t s)
 
--- what stands behind a text is run after it
+-- what follows a text is run after it
 pub runs_append : (s t u : State) (a b : List ℕ) → Runs s a t → Runs t b u → Runs s (a ++ b) u
 runs_append s t u a b h k = record {
   tokens = h.tokens ++ k.tokens;
@@ -50,7 +50,7 @@ runs_cut s u a b h =
       runs_second = record { tokens = g.later; splits = g.splits; screen = h.screen ∙ ap (λ (x : List (List ℕ)). steps x s.screen) g.tokens ∙ steps_append f.tokens g.later s.screen };
     }
 
--- the byte behind a run fits nothing, or the whole is run
+-- the byte after a run fits nothing, or the whole is run
 pub stuck_behind : (s t : State) (a b : List ℕ) → Runs s a t → ((u : State) → Runs t b u → ⊥) → (u : State) → Runs s (a ++ b) u → ⊥
 stuck_behind s t a b h none u k =
     let c : RunsCut s a b u = runs_cut s u a b k in
@@ -86,7 +86,7 @@ take_past [] b n m e = ap (λ (k : ℕ). take k b) (let f : m ≡ n = omega (ari
 take_past (x ∷ a) b n zero e = absurd (omega (arith, e))
 take_past (x ∷ a) b n (suc m) e = ap (λ (l : List ℕ). x ∷ l) (take_past a b n m (omega (arith, e)))
 
--- what sticks behind a run sticks so much later
+-- what sticks after a run sticks so much later
 pub sticks_behind : (s t u : State) (a b : List ℕ) (k : ℕ) → Runs s a t → Sticks t b k u → Sticks s (a ++ b) (length a + k) u
 sticks_behind s t u a b k h p = record {
   within = omega (arith, p.within, length-append a b);
@@ -135,7 +135,7 @@ reaches_place rows cols tokens token None some e h = tt
 reaches_place rows cols tokens token (Some p) some e h = λ bytes s. reaches_last rows cols (take (length tokens - 1) tokens) token p.0 p.1 h bytes
     (subst (λ (ts : List (List ℕ)). Splits bytes ts []) (last_of tokens token some e) s)
 
--- what sticks sticks before all that stands behind it
+-- what sticks sticks before all that follows it
 take_within : (a b : List ℕ) (n : ℕ) → n ≤ length a → take n (a ++ b) ≡ take n a
 take_within a b zero le = refl
 take_within [] b (suc n) le = absurd (omega arith)

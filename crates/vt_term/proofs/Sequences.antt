@@ -23,7 +23,7 @@ nothing_behind : (xs ys : List ℕ) → xs ++ ys ≡ [] → ys ≡ []
 nothing_behind [] ys e = e
 nothing_behind (x ∷ xs) ys e = cc
 
--- the bytes behind ESC [ of a sequence that has no final byte yet
+-- the bytes after ESC [ of a sequence that has no final byte yet
 pub record IsBody (body : List ℕ) : Type 0 where
   pub parameters : List ℕ
   pub intermediates : List ℕ
@@ -72,7 +72,7 @@ control_second b d bytes h = let e : b ∷ d ∷ bytes ≡ 27 ∷ 91 ∷ (h.para
 control_long : (b : ℕ) → IsControlSequence (b ∷ []) → ⊥
 control_long b h = let e : b ∷ [] ≡ 27 ∷ 91 ∷ (h.parameters ++ (h.intermediates ++ h.final ∷ [])) = h.spelled in cc
 
--- what stands behind ESC
+-- what follows ESC
 behind_escape : (b : ℕ) (bytes is : List ℕ) (f : ℕ) → b ∷ bytes ≡ 27 ∷ (is ++ f ∷ []) → bytes ≡ is ++ f ∷ []
 behind_escape b bytes is f e = cc
 
@@ -240,7 +240,7 @@ escape_final x bytes b h =
     let same = same_from_push bytes h.intermediates b h.final d in
     (subst IsEscapeFinal (sym same.1) h.ends, λ none i. h.introduces_nothing (sym same.0 ∙ none) (subst IsIntroducer same.1 i))
 
--- where one final byte stands behind middle bytes, nothing stands behind it
+-- where one final byte follows middle bytes, nothing follows it
 one_end : (limit : ℕ) (front : List ℕ) (f : ℕ) (behind middle : List ℕ) (g : ℕ) → AllByRecursion (λ b. b < limit) middle → limit ≤ f → front ++ f ∷ behind ≡ middle ++ g ∷ [] → behind ≡ []
 one_end limit [] f behind [] g h k e = cc
 one_end limit [] f behind (m ∷ ms) g h k e = let same : f ≡ m = cc in absurd (omega (arith, same, h.0))
@@ -304,7 +304,7 @@ whole_not_open t more h k =
     let none : more ++ k.more ≡ [] = whole_ends t (more ++ k.more) h (inr w) in
     omega (arith, k.some, ap length (nothing_behind more k.more none))
 
--- behind its first byte a sequence has no controls
+-- after its first byte a sequence has no controls
 sequence_tail : (x : ℕ) (xs : List ℕ) → IsSequence (x ∷ xs) → AllByRecursion (λ b. 32 ≤ b) xs
 sequence_tail x xs h = elim h [
   | inl c ↦ (let e : x ∷ xs ≡ 27 ∷ 91 ∷ (c.parameters ++ (c.intermediates ++ c.final ∷ [])) = c.spelled in

@@ -59,7 +59,7 @@ one_splitting text ts us r q s k =
     let o : (g.later ≡ []) × (q ≡ r ++ []) = open_whole (r ++ []) g.later q (subst IsOpen (sym (append-nil r)) (splits_open text ts r s)) g.splits in
     (g.tokens ∙ ap (λ (l : List (List ℕ)). ts ++ l) o.0 ∙ append-nil ts, o.1 ∙ append-nil r)
 
--- a text and more behind it
+-- a text and more after it
 pub splits_append : (text : List ℕ) (ts us : List (List ℕ)) (r more q : List ℕ) → Splits text ts r → Splits (r ++ more) us q → Splits (text ++ more) (ts ++ us) q
 splits_append text [] us r more q s k = subst (λ (l : List ℕ). Splits (l ++ more) us q) (sym s.0) k
 splits_append text (t ∷ ts) us r more q s k =
@@ -133,7 +133,7 @@ nothing_more r b (u ∷ us) q h closed other goes s = elim (compare r (b ∷ [])
 pub fails : (r : List ℕ) (b : ℕ) → IsOpen r → (IsOpen (r ++ b ∷ []) → ⊥) → (IsWhole (r ++ b ∷ []) → ⊥) → (0 < length r → Cuts b → ⊥) → IsSplit (r ++ b ∷ []) → ⊥
 fails r b o closed other goes k = nothing_more r b k.tokens k.rest o closed other goes k.splits
 
--- what fits nothing behind the rest leaves nothing that can be split
+-- what fits nothing after the rest leaves nothing that can be split
 pub fits_nothing : (text : List ℕ) (ts : List (List ℕ)) (r : List ℕ) (b : ℕ) → Splits text ts r → (IsSplit (r ++ b ∷ []) → ⊥) → IsSplit (text ++ b ∷ []) → ⊥
 fits_nothing text ts r b s none k =
     let g : GoesOn ts k.tokens r (b ∷ []) k.rest = goes_on text ts k.tokens r (b ∷ []) k.rest s k.splits in

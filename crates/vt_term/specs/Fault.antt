@@ -1,4 +1,4 @@
--- What a byte does behind an open sequence, and which faults a text has.
+-- What a byte does after an open sequence, and which faults a text has.
 use Rattle.std.specs.Prelude.{ℕ, ◌≡◌, ◌≢◌, ◌⊎◌, ◌<◌, ◌≤◌, length, Bool, true, false, List, [], ◌∷◌, ◌++◌}
 use Rattle.vt_term.specs.declared.parser.Transition.{Transition}
 use Rattle.vt_term.specs.declared.parser.Transition.TheVariants.{Opens, Ends, Restarts, Cancels, Fails}
@@ -23,14 +23,14 @@ IsOutsideTransition b Ends = IsPrinted b ⊎ IsControl b
 IsOutsideTransition b Fails = 128 ≤ b
 IsOutsideTransition b _ = ⊥
 
--- behind ESC
+-- after ESC
 abbrev pub IsIntroducerTransition : ℕ → Transition → Type 0
 IsIntroducerTransition b Opens = (b ≡ 91) ⊎ IsIntermediate b
 IsIntroducerTransition b Ends = IsEscapeFinal b × (IsIntroducer b → ⊥)
 IsIntroducerTransition b Fails = (b ≢ 91) × (IsIntermediate b → ⊥) × (IsEscapeFinal b → IsIntroducer b)
 IsIntroducerTransition b _ = ⊥
 
--- behind ESC and intermediate bytes; room is left for another or not
+-- after ESC and intermediate bytes; room is left for another or not
 abbrev pub IsEscapeTransition : ℕ → Bool → Transition → Type 0
 IsEscapeTransition b room Opens = (room ≡ true) × IsIntermediate b
 IsEscapeTransition b room Ends = IsEscapeFinal b
@@ -49,6 +49,6 @@ IsFault text at Unfinished = IsUnfinished text at
 IsFault text at Stuck = IsStuck text at
 IsFault text at NoMemory = Unit {0}
 
--- the fault that this text has, or want of memory
+-- the fault that this text has, or running out of memory
 abbrev pub TellsFault : List ℕ → TokenFault → Type 0
 TellsFault text fault = IsFault text fault.at fault.kind

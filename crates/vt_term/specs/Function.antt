@@ -95,7 +95,7 @@ marked final (b ∷ bytes) = if (b == 63) && list_all is_numeral bytes then of_p
 abbrev pub named : ℕ → List ℕ → Function
 named final front = if list_all is_numeral front then of_numbers final (numbers front) else marked final front
 
--- what stands behind ESC [
+-- what follows ESC [
 abbrev pub sequence : List ℕ → Function
 sequence body = named (slice_index body (length body - 1)) (take (length body - 1) body)
 
@@ -103,11 +103,11 @@ sequence body = named (slice_index body (length body - 1)) (take (length body - 
 abbrev pub designation : CodeElement → ℕ → Function
 designation set final = if final == 48 then Designate set true else (if final == 66 then Designate set false else Ignored)
 
--- an escape sequence of one byte behind ESC: IND, NEL and RI (ECMA-48 8.3)
+-- an escape sequence of one byte after ESC: IND, NEL and RI (ECMA-48 8.3)
 abbrev pub escape_final : ℕ → Function
 escape_final final = if final == 68 then LineFeed else (if final == 69 then NextLine else (if final == 77 then ReverseIndex else Ignored))
 
--- an escape sequence by what stands behind ESC
+-- an escape sequence by what follows ESC
 abbrev pub escaped : List ℕ → Function
 escaped (final ∷ []) = escape_final final
 escaped (set ∷ final ∷ []) = if set == 40 then designation G0 final else (if set == 41 then designation G1 final else Ignored)

@@ -11,7 +11,7 @@ abbrev pub pieces : List ℕ → List (List ℕ)
 pieces [] = [] ∷ []
 pieces (b ∷ bytes) = if b == 59 then [] ∷ pieces bytes else onto_first b (pieces bytes)
 
--- digits in base ten behind a number
+-- digits in base ten after a number
 abbrev pub decimal : ℕ → List ℕ → ℕ
 decimal n [] = n
 decimal n (digit ∷ digits) = decimal (10 * n + (digit - 48)) digits

@@ -64,7 +64,7 @@ IsSingle [] = ⊥
 IsSingle (b ∷ []) = IsPrinted b ⊎ IsControl b
 IsSingle (b ∷ c ∷ bytes) = ⊥
 
--- ESC, CAN and SUB, which a sequence never has behind its first byte
+-- ESC, CAN and SUB, which a sequence never has after its first byte
 abbrev pub Cuts : ℕ → Type 0
 Cuts b = (b ≡ 27) ⊎ (b ≡ 24) ⊎ (b ≡ 26)
 
@@ -72,7 +72,7 @@ abbrev pub IsCutBy : List ℕ → Type 0
 IsCutBy [] = ⊥
 IsCutBy (b ∷ bytes) = Cuts b
 
--- a sequence that is not whole when the bytes behind it cut it off
+-- a sequence that is not whole when the bytes after it cut it off
 pub record IsDropped (bytes behind : List ℕ) : Type 0 where
   pub some : 0 < length bytes
   pub fits : IsOpen bytes
@@ -81,7 +81,7 @@ pub record IsDropped (bytes behind : List ℕ) : Type 0 where
 abbrev pub IsWhole : List ℕ → Type 0
 IsWhole bytes = IsSingle bytes ⊎ IsSequence bytes
 
--- these bytes are a token where those stand behind them
+-- these bytes are a token where those stand after them
 abbrev pub IsToken : List ℕ → List ℕ → Type 0
 IsToken bytes behind = IsWhole bytes ⊎ IsDropped bytes behind
 

@@ -5,7 +5,7 @@ ghost use Rattle.vt_term.specs.Function as spec;
 
 use vt_screen::{CodeElement, EraseExtent, Function, ModeKind, Parameters};
 
-/// What an escape sequence asks for, by the one byte behind ESC.
+/// What an escape sequence asks for, by the one byte after ESC.
 pub(crate) fn escape_final<'a>(last: u8) -> Function<'a>
     ensures { result ≡ spec.escape_final last }
 {

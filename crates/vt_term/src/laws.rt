@@ -13,7 +13,7 @@ pub fn one_splitting()
     ensures { (text : List ℕ) (ts us : List (List ℕ)) (r q : List ℕ) → Splits text ts r → Splits text us q → (us ≡ ts) × (q ≡ r) }
 {}
 
-/// A text goes on behind its rest.
+/// A text goes on after its rest.
 pub fn splits_join()
     ensures { (a b : List ℕ) (ts us : List (List ℕ)) (r q : List ℕ) → Splits a ts r → Splits (r ++ b) us q → Splits (a ++ b) (ts ++ us) q }
 {}
@@ -48,7 +48,7 @@ pub fn text_runs()
     ensures { (s : State) (a : List ℕ) (ts : List (List ℕ)) → s.rest ≡ [] → Splits a ts [] → Runs s a (record { screen = steps ts s.screen; rest = [] }) }
 {}
 
-/// What sticks behind a run sticks so much later in both together.
+/// What sticks after a run sticks so much later in both together.
 pub fn sticks_join()
     ensures { (s t u : State) (a b : List ℕ) (k : ℕ) → Runs s a t → Sticks t b k u → Sticks s (a ++ b) (length a + k) u }
 {}
@@ -63,7 +63,7 @@ pub fn runs_or_sticks()
     ensures { (s t u : State) (a : List ℕ) (k : ℕ) → Runs s a t → Sticks s a k u → ⊥ }
 {}
 
-/// What sticks sticks at the same place whatever stands behind it.
+/// What sticks sticks at the same place whatever follows it.
 pub fn sticks_first()
     ensures { (s u : State) (a b : List ℕ) (k : ℕ) → Sticks s a k u → Sticks s (a ++ b) k u }
 {}

@@ -23,7 +23,7 @@ const SUBSTITUTE: u8 = 26;
 /// The most bytes that a sequence has.
 pub(crate) const SEQUENCE_LIMIT: usize = 256;
 
-/// What a byte does behind what is open.
+/// What a byte does after what is open.
 pub(crate) enum Transition {
     /// The sequence stays open.
     Opens,
@@ -95,7 +95,7 @@ impl Parser {
         })
     }
 
-    /// What a byte does behind an open sequence, or outside one if nothing is open.
+    /// What a byte does after an open sequence, or outside one if nothing is open.
     pub(crate) fn transition(&self, byte: u8) -> Transition
         ensures transition { IsTransition self.now byte result }
         ensures begun { IsOpen self.now }
@@ -110,7 +110,7 @@ impl Parser {
         }
     }
 
-    /// What a byte that doesn't cut it off does behind an open sequence.
+    /// What a byte that doesn't cut it off does after an open sequence.
     fn transition_open(&self, byte: u8) -> Transition
         requires some { 0 < length self.now }
         requires goes_on { Cuts byte → ⊥ }
@@ -212,7 +212,7 @@ fn transition_introducer(byte: u8) -> Transition
     }
 }
 
-/// What a byte does behind ESC and intermediate bytes.
+/// What a byte does after ESC and intermediate bytes.
 fn transition_escape(byte: u8, has_room: bool) -> Transition
     ensures { IsEscapeTransition byte has_room result }
 {
@@ -235,7 +235,7 @@ fn transition_inside(closed: bool, byte: u8, has_room: bool) -> Transition
     }
 }
 
-/// The stage and the numbers behind one byte more, with which the sequence stays open.
+/// The stage and the numbers after one byte more, with which the sequence stays open.
 fn behind(stage: ParserState, numbers: &mut Vec<Option<u16>>, byte: u8) -> ParserState
     requires { length numbers.old.items < vec_capacity numbers.old }
     ensures at { (begun : List ℕ) → IsAt stage numbers.old.items begun → IsOpen (begun ++ byte ∷ []) → IsAt result numbers.new.items (begun ++ byte ∷ []) }
@@ -259,7 +259,7 @@ fn behind(stage: ParserState, numbers: &mut Vec<Option<u16>>, byte: u8) -> Parse
     }
 }
 
-/// The stage behind ESC and a byte that doesn't end the sequence.
+/// The stage after ESC and a byte that doesn't end the sequence.
 fn behind_escape(numbers: &mut Vec<Option<u16>>, byte: u8) -> ParserState
     requires { length numbers.old.items < vec_capacity numbers.old }
     ensures at { IsAt result numbers.new.items (27 ∷ byte ∷ []) }
@@ -278,7 +278,7 @@ fn behind_escape(numbers: &mut Vec<Option<u16>>, byte: u8) -> ParserState
     }
 }
 
-/// The stage behind numbers and a byte, which is the given one if the numbers go on.
+/// The stage after numbers and a byte, which is the given one if the numbers go on.
 fn behind_number(stage: ParserState, numbers: &mut Vec<Option<u16>>, byte: u8) -> ParserState
     requires { length numbers.old.items < vec_capacity numbers.old }
     ensures stage { spec.is_numeral byte ≡ true → result ≡ stage }
@@ -295,7 +295,7 @@ fn behind_number(stage: ParserState, numbers: &mut Vec<Option<u16>>, byte: u8) -
     }
 }
 
-/// The stage behind a byte of a control sequence that names no function.
+/// The stage after a byte of a control sequence that names no function.
 fn unnamed(byte: u8) -> ParserState
     ensures { (begun : List ℕ) (numbers : List (Option ℕ)) → NamesNothing (begun ++ byte ∷ []) → IsAt result numbers (begun ++ byte ∷ []) }
 {
