@@ -11,7 +11,7 @@ use Rattle.ti_rows.specs.Wants.{marked}
 use Rattle.ti_rows.specs.Looks.{shown}
 use Rattle.cur_looks.specs.Certified.{Table, has}
 
--- [Look]: the union of the attributes' marks, and the colours
+-- the union of the attributes' marks, and the colours
 abbrev pub rendition_of : Looks → Brush → Rendition
 rendition_of l b = marked (shown l b.attributes) b.foreground b.background
 
