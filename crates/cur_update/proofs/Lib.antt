@@ -3,3 +3,5 @@ pub mod Drawing
 pub mod Grids
 pub mod Fitting
 pub mod Showing
+pub mod Copying
+pub mod Inking

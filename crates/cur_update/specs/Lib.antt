@@ -1,3 +1,7 @@
 pub mod Strings
 pub mod Plain
 pub mod Steps
+pub mod Inks
+pub mod Paper
+pub mod Painters
+pub mod Beep
