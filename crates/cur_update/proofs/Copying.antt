@@ -1,5 +1,5 @@
 -- A copy shows what was copied, place by place.
-use Rattle.std.proofs.Common.{◌≡◌, ℕ, ◌+◌, ◌*◌, ◌/◌, ◌%◌, ◌<◌, ◌&&◌, Bool, true, false, List, nat_lt, get_or, length, refl, sym, ap, ◌∙◌, arith, cond, Option}
+use Rattle.std.proofs.Common.{◌≡◌, ℕ, ◌+◌, ◌*◌, ◌/◌, ◌%◌, ◌<◌, ◌&&◌, Bool, true, false, nat_lt, get_or, length, refl, sym, ap, ◌∙◌, arith, cond, Option}
 use Rattle.std.proofs.Math.Nat.{add-mul-div_left, add-mul-mod_self_left, div-eq_of_lt, mod-eq_of_lt, mul_comm}
 use Rattle.std.proofs.lemmas.Bool.{lt-ltb, ltb-true}
 use Rattle.cur_windows.specs.VirtualScreen.{Screen, colors_at}
@@ -34,16 +34,17 @@ both : (a b : Bool) → (a && b) ≡ true → (a ≡ true) × (b ≡ true)
 both true b h = (refl, h)
 both false b h = (h, absurd (cc))
 
-
 pub same_view : (d : Drawing) (t : Table) (partners : ℕ → Option ℕ) (v : Screen) → d.rows ≡ v.rows → d.cols ≡ v.cols
     → ((i j : ℕ) → i < d.rows → j < d.cols → on_paper d i j ≡ ink_at t partners v i j) → on_paper d ≡ ink_at t partners v
 same_view d t partners v rows cols each = λ k i j. point i j k
   where
     test : (i j : ℕ) → (nat_lt i d.rows && nat_lt j d.cols) ≡ (nat_lt i v.rows && nat_lt j v.cols)
     test i j = λ k. nat_lt i (rows k) && nat_lt j (cols k)
+
     decide : (i j : ℕ) (b : Bool) → (nat_lt i d.rows && nat_lt j d.cols) ≡ b → on_paper d i j ≡ ink_at t partners v i j
     decide i j true h = each i j (ltb-true i d.rows (both (nat_lt i d.rows) (nat_lt j d.cols) h).0) (ltb-true j d.cols (both (nat_lt i d.rows) (nat_lt j d.cols) h).1)
     decide i j false h = ap (λ (b : Bool). cond b (get_or d.inks (i * d.cols + j) blank_ink) blank_ink) h
         ∙ sym (ap (λ (b : Bool). cond b (ink_of t partners (colors_at v (content_at v i j).pair) (content_at v i j)) blank_ink) (sym (test i j) ∙ h))
+
     point : (i j : ℕ) → on_paper d i j ≡ ink_at t partners v i j
     point i j = decide i j _ refl

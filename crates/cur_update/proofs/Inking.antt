@@ -1,10 +1,10 @@
 -- Every ink of a virtual screen can be shown.
-use Rattle.std.proofs.Common.{◌≡◌, ℕ, ◌<◌, ◌≤◌, ◌&&◌, ◌==◌, Bool, true, false, nat_lt, nat_le, cond, List, [], ◌∷◌, Option, Some, None, refl, sym, ap, subst, arith}
+use Rattle.std.proofs.Common.{◌≡◌, ℕ, ◌<◌, ◌&&◌, ◌==◌, Bool, true, false, nat_lt, nat_le, cond, List, [], ◌∷◌, Option, Some, None, refl, sym, ap, subst, arith}
 use Rattle.std.proofs.lemmas.Bool.{ltb-true, leb-true}
 use Rattle.vt_term.specs.Color.{Color, color}
 use Rattle.vt_term.specs.Look.{IsPrinted}
 use Rattle.ti_rows.specs.declared.rows.Row.TheVariants.{Op, Smacs}
-use Rattle.ti_looks.specs.Alternates.{Plain, letters, found, or_letter, is_printed, printed_only, shown, in_plain_set}
+use Rattle.ti_looks.specs.Alternates.{Plain, letters, found, or_letter, is_printed, shown, in_plain_set}
 use Rattle.cur_drawing.specs.Cells.{Content, IsCell}
 use Rattle.cur_windows.specs.VirtualScreen.{Screen, colors_at}
 use Rattle.cur_windows.specs.declared.virtual_screen.Colors.{Colors}
@@ -80,6 +80,7 @@ can_show t partners v cells i j = decide (nat_lt i v.rows && nat_lt j v.cols) re
   where
     here : Ink
     here = ink_of t partners (colors_at v (content_at v i j).pair) (content_at v i j)
+
     decide : (b : Bool) → (nat_lt i v.rows && nat_lt j v.cols) ≡ b → IsInk t (cond b here blank_ink)
     decide true e =
         let q = both (nat_lt i v.rows) (nat_lt j v.cols) e in

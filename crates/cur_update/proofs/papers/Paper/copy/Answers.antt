@@ -13,5 +13,5 @@ returns-clause-cells g c =
     let cols = ap (λ (d : Drawing). d.cols) c.self.view_is in
     let written = with_items_is c.self.inside.inks c.copy_inks.new.inks (omega (arith, c.copy_inks.ensures.long, c.deref_mut.ensures.len)) in
     λ i j a b. ap (λ (l : List Ink). on_paper (record { rows = c.self.inside.rows; cols = c.self.inside.cols; inks = l }) i j) written
-        ∙ copied (record { rows = c.self.inside.rows; cols = c.self.inside.cols; inks = c.copy_inks.new.inks }) (g.N.View.cells c.args.new.now) (c.copy_inks.ensures.long ∙ same ∙ whole)
-        (λ k lt. c.copy_inks.ensures.cells k (subst (λ (n : ℕ). k < n) c.copy_inks.ensures.long lt)) i j (omega (arith, rows, a)) (omega (arith, cols, b))
+    ∙ copied (record { rows = c.self.inside.rows; cols = c.self.inside.cols; inks = c.copy_inks.new.inks }) (g.N.View.cells c.args.new.now) (c.copy_inks.ensures.long ∙ same ∙ whole)
+    (λ k lt. c.copy_inks.ensures.cells k (subst (λ (n : ℕ). k < n) c.copy_inks.ensures.long lt)) i j (omega (arith, rows, a)) (omega (arith, cols, b))
