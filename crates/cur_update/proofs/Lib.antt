@@ -5,3 +5,4 @@ pub mod Fitting
 pub mod Showing
 pub mod Copying
 pub mod Inking
+pub mod Counting

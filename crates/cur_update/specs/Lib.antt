@@ -5,3 +5,4 @@ pub mod Inks
 pub mod Paper
 pub mod Painters
 pub mod Beep
+pub mod Differ

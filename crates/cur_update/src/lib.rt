@@ -4,6 +4,7 @@
 mod alternates;
 mod bells;
 mod inks;
+mod laws;
 mod painters;
 mod papers;
 mod plains;
@@ -18,5 +19,6 @@ pub use alternates::Alternates;
 pub use bells::Unsent;
 pub use cur_paint::{Session, Status};
 pub use cur_wires::{Fuse, Tape, Wire, WireFault};
+pub use laws::cells_bounded;
 pub use painters::Painter;
 pub use plains::Plain;
