@@ -1,3 +1,4 @@
+-- The definitions of painters.
 pub mod Strings
 pub mod Plain
 pub mod Steps

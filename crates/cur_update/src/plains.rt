@@ -1,3 +1,4 @@
+//! A painter of grids of plain characters.
 ghost use Rattle.std.specs.Prelude.{◌≡◌, ◌+◌, ◌<◌, [], List, ℕ, length, map, slice_index_or, string_bytes, IsTrue, IfOk};
 ghost use Rattle.std.specs.List.{list_all};
 ghost use Rattle.cur_steps.specs.Paints.{Paints};

@@ -1,3 +1,4 @@
+//! Byte strings, packed.
 ghost use Rattle.std.specs.Prelude.{◌≡◌, ◌<◌, ◌++◌, [], ◌∷◌, length, slice_index, slice_index_or, OnOk, OnErr};
 ghost use Rattle.cur_update.specs.Strings.{cut_at, EndsHere};
 

@@ -1,3 +1,4 @@
+//! What painting a plain grid leaves on a terminal.
 ghost use Rattle.std.specs.Prelude.{◌≡◌, ◌≤◌};
 
 use crate::plains::Plain;

@@ -1,3 +1,4 @@
+//! Painting a plain grid on a terminal, from the first state to the screen.
 ghost use Rattle.std.specs.Prelude.{◌<◌, map, IsTrue, IfSome};
 ghost use Rattle.cur_update.specs.Plain.{Shows, fits_size};
 
