@@ -1,6 +1,6 @@
 //! Attributes and cells (X/Open Curses Issue 7, "Attributes", "Characters").
 ghost use Rattle.std.specs.Prelude.{ℕ, length, slice_index_or, ⊤, ◌≡◌, ◌<◌, ◌≤◌, ◌-◌, ◌==◌, [], ◌∷◌, codes, bit_or, bit_and};
-ghost use Rattle.cur_drawing.specs.Cells.{IsPrinted, IsCell, space, restyled};
+ghost use Rattle.cur_drawing.specs.Cells.{content_of, IsPrinted, IsCell, space, restyled};
 
 use bitflags::{Flag, Flags, bitflag_items};
 use std::marker::Model;
@@ -140,6 +140,13 @@ impl Cell {
         ensures there { result < 64 }
     {
         (self.code / 256 / 256) as u8
+    }
+
+    // The cell as one number.
+    pub(crate) fn number(&self) -> u32
+        ensures { content_of result ≡ self.now }
+    {
+        self.code
     }
 
     /// The cell after its window's background was exchanged.

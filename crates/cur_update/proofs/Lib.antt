@@ -3,3 +3,6 @@ pub mod Drawing
 pub mod Grids
 pub mod Fitting
 pub mod Showing
+pub mod Copying
+pub mod Inking
+pub mod Counting

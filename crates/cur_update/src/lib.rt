@@ -1,12 +1,24 @@
-//! Output to a terminal: a painter of plain grids.
+//! Output to a terminal: a painter that makes it show a virtual screen.
 #![tactic(auto)]
 
+mod alternates;
+mod bells;
+mod inks;
+mod laws;
+mod painters;
+mod papers;
 mod plains;
+mod screens;
 mod strings;
 #[cfg(test)]
 mod tests;
 #[cfg(test)]
 mod whole;
 
+pub use alternates::Alternates;
+pub use bells::Unsent;
+pub use cur_paint::{Session, Status};
 pub use cur_wires::{Fuse, Tape, Wire, WireFault};
+pub use laws::cells_bounded;
+pub use painters::Painter;
 pub use plains::Plain;

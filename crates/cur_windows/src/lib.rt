@@ -15,7 +15,7 @@ mod views;
 mod virtual_screen;
 
 pub use copying::in_order;
-pub use cur_drawing::{Area, Attrs, Border, Cell, Place, Put, Refusal};
+pub use cur_drawing::{Area, Attrs, Border, Cell, Place, Put, Refusal, first_diff, last_diff};
 pub use desks::{Desk, WINDOWS};
 pub use making::in_range;
 pub use rows::RowMut;

@@ -1,0 +1,19 @@
+-- One place more in which two lists are equal.
+use Rattle.std.proofs.Common.{ℕ, ◌+◌, List, sym, subst, inl, inr, arith}
+use Rattle.std.proofs.lemmas.Bool.{cases_eq}
+use Rattle.cur_drawing.specs.Cells.{Content}
+use Rattle.cur_drawing.specs.Differences.{AreEqualAt, AreEqualIn}
+
+pub equal_up_to : (a b : List Content) (k : ℕ) → AreEqualIn a b 0 k → AreEqualAt a b k → AreEqualIn a b 0 (k + 1)
+equal_up_to a b k h e j from lt =
+    elim (cases_eq j k) [
+      | inl same ↦ subst (AreEqualAt a b) (sym same) e
+      | inr apart ↦ h j from (omega arith)
+    ]
+
+pub equal_from : (a b : List Content) (k to : ℕ) → AreEqualIn a b (k + 1) to → AreEqualAt a b k → AreEqualIn a b k to
+equal_from a b k to h e j from lt =
+    elim (cases_eq j k) [
+      | inl same ↦ subst (AreEqualAt a b) (sym same) e
+      | inr apart ↦ h j (omega arith) lt
+    ]

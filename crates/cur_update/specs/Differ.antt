@@ -1,0 +1,34 @@
+-- In how many places two virtual screens differ, a pair being read as the colours of its screen's table.
+use Rattle.std.specs.Prelude.{ℕ, ◌+◌, ◌==◌, ◌&&◌, Bool, true, false, Option, Some, None, if◌then◌else◌, zero, suc}
+use Rattle.cur_drawing.specs.Cells.{Content}
+use Rattle.cur_windows.specs.VirtualScreen.{Screen, colors_at}
+use Rattle.cur_windows.specs.declared.virtual_screen.Colors.{Colors}
+use Rattle.cur_update.specs.Inks.{content_at}
+
+abbrev pub same_number : Option ℕ → Option ℕ → Bool
+same_number None None = true
+same_number (Some a) (Some b) = a == b
+same_number _ _ = false
+
+abbrev pub same_colors : Colors → Colors → Bool
+same_colors p q = same_number p.foreground q.foreground && same_number p.background q.background
+
+abbrev pub same_character : Content → Content → Bool
+same_character c d = (c.byte == d.byte) && (c.attrs == d.attrs)
+
+abbrev pub same_at : Screen → Screen → ℕ → ℕ → Bool
+same_at v w i j = same_character (content_at v i j) (content_at w i j) && same_colors (colors_at v (content_at v i j).pair) (colors_at w (content_at w i j).pair)
+
+-- in one place: none or one
+abbrev pub cells_differ : Screen → Screen → ℕ → ℕ → ℕ
+cells_differ v w i j = if same_at v w i j then 0 else 1
+
+-- in so many places of a line
+abbrev pub in_line : Screen → Screen → ℕ → ℕ → ℕ
+in_line v w i zero = 0
+in_line v w i (suc n) = in_line v w i n + cells_differ v w i n
+
+-- in so many lines
+abbrev pub in_lines : Screen → Screen → ℕ → ℕ → ℕ
+in_lines v w cols zero = 0
+in_lines v w cols (suc n) = in_lines v w cols n + in_line v w n cols

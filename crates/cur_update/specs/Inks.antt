@@ -1,0 +1,57 @@
+-- How a cell of the virtual screen is printed on a terminal (X/Open Curses Issue 7, "Attributes", "Color Manipulation";
+-- terminfo(5), "Line Graphics").
+use Rattle.std.specs.Prelude.{ℕ, ◌==◌, ◌&&◌, nat_lt, Bool, Option, Some, None, if◌then◌else◌, bit_and, slice_index_or}
+use Rattle.vt_term.specs.Color.{Color, color}
+use Rattle.ti_rows.specs.declared.rows.Attributes.{Attributes}
+use Rattle.ti_rows.specs.declared.rows.Row.TheVariants.{Op, Smacs}
+use Rattle.ti_looks.specs.Alternates.{Character, shown, printed_only, in_plain_set}
+use Rattle.cur_drawing.specs.Cells.{Content, space}
+use Rattle.cur_drawing.specs.Grids.{line_at}
+use Rattle.cur_windows.specs.VirtualScreen.{Screen, colors_at}
+use Rattle.cur_windows.specs.declared.virtual_screen.Colors.{Colors}
+use Rattle.cur_looks.specs.Certified.{Table, has}
+use Rattle.cur_looks.specs.Inks.{blank_ink}
+use Rattle.cur_looks.specs.declared.inks.Brush.{Brush}
+use Rattle.cur_looks.specs.declared.inks.Ink.{Ink}
+
+-- one of the bits is in the set
+abbrev pub has_bit : ℕ → ℕ → Bool
+has_bit set bit = bit_and set bit == bit
+
+abbrev pub attributes_of : ℕ → Attributes
+attributes_of a = record {
+  standout = has_bit a 1;
+  underline = has_bit a 2;
+  reverse = has_bit a 4;
+  blink = has_bit a 8;
+  dim = has_bit a 16;
+  bold = has_bit a 32;
+  invisible = has_bit a 64;
+}
+
+-- colours only where the entry has strings for them
+abbrev pub color_of : Bool → Option ℕ → Option Color
+color_of colored None = None
+color_of colored (Some n) = if colored then Some (color n) else None
+
+abbrev pub brush_of : Bool → Colors → Content → Brush
+brush_of colored p c = record { attributes = attributes_of c.attrs; foreground = color_of colored p.foreground; background = color_of colored p.background }
+
+-- a partner counts where the entry has the strings for the graphic set, and the partner can be printed
+abbrev pub partner_in : Bool → Option ℕ → Option ℕ
+partner_in graphic partner = if graphic then printed_only partner else None
+
+-- a cell of the alternate set shows its letter's partner, or what stands for it; any other shows its byte
+abbrev pub character_of : Bool → (ℕ → Option ℕ) → Content → Character
+character_of graphic partners c = if has_bit c.attrs 128 then shown (partner_in graphic (partners c.byte)) c.byte else in_plain_set c.byte
+
+abbrev pub ink_of : Table → (ℕ → Option ℕ) → Colors → Content → Ink
+ink_of t partners p c = let x = character_of (has t Smacs) partners c in
+    record { byte = x.byte; graphic = x.graphic; brush = brush_of (has t Op) p c }
+
+abbrev pub content_at : Screen → ℕ → ℕ → Content
+content_at v i j = slice_index_or (line_at v.grid i) j space
+
+-- the virtual screen as it is printed, and blanks around it
+abbrev pub ink_at : Table → (ℕ → Option ℕ) → Screen → ℕ → ℕ → Ink
+ink_at t partners v i j = if nat_lt i v.rows && nat_lt j v.cols then ink_of t partners (colors_at v (content_at v i j).pair) (content_at v i j) else blank_ink

@@ -1,0 +1,32 @@
+//! Ringing the bell.
+ghost use Rattle.cur_update.specs.Beep.{Rings};
+
+use cur_drawing::Refusal;
+use cur_looks::Certificate;
+use cur_paint::Session;
+use cur_wires::{Wire, WireFault};
+
+/// Why nothing, or not all, was sent.
+#[derive(Clone, Copy)]
+pub enum Unsent {
+    /// The call is refused.
+    Refused(Refusal),
+    /// The wire failed.
+    Wire(WireFault),
+}
+
+/// Rings the bell.
+pub(crate) fn ring<C: Certificate, W: Wire>(
+    checked: &C,
+    session: &mut Session,
+    wire: &mut W,
+) -> Result<(), Unsent>
+    ensures { Rings W.went W.failures wire.old wire.new result (C.table checked.now) session.old session.new }
+{
+    match cur_paint::beep(checked, session, wire) {
+        Ok(()) => Ok(()),
+        Err(cur_paint::Unsent::NoCap) => Err(Unsent::Refused(Refusal::NoCap)),
+        Err(cur_paint::Unsent::Stray) => Err(Unsent::Refused(Refusal::IsLost)),
+        Err(cur_paint::Unsent::Wire(fault)) => Err(Unsent::Wire(fault)),
+    }
+}

@@ -1,0 +1,90 @@
+//! How cells of the virtual screen are printed.
+ghost use Rattle.std.specs.Prelude.{◌≡◌};
+ghost use Rattle.ti_rows.specs.declared.rows.Row.TheVariants.{Smacs};
+ghost use Rattle.cur_looks.specs.Certified.{has};
+ghost use Rattle.cur_update.specs.Inks as spec;
+
+use crate::alternates::Alternates;
+use cur_drawing::{Attrs, Cell};
+use cur_looks::{Attributes, Brush, Certificate, Ink, Row};
+use ti_looks::{Character, shown};
+use vt_term::{Color, color_of as color};
+
+/// Whether the entry has a string.
+pub(crate) fn has_line<C: Certificate>(checked: &C, row: Row) -> bool
+    ensures { result ≡ has (C.table checked.now) row }
+{
+    checked.line(row).is_some()
+}
+
+/// The attributes of a cell, without the alternate set.
+fn attributes_of(attrs: Attrs) -> Attributes
+    ensures { result ≡ spec.attributes_of attrs.0 }
+{
+    Attributes {
+        standout: attrs.has(Attrs::STANDOUT),
+        underline: attrs.has(Attrs::UNDERLINE),
+        reverse: attrs.has(Attrs::REVERSE),
+        blink: attrs.has(Attrs::BLINK),
+        dim: attrs.has(Attrs::DIM),
+        bold: attrs.has(Attrs::BOLD),
+        invisible: attrs.has(Attrs::INVISIBLE),
+    }
+}
+
+/// The colour of a number, where the entry has colours.
+fn color_of(colored: bool, number: Option<u8>) -> Option<Color>
+    ensures { result ≡ spec.color_of colored number }
+{
+    match number {
+        Some(number) if colored => Some(color(number as u16)),
+        _ => None,
+    }
+}
+
+/// A letter's partner, where the entry has the strings for the graphic set and the partner can be printed.
+fn partner_in(graphic: bool, partner: Option<u8>) -> Option<u8>
+    ensures { result ≡ spec.partner_in graphic partner }
+{
+    match partner {
+        Some(byte) if graphic && (32..=126).contains(&byte) => Some(byte),
+        _ => None,
+    }
+}
+
+/// The character that a cell shows.
+fn character_of<C: Certificate + Alternates>(checked: &C, cell: Cell) -> Character
+    ensures byte { result.byte ≡ (spec.character_of (has (C.table checked.now) Smacs) (C.partners checked.now) cell).byte }
+    ensures graphic { result.graphic ≡ (spec.character_of (has (C.table checked.now) Smacs) (C.partners checked.now) cell).graphic }
+{
+    let letter = cell.byte();
+    if cell.attrs().has(Attrs::ALTCHARSET) {
+        let partner = partner_in(has_line(checked, Row::Smacs), checked.partner(letter));
+        return shown(partner, letter);
+    }
+    Character {
+        byte: letter,
+        graphic: false,
+    }
+}
+
+/// How a cell is printed, with the colours of its pair.
+pub(crate) fn ink_of<C: Certificate + Alternates>(
+    checked: &C,
+    colors: (Option<u8>, Option<u8>),
+    cell: Cell,
+) -> Ink
+    ensures { result ≡ spec.ink_of (C.table checked.now) (C.partners checked.now) (record { foreground = colors.0; background = colors.1 }) cell }
+{
+    let character = character_of(checked, cell);
+    let colored = has_line(checked, Row::Op);
+    Ink {
+        byte: character.byte,
+        graphic: character.graphic,
+        brush: Brush {
+            attributes: attributes_of(cell.attrs()),
+            foreground: color_of(colored, colors.0),
+            background: color_of(colored, colors.1),
+        },
+    }
+}

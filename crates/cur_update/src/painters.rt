@@ -1,0 +1,192 @@
+//! A painter, which makes a terminal show the virtual screen.
+ghost use Rattle.std.specs.Prelude.{◌≡◌, IfOk, OnOk, OnErr};
+ghost use Rattle.cur_looks.specs.declared.beliefs.Mode.TheVariants.{Normal};
+ghost use Rattle.cur_paint.specs.declared.updates.Status.TheVariants.{Fresh};
+ghost use Rattle.cur_paint.specs.Finish.{Finishes};
+ghost use Rattle.cur_paint.specs.Update.{Refreshes};
+ghost use Rattle.cur_update.specs.Inks.{ink_at};
+ghost use Rattle.cur_update.specs.Paper.{blank_drawing, on_paper};
+ghost use Rattle.cur_update.specs.Painters.{IsPainter, mode_number, mode_of, set_mode, wanted_of};
+ghost use Rattle.cur_update.specs.Beep.{Rings};
+
+use crate::alternates::Alternates;
+use crate::bells::{Unsent, ring};
+use crate::inks::has_line;
+use crate::papers::Paper;
+use crate::screens::{Sheet, all_cells};
+use cur_drawing::{Refusal, place_below};
+use cur_looks::{Certificate, Mode, Place, Row};
+use cur_paint::{Session, Wanted};
+use cur_windows::Virtual;
+use cur_wires::{Wire, WireFault};
+use std::alloc::{AllocError, Global};
+use std::marker::Model;
+
+/// A painter for the terminal of a verified certificate: what that shows, and what is known of it.
+#[derive(Drop)]
+pub struct Painter<'a, C: Certificate + Alternates> {
+    checked: &'a C,
+    paper: Paper,
+    session: Session,
+    mode: Mode,
+}
+
+impl<'a, C: Certificate + Alternates> Model for Painter<'a, C> {
+    ghost use Rattle.cur_update.specs.Painters.{Painted, IsPainter};
+
+    ghost Value = { Painted C };
+
+    ghost view = { λ p. record { checked = p.checked.now; paper = p.paper; session = p.session; mode = p.mode } };
+
+    ghost invariant = { λ p. IsPainter (C.table p.checked.now) p.paper p.mode };
+}
+
+impl<'a, C: Certificate + Alternates> Painter<'a, C> {
+    /// A painter of a fresh session: nothing was sent, the screen is blank, and the cursor's mode is 1. An
+    /// error where a growth was refused.
+    pub fn start(alloc: Global, checked: &'a C) -> Result<Painter<'a, C>, AllocError>
+        ensures certificate { IfOk result (λ p. p.checked ≡ checked.now) }
+        ensures fresh { IfOk result (λ p. p.session.status ≡ Fresh) }
+        ensures paper { IfOk result (λ p. p.paper ≡ blank_drawing ((C.table checked.now).rows) ((C.table checked.now).cols)) }
+        ensures mode { IfOk result (λ p. p.mode ≡ Normal) }
+    {
+        let paper = Paper::blank(alloc, checked.rows(), checked.cols())?;
+        Ok(Painter {
+            checked,
+            paper,
+            session: Session::new(),
+            mode: Mode::Normal,
+        })
+    }
+
+    /// Makes the terminal show the virtual screen, which is of the terminal's size, and then has a copy of
+    /// it. On `WireFault` a front of lawful bytes went out, and the session is lost.
+    pub fn update<W: Wire>(&mut self, screen: &Virtual, wire: &mut W) -> Result<(), WireFault>
+        requires rows { (screen.now).rows ≡ (C.table self.old.checked).rows }
+        requires cols { (screen.now).cols ≡ (C.table self.old.checked).cols }
+        ensures refreshes { Refreshes W.went W.failures wire.old wire.new result (C.table self.old.checked) (on_paper self.old.paper)
+            (ink_at (C.table self.old.checked) (C.partners self.old.checked) screen.now) (wanted_of screen.now self.old.mode) self.old.session self.new.session }
+        ensures shown { OnOk result (on_paper self.new.paper ≡ ink_at (C.table self.old.checked) (C.partners self.old.checked) screen.now) }
+        ensures kept { OnErr result (self.new.paper ≡ self.old.paper) }
+        ensures certificate { self.new.checked ≡ self.old.checked }
+        ensures mode { self.new.mode ≡ self.old.mode }
+    {
+        let wanted = wanted_of(screen, self.mode);
+        refresh(
+            self.checked,
+            &mut self.paper,
+            &mut self.session,
+            wire,
+            screen,
+            wanted,
+        )
+    }
+
+    /// Sets how the cursor is shown from the next refresh on: 0 hidden, 1 visible, 2 very visible
+    /// (`curs_set`). The answer is the mode that was set before. `BadRegion` for any other number, then
+    /// `NoCap` where the entry can't hide the cursor and show it again; then nothing has changed. Nothing
+    /// is sent.
+    pub fn cursor_mode(&mut self, n: i32) -> Result<u8, Refusal>
+        ensures step { (self.new.mode, result) ≡ set_mode (C.table self.old.checked) n self.old.mode }
+        ensures others { self.new ≡ record self.old { mode = self.new.mode } }
+    {
+        let Some(n) = place_below(n, 3) else {
+            return Err(Refusal::BadRegion);
+        };
+        if !(has_line(self.checked, Row::Civis) && has_line(self.checked, Row::Cnorm)) {
+            return Err(Refusal::NoCap);
+        }
+        let before = mode_number(self.mode);
+        self.mode = mode_of(n);
+        Ok(before)
+    }
+
+    /// Ends the program's screen: sends `sgr0`, `rmacs`, `cup` to the last line's first column, `cnorm` and
+    /// `rmcup`, those that the entry has, after the resynchronization if the session is lost; nothing if it
+    /// is fresh. Then it is fresh. On `WireFault` a front of that went out, and the session is lost.
+    pub fn finish<W: Wire>(&mut self, wire: &mut W) -> Result<(), WireFault>
+        ensures finishes { Finishes W.went W.failures wire.old wire.new result (C.table self.old.checked) self.old.session self.new.session }
+        ensures others { self.new ≡ record self.old { session = self.new.session } }
+    {
+        cur_paint::finish(self.checked, &mut self.session, wire)
+    }
+
+    /// Rings the bell: sends just `bel`. Refused with `NoCap` where the entry has no `bel`, then with
+    /// `IsLost` by a lost session; then nothing was sent. On a wire's fault a front of the string went out,
+    /// and the session is lost.
+    pub fn beep<W: Wire>(&mut self, wire: &mut W) -> Result<(), Unsent>
+        ensures beeps { Rings W.went W.failures wire.old wire.new result (C.table self.old.checked) self.old.session self.new.session }
+        ensures others { self.new ≡ record self.old { session = self.new.session } }
+    {
+        ring(self.checked, &mut self.session, wire)
+    }
+}
+
+/// What is wanted beside the cells.
+fn wanted_of(screen: &Virtual, mode: Mode) -> Wanted
+    ensures { result ≡ wanted_of screen.now mode }
+{
+    let cursor = match screen.cursor() {
+        Some(place) => Some(Place {
+            row: place.row as usize,
+            col: place.col as usize,
+        }),
+        None => None,
+    };
+    Wanted {
+        cursor,
+        mode,
+        clear: screen.clearok(),
+    }
+}
+
+/// What goes out in a refresh; the paper then has a copy of the screen.
+fn refresh<C: Certificate + Alternates, W: Wire>(
+    checked: &C,
+    paper: &mut Paper,
+    session: &mut Session,
+    wire: &mut W,
+    screen: &Virtual,
+    wanted: Wanted,
+) -> Result<(), WireFault>
+    requires rows { (screen.now).rows ≡ (C.table checked.now).rows }
+    requires cols { (screen.now).cols ≡ (C.table checked.now).cols }
+    requires paper { IsPainter (C.table checked.now) paper.old wanted.mode }
+    requires wanted { wanted ≡ wanted_of screen.now wanted.mode }
+    ensures refreshes { Refreshes W.went W.failures wire.old wire.new result (C.table checked.now) (on_paper paper.old)
+        (ink_at (C.table checked.now) (C.partners checked.now) screen.now) wanted session.old session.new }
+    ensures shown { OnOk result (on_paper paper.new ≡ ink_at (C.table checked.now) (C.partners checked.now) screen.now) }
+    ensures kept { OnErr result (paper.new ≡ paper.old) }
+    ensures rows { paper.new.rows ≡ paper.old.rows }
+    ensures cols { paper.new.cols ≡ paper.old.cols }
+{
+    let _ = checked.rows();
+    all_cells(screen);
+    let _ = screen.row(0);
+    let sheet = Sheet { screen, checked };
+    cur_paint::update(checked, session, wire, paper, &sheet, wanted)?;
+    paper.copy(&sheet);
+    Ok(())
+}
+
+/// The number of a mode.
+fn mode_number(mode: Mode) -> u8
+    ensures { result ≡ mode_number mode }
+{
+    match mode {
+        Mode::Hidden => 0,
+        Mode::Normal => 1,
+        Mode::Prominent => 2,
+    }
+}
+
+/// The mode of a number.
+fn mode_of(n: u16) -> Mode
+    ensures { result ≡ mode_of n }
+{
+    match n {
+        0 => Mode::Hidden,
+        1 => Mode::Normal,
+        _ => Mode::Prominent,
+    }
+}

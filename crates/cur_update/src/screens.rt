@@ -1,0 +1,42 @@
+//! The virtual screen as a painter sees it.
+ghost use Rattle.std.specs.Prelude.{◌≡◌, ◌<◌, ℕ};
+ghost use Rattle.cur_drawing.specs.Cells.{IsCell};
+ghost use Rattle.cur_update.specs.Inks.{content_at, ink_at};
+
+use crate::alternates::Alternates;
+use crate::inks::ink_of;
+use cur_looks::{Certificate, Ink, View};
+use cur_windows::Virtual;
+
+/// A virtual screen with the certificate that says how its cells are printed.
+#[derive(Drop)]
+pub(crate) struct Sheet<'a, C> {
+    pub screen: &'a Virtual,
+    pub checked: &'a C,
+}
+
+impl<'a, C: Certificate + Alternates> View for Sheet<'a, C> {
+    ghost use Rattle.cur_update.specs.Inks.{ink_at};
+
+    ghost cells = { λ s. ink_at (C.table s.checked.now) (C.partners s.checked.now) s.screen.now };
+
+    fn at(&self, row: usize, col: usize) -> Ink
+        ensures value { result ≡ ink_at (C.table self.now.checked.now) (C.partners self.now.checked.now) self.now.screen.now row col }
+    {
+        let (rows, cols) = self.screen.size();
+        if row >= rows as usize || col >= cols as usize {
+            return Ink::blank();
+        }
+        let cell = self.screen.row(row as u16)[col];
+        ink_of(self.checked, self.screen.pair(cell.pair()), cell)
+    }
+}
+
+/// Each cell of the screen holds a character of 32 to 126 and a pair below 64, as every cell does.
+pub(crate) fn all_cells(screen: &Virtual)
+    ensures { (i j : ℕ) → i < (screen.now).rows → j < (screen.now).cols → IsCell (content_at screen.now i j) }
+{
+    for row in 0..screen.size().0 {
+        let _ = screen.row(row);
+    }
+}
