@@ -14,8 +14,8 @@ import time
 from crates import TOP, below, listed
 
 PROGRAM = "ticurses"
-# measured: from nothing, on four processors that did nothing else
-MINUTES = "MEASURED"
+# measured: from nothing, 13 minutes on four processors that did other work beside it
+MINUTES = "10 to 13"
 # a check of one crate takes about so many bytes of memory
 NEEDS = 3_000_000_000
 SHOWN = 20
