@@ -15,7 +15,7 @@ from crates import TOP, below, listed
 
 PROGRAM = "ticurses"
 # measured: from nothing, 13 minutes on four processors that did other work beside it
-MINUTES = "10 to 13"
+MINUTES = "13"
 # a check of one crate takes about so many bytes of memory
 NEEDS = 3_000_000_000
 SHOWN = 20

@@ -14,7 +14,7 @@ from concurrent.futures import ThreadPoolExecutor
 from crates import TOP, listed
 
 # measured: on four processors that did other work beside it
-MINUTES = "40 to 55"
+MINUTES = "51"
 
 
 def minutes(since):
