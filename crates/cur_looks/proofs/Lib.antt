@@ -3,3 +3,4 @@ pub mod Turning
 pub mod Telling
 pub mod Printing
 pub mod Sameness
+pub mod Singling

@@ -116,22 +116,27 @@ either t a b s e f k u (inr h) =
     h ∙ ap (λ (x : Option Color). record s { rendition = marked (shown t.looks a) x None; charset = u.charset }) (sym f)
     ∙ ap (λ (x : Option Color). record s { rendition = marked (shown t.looks a) b.foreground x; charset = u.charset }) (sym k)
 
+-- the same cells under another rendition, with the sets settled
+pub rendered : (t : Table) (g : ℕ → ℕ → Ink) (b : Belief) (x : Brush) → IsColored t x → (s u : State) → Agrees t g b s → IsOfSize t.rows t.cols u → u.rest ≡ [] → t.settled u.screen.charset ≡ true
+    → u.screen ≡ record s.screen { rendition = rendition_of t.looks x; charset = u.screen.charset } → Agrees t g (record b { brush = x; graphic = None }) u
+rendered t g b x colored s u h sized closed settled e =
+    by_screen t (Agrees t g (record b { brush = x; graphic = None })) u (record s.screen { rendition = rendition_of t.looks x; charset = u.screen.charset }) sized closed e
+    (λ j. record {
+      ready = record { sized = j; rest = refl; tame = record { autowrap = h.ready.tame.autowrap; inserting = h.ready.tame.inserting }; whole = record { top = h.ready.whole.top; bottom = h.ready.whole.bottom }; settled = settled; visible = h.ready.visible };
+      cells = h.cells;
+      place = h.place;
+      brush = refl;
+      colored = colored;
+      set = tt;
+      seen = h.seen;
+    })
+
 pub attributes_set : (t : Table) (g : ℕ → ℕ → Ink) (b : Belief) (a : Attributes) → b.brush.foreground ≡ None → b.brush.background ≡ None
     → Turns t (Sgr a) g b g (record b { brush = record b.brush { attributes = a }; graphic = None })
 attributes_set t g b a f k = record {
   starts = λ s h. free_of t s h.ready;
-  ends = λ s u h sized closed w. by_screen t (Agrees t g (record b { brush = record b.brush { attributes = a }; graphic = None })) u
-      (record s.screen { rendition = marked (shown t.looks a) b.brush.foreground b.brush.background; charset = u.screen.charset }) sized closed
-      (either t a b.brush s.screen h.brush f k u.screen w.wants)
-      (λ j. record {
-        ready = record { sized = j; rest = refl; tame = record { autowrap = h.ready.tame.autowrap; inserting = h.ready.tame.inserting }; whole = record { top = h.ready.whole.top; bottom = h.ready.whole.bottom }; settled = w.settled refl h.ready.settled; visible = h.ready.visible };
-        cells = h.cells;
-        place = h.place;
-        brush = refl;
-        colored = record { foreground = h.colored.foreground; background = h.colored.background };
-        set = tt;
-        seen = h.seen;
-      });
+  ends = λ s u h sized closed w. rendered t g b (record b.brush { attributes = a }) (record { foreground = h.colored.foreground; background = h.colored.background }) s u h sized closed (w.settled refl h.ready.settled)
+      (either t a b.brush s.screen h.brush f k u.screen w.wants);
 }
 
 -- the active set

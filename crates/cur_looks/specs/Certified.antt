@@ -1,5 +1,5 @@
 -- What a painter may know of a verified certificate: its lines, what each does, and what resynchronizes.
-use Rattle.std.specs.Prelude.{ℕ, ◌+◌, ◌-◌, ◌<◌, ◌≤◌, ◌≡◌, Bool, true, false, List, [], ◌∷◌, ◌++◌, length, Option, Some, is_some}
+use Rattle.std.specs.Prelude.{ℕ, ◌+◌, ◌-◌, ◌<◌, ◌≤◌, ◌≡◌, Bool, true, false, List, [], ◌∷◌, ◌++◌, length, sum_by, Option, Some, None, is_some}
 use Rattle.std.specs.List.{AllByRecursion, concat}
 use Rattle.vt_term.specs.Size.{IsSize}
 use Rattle.vt_term.specs.Color.{Color}
@@ -11,7 +11,9 @@ use Rattle.cur_steps.specs.Lines.{Drives}
 use Rattle.ti_rows.specs.declared.rows.Attributes.{Attributes}
 use Rattle.ti_rows.specs.declared.rows.Looks.{Looks}
 use Rattle.ti_rows.specs.declared.rows.Row.{Row}
-use Rattle.ti_rows.specs.declared.rows.Row.TheVariants.{Clear, Cup, El, El1, Ed, Ech, Sgr, Sgr0, Setaf, Setab, Op, Smacs, Rmacs, Csr, Ind, Ri, Civis, Cnorm, Cvvis, Smcup, Rmcup}
+use Rattle.ti_rows.specs.declared.rows.Row.TheVariants.{Clear, Cup, El, El1, Ed, Ech, Sgr, Sgr0, Setaf, Setab, Op, Smul, Rev, Blink, Dim, Bold, Invis, Smso, Smacs, Rmacs, Csr, Ind, Ri, Civis, Cnorm, Cvvis, Smcup, Rmcup}
+use Rattle.ti_rows.specs.Asked.{no_marks}
+use Rattle.ti_rows.specs.Names.{no_attributes}
 use Rattle.ti_rows.specs.Starts.{Starts}
 use Rattle.ti_rows.specs.Wants.{Wants}
 use Rattle.vt_effects.specs.Settings.{IsTame}
@@ -46,6 +48,14 @@ pub record Table : Type 0 where
 
 abbrev pub has : Table → Row → Bool
 has t row = is_some (t.line_of row)
+
+abbrev pub or_nothing : Option (List ℕ) → List ℕ
+or_nothing None = []
+or_nothing (Some l) = l
+
+-- the bytes of a row's line, or nothing where there is none
+abbrev pub text_of : Table → Row → List ℕ
+text_of t row = or_nothing (t.line_of row)
 
 -- the margins are the whole screen
 pub record IsWhole (s : Screen) : Type 0 where
@@ -82,17 +92,16 @@ Activates Smacs c = is_graphic c ≡ true
 Activates Rmacs c = is_graphic c ≡ false
 Activates _ c = Unit {0}
 
--- the end of a row's line: as is wanted, and the sets reached, and settled if they were
+-- the end of a row's line: as is wanted, and the sets settled if they were
 pub record Ended (t : Table) (row : Row) (s u : Screen) : Type 0 where
   pub wants : Wants t.looks row s u
   pub settled : settles row ≡ true → t.settled s.charset ≡ true → t.settled u.charset ≡ true
   pub active : t.settled s.charset ≡ true → Activates row u.charset
-  pub reached : t.reached s.charset ≡ true → t.reached u.charset ≡ true
 
+-- the most bytes of a row's line
 abbrev pub limit_of : Table → Row → ℕ
 limit_of t (Cup r c) = t.longest.cup
 limit_of t (Sgr a) = t.longest.sgr
-limit_of t Sgr0 = t.longest.sgr
 limit_of t (Setaf c) = t.longest.setaf
 limit_of t (Setab c) = t.longest.setab
 limit_of t Op = t.longest.op
@@ -108,7 +117,8 @@ limit_of t Ri = t.longest.scroll
 limit_of t Civis = t.longest.civis
 limit_of t Cnorm = t.longest.cnorm
 limit_of t Cvvis = t.longest.cvvis
-limit_of t _ = length t.resync
+limit_of t Clear = length t.resync
+limit_of t row = length (text_of t row)
 
 -- one cell's worth of bytes, with its move and whatever changes how it looks
 abbrev pub cell_limit : Table → ℕ
@@ -135,13 +145,35 @@ pub data IsPiece (t : Table) (piece : List ℕ) : Type 0 where
   Line : (row : Row) → t.line_of row ≡ Some piece → IsPiece t piece
   Character : (b : ℕ) → IsPrinted b → piece ≡ b ∷ [] → IsPiece t piece
 
+-- the strings of single attributes, in the order in which they are sent
+abbrev pub singles : List Row
+singles = Smul ∷ Rev ∷ Blink ∷ Dim ∷ Bold ∷ Invis ∷ Smso ∷ []
+
+abbrev pub lengths : Table → List Row → ℕ
+lengths t rows = sum_by (λ row. length (text_of t row)) rows
+
+-- Where there is no `sgr`, an attribute is seen exactly if there is a line for it, and a set of attributes takes
+-- `sgr0` and the lines of single attributes (terminfo(5), "Highlighting, Underlining, and Visible Bells").
+pub record HasSingles (t : Table) : Type 0 where
+  pub underline : t.looks.underline ≡ has t Smul
+  pub reverse : t.looks.reverse ≡ has t Rev
+  pub blink : t.looks.blink ≡ has t Blink
+  pub dim : t.looks.dim ≡ has t Dim
+  pub bold : t.looks.bold ≡ has t Bold
+  pub invisible : t.looks.invisible ≡ has t Invis
+  pub standout : has t Smso ≡ false → t.looks.standout ≡ no_marks
+  pub short : length (text_of t Sgr0) + lengths t singles ≤ t.longest.sgr
+
 -- the colours have lines together, and so have the graphic set's
 pub record IsChecked (t : Table) : Type 0 where
   pub size : IsSize t.rows t.cols
   pub lines : (row : Row) (bytes : List ℕ) → t.line_of row ≡ Some bytes → IsLine t row bytes
   pub moves : (r c : ℕ) → r < t.rows → c < t.cols → has t (Cup r c) ≡ true
   pub clears : has t Clear ≡ true
-  pub attributes : (a : Attributes) → has t (Sgr a) ≡ true
+  pub plain : has t Sgr0 ≡ true
+  -- there is a line of `sgr` for every set of attributes, or for none
+  pub attributes : has t (Sgr no_attributes) ≡ true → (a : Attributes) → has t (Sgr a) ≡ true
+  pub singles : has t (Sgr no_attributes) ≡ false → HasSingles t
   pub foregrounds : has t Op ≡ true → (c : Color) → has t (Setaf c) ≡ true
   pub backgrounds : has t Op ≡ true → (c : Color) → has t (Setab c) ≡ true
   pub sets : has t Smacs ≡ false → has t Rmacs ≡ false

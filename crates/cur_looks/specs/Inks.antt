@@ -9,6 +9,7 @@ use Rattle.cur_looks.specs.declared.inks.Ink.{Ink}
 use Rattle.ti_rows.specs.declared.rows.Row.TheVariants.{Op, Smacs}
 use Rattle.ti_rows.specs.Wants.{marked}
 use Rattle.ti_rows.specs.Looks.{shown}
+pub use Rattle.ti_rows.specs.Names.{no_attributes}
 use Rattle.cur_looks.specs.Certified.{Table, has}
 
 -- the union of the attributes' marks, and the colours
@@ -18,9 +19,6 @@ rendition_of l b = marked (shown l b.attributes) b.foreground b.background
 -- the graphic set has pictures of its own from 95 on (VT100 user guide, "Special graphics characters")
 abbrev pub look_of : Looks → Ink → Look
 look_of l x = record { byte = x.byte; graphic = x.graphic && nat_le 95 x.byte; rendition = rendition_of l x.brush }
-
-abbrev pub no_attributes : Attributes
-no_attributes = record { standout = false; underline = false; reverse = false; blink = false; dim = false; bold = false; invisible = false }
 
 abbrev pub plain_brush : Brush
 plain_brush = record { attributes = no_attributes; foreground = None; background = None }

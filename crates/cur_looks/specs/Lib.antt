@@ -1,3 +1,4 @@
 pub mod Certified
 pub mod Inks
 pub mod Beliefs
+pub mod Singles

@@ -8,6 +8,7 @@ mod certificates;
 mod inks;
 mod lines;
 mod modes;
+mod singles;
 mod steps;
 
 pub use beliefs::{Belief, Mode, Place};

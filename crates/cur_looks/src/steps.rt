@@ -1,9 +1,9 @@
 //! The single steps of a painter: each sends at most one line or one character.
-ghost use Rattle.std.specs.Prelude.{◌≡◌, ◌*◌, ◌<◌, ℕ, Bool, true, false, Option, Some, None};
+ghost use Rattle.std.specs.Prelude.{◌≡◌, ◌*◌, ◌<◌, ℕ, Bool, true, false, Option, Some, None, OnOk};
 ghost use Rattle.vt_term.specs.Color.{Color};
 ghost use Rattle.vt_term.specs.Look.{IsPrinted};
 ghost use Rattle.cur_steps.specs.Steps.{Steps};
-ghost use Rattle.ti_rows.specs.declared.rows.Row.TheVariants.{Op, El, Smacs};
+ghost use Rattle.ti_rows.specs.declared.rows.Row.TheVariants.{Op, El, Sgr, Smacs};
 ghost use Rattle.cur_looks.specs.Certified.{IsPiece, IsLost, has};
 ghost use Rattle.cur_looks.specs.Inks.{put_at, tail_blank, plain_brush};
 ghost use Rattle.cur_looks.specs.Beliefs.{Agrees, Belief, moves, after_print, set_row};
@@ -14,6 +14,7 @@ use crate::beliefs::{Belief, Place};
 use crate::certificates::Certificate;
 use crate::inks::{Brush, Ink, same_attributes};
 use crate::lines::send_line;
+use crate::singles::attributes_singly;
 use cur_wires::{Wire, WireFault, send_all};
 use ti_rows::{Attributes, Row};
 use vt_term::Color;
@@ -93,8 +94,8 @@ pub(crate) fn attributes_as<C: Certificate, W: Wire>(
 ) -> Result<(), WireFault>
     requires foreground { belief.old.brush.foreground ≡ None }
     requires background { belief.old.brush.background ≡ None }
-    ensures brush { belief.new.brush ≡ record { attributes = wanted; foreground = None; background = None } }
-    ensures place { belief.new.place ≡ belief.old.place }
+    ensures brush { OnOk result (belief.new.brush ≡ record { attributes = wanted; foreground = None; background = None }) }
+    ensures place { OnOk result (belief.new.place ≡ belief.old.place) }
     ensures step { (g : ℕ → ℕ → Ink) → Steps W.went W.failures wire.old wire.new result (IsPiece (C.table checked.now)) (C.table checked.now).longest.sgr
         (IsLost (C.table checked.now)) (Agrees (C.table checked.now) g belief.old) (Agrees (C.table checked.now) g belief.new) }
 {
@@ -103,10 +104,31 @@ pub(crate) fn attributes_as<C: Certificate, W: Wire>(
         belief.brush.attributes = wanted;
         return Ok(());
     }
+    match checked.line(Row::Sgr(wanted)) {
+        Some(line) => attributes_at_once(checked, line, belief, wire, wanted),
+        None => attributes_singly(checked, belief, wire, wanted),
+    }
+}
+
+/// The attributes become these by one string; the colours are the default ones before and after.
+fn attributes_at_once<C: Certificate, W: Wire>(
+    checked: &C,
+    line: &[u8],
+    belief: &mut Belief,
+    wire: &mut W,
+    wanted: Attributes,
+) -> Result<(), WireFault>
+    requires line { (C.table checked.now).line_of (Sgr wanted) ≡ Some line.now }
+    requires foreground { belief.old.brush.foreground ≡ None }
+    requires background { belief.old.brush.background ≡ None }
+    ensures brush { belief.new.brush ≡ record { attributes = wanted; foreground = None; background = None } }
+    ensures place { belief.new.place ≡ belief.old.place }
+    ensures step { (g : ℕ → ℕ → Ink) → Steps W.went W.failures wire.old wire.new result (IsPiece (C.table checked.now)) (C.table checked.now).longest.sgr
+        (IsLost (C.table checked.now)) (Agrees (C.table checked.now) g belief.old) (Agrees (C.table checked.now) g belief.new) }
+{
     belief.brush.attributes = wanted;
     belief.graphic = None;
-    let line = Row::Sgr(wanted);
-    send_line(checked, line, checked.line(line).unwrap(), wire)
+    send_line(checked, Row::Sgr(wanted), line, wire)
 }
 
 /// The foreground becomes this colour, or stays the default one.

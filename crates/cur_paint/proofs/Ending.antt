@@ -1,7 +1,9 @@
 -- What ends a program's screen, and where it leads.
 use Rattle.std.proofs.Common.{◌≡◌, ℕ, ◌-◌, true, false, List, [], ◌∷◌, ◌++◌, length, Option, Some, None, is_some, refl, sym, ap, subst, arith}
+use Rattle.std.proofs.lemmas.List.{append-nil}
 use Rattle.vt_term.specs.Screen.{State, IsOfSize}
 use Rattle.vt_term.specs.Look.{plain}
+use Rattle.vt_term.proofs.Running.{runs_once}
 use Rattle.cur_steps.specs.Leads.{Ends, Leads}
 use Rattle.cur_steps.specs.Lines.{Closed}
 use Rattle.cur_steps.proofs.Leading.{leads_then, leads_wider}
@@ -12,11 +14,11 @@ use Rattle.ti_rows.specs.declared.rows.Row.TheVariants.{Cup, Sgr0, Rmacs, Cnorm,
 use Rattle.ti_rows.specs.Starts.{Starts}
 use Rattle.cur_looks.specs.declared.beliefs.Belief.{Belief}
 use Rattle.cur_looks.specs.declared.inks.Ink.{Ink}
-use Rattle.cur_looks.specs.Certified.{Table, IsLost, IsReady, IsChecked, IsLine, IsPiece, Line, Ended}
+use Rattle.cur_looks.specs.Certified.{Table, IsLost, IsReady, IsChecked, IsLine, IsPiece, Line, Ended, or_nothing, text_of}
 use Rattle.cur_looks.proofs.Doing.{ready_lost}
 use Rattle.cur_looks.proofs.Turning.{any_of, free_of, by_screen}
 use Rattle.cur_paint.specs.Update.{Fits, IsFresh}
-use Rattle.cur_paint.specs.Finish.{or_nothing, text_of, from_cnorm_text, from_cup_text, from_rmacs_text, end_text, finish_text}
+use Rattle.cur_paint.specs.Finish.{from_cnorm_text, from_cup_text, from_rmacs_text, end_text, finish_text}
 use Rattle.cur_paint.specs.declared.updates.Status.{Status}
 use Rattle.cur_paint.specs.declared.updates.Status.TheVariants.{Fresh, Known, Lost}
 use Rattle.cur_paint.proofs.Renewing.{resync_leads}
@@ -70,12 +72,16 @@ seen_again t s u h sized closed w = by_screen t (Visible t) u (record s.screen {
 fresh_of : (t : Table) → IsChecked t → (s : State) → Visible t s → IsFresh t s
 fresh_of t checked s h = record { lost = ready_lost t checked s h.ready; rest = h.ready.rest; whole = h.ready.whole; visible = h.visible }
 
-screen_back : (t : Table) → IsChecked t → (s u : State) → Visible t s → IsOfSize t.rows t.cols u → u.rest ≡ [] → Ended t Rmcup s.screen u.screen → IsFresh t u
-screen_back t checked s u h sized closed w =
+-- one run of the same bytes ends in one state
+both_ends : (s : State) (bytes : List ℕ) (A B : State → Type 0) → Ends s bytes A → Ends s bytes B → Ends s bytes (λ u. A u × B u)
+both_ends s bytes A B h k = record { after = h.after; runs = h.runs; there = (h.there, subst B (runs_once s h.after k.after bytes h.runs k.runs) k.there) }
+
+screen_back : (t : Table) (s u : State) → Visible t s → IsOfSize t.rows t.cols u → u.rest ≡ [] → Ended t Rmcup s.screen u.screen → IsLost t u → IsFresh t u
+screen_back t s u h sized closed w lost =
     let x = u.screen in
     by_screen t (IsFresh t) u (record s.screen { grid = x.grid; row = x.row; col = x.col; pending = x.pending; rendition = x.rendition; charset = x.charset }) sized closed w.wants
     (λ k. record {
-      lost = record { sized = k; tame = record { autowrap = h.ready.tame.autowrap; inserting = h.ready.tame.inserting }; reached = w.reached (checked.settled_reached s.screen.charset h.ready.settled); margins = λ e. record { top = h.ready.whole.top; bottom = h.ready.whole.bottom }; visible = λ e. h.visible };
+      lost = record { sized = k; tame = record { autowrap = h.ready.tame.autowrap; inserting = h.ready.tame.inserting }; reached = lost.reached; margins = λ e. record { top = h.ready.whole.top; bottom = h.ready.whole.bottom }; visible = λ e. h.visible };
       rest = refl;
       whole = record { top = h.ready.whole.top; bottom = h.ready.whole.bottom };
       visible = h.visible;
@@ -87,7 +93,8 @@ back_leads t checked None e = still (IsPiece t) (IsLost t) (Visible t) (IsFresh 
 back_leads t checked (Some line) e =
     let its : IsLine t Rmcup line = checked.lines Rmcup line e in
     leads_line (IsPiece t) (length line) (IsLost t) (Visible t) (IsFresh t) line (Line Rmcup e) (omega arith)
-    (λ s h. ends_sized t.rows t.cols s line (Closed (Ended t Rmcup s.screen)) (IsFresh t) h.ready.sized (λ u sized k. screen_back t checked s u h sized k.rest k.screen) (its.drives.right s h.ready.rest (free_of t s h.ready)))
+    (λ s h. ends_sized t.rows t.cols s line (λ u. Closed (Ended t Rmcup s.screen) u × IsLost t u) (IsFresh t) h.ready.sized (λ u sized k. screen_back t s u h sized k.0.rest k.0.screen k.1)
+    (both_ends s line (Closed (Ended t Rmcup s.screen)) (IsLost t) (its.drives.right s h.ready.rest (free_of t s h.ready)) (its.drives.fronts s h.ready.rest (ready_lost t checked s h.ready) line [] (sym (append-nil line)))))
     (λ s h front back parts. its.drives.fronts s h.ready.rest (ready_lost t checked s h.ready) front back parts)
 
 pub record SomeLeads (P : List ℕ → Type 0) (D A : State → Type 0) (bytes : List ℕ) (B : State → Type 0) : Type 0 where

@@ -1,5 +1,5 @@
 -- From anywhere some lawful bytes make the terminal show a screen: the resynchronization, and then every cell.
-use Rattle.std.proofs.Common.{◌≡◌, ℕ, ◌+◌, ◌<◌, ◌≤◌, Bool, true, false, zero, suc, List, [], ◌∷◌, length, Option, Some, None, is_some, refl, ap, subst, ◌∙◌, arith}
+use Rattle.std.proofs.Common.{◌≡◌, ℕ, ◌+◌, ◌<◌, ◌≤◌, Bool, true, false, zero, suc, List, [], ◌∷◌, length, Option, Some, None, is_some, refl, sym, ap, subst, ◌∙◌, arith}
 use Rattle.vt_term.specs.Color.{Color}
 use Rattle.vt_term.specs.Screen.{State}
 use Rattle.cur_steps.specs.Leads.{Ends, Leads}
@@ -7,18 +7,21 @@ use Rattle.cur_steps.specs.Lines.{Closed, Reaches}
 use Rattle.cur_steps.proofs.Stopping.{leads_line}
 use Rattle.cur_steps.proofs.Completing.{ends_as, ends_sized, reaches_then, reaches_piece, reaches_as, reaches_self}
 use Rattle.ti_rows.specs.declared.rows.Row.{Row}
-use Rattle.ti_rows.specs.declared.rows.Row.TheVariants.{Cup, Sgr, Setaf, Setab, Op, Civis, Cnorm, Cvvis}
+use Rattle.ti_rows.specs.declared.rows.Row.TheVariants.{Cup, Sgr, Sgr0, Setaf, Setab, Op, Civis, Cnorm, Cvvis}
+use Rattle.ti_rows.specs.declared.rows.Attributes.{Attributes}
 use Rattle.cur_looks.specs.declared.beliefs.Belief.{Belief}
 use Rattle.cur_looks.specs.declared.beliefs.Place.{Place}
 use Rattle.cur_looks.specs.declared.beliefs.Mode.{Mode}
 use Rattle.cur_looks.specs.declared.beliefs.Mode.TheVariants.{Hidden, Normal, Prominent}
 use Rattle.cur_looks.specs.declared.inks.Brush.{Brush}
 use Rattle.cur_looks.specs.declared.inks.Ink.{Ink}
-use Rattle.cur_looks.specs.Certified.{Table, IsLost, IsBlank, IsLine, IsChecked, IsPiece, Line, Character, Ended, has}
+use Rattle.cur_looks.specs.Certified.{Table, IsLost, IsBlank, IsLine, IsChecked, IsPiece, Line, Character, Ended, has, HasSingles, singles}
+use Rattle.cur_looks.specs.Singles.{has_single, turned_on, with_single, with_singles}
 use Rattle.cur_looks.specs.Inks.{CanShow, IsInk, IsColored, mixed, put_at, blank_ink, plain_brush, no_attributes, rendition_of}
 use Rattle.cur_looks.specs.Beliefs.{Agrees, Turns, IsHere, IsSeen, is_shown, after_print, set_row, CanHide}
 use Rattle.cur_looks.proofs.Doing.{agrees_lost}
-use Rattle.cur_looks.proofs.Turning.{moved, attributes_set, foreground_set, background_set, colors_gone, no_color_lines, brush_as, colored_has, set_chosen, set_absent, hidden, normal, always_normal, stressed, stressed_without}
+use Rattle.cur_looks.proofs.Turning.{moved, attributes_set, foreground_set, background_set, colors_gone, no_colors, no_color_lines, brush_as, colored_has, set_chosen, set_absent, hidden, normal, always_normal, stressed, stressed_without}
+use Rattle.cur_looks.proofs.Singling.{stripped, with_attributes, single_set, single_absent, unwanted, wanted_on, all_singles}
 use Rattle.cur_looks.proofs.Printing.{typed_agrees}
 use Rattle.cur_paint.specs.Limits.{IsWithin, IsPlaced}
 use Rattle.cur_paint.specs.Cleared.{at_start}
@@ -87,6 +90,41 @@ forget t g b e s h = record {
   seen = tt;
 }
 
+-- the attribute of a row's string, if it is wanted
+single_reaches : (t : Table) → IsChecked t → HasSingles t → (w : Attributes) (row : Row) (g : ℕ → ℕ → Ink) (b : Belief) → b.graphic ≡ None → (x : Bool) → has_single row w ≡ x
+    → Reaches (IsPiece t) (Agrees t g b) (Agrees t g (with_attributes b (with_single w row b.brush.attributes)))
+single_reaches t checked k w row g b none true on =
+    subst (λ (a : Attributes). Reaches (IsPiece t) (Agrees t g b) (Agrees t g (with_attributes b a))) (sym (wanted_on w row b.brush.attributes on))
+    (decide (has t row) refl)
+  where
+    decide : (y : Bool) → has t row ≡ y → Reaches (IsPiece t) (Agrees t g b) (Agrees t g (with_attributes b (turned_on row b.brush.attributes)))
+    decide true e = reaches_has t checked row e g g b (with_attributes b (turned_on row b.brush.attributes)) (single_set t k w row on e g b none)
+    decide false e = quietly t g b (with_attributes b (turned_on row b.brush.attributes)) (single_absent t k w row on e g b)
+single_reaches t checked k w row g b none false off =
+    subst (λ (a : Attributes). Reaches (IsPiece t) (Agrees t g b) (Agrees t g (with_attributes b a))) (sym (unwanted w row b.brush.attributes off)) (quietly t g b b (λ s h. h))
+
+singles_reach : (t : Table) → IsChecked t → HasSingles t → (w : Attributes) (rows : List Row) (g : ℕ → ℕ → Ink) (b : Belief) → b.graphic ≡ None
+    → Reaches (IsPiece t) (Agrees t g b) (Agrees t g (with_attributes b (with_singles w rows b.brush.attributes)))
+singles_reach t checked k w [] g b none = quietly t g b b (λ s h. h)
+singles_reach t checked k w (row ∷ rows) g b none =
+    let c : Belief = with_attributes b (with_single w row b.brush.attributes) in
+    reaches_then (IsPiece t) (Agrees t g b) (Agrees t g c) _ (single_reaches t checked k w row g b none (has_single row w) refl) (singles_reach t checked k w rows g c none)
+
+-- the attributes, by `sgr` or one by one
+attributes_reach : (t : Table) → IsChecked t → (a : Attributes) (g : ℕ → ℕ → Ink) (b : Belief) → b.brush.foreground ≡ None → b.brush.background ≡ None
+    → Reaches (IsPiece t) (Agrees t g b) (Agrees t g (record b { brush = record plain_brush { attributes = a }; graphic = None }))
+attributes_reach t checked a g b f k = decide (has t (Sgr no_attributes)) refl
+  where
+    decide : (x : Bool) → has t (Sgr no_attributes) ≡ x → Reaches (IsPiece t) (Agrees t g b) (Agrees t g (record b { brush = record plain_brush { attributes = a }; graphic = None }))
+    decide true e =
+        let c : Belief = record b { brush = record b.brush { attributes = a }; graphic = None } in
+        let d : Belief = record c { brush = record plain_brush { attributes = a } } in
+        reaches_then (IsPiece t) (Agrees t g b) (Agrees t g c) (Agrees t g d) (reaches_has t checked (Sgr a) (checked.attributes e a) g g b c (attributes_set t g b a f k)) (quietly t g c d (no_colors t g c f k))
+    decide false e =
+        let c : Belief = record b { brush = plain_brush; graphic = None } in
+        reaches_then (IsPiece t) (Agrees t g b) (Agrees t g c) _ (reaches_has t checked Sgr0 checked.plain g g b c (stripped t g b))
+        (subst (λ (x : Attributes). Reaches (IsPiece t) (Agrees t g c) (Agrees t g (with_attributes c x))) (all_singles a) (singles_reach t checked (checked.singles e) a singles g c refl))
+
 -- the brush, from the plain one
 dressed : (t : Table) → IsChecked t → (g : ℕ → ℕ → Ink) (b : Belief) (x : Brush) → IsColored t x → b.brush ≡ plain_brush → Reaches (IsPiece t) (Agrees t g b) (Agrees t g (record b { brush = x; graphic = None }))
 dressed t checked g b x fit e =
@@ -94,7 +132,7 @@ dressed t checked g b x fit e =
     let q : Belief = record p { brush = record plain_brush { attributes = x.attributes }; graphic = None } in
     let r : Belief = record q { brush = record q.brush { foreground = x.foreground } } in
     reaches_then (IsPiece t) (Agrees t g b) (Agrees t g p) _ (quietly t g b p (brush_as t g b plain_brush e))
-    (reaches_then (IsPiece t) (Agrees t g p) (Agrees t g q) _ (reaches_has t checked (Sgr x.attributes) (checked.attributes x.attributes) g g p q (attributes_set t g p x.attributes refl refl))
+    (reaches_then (IsPiece t) (Agrees t g p) (Agrees t g q) _ (attributes_reach t checked x.attributes g p refl refl)
     (reaches_then (IsPiece t) (Agrees t g q) (Agrees t g r) _ (foreground_reaches t checked x.foreground fit.foreground g q refl)
     (background_reaches t checked x.background fit.background g r refl)))
 
@@ -104,7 +142,7 @@ undressed t checked g b =
     let p : Belief = record b { brush = record b.brush { foreground = None; background = None } } in
     let q : Belief = record p { brush = plain_brush; graphic = None } in
     reaches_then (IsPiece t) (Agrees t g b) (Agrees t g p) _ (one_way t checked Op g b p (colors_gone t g b) (λ e. no_color_lines t g b e) (has t Op) refl)
-    (reaches_then (IsPiece t) (Agrees t g p) (Agrees t g q) _ (reaches_has t checked (Sgr no_attributes) (checked.attributes no_attributes) g g p q (attributes_set t g p no_attributes refl refl))
+    (reaches_then (IsPiece t) (Agrees t g p) (Agrees t g q) _ (attributes_reach t checked no_attributes g p refl refl)
     (quietly t g q unknown (forget t g q refl)))
 
 cell_reaches : (t : Table) → IsChecked t → (new : ℕ → ℕ → Ink) → CanShow t new → (old : ℕ → ℕ → Ink) (r c : ℕ) → r < t.rows → c < t.cols

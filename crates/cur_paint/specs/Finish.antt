@@ -1,24 +1,15 @@
 -- What is sent at the end of a program's screen, and what that promises (X/Open Curses, endwin).
-use Rattle.std.specs.Prelude.{ℕ, ◌-◌, ◌≡◌, List, [], ◌++◌, Option, Some, None, Result, Ok, Err}
+use Rattle.std.specs.Prelude.{ℕ, ◌-◌, ◌≡◌, List, [], ◌++◌, Result, Ok, Err}
 use Rattle.vt_term.specs.Screen.{State}
 use Rattle.cur_steps.specs.Leads.{Ends}
 use Rattle.cur_wires.specs.Wire.{Rose}
-use Rattle.ti_rows.specs.declared.rows.Row.{Row}
 use Rattle.ti_rows.specs.declared.rows.Row.TheVariants.{Cup, Sgr0, Rmacs, Cnorm, Rmcup}
-use Rattle.cur_looks.specs.Certified.{Table, IsLost}
+use Rattle.cur_looks.specs.Certified.{Table, IsLost, text_of}
 use Rattle.cur_looks.specs.declared.inks.Ink.{Ink}
 use Rattle.cur_paint.specs.Update.{Fits, IsFresh}
 use Rattle.cur_paint.specs.declared.updates.Session.{Session}
 use Rattle.cur_paint.specs.declared.updates.Status.{Status}
 use Rattle.cur_paint.specs.declared.updates.Status.TheVariants.{Fresh, Known, Lost}
-
-abbrev pub or_nothing : Option (List ℕ) → List ℕ
-or_nothing None = []
-or_nothing (Some l) = l
-
--- the bytes of a row's line, or nothing where there is none
-abbrev pub text_of : Table → Row → List ℕ
-text_of t row = or_nothing (t.line_of row)
 
 abbrev pub from_cnorm_text : Table → List ℕ
 from_cnorm_text t = text_of t Cnorm ++ text_of t Rmcup

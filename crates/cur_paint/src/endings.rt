@@ -1,8 +1,9 @@
 //! The end of a program's screen.
 ghost use Rattle.std.specs.Prelude.{◌≡◌};
 ghost use Rattle.cur_wires.specs.Wire.{Sends};
+ghost use Rattle.cur_looks.specs.Certified.{text_of};
 ghost use Rattle.cur_paint.specs.declared.updates.Status.TheVariants.{Lost};
-ghost use Rattle.cur_paint.specs.Finish.{Finishes, end_text, finish_text, from_cnorm_text, from_cup_text, from_rmacs_text, text_of};
+ghost use Rattle.cur_paint.specs.Finish.{Finishes, end_text, finish_text, from_cnorm_text, from_cup_text, from_rmacs_text};
 
 use crate::updates::{Session, Status};
 use cur_looks::{Certificate, Row};

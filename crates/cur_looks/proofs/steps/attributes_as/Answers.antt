@@ -1,11 +1,11 @@
-use Rattle.std.proofs.Common.{arith, ap, sym}
+use Rattle.std.proofs.Common.{ap, sym}
 use Rattle.cur_steps.proofs.Stopping.{steps_nothing}
 use Rattle.ti_rows.specs.declared.rows.Attributes.{Attributes}
 use Rattle.cur_looks.specs.Certified.{IsPiece, IsLost}
 use Rattle.cur_looks.specs.Beliefs.{Agrees, Belief}
 use Rattle.cur_looks.proofs.Doing.{agrees_lost}
 use Rattle.cur_looks.proofs.Sameness.{attributes_equal}
-use Rattle.cur_looks.proofs.Turning.{attributes_set, brush_as}
+use Rattle.cur_looks.proofs.Turning.{brush_as}
 use Rattle.cur_looks.proofs.steps.attributes_as.Goals as goal
 
 pub returns-then-same_attributes-clause-step : goal.returns-then-same_attributes-clause-step
@@ -16,9 +16,3 @@ returns-then-same_attributes-clause-step g c h =
     let same = attributes_equal b.brush.attributes c.args.wanted (sym c.if-same_attributes.ensures.value) in
     steps_nothing g.W.Wire.went g.W.Wire.failures g.met.W.Wire.lawful c.args.wire.now tt (IsPiece t) _ (IsLost t) (Agrees t h b) (Agrees t h d) (λ s x. x.ready.rest)
     (brush_as t h b (record b.brush { attributes = c.args.wanted }) (ap (λ (a : Attributes). record b.brush { attributes = a }) same)) (agrees_lost t c.rows.ensures.checked h b)
-
-pub returns-clause-step : goal.returns-clause-step
-returns-clause-step g c h =
-    let t = g.C.Certificate.table c.args.checked.now in
-    let b = c.args.belief.now in
-    c.send_line.ensures.step t.longest.sgr h h b _ (omega arith) (attributes_set t h b c.args.wanted c.requires.foreground c.requires.background)

@@ -1,0 +1,141 @@
+//! Attributes by strings of their own, for entries without `sgr`.
+ghost use Rattle.std.specs.Prelude.{◌≡◌, ◌<◌, ℕ, false, Option, Some, None, OnOk, length};
+ghost use Rattle.cur_steps.specs.Steps.{Steps};
+ghost use Rattle.ti_rows.specs.declared.rows.Row.TheVariants.{Sgr, Sgr0};
+ghost use Rattle.cur_looks.specs.Certified.{IsPiece, IsLost, has, text_of, lengths};
+ghost use Rattle.cur_looks.specs.Inks.{no_attributes, plain_brush};
+ghost use Rattle.cur_looks.specs.Beliefs.{Agrees, Belief};
+ghost use Rattle.cur_looks.specs.Singles as spec;
+ghost use Rattle.cur_looks.specs.declared.inks.Brush.{Brush};
+ghost use Rattle.cur_looks.specs.declared.inks.Ink.{Ink};
+
+use crate::beliefs::Belief;
+use crate::certificates::Certificate;
+use crate::inks::Brush;
+use crate::lines::send_line;
+use cur_wires::{Wire, WireFault};
+use ti_rows::{Attributes, Row};
+
+/// Whether the attribute of a row's string is among these.
+fn has_single(attributes: Attributes, row: Row) -> bool
+    ensures { result ≡ spec.has_single row attributes }
+{
+    match row {
+        Row::Smul => attributes.underline,
+        Row::Rev => attributes.reverse,
+        Row::Blink => attributes.blink,
+        Row::Dim => attributes.dim,
+        Row::Bold => attributes.bold,
+        Row::Invis => attributes.invisible,
+        Row::Smso => attributes.standout,
+        _ => false,
+    }
+}
+
+/// These attributes and that of a row's string.
+fn turned_on(attributes: Attributes, row: Row) -> Attributes
+    ensures { result ≡ spec.turned_on row attributes }
+{
+    let mut attributes = attributes;
+    match row {
+        Row::Smul => attributes.underline = true,
+        Row::Rev => attributes.reverse = true,
+        Row::Blink => attributes.blink = true,
+        Row::Dim => attributes.dim = true,
+        Row::Bold => attributes.bold = true,
+        Row::Invis => attributes.invisible = true,
+        Row::Smso => attributes.standout = true,
+        _ => {}
+    }
+    attributes
+}
+
+/// Attributes and colours become plain.
+fn strip<C: Certificate, W: Wire>(
+    checked: &C,
+    belief: &mut Belief,
+    wire: &mut W,
+) -> Result<(), WireFault>
+    ensures belief { belief.new ≡ record belief.old { brush = plain_brush; graphic = None } }
+    ensures step { (g : ℕ → ℕ → Ink) → Steps W.went W.failures wire.old wire.new result (IsPiece (C.table checked.now)) (length (text_of (C.table checked.now) Sgr0))
+        (IsLost (C.table checked.now)) (Agrees (C.table checked.now) g belief.old) (Agrees (C.table checked.now) g belief.new) }
+{
+    let _ = checked.rows();
+    belief.brush = Brush::plain();
+    belief.graphic = None;
+    send_line(checked, Row::Sgr0, checked.line(Row::Sgr0).unwrap(), wire)
+}
+
+/// The attribute of a row's string, if it is wanted. One without a string can't be seen.
+fn add_single<C: Certificate, W: Wire>(
+    checked: &C,
+    belief: &mut Belief,
+    wire: &mut W,
+    wanted: Attributes,
+    row: Row,
+) -> Result<(), WireFault>
+    requires sgr { has (C.table checked.now) (Sgr no_attributes) ≡ false }
+    requires set { belief.old.graphic ≡ None }
+    ensures belief { belief.new ≡ record belief.old { brush = record belief.old.brush { attributes = spec.with_single wanted row belief.old.brush.attributes } } }
+    ensures step { (g : ℕ → ℕ → Ink) → Steps W.went W.failures wire.old wire.new result (IsPiece (C.table checked.now)) (length (text_of (C.table checked.now) row))
+        (IsLost (C.table checked.now)) (Agrees (C.table checked.now) g belief.old) (Agrees (C.table checked.now) g belief.new) }
+{
+    let _ = checked.rows();
+    if !has_single(wanted, row) {
+        return Ok(());
+    }
+    belief.brush.attributes = turned_on(belief.brush.attributes, row);
+    match checked.line(row) {
+        Some(line) => send_line(checked, row, line, wire),
+        None => Ok(()),
+    }
+}
+
+/// Those of these rows' attributes that are wanted.
+fn add_singles<C: Certificate, W: Wire>(
+    checked: &C,
+    belief: &mut Belief,
+    wire: &mut W,
+    wanted: Attributes,
+    rows: &[Row],
+) -> Result<(), WireFault>
+    requires sgr { has (C.table checked.now) (Sgr no_attributes) ≡ false }
+    requires set { belief.old.graphic ≡ None }
+    ensures belief { OnOk result (belief.new ≡ record belief.old { brush = record belief.old.brush { attributes = spec.with_singles wanted rows.now belief.old.brush.attributes } }) }
+    ensures step { (g : ℕ → ℕ → Ink) → Steps W.went W.failures wire.old wire.new result (IsPiece (C.table checked.now)) (lengths (C.table checked.now) rows.now)
+        (IsLost (C.table checked.now)) (Agrees (C.table checked.now) g belief.old) (Agrees (C.table checked.now) g belief.new) }
+{
+    let _ = checked.rows();
+    for row in rows {
+        add_single(checked, belief, wire, wanted, *row)?;
+    }
+    Ok(())
+}
+
+/// The attributes become these, and the colours the default ones: all go off, and those that are
+/// wanted go on one by one.
+pub(crate) fn attributes_singly<C: Certificate, W: Wire>(
+    checked: &C,
+    belief: &mut Belief,
+    wire: &mut W,
+    wanted: Attributes,
+) -> Result<(), WireFault>
+    requires sgr { (C.table checked.now).line_of (Sgr wanted) ≡ None }
+    ensures brush { OnOk result (belief.new.brush ≡ record { attributes = wanted; foreground = None; background = None }) }
+    ensures place { OnOk result (belief.new.place ≡ belief.old.place) }
+    ensures step { (g : ℕ → ℕ → Ink) → Steps W.went W.failures wire.old wire.new result (IsPiece (C.table checked.now)) (C.table checked.now).longest.sgr
+        (IsLost (C.table checked.now)) (Agrees (C.table checked.now) g belief.old) (Agrees (C.table checked.now) g belief.new) }
+{
+    let _ = checked.rows();
+    strip(checked, belief, wire)?;
+    let rows = [
+        Row::Smul,
+        Row::Rev,
+        Row::Blink,
+        Row::Dim,
+        Row::Bold,
+        Row::Invis,
+        Row::Smso,
+    ];
+    add_singles(checked, belief, wire, wanted, &rows)
+}

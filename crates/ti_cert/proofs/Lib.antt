@@ -1,0 +1,5 @@
+pub mod Ranges
+pub mod Grouping
+pub mod Keeping
+pub mod Judging
+pub mod Accepted

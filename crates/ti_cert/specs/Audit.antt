@@ -1,0 +1,69 @@
+-- What is known of the lines that were judged so far.
+use Rattle.std.specs.Prelude.{ℕ, ◌≡◌, Bool, true, false, if◌then◌else◌, List, [], ◌∷◌, ◌++◌, Option, Some, None}
+use Rattle.vt_term.specs.Text.{Splits}
+use Rattle.vt_term.specs.Screen.{Charset}
+use Rattle.vt_effects.specs.declared.effects.Effect.{Effect}
+use Rattle.vt_effects.specs.declared.effects.Sets.{Sets}
+use Rattle.vt_effects.specs.Record.{record_of}
+use Rattle.ti_charsets.specs.Charsets.{IsAmong, reach_of}
+use Rattle.ti_charsets.specs.declared.reach.Reach.{Reach}
+use Rattle.ti_rows.specs.declared.rows.Looks.{Looks}
+use Rattle.ti_rows.specs.declared.rows.Row.{Row}
+use Rattle.ti_rows.specs.declared.rows.Row.TheVariants.{Sgr, Smso}
+use Rattle.ti_rows.specs.Names.{no_attributes}
+use Rattle.ti_rows.specs.Looks.{learned}
+use Rattle.ti_rows.specs.Asked.{start_of, asked}
+use Rattle.ti_checked.specs.Table.{keeps_settled}
+use Rattle.ti_cert.specs.Strings.{Strings, string_in, has_group}
+
+-- what lines have told so far
+pub record Known : Type 0 where
+  pub strings : Strings
+  pub looks : Looks
+  -- the marks of the charsets that tokens turn on, and what whole strings do to the charsets
+  pub reach : Reach
+  pub changes : List Sets
+
+-- looks come from `sgr`, or else from the strings of single attributes
+abbrev pub rival : Row → Row
+rival (Sgr a) = Smso
+rival _ = Sgr no_attributes
+
+abbrev pub looks_with : Known → Row → Effect → Looks
+looks_with k row e = if has_group k.strings (rival row) then k.looks else learned row e k.looks
+
+-- the line's bytes are whole tokens, and their record is the one that the table asks for
+pub record HasRecord (rows cols : ℕ) (looks : Looks) (row : Row) (tokens : List (List ℕ)) (effect : Effect) : Type 0 where
+  pub recorded : record_of rows cols (start_of rows cols row) tokens ≡ Some effect
+  pub asked_for : effect ≡ asked looks row effect
+
+-- what is kept of a line: its tokens are among all of them, and its change is among the changes
+pub record IsKept (k : Known) (all : List (List ℕ)) (row : Row) (bytes : List ℕ) : Type 0 where
+  pub tokens : List (List ℕ)
+  pub whole : Splits bytes tokens []
+  pub effect : Effect
+  pub has : HasRecord k.strings.rows k.strings.cols k.looks row tokens effect
+  pub reached : (token : List ℕ) → IsAmong tokens token → IsAmong all token
+  pub settled : keeps_settled row ≡ true → IsAmong k.changes effect.charset
+
+-- a change is that of tokens
+pub record IsChange (all : List (List ℕ)) (change : Sets) : Type 0 where
+  pub rows : ℕ
+  pub cols : ℕ
+  pub row : Row
+  pub tokens : List (List ℕ)
+  pub effect : Effect
+  pub recorded : record_of rows cols (start_of rows cols row) tokens ≡ Some effect
+  pub is : change ≡ effect.charset
+  pub reached : (token : List ℕ) → IsAmong tokens token → IsAmong all token
+
+pub record Holds (k : Known) : Type 0 where
+  pub all : List (List ℕ)
+  pub reach_is : k.reach ≡ reach_of all
+  pub lines : (row : Row) (bytes : List ℕ) → string_in k.strings row ≡ Some bytes → IsKept k all row bytes
+  pub changes : (change : Sets) → IsAmong k.changes change → IsChange all change
+
+-- the changes with that of one more line
+abbrev pub with_change : Bool → List Sets → Sets → List Sets
+with_change true changes change = changes ++ change ∷ []
+with_change false changes change = changes

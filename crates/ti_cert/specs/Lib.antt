@@ -1,0 +1,4 @@
+pub mod Strings
+pub mod Audit
+pub mod Table
+pub mod Good

@@ -1,0 +1,70 @@
+-- The table that a certificate makes, and what is known of it.
+use Rattle.std.specs.Prelude.{ℕ, ◌-◌, ◌≡◌, ◌&&◌, not, Bool, true, false, if◌then◌else◌, List, [], ◌∷◌, Option, Some, None, length, is_some}
+use Rattle.vt_effects.specs.declared.effects.Sets.{Sets}
+use Rattle.vt_effects.specs.declared.effects.Switch.TheVariants as switches
+use Rattle.vt_effects.specs.Effect.{designated}
+use Rattle.vt_effects.specs.Record.{record_of}
+use Rattle.vt_effects.specs.declared.effects.Effect.{Effect}
+use Rattle.vt_term.specs.Screen.{Charset, is_graphic}
+use Rattle.vt_term.specs.Text.{Splits}
+use Rattle.ti_charsets.specs.declared.closing.Charsets.{Charsets}
+use Rattle.ti_charsets.specs.Charsets.{can_have}
+use Rattle.ti_charsets.specs.Closing as closing
+use Rattle.ti_rows.specs.declared.rows.Row.{Row}
+use Rattle.ti_rows.specs.declared.rows.Row.TheVariants.{Clear, Sgr0, Csr, Smacs, Rmacs, Smcup, Enacs}
+use Rattle.ti_rows.specs.Asked.{start_of}
+use Rattle.ti_checked.specs.Table as checked
+use Rattle.ti_checked.specs.Judged.{changed}
+use Rattle.ti_cert.specs.Strings.{Strings, string_in, has_group}
+use Rattle.ti_cert.specs.Audit.{Known}
+
+-- the strings with what tells how they may be used
+pub record Content : Type 0 where
+  pub known : Known
+  pub acsc : Option (List ℕ)
+  pub settled : Charsets
+
+-- the same as a driver of a terminal sees it
+abbrev pub checked_of : Known → Charsets → checked.Table
+checked_of k settled = record {
+  rows = k.strings.rows;
+  cols = k.strings.cols;
+  line_of = λ row. string_in k.strings row;
+  looks = k.looks;
+  reached = λ c. can_have k.reach c;
+  settled = λ c. closing.has settled c;
+}
+
+abbrev pub table_of : Content → checked.Table
+table_of c = checked_of c.known c.settled
+
+-- the first byte of a string that is there, or else this one
+abbrev pub first_or : Option (List ℕ) → Option ℕ → Option ℕ
+first_or None next = next
+first_or (Some []) next = next
+first_or (Some (b ∷ bytes)) next = Some b
+
+abbrev pub first_of_resync : Strings → Option ℕ
+first_of_resync s = first_or (string_in s Smcup) (first_or (string_in s Enacs) (first_or (string_in s Sgr0) (first_or (string_in s Rmacs)
+    (first_or (string_in s (Csr 0 (s.rows - 1))) (first_or (string_in s Clear) None)))))
+
+-- what the row's string does to the charsets, nothing where there is none
+pub data Changes (s : Strings) (row : Row) : Option Sets → Type 0 where
+  NoString : string_in s row ≡ None → Changes s row None
+  OfString : (bytes : List ℕ) → string_in s row ≡ Some bytes → (tokens : List (List ℕ)) → Splits bytes tokens [] → (effect : Effect)
+      → record_of s.rows s.cols (start_of s.rows s.cols row) tokens ≡ Some effect → Changes s row (Some effect.charset)
+
+abbrev pub kept : Sets
+kept = record { g0_graphic = switches.Kept; g1_graphic = switches.Kept; shifted_out = switches.Kept }
+
+abbrev pub or_kept : Option Sets → Sets
+or_kept None = kept
+or_kept (Some sets) = sets
+
+abbrev pub changes_of : Option Sets → Option Sets → Option Sets → Option Sets → List Sets
+changes_of smcup enacs sgr0 rmacs = or_kept smcup ∷ or_kept enacs ∷ or_kept sgr0 ∷ or_kept rmacs ∷ []
+
+-- from each of these charsets the string activates this set
+abbrev pub Leads : Charsets → Option Sets → Bool → Type 0
+Leads s None graphic = Unit {0}
+Leads s (Some change) graphic = (c : Charset) → closing.has s c ≡ true → is_graphic (designated change c) ≡ graphic

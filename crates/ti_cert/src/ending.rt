@@ -1,0 +1,207 @@
+//! What is judged at the end of a certificate: charsets, and the strings that lead out of any state.
+
+ghost use Rattle.std.specs.Prelude.{◌≡◌, ◌-◌, ◌&&◌, IfOk, OnOk, Some, true, false, is_some};
+ghost use Rattle.ti_checked.specs.Judged.{IsJudged};
+ghost use Rattle.ti_cert.specs.Audit.{Holds};
+ghost use Rattle.ti_cert.specs.Strings.{has_group, string_in};
+ghost use Rattle.ti_cert.specs.Table as spec;
+ghost use Rattle.ti_charsets.specs.Closing as closing;
+ghost use Rattle.vt_term.specs.Screen.{Charset};
+ghost use Rattle.vt_term.specs.Text.{Splits};
+ghost use Rattle.ti_rows.specs.declared.rows.Row.TheVariants as rows;
+
+use crate::faults::CertFaultKind;
+use crate::known::Known;
+use crate::strings::Strings;
+use std::alloc::Global;
+use ti_charsets::{Charsets, Reach};
+use ti_rows::Row;
+use vt_effects::{Sets, Switch, effect_of};
+use vt_term::tokens;
+
+/// Nothing changes.
+const KEPT: Sets = Sets {
+    g0_graphic: Switch::Kept,
+    g1_graphic: Switch::Kept,
+    shifted_out: Switch::Kept,
+};
+
+/// What leads a terminal out of a state that isn't known does this to the charsets, string by string.
+#[derive(Clone, Copy)]
+struct Resync {
+    smcup: Option<Sets>,
+    enacs: Option<Sets>,
+    sgr0: Option<Sets>,
+    rmacs: Option<Sets>,
+}
+
+/// What the row's string does to the charsets, `None` where there is no such string.
+fn change_of(alloc: Global, strings: &Strings, row: Row) -> Result<Option<Sets>, CertFaultKind>
+    ensures { IfOk result (λ change. spec.Changes strings.now row change) }
+{
+    match strings.get(row) {
+        None => Ok(None),
+        Some(bytes) => {
+            let tokens = tokens(alloc, bytes)?;
+            let size = strings.size();
+            match effect_of(&tokens, size, &row.start(size)) {
+                Some(effect) => Ok(Some(effect.charset)),
+                None => Err(CertFaultKind::NotTame),
+            }
+        }
+    }
+}
+
+fn resync_of(alloc: Global, strings: &Strings) -> Result<Resync, CertFaultKind>
+    ensures smcup { IfOk result (λ r. spec.Changes strings.now rows.Smcup r.smcup) }
+    ensures enacs { IfOk result (λ r. spec.Changes strings.now rows.Enacs r.enacs) }
+    ensures sgr0 { IfOk result (λ r. spec.Changes strings.now rows.Sgr0 r.sgr0) }
+    ensures rmacs { IfOk result (λ r. spec.Changes strings.now rows.Rmacs r.rmacs) }
+{
+    Ok(Resync {
+        smcup: change_of(alloc, strings, Row::Smcup)?,
+        enacs: change_of(alloc, strings, Row::Enacs)?,
+        sgr0: change_of(alloc, strings, Row::Sgr0)?,
+        rmacs: change_of(alloc, strings, Row::Rmacs)?,
+    })
+}
+
+/// The first byte of the row's string, or else this one.
+fn first_or(strings: &Strings, row: Row, next: Option<u8>) -> Option<u8>
+    ensures { result ≡ spec.first_or (string_in strings.now row) next }
+{
+    match strings.get(row) {
+        Some([first, ..]) => Some(*first),
+        _ => next,
+    }
+}
+
+/// The first byte of what leads a terminal out of a state that isn't known.
+fn first_of_resync(strings: &Strings) -> Option<u8>
+    ensures { result ≡ spec.first_of_resync strings.now }
+{
+    let bottom = (strings.size().rows - 1) as u16;
+    let clear = first_or(strings, Row::Clear, None);
+    let csr = first_or(strings, Row::Csr(0, bottom), clear);
+    let rmacs = first_or(strings, Row::Rmacs, csr);
+    let sgr0 = first_or(strings, Row::Sgr0, rmacs);
+    let enacs = first_or(strings, Row::Enacs, sgr0);
+    first_or(strings, Row::Smcup, enacs)
+}
+
+/// The lines that a certificate needs.
+fn check_needed(strings: &Strings) -> Result<(), CertFaultKind>
+    ensures clear { OnOk result (is_some (string_in strings.now rows.Clear) ≡ true) }
+    ensures sgr0 { OnOk result (is_some (string_in strings.now rows.Sgr0) ≡ true) }
+    ensures csr { OnOk result (has_group strings.now (rows.Csr 0 1) ≡ true → is_some (string_in strings.now (rows.Csr 0 (strings.now.rows - 1))) ≡ true) }
+{
+    let whole = Row::Csr(0, (strings.size().rows - 1) as u16);
+    if strings.get(Row::Clear).is_none() {
+        return Err(CertFaultKind::Missing(Row::Clear));
+    }
+    if strings.get(Row::Sgr0).is_none() {
+        return Err(CertFaultKind::Missing(Row::Sgr0));
+    }
+    if strings.has(Row::Csr(0, 1)) && strings.get(whole).is_none() {
+        return Err(CertFaultKind::Missing(whole));
+    }
+    Ok(())
+}
+
+fn or_kept(change: Option<Sets>) -> Sets
+    ensures { result ≡ spec.or_kept change }
+{
+    change.unwrap_or(KEPT)
+}
+
+/// What is left of each charset that can be had.
+fn first_settled(resync: &Resync, reach: Reach) -> Charsets
+    ensures sound { (d : Charset) → closing.has result d ≡ true → closing.Leaves reach (spec.changes_of resync.now.smcup resync.now.enacs resync.now.sgr0 resync.now.rmacs) d }
+    ensures complete { (d : Charset) → closing.Leaves reach (spec.changes_of resync.now.smcup resync.now.enacs resync.now.sgr0 resync.now.rmacs) d → closing.has result d ≡ true }
+{
+    let changes = [
+        or_kept(resync.smcup),
+        or_kept(resync.enacs),
+        or_kept(resync.sgr0),
+        or_kept(resync.rmacs),
+    ];
+    Charsets::left_by(&changes, reach)
+}
+
+/// The first charsets, and all to which strings lead from them.
+fn settled_from(first: Charsets, changes: &[Sets]) -> Charsets
+    ensures sound { (c : Charset) → closing.has result c ≡ true → closing.Settled (λ d. closing.has first d ≡ true) (closing.SomeLeads changes.now) c }
+    ensures complete { (c : Charset) → closing.Settled (λ d. closing.has first d ≡ true) (closing.SomeLeads changes.now) c → closing.has result c ≡ true }
+{
+    let mut settled = first;
+    settled.close(changes);
+    settled
+}
+
+/// From each settled charset a string activates its set.
+fn check_active(
+    settled: &Charsets,
+    change: Option<Sets>,
+    graphic: bool,
+) -> Result<(), CertFaultKind>
+    ensures { OnOk result (spec.Leads settled.now change graphic) }
+{
+    match change {
+        Some(change) if settled.misled(change, graphic).is_some() => Err(CertFaultKind::NotShown),
+        _ => Ok(()),
+    }
+}
+
+/// Judges what can only be judged when all lines are known. The settled charsets.
+pub(crate) fn conclude(
+    alloc: Global,
+    known: &Known,
+    has_acsc: bool,
+) -> Result<Charsets, CertFaultKind>
+    requires { Holds known.now }
+    ensures { IfOk result (λ settled. IsJudged (spec.checked_of known.now settled)) }
+{
+    let strings = &known.strings;
+    check_needed(strings)?;
+    let resync = resync_of(alloc, strings)?;
+    let first = first_settled(&resync, known.reach);
+    let settled = settled_from(first, &known.changes);
+    let smacs = change_of(alloc, strings, Row::Smacs)?;
+    check_active(&settled, smacs, true)?;
+    check_active(&settled, resync.rmacs, false)?;
+    check_plain(&settled, all_there(has_acsc, smacs, resync.rmacs))?;
+    check_resync(&first, strings)?;
+    Ok(settled)
+}
+
+/// Whether letters of line graphics can be sent.
+fn all_there(has_acsc: bool, smacs: Option<Sets>, rmacs: Option<Sets>) -> bool
+    ensures { result ≡ (has_acsc && (is_some smacs && is_some rmacs)) }
+{
+    has_acsc && (smacs.is_some() && rmacs.is_some())
+}
+
+/// Without strings that switch sets every settled charset is plain.
+fn check_plain(settled: &Charsets, has_sets: bool) -> Result<(), CertFaultKind>
+    ensures { OnOk result (has_sets ≡ false → spec.Leads settled.now (Some spec.kept) false) }
+{
+    if !has_sets && settled.misled(KEPT, false).is_some() {
+        Err(CertFaultKind::BadLook)
+    } else {
+        Ok(())
+    }
+}
+
+/// What leads out of any state begins with ESC and leaves the plain set active.
+fn check_resync(first: &Charsets, strings: &Strings) -> Result<(), CertFaultKind>
+    ensures plain { OnOk result (spec.Leads first.now (Some spec.kept) false) }
+    ensures escape { OnOk result (spec.first_of_resync strings.now ≡ Some 27) }
+{
+    if first.misled(KEPT, false).is_some() {
+        return Err(CertFaultKind::NoResync);
+    }
+    match first_of_resync(strings) {
+        Some(27) => Ok(()),
+        _ => Err(CertFaultKind::NoResync),
+    }
+}

@@ -1,0 +1,75 @@
+//! Why a certificate is refused.
+
+ghost use Rattle.std.specs.Prelude.{◌≡◌};
+
+use std::alloc::AllocError;
+use ti_caps::Cap;
+use ti_rows::{Params, Row};
+use vt_term::{TokenFault, TokenFaultKind};
+
+/// What is wrong with a line of a certificate.
+#[derive(Clone, Copy, Debug, PartialEq, Eq)]
+pub enum CertFaultKind {
+    /// No line that a certificate of this size can have, or none where there has to be one.
+    BadLine,
+    /// The line of this row has to come here, or earlier.
+    Missing(Row),
+    /// A line that had to come earlier, or that is there already.
+    OutOfOrder,
+    /// The bytes are no whole control functions.
+    NotWhole,
+    /// The bytes have no one effect from all states that they have to work from.
+    NotTame,
+    /// The effect is another than the one that stands in the line, or than the one that is asked for.
+    NotShown,
+    /// The strings that are to lead out of any state don't.
+    NoResync,
+    /// An attribute looks like another one, or a charset that isn't plain can stay active.
+    BadLook,
+    /// Out of memory.
+    NoMemory,
+    /// The reader failed.
+    ReadFailed,
+}
+
+impl From<AllocError> for CertFaultKind {
+    fn from(_: AllocError) -> CertFaultKind
+        ensures { result ≡ CertFaultKind.NoMemory }
+    {
+        CertFaultKind::NoMemory
+    }
+}
+
+impl From<TokenFault> for CertFaultKind {
+    fn from(fault: TokenFault) -> CertFaultKind {
+        match fault.kind {
+            TokenFaultKind::NoMemory => CertFaultKind::NoMemory,
+            _ => CertFaultKind::NotWhole,
+        }
+    }
+}
+
+/// The first fault of a certificate, with its line, counted from 1.
+#[derive(Clone, Copy, Debug, PartialEq, Eq)]
+pub struct CertFault {
+    pub line: u64,
+    pub kind: CertFaultKind,
+}
+
+/// Why a certificate isn't that of an entry.
+#[derive(Debug, Drop)]
+pub enum AgreeFault {
+    /// The entry sends something else for this capability and these parameters, or isn't fit.
+    Disagree { cap: Cap, params: Params },
+    /// Out of memory.
+    NoMemory,
+}
+
+/// Why an entry isn't verified.
+#[derive(Debug, Drop)]
+pub enum VerifyFault {
+    /// The certificate has this fault.
+    Cert(CertFault),
+    /// The certificate is one of another entry.
+    Agree(AgreeFault),
+}

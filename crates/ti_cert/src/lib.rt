@@ -1,0 +1,20 @@
+//! Certificates: judged alone, compared with an entry, and what a yes means for a terminal.
+#![tactic(auto)]
+
+mod agreeing;
+mod audits;
+mod ending;
+mod faults;
+mod known;
+mod places;
+mod strings;
+mod table;
+#[cfg(test)]
+mod tests;
+mod verifying;
+
+pub use agreeing::agrees;
+pub use audits::{audit, audit_from};
+pub use faults::{AgreeFault, CertFault, CertFaultKind, VerifyFault};
+pub use table::Table;
+pub use verifying::{Checked, verify, verify_from};

@@ -1,0 +1,155 @@
+//! The strings of a certificate, found by the row that they are for.
+
+ghost use Rattle.std.specs.Prelude.{◌≡◌, ◌<◌, ◌++◌, [], ◌∷◌, length, OnOk, IfOk, IsTrue, option_copied, replicate, true, false, None};
+ghost use Rattle.std.specs.List.{slice_get};
+ghost use Rattle.ti_rows.specs.Lists.{IsInRange, rank};
+ghost use Rattle.ti_rows.specs.Names.{order};
+ghost use Rattle.ti_sends.specs.Agreeing.{SomeLine};
+ghost use Rattle.ti_rows.specs.declared.rows.Row as rows;
+ghost use Rattle.ti_cert.specs.Strings as spec;
+
+use std::alloc::{AllocError, Global};
+use std::marker::Model;
+use ti_caps::Bytes;
+use ti_rows::Row;
+use vt_term::Size;
+
+/// How many capabilities are checked.
+const CAPABILITIES: usize = 42;
+
+/// The strings of one capability, one for each parameter list, in ascending order.
+#[derive(Drop)]
+struct Group {
+    strings: Vec<Bytes>,
+}
+
+impl Model for Group {
+    ghost use Rattle.std.specs.Prelude.{List, ℕ};
+
+    ghost Value = { List (List ℕ) };
+
+    ghost view = { λ g. g.strings.items };
+}
+
+impl Group {
+    fn new(alloc: Global) -> Group
+        ensures { result ≡ [] }
+    {
+        Group {
+            strings: Vec::new(alloc),
+        }
+    }
+
+    fn len(&self) -> usize
+        ensures { result ≡ length self.now }
+    {
+        self.strings.len()
+    }
+
+    fn get(&self, at: usize) -> Option<&[u8]>
+        ensures { option_copied result ≡ slice_get self.now at }
+    {
+        self.strings.get(at).map(|bytes| bytes.as_slice())
+    }
+
+    fn push(&mut self, bytes: Bytes) -> Result<(), AllocError>
+        ensures { OnOk result (self.new ≡ self.old ++ bytes ∷ []) }
+    {
+        self.strings.push(bytes)?;
+        Ok(())
+    }
+}
+
+/// The strings of a certificate for a size.
+#[derive(Drop)]
+pub(crate) struct Strings {
+    size: Size,
+    /// One for each checked capability, in the byte order of their names.
+    groups: Vec<Group>,
+}
+
+impl Model for Strings {
+    ghost use Rattle.std.specs.Prelude.{◌≡◌, length};
+    ghost use Rattle.vt_term.specs.Size.{IsSize};
+    ghost use Rattle.ti_cert.specs.Strings.{Strings};
+
+    ghost Value = { Strings };
+
+    ghost view = { λ s. record { rows = s.size.rows; cols = s.size.cols; groups = s.groups.items } };
+
+    ghost invariant = { λ s. length s.groups.items ≡ 42 };
+}
+
+fn empty_groups(alloc: Global) -> Result<Vec<Group>, AllocError>
+    ensures { IfOk result (λ groups. groups.items ≡ replicate 42 []) }
+{
+    let mut groups = Vec::with_capacity(alloc, CAPABILITIES)?;
+    for _ in 0..CAPABILITIES {
+        groups.push(Group::new(alloc))?;
+    }
+    Ok(groups)
+}
+
+/// Whether a size allows the row's parameters.
+#[tactic(auto, using(crate::proofs::Ranges::allowed))]
+pub(crate) fn allows(size: Size, row: Row) -> bool
+    ensures { result ≡ spec.allows size.rows size.cols row }
+{
+    row.is_in_range(size)
+}
+
+impl Strings {
+    /// No strings. The error is out of memory.
+    pub fn new(alloc: Global, size: Size) -> Result<Strings, AllocError>
+        ensures { IfOk result (λ strings. strings ≡ record { rows = size.rows; cols = size.cols; groups = replicate 42 [] }) }
+    {
+        Ok(Strings {
+            size,
+            groups: empty_groups(alloc)?,
+        })
+    }
+
+    pub fn size(&self) -> Size
+        ensures rows { result.rows ≡ self.now.rows }
+        ensures cols { result.cols ≡ self.now.cols }
+    {
+        self.size
+    }
+
+    /// The string of a row, where there is one.
+    #[tactic(auto, using(crate::proofs::Ranges::in_range))]
+    pub fn get(&self, row: Row) -> Option<&[u8]>
+        ensures { option_copied result ≡ spec.string_in self.now row }
+    {
+        if allows(self.size, row) {
+            self.groups[row.order()].get(row.rank(self.size))
+        } else {
+            None
+        }
+    }
+
+    pub fn has(&self, row: Row) -> bool
+        ensures value { result ≡ spec.has_group self.now row }
+        ensures some { result ≡ true → SomeLine (λ r. spec.string_in self.now r) (order row) }
+        ensures none { result ≡ false → (other : rows.Row) → order other ≡ order row → spec.string_in self.now other ≡ None }
+    {
+        let _ = &self.size;
+        self.count(row) != 0
+    }
+
+    /// How many strings the row's capability has.
+    pub fn count(&self, row: Row) -> usize
+        ensures { result ≡ length (spec.group_at self.now (order row)) }
+    {
+        self.groups[row.order()].len()
+    }
+
+    /// Adds the string of the capability's next parameter list. The error is out of memory.
+    pub fn push(&mut self, row: Row, bytes: Bytes) -> Result<(), AllocError>
+        requires range { spec.allows self.old.rows self.old.cols row ≡ true }
+        requires place { rank self.old.rows self.old.cols row ≡ length (spec.group_at self.old (order row)) }
+        ensures { OnOk result (spec.Adds self.old self.new row bytes) }
+    {
+        self.groups[row.order()].push(bytes)
+    }
+}

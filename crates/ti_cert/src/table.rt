@@ -1,0 +1,89 @@
+//! The table that a certificate makes.
+
+ghost use Rattle.std.specs.Prelude.{◌≡◌, option_copied};
+ghost use Rattle.ti_checked.specs.Judged.{IsJudged};
+ghost use Rattle.ti_cert.specs.Strings.{string_in};
+ghost use Rattle.ti_cert.specs.Table as spec;
+
+use crate::known::Known;
+use std::marker::Model;
+use ti_caps::Bytes;
+use ti_charsets::Charsets;
+use ti_rows::Row;
+use ti_sends::Lines;
+use vt_term::Size;
+
+/// The lines of a certificate for a size, each of which was judged.
+#[derive(Drop)]
+pub struct Table {
+    known: Known,
+    acsc: Option<Bytes>,
+    settled: Charsets,
+}
+
+impl Model for Table {
+    ghost use Rattle.ti_checked.specs.Judged.{IsJudged};
+    ghost use Rattle.ti_cert.specs.Table.{Content, checked_of};
+
+    ghost Value = { Content };
+
+    ghost view = { λ t. record { known = t.known; acsc = t.acsc; settled = t.settled } };
+
+    ghost invariant = { λ t. IsJudged (checked_of t.known t.settled) };
+}
+
+impl Table {
+    pub(crate) fn new(known: Known, acsc: Option<Bytes>, settled: Charsets) -> Table
+        requires { IsJudged (spec.checked_of known settled) }
+        ensures { result ≡ record { known = known; acsc = acsc; settled = settled } }
+    {
+        Table {
+            known,
+            acsc,
+            settled,
+        }
+    }
+
+    /// The size that the certificate is for.
+    pub fn size(&self) -> Size
+        ensures rows { result.rows ≡ self.now.known.strings.rows }
+        ensures cols { result.cols ≡ self.now.known.strings.cols }
+    {
+        self.known.strings.size()
+    }
+
+    /// The pairs of alternate characters, where the certificate has them.
+    pub fn acsc(&self) -> Option<&[u8]>
+        ensures { option_copied result ≡ self.now.acsc }
+    {
+        self.acsc.as_ref().map(|bytes| bytes.as_slice())
+    }
+
+    /// The bytes of the row's line, where there is one.
+    pub fn bytes(&self, row: Row) -> Option<&[u8]>
+        ensures { option_copied result ≡ string_in self.now.known.strings row }
+    {
+        self.known.strings.get(row)
+    }
+
+    /// What was judged of the lines.
+    pub fn judged(&self)
+        ensures { IsJudged (spec.table_of self.now) }
+    {
+        let _ = &self.settled;
+    }
+}
+
+impl Lines for Table {
+    ghost use Rattle.ti_cert.specs.Strings.{string_in};
+
+    ghost line_of = { λ t row. string_in t.known.strings row };
+
+    fn line(&self, row: Row) -> Option<&[u8]> {
+        self.bytes(row)
+    }
+
+    fn has_any(&self, row: Row) -> bool {
+        self.known.strings.has(row)
+    }
+}
