@@ -1,5 +1,5 @@
 -- One more string in its capability's group.
-use Rattle.std.proofs.Common.{◌≡◌, ◌≢◌, ◌⊎◌, ◌<◌, ◌≤◌, ◌==◌, nat_lt, ℕ, zero, suc, Bool, true, false, if◌then◌else◌, ◌||◌, List, [], ◌∷◌, ◌++◌, length, slice_index_or, slice_set, Option, Some, None, inl, inr, refl, sym, ap, ◌∙◌, subst, arith, not}
+use Rattle.std.proofs.Common.{◌≡◌, ◌≢◌, ◌⊎◌, ◌<◌, ◌≤◌, ◌==◌, nat_lt, ℕ, zero, suc, Bool, true, false, if◌then◌else◌, ◌||◌, List, [], ◌∷◌, ◌++◌, length, length-append, slice_index_or, slice_set, Option, Some, None, inl, inr, refl, sym, ap, ◌∙◌, subst, arith, not}
 use Rattle.std.specs.List.{slice_get}
 use Rattle.std.proofs.lemmas.List.{get_or-set_same, get_or-set_other}
 use Rattle.std.proofs.lemmas.Bool.{true≢false}
@@ -51,7 +51,7 @@ there_within s row bytes h =
     let p = if_some (allows s.rows s.cols row) (slice_get (group_at s (order row)) (rank s.rows s.cols row)) bytes h in
     slice_get_within (group_at s (order row)) (rank s.rows s.cols row) bytes p.1
 
-not_zero : (n k : ℕ) → k < n → not (n == 0) ≡ true
+pub not_zero : (n k : ℕ) → k < n → not (n == 0) ≡ true
 not_zero zero k h = let wrong : ⊥ = omega arith in absurd wrong
 not_zero (suc n) k h = not_false (suc n == 0) (grind (arith, nat_tests))
   where
@@ -63,8 +63,7 @@ pub there_some : (s : Strings) (row : Row) (bytes : List ℕ) → string_in s ro
 there_some s row bytes h = not_zero (length (group_at s (order row))) (rank s.rows s.cols row) (there_within s row bytes h)
 
 not_empty : (xs : List (List ℕ)) (x : List ℕ) → not (length (xs ++ x ∷ []) == 0) ≡ true
-not_empty [] x = refl
-not_empty (y ∷ ys) x = refl
+not_empty xs x = not_zero (length (xs ++ x ∷ [])) 0 (omega (arith, length-append xs (x ∷ [])))
 
 same_places : (a b : ℕ) → (a == b) ≡ true → a ≡ b
 same_places a b h = grind (arith, nat_tests)

@@ -1,5 +1,5 @@
 -- How attributes look that have strings of their own, when one more line is known.
-use Rattle.std.proofs.Common.{◌≡◌, ◌==◌, ◌||◌, ℕ, not, Bool, true, false, if◌then◌else◌, List, [], ◌∷◌, length, refl, sym, ap, subst, ◌∙◌}
+use Rattle.std.proofs.Common.{◌≡◌, ◌==◌, ◌||◌, ℕ, not, Bool, true, false, if◌then◌else◌, List, [], ◌∷◌, length, refl, sym, ap, subst, ◌∙◌, arith}
 use Rattle.std.specs.Prelude.{is_some}
 use Rattle.std.specs.List.{slice_get}
 use Rattle.vt_effects.specs.declared.effects.Effect.{Effect}
@@ -10,7 +10,8 @@ use Rattle.ti_rows.specs.Names.{order, no_attributes}
 use Rattle.ti_rows.specs.Looks.{learned}
 use Rattle.ti_cert.specs.Strings.{Strings, group_at, has_group, string_in, Adds}
 use Rattle.ti_cert.specs.Audit.{Known, rival, looks_with}
-use Rattle.ti_cert.specs.Singles.{SingleLooks, LooksAlone, no_looks}
+use Rattle.ti_cert.specs.Singles.{SingleLooks, LooksAlone}
+use Rattle.ti_cert.proofs.Grouping.{not_zero}
 
 -- the capability of a row joins those that have strings
 abbrev Joins : (Row → Bool) → Row → (Row → Bool) → Type 0
@@ -118,7 +119,7 @@ looks_more k strings row bytes e a old off =
 
 first_there : (g : List (List ℕ)) → is_some (slice_get g 0) ≡ not (length g == 0)
 first_there [] = refl
-first_there (x ∷ xs) = refl
+first_there (x ∷ xs) = sym (not_zero (length (x ∷ xs)) 0 (omega arith))
 
 -- a capability without parameters has strings where it has a line
 pub looks_stand : (s : Strings) (l : Looks) → LooksAlone (λ row. has_group s row) l → LooksAlone (λ row. is_some (string_in s row)) l

@@ -11,23 +11,14 @@ use Rattle.ti_conforms.specs.Together.{StandTogether}
 use Rattle.ti_cert.specs.Singles.{LooksStand}
 use Rattle.ti_cert.specs.Table.{Content, table_of}
 
-pub record Verified : Type 0 where
-  -- what is sent for each row of the table of checked capabilities
-  pub lines : Table
-  -- the pairs of alternate characters
-  pub acsc : Option (List ℕ)
-
-abbrev pub verified_of : Content → Verified
-verified_of c = record { lines = table_of c; acsc = c.acsc }
-
-pub record IsVerified (v : Verified) : Type 0 where
-  pub size : IsSize v.lines.rows v.lines.cols
+pub record IsVerified (c : Content) : Type 0 where
+  pub size : IsSize c.known.strings.rows c.known.strings.cols
   -- where the lines' runs end, whole and cut off, and where a resynchronization leads
-  pub checked : IsChecked v.lines
+  pub checked : IsChecked (table_of c)
   -- which lines there are beside each other
-  pub together : StandTogether v.lines
+  pub together : StandTogether (table_of c)
   -- how attributes look where no line sets all of them
-  pub looks : LooksStand v.lines
+  pub looks : LooksStand (table_of c)
 
 abbrev pub listed : Option (List ℕ) → ℕ → Option ℕ
 listed None letter = None
@@ -35,9 +26,12 @@ listed (Some pairs) letter = partner_of pairs letter
 
 -- What a letter of the alternate set is sent as (terminfo(5), "Line Graphics"): its partner in `acsc` where the sets can
 -- be switched.
-abbrev pub partner_in : Verified → ℕ → Option ℕ
-partner_in v letter = if has v.lines Smacs && has v.lines Rmacs then listed v.acsc letter else None
+abbrev pub partner_in : Content → ℕ → Option ℕ
+partner_in c letter = if has (table_of c) Smacs && has (table_of c) Rmacs then listed c.acsc letter else None
 
 -- from every state that output cut off at any byte may leave, to a blank screen at rest
-abbrev pub Resyncs : Verified → Type 0
-Resyncs v = (s : State) → IsLost v.lines s → EndsIn s (resync v.lines) (IsResynced v.lines s.screen.visible)
+abbrev pub Resyncs : Table → Type 0
+Resyncs t = (s : State) → IsLost t s → EndsIn s (resync t) (IsResynced t s.screen.visible)
+
+abbrev pub IsResync : Content → List ℕ → Type 0
+IsResync c text = text ≡ resync (table_of c)

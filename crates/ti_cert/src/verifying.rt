@@ -3,7 +3,7 @@
 ghost use Rattle.std.specs.Prelude.{◌≡◌, ◌++◌, IfOk, IfSome, OnOk, option_copied};
 ghost use Rattle.ti_caps.specs.Entry.{string_at};
 ghost use Rattle.ti_checked.specs.Checked.{IsLine};
-ghost use Rattle.ti_checked.specs.Table.{part, resync};
+ghost use Rattle.ti_checked.specs.Table.{part, resync, widening};
 ghost use Rattle.ti_conforms.specs.Conforms.{Conforms};
 ghost use Rattle.ti_sends.specs.Entries.{EntryAgrees, acsc};
 ghost use Rattle.ti_cert.specs.Table.{table_of};
@@ -29,16 +29,14 @@ pub struct Checked {
 }
 
 impl Model for Checked {
-    ghost use Rattle.std.specs.Prelude.{◌≡◌};
-    ghost use Rattle.ti_checked.specs.Table.{resync};
-    ghost use Rattle.ti_cert.specs.Table.{table_of};
-    ghost use Rattle.ti_cert.specs.Verified.{Verified, IsVerified, verified_of};
+    ghost use Rattle.ti_cert.specs.Table.{Content};
+    ghost use Rattle.ti_cert.specs.Verified.{IsVerified, IsResync};
 
-    ghost Value = { Verified };
+    ghost Value = { Content };
 
-    ghost view = { λ c. verified_of c.table };
+    ghost view = { λ c. c.table };
 
-    ghost invariant = { λ c. IsVerified (verified_of c.table) × (c.resync ≡ resync (table_of c.table)) };
+    ghost invariant = { λ c. IsVerified c.table × IsResync c.table c.resync };
 }
 
 /// Adds the bytes of the row's line, where there is one.
@@ -51,25 +49,31 @@ fn add(text: &mut Vec<u8>, table: &Table, row: Row) -> Result<(), AllocError>
     }
 }
 
+/// The row that makes the margins the whole screen.
+fn whole(table: &Table) -> Row
+    ensures { result ≡ widening (table_of table.now) }
+{
+    Row::Csr(0, (table.size().rows - 1) as u16)
+}
+
 /// What leads a terminal out of any state to a blank screen at rest.
 fn resync_of(alloc: Global, table: &Table) -> Result<Bytes, AllocError>
     ensures { IfOk result (λ text. text ≡ resync (table_of table.now)) }
 {
-    let bottom = (table.size().rows - 1) as u16;
     let mut text = Vec::new(alloc);
     add(&mut text, table, Row::Smcup)?;
     add(&mut text, table, Row::Enacs)?;
     add(&mut text, table, Row::Sgr0)?;
     add(&mut text, table, Row::Rmacs)?;
-    add(&mut text, table, Row::Csr(0, bottom))?;
+    add(&mut text, table, whole(table))?;
     add(&mut text, table, Row::Clear)?;
     Ok(Bytes::from_vec(text))
 }
 
 impl Checked {
     fn new(alloc: Global, table: Table) -> Result<Checked, AllocError>
-        requires { spec.IsVerified (spec.verified_of table) }
-        ensures { IfOk result (λ checked. checked ≡ spec.verified_of table) }
+        requires { spec.IsVerified table }
+        ensures { IfOk result (λ checked. checked ≡ table) }
     {
         let resync = resync_of(alloc, &table)?;
         Ok(Checked { table, resync })
@@ -77,8 +81,8 @@ impl Checked {
 
     /// The size that they are for. What else may be relied on stands in the contract.
     pub fn size(&self) -> Size
-        ensures rows { result.rows ≡ self.now.lines.rows }
-        ensures cols { result.cols ≡ self.now.lines.cols }
+        ensures rows { result.rows ≡ self.now.known.strings.rows }
+        ensures cols { result.cols ≡ self.now.known.strings.cols }
         ensures verified { spec.IsVerified self.now }
     {
         let _ = &self.resync;
@@ -88,8 +92,8 @@ impl Checked {
     /// What the entry sends for a row, `None` where it has no such checked string. From every start of
     /// the row its run ends as is wanted, and cut off anywhere it leaves a lost state.
     pub fn bytes(&self, row: Row) -> Option<&[u8]>
-        ensures line { option_copied result ≡ self.now.lines.line_of row }
-        ensures right { IfSome result (λ bytes. IsLine self.now.lines row bytes.now) }
+        ensures line { option_copied result ≡ (table_of self.now).line_of row }
+        ensures right { IfSome result (λ bytes. IsLine (table_of self.now) row bytes.now) }
     {
         self.table.bytes(row)
     }
@@ -111,17 +115,17 @@ impl Checked {
     /// What leads from every state that output cut off anywhere may leave to a blank screen at rest,
     /// whatever sequence is open.
     pub fn resync(&self) -> &[u8]
-        ensures text { result.now ≡ resync self.now.lines }
-        ensures leads { spec.Resyncs self.now }
+        ensures text { result.now ≡ resync (table_of self.now) }
+        ensures leads { spec.Resyncs (table_of self.now) }
     {
         self.resync.as_slice()
     }
 }
 
 /// The strings of a table that agrees with an entry.
-fn checked(alloc: Global, table: Table) -> Result<Checked, VerifyFault>
-    requires { spec.IsVerified (spec.verified_of table) }
-    ensures { IfOk result (λ checked. checked ≡ spec.verified_of table) }
+fn handed_out(alloc: Global, table: Table) -> Result<Checked, VerifyFault>
+    requires { spec.IsVerified table }
+    ensures { IfOk result (λ checked. checked ≡ table) }
 {
     match Checked::new(alloc, table) {
         Ok(checked) => Ok(checked),
@@ -141,18 +145,18 @@ pub fn verify_from<R: Reader>(
     reader: &mut R,
 ) -> Result<Checked, VerifyFault>
     ensures conforms { IfOk result (λ _. Conforms entry.now size.rows size.cols) }
-    ensures rows { IfOk result (λ checked. checked.lines.rows ≡ size.rows) }
-    ensures cols { IfOk result (λ checked. checked.lines.cols ≡ size.cols) }
-    ensures sends { IfOk result (λ checked. EntryAgrees size.rows size.cols entry.now checked.lines.line_of) }
+    ensures rows { IfOk result (λ checked. checked.known.strings.rows ≡ size.rows) }
+    ensures cols { IfOk result (λ checked. checked.known.strings.cols ≡ size.cols) }
+    ensures sends { IfOk result (λ checked. EntryAgrees size.rows size.cols entry.now (table_of checked).line_of) }
     ensures acsc { IfOk result (λ checked. checked.acsc ≡ string_at entry.now acsc) }
-    ensures resyncs { IfOk result (λ checked. spec.Resyncs checked) }
+    ensures resyncs { IfOk result (λ checked. spec.Resyncs (table_of checked)) }
 {
     let table = match audit_from(alloc, reader, size) {
         Ok(table) => table,
         Err(fault) => return Err(VerifyFault::Cert(fault)),
     };
     match agrees(alloc, &table, entry) {
-        Ok(()) => checked(alloc, table),
+        Ok(()) => handed_out(alloc, table),
         Err(fault) => Err(VerifyFault::Agree(fault)),
     }
 }
@@ -164,11 +168,11 @@ pub fn verify_from<R: Reader>(
 /// out.
 pub fn verify(alloc: Global, entry: &Entry, size: Size, text: &[u8]) -> Result<Checked, VerifyFault>
     ensures conforms { IfOk result (λ _. Conforms entry.now size.rows size.cols) }
-    ensures rows { IfOk result (λ checked. checked.lines.rows ≡ size.rows) }
-    ensures cols { IfOk result (λ checked. checked.lines.cols ≡ size.cols) }
-    ensures sends { IfOk result (λ checked. EntryAgrees size.rows size.cols entry.now checked.lines.line_of) }
+    ensures rows { IfOk result (λ checked. checked.known.strings.rows ≡ size.rows) }
+    ensures cols { IfOk result (λ checked. checked.known.strings.cols ≡ size.cols) }
+    ensures sends { IfOk result (λ checked. EntryAgrees size.rows size.cols entry.now (table_of checked).line_of) }
     ensures acsc { IfOk result (λ checked. checked.acsc ≡ string_at entry.now acsc) }
-    ensures resyncs { IfOk result (λ checked. spec.Resyncs checked) }
+    ensures resyncs { IfOk result (λ checked. spec.Resyncs (table_of checked)) }
 {
     let mut reader = text;
     verify_from(alloc, entry, size, &mut reader)
