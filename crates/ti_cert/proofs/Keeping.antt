@@ -1,10 +1,9 @@
 -- What is known of lines stays so when one more line is known.
-use Rattle.std.proofs.Common.{◌≡◌, ◌⊎◌, ◌<◌, nat_lt, ℕ, Bool, true, false, if◌then◌else◌, List, [], ◌∷◌, ◌++◌, Option, Some, None, inl, inr, refl, sym, ap, ◌∙◌, subst, arith}
+use Rattle.std.proofs.Common.{◌≡◌, ◌⊎◌, ◌<◌, nat_lt, ℕ, Bool, true, false, if◌then◌else◌, List, [], ◌∷◌, ◌++◌, Some, inl, inr, refl, sym, ap, ◌∙◌, subst}
 use Rattle.std.specs.Prelude.{replicate}
 use Rattle.vt_term.specs.Text.{Splits}
 use Rattle.vt_effects.specs.declared.effects.Effect.{Effect}
 use Rattle.vt_effects.specs.declared.effects.Sets.{Sets}
-use Rattle.vt_effects.specs.Record.{record_of}
 use Rattle.ti_charsets.specs.Charsets.{IsAmong, reach_of, joined}
 use Rattle.ti_charsets.specs.declared.reach.Reach.{Reach}
 use Rattle.ti_charsets.proofs.Reaching.{reach_of-append}
@@ -17,7 +16,7 @@ use Rattle.ti_rows.specs.Bits.{number_of}
 use Rattle.ti_rows.specs.Names.{order, no_attributes}
 use Rattle.ti_rows.specs.Lists.{rank}
 use Rattle.ti_rows.specs.Looks.{learned, shown}
-use Rattle.ti_rows.specs.Asked.{start_of, asked, rendering, just, ink_of, defaults_both_inks, with_marks_on}
+use Rattle.ti_rows.specs.Asked.{asked, rendering, just, ink_of, defaults_both_inks, with_marks_on}
 use Rattle.ti_rows.proofs.Telling.{earlier_kept}
 use Rattle.ti_checked.specs.Table.{keeps_settled}
 use Rattle.ti_cert.specs.Strings.{Strings, string_in, has_group, Adds}

@@ -1,6 +1,5 @@
 -- How attributes look that strings of their own turn on (terminfo(5), "Highlighting, Underlining, and Visible Bells").
-use Rattle.std.specs.Prelude.{◌≡◌, Bool, true, false}
-use Rattle.ti_rows.specs.declared.rows.Marks.{Marks}
+use Rattle.std.specs.Prelude.{◌≡◌, Bool, false}
 use Rattle.ti_rows.specs.declared.rows.Looks.{Looks}
 use Rattle.ti_rows.specs.declared.rows.Row.{Row}
 use Rattle.ti_rows.specs.declared.rows.Row.TheVariants.{Sgr, Smul, Rev, Blink, Dim, Bold, Invis, Smso}

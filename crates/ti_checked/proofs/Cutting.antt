@@ -19,7 +19,7 @@ use Rattle.ti_resync.specs.Resync.{IsLostAndClosed}
 use Rattle.ti_resync.proofs.Dropping.{escape_drops}
 use Rattle.ti_resync.proofs.Fronting.{fronts_stay, wholes_stay}
 use Rattle.ti_checked.specs.Table.{Table, has, or_nothing, part, widening, resync, resync_front, IsLost}
-use Rattle.ti_checked.specs.Judged.{left_of, IsJudged}
+use Rattle.ti_checked.specs.Judged.{IsJudged}
 use Rattle.ti_checked.specs.Checked.{IsResynced, JudgedIsChecked}
 use Rattle.ti_checked.proofs.Judging.{over_steps, may_be_cut, line}
 use Rattle.ti_checked.proofs.Resyncing.{resyncs}

@@ -1,5 +1,3 @@
-use Rattle.std.proofs.Common.{ℕ, List, Option}
-use Rattle.ti_caps.specs.Entry.{Content}
 use Rattle.ti_conforms.specs.Conforms.{Conforms}
 use Rattle.ti_sends.specs.Entries.{EntryAgrees}
 use Rattle.ti_cert.specs.Strings.{string_in}
