@@ -1,17 +1,16 @@
 -- Lines that are just what an entry sends, beside each other.
-use Rattle.std.proofs.Common.{◌≡◌, ◌&&◌, ◌<◌, ℕ, not, Bool, true, false, List, Option, Some, None, refl, sym, ap, ◌∙◌}
+use Rattle.std.proofs.Common.{◌≡◌, ◌&&◌, ℕ, not, Bool, true, false, List, Option, refl, sym, ap, ◌∙◌}
 use Rattle.std.specs.Prelude.{is_some}
-use Rattle.vt_term.specs.Color.{Color, Black}
+use Rattle.vt_term.specs.Color.{Black}
 use Rattle.ti_caps.specs.Entry.{Content, string_at}
 use Rattle.ti_rows.specs.declared.rows.Row.{Row}
 use Rattle.ti_rows.specs.declared.rows.Row.TheVariants.{Clear, Cup, Sgr, Sgr0, Setaf, Setab, Op, Smul, Rev, Blink, Dim, Bold, Invis, Smso, Smacs, Rmacs}
-use Rattle.ti_rows.specs.Names.{order, no_attributes}
+use Rattle.ti_rows.specs.Names.{no_attributes}
 use Rattle.ti_rows.specs.Lists.{IsInRange}
 use Rattle.ti_sends.specs.Entries.{acsc, has_string, is_checked, LineAgrees, EntryAgrees}
 use Rattle.ti_sends.proofs.Matching.{same_checked}
 use Rattle.ti_checked.specs.Table.{Table, has}
-use Rattle.ti_conforms.specs.Conforms.{IsFit}
-use Rattle.ti_conforms.specs.Together.{HasNoSingles, StandTogether, AgreedStandTogether}
+use Rattle.ti_conforms.specs.Together.{HasNoSingles, AgreedStandTogether}
 
 agreed_there : (entry : Content) (line : Option (List ℕ)) (row : Row) (b : Bool) → is_checked entry row ≡ b → LineAgrees entry line row → is_some line ≡ b
 agreed_there entry line row true e a = ap (λ (o : Option (List ℕ)). is_some o) (a.checked e).sends.line_has
