@@ -149,8 +149,8 @@ fn judge_all<R: Reader, J: Judge>(
 /// Judges the text that a reader has left, line by line as it arrives. A line is kept only while it
 /// is judged. All lines together may have `limit` bytes, LFs included.
 ///
-/// The answer is that of the text, and `judge` then holds what its lines make; or the reader failed
-/// in this call. At most one byte past the limit is read, and after a fault the reader isn't called.
+/// The answer is one that the text has by the rules, and `judge` then holds what its lines make; or
+/// the reader failed in this call. At most one byte past the limit is read, and after a fault the reader isn't called.
 /// Of a reader whose bytes aren't known the answer is that of some bytes that it gave.
 ///
 /// # Errors
