@@ -4,17 +4,17 @@ use Rattle.std.proofs.lemmas.List.{length-drop}
 use Rattle.ti_reader.specs.Reader.{Gave}
 use Rattle.ti_reader.specs.Text.{Cut, cut_of, line_end}
 use Rattle.ti_reader.specs.Lines.{Reading, Takes, IsNext, HaltsBy}
-use Rattle.ti_reader.specs.Judging.{Rules, fault_at, at_line, and_then, judge_from, judged, FailsBy, Gives, Whole, Early, Cuts, Reports, Closes, halted, Progress}
+use Rattle.ti_reader.specs.Judging.{Rules, fault_at, AtLine, JudgedFrom, Judged, FailsBy, Gives, Whole, Early, Cuts, Reports, Closes, halted, Progress}
 use Rattle.ti_reader.specs.declared.judging.LineFault.{LineFault}
 use Rattle.ti_reader.specs.declared.lines.Next.{Next}
 use Rattle.ti_reader.specs.declared.lines.Next.TheVariants.{Line, End, Unended, Long}
 use Rattle.ti_reader.specs.declared.lines.Halt.{Halt}
 use Rattle.ti_reader.specs.declared.lines.Halt.TheVariants.{ReadFailed, NoMemory}
 use Rattle.ti_reader.proofs.Gaves.{gave_nothing, gave_joins, rose_later}
-use Rattle.ti_reader.proofs.Texts.{cut_alone, cut_line, Begins, begins, judge_step, judge_end, judge_unended, judge_long}
+use Rattle.ti_reader.proofs.Texts.{cut_alone, cut_line, Begins, begins, judge_step, judge_fault, judge_end, judge_unended, judge_long}
 
 pub progress_start : {R T F : Type 0} (rules : Rules T F) (limit : ℕ) (t : T) (left : R → List ℕ → Type 0) (failures : R → ℕ) (r : R) → Progress rules limit t left failures r r (record { unread = []; budget = limit }) 1 t
-unfolding judged
+unfolding Judged
 progress_start rules limit t left failures r = record {
   passed = [];
   gave = gave_nothing left failures r;
@@ -22,7 +22,7 @@ progress_start rules limit t left failures r = record {
   bound = omega arith;
   few = omega arith;
   lines = λ text. omega arith;
-  rest = λ text. refl;
+  rest = λ text answer h. h;
 }
 
 pub progress_takes : {R T F : Type 0} (rules : Rules T F) (limit : ℕ) (start : T) (left : R → List ℕ → Type 0) (failures : R → ℕ) (old a b : R) (r s : Reading) (number : ℕ) (t : T)
@@ -37,12 +37,12 @@ progress_takes {R} rules limit start left failures old a b r s number t p q =
       bound = q.bound;
       few = p.few;
       lines = p.lines;
-      rest = λ text. ap (λ n. judge_from rules n number t text) q.budget ∙ p.rest text;
+      rest = λ text answer h. p.rest text answer (subst (λ (n : ℕ). JudgedFrom rules n number t text answer) q.budget h);
     }
 
 -- one line more
 pub progress_line : {R T F : Type 0} (rules : Rules T F) (limit : ℕ) (start : T) (left : R → List ℕ → Type 0) (failures : R → ℕ) (old a : R) (r : Reading) (number : ℕ) (t u : T) (n : ℕ)
-    → Progress rules limit start left failures old a r number t → line_end r.unread ≡ Some n → n < r.budget → rules.step t (take n r.unread) ≡ Ok u
+    → Progress rules limit start left failures old a r number t → line_end r.unread ≡ Some n → n < r.budget → rules.line t (take n r.unread) (Ok u)
     → Progress rules limit start left failures old a (record { unread = drop (n + 1) r.unread; budget = r.budget - (n + 1) }) (number + 1) u
 progress_line {R} rules limit start left failures old a r number t u n p h lt is =
     let b : Begins r.unread n = begins r.unread n h in
@@ -66,26 +66,31 @@ progress_line {R} rules limit start left failures old a r number t u n p h lt is
           ap (λ l. length (cut_of l).lines + 1) (joined text) ∙ p.lines (take n r.unread ++ 10 ∷ text) in
           let f : length (cut_of (take n r.unread ++ 10 ∷ text)).lines ≡ suc (length (cut_of text).lines) = ap (λ (c : Cut). length c.lines) (cut_line (take n r.unread) text b.line) in
           omega (arith, e, f);
-      rest = λ text.
+      rest = λ text answer h.
           let small : length (take n r.unread) < r.budget = omega (arith, size, lt) in
-          let one : judge_from rules r.budget number t (take n r.unread ++ 10 ∷ text) ≡ judge_from rules (r.budget - (length (take n r.unread) + 1)) (number + 1) u text =
-          judge_step rules r.budget number t (take n r.unread) text b.line small ∙ ap (λ m. and_then (at_line number m) (λ w. judge_from rules (r.budget - (length (take n r.unread) + 1)) (number + 1) w text)) is in
-          let same : judge_from rules (r.budget - (length (take n r.unread) + 1)) (number + 1) u text ≡ judge_from rules (r.budget - (n + 1)) (number + 1) u text = ap (λ k. judge_from rules (r.budget - (k + 1)) (number + 1) u text) size in
-          sym (one ∙ same) ∙ (p.rest (take n r.unread ++ 10 ∷ text) ∙ sym (ap (judged rules limit start) (joined text)));
+          let Q : List ℕ → Type 0 = λ l. Judged rules limit start l answer in
+          let N : ℕ → Type 0 = λ k. JudgedFrom rules (r.budget - (k + 1)) (number + 1) u text answer in
+          subst Q (sym (joined text)) (p.rest (take n r.unread ++ 10 ∷ text) answer (judge_step rules r.budget number t u (take n r.unread) text answer b.line small is (subst N (sym size) h)));
     }
 
 -- a fault of what is read here is one of the whole
-pub fault_passes : {T F : Type 0} (rules : Rules T F) (e : LineFault F) (now all : Result T (LineFault F)) → (now ≡ Err e → all ≡ Err e) → FailsBy rules e now → FailsBy rules e all
-fault_passes rules e now all f (inl h) = inl (f h)
-fault_passes rules e now all f (inr h) = inr h
+pub fault_passes : {T F : Type 0} (rules : Rules T F) (e : LineFault F) (Now All : Result T (LineFault F) → Type 0) → (Now (Err e) → All (Err e)) → FailsBy rules e Now → FailsBy rules e All
+fault_passes rules e Now All f (inl h) = inl (f h)
+fault_passes rules e Now All f (inr h) = inr h
+
+gives_passes : {X T F : Type 0} (rules : Rules T F) (new : T) (answer : Result X (LineFault F)) (Now All : Result T (LineFault F) → Type 0) → ((a : Result T (LineFault F)) → Now a → All a) → Gives rules new answer Now → Gives rules new answer All
+gives_passes rules new (Ok x) Now All f h = f (Ok new) h
+gives_passes rules new (Err e) Now All f h = fault_passes rules e Now All (f (Err e)) h
 
 few_given : {R T F : Type 0} (rules : Rules T F) (limit : ℕ) (start : T) (left : R → List ℕ → Type 0) (failures : R → ℕ) (old a : R) (r : Reading) (number : ℕ) (t : T) (p : Progress rules limit start left failures old a r number t) → length (p.passed ++ r.unread) ≤ limit + 1
 few_given rules limit start left failures old a r number t p = omega (arith, length-append p.passed r.unread, p.budget, p.bound)
 
 -- what follows is judged as a part of the whole
-whole_from : {R T F : Type 0} (rules : Rules T F) (limit : ℕ) (start : T) (left : R → List ℕ → Type 0) (failures : R → ℕ) (old a : R) (r : Reading) (number : ℕ) (t : T) (p : Progress rules limit start left failures old a r number t) (back : List ℕ)
-    → judged rules limit start ((p.passed ++ r.unread) ++ back) ≡ judge_from rules r.budget number t (r.unread ++ back)
-whole_from rules limit start left failures old a r number t p back = ap (judged rules limit start) (append_assoc p.passed r.unread back) ∙ sym (p.rest (r.unread ++ back))
+whole_from : {R T F : Type 0} (rules : Rules T F) (limit : ℕ) (start : T) (left : R → List ℕ → Type 0) (failures : R → ℕ) (old a : R) (r : Reading) (number : ℕ) (t : T) (p : Progress rules limit start left failures old a r number t) (back : List ℕ) (answer : Result T (LineFault F))
+    → JudgedFrom rules r.budget number t (r.unread ++ back) answer → Judged rules limit start ((p.passed ++ r.unread) ++ back) answer
+whole_from rules limit start left failures old a r number t p back answer h =
+    let Q : List ℕ → Type 0 = λ l. Judged rules limit start l answer in
+    subst Q (sym (append_assoc p.passed r.unread back)) (p.rest (r.unread ++ back) answer h)
 
 -- no line could be had
 pub exit_halted : {R X T F : Type 0} (rules : Rules T F) (limit : ℕ) (start new : T) (left : R → List ℕ → Type 0) (failures : R → ℕ) (old b a : R) (r : Reading) (number : ℕ) (t : T) (h : Halt)
@@ -104,8 +109,8 @@ exit_halted rules limit start new left failures old b a r number t ReadFailed p 
 
 -- a line has a fault
 pub exit_line : {R X T F : Type 0} (rules : Rules T F) (limit : ℕ) (start new : T) (left : R → List ℕ → Type 0) (failures : R → ℕ) (old a : R) (r : Reading) (number : ℕ) (t : T) (n : ℕ) (e : LineFault F)
-    → Progress rules limit start left failures old a r number t → line_end r.unread ≡ Some n → n < r.budget → FailsBy rules e (at_line number (rules.step t (take n r.unread))) → Reports {X = X} rules limit start new left failures old a (Err e)
-exit_line rules limit start new left failures old a r number t n e p h lt fails =
+    → Progress rules limit start left failures old a r number t → line_end r.unread ≡ Some n → n < r.budget → FailsBy rules e (AtLine number (rules.line t (take n r.unread))) → Reports {X = X} rules limit start new left failures old a (Err e)
+exit_line {R} {X} {T} {F} rules limit start new left failures old a r number t n e p h lt fails =
     let b : Begins r.unread n = begins r.unread n h in
     let size : length (take n r.unread) ≡ n = omega (arith, length-take n r.unread, b.within) in
     let small : length (take n r.unread) < r.budget = omega (arith, size, lt) in
@@ -113,11 +118,13 @@ exit_line rules limit start new left failures old a r number t n e p h lt fails 
       given = p.passed ++ r.unread;
       gave = p.gave;
       few = few_given rules limit start left failures old a r number t p;
-      outcome = Early (λ back. fault_passes rules e (at_line number (rules.step t (take n r.unread))) (judged rules limit start ((p.passed ++ r.unread) ++ back))
-          (λ is. whole_from rules limit start left failures old a r number t p back
-          ∙ (ap (λ l. judge_from rules r.budget number t l) (ap (λ (l : List ℕ). l ++ back) b.parts ∙ append_assoc (take n r.unread) (10 ∷ drop (suc n) r.unread) back)
-          ∙ (judge_step rules r.budget number t (take n r.unread) (drop (suc n) r.unread ++ back) b.line small
-          ∙ ap (λ m. and_then m (λ w. judge_from rules (r.budget - (length (take n r.unread) + 1)) (number + 1) w (drop (suc n) r.unread ++ back))) is)))
+      outcome = Early (λ back.
+          let parts : r.unread ++ back ≡ take n r.unread ++ 10 ∷ (drop (suc n) r.unread ++ back) = ap (λ (l : List ℕ). l ++ back) b.parts ∙ append_assoc (take n r.unread) (10 ∷ drop (suc n) r.unread) back in
+          let Q : List ℕ → Type 0 = λ l. JudgedFrom rules r.budget number t l (Err e) in
+          let K : ℕ → Type 0 = λ k. JudgedFrom rules r.budget number t (take n r.unread ++ 10 ∷ (drop (suc n) r.unread ++ back)) (Err (fault_at k e.kind)) in
+          fault_passes rules e (AtLine number (rules.line t (take n r.unread))) (Judged rules limit start ((p.passed ++ r.unread) ++ back))
+          (λ is. whole_from rules limit start left failures old a r number t p back (Err e) (subst Q (sym parts)
+          (subst K (sym is.0) (judge_fault rules r.budget number t e.kind (take n r.unread) (drop (suc n) r.unread ++ back) b.line small is.1))))
           fails);
     }
 
@@ -125,26 +132,26 @@ exit_line rules limit start new left failures old a r number t n e p h lt fails 
 pub exit_closed : {R X T F : Type 0} (rules : Rules T F) (limit : ℕ) (start new : T) (left : R → List ℕ → Type 0) (failures : R → ℕ) (old a : R) (r : Reading) (number : ℕ) (t : T) (next : Next) (answer : Result X (LineFault F))
     → Progress rules limit start left failures old a r number t → IsNext left r a next → ((n : ℕ) → next ≡ Line n → ⊥) → Closes rules next number t new answer → Reports rules limit start new left failures old a answer
 exit_closed rules limit start new left failures old a r number t (Line n) answer p is not_line closes = absurd (not_line n refl)
-exit_closed rules limit start new left failures old a r number t End answer p is not_line closes =
-    let e : at_line number (rules.finish t) ≡ judged rules limit start (p.passed ++ r.unread) = sym (judge_end rules r.budget number t) ∙ (ap (judge_from rules r.budget number t) (sym is.0) ∙ p.rest r.unread) in
+exit_closed {R} {X} {T} {F} rules limit start new left failures old a r number t End answer p is not_line closes =
+    let ends : (x : Result T (LineFault F)) → AtLine number (rules.end t) x → Judged rules limit start (p.passed ++ r.unread) x =
+    λ x h. let Q : List ℕ → Type 0 = λ l. JudgedFrom rules r.budget number t l x in p.rest r.unread x (subst Q (sym is.0) (judge_end rules r.budget number t x h)) in
     record {
       given = p.passed ++ r.unread;
       gave = p.gave;
       few = few_given rules limit start left failures old a r number t p;
-      outcome = Whole is.1 (subst (λ m. Gives rules new answer m) e closes);
+      outcome = Whole is.1 (gives_passes rules new answer (AtLine number (rules.end t)) (Judged rules limit start (p.passed ++ r.unread)) ends closes);
     }
 exit_closed rules limit start new left failures old a r number t Unended answer p is not_line closes =
-    let e : judged rules limit start (p.passed ++ r.unread) ≡ Err (fault_at number rules.no_line) = sym (p.rest r.unread) ∙ judge_unended rules r.budget number t r.unread is.1 is.0 in
     record {
       given = p.passed ++ r.unread;
       gave = p.gave;
       few = few_given rules limit start left failures old a r number t p;
-      outcome = Whole is.2 (rw closes (inl e));
+      outcome = Whole is.2 (rw closes (inl (p.rest r.unread (Err (fault_at number rules.no_line)) (judge_unended rules r.budget number t r.unread is.1 is.0))));
     }
 exit_closed rules limit start new left failures old a r number t Long answer p is not_line closes =
     record {
       given = p.passed ++ r.unread;
       gave = p.gave;
       few = few_given rules limit start left failures old a r number t p;
-      outcome = Early (λ back. rw closes (inl (whole_from rules limit start left failures old a r number t p back ∙ judge_long rules r.budget number t r.unread back is)));
+      outcome = Early (λ back. rw closes (inl (whole_from rules limit start left failures old a r number t p back (Err (fault_at number rules.no_line)) (judge_long rules r.budget number t r.unread back is))));
     }

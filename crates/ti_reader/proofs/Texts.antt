@@ -1,10 +1,10 @@
 -- A text judged line by line.
-use Rattle.std.proofs.Common.{◌≡◌, ℕ, zero, suc, ◌+◌, ◌-◌, ◌<◌, ◌≤◌, Bool, true, false, if◌then◌else◌, List, [], ◌∷◌, ◌++◌, Option, None, Some, Err, length, take, drop, refl, ap, ◌∙◌, arith}
-use Rattle.std.specs.Prelude.{nat_lt}
+use Rattle.std.proofs.Common.{◌≡◌, ℕ, zero, suc, ◌+◌, ◌-◌, ◌<◌, ◌≤◌, Bool, true, false, if◌then◌else◌, List, [], ◌∷◌, ◌++◌, Option, None, Some, Result, Ok, Err, length, take, drop, refl, ap, ◌∙◌, arith}
 use Rattle.std.specs.Option.{option_map}
 use Rattle.std.proofs.lemmas.Bool.Decides.{nat_tests}
 use Rattle.ti_reader.specs.Text.{Cut, IsText, is_feed, cut_of, with_line, onto_cut, line_end, is_long}
-use Rattle.ti_reader.specs.Judging.{Rules, fault_at, at_line, and_then, judge_lines, judge_cut, judge_from}
+use Rattle.ti_reader.specs.Judging.{Rules, fault_at, AtLine, Passes, Fails, TooLong, JudgedLines, JudgedCut, JudgedFrom}
+use Rattle.ti_reader.specs.declared.judging.LineFault.{LineFault}
 use Rattle.ti_reader.proofs.Ends.{none_moved}
 
 -- how a text is cut
@@ -83,41 +83,50 @@ long_cut (suc budget) (b ∷ text) back h = long_later budget b text (cut_of (te
 
 -- how it is judged
 
-line_judged : {T F : Type 0} (rules : Rules T F) (budget number : ℕ) (t : T) (line : List ℕ) (lines : List (List ℕ)) (last : List ℕ) → length line < budget
-    → judge_lines rules budget number t (line ∷ lines) last ≡ and_then (at_line number (rules.step t line)) (λ u. judge_lines rules (budget - (length line + 1)) (number + 1) u lines last)
-unfolding judge_lines
-line_judged rules budget number t line lines last lt =
-    let e : nat_lt (length line) budget ≡ true = grind (arith, nat_tests, lt) in
-    ap (λ b. if b then and_then (at_line number (rules.step t line)) (λ u. judge_lines rules (budget - (length line + 1)) (number + 1) u lines last) else Err (fault_at number rules.no_line)) e
+judge_passes : {T F : Type 0} (rules : Rules T F) (budget number : ℕ) (t u : T) (line more : List ℕ) (c : Cut) (answer : Result T (LineFault F)) → c ≡ with_line line (cut_of more) → length line < budget → rules.line t line (Ok u)
+    → JudgedFrom rules (budget - (length line + 1)) (number + 1) u more answer → JudgedCut rules budget number t c answer
+unfolding JudgedFrom JudgedLines
+judge_passes rules budget number t u line more c answer e lt is later = rw e (Passes lt u is later)
 
-pub judge_step : {T F : Type 0} (rules : Rules T F) (budget number : ℕ) (t : T) (line more : List ℕ) → line_end line ≡ None → length line < budget
-    → judge_from rules budget number t (line ++ 10 ∷ more) ≡ and_then (at_line number (rules.step t line)) (λ u. judge_from rules (budget - (length line + 1)) (number + 1) u more)
-unfolding judge_from
-judge_step rules budget number t line more h lt = ap (judge_cut rules budget number t) (cut_line line more h) ∙ line_judged rules budget number t line (cut_of more).lines (cut_of more).last lt
+pub judge_step : {T F : Type 0} (rules : Rules T F) (budget number : ℕ) (t u : T) (line more : List ℕ) (answer : Result T (LineFault F)) → line_end line ≡ None → length line < budget → rules.line t line (Ok u)
+    → JudgedFrom rules (budget - (length line + 1)) (number + 1) u more answer → JudgedFrom rules budget number t (line ++ 10 ∷ more) answer
+unfolding JudgedFrom
+judge_step rules budget number t u line more answer h lt is later = judge_passes rules budget number t u line more (cut_of (line ++ 10 ∷ more)) answer (cut_line line more h) lt is later
 
-pub judge_end : {T F : Type 0} (rules : Rules T F) (budget number : ℕ) (t : T) → judge_from rules budget number t [] ≡ at_line number (rules.finish t)
-unfolding judge_from judge_lines
-judge_end rules budget number t = refl
+judge_fails : {T F : Type 0} (rules : Rules T F) (budget number : ℕ) (t : T) (kind : F) (line more : List ℕ) (c : Cut) → c ≡ with_line line (cut_of more) → length line < budget → rules.line t line (Err kind)
+    → JudgedCut rules budget number t c (Err (fault_at number kind))
+unfolding JudgedLines
+judge_fails rules budget number t kind line more c e lt is = rw e (Fails lt kind refl is)
 
-last_bad : {T F : Type 0} (rules : Rules T F) (budget number : ℕ) (t : T) (last : List ℕ) → 0 < length last → judge_lines rules budget number t [] last ≡ Err (fault_at number rules.no_line)
-unfolding judge_lines
+pub judge_fault : {T F : Type 0} (rules : Rules T F) (budget number : ℕ) (t : T) (kind : F) (line more : List ℕ) → line_end line ≡ None → length line < budget → rules.line t line (Err kind)
+    → JudgedFrom rules budget number t (line ++ 10 ∷ more) (Err (fault_at number kind))
+unfolding JudgedFrom
+judge_fault rules budget number t kind line more h lt is = judge_fails rules budget number t kind line more (cut_of (line ++ 10 ∷ more)) (cut_line line more h) lt is
+
+pub judge_end : {T F : Type 0} (rules : Rules T F) (budget number : ℕ) (t : T) (answer : Result T (LineFault F)) → AtLine number (rules.end t) answer → JudgedFrom rules budget number t [] answer
+unfolding JudgedFrom JudgedLines
+judge_end rules budget number t answer h = h
+
+last_bad : {T F : Type 0} (rules : Rules T F) (budget number : ℕ) (t : T) (last : List ℕ) → 0 < length last → JudgedLines rules budget number t [] last (Err (fault_at number rules.no_line))
+unfolding JudgedLines
 last_bad rules budget number t [] lt = absurd (omega arith)
 last_bad rules budget number t (b ∷ last) lt = refl
 
-pub judge_unended : {T F : Type 0} (rules : Rules T F) (budget number : ℕ) (t : T) (text : List ℕ) → line_end text ≡ None → 0 < length text → judge_from rules budget number t text ≡ Err (fault_at number rules.no_line)
-unfolding judge_from
-judge_unended rules budget number t text h lt = ap (judge_cut rules budget number t) (cut_alone text h) ∙ last_bad rules budget number t text lt
+unended_cut : {T F : Type 0} (rules : Rules T F) (budget number : ℕ) (t : T) (text : List ℕ) (c : Cut) → c ≡ record { lines = []; last = text } → 0 < length text → JudgedCut rules budget number t c (Err (fault_at number rules.no_line))
+unended_cut rules budget number t text c e lt = rw e (last_bad rules budget number t text lt)
 
-long_bad : {T F : Type 0} (rules : Rules T F) (budget number : ℕ) (t : T) (lines : List (List ℕ)) (last : List ℕ) → LongCut budget lines last → judge_lines rules budget number t lines last ≡ Err (fault_at number rules.no_line)
-unfolding judge_lines
+pub judge_unended : {T F : Type 0} (rules : Rules T F) (budget number : ℕ) (t : T) (text : List ℕ) → line_end text ≡ None → 0 < length text → JudgedFrom rules budget number t text (Err (fault_at number rules.no_line))
+unfolding JudgedFrom
+judge_unended rules budget number t text h lt = unended_cut rules budget number t text (cut_of text) (cut_alone text h) lt
+
+long_bad : {T F : Type 0} (rules : Rules T F) (budget number : ℕ) (t : T) (lines : List (List ℕ)) (last : List ℕ) → LongCut budget lines last → JudgedLines rules budget number t lines last (Err (fault_at number rules.no_line))
+unfolding JudgedLines
 long_bad rules budget number t [] [] h = absurd (omega (arith, h))
 long_bad rules budget number t [] (b ∷ last) h = refl
-long_bad rules budget number t (line ∷ lines) last h =
-    let e : nat_lt (length line) budget ≡ false = grind (arith, nat_tests, h) in
-    ap (λ b. if b then and_then (at_line number (rules.step t line)) (λ u. judge_lines rules (budget - (length line + 1)) (number + 1) u lines last) else Err (fault_at number rules.no_line)) e
+long_bad rules budget number t (line ∷ lines) last h = TooLong h refl
 
-pub judge_long : {T F : Type 0} (rules : Rules T F) (budget number : ℕ) (t : T) (text back : List ℕ) → is_long budget text ≡ true → judge_from rules budget number t (text ++ back) ≡ Err (fault_at number rules.no_line)
-unfolding judge_from
+pub judge_long : {T F : Type 0} (rules : Rules T F) (budget number : ℕ) (t : T) (text back : List ℕ) → is_long budget text ≡ true → JudgedFrom rules budget number t (text ++ back) (Err (fault_at number rules.no_line))
+unfolding JudgedFrom
 judge_long rules budget number t text back h = long_bad rules budget number t (cut_of (text ++ back)).lines (cut_of (text ++ back)).last (long_cut budget text back h)
 
 -- the same as a relation

@@ -1,7 +1,7 @@
 //! The judgement of a text line by line, as a reader gives it.
 
 ghost use Rattle.std.specs.Prelude.{◌≡◌, ◌<◌, ◌≤◌, ◌+◌, ◌-◌, ℕ, List, length, take, drop, IfOk, IfErr, OnErr, OnOk};
-ghost use Rattle.ti_reader.specs.Judging.{Rules, Refuses, FailsBy, Closes, Gives, GivesOr, Reports, at_line, judged};
+ghost use Rattle.ti_reader.specs.Judging.{Rules, Refuses, FailsBy, Closes, Gives, GivesOr, Reports, AtLine, Judged};
 ghost use Rattle.ti_reader.specs.Judging as spec;
 ghost use Rattle.ti_reader.specs.Reader.{Rose};
 
@@ -29,17 +29,17 @@ pub trait Judge {
     ///
     /// # Errors
     /// The line's fault, or out of memory. Nothing is promised then of what the judge keeps.
-    fn judge(&mut self, line: &[u8]) -> Result<(), Self::Fault>
-        ensures ok { OnOk result (rules.step self.old line.now ≡ Ok self.new) }
-        ensures err { IfErr result (λ e. Refuses rules e (rules.step self.old line.now)) };
+    fn judge(&mut self, alloc: Global, line: &[u8]) -> Result<(), Self::Fault>
+        ensures ok { OnOk result (rules.line self.old line.now (Ok self.new)) }
+        ensures err { IfErr result (λ e. Refuses rules e (rules.line self.old line.now)) };
 
     /// Judges the end of the text.
     ///
     /// # Errors
     /// The fault that the end has, or out of memory.
-    fn finish(&mut self) -> Result<(), Self::Fault>
-        ensures ok { OnOk result (rules.finish self.old ≡ Ok self.new) }
-        ensures err { IfErr result (λ e. Refuses rules e (rules.finish self.old)) };
+    fn finish(&mut self, alloc: Global) -> Result<(), Self::Fault>
+        ensures ok { OnOk result (rules.end self.old (Ok self.new)) }
+        ensures err { IfErr result (λ e. Refuses rules e (rules.end self.old)) };
 
     /// The fault of a line without LF, and of one whose LF is past the limit.
     fn no_line() -> Self::Fault
@@ -74,6 +74,7 @@ fn front(bytes: &[u8], count: usize) -> &[u8]
 
 /// Judges the next line, of `count` bytes, and passes it.
 fn judge_line<J: Judge>(
+    alloc: Global,
     judge: &mut J,
     lines: &mut Lines,
     line: u64,
@@ -81,11 +82,11 @@ fn judge_line<J: Judge>(
 ) -> Result<(), LineFault<J::Fault>>
     requires taken { count < length lines.old.unread }
     requires allowed { count < lines.old.budget }
-    ensures judges { OnOk result (J.rules.step judge.old (take count lines.old.unread) ≡ Ok judge.new) }
+    ensures judges { OnOk result (J.rules.line judge.old (take count lines.old.unread) (Ok judge.new)) }
     ensures passes { OnOk result (lines.new ≡ record { unread = drop (count + 1) lines.old.unread; budget = lines.old.budget - (count + 1) }) }
-    ensures fails { IfErr result (λ e. FailsBy J.rules e (at_line line (J.rules.step judge.old (take count lines.old.unread)))) }
+    ensures fails { IfErr result (λ e. FailsBy J.rules e (AtLine line (J.rules.line judge.old (take count lines.old.unread)))) }
 {
-    match judge.judge(front(lines.unread(), count)) {
+    match judge.judge(alloc, front(lines.unread(), count)) {
         Ok(()) => {
             lines.pass(count);
             Ok(())
@@ -94,21 +95,26 @@ fn judge_line<J: Judge>(
     }
 }
 
-fn finished<J: Judge>(judge: &mut J, line: u64) -> Result<(), LineFault<J::Fault>>
-    ensures { Gives J.rules judge.new result (at_line line (J.rules.finish judge.old)) }
+fn finished<J: Judge>(alloc: Global, judge: &mut J, line: u64) -> Result<(), LineFault<J::Fault>>
+    ensures { Gives J.rules judge.new result (AtLine line (J.rules.end judge.old)) }
 {
-    match judge.finish() {
+    match judge.finish(alloc) {
         Ok(()) => Ok(()),
         Err(kind) => Err(LineFault { line, kind }),
     }
 }
 
 /// Judges the end, or what stands in the place of a line.
-fn close<J: Judge>(judge: &mut J, next: Next, line: u64) -> Result<(), LineFault<J::Fault>>
+fn close<J: Judge>(
+    alloc: Global,
+    judge: &mut J,
+    next: Next,
+    line: u64,
+) -> Result<(), LineFault<J::Fault>>
     ensures { Closes J.rules next line judge.old judge.new result }
 {
     match next {
-        Next::End => finished(judge, line),
+        Next::End => finished(alloc, judge, line),
         _ => Err(LineFault {
             line,
             kind: J::no_line(),
@@ -133,8 +139,8 @@ fn judge_all<R: Reader, J: Judge>(
             Err(halt) => return Err(halted::<J>(line, halt)),
         };
         match next {
-            Next::Line(count) => judge_line(judge, &mut lines, line, count)?,
-            _ => return close(judge, next, line),
+            Next::Line(count) => judge_line(alloc, judge, &mut lines, line, count)?,
+            _ => return close(alloc, judge, next, line),
         }
         line += 1;
     }
@@ -143,8 +149,8 @@ fn judge_all<R: Reader, J: Judge>(
 /// Judges the text that a reader has left, line by line as it arrives. A line is kept only while it
 /// is judged. All lines together may have `limit` bytes, LFs included.
 ///
-/// The answer is that of the text, and `judge` then holds what its lines make; or the reader failed
-/// in this call. At most one byte past the limit is read, and after a fault the reader isn't called.
+/// The answer is one that the text has by the rules, and `judge` then holds what its lines make; or
+/// the reader failed in this call. At most one byte past the limit is read, and after a fault the reader isn't called.
 /// Of a reader whose bytes aren't known the answer is that of some bytes that it gave.
 ///
 /// # Errors
@@ -158,7 +164,7 @@ pub fn judge_lines<R: Reader, J: Judge>(
     reader: &mut R,
     judge: &mut J,
 ) -> Result<(), LineFault<J::Fault>>
-    ensures text { (text : List ℕ) → R.left reader.old text → GivesOr J.rules (Rose (R.failures reader.old) (R.failures reader.new)) judge.new result (judged J.rules limit judge.old text) }
+    ensures text { (text : List ℕ) → R.left reader.old text → GivesOr J.rules (Rose (R.failures reader.old) (R.failures reader.new)) judge.new result (Judged J.rules limit judge.old text) }
     ensures reports { Reports J.rules limit judge.old judge.new R.left R.failures reader.old reader.new result }
 {
     judge_all(alloc, limit, reader, judge)

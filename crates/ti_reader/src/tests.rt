@@ -21,20 +21,20 @@ struct LastLine {
 }
 
 impl Judge for LastLine {
-    ghost use Rattle.std.specs.Prelude.{◌<◌, nat_lt, if◌then◌else◌, Ok, Err, length};
+    ghost use Rattle.std.specs.Prelude.{◌≡◌, ◌<◌, nat_lt, if◌then◌else◌, Ok, Err, length};
     ghost use Rattle.ti_reader.specs.declared.tests.Kind.{Kind};
 
     type Fault = Kind;
 
     ghost rules = { record {
-      step = λ t line. if nat_lt 3 (length line) then Err Kind.TooLong else Ok (record { length = length line });
-      finish = λ t. if nat_lt 0 t.length then Err Kind.TooLong else Ok t;
+      line = λ t line answer. answer ≡ (if nat_lt 3 (length line) then Err Kind.TooLong else Ok (record { length = length line }));
+      end = λ t answer. answer ≡ (if nat_lt 0 t.length then Err Kind.TooLong else Ok t);
       no_line = Kind.NoLine;
       no_memory = Kind.NoMemory;
       read_failed = Kind.ReadFailed;
     } };
 
-    fn judge(&mut self, line: &[u8]) -> Result<(), Kind> {
+    fn judge(&mut self, _: Global, line: &[u8]) -> Result<(), Kind> {
         if line.len() > 3 {
             return Err(Kind::TooLong);
         }
@@ -42,7 +42,7 @@ impl Judge for LastLine {
         Ok(())
     }
 
-    fn finish(&mut self) -> Result<(), Kind> {
+    fn finish(&mut self, _: Global) -> Result<(), Kind> {
         if self.length > 0 {
             Err(Kind::TooLong)
         } else {
