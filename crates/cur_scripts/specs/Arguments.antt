@@ -1,5 +1,5 @@
 -- The arguments of each call: the words after its name, in order, and no more.
-use Rattle.std.specs.Prelude.{ℕ, List, Option, None, Some}
+use Rattle.std.specs.Prelude.{ℕ, List, Option, Some}
 use Rattle.cur_drawing.specs.declared.puts.Put.{Put}
 use Rattle.cur_drawing.specs.declared.puts.Border.{Border}
 use Rattle.cur_drawing.specs.Calls.{drawn_line, default_border}
