@@ -1,0 +1,4 @@
+pub mod Capping
+pub mod Cutting
+pub mod Reading
+pub mod WordsLeft

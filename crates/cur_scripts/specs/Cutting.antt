@@ -1,0 +1,27 @@
+-- A text cut into parts: a script into lines at line feeds, a line into words at spaces, a cell at its colon.
+use Rattle.std.specs.Prelude.{ℕ, ◌==◌, if◌then◌else◌, List, [], ◌∷◌, Option, None, Some}
+use Rattle.std.specs.List.{slice_split}
+use Rattle.std.specs.Option.{option_map}
+
+-- what stands before and after the first byte of a kind
+abbrev pub cut_at : ℕ → List ℕ → Option (List ℕ × List ℕ)
+cut_at c [] = None
+cut_at c (b ∷ text) = if b == c then Some ([], text) else option_map (λ p. (b ∷ p.0, p.1)) (cut_at c text)
+
+-- what stands between bytes of a kind: one part more than there are such bytes
+abbrev pub parts_of : ℕ → List ℕ → List (List ℕ)
+parts_of c text = slice_split (λ b. b == c) text
+
+-- lines end with a line feed, the last one perhaps with the text: an empty part after it is a line that is skipped
+abbrev pub lines_of : List ℕ → List (List ℕ)
+lines_of text = parts_of 10 text
+
+-- words are separated by one space
+abbrev pub words_of : List ℕ → List (List ℕ)
+words_of line = parts_of 32 line
+
+-- a call that may end early
+infixl 10 ◌>>=◌
+abbrev pub ◌>>=◌ : {A B : Type 0} → Option A → (A → Option B) → Option B
+(Some x) >>= f = f x
+None >>= f = None
