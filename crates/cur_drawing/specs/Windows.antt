@@ -5,7 +5,11 @@ use Rattle.cur_drawing.specs.declared.puts.Put.{Put}
 use Rattle.cur_drawing.specs.declared.refusals.Refusal.{Refusal}
 use Rattle.cur_drawing.specs.declared.refusals.Refusal.TheVariants.{OutOfWindow, BadRegion, BadCell, BadPair}
 use Rattle.cur_drawing.specs.declared.windows.Window.{Window}
-use Rattle.cur_drawing.specs.Cells.{Content, space}
+use Rattle.cur_drawing.specs.Cells.{Content, pair_count, space}
+
+-- the most lines, or columns, of a grid of windows or of a pad
+abbrev pub most_lines : ℕ
+most_lines = 1000
 
 -- the cursor and the scrolling region lie in the window
 pub record IsWindow (w : Window) : Type 0 where
@@ -13,9 +17,9 @@ pub record IsWindow (w : Window) : Type 0 where
   pub col : w.col < w.area.cols
   pub region : w.region_top ≤ w.region_bottom
   pub bottom : w.region_bottom < w.area.rows
-  pub pair : w.pair < 64
-  pub height : w.area.top + w.area.rows ≤ 1000
-  pub width : w.area.left + w.area.cols ≤ 1000
+  pub pair : w.pair < pair_count
+  pub height : w.area.top + w.area.rows ≤ most_lines
+  pub width : w.area.left + w.area.cols ≤ most_lines
 
 -- a window that was just made: the cursor at its corner, spaces as background, all options off
 abbrev pub fresh : Area → Window
@@ -54,7 +58,7 @@ abbrev pub is_printed : ℕ → Bool
 is_printed byte = nat_le 32 byte && nat_le byte 126
 
 abbrev pub is_pair : ℕ → Bool
-is_pair pair = nat_lt pair 64
+is_pair pair = nat_lt pair pair_count
 
 -- a wrong byte is reported before a wrong pair
 abbrev pub checked : Bool → Bool → Result (Unit {0}) Refusal
@@ -109,7 +113,7 @@ paired None w = (w, Err BadPair)
 
 -- color_set
 abbrev pub set_pair : ℤ → Window → WindowStep
-set_pair p w = paired (place_below p 64) w
+set_pair p w = paired (place_below p pair_count) w
 
 -- the cell that is handed to bkgdset and bkgd, as it is
 abbrev pub as_is : Put → Content
@@ -127,4 +131,4 @@ set_background p w = if_ok (checked (is_printed p.byte) (is_pair p.pair)) w (rec
 pub record IsPut (p : Put) : Type 0 where
   pub low : 32 ≤ p.byte
   pub high : p.byte ≤ 126
-  pub pair : p.pair < 64
+  pub pair : p.pair < pair_count

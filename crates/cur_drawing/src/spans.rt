@@ -71,6 +71,20 @@ pub struct Geometry {
     pub x: i64,
 }
 
+impl Geometry {
+    /// This size, at this place.
+    pub fn new(lines: i32, cols: i32, y: i32, x: i32) -> Geometry
+        ensures { result ≡ record { lines = lines; cols = cols; y = y; x = x } }
+    {
+        Geometry {
+            lines,
+            cols,
+            y: y as i64,
+            x: x as i64,
+        }
+    }
+}
+
 /// The rectangle of a size at a place, in so many rows and columns. `BadRegion` for a negative size, else the given
 /// refusal where it doesn't lie in them.
 pub fn area_within(

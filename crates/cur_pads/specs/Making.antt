@@ -2,6 +2,7 @@
 use Rattle.std.specs.Prelude.{ℕ, ◌&&◌, nat_lt, nat_le, Option, Some, None, Result, Ok, Err, if◌then◌else◌, ℤ, pos, negsuc}
 use Rattle.cur_drawing.specs.declared.refusals.Refusal.{Refusal}
 use Rattle.cur_drawing.specs.declared.refusals.Refusal.TheVariants.{BadRegion, PadKind}
+use Rattle.cur_drawing.specs.Windows.{most_lines}
 use Rattle.cur_windows.specs.declared.slots.Slot.{Slot}
 use Rattle.cur_windows.specs.Desks.{State, DeskStep, after, slot_of, origin_at}
 use Rattle.cur_windows.specs.Making.{free, in_range, subwindow_at}
@@ -9,7 +10,7 @@ use Rattle.cur_windows.specs.Pads.{pad_added}
 
 -- so many lines or columns as a pad may have
 abbrev pub side : ℤ → Option ℕ
-side (pos n) = if nat_lt 0 n && nat_le n 1000 then Some n else None
+side (pos n) = if nat_lt 0 n && nat_le n most_lines then Some n else None
 side (negsuc n) = None
 
 abbrev pub both_sides : Option ℕ → Option ℕ → Result (ℕ × ℕ) Refusal

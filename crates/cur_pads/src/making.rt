@@ -39,12 +39,7 @@ pub fn subpad(
     in_range(n, id)?;
     desk.check_free(n)?;
     let (height, width) = pad_size(desk, id)?;
-    let geometry = Geometry {
-        lines,
-        cols,
-        y: y as i64,
-        x: x as i64,
-    };
+    let geometry = Geometry::new(lines, cols, y, x);
     let area = area_within(height, width, geometry, Refusal::OutOfWindow)?;
     desk.add_subpad(n, id, area);
     Ok(())

@@ -96,9 +96,9 @@ closes_window d now n s w e is there same legal =
     desk_kept d n s w d.grids is there.0 (ap (λ (x : State). window_at x n) e ∙ there.1) is.grids (λ k. refl) same legal
 
 -- a call on a window and its grid
-pub closes_sheet : (d now : State) (n : ℕ) (s : Slot) (w : Window) (g h : Grid) → d ≡ now → IsDesk d → (n < 64) × (window_at now n ≡ Some s) → g ≡ get_or d.grids s.root g → IsKept g s.window h w →
+pub closes_canvas : (d now : State) (n : ℕ) (s : Slot) (w : Window) (g h : Grid) → d ≡ now → IsDesk d → (n < 64) × (window_at now n ≡ Some s) → g ≡ get_or d.grids s.root g → IsKept g s.window h w →
     IsDesk (record d { grids = set d.grids s.root h; windows = set d.windows n (Some (record s { window = w })) })
-closes_sheet d now n s w g h e is there at kept =
+closes_canvas d now n s w g h e is there at kept =
     let there2 : window_at d n ≡ Some s = ap (λ (x : State). window_at x n) e ∙ there.1 in
     let old : IsPlaced d n s = is.placed n s there2 in
     let lt : s.root < length d.grids = omega (arith, is.grids, old.root) in

@@ -23,7 +23,7 @@ use Rattle.cur_windows.specs.Desks.{State, DeskStep, after, slot_of, some_slot, 
 use Rattle.cur_windows.specs.Making as making
 use Rattle.cur_windows.specs.Making.{is_some_slot, corner, has_child}
 use Rattle.cur_windows.specs.Refusals as causes
-use Rattle.cur_windows.specs.Refusals.{above_63, is_used, slot_is, slots_are, is_pad, lies_outside, moves_outside, in_turn, border_printed, border_pairs, cannot_advance}
+use Rattle.cur_windows.specs.Refusals.{is_past_last, is_used, slot_is, slots_are, is_pad, lies_outside, moves_outside, in_turn, border_printed, border_pairs, cannot_advance}
 use Rattle.cur_windows.specs.VirtualScreen as screens
 use Rattle.cur_windows.specs.VirtualScreen.{Screen, Refresh, if_shown}
 
@@ -86,12 +86,12 @@ newwin d n lines cols y x = record {
 -- two numbers, the first of which is to be free, and the second a window's
 pub part_of_window : (d : State) (n w : ℕ) (next : Slot → DeskStep) (later : Option Slot → Answer) → ((s : Slot) → (next s).1 ≡ later (Some s)) →
     (after (making.in_range n w) d (λ u. after (making.free d n) d (λ u. after (slot_of d w) d next))).1
-    ≡ (if above_63 n || above_63 w then Err Full else if is_used d n then Err NumberUsed else if not (is_used d w) then Err NoWindow else later (window_at d w))
+    ≡ (if is_past_last n || is_past_last w then Err Full else if is_used d n then Err NumberUsed else if not (is_used d w) then Err NoWindow else later (window_at d w))
 part_of_window d n w next later p =
-    first_if d (above_63 n || above_63 w) Full (Ok tt) (λ u. after (making.free d n) d (λ u. after (slot_of d w) d next)) _
-    (λ low. skip_if d (above_63 n) Full (if is_used d n then Err NumberUsed else Ok tt) (λ u. after (slot_of d w) d next) _ (or_left (above_63 n) (above_63 w) low)
+    first_if d (is_past_last n || is_past_last w) Full (Ok tt) (λ u. after (making.free d n) d (λ u. after (slot_of d w) d next)) _
+    (λ low. skip_if d (is_past_last n) Full (if is_used d n then Err NumberUsed else Ok tt) (λ u. after (slot_of d w) d next) _ (or_left (is_past_last n) (is_past_last w) low)
     (first_free d n (λ u. after (slot_of d w) d next) _
-    (skip_if d (above_63 w) Full (some_slot (window_at d w)) next _ (or_right (above_63 n) (above_63 w) low) (first_slot d (window_at d w) next later p))))
+    (skip_if d (is_past_last w) Full (some_slot (window_at d w)) next _ (or_right (is_past_last n) (is_past_last w) low) (first_slot d (window_at d w) next later p))))
 
 first_kind : (d : State) (s : Slot) (next : Unit {0} → DeskStep) (x : Answer) → (next tt).1 ≡ x → (after (making.window_only d s) d next).1 ≡ (if is_pad d s then Err PadKind else x)
 first_kind d s next x p = first_if d (is_pad d s) PadKind (Ok tt) next x (λ window. p)
@@ -155,11 +155,11 @@ two_slots d None p next later h = refl
 
 on_two : (d : State) (n m : ℕ) (next : Slot → Slot → DeskStep) (later : Option Slot → Option Slot → Answer) → ((s t : Slot) → (next s t).1 ≡ later (Some s) (Some t)) →
     (after (making.in_range n m) d (λ u. after (slot_of d n) d (λ s. after (slot_of d m) d (λ t. next s t)))).1
-    ≡ (if above_63 n || above_63 m then Err Full else if not (is_used d n && is_used d m) then Err NoWindow else later (window_at d n) (window_at d m))
+    ≡ (if is_past_last n || is_past_last m then Err Full else if not (is_used d n && is_used d m) then Err NoWindow else later (window_at d n) (window_at d m))
 on_two d n m next later p =
-    first_if d (above_63 n || above_63 m) Full (Ok tt) (λ u. after (slot_of d n) d (λ s. after (slot_of d m) d (λ t. next s t))) _
-    (λ low. ap (λ (r : Result Slot Refusal). (after r d (λ s. after (slot_of d m) d (λ t. next s t))).1) (low_slot d n (or_left (above_63 n) (above_63 m) low))
-    ∙ ap (λ (r : Result Slot Refusal). (after (some_slot (window_at d n)) d (λ s. after r d (λ t. next s t))).1) (low_slot d m (or_right (above_63 n) (above_63 m) low))
+    first_if d (is_past_last n || is_past_last m) Full (Ok tt) (λ u. after (slot_of d n) d (λ s. after (slot_of d m) d (λ t. next s t))) _
+    (λ low. ap (λ (r : Result Slot Refusal). (after r d (λ s. after (slot_of d m) d (λ t. next s t))).1) (low_slot d n (or_left (is_past_last n) (is_past_last m) low))
+    ∙ ap (λ (r : Result Slot Refusal). (after (some_slot (window_at d n)) d (λ s. after r d (λ t. next s t))).1) (low_slot d m (or_right (is_past_last n) (is_past_last m) low))
     ∙ two_slots d (window_at d n) (window_at d m) next later p)
 
 either_pad : (d : State) (p q : Bool) (next : DeskStep) (x : Answer) → next.1 ≡ x →

@@ -12,6 +12,13 @@ use Rattle.cur_drawing.specs.Calls.{Canvas, CanvasStep, IsCanvas, canvas}
 use Rattle.cur_windows.specs.declared.slots.Origin.{Origin}
 use Rattle.cur_windows.specs.declared.slots.Slot.{Slot}
 
+-- how many windows there can be, and the last number of one
+abbrev pub window_count : ℕ
+window_count = 64
+
+abbrev pub last_number : ℕ
+last_number = 63
+
 -- The k-th grid was made by window k. Where it lies on the screen, and whether it is a pad's, stands in its origin.
 pub record State : Type 0 where
   pub rows : ℕ
@@ -45,7 +52,7 @@ pub record IsWhole (a : Area) (g : Grid) : Type 0 where
 
 -- the window lies in its root, which some window made; one that is no subwindow made it itself, and has all of it
 pub record IsPlaced (d : State) (n : ℕ) (s : Slot) : Type 0 where
-  pub root : s.root < 64
+  pub root : s.root < window_count
   pub canvas : IsCanvas (grid_at d s.root) s.window
   pub made : IsSome (window_at d s.root)
   pub own : s.parent ≡ None → s.root ≡ n
@@ -59,9 +66,9 @@ pub record IsFramed (d : State) (k : ℕ) : Type 0 where
 pub record IsDesk (d : State) : Type 0 where
   pub rows : d.rows ≤ 200
   pub cols : d.cols ≤ 500
-  pub grids : length d.grids ≡ 64
-  pub origins : length d.origins ≡ 64
-  pub windows : length d.windows ≡ 64
+  pub grids : length d.grids ≡ window_count
+  pub origins : length d.origins ≡ window_count
+  pub windows : length d.windows ≡ window_count
   pub screen : IsSome (window_at d 0)
   pub placed : (n : ℕ) (s : Slot) → window_at d n ≡ Some s → IsPlaced d n s
   pub framed : (k : ℕ) → (origin_at d k).pad ≡ false → IsFramed d k
@@ -84,7 +91,7 @@ some_slot None = Err NoWindow
 
 -- the window of a number
 abbrev pub slot_of : State → ℕ → Result Slot Refusal
-slot_of d n = if nat_lt 63 n then Err Full else some_slot (window_at d n)
+slot_of d n = if nat_lt last_number n then Err Full else some_slot (window_at d n)
 
 abbrev pub with_window : State → ℕ → Slot → Window → State
 with_window d n s w = record d { windows = slice_set d.windows n (Some (record s { window = w })) }
@@ -124,7 +131,7 @@ abbrev pub new_desk : ℕ → ℕ → State
 new_desk rows cols = record {
   rows = rows;
   cols = cols;
-  grids = slice_set (replicate 64 []) 0 (blank rows cols);
-  origins = replicate 64 (on_screen 0 0 false);
-  windows = slice_set (replicate 64 None) 0 (Some (new_slot 0 (whole_area rows cols)));
+  grids = slice_set (replicate window_count []) 0 (blank rows cols);
+  origins = replicate window_count (on_screen 0 0 false);
+  windows = slice_set (replicate window_count None) 0 (Some (new_slot 0 (whole_area rows cols)));
 }

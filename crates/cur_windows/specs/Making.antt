@@ -10,7 +10,7 @@ use Rattle.cur_drawing.specs.Calls.{place}
 use Rattle.cur_drawing.specs.Spans.{area_within, start_within}
 use Rattle.cur_windows.specs.declared.slots.Origin.{Origin}
 use Rattle.cur_windows.specs.declared.slots.Slot.{Slot}
-use Rattle.cur_windows.specs.Desks.{State, DeskStep, after, slot_of, grid_at, origin_at, window_at, on_screen, whole_area}
+use Rattle.cur_windows.specs.Desks.{State, DeskStep, after, last_number, slot_of, grid_at, origin_at, window_at, on_screen, whole_area}
 
 abbrev pub is_some_slot : Option Slot → Bool
 is_some_slot (Some s) = true
@@ -18,7 +18,7 @@ is_some_slot None = false
 
 -- a number for a new window
 abbrev pub free : State → ℕ → Result (Unit {0}) Refusal
-free d n = if nat_lt 63 n then Err Full else if is_some_slot (window_at d n) then Err NumberUsed else Ok tt
+free d n = if nat_lt last_number n then Err Full else if is_some_slot (window_at d n) then Err NumberUsed else Ok tt
 
 -- window n is made, with a grid of its own
 abbrev pub root_added : State → ℕ → Grid → Origin → Window → State
@@ -48,7 +48,7 @@ window_only d s = if (origin_at d s.root).pad then Err PadKind else Ok tt
 
 -- both numbers name places for windows
 abbrev pub in_range : ℕ → ℕ → Result (Unit {0}) Refusal
-in_range n w = if nat_lt 63 n || nat_lt 63 w then Err Full else Ok tt
+in_range n w = if nat_lt last_number n || nat_lt last_number w then Err Full else Ok tt
 
 -- a part of window w, at a place that counts from (top, left) of it
 abbrev pub subwindow_at : State → ℕ → ℕ → Slot → ℤ → ℤ → ℤ → ℤ → DeskStep

@@ -8,11 +8,11 @@ use Rattle.cur_drawing.specs.Grids.{one, filled, part_written}
 use Rattle.cur_drawing.specs.Calls.{IsCanvas}
 use Rattle.cur_windows.specs.declared.rows.RowMut.{RowMut}
 use Rattle.cur_windows.specs.declared.slots.Slot.{Slot}
-use Rattle.cur_windows.specs.Desks.{State, grid_at, slot_of}
+use Rattle.cur_windows.specs.Desks.{State, grid_at, slot_of, window_count}
 
 -- the window lies in its grid and has such a line
 pub record IsLine (d : State) (s : Slot) (y : ℕ) : Type 0 where
-  pub root : s.root < 64
+  pub root : s.root < window_count
   pub canvas : IsCanvas (grid_at d s.root) s.window
   pub within : y < s.window.area.rows
 

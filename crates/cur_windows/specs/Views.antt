@@ -4,6 +4,7 @@ use Rattle.grids.specs.declared.areas.Area.{Area}
 use Rattle.cur_drawing.specs.declared.refusals.Refusal.{Refusal}
 use Rattle.cur_drawing.specs.Cells.{Content}
 use Rattle.cur_drawing.specs.Grids.{Grid, Fits}
+use Rattle.cur_drawing.specs.Windows.{most_lines}
 use Rattle.cur_windows.specs.declared.slots.Slot.{Slot}
 use Rattle.cur_windows.specs.Desks.{State, grid_at, slot_of}
 
@@ -17,7 +18,7 @@ window_cells a g = map (cut a) (take a.rows (drop a.top g))
 -- a rectangle that lies in its grid
 pub record IsSeen (a : Area) (g : Grid) : Type 0 where
   pub fits : Fits a g
-  pub height : a.top + a.rows ≤ 1000
+  pub height : a.top + a.rows ≤ most_lines
 
 abbrev pub seen_of : State → Result Slot Refusal → Result Grid Refusal
 seen_of d (Ok s) = Ok (window_cells s.window.area (grid_at d s.root))

@@ -4,6 +4,7 @@ use Rattle.grids.specs.declared.areas.Area.{Area}
 use Rattle.grids.specs.declared.areas.Place.{Place}
 use Rattle.cur_drawing.specs.declared.refusals.Refusal.{Refusal}
 use Rattle.cur_drawing.specs.declared.refusals.Refusal.TheVariants.{BadPair}
+use Rattle.cur_drawing.specs.Cells.{pair_count}
 use Rattle.cur_drawing.specs.Grids.{Grid, line_at, copied, blank}
 use Rattle.cur_drawing.specs.Windows.{place_below}
 use Rattle.cur_drawing.specs.Calls.{place}
@@ -29,12 +30,12 @@ default_colors = record { foreground = None; background = None }
 abbrev pub colors_at : Screen → ℕ → Colors
 colors_at v p = slice_index_or v.pairs p default_colors
 
--- the grid has the size, the cursor lies in it, and there are 64 pairs
+-- the grid has the size, the cursor lies in it, and all pairs have colours
 pub record IsScreen (v : Screen) : Type 0 where
   pub lines : length v.grid ≡ v.rows
   pub columns : (i : ℕ) → i < length v.grid → length (line_at v.grid i) ≡ v.cols
   pub cursor : IfSome v.cursor (λ p. (p.row < v.rows) × (p.col < v.cols))
-  pub pairs : length v.pairs ≡ 64
+  pub pairs : length v.pairs ≡ pair_count
 
 -- at first: spaces without attributes, the cursor at the corner, all pairs default on default
 abbrev pub new_screen : ℕ → ℕ → Screen
@@ -44,7 +45,7 @@ new_screen rows cols = record {
   grid = blank rows cols;
   cursor = Some (place 0 0);
   clearok = false;
-  pairs = replicate 64 default_colors;
+  pairs = replicate pair_count default_colors;
 }
 
 -- what a refresh that was done leaves
@@ -60,7 +61,7 @@ initialized None f b v = (v, Err BadPair)
 
 -- init_pair: pairs 1 to 63, colours 0 to 7
 abbrev pub init_pair : ℤ → ℤ → ℤ → Screen → Screen × Result (Unit {0}) Refusal
-init_pair p f b v = initialized (place_below p 64) (place_below f 8) (place_below b 8) v
+init_pair p f b v = initialized (place_below p pair_count) (place_below f 8) (place_below b 8) v
 
 -- a rectangle of the screen gets the cells of a grid from a place on
 abbrev pub shown : Area → Grid → Place → Option Place → Bool → Screen → Screen

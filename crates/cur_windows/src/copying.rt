@@ -99,9 +99,9 @@ impl Desk {
         otherwise: Result<(), Refusal>,
     ) -> Result<(), Refusal>
         requires source_root { (source.now).root < 64 }
-        requires source_sheet { IsCanvas (spec.grid_at self.old (source.now).root) (source.now).window }
+        requires source_canvas { IsCanvas (spec.grid_at self.old (source.now).root) (source.now).window }
         requires target_root { (target.now).root < 64 }
-        requires target_sheet { IsCanvas (spec.grid_at self.old (target.now).root) (target.now).window }
+        requires target_canvas { IsCanvas (spec.grid_at self.old (target.now).root) (target.now).window }
         requires rows { IfSome rows (IsWithin (source.now).window.area.rows (target.now).window.area.rows) }
         requires cols { IfSome cols (IsWithin (source.now).window.area.cols (target.now).window.area.cols) }
         ensures { spec.step self.new result ≡ copied_or otherwise self.old source.now target.now skip rows cols }
@@ -123,9 +123,9 @@ impl Desk {
         skip: bool,
     )
         requires source_root { (source.now).root < 64 }
-        requires source_sheet { IsCanvas (spec.grid_at self.old (source.now).root) (source.now).window }
+        requires source_canvas { IsCanvas (spec.grid_at self.old (source.now).root) (source.now).window }
         requires target_root { (target.now).root < 64 }
-        requires target_sheet { IsCanvas (spec.grid_at self.old (target.now).root) (target.now).window }
+        requires target_canvas { IsCanvas (spec.grid_at self.old (target.now).root) (target.now).window }
         requires rows { IsWithin (source.now).window.area.rows (target.now).window.area.rows rows }
         requires cols { IsWithin (source.now).window.area.cols (target.now).window.area.cols cols }
         ensures { self.new ≡ spans_copied self.old source.now target.now rows cols skip }

@@ -4,9 +4,9 @@ ghost use Rattle.cur_drawing.specs.Grids.{blank};
 ghost use Rattle.cur_windows.specs.Desks as spec;
 ghost use Rattle.cur_windows.specs.Desks.{IsPlaced, IsDesk};
 
-use crate::slots::{Origin, Slot};
+use crate::slots::{Origin, Slot, whole_area};
 use cur_drawing::{Cell, Refusal, Window};
-use grids::{Area, Grid};
+use grids::Grid;
 use std::alloc::{AllocError, Global};
 use std::marker::Model;
 use vt_term::Size;
@@ -41,12 +41,7 @@ impl Desk {
         ensures { IfOk result (λ desk. desk ≡ spec.new_desk size.rows size.cols) }
     {
         let (rows, cols) = (size.rows as u16, size.cols as u16);
-        let whole = Area {
-            top: 0,
-            left: 0,
-            rows,
-            cols,
-        };
+        let whole = whole_area(rows, cols);
         let mut grids = empty_grids(alloc)?;
         let mut windows = no_windows(alloc)?;
         let origins = screen_origins(alloc)?;

@@ -8,7 +8,7 @@ ghost use Rattle.cur_windows.specs.Desks as spec;
 ghost use Rattle.cur_windows.specs.Making as make;
 
 use crate::desks::{Desk, WINDOWS, blank_grid};
-use crate::slots::{Origin, Slot};
+use crate::slots::{Origin, Slot, whole_area};
 use cur_drawing::{Cell, Geometry, Refusal, Window, area_within, start_within};
 use grids::{Area, Grid, Place};
 
@@ -21,12 +21,7 @@ impl Desk {
         ensures { ((result ≡ Err Refusal.NoMemory) × (self.new ≡ self.old) × ((make.newwin self.old n lines cols y x).1 ≡ Ok tt)) ⊎ (spec.step self.new result ≡ make.newwin self.old n lines cols y x) }
     {
         self.check_free(n)?;
-        let geometry = Geometry {
-            lines,
-            cols,
-            y: y as i64,
-            x: x as i64,
-        };
+        let geometry = Geometry::new(lines, cols, y, x);
         let area = area_within(self.rows, self.cols, geometry, Refusal::OutOfScreen)?;
         let Ok(grid) = blank_grid(self.alloc, area.rows, area.cols) else {
             return Err(Refusal::NoMemory);
@@ -53,12 +48,7 @@ impl Desk {
         self.check_free(n)?;
         let slot = self.find(id)?;
         self.check_window(&slot)?;
-        let geometry = Geometry {
-            lines,
-            cols,
-            y: y as i64,
-            x: x as i64,
-        };
+        let geometry = Geometry::new(lines, cols, y, x);
         self.make_subwindow(n, id, &slot, geometry)
     }
 
@@ -97,12 +87,7 @@ impl Desk {
         self.check_free(n)?;
         let slot = self.find(id)?;
         let area = slot.window.area;
-        let whole = Area {
-            top: 0,
-            left: 0,
-            rows: area.rows,
-            cols: area.cols,
-        };
+        let whole = whole_area(area.rows, area.cols);
         let from = Place {
             row: area.top,
             col: area.left,
@@ -202,12 +187,7 @@ impl Desk {
         requires within { IsAreaWithin self.old.rows self.old.cols area }
         ensures { self.new ≡ make.root_added self.old n grid (spec.on_screen area.top area.left false) (fresh (spec.whole_area area.rows area.cols)) }
     {
-        let whole = Area {
-            top: 0,
-            left: 0,
-            rows: area.rows,
-            cols: area.cols,
-        };
+        let whole = whole_area(area.rows, area.cols);
         // no screen is larger than a window may be
         let _ = &self.rows;
         let origin = Origin {

@@ -8,7 +8,7 @@ ghost use Rattle.cur_windows.specs.Making as make;
 ghost use Rattle.cur_windows.specs.Pads.{is_pad, pad_added, part_cursor, part_shown};
 
 use crate::desks::{Desk, blank_grid};
-use crate::slots::Origin;
+use crate::slots::{Origin, whole_area};
 use crate::virtual_screen::Virtual;
 use cur_drawing::{Refusal, Window};
 use grids::{Area, Place};
@@ -39,12 +39,7 @@ impl Desk {
             left: 0,
             pad: true,
         };
-        let whole = Area {
-            top: 0,
-            left: 0,
-            rows,
-            cols,
-        };
+        let whole = whole_area(rows, cols);
         self.add_root(n, grid, origin, Window::new(whole));
         Ok(())
     }

@@ -1,5 +1,9 @@
 //! Where windows and their grids lie.
+ghost use Rattle.std.specs.Prelude.{◌≡◌};
+ghost use Rattle.cur_windows.specs.Desks as spec;
+
 use cur_drawing::Window;
+use grids::Area;
 
 /// Where a grid lies on the screen, and whether it is a pad's, which lies nowhere.
 #[derive(Clone, Copy)]
@@ -15,4 +19,16 @@ pub struct Slot {
     pub root: u8,
     pub parent: Option<u8>,
     pub window: Window,
+}
+
+/// The rectangle of so many rows and columns that begins at the corner.
+pub(crate) fn whole_area(rows: u16, cols: u16) -> Area
+    ensures { result ≡ spec.whole_area rows cols }
+{
+    Area {
+        top: 0,
+        left: 0,
+        rows,
+        cols,
+    }
 }

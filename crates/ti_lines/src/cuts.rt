@@ -10,7 +10,7 @@ pub(crate) fn cut(byte: u8, text: &[u8]) -> Option<(&[u8], &[u8])>
 {
     match place_of(byte, text) {
         None => None,
-        Some(at) => Some(before_and_behind(text, at)),
+        Some(at) => Some((&text[..at], &text[at + 1..])),
     }
 }
 
@@ -19,13 +19,4 @@ fn place_of(byte: u8, text: &[u8]) -> Option<usize>
     ensures range { IfSome result (λ at. at < length text.now) }
 {
     text.iter().position(|other| *other == byte)
-}
-
-#[tactic(auto, using(std::proofs::lemmas::List::take_rest))]
-fn before_and_behind(bytes: &[u8], at: usize) -> (&[u8], &[u8])
-    requires { at < length bytes.now }
-    ensures before { result.0.now ≡ take at bytes.now }
-    ensures behind { result.1.now ≡ drop (at + 1) bytes.now }
-{
-    (&bytes[..at], &bytes[at + 1..])
 }

@@ -180,7 +180,7 @@ impl Lines {
     }
 
     /// Moves the bytes that have not been passed to the front of the buffer.
-    fn settle(&mut self)
+    fn drop_passed(&mut self)
         ensures { self.new ≡ self.old }
     {
         self.buffer.rotate_left(self.from);
@@ -197,7 +197,7 @@ impl Lines {
         ensures end { IfOk result (λ n. n ≡ 0 → AtEnd R.left reader.new) }
         ensures halts { IfErr result (HaltsBy (R.failures reader.old) (R.failures reader.new)) }
     {
-        self.settle();
+        self.drop_passed();
         let mut chunk = [0u8; 4096];
         let want = wanted(self.unread().len(), self.budget);
         if self.buffer.reserve(want).is_err() {

@@ -110,6 +110,10 @@ at_col col = record unchanged { col = moves.To col; ends_pending = true }
 abbrev pub at : ℕ → ℕ → Effect
 at row col = record (at_col col) { row = moves.To row }
 
+-- it goes home, and all cells are erased
+abbrev pub clearing : Effect
+clearing = record (at 0 0) { erasure = erasures.Screen }
+
 -- the cursor moves, cells are erased or the region scrolls; the start is calm, so that `ends_pending` is free
 abbrev pub by_rows : Move → Effect → Effect
 by_rows m e = record unchanged { row = m; ends_pending = e.ends_pending }
@@ -122,6 +126,14 @@ erasing x e = record unchanged { erasure = x; ends_pending = e.ends_pending }
 
 abbrev pub scrolling : Scroll → Effect → Effect
 scrolling x e = record unchanged { scroll = x; ends_pending = e.ends_pending }
+
+-- the margins are these lines; the cursor may go anywhere
+abbrev pub bounding : ℕ → ℕ → Effect → Effect
+bounding top bottom e = record unchanged { row = e.row; col = e.col; ends_pending = e.ends_pending; margins = Some (record { top = top; bottom = bottom }) }
+
+-- the character sets are free
+abbrev pub choosing : Effect → Effect
+choosing e = record unchanged { charset = e.charset }
 
 abbrev pub showing : Switch → Effect
 showing x = record unchanged { visible = x }
@@ -154,7 +166,7 @@ asked_of_rendition l Smso e = rendering (with_marks_on l.standout) e
 asked_of_rendition l _ e = unchanged
 
 abbrev pub asked : Looks → Row → Effect → Effect
-asked l Clear e = record (at 0 0) { erasure = erasures.Screen }
+asked l Clear e = clearing
 asked l (Cup row col) e = at row col
 asked l Home e = at 0 0
 asked l Cr e = at_col 0
@@ -172,7 +184,7 @@ asked l El e = erasing erasures.Tail e
 asked l El1 e = erasing erasures.Head e
 asked l Ed e = erasing erasures.Rest e
 asked l (Ech n) e = erasing (erasures.Next n) e
-asked l (Csr top bottom) e = record unchanged { row = e.row; col = e.col; ends_pending = e.ends_pending; margins = Some (record { top = top; bottom = bottom }) }
+asked l (Csr top bottom) e = bounding top bottom e
 asked l Ind e = scrolling scrolls.Up e
 asked l Ri e = scrolling scrolls.Down e
 asked l Civis e = showing switches.Off
@@ -180,8 +192,8 @@ asked l Cnorm e = showing switches.On
 asked l Cvvis e = showing (on_or_kept (is_on e.visible))
 asked l Smcup e = entering e
 asked l Rmcup e = entering e
-asked l Enacs e = record unchanged { charset = e.charset }
-asked l Smacs e = record unchanged { charset = e.charset }
-asked l Rmacs e = record unchanged { charset = e.charset }
+asked l Enacs e = choosing e
+asked l Smacs e = choosing e
+asked l Rmacs e = choosing e
 asked l Bel e = unchanged
 asked l row e = asked_of_rendition l row e

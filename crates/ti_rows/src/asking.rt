@@ -3,17 +3,38 @@ ghost use Rattle.std.specs.Prelude.{◌≡◌, ◌&&◌, ◌||◌};
 ghost use Rattle.ti_rows.specs.Asked as spec;
 ghost use Rattle.ti_rows.specs.Looks as looks;
 
-use crate::rows::{Attributes, Looks, Marks, Row};
+use crate::rows::{Attributes, Looks, Marks, NO_MARKS, Row};
 use vt_effects::{Effect, Erasure, Ink, Move, Region, Rendering, Scroll, Switch};
 
-/// No mark.
-const NO_MARKS: Marks = Marks {
-    bold: false,
-    faint: false,
-    underline: false,
-    blink: false,
-    negative: false,
-    concealed: false,
+/// Each mark alone.
+const BOLD: Marks = Marks {
+    bold: true,
+    ..NO_MARKS
+};
+
+const FAINT: Marks = Marks {
+    faint: true,
+    ..NO_MARKS
+};
+
+const UNDERLINE: Marks = Marks {
+    underline: true,
+    ..NO_MARKS
+};
+
+const BLINK: Marks = Marks {
+    blink: true,
+    ..NO_MARKS
+};
+
+const NEGATIVE: Marks = Marks {
+    negative: true,
+    ..NO_MARKS
+};
+
+const CONCEALED: Marks = Marks {
+    concealed: true,
+    ..NO_MARKS
 };
 
 impl Looks {
@@ -46,12 +67,8 @@ impl Row {
     pub fn asked(self, looks: Looks, effect: &Effect) -> Effect
         ensures { result ≡ spec.asked looks self effect.now }
     {
-        let kept = Effect::unchanged();
         match self {
-            Row::Clear => Effect {
-                erasure: Erasure::Screen,
-                ..at(0, 0)
-            },
+            Row::Clear => clearing(),
             Row::Cup(row, col) => at(row, col),
             Row::Home => at(0, 0),
             Row::Cr => at_col(0),
@@ -69,29 +86,15 @@ impl Row {
             Row::El1 => erasing(Erasure::Head, effect),
             Row::Ed => erasing(Erasure::Rest, effect),
             Row::Ech(n) => erasing(Erasure::Next(n), effect),
-            Row::Csr(top, bottom) => Effect {
-                row: effect.row,
-                col: effect.col,
-                ends_pending: effect.ends_pending,
-                margins: Some(Region { top, bottom }),
-                ..kept
-            },
+            Row::Csr(top, bottom) => bounding(top, bottom, effect),
             Row::Ind => scrolling(Scroll::Up, effect),
             Row::Ri => scrolling(Scroll::Down, effect),
             Row::Civis => showing(Switch::Off),
             Row::Cnorm => showing(Switch::On),
             Row::Cvvis => showing(on_or_kept(is_on(effect.visible))),
-            Row::Smcup | Row::Rmcup => Effect {
-                scroll: Scroll::Still,
-                margins: None,
-                visible: Switch::Kept,
-                ..*effect
-            },
-            Row::Enacs | Row::Smacs | Row::Rmacs => Effect {
-                charset: effect.charset,
-                ..kept
-            },
-            Row::Bel => kept,
+            Row::Smcup | Row::Rmcup => entering(effect),
+            Row::Enacs | Row::Smacs | Row::Rmacs => choosing(effect),
+            Row::Bel => Effect::unchanged(),
             Row::Sgr(_) | Row::Sgr0 | Row::Smso => asked_of_rendition(self, looks, effect),
             Row::Setaf(_) | Row::Setab(_) | Row::Op => asked_of_rendition(self, looks, effect),
             Row::Smul | Row::Rev | Row::Blink => asked_of_rendition(self, looks, effect),
@@ -113,48 +116,12 @@ fn asked_of_rendition(row: Row, looks: Looks, effect: &Effect) -> Effect
         Row::Setaf(color) => inking(Ink::Color(color), Ink::Kept),
         Row::Setab(color) => inking(Ink::Kept, Ink::Color(color)),
         Row::Op => inking(Ink::Default, Ink::Default),
-        Row::Smul => turning_on(
-            Marks {
-                underline: true,
-                ..NO_MARKS
-            },
-            effect,
-        ),
-        Row::Rev => turning_on(
-            Marks {
-                negative: true,
-                ..NO_MARKS
-            },
-            effect,
-        ),
-        Row::Blink => turning_on(
-            Marks {
-                blink: true,
-                ..NO_MARKS
-            },
-            effect,
-        ),
-        Row::Dim => turning_on(
-            Marks {
-                faint: true,
-                ..NO_MARKS
-            },
-            effect,
-        ),
-        Row::Bold => turning_on(
-            Marks {
-                bold: true,
-                ..NO_MARKS
-            },
-            effect,
-        ),
-        Row::Invis => turning_on(
-            Marks {
-                concealed: true,
-                ..NO_MARKS
-            },
-            effect,
-        ),
+        Row::Smul => turning_on(UNDERLINE, effect),
+        Row::Rev => turning_on(NEGATIVE, effect),
+        Row::Blink => turning_on(BLINK, effect),
+        Row::Dim => turning_on(FAINT, effect),
+        Row::Bold => turning_on(BOLD, effect),
+        Row::Invis => turning_on(CONCEALED, effect),
         Row::Smso => turning_on(looks.standout, effect),
         _ => Effect::unchanged(),
     }
@@ -167,6 +134,16 @@ fn at(row: u16, col: u16) -> Effect
     Effect {
         row: Move::To(row),
         ..at_col(col)
+    }
+}
+
+/// The cursor goes home, and all cells are erased.
+fn clearing() -> Effect
+    ensures { result ≡ spec.clearing }
+{
+    Effect {
+        erasure: Erasure::Screen,
+        ..at(0, 0)
     }
 }
 
@@ -228,6 +205,41 @@ fn scrolling(scroll: Scroll, effect: &Effect) -> Effect
     Effect {
         scroll,
         ends_pending: effect.ends_pending,
+        ..Effect::unchanged()
+    }
+}
+
+/// The margins are these lines; the cursor may go anywhere.
+fn bounding(top: u16, bottom: u16, effect: &Effect) -> Effect
+    ensures { result ≡ spec.bounding top bottom effect.now }
+{
+    Effect {
+        row: effect.row,
+        col: effect.col,
+        ends_pending: effect.ends_pending,
+        margins: Some(Region { top, bottom }),
+        ..Effect::unchanged()
+    }
+}
+
+/// Margins and visibility stay and nothing scrolls; all else is free.
+fn entering(effect: &Effect) -> Effect
+    ensures { result ≡ spec.entering effect.now }
+{
+    Effect {
+        scroll: Scroll::Still,
+        margins: None,
+        visible: Switch::Kept,
+        ..*effect
+    }
+}
+
+/// The character sets are free, and nothing else changes.
+fn choosing(effect: &Effect) -> Effect
+    ensures { result ≡ spec.choosing effect.now }
+{
+    Effect {
+        charset: effect.charset,
         ..Effect::unchanged()
     }
 }

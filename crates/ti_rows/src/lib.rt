@@ -15,4 +15,4 @@ mod starts;
 
 pub use judging::does_as_wanted;
 pub use params::Params;
-pub use rows::{Attributes, Looks, Marks, Row};
+pub use rows::{Attributes, Looks, Marks, NO_ATTRIBUTES, NO_MARKS, Row};

@@ -3,7 +3,7 @@ ghost use Rattle.std.specs.Prelude.{◌≡◌, ◌≢◌, ◌+◌, ◌<◌, Some
 ghost use Rattle.ti_rows.specs.Names as spec;
 ghost use Rattle.ti_rows.specs.Rows as rows;
 
-use crate::rows::{Attributes, Row};
+use crate::rows::{NO_ATTRIBUTES, Row};
 use ti_caps::{Cap, Kind, at, name};
 use vt_term::Color;
 
@@ -12,17 +12,6 @@ const STRINGS: [u16; 42] = [
     1, 26, 27, 13, 5, 16, 2, 3, 111, 14, 107, 11, 112, 17, 10, 114, 19, 20, 30, 37, 7, 6, 269, 155,
     12, 8, 129, 32, 297, 34, 130, 38, 40, 360, 359, 131, 39, 25, 28, 35, 36, 127,
 ];
-
-/// No attributes.
-const NO_ATTRIBUTES: Attributes = Attributes {
-    standout: false,
-    underline: false,
-    reverse: false,
-    blink: false,
-    dim: false,
-    bold: false,
-    invisible: false,
-};
 
 /// The first parameter list of each, in the same order.
 const FIRSTS: [Row; 42] = [
@@ -121,30 +110,7 @@ impl Row {
             Row::Cuu(_) => 15,
             Row::Cuu1 => 16,
             Row::Cvvis => 17,
-            Row::Dim => 18,
-            Row::Ech(_) => 19,
-            Row::Ed => 20,
-            Row::El => 21,
-            Row::El1 => 22,
-            Row::Enacs => 23,
-            Row::Home => 24,
-            Row::Hpa(_) => 25,
-            Row::Ind => 26,
-            Row::Invis => 27,
-            Row::Op => 28,
-            Row::Rev => 29,
-            Row::Ri => 30,
-            Row::Rmacs => 31,
-            Row::Rmcup => 32,
-            Row::Setab(_) => 33,
-            Row::Setaf(_) => 34,
-            Row::Sgr(_) => 35,
-            Row::Sgr0 => 36,
-            Row::Smacs => 37,
-            Row::Smcup => 38,
-            Row::Smso => 39,
-            Row::Smul => 40,
-            Row::Vpa(_) => 41,
+            _ => order_from_dim(self),
         }
     }
 
@@ -160,6 +126,40 @@ impl Row {
         ensures { result.now ≡ spec.name_of self }
     {
         name_in_order(self.order())
+    }
+}
+
+/// The same for the names from `dim` on.
+fn order_from_dim(row: Row) -> usize
+    requires { 17 < spec.order row }
+    ensures { result ≡ spec.order row }
+{
+    match row {
+        Row::Dim => 18,
+        Row::Ech(_) => 19,
+        Row::Ed => 20,
+        Row::El => 21,
+        Row::El1 => 22,
+        Row::Enacs => 23,
+        Row::Home => 24,
+        Row::Hpa(_) => 25,
+        Row::Ind => 26,
+        Row::Invis => 27,
+        Row::Op => 28,
+        Row::Rev => 29,
+        Row::Ri => 30,
+        Row::Rmacs => 31,
+        Row::Rmcup => 32,
+        Row::Setab(_) => 33,
+        Row::Setaf(_) => 34,
+        Row::Sgr(_) => 35,
+        Row::Sgr0 => 36,
+        Row::Smacs => 37,
+        Row::Smcup => 38,
+        Row::Smso => 39,
+        Row::Smul => 40,
+        Row::Vpa(_) => 41,
+        _ => 0,
     }
 }
 

@@ -14,6 +14,17 @@ pub struct Attributes {
     pub invisible: bool,
 }
 
+/// No attribute.
+pub const NO_ATTRIBUTES: Attributes = Attributes {
+    standout: false,
+    underline: false,
+    reverse: false,
+    blink: false,
+    dim: false,
+    bold: false,
+    invisible: false,
+};
+
 /// The six marks of a rendition (ECMA-48 8.3.117, SGR).
 #[derive(Clone, Copy, Debug, PartialEq, Eq)]
 pub struct Marks {
@@ -24,6 +35,16 @@ pub struct Marks {
     pub negative: bool,
     pub concealed: bool,
 }
+
+/// No mark.
+pub const NO_MARKS: Marks = Marks {
+    bold: false,
+    faint: false,
+    underline: false,
+    blink: false,
+    negative: false,
+    concealed: false,
+};
 
 /// How each attribute looks alone: standout by any marks, each other by its own mark or by none.
 #[derive(Clone, Copy, Debug, PartialEq, Eq)]

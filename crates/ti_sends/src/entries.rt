@@ -9,7 +9,7 @@ ghost use Rattle.ti_sends.specs.Entries as spec;
 use crate::agreeing::{AgreeFault, Lines, all_agree};
 use std::alloc::Global;
 use ti_caps::{Cap, Entry, Kind, at};
-use ti_rows::{Attributes, Row};
+use ti_rows::{NO_ATTRIBUTES, Row};
 use vt_term::{Color, Size};
 
 /// What a capability is checked beside.
@@ -68,17 +68,6 @@ fn meets(entry: &Entry, group: Group) -> bool
         Group::Alone => true,
     }
 }
-
-/// No attribute of `sgr`.
-const NO_ATTRIBUTES: Attributes = Attributes {
-    standout: false,
-    underline: false,
-    reverse: false,
-    blink: false,
-    dim: false,
-    bold: false,
-    invisible: false,
-};
 
 /// Whether the entry has the row's capability and it is checked: colours where the entry can set both
 /// and take them back, single attributes where there is no `sgr`, `smacs` and `rmacs` with each other

@@ -15,15 +15,6 @@ pub(crate) enum Mark {
     Equals,
 }
 
-/// What stands before a place of a text, and what stands after the byte there.
-fn around(bytes: &[u8], at: usize) -> (&[u8], &[u8])
-    requires { at < length bytes.now }
-    ensures front { result.0.now ≡ take at bytes.now }
-    ensures back { result.1.now ≡ drop (at + 1) bytes.now }
-{
-    (bytes.split_at(at).0, bytes.split_at(at + 1).1)
-}
-
 /// Where the first line feed stands.
 fn line_end(text: &[u8]) -> Option<usize>
     ensures place { result ≡ feed_in text.now }
@@ -51,7 +42,7 @@ fn without_return(line: &[u8]) -> &[u8]
 }
 
 /// The first line of a text, and what stands after it. None where the text is empty.
-#[tactic(auto, using(crate::proofs::Layouts::line_cut, crate::proofs::Layouts::line_whole, crate::proofs::Tests::filled))]
+#[tactic(auto, using(std::proofs::lemmas::List::take_rest, crate::proofs::Layouts::line_cut, crate::proofs::Layouts::line_whole, crate::proofs::Tests::filled))]
 pub(crate) fn cut_line(text: &[u8]) -> Option<(&[u8], &[u8])>
     ensures found { IfSome result (λ x. lines_of text.now ≡ x.0.now ∷ lines_of x.1.now) }
     ensures shorter { IfSome result (λ x. length x.1.now < length text.now) }
@@ -62,10 +53,7 @@ pub(crate) fn cut_line(text: &[u8]) -> Option<(&[u8], &[u8])>
     }
     match line_end(text) {
         None => Some(text.split_at(text.len())),
-        Some(at) => {
-            let (line, rest) = around(text, at);
-            Some((without_return(line), rest))
-        }
+        Some(at) => Some((without_return(&text[..at]), &text[at + 1..])),
     }
 }
 
@@ -130,7 +118,7 @@ fn field_end(line: &[u8]) -> Option<usize>
 }
 
 /// The first field of a line that ends with a comma, and what stands after the comma.
-#[tactic(auto, using(crate::proofs::Layouts::field_cut, crate::proofs::Layouts::field_whole))]
+#[tactic(auto, using(std::proofs::lemmas::List::take_rest, crate::proofs::Layouts::field_cut, crate::proofs::Layouts::field_whole))]
 pub(crate) fn cut_field(line: &[u8]) -> Option<(&[u8], &[u8])>
     ensures found { IfSome result (λ x. cut_of line.now ≡ put_field x.0.now (cut_of x.1.now)) }
     ensures shorter { IfSome result (λ x. length x.1.now < length line.now) }
@@ -138,7 +126,7 @@ pub(crate) fn cut_field(line: &[u8]) -> Option<(&[u8], &[u8])>
 {
     match field_end(line) {
         None => None,
-        Some(at) => Some(around(line, at)),
+        Some(at) => Some((&line[..at], &line[at + 1..])),
     }
 }
 
@@ -160,8 +148,7 @@ pub(crate) fn marked(field: &[u8]) -> Option<(&[u8], Mark, &[u8])>
     let mut at = 0;
     for byte in field {
         if let Some(mark) = mark_of(*byte) {
-            let (name, value) = around(field, at);
-            return Some((name, mark, value));
+            return Some((&field[..at], mark, &field[at + 1..]));
         }
         at += 1;
     }

@@ -61,7 +61,7 @@ fn position_of(byte: u8, text: &[u8]) -> Option<usize>
 }
 
 /// What stands before the first such byte, and what after it.
-#[tactic(auto, using(crate::proofs::Cuts::cut_found, crate::proofs::Cuts::cut_none))]
+#[tactic(auto, using(std::proofs::lemmas::List::take_rest, crate::proofs::Cuts::cut_found, crate::proofs::Cuts::cut_none))]
 fn cut(byte: u8, text: &[u8]) -> Option<(&[u8], &[u8])>
     ensures found { IfSome result (λ x. spec.parts_of byte text.now ≡ x.0.now ∷ spec.parts_of byte x.1.now) }
     ensures shorter { IfSome result (λ x. length x.1.now < length text.now) }
@@ -69,18 +69,8 @@ fn cut(byte: u8, text: &[u8]) -> Option<(&[u8], &[u8])>
 {
     match position_of(byte, text) {
         None => None,
-        Some(at) => Some(before_and_behind(text, at)),
+        Some(at) => Some((&text[..at], &text[at + 1..])),
     }
-}
-
-/// What stands before and after the byte at a place.
-#[tactic(auto, using(std::proofs::lemmas::List::take_rest))]
-fn before_and_behind(bytes: &[u8], at: usize) -> (&[u8], &[u8])
-    requires { at < length bytes.now }
-    ensures before { result.0.now ≡ take at bytes.now }
-    ensures behind { result.1.now ≡ drop (at + 1) bytes.now }
-{
-    (&bytes[..at], &bytes[at + 1..])
 }
 
 /// What is found with one word more.

@@ -1,4 +1,5 @@
-use Rattle.std.proofs.Common.{◌∙◌, ap}
+use Rattle.std.proofs.Common.{◌∙◌, ◌+◌, ap}
+use Rattle.std.proofs.lemmas.List.{take_rest}
 use Rattle.ti_lines.proofs.Cutting.{around, cut_found}
 use Rattle.ti_lines.proofs.cuts.cut.Goals as goal
 
@@ -6,4 +7,4 @@ pub returns-in-None : goal.returns-in-None
 returns-in-None c = ap (around c.args.text.now) c.in-None.ensures.value ∙ cut_found c.args.byte c.args.text.now
 
 pub returns-in-Some : goal.returns-in-Some
-returns-in-Some c = rw (c.before_and_behind.ensures.before, c.before_and_behind.ensures.behind) (ap (around c.args.text.now) c.in-Some.ensures.value ∙ cut_found c.args.byte c.args.text.now)
+returns-in-Some c = rw (take_rest c.args.text.now (c.in-Some.at + 1)) (ap (around c.args.text.now) c.in-Some.ensures.value ∙ cut_found c.args.byte c.args.text.now)
