@@ -46,7 +46,7 @@ class Build:
         self.length = {}
         for it in reversed(self.names):
             self.length[it] = size_of(it) + max((self.length[other] for other in above[it]), default=0)
-        self.built, self.going, self.began = [], {}, time.monotonic()
+        self.built, self.going, self.jobs, self.began = [], {}, {}, time.monotonic()
         self.lanes = processors()
         self.is_terminal = sys.stderr.isatty()
 
@@ -68,15 +68,18 @@ class Build:
             words = ["rt", "run", "--jobs", str(jobs), "--", "--version"]
         with open(f"{folder}/out/build.log", "wb") as log:
             self.going[name] = subprocess.Popen(words, cwd=folder, stdin=subprocess.DEVNULL, stdout=log, stderr=log)
+        self.jobs[name] = jobs
 
     def start_ready(self):
-        """Begins what is ready while there are processors: one job each, but all of them for a crate that goes alone."""
-        while len(self.going) < self.lanes:
-            names = self.ready()
-            if not names:
+        """Begins what is ready while there are processors: one job each. The crate with the longest way to the program has
+        two, since the others wait for it, and all that no other crate needs."""
+        while names := self.ready():
+            free = self.lanes - sum(self.jobs[it] for it in self.going)
+            if free < 1:
                 return
-            is_alone = not self.going and len(names) == 1
-            self.start(names[0], self.lanes if is_alone else 1)
+            is_longest = all(self.length[names[0]] >= self.length[it] for it in self.going)
+            least = min(2, free) if is_longest else 1
+            self.start(names[0], max(least, free - (len(names) - 1)))
             self.tell(f"begins {names[0]}")
 
     def collect(self):
