@@ -183,9 +183,11 @@ impl Lines {
     fn drop_passed(&mut self)
         ensures { self.new ≡ self.old }
     {
-        self.buffer.rotate_left(self.from);
-        self.buffer.truncate(self.buffer.len() - self.from);
-        self.from = 0;
+        if self.from > 0 {
+            self.buffer.rotate_left(self.from);
+            self.buffer.truncate(self.buffer.len() - self.from);
+            self.from = 0;
+        }
     }
 
     /// Takes more bytes and returns how many, 0 at the end. The last is at most one past the budget.
