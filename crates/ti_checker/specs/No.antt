@@ -62,7 +62,7 @@ IsUnfitBy entry cap AcsByte = (cap ≡ acsc) × HasMisfit entry
 IsUnfitBy entry cap _ = ⊥
 
 abbrev pub IsUnfit : Content → No → Type 0
-IsUnfit entry no = IsUnfitBy entry no.cap no.cause
+IsUnfit entry refusal = IsUnfitBy entry refusal.cap refusal.cause
 
 -- ---- what is wrong with a string for a row
 
@@ -126,42 +126,39 @@ IsMisjudged rows cols row tokens NotTame = Unit {0}
 IsMisjudged rows cols row tokens cause = Misfits rows cols row tokens cause
 
 -- the entry's string for a checked row is so
-pub record HasFaulty (entry : Content) (rows cols : ℕ) (no : No) : Type 0 where
+pub record HasFaulty (entry : Content) (rows cols : ℕ) (refusal : No) : Type 0 where
   pub row : Row
-  pub cap_is : no.cap ≡ cap_of row
-  pub params_are : no.params.items ≡ params row
+  pub cap_is : refusal.cap ≡ cap_of row
+  pub params_are : refusal.params.items ≡ params row
   pub range : IsInRange rows cols row
   pub checked : is_checked entry row ≡ true
   pub string : List ℕ
   pub there : string_of entry row ≡ Some string
-  pub faulty : IsFaulty rows cols string row no.cause
+  pub faulty : IsFaulty rows cols string row refusal.cause
 
 -- ---- a no
 
 -- `NotTame`, `NotShown` and `NoMemory` claim nothing
 abbrev pub IsSoBy : Content → ℕ → ℕ → No → Cause → Type 0
-IsSoBy entry rows cols no FlagOut = IsUnfit entry no
-IsSoBy entry rows cols no Absent = IsUnfit entry no
-IsSoBy entry rows cols no AcsByte = IsUnfit entry no
-IsSoBy entry rows cols no NotTame = Unit {0}
-IsSoBy entry rows cols no NotShown = Unit {0}
-IsSoBy entry rows cols no NoMemory = Unit {0}
-IsSoBy entry rows cols no _ = HasFaulty entry rows cols no
+IsSoBy entry rows cols refusal FlagOut = IsUnfit entry refusal
+IsSoBy entry rows cols refusal Absent = IsUnfit entry refusal
+IsSoBy entry rows cols refusal AcsByte = IsUnfit entry refusal
+IsSoBy entry rows cols refusal NotTame = Unit {0}
+IsSoBy entry rows cols refusal NotShown = Unit {0}
+IsSoBy entry rows cols refusal NoMemory = Unit {0}
+IsSoBy entry rows cols refusal _ = HasFaulty entry rows cols refusal
 
 abbrev pub IsSo : Content → ℕ → ℕ → No → Type 0
-IsSo entry rows cols no = IsSoBy entry rows cols no no.cause
+IsSo entry rows cols refusal = IsSoBy entry rows cols refusal refusal.cause
 
 -- (Serves the code alone.) The same of a string whose capability has this first row.
-pub record IsFaultyOf (rows cols : ℕ) (string : List ℕ) (first : Row) (no : No) : Type 0 where
+pub record IsFaultyOf (rows cols : ℕ) (string : List ℕ) (first : Row) (refusal : No) : Type 0 where
   pub row : Row
-  pub cap_is : no.cap ≡ cap_of row
-  pub params_are : no.params.items ≡ params row
+  pub cap_is : refusal.cap ≡ cap_of row
+  pub params_are : refusal.params.items ≡ params row
   pub range : IsInRange rows cols row
   pub same_order : order row ≡ order first
-  pub faulty : IsFaulty rows cols string row no.cause
-
-abbrev pub IsSoOf : ℕ → ℕ → List ℕ → Row → No → Type 0
-IsSoOf rows cols string first no = IsFaultyOf rows cols string first no
+  pub faulty : IsFaulty rows cols string row refusal.cause
 
 abbrev pub ClaimsNothing : Cause → Type 0
 ClaimsNothing NotTame = Unit {0}

@@ -32,8 +32,8 @@ fn unverified(fault: VerifyFault) -> No
 /// with the cause. Every cause but `NotTame`, `NotShown` and `NoMemory` states a fault of the entry.
 pub fn check(alloc: Global, entry: &Entry, size: Size) -> Result<Vec<u8>, No>
     ensures conforms { IfOk result (λ text. Conforms entry.now size.rows size.cols) }
-    ensures refused { IfErr result (λ no. spec.IsSo entry.now size.rows size.cols no) }
-    ensures order { IfErr result (λ no. spec.IsFirstCause entry.now no.cause) }
+    ensures refused { IfErr result (λ refusal. spec.IsSo entry.now size.rows size.cols refusal) }
+    ensures order { IfErr result (λ refusal. spec.IsFirstCause entry.now refusal.cause) }
 {
     check_fitness(entry)?;
     let text = draft_of(alloc, entry, size)?;

@@ -50,7 +50,8 @@ fn push_line(alloc: Global, line: &RowLine, text: &mut Vec<u8>) -> Result<(), Al
 {
     let words = line.text(alloc)?;
     text.extend_from_slice(&words)?;
-    text.push(b'\n')
+    text.push(b'\n')?;
+    Ok(())
 }
 
 /// Adds the line of a row.
@@ -82,7 +83,7 @@ fn push_rows(
     text: &mut Vec<u8>,
 ) -> Result<(), No>
     requires { IsFirst size.rows size.cols first }
-    ensures { IfErr result (λ no. spec.IsSoOf size.rows size.cols string.now first no) }
+    ensures { IfErr result (λ refusal. spec.IsFaultyOf size.rows size.cols string.now first refusal) }
 {
     let mut row = first;
     loop {
@@ -107,7 +108,7 @@ fn push_cap(
     text: &mut Vec<u8>,
 ) -> Result<(), No>
     requires { IsFirst size.rows size.cols first }
-    ensures { IfErr result (λ no. spec.IsSo entry.now size.rows size.cols no) }
+    ensures { IfErr result (λ refusal. spec.IsSo entry.now size.rows size.cols refusal) }
 {
     if !is_checked(entry, first) {
         return Ok(());
@@ -120,7 +121,7 @@ fn push_cap(
 
 /// Adds the lines of all checked capabilities of the entry.
 fn push_caps(alloc: Global, entry: &Entry, size: Size, text: &mut Vec<u8>) -> Result<(), No>
-    ensures { IfErr result (λ no. spec.IsSo entry.now size.rows size.cols no) }
+    ensures { IfErr result (λ refusal. spec.IsSo entry.now size.rows size.cols refusal) }
 {
     let mut looks = NO_LOOKS;
     for order in 0..42 {
@@ -133,7 +134,7 @@ fn push_caps(alloc: Global, entry: &Entry, size: Size, text: &mut Vec<u8>) -> Re
 
 /// The certificate's text of the entry's lines, each of which was judged.
 pub(crate) fn draft_of(alloc: Global, entry: &Entry, size: Size) -> Result<Vec<u8>, No>
-    ensures { IfErr result (λ no. spec.IsSo entry.now size.rows size.cols no) }
+    ensures { IfErr result (λ refusal. spec.IsSo entry.now size.rows size.cols refusal) }
 {
     let mut text = Vec::new(alloc);
     if push_head(alloc, entry, size, &mut text).is_err() {

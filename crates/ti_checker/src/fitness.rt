@@ -82,8 +82,8 @@ fn has_misfit(entry: &Entry) -> bool
 /// Refuses an entry of which no certificate can be, whatever its strings send.
 pub(crate) fn check_fitness(entry: &Entry) -> Result<(), No>
     ensures fit { OnOk result (conforms.IsFit entry.now) }
-    ensures refused { IfErr result (λ no. spec.IsUnfit entry.now no) }
-    ensures order { IfErr result (λ no. spec.IsFirstCause entry.now no.cause) }
+    ensures refused { IfErr result (λ refusal. spec.IsUnfit entry.now refusal) }
+    ensures order { IfErr result (λ refusal. spec.IsFirstCause entry.now refusal.cause) }
 {
     if let Some(cap) = flagged(entry) {
         return Err(No::of(cap, Cause::FlagOut));

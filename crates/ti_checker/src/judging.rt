@@ -135,10 +135,12 @@ pub(crate) fn line_of(
 {
     let bytes = sent(alloc, string, row)?;
     let tokens = tokens_of(alloc, &bytes)?;
-    let effect = judged(row, &tokens, size, looks)?;
-    Ok(RowLine {
-        row,
-        bytes: Bytes::from_vec(bytes),
-        effect,
-    })
+    match judged(row, &tokens, size, looks) {
+        Ok(effect) => Ok(RowLine {
+            row,
+            bytes: Bytes::from_vec(bytes),
+            effect,
+        }),
+        Err(cause) => Err(cause),
+    }
 }

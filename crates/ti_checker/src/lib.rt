@@ -7,8 +7,6 @@ mod drafts;
 mod fitness;
 mod judging;
 mod sending;
-#[cfg(test)]
-mod tests;
 
 pub use causes::{Cause, No};
 pub use checking::check;
