@@ -32,7 +32,12 @@ fn push_hex(alloc: Global, bytes: &[u8], text: &mut Vec<u8>) -> Result<(), Alloc
 }
 
 /// The lines before those of the capabilities.
-fn push_head(alloc: Global, entry: &Entry, size: Size, text: &mut Vec<u8>) -> Result<(), AllocError> {
+fn push_head(
+    alloc: Global,
+    entry: &Entry,
+    size: Size,
+    text: &mut Vec<u8>,
+) -> Result<(), AllocError> {
     let rows = size.rows;
     let cols = size.cols;
     let first = format!(in alloc; "ticert 2 {rows} {cols}\n")?;

@@ -77,16 +77,16 @@ scrolled_at rows cols i j b row col top bottom e scrolls.Up x low lt near =
     let wide : length (line_at g i) ≡ cols = erased_wide rows cols i b row col e x lt in
     cell_at-drawn F space g i j (omega (arith, wide, near))
     ∙ chosen_from (nat_le top i && nat_le i bottom) (nat_le (i + 1) bottom) (is_erased e row col (i + 1) j) (is_erased e row col i j) (cell_at (look_at g i j) g (i + 1) j) (look_at g i j) x (filled_with b)
-        (λ h. erased_at rows cols (i + 1) j b row col e x (look_at g i j) (omega (arith, leb-true (i + 1) bottom h, low)) near)
-        (erased_at rows cols i j b row col e x space lt near)
+    (λ h. erased_at rows cols (i + 1) j b row col e x (look_at g i j) (omega (arith, leb-true (i + 1) bottom h, low)) near)
+    (erased_at rows cols i j b row col e x space lt near)
 scrolled_at rows cols i j b row col top bottom e scrolls.Down x low lt near =
     let g : Grid = erased e row col x (uniform rows cols (filled_with b)) in
     let F : ℕ → ℕ → Look → Look = λ y z old. if nat_le top y && nat_le y bottom then (if nat_le (top + 1) y then cell_at old g (y - 1) z else x) else old in
     let wide : length (line_at g i) ≡ cols = erased_wide rows cols i b row col e x lt in
     cell_at-drawn F space g i j (omega (arith, wide, near))
     ∙ chosen_from (nat_le top i && nat_le i bottom) (nat_le (top + 1) i) (is_erased e row col (i - 1) j) (is_erased e row col i j) (cell_at (look_at g i j) g (i - 1) j) (look_at g i j) x (filled_with b)
-        (λ h. erased_at rows cols (i - 1) j b row col e x (look_at g i j) (omega (arith, lt)) near)
-        (erased_at rows cols i j b row col e x space lt near)
+    (λ h. erased_at rows cols (i - 1) j b row col e x (look_at g i j) (omega (arith, lt)) near)
+    (erased_at rows cols i j b row col e x space lt near)
 
 -- ---- two effects
 
@@ -105,5 +105,5 @@ pub grids_apart : (rows cols i j : ℕ) (e f : Effect) (p : Probe) → IsSeen ro
 grids_apart rows cols i j e f p see lt near apart h =
     let x : Look = blank (screen_of rows cols p).rendition in
     apart (one_choice (becomes_blank e p i j) (becomes_blank f p i j) x (filled_with p.fill) (seen x p.fill see.fill refl)
-      (sym (scrolled_at rows cols i j p.fill p.row p.col p.top p.bottom e.erasure e.scroll x see.bottom lt near)
-      ∙ (ap (λ (g : Grid). look_at g i j) h ∙ scrolled_at rows cols i j p.fill p.row p.col p.top p.bottom f.erasure f.scroll x see.bottom lt near)))
+    (sym (scrolled_at rows cols i j p.fill p.row p.col p.top p.bottom e.erasure e.scroll x see.bottom lt near)
+    ∙ (ap (λ (g : Grid). look_at g i j) h ∙ scrolled_at rows cols i j p.fill p.row p.col p.top p.bottom f.erasure f.scroll x see.bottom lt near)))

@@ -78,7 +78,7 @@ just_shown l a m x y b f u k n c r = same_marks _ _ _ _ _ _ _ _ _ _ _ _ x y
 just_added : (l m : Marks) (r : Rendition) (x y : Option Color)
     → m.bold ≡ (l.bold || r.bold) → m.faint ≡ (l.faint || r.faint) → m.underline ≡ (l.underline || r.underline) → m.blink ≡ (l.blink || r.blink) → m.negative ≡ (l.negative || r.negative) → m.concealed ≡ (l.concealed || r.concealed)
     → marked (record { bold = l.bold || r.bold; faint = l.faint || r.faint; underline = l.underline || r.underline; blink = l.blink || r.blink; negative = l.negative || r.negative; concealed = l.concealed || r.concealed }) x y
-      ≡ record (rendered (with_marks_on m) r) { foreground = x; background = y }
+    ≡ record (rendered (with_marks_on m) r) { foreground = x; background = y }
 just_added l m r x y b f u k n c = same_marks _ _ _ _ _ _ _ _ _ _ _ _ x y
     (added_mark m.bold l.bold r.bold b ∙ or_kept m.bold r.bold) (added_mark m.faint l.faint r.faint f ∙ or_kept m.faint r.faint)
     (added_mark m.underline l.underline r.underline u ∙ or_kept m.underline r.underline) (added_mark m.blink l.blink r.blink k ∙ or_kept m.blink r.blink)
@@ -100,7 +100,7 @@ standout_asked rows cols l e p h =
     let m : Marks = marks_after e.rendition p.look in
     h ∙ ap (λ (r : Rendition). record s { rendition = r; charset = (applied e s).charset })
     (just_added l.standout m s.rendition p.foreground p.background (ap (λ (t : Screen). t.rendition.bold) h) (ap (λ (t : Screen). t.rendition.faint) h) (ap (λ (t : Screen). t.rendition.underline) h)
-      (ap (λ (t : Screen). t.rendition.blink) h) (ap (λ (t : Screen). t.rendition.negative) h) (ap (λ (t : Screen). t.rendition.concealed) h))
+    (ap (λ (t : Screen). t.rendition.blink) h) (ap (λ (t : Screen). t.rendition.negative) h) (ap (λ (t : Screen). t.rendition.concealed) h))
 
 one_end : (rows cols : ℕ) (l : Looks) (row : Row) (e : Effect) (p : Probe) → has_choice row ≡ false → Starts rows cols row (screen_of rows cols p)
     → Wants l row (screen_of rows cols p) (applied e (screen_of rows cols p)) → EndAlike e (wanted_end (seen_by e p) row e) (screen_of rows cols p)
@@ -163,13 +163,13 @@ two_inks rows cols l a e p (inl h) =
     let m : Marks = marks_after e.rendition p.look in
     inr (h ∙ ap (λ (r : Rendition). record s { rendition = r; charset = (applied e s).charset })
     (just_shown l a m p.foreground p.background (ap (λ (t : Screen). t.rendition.bold) h) (ap (λ (t : Screen). t.rendition.faint) h) (ap (λ (t : Screen). t.rendition.underline) h)
-      (ap (λ (t : Screen). t.rendition.blink) h) (ap (λ (t : Screen). t.rendition.negative) h) (ap (λ (t : Screen). t.rendition.concealed) h) s.rendition))
+    (ap (λ (t : Screen). t.rendition.blink) h) (ap (λ (t : Screen). t.rendition.negative) h) (ap (λ (t : Screen). t.rendition.concealed) h) s.rendition))
 two_inks rows cols l a e p (inr h) =
     let s : Screen = screen_of rows cols p in
     let m : Marks = marks_after e.rendition p.look in
     inl (h ∙ ap (λ (r : Rendition). record s { rendition = r; charset = (applied e s).charset })
     (just_shown l a m None None (ap (λ (t : Screen). t.rendition.bold) h) (ap (λ (t : Screen). t.rendition.faint) h) (ap (λ (t : Screen). t.rendition.underline) h)
-      (ap (λ (t : Screen). t.rendition.blink) h) (ap (λ (t : Screen). t.rendition.negative) h) (ap (λ (t : Screen). t.rendition.concealed) h) s.rendition))
+    (ap (λ (t : Screen). t.rendition.blink) h) (ap (λ (t : Screen). t.rendition.negative) h) (ap (λ (t : Screen). t.rendition.concealed) h) s.rendition))
 
 appeared : (rows cols : ℕ) (l : Looks) (e : Effect) (p : Probe) → Wants l Cvvis (screen_of rows cols p) (applied e (screen_of rows cols p)) → TwoEnds rows cols Cvvis e p
 appeared rows cols l e p (inl h) = inl h

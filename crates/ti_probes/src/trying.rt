@@ -63,12 +63,20 @@ fn color_by(on: bool, color: Color) -> Option<Color> {
 
 /// A state with the cursor in a corner of the start's rows and columns.
 fn probe_by(choices: Choices, start: &Start, size: Size) -> Probe {
-    let row = if choices.low { start.row_max } else { start.row_min };
+    let row = if choices.low {
+        start.row_max
+    } else {
+        start.row_min
+    };
     let last = (size.rows - 1) as u16;
     let (top, bottom) = region_by(choices.narrow, start.margins, row, last);
     Probe {
         row,
-        col: if choices.right { start.col_max } else { start.col_min },
+        col: if choices.right {
+            start.col_max
+        } else {
+            start.col_min
+        },
         pending: choices.pending && start.pending,
         top,
         bottom,
