@@ -1,5 +1,5 @@
 -- What is wrong with a row of a checked capability is wrong with the entry.
-use Rattle.std.proofs.Common.{◌≡◌, ◌+◌, ◌==◌, ◌&&◌, ℕ, true, false, List, Option, Some, if◌then◌else◌, refl, sym, ap, ◌∙◌}
+use Rattle.std.proofs.Common.{◌≡◌, ◌+◌, ◌==◌, ◌&&◌, ℕ, true, List, Option, Some, if◌then◌else◌, refl, sym, ap, ◌∙◌}
 use Rattle.std.specs.Prelude.{is_some, Result, Ok, Err, IfErr}
 use Rattle.ti_caps.specs.Entry.{Content, string_at}
 use Rattle.ti_rows.specs.declared.rows.Row.{Row}

@@ -1,5 +1,5 @@
 -- When a no is so.
-use Rattle.std.specs.Prelude.{ℕ, ◌≡◌, ◌⊎◌, ◌<◌, ◌==◌, ◌&&◌, ◌||◌, Bool, true, false, List, [], ◌∷◌, Option, Some, None, Err, is_some}
+use Rattle.std.specs.Prelude.{ℕ, ◌≡◌, ◌==◌, ◌&&◌, ◌||◌, Bool, true, false, List, Some, None, Err, is_some}
 use Rattle.ti_caps.specs.Entry.{Content, flag_at, number_at, string_at}
 use Rattle.ti_parm.specs.Meaning.{meaning}
 use Rattle.ti_parm.specs.Value.{zeros}

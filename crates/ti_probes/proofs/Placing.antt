@@ -1,5 +1,5 @@
 -- The cells after an effect, where all were alike before it.
-use Rattle.std.proofs.Common.{◌≡◌, ℕ, ◌+◌, ◌-◌, ◌<◌, ◌≤◌, ◌==◌, ◌&&◌, ◌||◌, Bool, true, false, if◌then◌else◌, length, refl, sym, ap, ◌∙◌, subst, arith}
+use Rattle.std.proofs.Common.{◌≡◌, ℕ, ◌+◌, ◌-◌, ◌<◌, ◌≤◌, ◌==◌, ◌&&◌, ◌||◌, Bool, true, false, if◌then◌else◌, length, refl, sym, ap, ◌∙◌, arith}
 use Rattle.std.proofs.lemmas.Bool.{leb-true}
 use Rattle.std.proofs.lemmas.List.{get_or-replicate, length-replicate}
 use Rattle.std.specs.Prelude.{List, [], nat_le, nat_lt, replicate, slice_index_or}
@@ -12,7 +12,7 @@ use Rattle.vt_effects.specs.declared.effects.Erasure.{Erasure}
 use Rattle.vt_effects.specs.declared.effects.Erasure.TheVariants as erasures
 use Rattle.vt_effects.specs.declared.effects.Scroll.{Scroll}
 use Rattle.vt_effects.specs.declared.effects.Scroll.TheVariants as scrolls
-use Rattle.vt_effects.specs.Effect.{applied, erased, scrolled}
+use Rattle.vt_effects.specs.Effect.{erased, scrolled}
 use Rattle.ti_probes.specs.Probe.{IsSeen, filled_with, screen_of}
 use Rattle.ti_probes.specs.Cells.{is_erased, is_blank_after, becomes_blank, HaveOneGrid}
 use Rattle.ti_probes.specs.declared.probes.Probe.{Probe}

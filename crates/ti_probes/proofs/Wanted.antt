@@ -1,12 +1,11 @@
 -- What is wanted of an effect's end is the end of the effect that the table asks for.
-use Rattle.std.proofs.Common.{◌≡◌, ℕ, Bool, true, false, ◌&&◌, ◌||◌, if◌then◌else◌, Option, None, ◌⊎◌, inl, inr, refl, sym, ap, ◌∙◌, subst}
+use Rattle.std.proofs.Common.{◌≡◌, ℕ, Bool, true, false, ◌&&◌, ◌||◌, if◌then◌else◌, Option, None, ◌⊎◌, inl, inr, refl, sym, ap, ◌∙◌}
 use Rattle.std.proofs.lemmas.Bool.{true≢false}
 use Rattle.vt_term.specs.Color.{Color}
 use Rattle.vt_term.specs.Look.{Rendition}
 use Rattle.vt_term.specs.Screen.{Screen}
 use Rattle.vt_effects.specs.declared.effects.Effect.{Effect}
 use Rattle.vt_effects.specs.declared.effects.Ink.TheVariants as inks
-use Rattle.vt_effects.specs.declared.effects.Switch.TheVariants as switches
 use Rattle.vt_effects.specs.Effect.{applied, switched, rendered}
 use Rattle.vt_effects.specs.Record.{switch_of}
 use Rattle.ti_rows.specs.declared.rows.Attributes.{Attributes}
@@ -16,7 +15,7 @@ use Rattle.ti_rows.specs.declared.rows.Row.{Row}
 use Rattle.ti_rows.specs.declared.rows.Row.TheVariants.{Clear, Cup, Home, Cr, Hpa, Vpa, Cub1, Cuf1, Cuu1, Cud1, Cub, Cuf, Cuu, Cud, El, El1, Ed, Ech, Sgr, Sgr0, Setaf, Setab, Op, Smul, Rev, Blink, Dim, Bold, Invis, Smso, Enacs, Smacs, Rmacs, Csr, Ind, Ri, Civis, Cnorm, Cvvis, Smcup, Rmcup, Bel}
 use Rattle.ti_rows.specs.Looks.{shown}
 use Rattle.ti_rows.specs.Starts.{Starts}
-use Rattle.ti_rows.specs.Wants.{Wants, HasJust, Appears, marked, adding}
+use Rattle.ti_rows.specs.Wants.{Wants, marked}
 use Rattle.ti_rows.specs.Asked.{asked, on_or_kept, just, with_marks_on}
 use Rattle.ti_probes.specs.Probe.{screen_of}
 use Rattle.ti_probes.specs.Breaking.{has_choice, wanted_end, with_defaults, without_defaults, marks_after, looks_of, EndAlike, NotWanted}

@@ -1,6 +1,6 @@
 -- What a string wrongly does, seen from a probe.
 use Rattle.std.specs.Prelude.{ℕ, ◌≡◌, Bool, true, false, if◌then◌else◌, List, [], Some, None}
-use Rattle.vt_term.specs.Screen.{Screen, State}
+use Rattle.vt_term.specs.Screen.{Screen}
 use Rattle.vt_effects.specs.declared.effects.Effect.{Effect}
 use Rattle.vt_effects.specs.declared.effects.Rendering.{Rendering}
 use Rattle.vt_effects.specs.declared.effects.Ink.TheVariants as inks
