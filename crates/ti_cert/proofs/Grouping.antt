@@ -1,5 +1,5 @@
 -- One more string in its capability's group.
-use Rattle.std.proofs.Common.{◌≡◌, ◌≢◌, ◌⊎◌, ◌<◌, ◌≤◌, ◌==◌, nat_lt, ℕ, zero, suc, Bool, true, false, if◌then◌else◌, List, [], ◌∷◌, ◌++◌, length, slice_index_or, slice_set, Option, Some, None, inl, inr, refl, sym, ap, ◌∙◌, subst, arith, not}
+use Rattle.std.proofs.Common.{◌≡◌, ◌≢◌, ◌⊎◌, ◌<◌, ◌==◌, ℕ, zero, suc, Bool, true, false, if◌then◌else◌, ◌||◌, List, [], ◌∷◌, ◌++◌, length, length-append, slice_index_or, slice_set, Option, Some, None, inl, inr, refl, sym, ap, ◌∙◌, subst, arith, not}
 use Rattle.std.specs.List.{slice_get}
 use Rattle.std.proofs.lemmas.List.{get_or-set_same, get_or-set_other}
 use Rattle.std.proofs.lemmas.Bool.{true≢false}
@@ -51,7 +51,7 @@ there_within s row bytes h =
     let p = if_some (allows s.rows s.cols row) (slice_get (group_at s (order row)) (rank s.rows s.cols row)) bytes h in
     slice_get_within (group_at s (order row)) (rank s.rows s.cols row) bytes p.1
 
-not_zero : (n k : ℕ) → k < n → not (n == 0) ≡ true
+pub not_zero : (n k : ℕ) → k < n → not (n == 0) ≡ true
 not_zero zero k h = let wrong : ⊥ = omega arith in absurd wrong
 not_zero (suc n) k h = not_false (suc n == 0) (grind (arith, nat_tests))
   where
@@ -61,6 +61,15 @@ not_zero (suc n) k h = not_false (suc n == 0) (grind (arith, nat_tests))
 
 pub there_some : (s : Strings) (row : Row) (bytes : List ℕ) → string_in s row ≡ Some bytes → has_group s row ≡ true
 there_some s row bytes h = not_zero (length (group_at s (order row))) (rank s.rows s.cols row) (there_within s row bytes h)
+
+not_empty : (xs : List (List ℕ)) (x : List ℕ) → not (length (xs ++ x ∷ []) == 0) ≡ true
+not_empty xs x = not_zero (length (xs ++ x ∷ [])) 0 (omega (arith, length-append xs (x ∷ [])))
+
+same_places : (a b : ℕ) → (a == b) ≡ true → a ≡ b
+same_places a b h = grind (arith, nat_tests)
+
+other_places : (a b : ℕ) → (a == b) ≡ false → a ≢ b
+other_places a b h = λ e. grind (arith, nat_tests)
 
 pub adds : (rows cols : ℕ) (groups : List (List (List ℕ))) (row : Row) (bytes : List ℕ) (g : List (List ℕ)) → length groups ≡ 42 → allows rows cols row ≡ true
     → rank rows cols row ≡ length (slice_index_or groups (order row) []) → g ≡ slice_index_or groups (order row) [] ++ bytes ∷ []
@@ -75,6 +84,7 @@ adds rows cols groups row bytes g many fits place made = record {
       let w = there_within old other found h in
       let w2 : rank rows cols other < length before = subst (λ (n : ℕ). rank rows cols other < length (slice_index_or groups n [])) same w in
       is_less (rank rows cols other) (rank rows cols row) (omega (arith, w2, place));
+  groups = λ other. joined other (order other == order row) refl;
 }
   where
     old : Strings
@@ -88,6 +98,11 @@ adds rows cols groups row bytes g many fits place made = record {
 
     here : slice_index_or (slice_set groups (order row) g) (order row) [] ≡ g
     here = get_or-set_same groups (order row) g [] (subst (λ (n : ℕ). order row < n) (sym many) (orders_small row))
+
+    joined : (other : Row) (b : Bool) → (order other == order row) ≡ b → has_group new other ≡ (b || has_group old other)
+    joined other true e = ap (λ (n : ℕ). not (length (slice_index_or (slice_set groups (order row) g) n []) == 0)) (same_places (order other) (order row) e)
+        ∙ (ap (λ (xs : List (List ℕ)). not (length xs == 0)) (here ∙ made) ∙ not_empty before bytes)
+    joined other false e = ap (λ (xs : List (List ℕ)). not (length xs == 0)) (get_or-set_other groups (order row) (order other) g [] (other_places (order other) (order row) e))
 
     in_group : (other : Row) (found : List ℕ) → allows rows cols other ≡ true → order other ≡ order row
         → (slice_get before (rank rows cols other) ≡ Some found) ⊎ ((rank rows cols other ≡ length before) × (found ≡ bytes)) → (string_in old other ≡ Some found) ⊎ ((other ≡ row) × (found ≡ bytes))

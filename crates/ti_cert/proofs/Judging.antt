@@ -1,5 +1,5 @@
 -- The lines of a certificate that was read to its end are judged.
-use Rattle.std.proofs.Common.{◌≡◌, ◌⊎◌, ◌<◌, ◌-◌, ◌&&◌, ℕ, Bool, true, false, List, [], ◌∷◌, ◌++◌, Option, Some, None, inl, inr, refl, sym, ap, ◌∙◌, subst, append_assoc, append-nil}
+use Rattle.std.proofs.Common.{◌≡◌, ◌-◌, ◌&&◌, ℕ, Bool, true, false, List, [], ◌∷◌, ◌++◌, Option, Some, None, inl, inr, refl, sym, ap, ◌∙◌, subst, append_assoc, append-nil}
 use Rattle.std.specs.Prelude.{is_some}
 use Rattle.std.specs.List.{AllByRecursion}
 use Rattle.std.proofs.lemmas.Option.{same_Some, none-some}
@@ -18,14 +18,14 @@ use Rattle.vt_effects.specs.Settings.{SetsAs}
 use Rattle.vt_effects.proofs.Saying.{records_tell}
 use Rattle.ti_charsets.specs.declared.reach.Reach.{Reach}
 use Rattle.ti_charsets.specs.declared.closing.Charsets.{Charsets}
-use Rattle.ti_charsets.specs.Charsets.{charset_after, charset_over, reset_charset, IsAmong, Reached, AtReset, AfterToken, can_have, reach_of}
+use Rattle.ti_charsets.specs.Charsets.{charset_after, charset_over, reset_charset, IsAmong, Reached, AtReset, AfterToken, can_have}
 use Rattle.ti_charsets.specs.Closing.{Settled, First, After, SomeLeads, Leaves, designated_all}
 use Rattle.ti_charsets.specs.Closing as closing
 use Rattle.ti_charsets.proofs.Reaching.{reached_can, can_reached}
 use Rattle.ti_rows.specs.declared.rows.Row.{Row}
 use Rattle.ti_rows.specs.declared.rows.Row.TheVariants.{Clear, Cup, Home, Cr, Hpa, Vpa, Cub1, Cuf1, Cuu1, Cud1, Cub, Cuf, Cuu, Cud, El, El1, Ed, Ech, Sgr, Sgr0, Setaf, Setab, Op, Smul, Rev, Blink, Dim, Bold, Invis, Smso, Enacs, Smacs, Rmacs, Csr, Ind, Ri, Civis, Cnorm, Cvvis, Smcup, Rmcup, Bel}
-use Rattle.ti_rows.specs.Asked.{start_of, asked}
-use Rattle.ti_checked.specs.Table.{or_nothing, part, resync, has, widening, keeps_settled, Activates}
+use Rattle.ti_rows.specs.Asked.{start_of}
+use Rattle.ti_checked.specs.Table.{or_nothing, resync, Activates}
 use Rattle.ti_checked.specs.Judged.{JudgedLine, ChangesSets, NoLine, ByLine, changed, left_of, IsJudged}
 use Rattle.ti_cert.specs.Strings.{Strings, string_in, has_group}
 use Rattle.ti_cert.specs.Audit.{Known, IsKept, IsChange, Holds}

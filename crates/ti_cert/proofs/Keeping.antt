@@ -1,10 +1,9 @@
 -- What is known of lines stays so when one more line is known.
-use Rattle.std.proofs.Common.{◌≡◌, ◌⊎◌, ◌<◌, nat_lt, ℕ, Bool, true, false, if◌then◌else◌, List, [], ◌∷◌, ◌++◌, Option, Some, None, inl, inr, refl, sym, ap, ◌∙◌, subst, arith}
+use Rattle.std.proofs.Common.{◌≡◌, ◌⊎◌, ◌<◌, nat_lt, ℕ, Bool, true, false, if◌then◌else◌, List, [], ◌∷◌, ◌++◌, Some, inl, inr, refl, sym, ap, ◌∙◌, subst}
 use Rattle.std.specs.Prelude.{replicate}
 use Rattle.vt_term.specs.Text.{Splits}
 use Rattle.vt_effects.specs.declared.effects.Effect.{Effect}
 use Rattle.vt_effects.specs.declared.effects.Sets.{Sets}
-use Rattle.vt_effects.specs.Record.{record_of}
 use Rattle.ti_charsets.specs.Charsets.{IsAmong, reach_of, joined}
 use Rattle.ti_charsets.specs.declared.reach.Reach.{Reach}
 use Rattle.ti_charsets.proofs.Reaching.{reach_of-append}
@@ -17,12 +16,14 @@ use Rattle.ti_rows.specs.Bits.{number_of}
 use Rattle.ti_rows.specs.Names.{order, no_attributes}
 use Rattle.ti_rows.specs.Lists.{rank}
 use Rattle.ti_rows.specs.Looks.{learned, shown}
-use Rattle.ti_rows.specs.Asked.{start_of, asked, rendering, just, ink_of, defaults_both_inks, with_marks_on}
+use Rattle.ti_rows.specs.Asked.{asked, rendering, just, ink_of, defaults_both_inks, with_marks_on}
 use Rattle.ti_rows.proofs.Telling.{earlier_kept}
 use Rattle.ti_checked.specs.Table.{keeps_settled}
 use Rattle.ti_cert.specs.Strings.{Strings, string_in, has_group, Adds}
 use Rattle.ti_cert.specs.Audit.{Known, rival, looks_with, HasRecord, IsKept, IsChange, Holds, with_change}
+use Rattle.ti_cert.specs.Singles.{LooksAlone, no_looks}
 use Rattle.ti_cert.proofs.Ranges.{less}
+use Rattle.ti_cert.proofs.Singling.{looks_more}
 use Rattle.ti_cert.proofs.Grouping.{there_some, none_at_first}
 
 -- what the table asks depends on the looks in the rows of `sgr` and `smso` alone
@@ -178,6 +179,7 @@ holds_more k strings row bytes tokens effect looks reach changes h a whole looks
   reach_is = reach_so ∙ (ap (λ (r : Reach). joined r (reach_of tokens)) h.reach_is ∙ sym (reach_of-append h.all tokens));
   lines = λ r b there. line r b (a.only r b there);
   changes = λ x among. change x (which_among (keeps_settled row) k.changes effect.charset x (subst (λ (xs : List Sets). IsAmong xs x) changes_so among));
+  looks = subst (λ (l : Looks). LooksAlone (λ r. has_group strings r) l) (sym looks_are) (looks_more k strings row bytes effect a h.looks);
 }
   where
     new : Known
@@ -228,11 +230,15 @@ holds_to k s l q x is strings row bytes tokens effect looks reach changes h a w 
     (subst (λ (y : Known). Adds y.strings strings row bytes) is a) w lo has
     (re ∙ ap (λ (y : Known). joined y.reach (reach_of tokens)) is) (ch ∙ ap (λ (y : Known). with_change (keeps_settled row) y.changes effect.charset) is)
 
-pub holds_at_first : (strings : Strings) (looks : Looks) (reach : Reach) (changes : List Sets) (rows cols : ℕ) → strings ≡ record { rows = rows; cols = cols; groups = replicate 42 [] } → reach ≡ reach_of [] → changes ≡ []
-    → Holds (record { strings = strings; looks = looks; reach = reach; changes = changes })
-holds_at_first strings looks reach changes rows cols s r c = record {
+looks_at_first : (rows cols : ℕ) → LooksAlone (λ row. has_group (record { rows = rows; cols = cols; groups = replicate 42 [] }) row) no_looks
+looks_at_first rows cols off = record { underline = refl; reverse = refl; blink = refl; dim = refl; bold = refl; invisible = refl; standout = λ none. refl }
+
+pub holds_at_first : (strings : Strings) (reach : Reach) (changes : List Sets) (rows cols : ℕ) → strings ≡ record { rows = rows; cols = cols; groups = replicate 42 [] } → reach ≡ reach_of [] → changes ≡ []
+    → Holds (record { strings = strings; looks = no_looks; reach = reach; changes = changes })
+holds_at_first strings reach changes rows cols s r c = record {
   all = [];
   reach_is = r;
   lines = λ row bytes there. absurd (none_at_first rows cols row bytes (subst (λ (x : Strings). string_in x row ≡ Some bytes) s there));
   changes = λ x among. absurd (subst (λ (xs : List Sets). IsAmong xs x) c among);
+  looks = subst (λ (x : Strings). LooksAlone (λ row. has_group x row) no_looks) (sym s) (looks_at_first rows cols);
 }

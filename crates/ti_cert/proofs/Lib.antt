@@ -1,5 +1,6 @@
 pub mod Ranges
 pub mod Grouping
+pub mod Singling
 pub mod Keeping
 pub mod Judging
 pub mod Accepted

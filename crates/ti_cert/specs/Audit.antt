@@ -1,7 +1,6 @@
 -- What is known of the lines that were judged so far.
-use Rattle.std.specs.Prelude.{ℕ, ◌≡◌, Bool, true, false, if◌then◌else◌, List, [], ◌∷◌, ◌++◌, Option, Some, None}
+use Rattle.std.specs.Prelude.{ℕ, ◌≡◌, Bool, true, false, if◌then◌else◌, List, [], ◌∷◌, ◌++◌, Some}
 use Rattle.vt_term.specs.Text.{Splits}
-use Rattle.vt_term.specs.Screen.{Charset}
 use Rattle.vt_effects.specs.declared.effects.Effect.{Effect}
 use Rattle.vt_effects.specs.declared.effects.Sets.{Sets}
 use Rattle.vt_effects.specs.Record.{record_of}
@@ -15,6 +14,7 @@ use Rattle.ti_rows.specs.Looks.{learned}
 use Rattle.ti_rows.specs.Asked.{start_of, asked}
 use Rattle.ti_checked.specs.Table.{keeps_settled}
 use Rattle.ti_cert.specs.Strings.{Strings, string_in, has_group}
+use Rattle.ti_cert.specs.Singles.{LooksAlone}
 
 -- what lines have told so far
 pub record Known : Type 0 where
@@ -62,6 +62,7 @@ pub record Holds (k : Known) : Type 0 where
   pub reach_is : k.reach ≡ reach_of all
   pub lines : (row : Row) (bytes : List ℕ) → string_in k.strings row ≡ Some bytes → IsKept k all row bytes
   pub changes : (change : Sets) → IsAmong k.changes change → IsChange all change
+  pub looks : LooksAlone (λ row. has_group k.strings row) k.looks
 
 -- the changes with that of one more line
 abbrev pub with_change : Bool → List Sets → Sets → List Sets

@@ -1,5 +1,5 @@
 -- What is known while a certificate is read.
-use Rattle.std.specs.Prelude.{ℕ, ◌≡◌}
+use Rattle.std.specs.Prelude.{◌≡◌}
 use Rattle.ti_checked.specs.Judged.{IsJudged}
 use Rattle.ti_cert.specs.Audit.{Known, Holds}
 use Rattle.ti_cert.specs.Table.{checked_of}

@@ -1,5 +1,5 @@
 -- The strings of a certificate: for each checked capability those of its parameter lists, in ascending order.
-use Rattle.std.specs.Prelude.{ℕ, ◌≡◌, ◌⊎◌, ◌&&◌, nat_le, nat_lt, Bool, true, false, not, ◌==◌, if◌then◌else◌, List, [], Option, Some, None, length, slice_index_or}
+use Rattle.std.specs.Prelude.{ℕ, ◌≡◌, ◌⊎◌, ◌&&◌, ◌||◌, nat_le, nat_lt, Bool, true, not, ◌==◌, if◌then◌else◌, List, [], Option, Some, None, length, slice_index_or}
 use Rattle.std.specs.List.{slice_get}
 use Rattle.ti_rows.specs.declared.rows.Row.{Row}
 use Rattle.ti_rows.specs.declared.rows.Row.TheVariants.{Cup, Hpa, Vpa, Cub, Cuf, Cuu, Cud, Ech, Csr}
@@ -44,3 +44,4 @@ pub record Adds (old new : Strings) (row : Row) (bytes : List ℕ) : Type 0 wher
   pub only : (other : Row) (found : List ℕ) → string_in new other ≡ Some found → (string_in old other ≡ Some found) ⊎ ((other ≡ row) × (found ≡ bytes))
   pub there : string_in new row ≡ Some bytes
   pub later : (other : Row) (found : List ℕ) → string_in old other ≡ Some found → order other ≡ order row → nat_lt (rank old.rows old.cols other) (rank old.rows old.cols row) ≡ true
+  pub groups : (other : Row) → has_group new other ≡ (order other == order row || has_group old other)

@@ -1,5 +1,5 @@
 -- The table that a certificate makes, and what is known of it.
-use Rattle.std.specs.Prelude.{ℕ, ◌-◌, ◌≡◌, ◌&&◌, not, Bool, true, false, if◌then◌else◌, List, [], ◌∷◌, Option, Some, None, length, is_some}
+use Rattle.std.specs.Prelude.{ℕ, ◌-◌, ◌≡◌, Bool, true, List, [], ◌∷◌, Option, Some, None}
 use Rattle.vt_effects.specs.declared.effects.Sets.{Sets}
 use Rattle.vt_effects.specs.declared.effects.Switch.TheVariants as switches
 use Rattle.vt_effects.specs.Effect.{designated}
@@ -11,11 +11,10 @@ use Rattle.ti_charsets.specs.declared.closing.Charsets.{Charsets}
 use Rattle.ti_charsets.specs.Charsets.{can_have}
 use Rattle.ti_charsets.specs.Closing as closing
 use Rattle.ti_rows.specs.declared.rows.Row.{Row}
-use Rattle.ti_rows.specs.declared.rows.Row.TheVariants.{Clear, Sgr0, Csr, Smacs, Rmacs, Smcup, Enacs}
+use Rattle.ti_rows.specs.declared.rows.Row.TheVariants.{Clear, Sgr0, Csr, Rmacs, Smcup, Enacs}
 use Rattle.ti_rows.specs.Asked.{start_of}
 use Rattle.ti_checked.specs.Table as checked
-use Rattle.ti_checked.specs.Judged.{changed}
-use Rattle.ti_cert.specs.Strings.{Strings, string_in, has_group}
+use Rattle.ti_cert.specs.Strings.{Strings, string_in}
 use Rattle.ti_cert.specs.Audit.{Known}
 
 -- the strings with what tells how they may be used

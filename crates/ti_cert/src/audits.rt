@@ -2,6 +2,7 @@
 
 ghost use Rattle.std.specs.Prelude.{◌≡◌, ◌<◌, ◌≤◌, ◌+◌, length, take, true, IfOk, OnOk};
 ghost use Rattle.ti_cert.specs.Good.{IsGood};
+ghost use Rattle.ti_cert.specs.Singles.{LooksStand};
 ghost use Rattle.ti_cert.specs.Table.{table_of};
 ghost use Rattle.ti_checked.specs.Judged.{IsJudged};
 
@@ -181,6 +182,7 @@ impl From<Halt> for CertFaultKind {
 /// The first fault of the text with its line, `ReadFailed` where the reader failed, and `NoMemory`.
 pub fn audit_from<R: Reader>(alloc: Global, reader: &mut R, size: Size) -> Result<Table, CertFault>
     ensures judged { IfOk result (λ table. IsJudged (table_of table)) }
+    ensures looks { IfOk result (λ table. LooksStand (table_of table)) }
     ensures rows { IfOk result (λ table. table.known.strings.rows ≡ size.rows) }
     ensures cols { IfOk result (λ table. table.known.strings.cols ≡ size.cols) }
 {
@@ -212,6 +214,7 @@ fn started(alloc: Global, size: Size) -> Result<Progress, CertFault>
 fn closed(progress: Progress, line: u64) -> Result<Table, CertFault>
     requires { IsGood progress }
     ensures judged { IfOk result (λ table. IsJudged (table_of table)) }
+    ensures looks { IfOk result (λ table. LooksStand (table_of table)) }
     ensures rows { IfOk result (λ t. t.known.strings.rows ≡ progress.size.rows) }
     ensures cols { IfOk result (λ t. t.known.strings.cols ≡ progress.size.cols) }
 {
@@ -260,6 +263,7 @@ fn advance<R: Reader>(
 /// The first fault of the text with its line, and `NoMemory`.
 pub fn audit(alloc: Global, text: &[u8], size: Size) -> Result<Table, CertFault>
     ensures judged { IfOk result (λ table. IsJudged (table_of table)) }
+    ensures looks { IfOk result (λ table. LooksStand (table_of table)) }
     ensures rows { IfOk result (λ table. table.known.strings.rows ≡ size.rows) }
     ensures cols { IfOk result (λ table. table.known.strings.cols ≡ size.cols) }
 {

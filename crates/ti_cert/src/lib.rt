@@ -9,8 +9,6 @@ mod known;
 mod places;
 mod strings;
 mod table;
-#[cfg(test)]
-mod tests;
 mod verifying;
 
 pub use agreeing::agrees;

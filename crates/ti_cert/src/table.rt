@@ -2,6 +2,7 @@
 
 ghost use Rattle.std.specs.Prelude.{◌≡◌, option_copied};
 ghost use Rattle.ti_checked.specs.Judged.{IsJudged};
+ghost use Rattle.ti_cert.specs.Singles.{LooksStand};
 ghost use Rattle.ti_cert.specs.Strings.{string_in};
 ghost use Rattle.ti_cert.specs.Table as spec;
 
@@ -23,18 +24,20 @@ pub struct Table {
 
 impl Model for Table {
     ghost use Rattle.ti_checked.specs.Judged.{IsJudged};
+    ghost use Rattle.ti_cert.specs.Singles.{LooksStand};
     ghost use Rattle.ti_cert.specs.Table.{Content, checked_of};
 
     ghost Value = { Content };
 
     ghost view = { λ t. record { known = t.known; acsc = t.acsc; settled = t.settled } };
 
-    ghost invariant = { λ t. IsJudged (checked_of t.known t.settled) };
+    ghost invariant = { λ t. IsJudged (checked_of t.known t.settled) × LooksStand (checked_of t.known t.settled) };
 }
 
 impl Table {
     pub(crate) fn new(known: Known, acsc: Option<Bytes>, settled: Charsets) -> Table
-        requires { IsJudged (spec.checked_of known settled) }
+        requires judged { IsJudged (spec.checked_of known settled) }
+        requires looks { LooksStand (spec.checked_of known settled) }
         ensures { result ≡ record { known = known; acsc = acsc; settled = settled } }
     {
         Table {
@@ -66,9 +69,10 @@ impl Table {
         self.known.strings.get(row)
     }
 
-    /// What was judged of the lines.
+    /// What was judged of the lines, and how attributes look that have strings of their own.
     pub fn judged(&self)
-        ensures { IsJudged (spec.table_of self.now) }
+        ensures lines { IsJudged (spec.table_of self.now) }
+        ensures looks { LooksStand (spec.table_of self.now) }
     {
         let _ = &self.settled;
     }

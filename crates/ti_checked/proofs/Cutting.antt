@@ -1,25 +1,29 @@
 -- A resynchronization that is cut off anywhere.
-use Rattle.std.proofs.Common.{◌≡◌, ℕ, true, false, List, [], ◌∷◌, ◌++◌, Option, Some, None, refl, sym, subst, ◌∙◌}
+use Rattle.std.proofs.Common.{◌≡◌, ℕ, Bool, true, false, List, [], ◌∷◌, ◌++◌, Option, Some, None, refl, sym, ap, subst, ◌∙◌}
 use Rattle.std.proofs.lemmas.Bool.{false≢true}
-use Rattle.vt_term.specs.Screen.{State, IsOfSize}
+use Rattle.vt_term.specs.Screen.{State, Charset, IsOfSize}
 use Rattle.vt_term.specs.Run.{Runs}
-use Rattle.vt_term.proofs.Running.{runs_append, runs_nothing}
+use Rattle.vt_term.specs.Text.{Splits, IsOpen}
+use Rattle.vt_term.specs.Step.{steps}
+use Rattle.vt_term.proofs.Running.{runs_append, runs_nothing, runs_once, text_runs}
 use Rattle.vt_term.proofs.Sequences.{empty_open}
 use Rattle.vt_term.proofs.Splitting.{Compared, Longer, Shorter, compare}
+use Rattle.ti_charsets.specs.Charsets.{charset_over}
 use Rattle.ti_rows.specs.declared.rows.Row.{Row}
 use Rattle.ti_rows.specs.declared.rows.Row.TheVariants.{Clear, Smcup, Enacs, Sgr0, Rmacs, Cnorm}
 use Rattle.ti_rows.specs.Right.{sets_visible}
 use Rattle.ti_resync.specs.Lost.{EndsIn}
+use Rattle.ti_resync.specs.Lost as lost
 use Rattle.ti_resync.specs.Lines.{MayBeCut}
 use Rattle.ti_resync.specs.Resync.{IsLostAndClosed}
 use Rattle.ti_resync.proofs.Dropping.{escape_drops}
 use Rattle.ti_resync.proofs.Fronting.{fronts_stay, wholes_stay}
 use Rattle.ti_checked.specs.Table.{Table, has, or_nothing, part, widening, resync, resync_front, IsLost}
 use Rattle.ti_checked.specs.Judged.{IsJudged}
-use Rattle.ti_checked.specs.Checked.{JudgedIsChecked}
-use Rattle.ti_checked.proofs.Judging.{may_be_cut, line}
+use Rattle.ti_checked.specs.Checked.{IsResynced, JudgedIsChecked}
+use Rattle.ti_checked.proofs.Judging.{over_steps, may_be_cut, line}
 use Rattle.ti_checked.proofs.Resyncing.{resyncs}
-use Rattle.ti_checked.proofs.Holding.{sets_hold}
+use Rattle.ti_checked.proofs.Holding.{leads_resync, sets_hold}
 
 -- from a lost state with nothing open: cut off anywhere, and as a whole
 record Passes (t : Table) (bytes : List ℕ) : Type 0 where
@@ -87,10 +91,33 @@ resync_cut t j text more begins p s lost (x ∷ front) back parts =
       there = y.there;
     }
 
+-- a text that begins with ESC leads from every state to the charset to which its tokens lead
+led_to : (s u : State) (text more : List ℕ) (tokens : List (List ℕ)) → text ≡ 27 ∷ more → Splits text tokens [] → IsOpen s.rest → Runs s text u → u.screen.charset ≡ charset_over tokens s.screen.charset
+led_to s u text more tokens begins whole begun runs =
+    let empty : State = record s { rest = [] } in
+    let end : State = record { screen = steps tokens s.screen; rest = [] } in
+    let plain : Runs empty text end = text_runs empty text tokens refl whole in
+    let dropped : Runs s (27 ∷ more) end = escape_drops s end more begun (subst (λ (b : List ℕ). Runs empty b end) begins plain) in
+    let same : u ≡ end = runs_once s end u (27 ∷ more) dropped (subst (λ (b : List ℕ). Runs s b u) begins runs) in
+    ap (λ (x : State). x.screen.charset) same ∙ over_steps tokens s.screen
+
+resynced : (t : Table) → IsJudged t → (shows : Bool) (s : State) → lost.IsLost t.rows t.cols (has t (widening t)) shows t.reached s → EndsIn s (resync t) (IsResynced t s.screen.visible)
+resynced t j shows s known =
+    let e = resyncs t j shows s known in
+    let l = leads_resync t j in
+    record {
+      after = e.after;
+      runs = e.runs;
+      there = record {
+        blank = e.there;
+        settled = ap (λ (c : Charset). t.settled c) (led_to s e.after (resync t) j.rest l.tokens j.escapes l.whole known.size.state.rest e.runs ∙ l.leads s.screen.charset) ∙ j.first_settled s.screen.charset known.charset;
+      };
+    }
+
 pub judged_is_checked : JudgedIsChecked
 judged_is_checked t j = record {
   lines = line t j;
-  resyncs = resyncs t j;
+  resyncs = resynced t j;
   resync_fronts = λ s lost front back parts. resync_cut t j (resync t) j.rest j.escapes (passes_resync t j) s lost front back parts;
   sets = sets_hold t j;
 }

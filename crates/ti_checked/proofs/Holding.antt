@@ -4,8 +4,7 @@ use Rattle.std.specs.List.{AllByRecursion}
 use Rattle.vt_term.specs.Text.{Splits}
 use Rattle.vt_term.specs.Function.{function_of}
 use Rattle.vt_term.specs.Screen.{Screen, Charset, reset_screen}
-use Rattle.vt_term.specs.Step.{step, steps}
-use Rattle.vt_term.proofs.Charsets.{act_charset}
+use Rattle.vt_term.specs.Step.{steps}
 use Rattle.vt_term.proofs.Splitting.{one_splitting, splits_append, empty_splits}
 use Rattle.vt_effects.specs.declared.effects.Effect.{Effect}
 use Rattle.vt_effects.specs.declared.effects.Sets.{Sets}
@@ -19,14 +18,11 @@ use Rattle.ti_rows.specs.Asked.{start_of}
 use Rattle.ti_checked.specs.Table.{Table, or_nothing, part, widening, resync, resync_front}
 use Rattle.ti_checked.specs.Sets.{CanHave, AtReset, AfterToken, LeadsBy, CanSettle, AfterResync, AfterLine, SetsHold}
 use Rattle.ti_checked.specs.Judged.{JudgedLine, ChangesSets, NoLine, ByLine, changed, left_of, IsJudged}
+use Rattle.ti_checked.proofs.Judging.{over_steps}
 
 over_append : (ts us : List (List ℕ)) (c : Charset) → charset_over (ts ++ us) c ≡ charset_over us (charset_over ts c)
 over_append [] us c = refl
 over_append (t ∷ ts) us c = over_append ts us (charset_after (function_of t) c)
-
-over_steps : (ts : List (List ℕ)) (s : Screen) → (steps ts s).charset ≡ charset_over ts s.charset
-over_steps [] s = refl
-over_steps (t ∷ ts) s = over_steps ts (step t s) ∙ ap (λ (c : Charset). charset_over ts c) (act_charset (function_of t) s)
 
 -- the tokens of a line do to the sets what its record says
 line_sets : (t : Table) (row : Row) (bytes : List ℕ) (l : JudgedLine t row bytes) (c : Charset) → charset_over l.tokens c ≡ designated l.effect.charset c
@@ -49,10 +45,10 @@ reached t j d (AfterToken c _ token p o e) =
     ap (λ (x : Charset). t.reached x) e ∙ each_among (λ x. (b : Charset) → t.reached b ≡ true → t.reached (charset_after (function_of x) b) ≡ true) l.tokens token l.stays among c (reached t j c p)
 
 -- a whole text leads charsets so
-record Leads (bytes : List ℕ) (f : Charset → Charset) : Type 0 where
-  tokens : List (List ℕ)
-  whole : Splits bytes tokens []
-  leads : (c : Charset) → charset_over tokens c ≡ f c
+pub record Leads (bytes : List ℕ) (f : Charset → Charset) : Type 0 where
+  pub tokens : List (List ℕ)
+  pub whole : Splits bytes tokens []
+  pub leads : (c : Charset) → charset_over tokens c ≡ f c
 
 leads_joined : (a b : List ℕ) (f g : Charset → Charset) → Leads a f → Leads b g → Leads (a ++ b) (λ c. g (f c))
 leads_joined a b f g p q = record {
@@ -86,7 +82,7 @@ clear_keeps t j None e = leads_nothing
 clear_keeps t j (Some bytes) e = let l : JudgedLine t Clear bytes = j.lines Clear bytes e in
     leads_kept bytes (λ c. designated l.effect.charset c) (leads_line t Clear bytes l) (λ c. ap (λ (x : Effect). designated x.charset c) l.asked_for)
 
-leads_resync : (t : Table) (j : IsJudged t) → Leads (resync t) (λ c. left_of j.changes c)
+pub leads_resync : (t : Table) (j : IsJudged t) → Leads (resync t) (λ c. left_of j.changes c)
 unfolding resync
 leads_resync t j = leads_joined (resync_front t) (part t (widening t) ++ part t Clear) (λ c. left_of j.changes c) (λ c. c)
     (leads_joined (part t Smcup ++ part t Enacs) (part t Sgr0 ++ part t Rmacs) (λ c. changed j.changes.enacs (changed j.changes.smcup c)) (λ c. changed j.changes.rmacs (changed j.changes.sgr0 c))
@@ -111,5 +107,5 @@ sets_hold t j = record {
   reached = reached t j;
   settled = settled t j;
   settled_reached = j.settled_reached;
-  plain = λ none c p. j.plain none c (settled t j c p);
+  plain = j.plain;
 }

@@ -1,14 +1,17 @@
 -- A judged line ends as is wanted, and may be cut off.
-use Rattle.std.proofs.Common.{◌≡◌, ℕ, Bool, true, false, List, [], Option, Some, refl, sym, ap, subst, ◌∙◌}
+use Rattle.std.proofs.Common.{◌≡◌, ℕ, Bool, true, false, List, [], ◌∷◌, Option, Some, refl, sym, ap, subst, ◌∙◌}
 use Rattle.std.specs.Prelude.{is_some}
 use Rattle.std.proofs.lemmas.Bool.{false≢true}
 use Rattle.vt_term.specs.Screen.{State, Screen, Charset}
-use Rattle.vt_term.specs.Step.{steps}
+use Rattle.vt_term.specs.Function.{function_of}
+use Rattle.vt_term.specs.Step.{step, steps}
+use Rattle.vt_term.proofs.Charsets.{act_charset}
 use Rattle.vt_term.proofs.Running.{text_runs}
 use Rattle.vt_term.proofs.Splitting.{one_splitting}
 use Rattle.vt_effects.specs.Effect.{applied, designated}
 use Rattle.vt_effects.specs.Settings.{EachKeepsMargins, EachKeepsVisible}
 use Rattle.vt_effects.proofs.Sounding.{record_right}
+use Rattle.ti_charsets.specs.Charsets.{charset_after, charset_over}
 use Rattle.ti_rows.specs.declared.rows.Row.{Row}
 use Rattle.ti_rows.specs.declared.rows.Row.TheVariants.{Csr, Cnorm}
 use Rattle.ti_rows.specs.Asked.{start_of}
@@ -24,6 +27,14 @@ use Rattle.ti_resync.proofs.Fronting.{fronts_stay}
 use Rattle.ti_checked.specs.Table.{Table, has, widening, Activates}
 use Rattle.ti_checked.specs.Judged.{JudgedLine, IsJudged}
 use Rattle.ti_checked.specs.Checked.{IsEnd, IsLine}
+
+pub over_steps : (ts : List (List ℕ)) (s : Screen) → (steps ts s).charset ≡ charset_over ts s.charset
+over_steps [] s = refl
+over_steps (t ∷ ts) s = over_steps ts (step t s) ∙ ap (λ (c : Charset). charset_over ts c) (act_charset (function_of t) s)
+
+over_stays : (among : Charset → Bool) (ts : List (List ℕ)) (c : Charset) → StaysIn among ts → among c ≡ true → among (charset_over ts c) ≡ true
+over_stays among [] c stays h = h
+over_stays among (t ∷ ts) c stays h = over_stays among ts (charset_after (function_of t) c) stays.1 (stays.0 c h)
 
 pub right : (t : Table) (row : Row) (bytes : List ℕ) → JudgedLine t row bytes → IsRight t.rows t.cols t.looks row bytes
 right t row bytes l = recorded_is_right t.rows t.cols t.looks row bytes l.tokens l.effect l.whole l.recorded l.asked_for
@@ -43,6 +54,7 @@ ends t row bytes l s rest start =
         wanted = subst (λ (x : Screen). Wants t.looks row s.screen x) (sym same) (asked_is_wanted t.rows t.cols t.looks row l.effect l.asked_for s.screen start);
         settled = λ k h. ap (λ (c : Charset). t.settled c) charset ∙ l.settles k s.screen.charset h;
         active = λ h. activates_as row (designated l.effect.charset s.screen.charset) _ charset (l.active s.screen.charset h);
+        reached = λ h. ap (λ (c : Charset). t.reached c) (over_steps l.tokens s.screen) ∙ over_stays t.reached l.tokens s.screen.charset l.stays h;
       };
     }
 

@@ -12,12 +12,13 @@ use Rattle.ti_checked.specs.Table.{Table, has, widening, resync, IsLost, keeps_s
 use Rattle.ti_checked.specs.Sets.{SetsHold}
 use Rattle.ti_checked.specs.Judged.{IsJudged}
 
--- the end of a line's run, with nothing open: as is wanted, and settled charsets lead to settled ones
+-- the end of a line's run, with nothing open: as is wanted, reached charsets lead to reached ones, and settled to settled
 pub record IsEnd (t : Table) (row : Row) (s : Screen) (u : State) : Type 0 where
   pub rest : u.rest ≡ []
   pub wanted : Wants t.looks row s u.screen
   pub settled : keeps_settled row ≡ true → t.settled s.charset ≡ true → t.settled u.screen.charset ≡ true
   pub active : t.settled s.charset ≡ true → Activates row u.screen.charset
+  pub reached : t.reached s.charset ≡ true → t.reached u.screen.charset ≡ true
 
 pub record IsLine (t : Table) (row : Row) (bytes : List ℕ) : Type 0 where
   -- the bytes are whole tokens, of which each is tame
@@ -27,11 +28,16 @@ pub record IsLine (t : Table) (row : Row) (bytes : List ℕ) : Type 0 where
   -- where the bytes are cut off, the state is a lost one; `civis` and `cvvis` are not to be sent without `cnorm`
   pub fronts : (sets_visible row ≡ true → has t Cnorm ≡ true) → (s : State) → s.rest ≡ [] → IsLost t s → (front back : List ℕ) → bytes ≡ front ++ back → EndsIn s front (IsLost t)
 
+-- a blank screen at rest, with a settled charset
+pub record IsResynced (t : Table) (visible : Bool) (u : State) : Type 0 where
+  pub blank : IsBlank t.rows t.cols visible u
+  pub settled : t.settled u.screen.charset ≡ true
+
 pub record IsChecked (t : Table) : Type 0 where
   pub lines : (row : Row) (bytes : List ℕ) → t.line_of row ≡ Some bytes → IsLine t row bytes
   -- from every lost state, whatever is open and whether the cursor is visible or not, to a blank screen at rest; and
   -- where it is cut off, to a lost state
-  pub resyncs : (shows : Bool) (s : State) → lost.IsLost t.rows t.cols (has t (widening t)) shows t.reached s → EndsIn s (resync t) (IsBlank t.rows t.cols s.screen.visible)
+  pub resyncs : (shows : Bool) (s : State) → lost.IsLost t.rows t.cols (has t (widening t)) shows t.reached s → EndsIn s (resync t) (IsResynced t s.screen.visible)
   pub resync_fronts : (s : State) → IsLost t s → (front back : List ℕ) → resync t ≡ front ++ back → EndsIn s front (IsLost t)
   pub sets : SetsHold t
 

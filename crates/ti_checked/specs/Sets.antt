@@ -43,4 +43,4 @@ pub record SetsHold (t : Table) : Type 0 where
   pub reached : (c : Charset) → CanHave t c → t.reached c ≡ true
   pub settled : (c : Charset) → CanSettle t c → t.settled c ≡ true
   pub settled_reached : (c : Charset) → t.settled c ≡ true → t.reached c ≡ true
-  pub plain : has_sets t ≡ false → (c : Charset) → CanSettle t c → is_graphic c ≡ false
+  pub plain : has_sets t ≡ false → (c : Charset) → t.settled c ≡ true → is_graphic c ≡ false

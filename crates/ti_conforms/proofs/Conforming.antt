@@ -21,10 +21,12 @@ agreed_conforms entry t fit j agrees =
       cols_are = refl;
       sends = agrees;
       right = λ row bytes there. (k.lines row bytes there).right;
-      plain = λ unchecked c p. k.sets.plain (no_sets t ((agrees Smacs tt).unchecked unchecked)) c p;
+      plain = λ unchecked c p. k.sets.plain (no_sets t ((agrees Smacs tt).unchecked unchecked)) c (k.sets.settled c p);
       resyncs = record {
         rest = j.rest;
         escapes = j.escapes;
-        leads = λ s size tame c margins. k.resyncs true s (record { size = size; tame = tame; charset = k.sets.reached s.screen.charset c; margins = margins; visible = λ h. cc });
+        leads = λ s size tame c margins.
+            let e = k.resyncs true s (record { size = size; tame = tame; charset = k.sets.reached s.screen.charset c; margins = margins; visible = λ h. cc }) in
+            record { after = e.after; runs = e.runs; there = e.there.blank };
       };
     }

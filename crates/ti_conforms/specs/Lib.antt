@@ -1,1 +1,2 @@
 pub mod Conforms
+pub mod Together

@@ -52,7 +52,7 @@ same_group row other e = grouped row ∙ (ap group_at e ∙ sym (grouped other))
 same_string : (entry : Content) (row other : Row) → order row ≡ order other → string_of entry row ≡ string_of entry other
 same_string entry row other e = ap (λ (n : ℕ). string_at entry (83 + string_in_order n)) e
 
-same_checked : (entry : Content) (row other : Row) → order row ≡ order other → is_checked entry row ≡ is_checked entry other
+pub same_checked : (entry : Content) (row other : Row) → order row ≡ order other → is_checked entry row ≡ is_checked entry other
 same_checked entry row other e =
     ap (λ (s : Option (List ℕ)). is_some s && meets entry (group_of row)) (same_string entry row other e)
     ∙ ap (λ (g : Group). has_string entry other && meets entry g) (same_group row other e)

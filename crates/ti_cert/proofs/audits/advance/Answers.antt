@@ -1,4 +1,4 @@
-use Rattle.std.proofs.Common.{◌≡◌, ◌<◌, length, sym, ap, subst, arith}
+use Rattle.std.proofs.Common.{length, ap, subst, arith}
 use Rattle.ti_reader.specs.Lines.{IsNext}
 use Rattle.ti_reader.proofs.Texts.{begins}
 use Rattle.ti_cert.proofs.audits.advance.Goals as goal

@@ -6,7 +6,7 @@ use Rattle.ti_charsets.specs.Closing as closing
 use Rattle.ti_checked.specs.Judged.{IsJudged}
 use Rattle.ti_cert.specs.Audit.{Known, Holds}
 use Rattle.ti_cert.specs.Table.{checked_of}
-use Rattle.ti_cert.proofs.Judging.{judged, Ends}
+use Rattle.ti_cert.proofs.Judging.{judged}
 use Rattle.ti_cert.proofs.ending.conclude.Goals as goal
 
 pub returns : goal.returns

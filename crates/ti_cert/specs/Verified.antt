@@ -1,0 +1,37 @@
+-- The strings of an entry that was verified for a size, and what may be relied on of them, by runs of a terminal alone.
+use Rattle.std.specs.Prelude.{ℕ, ◌≡◌, ◌&&◌, List, Option, Some, None, if◌then◌else◌}
+use Rattle.vt_term.specs.Size.{IsSize}
+use Rattle.vt_term.specs.Screen.{State}
+use Rattle.ti_looks.specs.Alternates.{partner_of}
+use Rattle.ti_rows.specs.declared.rows.Row.TheVariants.{Smacs, Rmacs}
+use Rattle.ti_resync.specs.Lost.{EndsIn}
+use Rattle.ti_checked.specs.Table.{Table, has, resync, IsLost}
+use Rattle.ti_checked.specs.Checked.{IsChecked, IsResynced}
+use Rattle.ti_conforms.specs.Together.{StandTogether}
+use Rattle.ti_cert.specs.Singles.{LooksStand}
+use Rattle.ti_cert.specs.Table.{Content, table_of}
+
+pub record IsVerified (c : Content) : Type 0 where
+  pub size : IsSize c.known.strings.rows c.known.strings.cols
+  -- where the lines' runs end, whole and cut off, and where a resynchronization leads
+  pub checked : IsChecked (table_of c)
+  -- which lines there are beside each other
+  pub together : StandTogether (table_of c)
+  -- how attributes look where no line sets all of them
+  pub looks : LooksStand (table_of c)
+
+abbrev pub listed : Option (List ℕ) → ℕ → Option ℕ
+listed None letter = None
+listed (Some pairs) letter = partner_of pairs letter
+
+-- What a letter of the alternate set is sent as (terminfo(5), "Line Graphics"): its partner in `acsc` where the sets can
+-- be switched.
+abbrev pub partner_in : Content → ℕ → Option ℕ
+partner_in c letter = if has (table_of c) Smacs && has (table_of c) Rmacs then listed c.acsc letter else None
+
+-- from every state that output cut off at any byte may leave, to a blank screen at rest
+abbrev pub Resyncs : Table → Type 0
+Resyncs t = (s : State) → IsLost t s → EndsIn s (resync t) (IsResynced t s.screen.visible)
+
+abbrev pub IsResync : Content → List ℕ → Type 0
+IsResync c text = text ≡ resync (table_of c)
