@@ -1,0 +1,25 @@
+-- A misjudged effect is a fault of the string.
+use Rattle.std.proofs.Common.{ℕ, List, []}
+use Rattle.vt_term.specs.Text.{Splits}
+use Rattle.ti_rows.specs.declared.rows.Row.{Row}
+use Rattle.ti_sends.specs.Sends.{Sends}
+use Rattle.ti_probes.proofs.Showing.{shown_breaks}
+use Rattle.ti_checker.specs.No.{IsFaulty, IsMisjudged}
+use Rattle.ti_checker.specs.declared.causes.Cause.{Cause}
+use Rattle.ti_checker.specs.declared.causes.Cause.TheVariants.{FlagOut, Absent, AcsByte, Parm, StaticRead, Unfinished, Stuck, NotTame, BadLook, WrongEffect, NotShown, NoMemory}
+
+pub misjudged : (rows cols : ℕ) (string : List ℕ) (row : Row) (bytes : List ℕ) (tokens : List (List ℕ)) (cause : Cause) → Sends string row bytes → Splits bytes tokens []
+    → IsMisjudged rows cols row tokens cause → IsFaulty rows cols string row cause
+misjudged rows cols string row bytes tokens FlagOut sends split m = absurd m.misfit
+misjudged rows cols string row bytes tokens Absent sends split m = absurd m.misfit
+misjudged rows cols string row bytes tokens AcsByte sends split m = absurd m.misfit
+misjudged rows cols string row bytes tokens (Parm fault) sends split m = absurd m.misfit
+misjudged rows cols string row bytes tokens StaticRead sends split m = absurd m.misfit
+misjudged rows cols string row bytes tokens Unfinished sends split m = absurd m.misfit
+misjudged rows cols string row bytes tokens Stuck sends split m = absurd m.misfit
+misjudged rows cols string row bytes tokens NotTame sends split m = tt
+misjudged rows cols string row bytes tokens BadLook sends split m =
+    (m.misfit.0, record { bytes = bytes; sends = sends; holds = (m.misfit.1.0, shown_breaks rows cols row bytes tokens m.effect m.misfit.1.0 split m.recorded m.misfit.1.1) })
+misjudged rows cols string row bytes tokens (WrongEffect p) sends split m = record { bytes = bytes; sends = sends; holds = shown_breaks rows cols row bytes tokens m.effect p split m.recorded m.misfit }
+misjudged rows cols string row bytes tokens NotShown sends split m = tt
+misjudged rows cols string row bytes tokens NoMemory sends split m = tt

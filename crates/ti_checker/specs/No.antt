@@ -1,0 +1,188 @@
+-- When a no is so.
+use Rattle.std.specs.Prelude.{ℕ, ◌≡◌, ◌==◌, ◌&&◌, ◌||◌, Bool, true, false, List, Some, None, Err, is_some}
+use Rattle.ti_caps.specs.Entry.{Content, flag_at, number_at, string_at}
+use Rattle.ti_parm.specs.Meaning.{meaning}
+use Rattle.ti_parm.specs.Value.{zeros}
+use Rattle.vt_term.specs.Text.{IsStuck, IsUnfinished}
+use Rattle.vt_term.specs.declared.tokenizing.TokenFaultKind.{TokenFaultKind}
+use Rattle.vt_term.specs.declared.tokenizing.TokenFaultKind.TheVariants as kinds
+use Rattle.vt_effects.specs.declared.effects.Effect.{Effect}
+use Rattle.vt_effects.specs.Record.{record_of}
+use Rattle.ti_rows.specs.Asked.{start_of}
+use Rattle.ti_rows.specs.declared.rows.Row.{Row}
+use Rattle.ti_rows.specs.declared.rows.Row.TheVariants.{Clear, Cup, Sgr0, Sgr}
+use Rattle.ti_rows.specs.Bits.{number_of}
+use Rattle.ti_rows.specs.Names.{cap_of, order}
+use Rattle.ti_rows.specs.Params.{params}
+use Rattle.ti_rows.specs.Lists.{IsInRange}
+use Rattle.ti_looks.specs.Alternates.{is_misfit}
+use Rattle.ti_sends.specs.Sends.{Sends, ReadsStatic, values}
+use Rattle.ti_sends.specs.Entries.{acsc, has_string, is_checked, string_of}
+use Rattle.ti_conforms.specs.Conforms.{IsFit, xmc, hc, gn, os}
+use Rattle.ti_probes.specs.declared.probes.Probe.{Probe}
+use Rattle.ti_probes.specs.Breaking.{Breaks, IsShown}
+use Rattle.ti_checker.specs.declared.causes.Cause.{Cause}
+use Rattle.ti_checker.specs.declared.causes.Cause.TheVariants.{FlagOut, Absent, AcsByte, Parm, StaticRead, Unfinished, Stuck, NotTame, BadLook, WrongEffect, NotShown, NoMemory}
+use Rattle.ti_checker.specs.declared.causes.No.{No}
+
+-- ---- what rules every certificate out
+
+-- a number or flag that the entry has: attributes that take room on the screen, paper, a generic type, cells that keep
+-- what was printed before
+abbrev pub is_flag_out : Content → ℕ → Bool
+is_flag_out entry cap = ((cap == xmc) && is_some (number_at entry cap)) || (((cap == hc) || ((cap == gn) || (cap == os))) && flag_at entry cap)
+
+abbrev pub IsRequired : Row → Type 0
+IsRequired Clear = Unit {0}
+IsRequired (Cup row col) = Unit {0}
+IsRequired Sgr0 = Unit {0}
+IsRequired _ = ⊥
+
+-- a required string that the entry hasn't
+pub record IsLacking (entry : Content) (row : Row) : Type 0 where
+  pub required : IsRequired row
+  pub absent : has_string entry row ≡ false
+
+-- `acsc` lists a letter of line graphics with a partner that can't be printed
+pub record HasMisfit (entry : Content) : Type 0 where
+  pub pairs : List ℕ
+  pub there : string_at entry acsc ≡ Some pairs
+  pub letter : ℕ
+  pub misfit : is_misfit pairs letter ≡ true
+
+pub record LacksCap (entry : Content) (cap : ℕ) : Type 0 where
+  pub row : Row
+  pub lacking : IsLacking entry row
+  pub named : cap ≡ cap_of row
+
+abbrev pub IsUnfitBy : Content → ℕ → Cause → Type 0
+IsUnfitBy entry cap FlagOut = is_flag_out entry cap ≡ true
+IsUnfitBy entry cap Absent = LacksCap entry cap
+IsUnfitBy entry cap AcsByte = (cap ≡ acsc) × HasMisfit entry
+IsUnfitBy entry cap _ = ⊥
+
+abbrev pub IsUnfit : Content → No → Type 0
+IsUnfit entry refusal = IsUnfitBy entry refusal.cap refusal.cause
+
+-- ---- what is wrong with a string for a row
+
+-- the string sends bytes of which this holds
+pub record SendsSome (string : List ℕ) (row : Row) (Holds : List ℕ → Type 0) : Type 0 where
+  pub bytes : List ℕ
+  pub sends : Sends string row bytes
+  pub holds : Holds bytes
+
+-- a parameter list of `sgr` with one attribute other than standout
+abbrev pub is_single : Row → Bool
+is_single (Sgr a) = (number_of a == 1) || ((number_of a == 2) || ((number_of a == 4) || ((number_of a == 8) || ((number_of a == 16) || (number_of a == 32)))))
+is_single _ = false
+
+-- The fault is one of the string's run; what is sent ends within a sequence, or has a byte that fits nothing; from a
+-- start of the row it runs to an end that isn't wanted, however attributes look.
+abbrev pub IsFaulty : ℕ → ℕ → List ℕ → Row → Cause → Type 0
+IsFaulty rows cols string row (Parm fault) = meaning string (values row) zeros ≡ Err fault
+IsFaulty rows cols string row StaticRead = ReadsStatic string row
+IsFaulty rows cols string row Unfinished = SendsSome string row (λ bytes. (at : ℕ) × IsUnfinished bytes at)
+IsFaulty rows cols string row Stuck = SendsSome string row (λ bytes. (at : ℕ) × IsStuck bytes at)
+IsFaulty rows cols string row BadLook = (is_single row ≡ true) × SendsSome string row (λ bytes. (p : Probe) × Breaks rows cols row bytes p)
+IsFaulty rows cols string row (WrongEffect p) = SendsSome string row (λ bytes. Breaks rows cols row bytes p)
+IsFaulty rows cols string row NotTame = Unit {0}
+IsFaulty rows cols string row NotShown = Unit {0}
+IsFaulty rows cols string row NoMemory = Unit {0}
+IsFaulty rows cols string row _ = ⊥
+
+-- (Serves the code alone.) The same by the step that finds it: sending, cutting into tokens, and judging the effect.
+abbrev pub IsUnsendable : List ℕ → Row → Cause → Type 0
+IsUnsendable string row (Parm fault) = meaning string (values row) zeros ≡ Err fault
+IsUnsendable string row StaticRead = ReadsStatic string row
+IsUnsendable string row NotShown = Unit {0}
+IsUnsendable string row NoMemory = Unit {0}
+IsUnsendable string row _ = ⊥
+
+abbrev pub cause_of : TokenFaultKind → Cause
+cause_of kinds.Unfinished = Unfinished
+cause_of kinds.Stuck = Stuck
+cause_of kinds.NoMemory = NoMemory
+
+abbrev pub IsNotWhole : List ℕ → Cause → Type 0
+IsNotWhole bytes Unfinished = (at : ℕ) × IsUnfinished bytes at
+IsNotWhole bytes Stuck = (at : ℕ) × IsStuck bytes at
+IsNotWhole bytes NoMemory = Unit {0}
+IsNotWhole bytes _ = ⊥
+
+abbrev pub IsMisfit : ℕ → ℕ → Row → Effect → Cause → Type 0
+IsMisfit rows cols row e BadLook = (is_single row ≡ true) × ((p : Probe) × IsShown rows cols row e p)
+IsMisfit rows cols row e (WrongEffect p) = IsShown rows cols row e p
+IsMisfit rows cols row e NotShown = Unit {0}
+IsMisfit rows cols row e _ = ⊥
+
+pub record Misfits (rows cols : ℕ) (row : Row) (tokens : List (List ℕ)) (cause : Cause) : Type 0 where
+  pub effect : Effect
+  pub recorded : record_of rows cols (start_of rows cols row) tokens ≡ Some effect
+  pub misfit : IsMisfit rows cols row effect cause
+
+abbrev pub IsMisjudged : ℕ → ℕ → Row → List (List ℕ) → Cause → Type 0
+IsMisjudged rows cols row tokens NotTame = Unit {0}
+IsMisjudged rows cols row tokens cause = Misfits rows cols row tokens cause
+
+-- the entry's string for a checked row is so
+pub record HasFaulty (entry : Content) (rows cols : ℕ) (refusal : No) : Type 0 where
+  pub row : Row
+  pub cap_is : refusal.cap ≡ cap_of row
+  pub params_are : refusal.params.items ≡ params row
+  pub range : IsInRange rows cols row
+  pub checked : is_checked entry row ≡ true
+  pub string : List ℕ
+  pub there : string_of entry row ≡ Some string
+  pub faulty : IsFaulty rows cols string row refusal.cause
+
+-- ---- a no
+
+-- `NotTame`, `NotShown` and `NoMemory` claim nothing
+abbrev pub IsSoBy : Content → ℕ → ℕ → No → Cause → Type 0
+IsSoBy entry rows cols refusal FlagOut = IsUnfit entry refusal
+IsSoBy entry rows cols refusal Absent = IsUnfit entry refusal
+IsSoBy entry rows cols refusal AcsByte = IsUnfit entry refusal
+IsSoBy entry rows cols refusal NotTame = Unit {0}
+IsSoBy entry rows cols refusal NotShown = Unit {0}
+IsSoBy entry rows cols refusal NoMemory = Unit {0}
+IsSoBy entry rows cols refusal _ = HasFaulty entry rows cols refusal
+
+abbrev pub IsSo : Content → ℕ → ℕ → No → Type 0
+IsSo entry rows cols refusal = IsSoBy entry rows cols refusal refusal.cause
+
+-- (Serves the code alone.) The same of a string whose capability has this first row.
+pub record IsFaultyOf (rows cols : ℕ) (string : List ℕ) (first : Row) (refusal : No) : Type 0 where
+  pub row : Row
+  pub cap_is : refusal.cap ≡ cap_of row
+  pub params_are : refusal.params.items ≡ params row
+  pub range : IsInRange rows cols row
+  pub same_order : order row ≡ order first
+  pub faulty : IsFaulty rows cols string row refusal.cause
+
+abbrev pub ClaimsNothing : Cause → Type 0
+ClaimsNothing NotTame = Unit {0}
+ClaimsNothing NotShown = Unit {0}
+ClaimsNothing NoMemory = Unit {0}
+ClaimsNothing _ = ⊥
+
+-- ---- the order of causes
+
+pub record HasNoFlagOut (entry : Content) : Type 0 where
+  pub no_cookies : number_at entry xmc ≡ None
+  pub no_paper : flag_at entry hc ≡ false
+  pub no_generic : flag_at entry gn ≡ false
+  pub no_overstrike : flag_at entry os ≡ false
+
+pub record HasRequired (entry : Content) : Type 0 where
+  pub flags : HasNoFlagOut entry
+  pub clear : has_string entry Clear ≡ true
+  pub cup : has_string entry (Cup 0 0) ≡ true
+  pub sgr0 : has_string entry Sgr0 ≡ true
+
+-- flags come first, then required strings, then alternate characters, then all else
+abbrev pub IsFirstCause : Content → Cause → Type 0
+IsFirstCause entry FlagOut = Unit {0}
+IsFirstCause entry Absent = HasNoFlagOut entry
+IsFirstCause entry AcsByte = HasRequired entry
+IsFirstCause entry _ = IsFit entry

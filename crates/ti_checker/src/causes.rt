@@ -1,0 +1,105 @@
+//! Why an entry gets no certificate.
+
+ghost use Rattle.std.specs.Prelude.{◌≡◌, []};
+ghost use Rattle.ti_rows.specs.Names.{cap_of};
+ghost use Rattle.ti_rows.specs.Params.{params};
+
+use std::alloc::AllocError;
+use std::fmt;
+use ti_caps::Cap;
+use ti_parm::ParmFault;
+use ti_probes::Probe;
+use ti_rows::{Params, Row};
+use vt_term::{TokenFault, TokenFaultKind};
+
+/// What is wrong with a capability.
+#[derive(Clone, Copy, Debug, PartialEq, Eq)]
+pub enum Cause {
+    /// A flag or number that rules every certificate out.
+    FlagOut,
+    /// A string that every certificate needs isn't there.
+    Absent,
+    /// A letter of line graphics has a partner that can't be printed.
+    AcsByte,
+    /// The string can't be expanded for these parameters.
+    Parm(ParmFault),
+    /// The string reads a static variable before it sets it.
+    StaticRead,
+    /// What is sent ends within a sequence.
+    Unfinished,
+    /// What is sent has a byte that fits nothing.
+    Stuck,
+    /// What is sent has no one effect from all states that it has to work from. It may be right.
+    NotTame,
+    /// One attribute shows a mark that isn't its own.
+    BadLook,
+    /// From this start the terminal ends elsewhere than it should.
+    WrongEffect(Probe),
+    /// The effect isn't the one that is asked for, or something else of the certificate can't be shown. The
+    /// string may be right.
+    NotShown,
+    /// Out of memory.
+    NoMemory,
+}
+
+impl From<AllocError> for Cause {
+    fn from(_: AllocError) -> Cause
+        ensures { result ≡ Cause.NoMemory }
+    {
+        Cause::NoMemory
+    }
+}
+
+impl fmt::Display for Cause {
+    fn fmt<W: fmt::Write>(&self, f: &mut fmt::Formatter<W>) -> fmt::Result {
+        match self {
+            Cause::Parm(fault) => write!(f, "{fault}"),
+            Cause::FlagOut => write!(f, "FlagOut"),
+            Cause::Absent => write!(f, "Absent"),
+            Cause::AcsByte => write!(f, "AcsByte"),
+            Cause::StaticRead => write!(f, "StaticRead"),
+            Cause::Unfinished => write!(f, "Unfinished"),
+            Cause::Stuck => write!(f, "Stuck"),
+            Cause::NotTame => write!(f, "NotTame"),
+            Cause::BadLook => write!(f, "BadLook"),
+            Cause::WrongEffect(_) => write!(f, "WrongEffect"),
+            Cause::NotShown => write!(f, "NotShown"),
+            Cause::NoMemory => write!(f, "NoMemory"),
+        }
+    }
+}
+
+/// A no: the capability, its parameters, and what is wrong with it for these.
+#[derive(Debug, Drop)]
+pub struct No {
+    pub cap: Cap,
+    pub params: Params,
+    pub cause: Cause,
+}
+
+impl No {
+    /// What is wrong with a capability, whatever its parameters.
+    pub(crate) fn of(cap: Cap, cause: Cause) -> No
+        ensures cap { result.cap ≡ cap }
+        ensures cause { result.cause ≡ cause }
+    {
+        No {
+            cap,
+            params: Params::new(),
+            cause,
+        }
+    }
+
+    /// What is wrong with the row's capability for the row's parameters.
+    pub(crate) fn at(row: Row, cause: Cause) -> No
+        ensures cap { result.cap ≡ cap_of row }
+        ensures params { result.params.items ≡ params row }
+        ensures cause { result.cause ≡ cause }
+    {
+        No {
+            cap: row.cap(),
+            params: row.params(),
+            cause,
+        }
+    }
+}

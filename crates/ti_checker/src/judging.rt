@@ -1,0 +1,146 @@
+//! A string judged for a row.
+
+ghost use Rattle.std.specs.Prelude.{◌≡◌, [], IfErr, IfOk, Some, true};
+ghost use Rattle.ti_checker.specs.No as spec;
+ghost use Rattle.ti_rows.specs.Asked.{start_of};
+ghost use Rattle.ti_rows.specs.Lists.{IsInRange};
+ghost use Rattle.vt_effects.specs.Record.{record_of};
+ghost use Rattle.vt_term.specs.Text.{Splits};
+
+use crate::causes::Cause;
+use crate::sending::sent;
+use std::alloc::Global;
+use ti_caps::Bytes;
+use ti_lines::RowLine;
+use ti_probes::probe_for;
+use ti_rows::{Attributes, Looks, Marks, Row};
+use vt_effects::{Effect, effect_of};
+use vt_term::{Size, Token, TokenFault, TokenFaultKind, tokens};
+
+/// No mark.
+const NO_MARKS: Marks = Marks {
+    bold: false,
+    faint: false,
+    underline: false,
+    blink: false,
+    negative: false,
+    concealed: false,
+};
+
+/// Attributes that can't be seen.
+pub(crate) const NO_LOOKS: Looks = Looks {
+    standout: NO_MARKS,
+    underline: false,
+    reverse: false,
+    blink: false,
+    dim: false,
+    bold: false,
+    invisible: false,
+};
+
+/// Standout alone, which any marks may show.
+const STANDOUT: Attributes = Attributes {
+    standout: true,
+    underline: false,
+    reverse: false,
+    blink: false,
+    dim: false,
+    bold: false,
+    invisible: false,
+};
+
+/// Whether the row asks `sgr` for one attribute other than standout.
+fn is_single(row: Row) -> bool
+    ensures { result ≡ spec.is_single row }
+{
+    match row {
+        Row::Sgr(attributes) => matches!(attributes.number(), 1 | 2 | 4 | 8 | 16 | 32),
+        _ => false,
+    }
+}
+
+/// Whether the effect shows marks as standout may, so that only the marks are wrong.
+fn shows_marks(effect: &Effect) -> bool {
+    let alone = Row::Sgr(STANDOUT);
+    alone.asks_for(NO_LOOKS.learned(alone, effect), effect)
+}
+
+/// What is wrong with an effect that isn't the one that is asked for.
+fn misfit(row: Row, effect: &Effect, size: Size) -> Cause
+    requires { IsInRange size.rows size.cols row }
+    ensures { spec.IsMisfit size.rows size.cols row effect.now result }
+{
+    match probe_for(row, effect, size) {
+        None => Cause::NotShown,
+        Some(probe) => {
+            if is_single(row) && shows_marks(effect) {
+                Cause::BadLook
+            } else {
+                Cause::WrongEffect(probe)
+            }
+        }
+    }
+}
+
+/// The fault of bytes that are no whole control functions.
+fn cause_of(fault: TokenFault) -> Cause
+    ensures { result ≡ spec.cause_of fault.kind }
+{
+    match fault.kind {
+        TokenFaultKind::Unfinished => Cause::Unfinished,
+        TokenFaultKind::Stuck => Cause::Stuck,
+        TokenFaultKind::NoMemory => Cause::NoMemory,
+    }
+}
+
+/// The tokens of what a string sends.
+fn tokens_of(alloc: Global, bytes: &[u8]) -> Result<Vec<Token>, Cause>
+    ensures whole { IfOk result (λ found. Splits bytes.now found.items []) }
+    ensures fault { IfErr result (λ cause. spec.IsNotWhole bytes.now cause) }
+{
+    match tokens(alloc, bytes) {
+        Ok(found) => Ok(found),
+        Err(fault) => Err(cause_of(fault)),
+    }
+}
+
+/// The effect of tokens, which has to be the one that is asked for. Looks that the row tells are added.
+fn judged(row: Row, tokens: &[Token], size: Size, looks: &mut Looks) -> Result<Effect, Cause>
+    requires { IsInRange size.rows size.cols row }
+    ensures { IfErr result (λ cause. spec.IsMisjudged size.rows size.cols row tokens.now cause) }
+{
+    match effect_of(tokens, size, &row.start(size)) {
+        None => Err(Cause::NotTame),
+        Some(effect) => {
+            *looks = looks.learned(row, &effect);
+            if row.asks_for(*looks, &effect) {
+                Ok(effect)
+            } else {
+                Err(misfit(row, &effect, size))
+            }
+        }
+    }
+}
+
+/// The certificate's line of a row, of which the entry has this string.
+pub(crate) fn line_of(
+    alloc: Global,
+    string: &[u8],
+    row: Row,
+    size: Size,
+    looks: &mut Looks,
+) -> Result<RowLine, Cause>
+    requires { IsInRange size.rows size.cols row }
+    ensures { IfErr result (λ cause. spec.IsFaulty size.rows size.cols string.now row cause) }
+{
+    let bytes = sent(alloc, string, row)?;
+    let tokens = tokens_of(alloc, &bytes)?;
+    match judged(row, &tokens, size, looks) {
+        Ok(effect) => Ok(RowLine {
+            row,
+            bytes: Bytes::from_vec(bytes),
+            effect,
+        }),
+        Err(cause) => Err(cause),
+    }
+}

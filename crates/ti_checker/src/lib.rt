@@ -1,0 +1,13 @@
+//! The checker: a certificate for an entry and a size, or what is wrong with the entry.
+#![tactic(auto)]
+
+mod causes;
+mod checking;
+mod drafts;
+mod fitness;
+mod judging;
+mod sending;
+
+pub use causes::{Cause, No};
+pub use checking::check;
+pub use ti_probes::Probe;

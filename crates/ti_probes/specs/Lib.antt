@@ -1,0 +1,3 @@
+pub mod Probe
+pub mod Cells
+pub mod Breaking
