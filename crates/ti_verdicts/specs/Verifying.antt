@@ -1,5 +1,5 @@
 -- What `verify` answers, by what its files hold.
-use Rattle.std.specs.Prelude.{◌≡◌, ◌⊎◌, ℕ, List, codes}
+use Rattle.std.specs.Prelude.{◌⊎◌, ℕ, List, codes}
 use Rattle.ti_caps.specs.Entry.{Content}
 use Rattle.ti_cert.specs.declared.faults.VerifyFault.{VerifyFault}
 use Rattle.ti_conforms.specs.Conforms.{Conforms}

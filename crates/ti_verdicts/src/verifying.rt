@@ -83,11 +83,19 @@ fn failure_of<R: Read>(
 {
     match fault {
         VerifyFault::Cert(fault) => cert_failure(alloc, path, size, *fault, reader, remarks),
-        VerifyFault::Agree(AgreeFault::Disagree { cap, params }) => {
+        VerifyFault::Agree(fault) => agree_failure(alloc, path, fault, remarks),
+    }
+}
+
+fn agree_failure(alloc: Global, path: &str, fault: &AgreeFault, remarks: &mut Remarks) -> Failure
+    ensures { TellsFault path.now (VerifyFault.Agree fault.now) result }
+{
+    match fault {
+        AgreeFault::Disagree { cap, params } => {
             explain_disagreement(path, *cap, remarks);
             verdict(disagreement_words(alloc, *cap, params.as_slice()))
         }
-        VerifyFault::Agree(AgreeFault::NoMemory) => Failure::NoMemory,
+        AgreeFault::NoMemory => Failure::NoMemory,
     }
 }
 
