@@ -11,6 +11,23 @@ MINI = b"mini|sample,\n\tclear=\\E[H\\E[2J, cup=\\E[%i%p1%d;%p2%dH, sgr0=\\E[m,\
 EVEN = bytes.fromhex("1a01 0400 0200 0100 0000 0000 617c6200 0001 5000")
 STRING = bytes.fromhex("1a01 0200 0000 0000 0700 0400 6d00 ffffffffffffffffffffffff 0000 1b5b4b00")
 WIDE = bytes.fromhex("1e02 0400 0200 0100 0000 0000 617c6200 0001 409c0000")
+CERTIFICATE = (
+    b"ticert 2 2 2\n"
+    b"clear 1b5b481b5b324a row=0 col=0 nopend all\n"
+    b"cup 0 0 1b5b313b3148 row=0 col=0 nopend\n"
+    b"cup 0 1 1b5b313b3248 row=0 col=1 nopend\n"
+    b"cup 1 0 1b5b323b3148 row=1 col=0 nopend\n"
+    b"cup 1 1 1b5b323b3248 row=1 col=1 nopend\n"
+    b"sgr0 1b5b6d look:000000 ink:dd\n"
+    b"end\n"
+)
+
+
+def certificate(change):
+    """The certificate of `mini`, its lines changed."""
+    lines = CERTIFICATE.splitlines(keepends=True)
+    change(lines)
+    return b"".join(lines)
 
 
 def chain(last, behind, times=1):
@@ -90,6 +107,16 @@ FILES = {
     "rendition": bytes.fromhex("1b5b313b376d61"),
     "hidden": bytes.fromhex("1b5b3f32356c"),
     "background": bytes.fromhex("1b5b34346d1b5b4b"),
+    "mini.cert": CERTIFICATE,
+    "no_sgr0.cert": certificate(lambda lines: lines.pop(6)),
+    "no_cup.cert": certificate(lambda lines: lines.pop(5)),
+    "twice.cert": certificate(lambda lines: lines.insert(4, lines[3])),
+    "not_shown.cert": CERTIFICATE.replace(b"1b5b313b3248", b"1b5b313b3148"),
+    "other.cert": CERTIFICATE.replace(b"1b5b313b3148", b"1b5b313b3166"),
+    "upper.cert": CERTIFICATE.replace(b"1b5b48", b"1B5b48"),
+    "open.cert": CERTIFICATE[:-1],
+    "long.cert": CERTIFICATE[:13] + b"x" * 250,
+    "empty.cert": b"",
 }
 
 CUP = "\\E[%i%p1%d;%p2%dH"
@@ -165,12 +192,35 @@ RUNS = [
     (["feed", "2", "4", "background"], 0, "    \n    \ncursor 0 0\nlook 0 0-3 b4\n", ""),
     (["feed", "1", "4", "wrap"], 1, "", "refused: BadSize\n"),
     (["feed", "2", "4", "absent"], 3, "", "file: absent\n"),
+    (["verify", "mini:mini", "2", "2", "mini.cert"], 0, "yes\n", ""),
+    (["verify", "mini:mini", "2", "2", "no_sgr0.cert"], 1, "", "refused: line 7: Missing sgr0\n"),
+    (["verify", "mini:mini", "2", "2", "no_cup.cert"], 1, "", "refused: line 6: Missing cup 1 1\n"),
+    (["verify", "mini:mini", "2", "2", "twice.cert"], 1, "", "refused: line 5: OutOfOrder\n"),
+    (["verify", "mini:mini", "2", "2", "not_shown.cert"], 1, "", "refused: line 4: NotShown\n"),
+    (["verify", "mini:mini", "2", "2", "other.cert"], 1, "", "refused: Disagree cup 0 0\n"),
+    (["verify", "mini:mini", "2", "2", "upper.cert"], 1, "", "refused: line 2: BadLine\n"),
+    (["verify", "mini:mini", "2", "2", "open.cert"], 1, "", "refused: line 8: BadLine\n"),
+    (["verify", "mini:mini", "2", "2", "long.cert"], 1, "", "refused: line 2: BadLine\n"),
+    (["verify", "mini:mini", "2", "2", "empty.cert"], 1, "", "refused: line 1: BadLine\n"),
+    (["verify", "mini:mini", "2", "3", "mini.cert"], 1, "", "refused: line 1: BadLine\n"),
+    (["verify", "uses:z", "2", "2", "mini.cert"], 1, "", "refused: Disagree clear\n"),
+    (["verify", "mini:mini", "2", "2", "absent"], 3, "", "file: absent\n"),
+    (["verify", "mini:mini", "2", "2", "/"], 3, "", "file: /\n"),
+    (["verify", "absent:a", "2", "2", "absent.cert"], 3, "", "file: absent\n"),
+    (["verify", "absent:a", "1", "2", "absent.cert"], 1, "", "refused: BadSize\n"),
+    (["verify", "mini:mini", "1", "x", "absent.cert"], 2, "", None),
+    (["verify", "mini:mini", "2", "2"], 2, "", None),
 ]
 
 # a word that is not UTF-8
 RUNS.append((["feed", "2", "2", "no\udcff"], 2, "", None))
 
 CARET = "hint line 2: in setaf `%^` is read as `%` and a control character; exclusive or is written `%\\^`"
+
+LONG = (
+    f"'{'x' * 200}' .. in line 2 of long.cert: a line is written as `cup 0 0 1b5b313b3148 row=0 col=0 nopend`, with"
+    " parameters that the size allows; the last one is `end`, and each ends with LF"
+)
 
 # the words, and the last line of standard error, in plain words
 EXPLAINED = [
@@ -208,6 +258,20 @@ EXPLAINED = [
     (["tic", "even:a", "--out", "/"], "'/' is a folder"),
     (["tic", "even:a", "--out", "/dev/full"], "'/dev/full': there is no space left for it"),
     (["tic", "even:a", "--out", "even"], "'even' is the file that the entry is read from"),
+    (
+        ["verify", "mini:mini", "2", "2", "no_cup.cert"],
+        "'sgr0 1b5b6d look:000000 ink:dd' in line 6 of no_cup.cert: the line of `cup 1 1` has to stand here",
+    ),
+    (
+        ["verify", "mini:mini", "2", "3", "mini.cert"],
+        "'ticert 2 2 2' in line 1 of mini.cert: the first line of a certificate for this size is `ticert 2 2 3`",
+    ),
+    (
+        ["verify", "mini:mini", "2", "2", "empty.cert"],
+        "'' in line 1 of empty.cert: the first line of a certificate for this size is `ticert 2 2 2`",
+    ),
+    (["verify", "mini:mini", "2", "2", "long.cert"], LONG),
+    (["verify", "mini:mini", "2", "2", "/"], "'/' is a folder"),
 ]
 
 # what begins no further line

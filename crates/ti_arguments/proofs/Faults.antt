@@ -1,23 +1,32 @@
 -- Why the parser gives no matches.
-use Rattle.std.proofs.Common.{◌≡◌, ◌⊎◌, List, Result, Ok, Err, IfOk, true, ap, ◌∙◌, inl, inr, refl, subst}
+use Rattle.std.proofs.Common.{◌≡◌, ◌⊎◌, List, Option, Result, Ok, Err, IfOk, true, ap, ◌∙◌, inl, inr, refl, subst}
 use Rattle.clap.proofs.OnLiterals.{clap_on_literals}
 use Rattle.clap.specs.Faults.{fault_of, is_simple_and_free}
 use Rattle.clap.specs.Kinds.{HasKind, IsAmong}
-use Rattle.clap.specs.Simple.{App}
+use Rattle.clap.specs.Simple.{App, is_simple, subcommand_of}
 use Rattle.clap.specs.Values.{kind_of}
-use Rattle.clap.specs.Walk.{Text}
+use Rattle.clap.specs.Walk.{Row, Text}
 use Rattle.clap.specs.declared.error.Error.{Error}
 use Rattle.clap.specs.declared.error.kind.ErrorKind.{ErrorKind}
 use Rattle.clap.specs.declared.error.kind.ErrorKind.TheVariants as kind
-use Rattle.ti_arguments.specs.Asking.{IsAnswer, IsTold}
+use Rattle.ti_arguments.specs.Asking.{Asks, IsAnswer, IsTold}
 use Rattle.ti_arguments.specs.Line.{line}
 use Rattle.ti_arguments.specs.declared.parsing.Answer.{Answer}
 use Rattle.ti_arguments.specs.declared.parsing.Answer.TheVariants as answers
 use Rattle.ti_arguments.specs.declared.parsing.LineFault.{LineFault}
+use Rattle.ti_arguments.specs.declared.request.Request.{Request}
 
 line_is_simple : is_simple_and_free line ≡ true
 unfolding clap_on_literals
 line_is_simple = refl
+
+line_has_matches : is_simple line ≡ true
+unfolding clap_on_literals
+line_has_matches = refl
+
+-- what is found for the command that the words choose
+pub asked : {X : Type 0} (a : App) (words : List Text) (rows : Option (Text × List Row)) (request : Request) → a ≡ line → (is_simple a ≡ true → X × (rows ≡ subcommand_of a words)) → Asks rows request → Asks (subcommand_of line words) request
+asked a words rows request q h asks = subst (λ (r : Option (Text × List Row)). Asks r request) ((h (ap is_simple q ∙ line_has_matches)).1 ∙ ap (λ (b : App). subcommand_of b words) q) asks
 
 -- the error has a kind of the first step that fails
 pub failed : (a : App) (words : List Text) (e : Error) → a ≡ line → (is_simple_and_free a ≡ true → HasKind (fault_of a words) e) → HasKind (fault_of line words) e

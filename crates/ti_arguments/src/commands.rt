@@ -1,9 +1,9 @@
 //! The commands and their words, as the parser reads them.
 
-ghost use Rattle.std.specs.Prelude.{◌≡◌, Some, IfOk, false};
+ghost use Rattle.std.specs.Prelude.{◌≡◌, Some, IfOk, codes, false};
 ghost use Rattle.clap.specs.Words.{app_of, rule_of, with_subcommand};
 ghost use Rattle.clap.specs.declared.builder.command.Command.TheViews.{out-Command};
-ghost use Rattle.ti_arguments.specs.Line.{cup_rule, entries_rule, expand_rules, feed_rules, infocmp_rules, line, out_rule, params_rule, positional_rule, program, switch_rule, tic_rules, with_size_rules};
+ghost use Rattle.ti_arguments.specs.Line.{cup_rule, entries_rule, expand_rules, feed_rules, infocmp_rules, line, out_rule, params_rule, positional_rule, program, switch_rule, tic_rules, verify_rules, with_size_rules};
 
 use crate::help;
 use clap::{Arg, ArgAction, Command};
@@ -13,10 +13,26 @@ use std::alloc::{AllocError, Global};
 pub fn command_line<'a>(alloc: Global) -> Result<Command<'a>, AllocError>
     ensures { IfOk result (λ c. app_of c ≡ line) }
 {
+    let command = with_screen_commands(alloc, top_command(alloc)?)?;
+    let command = with_entry_commands(alloc, command)?;
+    with_verdict_commands(alloc, command)
+}
+
+/// The command, and those that show what a terminal does.
+fn with_screen_commands<'a>(alloc: Global, command: Command<'a>) -> Result<Command<'a>, AllocError>
+    ensures { IfOk result (λ c. app_of c ≡ with_subcommand (with_subcommand (app_of command.entry) expand_rules.top) feed_rules.top) }
+{
     let expand = expand_command(alloc)?;
     let feed = feed_command(alloc)?;
-    let command = top_command(alloc)?.subcommand(expand)?.subcommand(feed)?;
-    with_entry_commands(alloc, command)
+    command.subcommand(expand)?.subcommand(feed)
+}
+
+/// The command, and those that judge entries.
+fn with_verdict_commands<'a>(alloc: Global, command: Command<'a>) -> Result<Command<'a>, AllocError>
+    ensures { IfOk result (λ c. app_of c ≡ with_subcommand (app_of command.entry) verify_rules.top) }
+{
+    let verify = verify_command(alloc)?;
+    command.subcommand(verify)
 }
 
 /// The command, and those whose words are entries.
@@ -90,11 +106,7 @@ fn tic_command<'a>(alloc: Global) -> Result<Command<'a>, AllocError>
         .about(help::TIC)
         .after_help(help::TIC_MORE)
         .arg(out_option(alloc))?
-        .arg(positional(
-            alloc,
-            "ENTRY",
-            "FILE:NAME of a source file, or a compiled FILE",
-        ))
+        .arg(entry(alloc))
 }
 
 fn infocmp_command<'a>(alloc: Global) -> Result<Command<'a>, AllocError>
@@ -119,6 +131,17 @@ fn infocmp_command<'a>(alloc: Global) -> Result<Command<'a>, AllocError>
         .arg(entries(alloc))
 }
 
+fn verify_command<'a>(alloc: Global) -> Result<Command<'a>, AllocError>
+    ensures shape { IfOk result (λ c. app_of c ≡ verify_rules) }
+    ensures local { IfOk result (λ c. (out-Command c).has_globals ≡ false) }
+{
+    let command = Command::new(alloc, "verify")
+        .about(help::VERIFY)
+        .after_help(help::VERIFY_MORE)
+        .arg(entry(alloc))?;
+    with_size(alloc, command)?.arg(positional(alloc, "CERT", "The certificate"))
+}
+
 fn cup_flag<'a>(alloc: Global) -> Arg<'a>
     ensures rule { rule_of result ≡ cup_rule }
     ensures local { result.global ≡ false }
@@ -138,6 +161,17 @@ fn out_option<'a>(alloc: Global) -> Arg<'a>
         .value_name("FILE")
         .action(ArgAction::Set)
         .help("Write the entry's compiled form to this file")
+}
+
+fn entry<'a>(alloc: Global) -> Arg<'a>
+    ensures rule { rule_of result ≡ positional_rule (codes "ENTRY") }
+    ensures local { result.global ≡ false }
+{
+    positional(
+        alloc,
+        "ENTRY",
+        "FILE:NAME of a source file, or a compiled FILE",
+    )
 }
 
 fn entries<'a>(alloc: Global) -> Arg<'a>

@@ -130,3 +130,35 @@ The limits and each KIND are those of `ticurses tic --help`.
 
 Example:
   ticurses infocmp -c my.ti:myterm my.ti:other";
+
+/// `verify` in one line.
+pub const VERIFY: &str =
+    "Verifies a certificate: that each checked string of an entry does what programs rely on";
+
+/// `verify` in full.
+pub const VERIFY_MORE: &str = "\
+The output is `yes` if the certificate CERT shows that the entry conforms on a terminal of this size: each checked
+string, with all parameters in range and from every state in which programs send it, does what they rely on. It does
+not matter who wrote the certificate. A certificate has at most 67108864 bytes, and is judged as it is read.
+
+Exit status: 0 done; 1 refused, with a line `refused: KIND` on standard error; 2 usage error; 3 a file could not
+be read, or standard output could not be written; 4 out of memory.
+
+KIND is one of, for the certificate (with `line N:` before it):
+  BadLine          it is not a line that a certificate of this size has, or the text ends without `end`
+  Missing CAP P..  the line of this capability and these parameters has to come here, or earlier
+  OutOfOrder       it had to come earlier, or is there twice
+  NotWhole         the bytes are not text and whole control sequences
+  NotTame          no single effect describes the bytes in all states in which they are sent
+  NotShown         the effect is not that of the bytes, or not the one that the capability has to have
+  NoResync         the strings do not lead a terminal in an unknown state to a blank screen
+  BadLook          an attribute looks like another one, or the line drawing set can stay active
+for the certificate and the entry:
+  Disagree CAP P..  the entry sends something else than the line of this capability and these parameters has, or
+                    only one of the two has it, or no certificate is for an entry with this capability
+for the size:
+  BadSize  ROWS is not 2 to 200, or COLS is not 2 to 500
+for the entry: each KIND of `ticurses tic --help`.
+
+Example:
+  ticurses verify my.ti:myterm 24 80 myterm.cert";

@@ -32,6 +32,17 @@ pub enum Request<'a> {
         /// The path of the compiled file, if one is asked for.
         out: Option<&'a str>,
     },
+    /// `verify ENTRY ROWS COLS CERT`: verify the certificate of an entry.
+    Verify {
+        /// The entry.
+        entry: &'a str,
+        /// The terminal's rows.
+        rows: &'a str,
+        /// The terminal's columns.
+        cols: &'a str,
+        /// The path of the certificate.
+        certificate: &'a str,
+    },
     /// `infocmp ENTRY`: print an entry.
     Print {
         /// The entry.

@@ -40,6 +40,7 @@ sending_fails words asked string (Refused (refusals.Stuck fault)) size q h = abs
 sending_fails words asked string (Refused (refusals.Source fault)) size q h = absurd h
 sending_fails words asked string (Refused (refusals.Resolve fault)) size q h = absurd h
 sending_fails words asked string (Refused (refusals.Pack fault)) size q h = absurd h
+sending_fails words asked string (Refused (refusals.Verdict line)) size q h = absurd h
 sending_fails words asked string (RefusedUnwritten refusal) size q h = absurd h
 sending_fails words asked string (Usage text) size q h = absurd h
 sending_fails words asked string (File path) size q h = absurd h

@@ -2,6 +2,7 @@ pub mod Words
 pub mod Holding
 pub mod Status
 pub mod Failing
+pub mod Sizes
 pub mod Listing
 pub mod Expanding
 pub mod Feeding

@@ -136,7 +136,7 @@ pub fn compare_entries<F: Files>(
 }
 
 /// The entry that the word gives.
-fn entry_of<F: Files>(
+pub fn entry_of<F: Files>(
     alloc: Global,
     files: &mut F,
     word: &str,

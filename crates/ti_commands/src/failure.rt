@@ -69,6 +69,9 @@ pub enum Refusal {
     /// The compiled file has a fault, or the entry can't be compiled.
     #[error("{0}")]
     Pack(PackFault),
+    /// A certificate or a whole entry is refused; these words of the line say where and why.
+    #[error("")]
+    Verdict(Vec<u8>),
 }
 
 /// Why a command ends with another status than 0.
@@ -173,12 +176,17 @@ const OUTPUT: &[u8] =
 /// A name stands in the line as the source has it, but for bytes that could begin a sequence.
 fn write_refusal<E: Write>(refusal: &Refusal, err: &mut E) -> io::Result<()> {
     write!(err, "refused: {refusal}")?;
-    if let Refusal::Resolve(
-        ResolveFault::NoSuchEntry(name) | ResolveFault::Cycle(name) | ResolveFault::TooMany(name),
-    ) = refusal
-    {
-        err.write_all(b" ")?;
-        write_shown(err, name.as_slice())?;
+    match refusal {
+        Refusal::Resolve(
+            ResolveFault::NoSuchEntry(name)
+            | ResolveFault::Cycle(name)
+            | ResolveFault::TooMany(name),
+        ) => {
+            err.write_all(b" ")?;
+            write_shown(err, name.as_slice())?;
+        }
+        Refusal::Verdict(words) => write_shown(err, words.as_slice())?,
+        _ => {}
     }
     err.write_all(b"\n")
 }

@@ -8,7 +8,7 @@ use crate::failure::{Failure, Refusal, Reply};
 use crate::files::Files;
 use crate::reading::read_whole;
 use crate::remarks::Remarks;
-use crate::sizes::{number_word, size_of};
+use crate::sizes::size_words;
 use std::alloc::Global;
 use vt_term::{Size, Terminal};
 
@@ -29,9 +29,7 @@ pub fn feed_file<F: Files>(
     ensures failure { IfErr result (λ e. FailsToFeed (F.holds files.old) rows.now cols.now path.now e) }
     ensures kept { F.holds files.new ≡ F.holds files.old }
 {
-    let rows = number_word(alloc, "ROWS", rows)?;
-    let cols = number_word(alloc, "COLS", cols)?;
-    let size = size_of(alloc, rows, cols, remarks)?;
+    let size = size_words(alloc, rows, cols, remarks)?;
     let bytes = read_whole(alloc, files, path, LIMIT, remarks)?;
     let text = screen_after(alloc, size, path, bytes.as_slice(), remarks)?;
     Ok(Reply::of_text(alloc, text))

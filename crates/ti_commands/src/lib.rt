@@ -18,11 +18,13 @@ mod sizes;
 mod source_lines;
 mod unknown_names;
 
-pub use describing::{Comparison, compare_entries, compile_entry, print_entry};
+pub use describing::{Comparison, compare_entries, compile_entry, entry_of, print_entry};
 pub use expansion::{Expansion, expand_string};
 pub use failure::{Failure, Refusal, Reply, report, usage_error};
 pub use feeding::feed_file;
 pub use files::{Cause, FileFault, Files};
 pub use output::{Output, Unwritten, Written};
+pub use reading::file_fault;
 pub use remarks::Remarks;
 pub use replying::{write_reply, write_text};
+pub use sizes::size_words;

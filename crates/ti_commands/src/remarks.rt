@@ -25,7 +25,7 @@ impl Remarks {
     }
 
     /// One more line: what it is about, in quotes, and what is to be said of it.
-    pub(crate) fn add(&mut self, subject: &[u8], words: &[u8]) {
+    pub fn add(&mut self, subject: &[u8], words: &[u8]) {
         let len = self.text.len();
         if self.push_line(subject, words).is_err() {
             self.text.truncate(len);
@@ -33,7 +33,7 @@ impl Remarks {
     }
 
     /// One more line of these words, if there are any.
-    pub(crate) fn add_words(&mut self, words: &[u8]) {
+    pub fn add_words(&mut self, words: &[u8]) {
         let len = self.text.len();
         if !words.is_empty() && self.push_words(words).is_err() {
             self.text.truncate(len);

@@ -3,6 +3,7 @@
 ghost use Rattle.std.specs.Prelude.{◌≡◌, ◌↔◌, IfErr, IfOk, IsOk};
 ghost use Rattle.vt_term.specs.Size.{IsSize};
 ghost use Rattle.ti_commands.specs.Failing.{IsUsageError, WrongNumber, number_usage};
+ghost use Rattle.ti_commands.specs.Sizes.{LacksSize, SizeGiven};
 ghost use Rattle.ti_commands.specs.Words.{GivesNumber};
 
 use crate::decimal::decimal_number;
@@ -36,6 +37,21 @@ pub fn size_of(alloc: Global, rows: u32, cols: u32, remarks: &mut Remarks) -> Re
             Err(Failure::Refused(Refusal::Size))
         }
     }
+}
+
+/// The terminal's size that the words ROWS and COLS of a line give.
+pub fn size_words(
+    alloc: Global,
+    rows: &str,
+    cols: &str,
+    remarks: &mut Remarks,
+) -> Result<Size, Failure>
+    ensures size { IfOk result (λ size. SizeGiven rows.now cols.now size.rows size.cols) }
+    ensures failure { IfErr result (λ e. LacksSize rows.now cols.now e) }
+{
+    let height = number_word(alloc, "ROWS", rows)?;
+    let width = number_word(alloc, "COLS", cols)?;
+    size_of(alloc, height, width, remarks)
 }
 
 /// A word that stands where a number belongs.

@@ -9,6 +9,7 @@ use ti_commands::{
     Comparison, Expansion, Failure, Files, Output, Remarks, Reply, Written, compare_entries,
     compile_entry, expand_string, feed_file, print_entry, report, write_reply, write_text,
 };
+use ti_verdicts::{Verification, verify_certificate};
 
 /// Does what the words after the program's own name ask for: the answer goes to `out`, notes and a
 /// failure's lines to `err`, and the result is the exit status: 0 done, 1 refused, 2 a usage error,
@@ -73,19 +74,25 @@ fn reply_to<F: Files>(
             rows,
             cols,
             params,
-        } => expand_string(
-            alloc,
-            &Expansion {
-                string,
-                rows,
-                cols,
-                params: params.as_slice(),
-                judges_cup: *cup,
-            },
-            remarks,
-        ),
+        } => expand(alloc, *cup, string, rows, cols, params.as_slice(), remarks),
         Request::Feed { rows, cols, file } => feed_file(alloc, rows, cols, file, files, remarks),
         Request::Tic { entry, out } => compile_entry(alloc, entry, *out, files, remarks),
+        Request::Verify {
+            entry,
+            rows,
+            cols,
+            certificate,
+        } => verify_certificate(
+            alloc,
+            &Verification {
+                entry,
+                rows,
+                cols,
+                certificate,
+            },
+            files,
+            remarks,
+        ),
         Request::Print { entry } => print_entry(alloc, entry, files, remarks),
         Request::Common { first, second } => {
             compare_entries(alloc, first, second, Comparison::Common, files, remarks)
@@ -94,4 +101,23 @@ fn reply_to<F: Files>(
             compare_entries(alloc, first, second, Comparison::Neither, files, remarks)
         }
     }
+}
+
+fn expand(
+    alloc: Global,
+    judges_cup: bool,
+    string: &str,
+    rows: &str,
+    cols: &str,
+    params: &[&str],
+    remarks: &mut Remarks,
+) -> Result<Reply, Failure> {
+    let words = Expansion {
+        string,
+        rows,
+        cols,
+        params,
+        judges_cup,
+    };
+    expand_string(alloc, &words, remarks)
 }

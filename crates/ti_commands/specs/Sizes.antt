@@ -1,0 +1,36 @@
+-- The size of a terminal that two words of a line give, or why they give none.
+use Rattle.std.specs.Prelude.{ℕ, List}
+use Rattle.vt_term.specs.Size.{IsSize}
+use Rattle.ti_commands.specs.Failing.{WrongSize}
+use Rattle.ti_commands.specs.Words.{GivesNumber}
+use Rattle.ti_commands.specs.declared.failure.Failure.{Failure}
+use Rattle.ti_commands.specs.declared.failure.Failure.TheVariants.{Refused, Usage, NoMemory}
+use Rattle.ti_commands.specs.declared.failure.Refusal.TheVariants.{Size}
+
+-- the words of the size are these numbers
+pub record SizeAsked (rows cols : List ℕ) (height width : ℕ) : Type 0 where
+  pub gives_height : GivesNumber rows height
+  pub gives_width : GivesNumber cols width
+
+-- and a terminal can have this size
+pub record SizeGiven (rows cols : List ℕ) (height width : ℕ) : Type 0 where
+  pub asked : SizeAsked rows cols height width
+  pub size : IsSize height width
+
+-- the words are numbers, and no terminal has that size
+pub record SizeRefused (rows cols : List ℕ) : Type 0 where
+  pub height : ℕ
+  pub width : ℕ
+  pub asked : SizeAsked rows cols height width
+  pub refused : IsSize height width → ⊥
+
+-- some size is given
+abbrev pub HasSize : List ℕ → List ℕ → Type 0
+HasSize rows cols = (height : ℕ) × (width : ℕ) × SizeGiven rows cols height width
+
+-- no size is given, as this failure says: the words come first
+abbrev pub LacksSize : List ℕ → List ℕ → Failure → Type 0
+LacksSize rows cols (Usage told) = WrongSize rows cols (Usage told)
+LacksSize rows cols (Refused Size) = SizeRefused rows cols
+LacksSize rows cols NoMemory = Unit {0}
+LacksSize rows cols _ = ⊥

@@ -1,0 +1,64 @@
+-- The words in which a certificate's refusal is told: its line, its kind, and a capability with its parameters.
+use Rattle.std.specs.Prelude.{◌≡◌, ℕ, List, [], ◌∷◌, ◌++◌, codes}
+use Rattle.std.specs.Fmt.{decimal}
+use Rattle.ti_caps.specs.Table.{name_at}
+use Rattle.ti_rows.specs.Names.{name_of}
+use Rattle.ti_rows.specs.Params.{params}
+use Rattle.ti_cert.specs.declared.faults.AgreeFault.TheVariants as agree_faults
+use Rattle.ti_cert.specs.declared.faults.CertFault.{CertFault}
+use Rattle.ti_cert.specs.declared.faults.CertFaultKind.{CertFaultKind}
+use Rattle.ti_cert.specs.declared.faults.CertFaultKind.TheVariants.{BadLine, Missing, OutOfOrder, NotWhole, NotTame, NotShown, NoResync, BadLook, NoMemory, ReadFailed}
+use Rattle.ti_cert.specs.declared.faults.VerifyFault.{VerifyFault}
+use Rattle.ti_cert.specs.declared.faults.VerifyFault.TheVariants.{Cert, Agree}
+use Rattle.ti_commands.specs.Failing.{IsFileFailure}
+use Rattle.ti_commands.specs.declared.failure.Failure.{Failure}
+use Rattle.ti_commands.specs.declared.failure.Failure.TheVariants as failures
+use Rattle.ti_commands.specs.declared.failure.Refusal.TheVariants.{Verdict}
+
+-- each number in decimal, and a space before it
+abbrev pub numbers_text : List ℕ → List ℕ
+numbers_text [] = []
+numbers_text (n ∷ ns) = 32 ∷ decimal n ++ numbers_text ns
+
+-- what of a kind's words comes before its capability
+abbrev pub kind_name : CertFaultKind → List ℕ
+kind_name BadLine = codes "BadLine"
+kind_name (Missing row) = codes "Missing "
+kind_name OutOfOrder = codes "OutOfOrder"
+kind_name NotWhole = codes "NotWhole"
+kind_name NotTame = codes "NotTame"
+kind_name NotShown = codes "NotShown"
+kind_name NoResync = codes "NoResync"
+kind_name BadLook = codes "BadLook"
+kind_name NoMemory = codes "NoMemory"
+kind_name ReadFailed = codes "ReadFailed"
+
+abbrev pub kind_cap : CertFaultKind → List ℕ
+kind_cap (Missing row) = name_of row ++ numbers_text (params row)
+kind_cap _ = []
+
+-- `line N: KIND`, and the capability that the kind has
+abbrev pub fault_text : CertFault → List ℕ
+fault_text fault = codes "line " ++ (decimal fault.line ++ (codes ": " ++ (kind_name fault.kind ++ kind_cap fault.kind)))
+
+-- `Disagree CAP P..`
+abbrev pub disagreement_text : ℕ → List ℕ → List ℕ
+disagreement_text cap numbers = codes "Disagree " ++ (name_at cap ++ numbers_text numbers)
+
+-- the verdict is told in these words
+abbrev pub IsVerdict : List ℕ → Failure → Type 0
+IsVerdict text (failures.Refused (Verdict words)) = words.items ≡ text
+IsVerdict text failures.NoMemory = Unit {0}
+IsVerdict text _ = ⊥
+
+-- the failure that a kind of fault is
+abbrev pub IsOfKind : List ℕ → List ℕ → CertFaultKind → Failure → Type 0
+IsOfKind path text NoMemory failure = failure ≡ failures.NoMemory
+IsOfKind path text ReadFailed failure = IsFileFailure path failure
+IsOfKind path text _ failure = IsVerdict text failure
+
+-- the failure with which this fault of a path's certificate is told
+abbrev pub TellsFault : List ℕ → VerifyFault → Failure → Type 0
+TellsFault path (Cert fault) failure = IsOfKind path (fault_text fault) fault.kind failure
+TellsFault path (Agree (agree_faults.Disagree cap numbers)) failure = IsVerdict (disagreement_text cap numbers.items) failure
+TellsFault path (Agree agree_faults.NoMemory) failure = failure ≡ failures.NoMemory

@@ -1,0 +1,46 @@
+-- What `verify` answers, by what its files hold.
+use Rattle.std.specs.Prelude.{◌⊎◌, ℕ, List, codes}
+use Rattle.ti_caps.specs.Entry.{Content}
+use Rattle.ti_cert.specs.declared.faults.VerifyFault.{VerifyFault}
+use Rattle.ti_conforms.specs.Conforms.{Conforms}
+use Rattle.ti_commands.specs.Failing.{IsFileFailure}
+use Rattle.ti_commands.specs.Finding.{LacksEntry}
+use Rattle.ti_commands.specs.Holding.{Held}
+use Rattle.ti_commands.specs.Replying.{GivesEntry, IsText}
+use Rattle.ti_commands.specs.Sizes.{HasSize, LacksSize, SizeGiven}
+use Rattle.ti_commands.specs.declared.failure.Failure.{Failure}
+use Rattle.ti_commands.specs.declared.failure.Reply.{Reply}
+use Rattle.ti_verdicts.specs.Telling.{TellsFault}
+use Rattle.ti_verdicts.specs.declared.verifying.Verification.{Verification}
+
+-- the word gives an entry that conforms at the size that the words give
+pub record GivesConforming (held : Held) (words : Verification) : Type 0 where
+  pub height : ℕ
+  pub width : ℕ
+  pub given : SizeGiven words.rows.now words.cols.now height width
+  pub entry : Content
+  pub gives : GivesEntry held words.entry.now entry
+  pub conforms : Conforms entry height width
+
+-- the reply is yes
+pub record IsVerified (held : Held) (words : Verification) (reply : Reply) : Type 0 where
+  pub proved : GivesConforming held words
+  pub says : IsText (codes "yes\n") reply
+
+-- the certificate at a path can't be had, or has a fault
+abbrev pub LacksCertificate : List ℕ → Failure → Type 0
+LacksCertificate path failure = IsFileFailure path failure ⊎ ((fault : VerifyFault) × TellsFault path fault failure)
+
+-- the words of the size come first, then the entry, then the certificate
+pub record FailsAtEntry (held : Held) (words : Verification) (failure : Failure) : Type 0 where
+  pub sized : HasSize words.rows.now words.cols.now
+  pub lacks : LacksEntry held words.entry.now failure
+
+pub record FailsAtCertificate (held : Held) (words : Verification) (failure : Failure) : Type 0 where
+  pub sized : HasSize words.rows.now words.cols.now
+  pub entry : Content
+  pub gives : GivesEntry held words.entry.now entry
+  pub lacks : LacksCertificate words.certificate.now failure
+
+abbrev pub FailsToVerify : Held → Verification → Failure → Type 0
+FailsToVerify held words failure = LacksSize words.rows.now words.cols.now failure ⊎ FailsAtEntry held words failure ⊎ FailsAtCertificate held words failure

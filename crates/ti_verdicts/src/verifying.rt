@@ -1,0 +1,130 @@
+//! The command `verify`.
+
+ghost use Rattle.std.specs.Prelude.{◌≡◌, ℕ, List, IfErr, IfOk};
+ghost use Rattle.ti_conforms.specs.Conforms.{Conforms};
+ghost use Rattle.ti_verdicts.specs.Telling.{IsVerdict, TellsFault};
+ghost use Rattle.ti_verdicts.specs.Verifying.{FailsToVerify, IsVerified, LacksCertificate};
+
+use crate::certificates::CertificateFile;
+use crate::explaining::{explain_disagreement, explain_fault};
+use crate::telling::{disagreement_words, fault_words};
+use std::alloc::{AllocError, Global};
+use std::io::Read;
+use ti_caps::Entry;
+use ti_cert::{AgreeFault, CertFault, CertFaultKind, Checked, VerifyFault, verify_from};
+use ti_commands::{Failure, Files, Refusal, Remarks, Reply, entry_of, file_fault, size_words};
+use vt_term::Size;
+
+/// The words of `verify`.
+#[derive(Clone, Copy)]
+pub struct Verification<'a> {
+    /// The entry.
+    pub entry: &'a str,
+    /// The terminal's rows, a decimal number.
+    pub rows: &'a str,
+    /// The terminal's columns, a decimal number.
+    pub cols: &'a str,
+    /// The path of the certificate.
+    pub certificate: &'a str,
+}
+
+/// Says yes if the certificate shows that the entry conforms at this size.
+pub fn verify_certificate<F: Files>(
+    alloc: Global,
+    words: &Verification<'_>,
+    files: &mut F,
+    remarks: &mut Remarks,
+) -> Result<Reply, Failure>
+    ensures reply { IfOk result (λ reply. IsVerified (F.holds files.old) words.now reply) }
+    ensures failure { IfErr result (λ e. FailsToVerify (F.holds files.old) words.now e) }
+    ensures kept { F.holds files.new ≡ F.holds files.old }
+{
+    let size = size_words(alloc, words.rows, words.cols, remarks)?;
+    let entry = entry_of(alloc, files, words.entry, remarks)?;
+    let _checked = checked_at(alloc, &entry, size, words.certificate, files, remarks)?;
+    let text = Vec::from_slice(alloc, b"yes\n")?;
+    Ok(Reply::of_text(alloc, text))
+}
+
+/// What the certificate at a path shows of an entry. It is judged as it is read.
+pub fn checked_at<F: Files>(
+    alloc: Global,
+    entry: &Entry,
+    size: Size,
+    path: &str,
+    files: &mut F,
+    remarks: &mut Remarks,
+) -> Result<Checked, Failure>
+    ensures conforms { IfOk result (λ _. Conforms entry.now size.rows size.cols) }
+    ensures failure { IfErr result (λ e. LacksCertificate path.now e) }
+    ensures kept { F.holds files.new ≡ F.holds files.old }
+{
+    let file = match files.reader(path) {
+        Ok(file) => file,
+        Err(fault) => return Err(file_fault(alloc, path, fault, remarks)),
+    };
+    let mut reader = CertificateFile::new(alloc, file);
+    match verify_from(alloc, entry, size, &mut reader) {
+        Ok(checked) => Ok(checked),
+        Err(fault) => Err(failure_of(alloc, path, size, &fault, &reader, remarks)),
+    }
+}
+
+/// The failure that a fault of the certificate at a path is.
+fn failure_of<R: Read>(
+    alloc: Global,
+    path: &str,
+    size: Size,
+    fault: &VerifyFault,
+    reader: &CertificateFile<R>,
+    remarks: &mut Remarks,
+) -> Failure
+    ensures { TellsFault path.now fault.now result }
+{
+    match fault {
+        VerifyFault::Cert(fault) => cert_failure(alloc, path, size, *fault, reader, remarks),
+        VerifyFault::Agree(fault) => agree_failure(alloc, path, fault, remarks),
+    }
+}
+
+fn agree_failure(alloc: Global, path: &str, fault: &AgreeFault, remarks: &mut Remarks) -> Failure
+    ensures { TellsFault path.now (VerifyFault.Agree fault.now) result }
+{
+    match fault {
+        AgreeFault::Disagree { cap, params } => {
+            explain_disagreement(path, *cap, remarks);
+            verdict(disagreement_words(alloc, *cap, params.as_slice()))
+        }
+        AgreeFault::NoMemory => Failure::NoMemory,
+    }
+}
+
+fn cert_failure<R: Read>(
+    alloc: Global,
+    path: &str,
+    size: Size,
+    fault: CertFault,
+    reader: &CertificateFile<R>,
+    remarks: &mut Remarks,
+) -> Failure
+    ensures { TellsFault path.now (VerifyFault.Cert fault) result }
+{
+    match fault.kind {
+        CertFaultKind::NoMemory => Failure::NoMemory,
+        CertFaultKind::ReadFailed => file_fault(alloc, path, reader.fault(), remarks),
+        _ => {
+            let _ = explain_fault(alloc, path, size, fault, reader.seen(), remarks);
+            verdict(fault_words(alloc, fault))
+        }
+    }
+}
+
+/// The refusal in these words.
+fn verdict(words: Result<Vec<u8>, AllocError>) -> Failure
+    ensures { (text : List ℕ) → IfOk words (λ words. words.items ≡ text) → IsVerdict text result }
+{
+    match words {
+        Ok(words) => Failure::Refused(Refusal::Verdict(words)),
+        Err(_) => Failure::NoMemory,
+    }
+}
