@@ -1,0 +1,2 @@
+-- The definitions of calls as values.
+pub mod Names
