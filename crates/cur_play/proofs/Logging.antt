@@ -240,7 +240,7 @@ pub log_call : {W V C : Type 0} (went : W → W → List ℕ → Type 0) (failur
     → before.painter.checked ≡ given → after.painter.checked ≡ before.painter.checked
     → CallStep (table before.painter.checked) (scene_of before) call answer (scene_of after) → IsStage (table after.painter.checked) after.desk after.screen
     → Carries {W = V} (λ x y b. Counts went (wire x) (wire y) (count x) (count y) b) m z (table before.painter.checked) (partners before.painter.checked) (drawn (table before.painter.checked) (scene_of before) call).0.screen (output_of call) answer
-      (poised (table before.painter.checked) before call) after.painter
+    (poised (table before.painter.checked) before call) after.painter
     → Logged went a (wire z) (count z) (table given) (partners given) calls (i + 1) after (log ++ record { answer = answer; sent = count z } ∷ [])
 log_call {W} {V} {C} went failures laws wire count a m z table partners given calls i call before after log answer l left same kept step sized carries =
     let S : C → Type 0 = λ y. CallStep (table y) (scene_of before) call answer (scene_of after) in
