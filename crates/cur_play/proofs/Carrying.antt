@@ -1,5 +1,5 @@
 -- From what a call puts on the wire to what that does to the terminal.
-use Rattle.std.proofs.Common.{◌≡◌, ℕ, ◌+◌, ◌*◌, ◌≤◌, Bool, true, false, List, [], ◌∷◌, length, Option, Some, refl, sym, ap, subst, ◌∙◌, arith}
+use Rattle.std.proofs.Common.{◌≡◌, ℕ, ◌+◌, ◌*◌, ◌≤◌, Bool, true, false, List, [], length, Option, Some, refl, sym, ap, subst, ◌∙◌, arith}
 use Rattle.std.proofs.Math.Nat.{le_refl}
 use Rattle.vt_term.specs.Screen.{State}
 use Rattle.vt_term.specs.Text.{IsOpen}
@@ -13,18 +13,17 @@ use Rattle.cur_looks.specs.declared.beliefs.Mode.{Mode}
 use Rattle.cur_looks.specs.declared.beliefs.Place.{Place}
 use Rattle.cur_looks.specs.declared.inks.Ink.{Ink}
 use Rattle.cur_paint.specs.Limits.{IsPlaced, paint_limit, fresh_limit}
-use Rattle.cur_paint.specs.Update.{Fits, IsFresh, Shows, refresh_limit}
+use Rattle.cur_paint.specs.Update.{Fits, refresh_limit}
 use Rattle.cur_paint.specs.declared.updates.Session.{Session}
 use Rattle.cur_paint.specs.declared.updates.Status.{Status}
 use Rattle.cur_paint.specs.declared.updates.Status.TheVariants.{Fresh, Known, Lost}
-use Rattle.cur_paint.specs.declared.updates.Wanted.{Wanted}
 use Rattle.cur_update.specs.Differ.{in_lines}
 use Rattle.cur_update.specs.Inks.{ink_at}
 use Rattle.cur_update.specs.Paper.{on_paper, Drawing}
 use Rattle.cur_update.specs.Painters.{Painted, place_of, wanted_of}
 use Rattle.cur_play.specs.Bounds.{is_shown, last_after, most}
-use Rattle.cur_play.specs.Carrying.{FitsIn, IsLast, IsShown, Carries}
-use Rattle.cur_play.specs.Outputs.{IsQuiet, Showed, ShowedShort, Told, Puts}
+use Rattle.cur_play.specs.Carrying.{FitsIn, IsLast, Carries}
+use Rattle.cur_play.specs.Outputs.{IsQuiet, Showed, ShowedShort, Puts}
 use Rattle.cur_play.specs.declared.answers.Answer.{Answer}
 use Rattle.cur_play.specs.declared.answers.Answer.TheVariants.{Done, Was, Refused, WireFailed}
 use Rattle.cur_play.specs.declared.sending.Output.{Output}

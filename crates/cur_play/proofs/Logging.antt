@@ -1,5 +1,5 @@
 -- One call after another, with what went out so far and the log so far.
-use Rattle.std.proofs.Common.{◌≡◌, ℕ, ◌+◌, ◌-◌, ◌^◌, ◌<◌, ◌≤◌, Bool, true, false, List, [], ◌∷◌, ◌++◌, length, take, drop, Option, refl, sym, ap, subst, ◌∙◌, arith, append_assoc, length-append, get_or, add-one}
+use Rattle.std.proofs.Common.{◌≡◌, ℕ, ◌+◌, ◌^◌, ◌<◌, ◌≤◌, true, List, [], ◌∷◌, ◌++◌, length, take, drop, Option, refl, sym, ap, subst, ◌∙◌, arith, append_assoc, length-append, get_or, add-one}
 use Rattle.std.specs.Prelude.{suc}
 use Rattle.std.specs.Borrow.{MutBor}
 use Rattle.std.proofs.Math.Seq.{drop-cons, drop-length, take-append_seam}
@@ -14,7 +14,6 @@ use Rattle.cur_wires.specs.Counted.{Counts, counts_joins}
 use Rattle.cur_steps.specs.Leads.{Ends}
 use Rattle.cur_steps.proofs.Leading.{ends_then}
 use Rattle.cur_looks.specs.Certified.{Table}
-use Rattle.cur_looks.specs.declared.beliefs.Mode.{Mode}
 use Rattle.cur_paint.specs.Update.{Fits, IsFresh, Shows}
 use Rattle.cur_paint.specs.declared.updates.Status.{Status}
 use Rattle.cur_paint.specs.declared.updates.Status.TheVariants.{Fresh, Known}
@@ -24,7 +23,7 @@ use Rattle.cur_update.specs.Painters.{Painted, wanted_of}
 use Rattle.cur_calls.specs.declared.calls.Call.{Call}
 use Rattle.cur_play.specs.Bounds.{is_shown, last_after, most}
 use Rattle.cur_play.specs.Carrying.{Carries, FitsIn, IsLast}
-use Rattle.cur_play.specs.Log.{Plays, Ran, Tells}
+use Rattle.cur_play.specs.Log.{Plays, Tells}
 use Rattle.cur_play.specs.Outputs.{poised}
 use Rattle.cur_play.specs.Running.{RanOn}
 use Rattle.cur_play.specs.Scenes.{IsStage, Scene, Stage, first, scene_of}

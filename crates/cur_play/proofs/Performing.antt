@@ -1,5 +1,5 @@
 -- From what the groups of calls do to what a call draws.
-use Rattle.std.proofs.Common.{◌≡◌, ◌==◌, ℕ, ◌⊎◌, Bool, true, false, Option, Some, None, Result, Ok, Err, refl, sym, ◌∙◌, ap, subst, inl, inr}
+use Rattle.std.proofs.Common.{◌≡◌, ◌==◌, ℕ, Bool, true, false, Option, Some, None, Result, Ok, Err, refl, sym, ◌∙◌, ap, subst, inl, inr}
 use Rattle.std.specs.Prelude.{ℤ, pos, if◌then◌else◌}
 use Rattle.cur_drawing.specs.declared.refusals.Refusal.{Refusal}
 use Rattle.cur_drawing.specs.declared.refusals.Refusal.TheVariants.{NoMemory, OutOfScreen, OutOfWindow}
@@ -13,17 +13,16 @@ use Rattle.cur_pads.specs.Making.{pad_of}
 use Rattle.cur_pads.specs.Ranges.{between, from}
 use Rattle.cur_pads.specs.Showing.{pnoutrefresh, start}
 use Rattle.cur_looks.specs.Certified.{Table}
-use Rattle.cur_looks.specs.declared.beliefs.Mode.{Mode}
 use Rattle.cur_calls.specs.declared.calls.Call.{Call}
 use Rattle.cur_calls.specs.declared.calls.Call.TheVariants.{Show, ShowPad, CursSet, InitPair}
 use Rattle.cur_play.specs.Drawing.{Draws, Drawn, NoSpace, SameSizes}
-use Rattle.cur_play.specs.Groups.{Does, Makes, NoRoomFor}
+use Rattle.cur_play.specs.Groups.{Does, Makes}
 use Rattle.cur_play.specs.Scenes.{Scene}
 use Rattle.cur_update.specs.Painters.{set_mode}
 use Rattle.cur_play.specs.Steps.{Step, answer_of, drawn, mode_answer, on_desk, or_else, showing}
 use Rattle.cur_play.specs.Windows.{changing, making, takes_memory}
 use Rattle.cur_play.specs.declared.answers.Answer.{Answer}
-use Rattle.cur_play.specs.declared.answers.Answer.TheVariants.{Done, Was, Refused, WireFailed}
+use Rattle.cur_play.specs.declared.answers.Answer.TheVariants.{Done, Refused, WireFailed}
 use Rattle.cur_play.proofs.Sizes.{MaySize, making_sized, changing_sized}
 
 -- a step that may be refused for lack of memory

@@ -1,6 +1,5 @@
 -- From what a call draws and what is sent to the whole call.
-use Rattle.std.proofs.Common.{◌≡◌, ℕ, List, Bool, true, false, Option, refl, sym, ◌∙◌, ap, subst}
-use Rattle.ti_rows.specs.declared.rows.Row.TheVariants.{Bel}
+use Rattle.std.proofs.Common.{◌≡◌, ℕ, List, true, false, Option, refl, sym, ◌∙◌, ap, subst}
 use Rattle.cur_drawing.specs.declared.refusals.Refusal.{Refusal}
 use Rattle.cur_drawing.specs.declared.refusals.Refusal.TheVariants.{NoMemory}
 use Rattle.cur_windows.specs.Desks.{State}

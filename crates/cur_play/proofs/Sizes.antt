@@ -1,7 +1,6 @@
 -- No call changes the size of the desk or of the virtual screen.
-use Rattle.std.proofs.Common.{◌≡◌, ℕ, ◌-◌, Bool, true, false, Option, Some, None, Result, Ok, Err, refl, sym, ◌∙◌, ap, subst}
+use Rattle.std.proofs.Common.{◌≡◌, ℕ, ◌-◌, Bool, Option, Some, None, Result, Ok, Err, refl}
 use Rattle.std.specs.Prelude.{ℤ, bit_and, bit_or}
-use Rattle.grids.specs.declared.areas.Area.{Area}
 use Rattle.cur_drawing.specs.declared.cells.Attrs.{Attrs}
 use Rattle.cur_drawing.specs.declared.puts.Put.{Put}
 use Rattle.cur_drawing.specs.declared.refusals.Refusal.{Refusal}
@@ -14,7 +13,7 @@ use Rattle.cur_drawing.specs.declared.windows.Window.{Window}
 use Rattle.cur_drawing.specs.Spans.{area_within, start_within}
 use Rattle.cur_windows.specs.declared.slots.Slot.{Slot}
 use Rattle.cur_windows.specs.declared.copying.CopySpan.{CopySpan}
-use Rattle.cur_windows.specs.Desks.{State, DeskStep, after, slot_of, on_cursor, on_grid, on_window, set, unchanged}
+use Rattle.cur_windows.specs.Desks.{State, DeskStep, after, slot_of, on_cursor, on_grid, on_window, unchanged}
 use Rattle.cur_windows.specs.Making as make
 use Rattle.cur_windows.specs.Copying as copy
 use Rattle.cur_pads.specs.Making as pads
@@ -36,7 +35,6 @@ use Rattle.cur_calls.specs.declared.groups.CellCall.{CellCall}
 use Rattle.cur_calls.specs.declared.groups.CellCall.TheVariants.{Addch, Insch, Bkgdset, Bkgd}
 use Rattle.cur_calls.specs.declared.groups.LineCall.{LineCall}
 use Rattle.cur_calls.specs.declared.groups.LineCall.TheVariants.{Hline, Vline}
-use Rattle.cur_calls.specs.declared.groups.LayCall.{LayCall}
 use Rattle.cur_play.specs.Windows.{part_step, making, plain_step, number_step, numbers_step, flag_step, attributes_step, cell_step, line_step, skips, changing}
 
 pub record IsSized (d : State) (x : DeskStep) : Type 0 where

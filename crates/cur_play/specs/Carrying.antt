@@ -1,11 +1,9 @@
 -- What a call's bytes do to the terminal, whatever of its states it is in, and how many they are.
-use Rattle.std.specs.Prelude.{ℕ, ◌≤◌, ◌≡◌, Bool, true, false, List, length, Option, Some}
+use Rattle.std.specs.Prelude.{ℕ, ◌≤◌, ◌≡◌, true, false, List, length, Option, Some}
 use Rattle.vt_term.specs.Screen.{State}
 use Rattle.cur_windows.specs.VirtualScreen.{Screen}
 use Rattle.cur_steps.specs.Leads.{Ends}
 use Rattle.cur_looks.specs.Certified.{Table}
-use Rattle.cur_looks.specs.declared.beliefs.Mode.{Mode}
-use Rattle.cur_looks.specs.declared.inks.Ink.{Ink}
 use Rattle.cur_paint.specs.Limits.{IsPlaced}
 use Rattle.cur_paint.specs.Update.{Fits, Shows}
 use Rattle.cur_paint.specs.declared.updates.Status.TheVariants.{Known}

@@ -2,7 +2,6 @@
 use Rattle.std.specs.Prelude.{ℕ, ◌≡◌, List, Option}
 use Rattle.cur_windows.specs.VirtualScreen.{Screen}
 use Rattle.cur_looks.specs.Certified.{Table}
-use Rattle.cur_looks.specs.declared.inks.Ink.{Ink}
 use Rattle.cur_paint.specs.Update.{Refreshed, CutShort}
 use Rattle.cur_paint.specs.Beep.{Rang, RangShort}
 use Rattle.cur_paint.specs.Finish.{Finished, FinishedShort}
@@ -13,9 +12,9 @@ use Rattle.cur_calls.specs.declared.calls.Call.{Call}
 use Rattle.cur_play.specs.Scenes.{Stage, scene_of}
 use Rattle.cur_play.specs.Steps.{drawn}
 use Rattle.cur_play.specs.declared.answers.Answer.{Answer}
-use Rattle.cur_play.specs.declared.answers.Answer.TheVariants.{Done, Was, Refused, WireFailed}
+use Rattle.cur_play.specs.declared.answers.Answer.TheVariants.{Done, WireFailed}
 use Rattle.cur_play.specs.declared.sending.Output.{Output}
-use Rattle.cur_play.specs.declared.sending.Output.TheVariants.{Nothing, Update, Bell, End}
+use Rattle.cur_play.specs.declared.sending.Output.TheVariants.{Update, Bell, End}
 
 -- nothing: the wire is as it was, and so is what is known of the terminal
 pub record IsQuiet {W C : Type 0} (old new : W) (before after : Painted C) : Type 0 where

@@ -1,5 +1,5 @@
 -- (Serves the code alone.) What sending leaves, done or cut short.
-use Rattle.std.specs.Prelude.{◌≡◌, true, if◌then◌else◌}
+use Rattle.std.specs.Prelude.{◌≡◌}
 use Rattle.ti_rows.specs.declared.rows.Row.TheVariants.{Bel}
 use Rattle.cur_windows.specs.VirtualScreen.{Screen, refreshed}
 use Rattle.cur_looks.specs.Certified.{Table, has}
@@ -7,7 +7,7 @@ use Rattle.cur_paint.specs.declared.updates.Status.{Status}
 use Rattle.cur_paint.specs.declared.updates.Status.TheVariants.{Fresh, Known, Lost}
 use Rattle.cur_play.specs.Steps.{rung}
 use Rattle.cur_play.specs.declared.answers.Answer.{Answer}
-use Rattle.cur_play.specs.declared.answers.Answer.TheVariants.{Done, Was, Refused, WireFailed}
+use Rattle.cur_play.specs.declared.answers.Answer.TheVariants.{Done, Refused, WireFailed}
 use Rattle.cur_play.specs.declared.sending.Output.{Output}
 use Rattle.cur_play.specs.declared.sending.Output.TheVariants.{Nothing, Update, Bell, End}
 

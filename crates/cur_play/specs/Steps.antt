@@ -1,5 +1,5 @@
 -- What each call does, and what it answers (X/Open Curses Issue 7, the reference pages of the calls).
-use Rattle.std.specs.Prelude.{ℕ, ◌≡◌, Bool, true, false, Option, Some, None, Result, Ok, Err, if◌then◌else◌}
+use Rattle.std.specs.Prelude.{ℕ, ◌≡◌, Bool, true, false, Option, Some, None, Result, Ok, Err}
 use Rattle.ti_rows.specs.declared.rows.Row.TheVariants.{Bel}
 use Rattle.cur_drawing.specs.declared.refusals.Refusal.{Refusal}
 use Rattle.cur_drawing.specs.declared.refusals.Refusal.TheVariants.{NoMemory, NoCap, IsLost}

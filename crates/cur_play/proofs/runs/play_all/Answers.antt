@@ -1,4 +1,4 @@
-use Rattle.std.proofs.Common.{◌≡◌, ◌+◌, ◌∙◌, length, refl, ap, arith}
+use Rattle.std.proofs.Common.{◌∙◌, length, refl, ap, arith}
 use Rattle.cur_play.proofs.Logging.{log_call, log_none, log_whole, next_call}
 use Rattle.cur_play.proofs.runs.play_all.Goals as goal
 
