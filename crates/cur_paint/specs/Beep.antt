@@ -12,12 +12,13 @@ use Rattle.cur_paint.specs.declared.bells.Unsent.TheVariants.{NoCap, Stray, Wire
 use Rattle.cur_paint.specs.declared.updates.Session.{Session}
 use Rattle.cur_paint.specs.declared.updates.Status.TheVariants.{Lost}
 
--- just the bell's string went out, and every state that fits fits as before
+-- just the bell's string went out, of a session that wasn't lost, and every state that fits fits as before
 pub record Rang {W : Type 0} (went : W → W → List ℕ → Type 0) (old new : W) (t : Table) (before after : Session) : Type 0 where
   pub line : List ℕ
   pub is : t.line_of Bel ≡ Some line
   pub sent : went old new line
   pub same : after ≡ before
+  pub held : before.status ≡ Lost → ⊥
   pub fits : (g : ℕ → ℕ → Ink) (s : State) → Fits t g before.status before.belief s → Ends s line (Fits t g before.status before.belief)
 
 -- a front of it went out, and the session is lost
@@ -29,6 +30,7 @@ pub record RangShort {W : Type 0} (went : W → W → List ℕ → Type 0) (fail
   pub parts : line ≡ front ++ back
   pub sent : went old new front
   pub failed : Rose (failures old) (failures new)
+  pub held : before.status ≡ Lost → ⊥
   pub fits : (g : ℕ → ℕ → Ink) (s : State) → Fits t g before.status before.belief s → Ends s front (IsLost t)
   pub lost : after.status ≡ Lost
 

@@ -20,6 +20,7 @@ returns-in-Ok g c =
         is = is;
         sent = c.in-Ok.ensures.sends;
         same = refl;
+        held = some;
         fits = rung_fits t c.rows.ensures.checked line is before.status some before.belief;
       };
     }
@@ -41,6 +42,7 @@ returns-in-Err g c =
         parts = stops.parts;
         sent = stops.sent;
         failed = stops.failed;
+        held = some;
         fits = rung_short t c.rows.ensures.checked line is before.status some before.belief stops.front stops.back stops.parts;
         lost = refl;
       };

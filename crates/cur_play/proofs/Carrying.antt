@@ -1,0 +1,189 @@
+-- From what a call puts on the wire to what that does to the terminal.
+use Rattle.std.proofs.Common.{◌≡◌, ℕ, ◌+◌, ◌*◌, ◌≤◌, Bool, true, false, List, [], length, Option, Some, refl, sym, ap, subst, ◌∙◌, arith}
+use Rattle.std.proofs.Math.Nat.{le_refl}
+use Rattle.vt_term.specs.Screen.{State}
+use Rattle.vt_term.specs.Text.{IsOpen}
+use Rattle.vt_term.proofs.Running.{runs_nothing}
+use Rattle.cur_windows.specs.VirtualScreen.{Screen}
+use Rattle.cur_wires.specs.Wire.{IsWire}
+use Rattle.cur_steps.specs.Leads.{Ends}
+use Rattle.cur_looks.specs.Certified.{Table, IsLost, cell_limit}
+use Rattle.cur_looks.specs.declared.beliefs.Belief.{Belief}
+use Rattle.cur_looks.specs.declared.beliefs.Mode.{Mode}
+use Rattle.cur_looks.specs.declared.beliefs.Place.{Place}
+use Rattle.cur_looks.specs.declared.inks.Ink.{Ink}
+use Rattle.cur_paint.specs.Limits.{IsPlaced, paint_limit, fresh_limit}
+use Rattle.cur_paint.specs.Update.{Fits, refresh_limit}
+use Rattle.cur_paint.specs.declared.updates.Session.{Session}
+use Rattle.cur_paint.specs.declared.updates.Status.{Status}
+use Rattle.cur_paint.specs.declared.updates.Status.TheVariants.{Fresh, Known, Lost}
+use Rattle.cur_update.specs.Differ.{in_lines}
+use Rattle.cur_update.specs.Inks.{ink_at}
+use Rattle.cur_update.specs.Paper.{on_paper, Drawing}
+use Rattle.cur_update.specs.Painters.{Painted, place_of, wanted_of}
+use Rattle.cur_play.specs.Bounds.{is_shown, last_after, most}
+use Rattle.cur_play.specs.Carrying.{FitsIn, IsLast, Carries}
+use Rattle.cur_play.specs.Outputs.{IsQuiet, Showed, ShowedShort, Puts}
+use Rattle.cur_play.specs.declared.answers.Answer.{Answer}
+use Rattle.cur_play.specs.declared.answers.Answer.TheVariants.{Done, Was, Refused, WireFailed}
+use Rattle.cur_play.specs.declared.sending.Output.{Output}
+use Rattle.cur_play.specs.declared.sending.Output.TheVariants.{Nothing, Update, Bell, End}
+
+-- the laws of the bound, for virtual screens
+pub record IsBound : Type 0 where
+  pub most : (t : Table) (partners : ℕ → Option ℕ) (v w : Screen) (b : Belief) (cursor : Option Place) (mode : Mode) → v.rows ≡ w.rows → v.cols ≡ w.cols
+      → paint_limit t (ink_at t partners v) (ink_at t partners w) b cursor mode ≤ (in_lines v w t.cols t.rows + 1) * cell_limit t
+  pub none : (t : Table) (partners : ℕ → Option ℕ) (v w : Screen) (b : Belief) (cursor : Option Place) (mode : Mode) → v.rows ≡ w.rows → v.cols ≡ w.cols
+      → in_lines v w t.cols t.rows ≡ 0 → IsPlaced cursor b.place → b.mode ≡ Some mode → paint_limit t (ink_at t partners v) (ink_at t partners w) b cursor mode ≡ 0
+
+fits_open : (t : Table) (g : ℕ → ℕ → Ink) (status : Status) (b : Belief) (s : State) → Fits t g status b s → IsOpen s.rest
+fits_open t g Fresh b s f = f.lost.sized.state.rest
+fits_open t g Known b s f = f.ready.sized.state.rest
+fits_open t g Lost b s f = f.sized.state.rest
+
+-- nothing went out
+stays : {C : Type 0} (t : Table) (before after : Painted C) → after.session ≡ before.session → after.paper ≡ before.paper → (s : State) → FitsIn t before s → Ends s [] (FitsIn t after)
+stays t before after e f s p =
+    let P : Session → Type 0 = λ x. Fits t (on_paper after.paper) x.status x.belief s in
+    let Q : Drawing → Type 0 = λ d. Fits t (on_paper d) before.session.status before.session.belief s in
+    record { after = s; runs = runs_nothing s (fits_open t (on_paper before.paper) before.session.status before.session.belief s p); there = subst P (sym e) (subst Q (sym f) p) }
+
+-- the screen shown last where nothing was shown
+keeps_last : {C : Type 0} (t : Table) (partners : ℕ → Option ℕ) (before after : Painted C) (last : Screen) → (after.session.status ≡ Known → before.session.status ≡ Known) → after.paper ≡ before.paper
+    → IsLast t partners before last → IsLast t partners after last
+keeps_last t partners before after last known paper h e = ap on_paper paper ∙ h (known e)
+
+fresh_unknown : (s : Status) → s ≡ Fresh → s ≡ Known → ⊥
+fresh_unknown s e f = cc
+
+lost_unknown : (s : Status) → s ≡ Lost → s ≡ Known → ⊥
+lost_unknown s e f = cc
+
+most_of : (laws : IsBound) (t : Table) (partners : ℕ → Option ℕ) (shown : ℕ → ℕ → Ink) (v : Screen) (status : Status) (b : Belief) (mode : Mode) (clear : Bool) (last : Screen) → last.rows ≡ v.rows → last.cols ≡ v.cols
+    → (status ≡ Known → shown ≡ ink_at t partners last)
+    → refresh_limit t shown (ink_at t partners v) status b (record { cursor = place_of v.cursor; mode = mode; clear = clear }) ≤ most t status clear last v
+most_of laws t partners shown v Fresh b mode clear last rows cols h = le_refl (fresh_limit t)
+most_of laws t partners shown v Lost b mode clear last rows cols h = le_refl (fresh_limit t)
+most_of laws t partners shown v Known b mode true last rows cols h = le_refl (fresh_limit t)
+most_of laws t partners shown v Known b mode false last rows cols h =
+    let P : (ℕ → ℕ → Ink) → Type 0 = λ g. paint_limit t g (ink_at t partners v) b (place_of v.cursor) mode ≤ (in_lines last v t.cols t.rows + 1) * cell_limit t in
+    subst P (sym (h refl)) (laws.most t partners last v b (place_of v.cursor) mode rows cols)
+
+none_of : (laws : IsBound) (t : Table) (partners : ℕ → Option ℕ) (shown : ℕ → ℕ → Ink) (v : Screen) (status : Status) (b : Belief) (mode : Mode) (clear : Bool) (last : Screen) → last.rows ≡ v.rows → last.cols ≡ v.cols
+    → (status ≡ Known → shown ≡ ink_at t partners last) → status ≡ Known → in_lines last v t.cols t.rows ≡ 0 → IsPlaced (place_of v.cursor) b.place → b.mode ≡ Some mode → clear ≡ false
+    → refresh_limit t shown (ink_at t partners v) status b (record { cursor = place_of v.cursor; mode = mode; clear = clear }) ≡ 0
+none_of laws t partners shown v Fresh b mode clear last rows cols h k n p m c = absurd (cc)
+none_of laws t partners shown v Lost b mode clear last rows cols h k n p m c = absurd (cc)
+none_of laws t partners shown v Known b mode true last rows cols h k n p m c = absurd (cc)
+none_of laws t partners shown v Known b mode false last rows cols h k n p m c =
+    let P : (ℕ → ℕ → Ink) → Type 0 = λ g. paint_limit t g (ink_at t partners v) b (place_of v.cursor) mode ≡ 0 in
+    subst P (sym (h refl)) (laws.none t partners last v b (place_of v.cursor) mode rows cols n p m)
+
+pub quietly : {W C : Type 0} (went : W → W → List ℕ → Type 0) (failures : W → ℕ) → IsWire went failures → (old new : W) (t : Table) (partners : ℕ → Option ℕ) (v : Screen) (o : Output) (answer : Answer) (before after : Painted C)
+    → is_shown o answer ≡ false → ((last : Screen) → last_after o answer last v ≡ last) → IsQuiet old new before after → Carries went old new t partners v o answer before after
+quietly {W} went failures laws old new t partners v o answer before after none same q = record {
+  bytes = [];
+  sent = (let P : W → Type 0 = λ w. went old w [] in subst P (sym q.wire) (laws.nothing old));
+  fits = stays t before after q.session q.paper;
+  shows = λ e. absurd (cc);
+  last = λ last h. (let P : Screen → Type 0 = λ x. IsLast t partners after x in
+      subst P (sym (same last)) (keeps_last t partners before after last (λ k. ap (λ (x : Session). x.status) (sym q.session) ∙ k) q.paper h));
+  bound = λ e last rows cols h. omega arith;
+  idle = λ e last rows cols h k. refl;
+  quiet = λ e. refl;
+}
+
+-- all went out, or a front of it, without showing the screen
+otherwise : {W C : Type 0} (went : W → W → List ℕ → Type 0) (old new : W) (t : Table) (partners : ℕ → Option ℕ) (v : Screen) (o : Output) (answer : Answer) (before after : Painted C) (bytes : List ℕ)
+    → is_shown o answer ≡ false → ((last : Screen) → last_after o answer last v ≡ last) → (o ≡ Update → ⊥) → (o ≡ Nothing → ⊥)
+    → went old new bytes → ((s : State) → FitsIn t before s → Ends s bytes (FitsIn t after)) → (after.session.status ≡ Known → before.session.status ≡ Known) → after.paper ≡ before.paper
+    → Carries went old new t partners v o answer before after
+otherwise went old new t partners v o answer before after bytes none same other some sent fits known paper = record {
+  bytes = bytes;
+  sent = sent;
+  fits = fits;
+  shows = λ e. absurd (cc);
+  last = λ last h. (let P : Screen → Type 0 = λ x. IsLast t partners after x in subst P (sym (same last)) (keeps_last t partners before after last known paper h));
+  bound = λ e last rows cols h. absurd (other e);
+  idle = λ e last rows cols h k. absurd (other e);
+  quiet = λ e. absurd (some e);
+}
+
+-- a state that fits a session of this status, on this paper
+refit : (t : Table) (g h : ℕ → ℕ → Ink) (a b : Status) (k : Belief) (bytes : List ℕ) (s : State) → h ≡ g → b ≡ a → Ends s bytes (Fits t g a k) → Ends s bytes (Fits t h b k)
+refit t g h a b k bytes s e f x =
+    let P : (ℕ → ℕ → Ink) → Type 0 = λ y. Fits t y b k x.after in
+    let Q : Status → Type 0 = λ y. Fits t g y k x.after in
+    record { after = x.after; runs = x.runs; there = subst P (sym e) (subst Q (sym f) x.there) }
+
+showed : {W C : Type 0} (went : W → W → List ℕ → Type 0) (old new : W) (t : Table) (partners : ℕ → Option ℕ) (v : Screen) (before after : Painted C) → IsBound → v.rows ≡ t.rows → v.cols ≡ t.cols
+    → Showed went old new t partners v before after → Carries went old new t partners v Update Done before after
+showed went old new t partners v before after laws high wide p =
+    let r = p.refreshed in
+    let limit : ℕ = refresh_limit t (on_paper before.paper) (ink_at t partners v) before.session.status before.session.belief (wanted_of v before.mode) in
+    let le : length r.bytes ≤ limit = r.bound in
+    record {
+      bytes = r.bytes;
+      sent = r.sent;
+      fits = λ s f. refit t (ink_at t partners v) (on_paper after.paper) Known after.session.status after.session.belief r.bytes s p.paper r.known (r.fits s f);
+      shows = λ e s f. r.lawful.shows s f;
+      last = λ last h k. p.paper;
+      bound = λ e last rows cols h. (let m = most_of laws t partners (on_paper before.paper) v before.session.status before.session.belief before.mode v.clearok last (rows ∙ sym high) (cols ∙ sym wide) h in omega (arith, le, m));
+      idle = λ e last rows cols h k. (let z = none_of laws t partners (on_paper before.paper) v before.session.status before.session.belief before.mode v.clearok last (rows ∙ sym high) (cols ∙ sym wide) h k.known k.same k.placed k.mode k.clear in omega (arith, le, z));
+      quiet = λ e. absurd (cc);
+    }
+
+showed_short : {W C : Type 0} (went : W → W → List ℕ → Type 0) (failures : W → ℕ) (old new : W) (t : Table) (partners : ℕ → Option ℕ) (v : Screen) (before after : Painted C) → IsBound → v.rows ≡ t.rows → v.cols ≡ t.cols
+    → ShowedShort went failures old new t partners v before after → Carries went old new t partners v Update WireFailed before after
+showed_short went failures old new t partners v before after laws high wide p =
+    let r = p.cut in
+    let limit : ℕ = refresh_limit t (on_paper before.paper) (ink_at t partners v) before.session.status before.session.belief (wanted_of v before.mode) in
+    let le : length r.front ≤ limit = r.bound in
+    record {
+      bytes = r.front;
+      sent = r.sent;
+      fits = λ s f. refit t (on_paper after.paper) (on_paper after.paper) Lost after.session.status after.session.belief r.front s refl r.lost (r.fits s f);
+      shows = λ e. absurd (cc);
+      last = λ last h k. absurd (lost_unknown after.session.status r.lost k);
+      bound = λ e last rows cols h. (let m = most_of laws t partners (on_paper before.paper) v before.session.status before.session.belief before.mode v.clearok last (rows ∙ sym high) (cols ∙ sym wide) h in omega (arith, le, m));
+      idle = λ e last rows cols h k. (let z = none_of laws t partners (on_paper before.paper) v before.session.status before.session.belief before.mode v.clearok last (rows ∙ sym high) (cols ∙ sym wide) h k.known k.same k.placed k.mode k.clear in omega (arith, le, z));
+      quiet = λ e. absurd (cc);
+    }
+
+to_lost : {C : Type 0} (t : Table) (after : Painted C) (bytes : List ℕ) (s : State) → after.session.status ≡ Lost → Ends s bytes (IsLost t) → Ends s bytes (FitsIn t after)
+to_lost t after bytes s e x = refit t (on_paper after.paper) (on_paper after.paper) Lost after.session.status after.session.belief bytes s refl e x
+
+-- the session is the same
+same_session : {C : Type 0} (t : Table) (before after : Painted C) (bytes : List ℕ) (s : State) → after.session ≡ before.session → after.paper ≡ before.paper → Ends s bytes (FitsIn t before) → Ends s bytes (FitsIn t after)
+same_session t before after bytes s e f x =
+    let P : Session → Type 0 = λ y. Fits t (on_paper after.paper) y.status y.belief x.after in
+    let Q : Drawing → Type 0 = λ d. Fits t (on_paper d) before.session.status before.session.belief x.after in
+    record { after = x.after; runs = x.runs; there = subst P (sym e) (subst Q (sym f) x.there) }
+
+pub carries : {W C : Type 0} (went : W → W → List ℕ → Type 0) (failures : W → ℕ) → IsWire went failures → IsBound → (old new : W) (t : Table) (partners : ℕ → Option ℕ) (v : Screen) (o : Output) (answer : Answer) (before after : Painted C) → v.rows ≡ t.rows → v.cols ≡ t.cols
+    → Puts went failures old new t partners v o answer before after → Carries went old new t partners v o answer before after
+carries went failures wire laws old new t partners v Nothing answer before after high wide p = quietly went failures wire old new t partners v Nothing answer before after refl (λ l. refl) p
+carries went failures wire laws old new t partners v Update Done before after high wide p = showed went old new t partners v before after laws high wide p
+carries went failures wire laws old new t partners v Update WireFailed before after high wide p = showed_short went failures old new t partners v before after laws high wide p
+carries went failures wire laws old new t partners v Update (Was n) before after high wide p = quietly went failures wire old new t partners v Update (Was n) before after refl (λ l. refl) p
+carries went failures wire laws old new t partners v Update (Refused r) before after high wide p = quietly went failures wire old new t partners v Update (Refused r) before after refl (λ l. refl) p
+carries went failures wire laws old new t partners v Bell (Was n) before after high wide p = quietly went failures wire old new t partners v Bell (Was n) before after refl (λ l. refl) p
+carries went failures wire laws old new t partners v Bell (Refused r) before after high wide p = quietly went failures wire old new t partners v Bell (Refused r) before after refl (λ l. refl) p
+carries went failures wire laws old new t partners v End (Was n) before after high wide p = quietly went failures wire old new t partners v End (Was n) before after refl (λ l. refl) p
+carries went failures wire laws old new t partners v End (Refused r) before after high wide p = quietly went failures wire old new t partners v End (Refused r) before after refl (λ l. refl) p
+carries went failures wire laws old new t partners v Bell Done before after high wide p =
+    let r = p.sends in
+    otherwise went old new t partners v Bell Done before after r.line refl (λ l. refl) (λ e. cc) (λ e. cc) r.sent
+    (λ s f. same_session t before after r.line s r.same p.paper (r.fits (on_paper before.paper) s f)) (λ k. ap (λ (x : Session). x.status) (sym r.same) ∙ k) p.paper
+carries went failures wire laws old new t partners v Bell WireFailed before after high wide p =
+    let r = p.sends in
+    otherwise went old new t partners v Bell WireFailed before after r.front refl (λ l. refl) (λ e. cc) (λ e. cc) r.sent
+    (λ s f. to_lost t after r.front s r.lost (r.fits (on_paper before.paper) s f)) (λ k. absurd (lost_unknown after.session.status r.lost k)) p.paper
+carries went failures wire laws old new t partners v End Done before after high wide p =
+    let r = p.sends in
+    otherwise went old new t partners v End Done before after _ refl (λ l. refl) (λ e. cc) (λ e. cc) r.sent
+    (λ s f. refit t (on_paper after.paper) (on_paper after.paper) Fresh after.session.status after.session.belief _ s refl r.fresh (r.fits (on_paper before.paper) s f)) (λ k. absurd (fresh_unknown after.session.status r.fresh k)) p.paper
+carries went failures wire laws old new t partners v End WireFailed before after high wide p =
+    let r = p.sends in
+    otherwise went old new t partners v End WireFailed before after r.front refl (λ l. refl) (λ e. cc) (λ e. cc) r.sent
+    (λ s f. to_lost t after r.front s r.lost (r.fits (on_paper before.paper) s f)) (λ k. absurd (lost_unknown after.session.status r.lost k)) p.paper

@@ -1,0 +1,5 @@
+pub mod Sizes
+pub mod Performing
+pub mod Carrying
+pub mod Playing
+pub mod Logging

@@ -1,0 +1,16 @@
+use Rattle.cur_play.proofs.Playing.{stage_kept}
+use Rattle.cur_play.proofs.sessions.Session.call.Goals as goal
+
+pub invariant_of-self : goal.invariant_of-self
+invariant_of-self g c =
+    stage_kept g.C.Certificate.table c.self.inside.painter c.play.new.painter c.self.inside.desk c.play.new.desk c.self.inside.screen c.play.new.screen c.self.invariant c.play.ensures.sizes c.play.ensures.certificate
+
+pub returns : goal.returns
+returns g c =
+    rw (← c.self.view_is) (record {
+      step = c.play.ensures.step;
+      puts = c.play.ensures.puts;
+      carries = c.play.ensures.carries;
+      stage = stage_kept g.C.Certificate.table c.self.inside.painter c.play.new.painter c.self.inside.desk c.play.new.desk c.self.inside.screen c.play.new.screen c.self.invariant c.play.ensures.sizes c.play.ensures.certificate;
+      certificate = c.play.ensures.certificate;
+    })

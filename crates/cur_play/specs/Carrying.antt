@@ -1,0 +1,47 @@
+-- What a call's bytes do to the terminal, whatever of its states it is in, and how many they are.
+use Rattle.std.specs.Prelude.{ℕ, ◌≤◌, ◌≡◌, true, false, List, length, Option, Some}
+use Rattle.vt_term.specs.Screen.{State}
+use Rattle.cur_windows.specs.VirtualScreen.{Screen}
+use Rattle.cur_steps.specs.Leads.{Ends}
+use Rattle.cur_looks.specs.Certified.{Table}
+use Rattle.cur_paint.specs.Limits.{IsPlaced}
+use Rattle.cur_paint.specs.Update.{Fits, Shows}
+use Rattle.cur_paint.specs.declared.updates.Status.TheVariants.{Known}
+use Rattle.cur_update.specs.Differ.{in_lines}
+use Rattle.cur_update.specs.Inks.{ink_at}
+use Rattle.cur_update.specs.Paper.{on_paper}
+use Rattle.cur_update.specs.Painters.{Painted, place_of, wanted_of}
+use Rattle.cur_play.specs.Bounds.{is_shown, last_after, most}
+use Rattle.cur_play.specs.declared.answers.Answer.{Answer}
+use Rattle.cur_play.specs.declared.sending.Output.{Output}
+use Rattle.cur_play.specs.declared.sending.Output.TheVariants.{Nothing, Update}
+
+-- the states that the terminal may be in
+abbrev pub FitsIn : {C : Type 0} → Table → Painted C → State → Type 0
+FitsIn t p s = Fits t (on_paper p.paper) p.session.status p.session.belief s
+
+-- where the terminal is known, this screen was shown last
+abbrev pub IsLast : {C : Type 0} → Table → (ℕ → Option ℕ) → Painted C → Screen → Type 0
+IsLast t partners p last = p.session.status ≡ Known → on_paper p.paper ≡ ink_at t partners last
+
+-- the terminal is known, shows this screen with the cursor and its mode, and isn't to be cleared
+pub record IsShown {C : Type 0} (t : Table) (v : Screen) (p : Painted C) (last : Screen) : Type 0 where
+  pub known : p.session.status ≡ Known
+  pub same : in_lines last v t.cols t.rows ≡ 0
+  pub placed : IsPlaced (place_of v.cursor) p.session.belief.place
+  pub mode : p.session.belief.mode ≡ Some p.mode
+  pub clear : v.clearok ≡ false
+
+-- v is the virtual screen when the sending begins, and the painter before has the cursor's mode at that time
+pub record Carries {W C : Type 0} (went : W → W → List ℕ → Type 0) (old new : W) (t : Table) (partners : ℕ → Option ℕ) (v : Screen) (o : Output) (answer : Answer) (before after : Painted C) : Type 0 where
+  pub bytes : List ℕ
+  pub sent : went old new bytes
+  -- every state that fits before, run over the bytes, fits after
+  pub fits : (s : State) → FitsIn t before s → Ends s bytes (FitsIn t after)
+  -- and after a refresh that was done it shows the virtual screen
+  pub shows : is_shown o answer ≡ true → (s : State) → FitsIn t before s → Ends s bytes (Shows t (ink_at t partners v) (wanted_of v before.mode))
+  pub last : (last : Screen) → IsLast t partners before last → IsLast t partners after (last_after o answer last v)
+  -- a refresh keeps its bound, done or cut short, and sends nothing where all is shown
+  pub bound : o ≡ Update → (last : Screen) → last.rows ≡ t.rows → last.cols ≡ t.cols → IsLast t partners before last → length bytes ≤ most t before.session.status v.clearok last v
+  pub idle : o ≡ Update → (last : Screen) → last.rows ≡ t.rows → last.cols ≡ t.cols → IsLast t partners before last → IsShown t v before last → length bytes ≡ 0
+  pub quiet : o ≡ Nothing → length bytes ≡ 0

@@ -1,0 +1,114 @@
+-- What the calls on windows alone do (X/Open Curses Issue 7, the reference pages of the calls named): each is the equation
+-- of the window library.
+use Rattle.std.specs.Prelude.{ℕ, ℤ, ◌-◌, Bool, true, false, Option, Some, None, bit_and, bit_or}
+use Rattle.cur_drawing.specs.declared.cells.Attrs.{Attrs}
+use Rattle.cur_drawing.specs.declared.puts.Put.{Put}
+use Rattle.cur_drawing.specs.Calls as call
+use Rattle.cur_drawing.specs.Windows as window
+use Rattle.cur_windows.specs.Desks.{State, DeskStep, on_cursor, on_grid, on_window, set, unchanged}
+use Rattle.cur_windows.specs.Making as make
+use Rattle.cur_windows.specs.Copying as copy
+use Rattle.cur_pads.specs.Making as pads
+use Rattle.cur_calls.specs.declared.calls.Call.{Call}
+use Rattle.cur_calls.specs.declared.calls.Call.TheVariants.{Newwin, Newpad, Part, Dupwin, Plain, Number, Numbers, Flag, Attributes, Cell, Addstr, Line, DrawBorder, DrawBox, Lay, Copywin}
+use Rattle.cur_calls.specs.declared.groups.PartCall.{PartCall}
+use Rattle.cur_calls.specs.declared.groups.PartCall.TheVariants.{Subwin, Derwin, Subpad}
+use Rattle.cur_calls.specs.declared.groups.PlainCall.{PlainCall}
+use Rattle.cur_calls.specs.declared.groups.PlainCall.TheVariants.{Delwin, Delch, Insertln, Deleteln, Clrtoeol, Clrtobot, Erase, Clear, Touchwin}
+use Rattle.cur_calls.specs.declared.groups.NumberCall.{NumberCall}
+use Rattle.cur_calls.specs.declared.groups.NumberCall.TheVariants.{Scroll, ColorSet}
+use Rattle.cur_calls.specs.declared.groups.NumbersCall.{NumbersCall}
+use Rattle.cur_calls.specs.declared.groups.NumbersCall.TheVariants.{Mvwin, Move, Setscrreg, Touchline}
+use Rattle.cur_calls.specs.declared.groups.FlagCall.{FlagCall}
+use Rattle.cur_calls.specs.declared.groups.FlagCall.TheVariants.{Scrollok, Leaveok, Clearok, Idlok}
+use Rattle.cur_calls.specs.declared.groups.AttrsCall.{AttrsCall}
+use Rattle.cur_calls.specs.declared.groups.AttrsCall.TheVariants.{Attron, Attroff, Attrset}
+use Rattle.cur_calls.specs.declared.groups.CellCall.{CellCall}
+use Rattle.cur_calls.specs.declared.groups.CellCall.TheVariants.{Addch, Insch, Bkgdset, Bkgd}
+use Rattle.cur_calls.specs.declared.groups.LineCall.{LineCall}
+use Rattle.cur_calls.specs.declared.groups.LineCall.TheVariants.{Hline, Vline}
+use Rattle.cur_calls.specs.declared.groups.LayCall.{LayCall}
+use Rattle.cur_calls.specs.declared.groups.LayCall.TheVariants.{Overlay, Overwrite}
+
+abbrev pub part_step : PartCall → State → ℕ → ℕ → ℤ → ℤ → ℤ → ℤ → DeskStep
+part_step Subwin d n w lines cols y x = make.subwin d n w lines cols y x
+part_step Derwin d n w lines cols y x = make.derwin d n w lines cols y x
+part_step Subpad d n w lines cols y x = pads.subpad d n w lines cols y x
+
+-- the calls that make windows
+abbrev pub making : State → Call → Option DeskStep
+making d (Newwin n lines cols y x) = Some (make.newwin d n lines cols y x)
+making d (Newpad n lines cols) = Some (pads.newpad d n lines cols)
+making d (Part k n w lines cols y x) = Some (part_step k d n w lines cols y x)
+making d (Dupwin n w) = Some (make.dupwin d n w)
+making d _ = None
+
+-- the calls that need memory, which may be refused for the lack of it
+abbrev pub takes_memory : Call → Bool
+takes_memory (Newwin n lines cols y x) = true
+takes_memory (Newpad n lines cols) = true
+takes_memory (Dupwin n w) = true
+takes_memory _ = false
+
+abbrev pub plain_step : PlainCall → State → ℕ → DeskStep
+plain_step Delwin d n = make.delwin d n
+plain_step Delch d n = on_grid d n call.delete_char
+plain_step Insertln d n = on_grid d n call.insert_line
+plain_step Deleteln d n = on_grid d n call.delete_line
+plain_step Clrtoeol d n = on_grid d n call.clear_line
+plain_step Clrtobot d n = on_grid d n call.clear_bottom
+plain_step Erase d n = on_window d n call.erased
+plain_step Clear d n = on_window d n call.cleared
+plain_step Touchwin d n = unchanged d n
+
+abbrev pub number_step : NumberCall → State → ℕ → ℤ → DeskStep
+number_step Scroll d n k = on_grid d n (call.scroll_by k)
+number_step ColorSet d n k = on_cursor d n (window.set_pair k)
+
+abbrev pub numbers_step : NumbersCall → State → ℕ → ℤ → ℤ → DeskStep
+numbers_step Mvwin d n y x = make.mvwin d n y x
+numbers_step Move d n y x = on_cursor d n (window.move_to y x)
+numbers_step Setscrreg d n top bottom = on_cursor d n (window.set_region top bottom)
+numbers_step Touchline d n y count = unchanged d n
+
+abbrev pub flag_step : FlagCall → State → ℕ → Bool → DeskStep
+flag_step Scrollok d n on = set d n (λ w. record w { scrolls = on })
+flag_step Leaveok d n on = set d n (λ w. record w { leaves = on })
+flag_step Clearok d n on = set d n (λ w. record w { clears = on })
+flag_step Idlok d n on = unchanged d n
+
+abbrev pub attributes_step : AttrsCall → State → ℕ → Attrs → DeskStep
+attributes_step Attron d n a = set d n (λ w. record w { attrs = record { 0 = bit_or w.attrs.0 a.0 } })
+attributes_step Attroff d n a = set d n (λ w. record w { attrs = record { 0 = bit_and w.attrs.0 (255 - a.0) } })
+attributes_step Attrset d n a = set d n (λ w. record w { attrs = a })
+
+abbrev pub cell_step : CellCall → State → ℕ → Put → DeskStep
+cell_step Addch d n p = on_window d n (call.added p)
+cell_step Insch d n p = on_grid d n (call.insert_char p)
+cell_step Bkgdset d n p = on_cursor d n (window.set_background p)
+cell_step Bkgd d n p = on_window d n (call.change_background p)
+
+abbrev pub line_step : LineCall → State → ℕ → Put → ℤ → DeskStep
+line_step Hline d n p k = on_grid d n (call.horizontal p k)
+line_step Vline d n p k = on_grid d n (call.vertical p k)
+
+-- `overlay` skips spaces
+abbrev pub skips : LayCall → Bool
+skips Overlay = true
+skips Overwrite = false
+
+-- the calls that change windows, or delete one
+abbrev pub changing : State → Call → Option DeskStep
+changing d (Plain k n) = Some (plain_step k d n)
+changing d (Number k n x) = Some (number_step k d n x)
+changing d (Numbers k n x y) = Some (numbers_step k d n x y)
+changing d (Flag k n on) = Some (flag_step k d n on)
+changing d (Attributes k n a) = Some (attributes_step k d n a)
+changing d (Cell k n p) = Some (cell_step k d n p)
+changing d (Addstr n text) = Some (on_window d n (call.added_all text))
+changing d (Line k n p x) = Some (line_step k d n p x)
+changing d (DrawBorder n b) = Some (on_grid d n (call.bordered b))
+changing d (DrawBox n v h) = Some (on_grid d n (call.bordered (call.box_of v h)))
+changing d (Lay k s t) = Some (copy.common_part (skips k) d s t)
+changing d (Copywin s t from_row from_col row col last_row last_col skip) = Some (copy.copywin d s t from_row from_col row col last_row last_col skip)
+changing d _ = None

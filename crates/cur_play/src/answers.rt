@@ -1,0 +1,38 @@
+//! What a call answers.
+ghost use Rattle.std.specs.Prelude.{◌≡◌};
+ghost use Rattle.cur_play.specs.Steps.{answer_of, mode_answer};
+
+use cur_windows::Refusal;
+
+/// What a call answers.
+#[derive(Clone, Copy)]
+pub enum Answer {
+    /// The call was done.
+    Done,
+    /// The call was done, and this is what was set before (`curs_set`).
+    Was(u8),
+    /// The call was refused, and nothing was sent.
+    Refused(Refusal),
+    /// The wire failed.
+    WireFailed,
+}
+
+/// The answer to a call that was done or refused.
+pub(crate) fn answer_of(outcome: Result<(), Refusal>) -> Answer
+    ensures { result ≡ answer_of outcome }
+{
+    match outcome {
+        Ok(()) => Answer::Done,
+        Err(refusal) => Answer::Refused(refusal),
+    }
+}
+
+/// The answer to `curs_set`.
+pub(crate) fn mode_answer(before: Result<u8, Refusal>) -> Answer
+    ensures { result ≡ mode_answer before }
+{
+    match before {
+        Ok(mode) => Answer::Was(mode),
+        Err(refusal) => Answer::Refused(refusal),
+    }
+}

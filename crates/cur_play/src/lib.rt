@@ -1,0 +1,15 @@
+//! Playing curses calls: sessions, and runs of many calls with a log.
+#![tactic(auto)]
+
+mod answers;
+mod changing;
+mod drawing;
+mod making;
+mod runs;
+mod sending;
+mod sessions;
+
+pub use answers::Answer;
+pub use cur_calls::Call;
+pub use runs::{Entry, Log, run};
+pub use sessions::Session;

@@ -1,0 +1,60 @@
+//! The calls that make windows.
+ghost use Rattle.std.specs.Prelude.{◌≡◌};
+ghost use Rattle.cur_windows.specs.Desks as desks;
+ghost use Rattle.cur_play.specs.Groups.{Makes};
+ghost use Rattle.cur_play.specs.Windows as spec;
+
+use cur_calls::{Call, PartCall};
+use cur_pads::{newpad, subpad};
+use cur_windows::{Desk, Refusal};
+
+/// Makes a window; `None` for any other call.
+pub(crate) fn make(desk: &mut Desk, call: &Call<'_>) -> Option<Result<(), Refusal>>
+    ensures { Makes desk.old desk.new result (spec.takes_memory call.now) (spec.making desk.old call.now) }
+{
+    match call {
+        Call::Newwin {
+            window,
+            lines,
+            cols,
+            y,
+            x,
+        } => Some(desk.newwin(*window, *lines, *cols, *y, *x)),
+        Call::Newpad {
+            window,
+            lines,
+            cols,
+        } => Some(newpad(desk, *window, *lines, *cols)),
+        Call::Part {
+            call,
+            window,
+            parent,
+            lines,
+            cols,
+            y,
+            x,
+        } => Some(part(desk, *call, *window, *parent, *lines, *cols, *y, *x)),
+        Call::Dupwin { window, source } => Some(desk.dupwin(*window, *source)),
+        _ => None,
+    }
+}
+
+/// Makes a window that is a part of another one.
+fn part(
+    desk: &mut Desk,
+    call: PartCall,
+    window: usize,
+    parent: usize,
+    lines: i32,
+    cols: i32,
+    y: i32,
+    x: i32,
+) -> Result<(), Refusal>
+    ensures { desks.step desk.new result ≡ spec.part_step call desk.old window parent lines cols y x }
+{
+    match call {
+        PartCall::Subwin => desk.subwin(window, parent, lines, cols, y, x),
+        PartCall::Derwin => desk.derwin(window, parent, lines, cols, y, x),
+        PartCall::Subpad => subpad(desk, window, parent, lines, cols, y, x),
+    }
+}

@@ -1,0 +1,101 @@
+//! A session: windows, the virtual screen, and a painter for the terminal.
+ghost use Rattle.std.specs.Prelude.{◌≡◌, IfOk};
+ghost use Rattle.cur_play.specs.Carrying.{Carries};
+ghost use Rattle.cur_play.specs.Drawing.{SameSizes};
+ghost use Rattle.cur_play.specs.Outputs.{Puts, poised};
+ghost use Rattle.cur_play.specs.Scenes.{IsStage, first, scene_of, stage_of};
+ghost use Rattle.cur_play.specs.Steps.{CallStep, drawn, output_of};
+
+use crate::answers::Answer;
+use crate::drawing::draw;
+use crate::sending::{output_of, send};
+use cur_calls::Call;
+use cur_looks::Certificate;
+use cur_update::{Alternates, Painter, Wire, cells_bounded};
+use cur_windows::{Desk, Size, Virtual};
+use std::alloc::{AllocError, Global};
+use std::marker::Model;
+
+/// A session on the terminal of a verified certificate.
+#[derive(Drop)]
+pub struct Session<'a, C: Certificate + Alternates> {
+    desk: Desk,
+    screen: Virtual,
+    painter: Painter<'a, C>,
+}
+
+impl<'a, C: Certificate + Alternates> Model for Session<'a, C> {
+    ghost use Rattle.cur_play.specs.Scenes.{Stage, IsStage};
+
+    ghost Value = { Stage C };
+
+    ghost view = { λ s. record { desk = s.desk; screen = s.screen; painter = s.painter } };
+
+    ghost invariant = { λ s. IsStage (C.table s.painter.checked) s.desk s.screen };
+}
+
+impl<'a, C: Certificate + Alternates> Session<'a, C> {
+    /// A session that has sent nothing: window 0 and the virtual screen are blank. An error where a growth was refused.
+    pub fn open(alloc: Global, checked: &'a C) -> Result<Session<'a, C>, AllocError>
+        ensures scene { IfOk result (λ s. scene_of s ≡ first (C.table checked.now)) }
+        ensures certificate { IfOk result (λ s. s.painter.checked ≡ checked.now) }
+    {
+        let size = Size::new(checked.rows(), checked.cols()).unwrap();
+        let desk = Desk::new(alloc, size)?;
+        let screen = Virtual::new(alloc, size)?;
+        let painter = Painter::start(alloc, checked)?;
+        Ok(Session {
+            desk,
+            screen,
+            painter,
+        })
+    }
+
+    /// Does a call. `newwin`, `newpad` and `dupwin` take memory, and are refused with `NoMemory` where there is none; all
+    /// other calls take none. On `WireFailed` a front of what the call sends went out, what was copied to the virtual
+    /// screen stands, and the session is lost.
+    pub fn call<W: Wire>(&mut self, call: &Call<'_>, wire: &mut W) -> Answer
+        ensures step { CallStep (C.table self.old.painter.checked) (scene_of self.old) call.now result (scene_of self.new) }
+        ensures puts { Puts W.went W.failures wire.old wire.new (C.table self.old.painter.checked) (C.partners self.old.painter.checked) (drawn (C.table self.old.painter.checked) (scene_of self.old) call.now).0.screen
+            (output_of call.now) result (poised (C.table self.old.painter.checked) self.old call.now) self.new.painter }
+        ensures carries { Carries W.went wire.old wire.new (C.table self.old.painter.checked) (C.partners self.old.painter.checked) (drawn (C.table self.old.painter.checked) (scene_of self.old) call.now).0.screen
+            (output_of call.now) result (poised (C.table self.old.painter.checked) self.old call.now) self.new.painter }
+        ensures stage { IsStage (C.table self.new.painter.checked) self.new.desk self.new.screen }
+        ensures certificate { self.new.painter.checked ≡ self.old.painter.checked }
+    {
+        play(
+            &mut self.desk,
+            &mut self.screen,
+            &mut self.painter,
+            call,
+            wire,
+        )
+    }
+}
+
+/// Draws, and then sends.
+fn play<C: Certificate + Alternates, W: Wire>(
+    desk: &mut Desk,
+    screen: &mut Virtual,
+    painter: &mut Painter<'_, C>,
+    call: &Call<'_>,
+    wire: &mut W,
+) -> Answer
+    requires rows { (screen.old).rows ≡ (C.table painter.old.checked).rows }
+    requires cols { (screen.old).cols ≡ (C.table painter.old.checked).cols }
+    requires desk_rows { (desk.old).rows ≡ (C.table painter.old.checked).rows }
+    requires desk_cols { (desk.old).cols ≡ (C.table painter.old.checked).cols }
+    ensures step { CallStep (C.table painter.old.checked) (scene_of (stage_of desk.old screen.old painter.old)) call.now result (scene_of (stage_of desk.new screen.new painter.new)) }
+    ensures puts { Puts W.went W.failures wire.old wire.new (C.table painter.old.checked) (C.partners painter.old.checked) (drawn (C.table painter.old.checked) (scene_of (stage_of desk.old screen.old painter.old)) call.now).0.screen
+        (output_of call.now) result (poised (C.table painter.old.checked) (stage_of desk.old screen.old painter.old) call.now) painter.new }
+    ensures carries { Carries W.went wire.old wire.new (C.table painter.old.checked) (C.partners painter.old.checked) (drawn (C.table painter.old.checked) (scene_of (stage_of desk.old screen.old painter.old)) call.now).0.screen
+        (output_of call.now) result (poised (C.table painter.old.checked) (stage_of desk.old screen.old painter.old) call.now) painter.new }
+    ensures sizes { SameSizes desk.old screen.old desk.new screen.new }
+    ensures certificate { painter.new.checked ≡ painter.old.checked }
+{
+    cells_bounded();
+    match draw(desk, screen, painter, call) {
+        Answer::Done => send(screen, painter, output_of(call), wire),
+        answer => answer,
+    }
+}
