@@ -8,7 +8,8 @@ cd -- "$(dirname -- "$0")/.."
 
 work=$(mktemp -d)
 trap 'rm -rf "$work"' EXIT
-lay "$work/command" ti_commands ti_arguments
+# shellcheck disable=SC2046
+lay "$work/command" $(sed -n 's/^ticurses: *//p' crates.txt)
 cp crates/ticurses/src/*.rt "$work/command/crates/probe/src"
 printf '\n#[cfg(test)]\nmod tests;\n' >>"$work/command/crates/probe/src/main.rt"
 cp tests/command_tests.txt "$work/command/crates/probe/src/tests.rt"

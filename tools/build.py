@@ -14,8 +14,8 @@ import time
 from crates import TOP, below, listed
 
 PROGRAM = "ticurses"
-# measured: from nothing, 13 minutes on four processors that did other work beside it
-MINUTES = "13"
+# reckoned: 13 of the 25 crates took 16 minutes from nothing on four quiet processors
+MINUTES = "30"
 # a check of one crate takes about so many bytes of memory
 NEEDS = 3_000_000_000
 SHOWN = 20
