@@ -8,6 +8,27 @@ import tempfile
 from trying import TOP, Case, run_cases
 
 MINI = b"mini|sample,\n\tclear=\\E[H\\E[2J, cup=\\E[%i%p1%d;%p2%dH, sgr0=\\E[m,\n"
+VT = rb"""vt|vt100 manner,
+	am, xenl, cols#80, lines#24, bel=^G, cr=\r,
+	acsc=``aaffggjjkkllmmnnooppqqrrssttuuvvwwxxyyzz{{||}}~~,
+	clear=\E[H\E[J$<50>, csr=\E[%i%p1%d;%p2%dr, cub1=^H, cud1=\n,
+	cuf1=\E[C$<2>, cuu1=\E[A$<2>, cup=\E[%i%p1%d;%p2%dH$<5>,
+	ed=\E[J$<50>, el=\E[K$<3>, el1=\E[1K$<3>, enacs=\E(B\E)0,
+	home=\E[H, ind=\n, ri=\EM$<5>, rmacs=^O, smacs=^N,
+	sgr=\E[0%?%p1%p6%|%t;1%;%?%p2%t;4%;%?%p1%p3%|%t;7%;%?%p4%t;5%;m%?%p9%t\016%e\017%;$<2>,
+	sgr0=\E[m\017$<2>,
+"""
+XT = rb"""xt|xterm manner,
+	acsc=``aaffjjkkllmmnnqqttuuvvwwxx~~, civis=\E[?25l,
+	clear=\E[H\E[2J\E[3J, cnorm=\E[?12l\E[?25h,
+	cup=\E[%i%p1%d;%p2%dH, cvvis=\E[?12;25h, ech=\E[%p1%dX,
+	el=\E[K, hpa=\E[%i%p1%dG, rmacs=\E(B, smacs=\E(0,
+	rmcup=\E[?1049l\E[23;0;0t, smcup=\E[?1049h\E[22;0;0t,
+	sgr=%?%p9%t\E(0%e\E(B%;\E[0%?%p6%t;1%;%?%p5%t;2%;%?%p2%t;4%;%?%p1%p3%|%t;7%;%?%p4%t;5%;%?%p7%t;8%;m,
+	sgr0=\E(B\E[m,
+xc|xterm colours,
+	setaf=\E[3%p1%dm, setab=\E[4%p1%dm, op=\E[39;49m, use=xt,
+"""
 EVEN = bytes.fromhex("1a01 0400 0200 0100 0000 0000 617c6200 0001 5000")
 STRING = bytes.fromhex("1a01 0200 0000 0000 0700 0400 6d00 ffffffffffffffffffffffff 0000 1b5b4b00")
 WIDE = bytes.fromhex("1e02 0400 0200 0100 0000 0000 617c6200 0001 409c0000")
@@ -121,6 +142,72 @@ FILES = {
 
 CUP = "\\E[%i%p1%d;%p2%dH"
 
+# fields of an entry, the entry that they are added to, the size, and why `check` refuses it; none: it gets its certificate
+CHECKED = [
+    ("", "vt", "24", "80", None),
+    ("", "vt", "2", "4", None),
+    ("sgr0=\\E[m\\017$<x>,", "vt", "24", "80", "sgr0: NotTame"),
+    ("smcup=\\E[H\\E[B,", "vt", "24", "80", None),
+    ("", "xt", "24", "80", None),
+    ("cvvis=\\E[34l,", "xt", "24", "80", None),
+    ("", "xc", "24", "80", None),
+    ("setab=\\E[3%p1%dm,", "xc", "24", "80", "setab 0: WrongEffect"),
+    ("cup=\\E[H\\E[%p1%dB\\E[%p2%dC,", "mini", "2", "2", "cup 0 0: WrongEffect"),
+    ("cup=\\E[%i%p1%d;%p2%d,", "mini", "2", "2", "cup 0 0: Unfinished"),
+    ("el=%+,", "mini", "2", "2", "el: Underflow"),
+    ("cup=\\E[%gA%d;1H,", "mini", "2", "2", "cup 0 0: StaticRead"),
+    ("sgr0=^O,", "mini", "2", "2", "sgr0: WrongEffect"),
+    ("sgr0=\\E[22;24;25;27;28m,", "mini", "2", "2", "sgr0: WrongEffect"),
+    ("xmc#1,", "mini", "2", "2", "xmc: FlagOut"),
+    ("clear@,", "mini", "2", "2", "clear: Absent"),
+    ("home=\\E[1;2r\\E[r\\E[H,", "mini", "24", "80", "home: NotShown"),
+    # a fault of each kind
+    ("hc,", "mini", "2", "2", "hc: FlagOut"),
+    ("gn,", "mini", "2", "2", "gn: FlagOut"),
+    ("os,", "mini", "2", "2", "os: FlagOut"),
+    ("cup@,", "mini", "2", "2", "cup: Absent"),
+    ("sgr0@,", "mini", "2", "2", "sgr0: Absent"),
+    ("acsc=q\\200,", "mini", "2", "2", "acsc: AcsByte"),
+    ("hpa=\\E[%i%p1%qG,", "mini", "2", "2", "hpa 0: BadCode"),
+    ("hpa=\\E[%?%p1%t1%e2G,", "mini", "2", "2", "hpa 0: BadNest"),
+    ("hpa=\\E[%{2147483647}%{1}%+%dG,", "mini", "2", "2", "hpa 0: Overflow"),
+    ("hpa=\\E[%{256}%cG,", "mini", "2", "2", "hpa 0: BadChar"),
+    ("hpa=\\E[%p1%sG,", "mini", "2", "2", "hpa 0: WrongKind"),
+    ("hpa=%p1%{128}%+%c,", "mini", "2", "2", "hpa 0: Stuck"),
+    ("cup=\\E[%p1%d;%p2%dH,", "mini", "2", "4", "cup 0 1: WrongEffect"),
+    ("el=\\E[1K,", "mini", "2", "4", "el: WrongEffect"),
+    ("ech=\\E[%p1%dP,", "mini", "2", "4", "ech 1: NotTame"),
+    ("clear=\\E[H\\E[J\\E[B,", "mini", "2", "4", "clear: WrongEffect"),
+    ("civis=\\E[?25h,", "mini", "2", "4", "civis: WrongEffect"),
+    ("csr=\\E[%i%p2%d;%p1%dr,", "mini", "3", "4", "csr 0 1: WrongEffect"),
+    ("cr=\\n,", "mini", "2", "4", "cr: NotTame"),
+    ("cuu1=\\E[2A,", "mini", "3", "4", "cuu1: NotTame"),
+    ("home=\\E[H\\E[1m,", "mini", "2", "4", "home: WrongEffect"),
+    ("bel=^N,", "mini", "2", "4", "bel: WrongEffect"),
+    ("sgr=\\E[%?%p6%t1%e0%;m,", "mini", "2", "4", "sgr 0 0 0 0 0 1 0 0 0: WrongEffect"),
+    ("sgr=\\E[0%?%p5%t;1%;m,", "mini", "2", "4", "sgr 0 0 0 0 1 0 0 0 0: BadLook"),
+    ("el=\\E[,", "xt", "24", "80", "el: Unfinished"),
+]
+
+# the notes on entries of the table, worked out by hand: what the terminal ignores of their strings. The others have none;
+# nor has the last one, of which a string ends within a sequence.
+XT_NOTES = [
+    "clear 1b5b334a",
+    "cnorm 1b5b3f31326c",
+    "cvvis 1b5b3f31323b323568",
+    "rmcup 1b5b3f313034396c",
+    "rmcup 1b5b32333b303b3074",
+    "smcup 1b5b3f3130343968",
+    "smcup 1b5b32323b303b3074",
+]
+NOTES = {4: XT_NOTES, 5: [*XT_NOTES[:2], "cvvis 1b5b33346c", *XT_NOTES[3:]], 6: XT_NOTES, 7: XT_NOTES}
+
+# a source of the sample entries, and one with an entry c0, c1 and so on for each line of the table
+FILES["samples"] = MINI + VT + XT
+FILES["checks"] = FILES["samples"] + b"".join(
+    f"c{at}|checked,\n\t{fields} use={base},\n".encode() for at, (fields, base, *_) in enumerate(CHECKED)
+)
+
 # the words, the status, standard output, standard error
 RUNS = [
     (["expand", CUP, "2", "4", "1", "3"], 0, "1b5b323b3448\ncursor 1 3\n", ""),
@@ -212,6 +299,20 @@ RUNS = [
     (["verify", "mini:mini", "2", "2"], 2, "", None),
 ]
 
+RUNS += [
+    (["check", "mini:mini", "2", "2"], 0, CERTIFICATE.decode(), ""),
+    (["check", "mini:mini", "1", "2"], 1, "", "refused: BadSize\n"),
+    (["check", "mini:mini", "2", "501"], 1, "", "refused: BadSize\n"),
+    (["check", "absent:a", "2", "501"], 1, "", "refused: BadSize\n"),
+    (["check", "absent:a", "2", "2"], 3, "", "file: absent\n"),
+    (["check", "mini:maxi", "2", "2"], 1, "", "refused: NoSuchEntry maxi\n"),
+    (["check", "open_field:a", "2", "2"], 1, "", "refused: line 1: OpenField\n"),
+    (["check", "even_short", "2", "2"], 1, "", "refused: Short\n"),
+    (["check", "mini:mini", "2", "x"], 2, "", None),
+    (["check", "mini:mini", "2"], 2, "", None),
+    (["check", "mini:mini", "2", "2", "2"], 2, "", None),
+]
+
 # a word that is not UTF-8
 RUNS.append((["feed", "2", "2", "no\udcff"], 2, "", None))
 
@@ -221,6 +322,11 @@ LONG = (
     f"'{'x' * 200}' .. in line 2 of long.cert: a line is written as `cup 0 0 1b5b313b3148 row=0 col=0 nopend`, with"
     " parameters that the size allows; the last one is `end`, and each ends with LF"
 )
+
+# parts of what is said of a run
+KEPT = "no cell has changed"
+ALL = "bold dim underlined blinking reverse invisible in red on blue"
+LINES = "G0 is the line drawing set, G1 is the line drawing set"
 
 # the words, and the last line of standard error, in plain words
 EXPLAINED = [
@@ -272,6 +378,14 @@ EXPLAINED = [
     ),
     (["verify", "mini:mini", "2", "2", "long.cert"], LONG),
     (["verify", "mini:mini", "2", "2", "/"], "'/' is a folder"),
+    (["check", "checks:c7", "24", "80"], f"seen: {KEPT}, the cursor is at row 0, column 0, the rendition is plain in black on default"),
+    (["check", "checks:c8", "2", "2"], f"seen: {KEPT}, the cursor is at row 1, column 1"),
+    (["check", "checks:c12", "2", "2"], f"seen: {KEPT}, the cursor is at row 0, column 0, the rendition is {ALL}, {LINES}, G0 is active, the cursor is hidden"),
+    (["check", "checks:c13", "2", "2"], f"seen: {KEPT}, the cursor is at row 0, column 0, the rendition is plain in red on blue, {LINES}, G1 is active, the cursor is hidden"),
+    (["check", "checks:c30", "2", "4"], "seen: the cell at row 0, column 0 is blank, the cursor is at row 0, column 0"),
+    (["check", "checks:c32", "2", "4"], "seen: 8 cells from row 0, column 0 to row 1, column 3 are blank, the cursor is at row 1, column 0"),
+    (["check", "checks:c33", "2", "4"], "seen: nothing changes"),
+    (["check", "checks:c34", "3", "4"], "seen: nothing changes"),
 ]
 
 # what begins no further line
@@ -312,6 +426,63 @@ def judge(words, told, status, out, err):
     # where the words are wrong, something says so
     if not right or (status == 2 and not told.err):
         sys.exit(f"examples: {words}: status {told.status}, {told.out}, {told.err}")
+
+
+def judge_checked(words, told, no, notes):
+    """Ends the script where `check` told something else: the notes, and a certificate of the size, or the line of its no
+    (what follows `refused: no `), and below it in plain words why."""
+    front, behind = b"ticert 2 %s %s\n" % tuple(word.encode() for word in words[2:4]), b"\nend\n"
+    noted = "".join(f"note {note}\n" for note in notes).encode()
+    err, right = told.err.removeprefix(noted), told.err.startswith(noted)
+    if no is None:
+        right = right and told.status == 0 and told.out.startswith(front) and told.out.endswith(behind) and not err
+    else:
+        first, *further = err.splitlines()
+        right = right and told.status == 1 and not told.out and first == b"refused: no " + no.encode() and bool(further)
+        right = right and not any(line.startswith(FIXED) for line in further)
+        right = right and all(32 <= byte <= 126 for line in further for byte in line)
+    if not right:
+        sys.exit(f"examples: {words}: status {told.status}, {told.out[:200]}, {told.err}")
+
+
+def judge_checks():
+    """`check` of each entry of CHECKED, and `verify` of each certificate that it writes."""
+    cases = [Case(["check", f"checks:c{at}", rows, cols]) for at, (_, _, rows, cols, _) in enumerate(CHECKED)]
+    answers = run_cases(f"{TOP}/crates/ticurses", cases, FILES)
+    verified, certificates = [], {}
+    for at, (case, answer, checked) in enumerate(zip(cases, answers, CHECKED)):
+        judge_checked(case.words, answer, checked[-1], NOTES.get(at, []))
+        if checked[-1] is None:
+            certificates[f"c{at}.cert"] = answer.out
+            verified.append(Case(["verify", *case.words[1:], f"c{at}.cert"]))
+    for case, answer in zip(verified, run_cases(f"{TOP}/crates/ticurses", verified, {**FILES, **certificates})):
+        judge(case.words, answer, 0, "yes\n", "")
+    long = run_cases(f"{TOP}/crates/ticurses", [Case(["check", "mini:mini", "24", "80"])], FILES)[0].out
+    if long.count(b"\n") != 1924:
+        sys.exit("examples: a certificate has not a line for each place")
+    print(f"examples: {len(CHECKED)} entries are checked, and {len(verified)} certificates verify")
+
+
+def judge_certificate_stored(work):
+    """`check --out` writes the certificate and nothing else; where it refuses or fails, all files are as before."""
+    stored = f"{work}/stored"
+    os.mkdir(stored)
+    for name, held in (("source", MINI), ("kept", b"as before")):
+        with open(f"{stored}/{name}", "wb") as file:
+            file.write(held)
+    runs = [
+        (["check", "mini:mini", "2", "2", "--out", f"{stored}/made"], 0, ""),
+        (["check", "checks:c15", "2", "2", "--out", f"{stored}/kept"], 1, "refused: no clear: Absent\n"),
+        (["check", f"{stored}/source:mini", "2", "2", "--out", f"{stored}/source"], 3, f"file: {stored}/source\n"),
+        (["check", "mini:mini", "2", "2", "--out", "/"], 3, "file: /\n"),
+        (["check", "mini:mini", "2", "2", "--out", "/dev/full"], 3, "file: /dev/full\n"),
+    ]
+    cases = [Case(words) for words, _, _ in runs]
+    for (words, status, err), answer in zip(runs, run_cases(f"{TOP}/crates/ticurses", cases, FILES)):
+        judge(words, answer, status, "", err)
+    held = {name: open(f"{stored}/{name}", "rb").read() for name in os.listdir(stored)}
+    if held != {"made": CERTIFICATE, "source": MINI, "kept": b"as before"}:
+        sys.exit(f"examples: check --out left {held}")
 
 
 def judge_explained(words, told, last):
@@ -369,6 +540,8 @@ def main():
         for (words, last), answer in zip(EXPLAINED, told[len(RUNS) + len(WRITTEN) :]):
             judge_explained(words, answer, last)
         judge_kept(work)
+        judge_certificate_stored(work)
+        judge_checks()
     print(f"examples: {len(EXPLAINED)} failures are explained, and a file that can't be replaced is as before")
     print(f"examples: {len(RUNS)} runs told what they are to tell, and {len(WRITTEN)} of `tic --out` wrote their file or none")
 

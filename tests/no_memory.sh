@@ -28,4 +28,11 @@ if [ ! -s "$work/with.count" ] || ! cmp -s "$work/with.count" "$work/without.cou
     echo "no_memory: $(cat "$work/with.count") requests with the calls, and $(cat "$work/without.count") without" >&2
     exit 1
 fi
+# a painter's request is the last one
+attempt "$work/without" --fail-alloc "$(cat "$work/without.count")"
+if ! grep -q '^ *refused: Painter::start$' "$work/without.log"; then
+    cat "$work/without.log" >&2
+    echo "no_memory: a painter starts although its request is refused" >&2
+    exit 1
+fi
 echo "no_memory: the calls that are to take no memory ask for none; what they work on was made with $(cat "$work/with.count") requests"

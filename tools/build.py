@@ -14,7 +14,7 @@ import time
 from crates import TOP, below, listed
 
 PROGRAM = "ticurses"
-# reckoned: 13 of the 25 crates took 16 minutes from nothing on four quiet processors
+# reckoned: 25 of the crates took 25 minutes from nothing on four processors
 MINUTES = "30"
 # a check of one crate takes about so many bytes of memory
 NEEDS = 3_000_000_000

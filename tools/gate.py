@@ -1,7 +1,8 @@
 #!/usr/bin/env python3
-"""The whole gate: what the toolchain can't check (the scripts of tests/), and then the toolchain's own gate, `rt ci`.
+"""The whole gate: what the toolchain can't check (the scripts of tests/), and the toolchain's own gate, `rt ci`.
 
-Before each script and each crate it says what comes, and after it how long that took. The last line is that of `rt ci`."""
+Scripts that run the program come last, since `rt ci` proves and builds it. Before each script and each crate it says
+what comes, and after it how long that took. If all passed, the last line is that of `rt ci`."""
 
 import os
 import re
@@ -15,6 +16,8 @@ from crates import TOP, listed
 
 # reckoned: the toolchain's own gate took more than an hour on four processors that did other work beside it
 MINUTES = "90"
+# the scripts that run the program, which `rt ci` leaves built
+OF_PROGRAM = {"compiled.sh", "examples.sh", "expansions.sh", "infocmp.sh", "screens.sh"}
 
 
 def minutes(since):
@@ -33,10 +36,9 @@ def subject(script):
 
 
 class Scripts:
-    """The scripts of tests/, as many side by side as there are processors."""
+    """Scripts of tests/, as many side by side as there are processors."""
 
-    def __init__(self):
-        names = sorted(it for it in os.listdir(f"{TOP}/tests") if it.endswith(".sh"))
+    def __init__(self, names):
         self.paths = [f"tests/{it}" for it in names]
         self.printing, self.begun = threading.Lock(), 0
 
@@ -55,14 +57,12 @@ class Scripts:
         return ran.returncode == 0
 
     def run_all(self):
+        """Runs all of them; returns whether all passed."""
         began = time.monotonic()
-        say(f"{len(self.paths)} scripts come first, side by side; several run the program, which is built for them")
-        built = subprocess.run(["./ticurses", "--version"], stdout=subprocess.DEVNULL).returncode == 0
         with ThreadPoolExecutor(len(os.sched_getaffinity(0))) as pool:
-            passed = list(pool.map(self.run, self.paths)) if built else []
-        failed = [path for path, well in zip(self.paths, passed) if not well]
-        say(f"{len(self.paths) - len(failed)} of {len(self.paths)} scripts passed, {minutes(began)}")
-        return built and not failed
+            passed = list(pool.map(self.run, self.paths))
+        say(f"{sum(passed)} of {len(passed)} scripts passed, {minutes(began)}")
+        return all(passed)
 
 
 class Crates:
@@ -92,7 +92,7 @@ class Crates:
             say(f"{self.edits} of {self.all_edits} edits begun, {minutes(began)}")
 
     def run(self):
-        """Runs `rt ci`; its last line is held back until all else is said."""
+        """Runs `rt ci`; returns its status and its last line, which is held back until all else is said."""
         began, last = time.monotonic(), ""
         say(f"rt ci: {len(self.uses)} crates, each proved from nothing, and {self.all_edits} must-fail edits{self.come()}")
         with subprocess.Popen(["rt", "ci"], stdout=subprocess.PIPE, text=True, errors="replace") as gate:
@@ -100,17 +100,25 @@ class Crates:
                 print(last, end="", flush=True)
                 self.after(last.rstrip("\n"), began)
                 last = line
-        say(f"rt ci ended after {minutes(began)}")
-        print(last, end="", flush=True)
-        return gate.returncode
+        say(f"rt ci ended after {minutes(began)}: {last.strip()}")
+        return gate.returncode, last
 
 
 def main():
     os.chdir(TOP)
     say(f"the whole takes about {MINUTES} minutes on four processors")
-    if not Scripts().run_all():
+    names = sorted(it for it in os.listdir("tests") if it.endswith(".sh"))
+    if not OF_PROGRAM <= set(names):
+        sys.exit(f"test: tests/ lacks {', '.join(sorted(OF_PROGRAM - set(names)))}")
+    say(f"{len(names) - len(OF_PROGRAM)} scripts come first, then rt ci, and then {len(OF_PROGRAM)} scripts that run the program")
+    if not Scripts([it for it in names if it not in OF_PROGRAM]).run_all():
         return 1
-    return Crates().run()
+    status, last = Crates().run()
+    if status or not Scripts(sorted(OF_PROGRAM)).run_all():
+        say(f"FAILED; rt ci said: {last.strip()}")
+        return 1
+    print(last, end="", flush=True)
+    return 0
 
 
 if __name__ == "__main__":

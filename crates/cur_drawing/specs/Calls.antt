@@ -160,6 +160,17 @@ added_all (b ∷ bs) s = and_then (added (plain b) s) (λ t. added_all bs t)
 abbrev pub checked_cell : Put → Result (Unit {0}) Refusal
 checked_cell p = checked (is_printed p.byte) (is_pair p.pair)
 
+-- a cell's content, handed to a call, and what a cell holds that was made of it
+abbrev pub of_cell : Content → Put
+of_cell c = record { byte = c.byte; attrs = record { 0 = c.attrs }; pair = c.pair }
+
+abbrev pub made_if : Result (Unit {0}) Refusal → Content → Result Content Refusal
+made_if (Ok u) c = Ok c
+made_if (Err e) c = Err e
+
+abbrev pub to_cell : Put → Result Content Refusal
+to_cell p = made_if (checked_cell p) (as_is p)
+
 -- insch
 abbrev pub insert_char : Put → Canvas → CanvasStep
 insert_char p s = if_accepted (checked_cell p) s (done (inserted (content s.window p) s.window s.grid) s.window)

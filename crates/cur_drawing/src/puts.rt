@@ -1,9 +1,9 @@
 //! The characters and borders that calls are given.
 ghost use Rattle.std.specs.Prelude.{◌≡◌, nat_lt, OnOk};
 ghost use Rattle.cur_drawing.specs.Windows.{is_printed, is_pair, checked};
-ghost use Rattle.cur_drawing.specs.Calls.{plain, drawn_line, default_border, box_of, IsBorder, checked_cell, checked_border};
+ghost use Rattle.cur_drawing.specs.Calls.{plain, of_cell, to_cell, drawn_line, default_border, box_of, IsBorder, checked_cell, checked_border};
 
-use crate::cells::{Attrs, PAIRS};
+use crate::cells::{Attrs, Cell, PAIRS};
 use crate::refusals::Refusal;
 
 /// A character that is handed to a call: any byte, with attributes and a colour pair of its own.
@@ -24,6 +24,26 @@ impl Put {
             attrs: Attrs::none(),
             pair: 0,
         }
+    }
+
+    /// A character as it stands in a cell.
+    pub fn of_cell(cell: Cell) -> Put
+        ensures { result ≡ of_cell cell }
+    {
+        Put {
+            byte: cell.byte(),
+            attrs: cell.attrs(),
+            pair: cell.pair(),
+        }
+    }
+
+    /// The cell that holds this character as it is. `BadCell` for a byte outside 32 to 126, and else `BadPair` for a pair
+    /// above 63.
+    pub fn to_cell(self) -> Result<Cell, Refusal>
+        ensures { result ≡ to_cell self }
+    {
+        self.check_cell()?;
+        Ok(Cell::new(self.byte, self.attrs, self.pair))
     }
 
     /// The default cell of a vertical line.

@@ -39,20 +39,26 @@ by_screen t Q u x sized closed e f =
     let R : Screen → Type 0 = λ y. IsOfSize t.rows t.cols (record { screen = y; rest = [] }) → Q (record { screen = y; rest = [] }) in
     subst P (sym closed) (subst R (sym e) f) sized
 
--- the cursor's move
+-- the same state with its cursor at a place, and no wrap pending
+pub placed : (t : Table) (g : ℕ → ℕ → Ink) (b : Belief) (r c : ℕ) (s u : State) → Agrees t g b s → IsOfSize t.rows t.cols u → u.rest ≡ [] → u.screen ≡ record s.screen { row = r; col = c; pending = false }
+    → Agrees t g (record b { place = Some (record { row = r; col = c }) }) u
+placed t g b r c s u h sized closed e =
+    by_screen t (Agrees t g (record b { place = Some (record { row = r; col = c }) })) u (record s.screen { row = r; col = c; pending = false }) sized closed e
+    (λ k. record {
+      ready = record { sized = k; rest = refl; tame = record { autowrap = h.ready.tame.autowrap; inserting = h.ready.tame.inserting }; whole = record { top = h.ready.whole.top; bottom = h.ready.whole.bottom }; settled = h.ready.settled; visible = h.ready.visible };
+      cells = h.cells;
+      place = (refl, refl, refl);
+      brush = h.brush;
+      colored = h.colored;
+      set = h.set;
+      seen = h.seen;
+    })
+
+-- the cursor's move by `cup`
 pub moved : (t : Table) (g : ℕ → ℕ → Ink) (b : Belief) (r c : ℕ) → Turns t (Cup r c) g b g (record b { place = Some (record { row = r; col = c }) })
 moved t g b r c = record {
   starts = λ s h. any_of t s h.ready;
-  ends = λ s u h sized closed w. by_screen t (Agrees t g (record b { place = Some (record { row = r; col = c }) })) u (record s.screen { row = r; col = c; pending = false }) sized closed w.wants
-      (λ k. record {
-        ready = record { sized = k; rest = refl; tame = record { autowrap = h.ready.tame.autowrap; inserting = h.ready.tame.inserting }; whole = record { top = h.ready.whole.top; bottom = h.ready.whole.bottom }; settled = h.ready.settled; visible = h.ready.visible };
-        cells = h.cells;
-        place = (refl, refl, refl);
-        brush = h.brush;
-        colored = h.colored;
-        set = h.set;
-        seen = h.seen;
-      });
+  ends = λ s u h sized closed w. placed t g b r c s u h sized closed w.wants;
 }
 
 -- the same cells under another rendition, with the sets as they were

@@ -8,6 +8,7 @@ use Rattle.vt_term.specs.Grid.{look_at}
 use Rattle.vt_term.specs.Screen.{State, Screen, Charset, IsOfSize, is_graphic}
 use Rattle.cur_steps.specs.Leads.{Ends}
 use Rattle.cur_steps.specs.Lines.{Drives}
+use Rattle.ti_charsets.specs.Charsets.{reset_charset}
 use Rattle.ti_rows.specs.declared.rows.Attributes.{Attributes}
 use Rattle.ti_rows.specs.declared.rows.Looks.{Looks}
 use Rattle.ti_rows.specs.declared.rows.Row.{Row}
@@ -178,6 +179,8 @@ pub record IsChecked (t : Table) : Type 0 where
   pub backgrounds : has t Op ≡ true → (c : Color) → has t (Setab c) ≡ true
   pub sets : has t Smacs ≡ false → has t Rmacs ≡ false
   pub plain_sets : has t Rmacs ≡ false → (c : Charset) → t.settled c ≡ true → is_graphic c ≡ false
+  -- a terminal in its reset state has sets that may be met
+  pub starts : t.reached reset_charset ≡ true
   pub settled_reached : (c : Charset) → t.settled c ≡ true → t.reached c ≡ true
   pub resync_pieces : List (List ℕ)
   pub resync_made : t.resync ≡ concat resync_pieces

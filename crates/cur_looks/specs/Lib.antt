@@ -1,4 +1,6 @@
 pub mod Certified
+pub mod Contents
 pub mod Inks
 pub mod Beliefs
 pub mod Singles
+pub mod Moves

@@ -8,8 +8,10 @@ mod certificates;
 mod inks;
 mod lines;
 mod modes;
+mod moves;
 mod singles;
 mod steps;
+mod verified;
 
 pub use beliefs::{Belief, Mode, Place};
 pub use cells::{blank_tail, put_cell};

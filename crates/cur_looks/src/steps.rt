@@ -14,12 +14,14 @@ use crate::beliefs::{Belief, Place};
 use crate::certificates::Certificate;
 use crate::inks::{Brush, Ink, same_attributes};
 use crate::lines::send_line;
+use crate::moves::shortest;
 use crate::singles::attributes_singly;
 use cur_wires::{Wire, WireFault, send_all};
 use ti_rows::{Attributes, Row};
 use vt_term::Color;
 
-/// The cursor goes to a place, if it isn't known to be there.
+/// The cursor goes to a place, if it isn't known to be there, by the shortest line that leads there from
+/// what is known of its place.
 pub fn move_to<C: Certificate, W: Wire>(
     checked: &C,
     belief: &mut Belief,
@@ -38,8 +40,8 @@ pub fn move_to<C: Certificate, W: Wire>(
     if stands(belief.place, row, col) {
         return Ok(());
     }
+    let line = shortest(checked, belief.place, row as u16, col as u16);
     belief.place = Some(Place { row, col });
-    let line = Row::Cup(row as u16, col as u16);
     send_line(checked, line, checked.line(line).unwrap(), wire)
 }
 

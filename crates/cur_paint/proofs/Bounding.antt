@@ -11,7 +11,7 @@ use Rattle.cur_looks.specs.declared.beliefs.Mode.TheVariants.{Hidden, Normal, Pr
 use Rattle.cur_looks.specs.declared.inks.Ink.{Ink}
 use Rattle.cur_looks.proofs.Telling.{moves_few, changes_few}
 use Rattle.cur_paint.specs.Differ.{differs, span, all_differ}
-use Rattle.cur_paint.specs.Limits.{IsPlaced, last_move, settle_limit, is_settled, paint_limit, fresh_limit}
+use Rattle.cur_paint.specs.Limits.{IsPlaced, last_move, cursor_limit, is_settled, paint_limit, fresh_limit}
 use Rattle.cur_paint.proofs.Mixing.{times_grows}
 
 pub last_few : (now cursor : Option Place) → last_move now cursor ≤ 1
@@ -27,8 +27,8 @@ both_few (suc (suc x)) y k m l p q le = absurd (omega arith)
 both_few zero (suc (suc y)) k m l p q le = absurd (omega arith)
 both_few (suc zero) (suc (suc y)) k m l p q le = absurd (omega arith)
 
-pub settle_few : (t : Table) (b : Belief) (cursor : Option Place) (mode : Mode) → settle_limit t b cursor mode ≤ (if is_settled b cursor mode then 0 else 1) * cell_limit t
-settle_few t b cursor mode = both_few (last_move b.place cursor) (changes b.mode mode) t.longest.cup (modes_limit t) (cell_limit t) (last_few b.place cursor) (changes_few b.mode mode) (omega arith)
+pub cursor_few : (t : Table) (b : Belief) (cursor : Option Place) (mode : Mode) → cursor_limit t b cursor mode ≤ (if is_settled b cursor mode then 0 else 1) * cell_limit t
+cursor_few t b cursor mode = both_few (last_move b.place cursor) (changes b.mode mode) t.longest.cup (modes_limit t) (cell_limit t) (last_few b.place cursor) (changes_few b.mode mode) (omega arith)
 
 one_most : (b : Bool) (l : ℕ) → (if b then 0 else 1) * l ≤ l
 one_most true l = omega arith
@@ -49,11 +49,11 @@ zero_or_more (suc d) l s s' settled same le le' =
     subst P (sym f) (omega (arith, le))
 
 pub limit_sum : (t : Table) (old new : ℕ → ℕ → Ink) (now after : Belief) (cursor : Option Place) (mode : Mode) → (all_differ old new t.cols t.rows ≡ 0 → after ≡ now)
-    → all_differ old new t.cols t.rows * cell_limit t + settle_limit t after cursor mode ≤ paint_limit t old new now cursor mode
+    → all_differ old new t.cols t.rows * cell_limit t + cursor_limit t after cursor mode ≤ paint_limit t old new now cursor mode
 limit_sum t old new now after cursor mode same =
-    let h : settle_limit t after cursor mode ≤ cell_limit t = omega (arith, settle_few t after cursor mode, one_most (is_settled after cursor mode) (cell_limit t)) in
-    zero_or_more (all_differ old new t.cols t.rows) (cell_limit t) (settle_limit t after cursor mode) (settle_limit t now cursor mode) (is_settled now cursor mode)
-    (λ e. ap (λ (b : Belief). settle_limit t b cursor mode) (same e)) h (settle_few t now cursor mode)
+    let h : cursor_limit t after cursor mode ≤ cell_limit t = omega (arith, cursor_few t after cursor mode, one_most (is_settled after cursor mode) (cell_limit t)) in
+    zero_or_more (all_differ old new t.cols t.rows) (cell_limit t) (cursor_limit t after cursor mode) (cursor_limit t now cursor mode) (is_settled now cursor mode)
+    (λ e. ap (λ (b : Belief). cursor_limit t b cursor mode) (same e)) h (cursor_few t now cursor mode)
 
 pub limit_more : (t : Table) (old new : ℕ → ℕ → Ink) (now : Belief) (cursor : Option Place) (mode : Mode) → all_differ old new t.cols t.rows * cell_limit t ≤ paint_limit t old new now cursor mode
 limit_more t old new now cursor mode = omega arith

@@ -5,3 +5,4 @@ pub mod Renewing
 pub mod Updating
 pub mod Ringing
 pub mod Ending
+pub mod Starting

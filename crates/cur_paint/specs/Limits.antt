@@ -23,8 +23,8 @@ last_move now None = 0
 last_move now (Some p) = moves now p.row p.col
 
 -- the last things to do: the cursor's mode and its place
-abbrev pub settle_limit : Table → Belief → Option Place → Mode → ℕ
-settle_limit t b cursor mode = changes b.mode mode * modes_limit t + last_move b.place cursor * t.longest.cup
+abbrev pub cursor_limit : Table → Belief → Option Place → Mode → ℕ
+cursor_limit t b cursor mode = changes b.mode mode * modes_limit t + last_move b.place cursor * t.longest.cup
 
 abbrev pub is_settled : Belief → Option Place → Mode → Bool
 is_settled b cursor mode = (last_move b.place cursor == 0) && (changes b.mode mode == 0)

@@ -10,5 +10,5 @@ mod updates;
 
 pub use bells::{Unsent, beep};
 pub use endings::finish;
-pub use laws::bounded;
+pub use laws::{bounded, reset_is_fresh};
 pub use updates::{Session, Status, Wanted, update};

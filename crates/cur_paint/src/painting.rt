@@ -5,7 +5,7 @@ ghost use Rattle.cur_looks.specs.Certified.{IsPiece, IsLost};
 ghost use Rattle.cur_looks.specs.Inks.{CanShow};
 ghost use Rattle.cur_looks.specs.Beliefs.{Agrees, CanHide};
 ghost use Rattle.cur_looks.specs.declared.inks.Ink.{Ink};
-ghost use Rattle.cur_paint.specs.Limits.{IsWithin, IsPlaced, last_move, settle_limit, paint_limit};
+ghost use Rattle.cur_paint.specs.Limits.{IsWithin, IsPlaced, last_move, cursor_limit, paint_limit};
 
 use crate::rows::mend_rows;
 use cur_looks::{Belief, Certificate, Mode, Place, View, move_to, show_as};
@@ -32,7 +32,7 @@ fn place_cursor<C: Certificate, W: Wire>(
 }
 
 /// The cursor's mode, and its place.
-fn settle<C: Certificate, W: Wire>(
+fn set_cursor<C: Certificate, W: Wire>(
     checked: &C,
     belief: &mut Belief,
     wire: &mut W,
@@ -43,7 +43,7 @@ fn settle<C: Certificate, W: Wire>(
     requires lines { CanHide (C.table checked.now) mode }
     ensures there { OnOk result (IsPlaced cursor belief.new.place) }
     ensures mode { OnOk result (belief.new.mode ≡ Some mode) }
-    ensures step { (g : ℕ → ℕ → Ink) → Steps W.went W.failures wire.old wire.new result (IsPiece (C.table checked.now)) (settle_limit (C.table checked.now) belief.old cursor mode)
+    ensures step { (g : ℕ → ℕ → Ink) → Steps W.went W.failures wire.old wire.new result (IsPiece (C.table checked.now)) (cursor_limit (C.table checked.now) belief.old cursor mode)
         (IsLost (C.table checked.now)) (Agrees (C.table checked.now) g belief.old) (Agrees (C.table checked.now) g belief.new) }
 {
     show_as(checked, belief, wire, mode)?;
@@ -69,5 +69,5 @@ pub(crate) fn paint<C: Certificate, O: View, N: View, W: Wire>(
         (IsLost (C.table checked.now)) (Agrees (C.table checked.now) (O.cells old.now) belief.old) (Agrees (C.table checked.now) (N.cells new.now) belief.new) }
 {
     mend_rows(checked, belief, wire, old, new)?;
-    settle(checked, belief, wire, cursor, mode)
+    set_cursor(checked, belief, wire, cursor, mode)
 }

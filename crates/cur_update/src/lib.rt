@@ -7,13 +7,7 @@ mod inks;
 mod laws;
 mod painters;
 mod papers;
-mod plains;
 mod screens;
-mod strings;
-#[cfg(test)]
-mod tests;
-#[cfg(test)]
-mod whole;
 
 pub use alternates::Alternates;
 pub use bells::Unsent;
@@ -21,4 +15,3 @@ pub use cur_paint::{Session, Status};
 pub use cur_wires::{Fuse, Tape, Wire, WireFault};
 pub use laws::cells_bounded;
 pub use painters::Painter;
-pub use plains::Plain;

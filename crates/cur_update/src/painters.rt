@@ -13,7 +13,7 @@ use crate::alternates::Alternates;
 use crate::bells::{Unsent, ring};
 use crate::inks::has_line;
 use crate::papers::Paper;
-use crate::screens::{Sheet, all_cells};
+use crate::screens::{PrintedScreen, all_cells};
 use cur_drawing::{Refusal, place_below};
 use cur_looks::{Certificate, Mode, Place, Row};
 use cur_paint::{Session, Wanted};
@@ -163,9 +163,9 @@ fn refresh<C: Certificate + Alternates, W: Wire>(
     let _ = checked.rows();
     all_cells(screen);
     let _ = screen.row(0);
-    let sheet = Sheet { screen, checked };
-    cur_paint::update(checked, session, wire, paper, &sheet, wanted)?;
-    paper.copy(&sheet);
+    let printed = PrintedScreen { screen, checked };
+    cur_paint::update(checked, session, wire, paper, &printed, wanted)?;
+    paper.copy(&printed);
     Ok(())
 }
 

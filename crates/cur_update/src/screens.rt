@@ -10,12 +10,12 @@ use cur_windows::Virtual;
 
 /// A virtual screen with the certificate that says how its cells are printed.
 #[derive(Drop)]
-pub(crate) struct Sheet<'a, C> {
+pub(crate) struct PrintedScreen<'a, C> {
     pub screen: &'a Virtual,
     pub checked: &'a C,
 }
 
-impl<'a, C: Certificate + Alternates> View for Sheet<'a, C> {
+impl<'a, C: Certificate + Alternates> View for PrintedScreen<'a, C> {
     ghost use Rattle.cur_update.specs.Inks.{ink_at};
 
     ghost cells = { λ s. ink_at (C.table s.checked.now) (C.partners s.checked.now) s.screen.now };

@@ -6,6 +6,7 @@ pub mod Lending
 pub mod Making
 pub mod Pads
 pub mod Places
+pub mod Queries
 pub mod Refusals
 pub mod Rows
 pub mod VirtualScreen

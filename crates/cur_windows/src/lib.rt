@@ -7,6 +7,7 @@ mod desks;
 pub mod laws;
 mod making;
 mod pads;
+mod queries;
 mod refreshing;
 mod rows;
 mod sizes;
@@ -15,7 +16,9 @@ mod views;
 mod virtual_screen;
 
 pub use copying::in_order;
-pub use cur_drawing::{Area, Attrs, Border, Cell, Place, Put, Refusal, first_diff, last_diff};
+pub use cur_drawing::{
+    Area, Attrs, Border, Cell, Place, Put, Refusal, Window, first_diff, last_diff,
+};
 pub use desks::{Desk, WINDOWS};
 pub use making::in_range;
 pub use rows::RowMut;

@@ -11,7 +11,7 @@ use Rattle.ti_arguments.specs.Line.{line}
 use Rattle.ti_arguments.specs.declared.parsing.Answer.{Answer}
 use Rattle.ti_arguments.specs.declared.parsing.Answer.TheVariants as answers
 use Rattle.ti_arguments.specs.declared.request.Request.{Request}
-use Rattle.ti_arguments.specs.declared.request.Request.TheVariants.{Expand, Feed, Tic, Verify, Print, Common, Neither}
+use Rattle.ti_arguments.specs.declared.request.Request.TheVariants.{Expand, Feed, Tic, Check, Verify, Print, Common, Neither}
 
 -- the word that stands for an argument, if it has one
 abbrev pub word_of : Text → List Row → Text
@@ -38,6 +38,9 @@ AsksFor name rows (Expand cup string height width params) =
 AsksFor name rows (Feed height width file) =
     (name ≡ codes "feed") × (height.now ≡ word_of (codes "ROWS") rows) × (width.now ≡ word_of (codes "COLS") rows) × (file.now ≡ word_of (codes "FILE") rows)
 AsksFor name rows (Tic entry out) = (name ≡ codes "tic") × (entry.now ≡ word_of (codes "ENTRY") rows) × (option_map (λ o. o.now) out ≡ first_of (codes "out") rows)
+AsksFor name rows (Check entry height width out) =
+    (name ≡ codes "check") × (entry.now ≡ word_of (codes "ENTRY") rows) × (height.now ≡ word_of (codes "ROWS") rows) × (width.now ≡ word_of (codes "COLS") rows)
+    × (option_map (λ o. o.now) out ≡ first_of (codes "out") rows)
 AsksFor name rows (Verify entry height width certificate) =
     (name ≡ codes "verify") × (entry.now ≡ word_of (codes "ENTRY") rows) × (height.now ≡ word_of (codes "ROWS") rows) × (width.now ≡ word_of (codes "COLS") rows)
     × (certificate.now ≡ word_of (codes "CERT") rows)

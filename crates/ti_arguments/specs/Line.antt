@@ -45,6 +45,9 @@ tic_rules = with_rule (with_rule (new_app (codes "tic")) out_rule) (positional_r
 abbrev pub infocmp_rules : App
 infocmp_rules = with_rule (with_rule (with_rule (new_app (codes "infocmp")) (switch_rule (codes "c") 99)) (switch_rule (codes "n") 110)) entries_rule
 
+abbrev pub check_rules : App
+check_rules = with_size_rules (with_rule (with_rule (new_app (codes "check")) out_rule) (positional_rule (codes "ENTRY")))
+
 abbrev pub verify_rules : App
 verify_rules = with_rule (with_size_rules (with_rule (new_app (codes "verify")) (positional_rule (codes "ENTRY")))) (positional_rule (codes "CERT"))
 
@@ -54,4 +57,4 @@ program = on_top (λ s. record s { no_binary_name = true; has_version = true; pr
 
 -- the program with its commands
 abbrev pub line : App
-line = with_subcommand (with_subcommand (with_subcommand (with_subcommand (with_subcommand program expand_rules.top) feed_rules.top) tic_rules.top) infocmp_rules.top) verify_rules.top
+line = with_subcommand (with_subcommand (with_subcommand (with_subcommand (with_subcommand (with_subcommand program expand_rules.top) feed_rules.top) tic_rules.top) infocmp_rules.top) check_rules.top) verify_rules.top

@@ -3,7 +3,7 @@
 ghost use Rattle.std.specs.Prelude.{◌≡◌, Some, IfOk, codes, false};
 ghost use Rattle.clap.specs.Words.{app_of, rule_of, with_subcommand};
 ghost use Rattle.clap.specs.declared.builder.command.Command.TheViews.{out-Command};
-ghost use Rattle.ti_arguments.specs.Line.{cup_rule, entries_rule, expand_rules, feed_rules, infocmp_rules, line, out_rule, params_rule, positional_rule, program, switch_rule, tic_rules, verify_rules, with_size_rules};
+ghost use Rattle.ti_arguments.specs.Line.{check_rules, cup_rule, entries_rule, expand_rules, feed_rules, infocmp_rules, line, out_rule, params_rule, positional_rule, program, switch_rule, tic_rules, verify_rules, with_size_rules};
 
 use crate::help;
 use clap::{Arg, ArgAction, Command};
@@ -29,10 +29,11 @@ fn with_screen_commands<'a>(alloc: Global, command: Command<'a>) -> Result<Comma
 
 /// The command, and those that judge entries.
 fn with_verdict_commands<'a>(alloc: Global, command: Command<'a>) -> Result<Command<'a>, AllocError>
-    ensures { IfOk result (λ c. app_of c ≡ with_subcommand (app_of command.entry) verify_rules.top) }
+    ensures { IfOk result (λ c. app_of c ≡ with_subcommand (with_subcommand (app_of command.entry) check_rules.top) verify_rules.top) }
 {
+    let check = check_command(alloc)?;
     let verify = verify_command(alloc)?;
-    command.subcommand(verify)
+    command.subcommand(check)?.subcommand(verify)
 }
 
 /// The command, and those whose words are entries.
@@ -105,7 +106,7 @@ fn tic_command<'a>(alloc: Global) -> Result<Command<'a>, AllocError>
     Command::new(alloc, "tic")
         .about(help::TIC)
         .after_help(help::TIC_MORE)
-        .arg(out_option(alloc))?
+        .arg(out_option(alloc, "Write the entry's compiled form to this file"))?
         .arg(entry(alloc))
 }
 
@@ -131,6 +132,18 @@ fn infocmp_command<'a>(alloc: Global) -> Result<Command<'a>, AllocError>
         .arg(entries(alloc))
 }
 
+fn check_command<'a>(alloc: Global) -> Result<Command<'a>, AllocError>
+    ensures shape { IfOk result (λ c. app_of c ≡ check_rules) }
+    ensures local { IfOk result (λ c. (out-Command c).has_globals ≡ false) }
+{
+    let command = Command::new(alloc, "check")
+        .about(help::CHECK)
+        .after_help(help::CHECK_MORE)
+        .arg(out_option(alloc, "Write the certificate to this file"))?
+        .arg(entry(alloc))?;
+    with_size(alloc, command)
+}
+
 fn verify_command<'a>(alloc: Global) -> Result<Command<'a>, AllocError>
     ensures shape { IfOk result (λ c. app_of c ≡ verify_rules) }
     ensures local { IfOk result (λ c. (out-Command c).has_globals ≡ false) }
@@ -152,7 +165,7 @@ fn cup_flag<'a>(alloc: Global) -> Arg<'a>
         .help("Also report whether the string serves as `cup`")
 }
 
-fn out_option<'a>(alloc: Global) -> Arg<'a>
+fn out_option<'a>(alloc: Global, help: &'a str) -> Arg<'a>
     ensures rule { rule_of result ≡ out_rule }
     ensures local { result.global ≡ false }
 {
@@ -160,7 +173,7 @@ fn out_option<'a>(alloc: Global) -> Arg<'a>
         .long("out")
         .value_name("FILE")
         .action(ArgAction::Set)
-        .help("Write the entry's compiled form to this file")
+        .help(help)
 }
 
 fn entry<'a>(alloc: Global) -> Arg<'a>

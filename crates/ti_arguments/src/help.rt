@@ -131,6 +131,48 @@ The limits and each KIND are those of `ticurses tic --help`.
 Example:
   ticurses infocmp -c my.ti:myterm my.ti:other";
 
+/// `check` in one line.
+pub const CHECK: &str =
+    "Checks an entry: writes its certificate, or says which string is wrong and what it does instead";
+
+/// `check` in full.
+pub const CHECK_MORE: &str = "\
+The output is a certificate: for each checked string of the entry, and for all parameters that a terminal of this
+size allows, the bytes that the string sends and what they do. There is one only if each of them does what programs
+rely on, from every state in which programs send it. `ticurses verify` reads it. With --out it is written to FILE,
+whole or not at all, and there is no output.
+
+If there is none, standard error has a line `refused: no CAP P..: CAUSE` with a capability and its parameters, the
+first in the order of a certificate's lines. The lines below it say what the string sends for these parameters, from
+which state of the terminal it goes wrong, what was wanted there, and what happens instead.
+
+A certificate has at most 67108864 bytes. The limits of a source file and of a compiled file are those of
+`ticurses tic --help`.
+
+Exit status: 0 done; 1 refused, with a line `refused: KIND` or `refused: no CAP P..: CAUSE` on standard error;
+2 usage error; 3 a file could not be read or written, or is too long, or standard output could not be written;
+4 out of memory.
+
+CAUSE is one of:
+  FlagOut      the entry has xmc, hc, gn or os, with which programs can't rely on what is on the screen
+  Absent       it lacks clear, cup or sgr0
+  AcsByte      acsc gives a line drawing character a partner that can't be printed
+  Underflow, BadNest, BadCode, Overflow, BadChar, WrongKind
+               the string can't be expanded with these parameters; `ticurses expand --help` explains each
+  StaticRead   the string reads a static variable, %gA to %gZ, before it sets it
+  Unfinished   what the string sends ends within a control sequence
+  Stuck        what the string sends has a byte that is neither text nor part of a sequence
+  BadLook      `sgr` with one attribute turns on a rendition that is not its own
+  WrongEffect  from the state that is described the string doesn't do what it is for
+  NotTame      no single effect describes what is sent from all states; the string may be right
+  NotShown     the effect is not the wanted one, but no state was found that shows it; the string may be right
+KIND is one of:
+  BadSize      ROWS is not 2 to 200, or COLS is not 2 to 500
+  and for the entry each KIND of `ticurses tic --help`.
+
+Example:
+  ticurses check my.ti:myterm 24 80 --out myterm.cert";
+
 /// `verify` in one line.
 pub const VERIFY: &str =
     "Verifies a certificate: that each checked string of an entry does what programs rely on";

@@ -72,6 +72,7 @@ fn request_of<'a>(alloc: Global, matches: &ArgMatches<'a>) -> Result<Request<'a>
         Some(("feed", words)) => Ok(feed_request(words)),
         Some(("tic", words)) => Ok(tic_request(words)),
         Some(("infocmp", words)) => infocmp_request(alloc, words),
+        Some(("check", words)) => Ok(check_request(words)),
         Some(("verify", words)) => Ok(verify_request(words)),
         _ => Err(LineFault::Usage(String::new(alloc))),
     }
@@ -106,6 +107,17 @@ fn tic_request<'a>(words: &ArgMatches<'a>) -> Request<'a>
 {
     Request::Tic {
         entry: word(words, "ENTRY"),
+        out: first_word(words, "out"),
+    }
+}
+
+fn check_request<'a>(words: &ArgMatches<'a>) -> Request<'a>
+    ensures { AsksFor (codes "check") (rows_of (found_of words.now)) result }
+{
+    Request::Check {
+        entry: word(words, "ENTRY"),
+        rows: word(words, "ROWS"),
+        cols: word(words, "COLS"),
         out: first_word(words, "out"),
     }
 }

@@ -32,6 +32,17 @@ pub enum Request<'a> {
         /// The path of the compiled file, if one is asked for.
         out: Option<&'a str>,
     },
+    /// `check ENTRY ROWS COLS [--out FILE]`: write the certificate of an entry.
+    Check {
+        /// The entry.
+        entry: &'a str,
+        /// The terminal's rows.
+        rows: &'a str,
+        /// The terminal's columns.
+        cols: &'a str,
+        /// The path of the certificate, if it isn't for standard output.
+        out: Option<&'a str>,
+    },
     /// `verify ENTRY ROWS COLS CERT`: verify the certificate of an entry.
     Verify {
         /// The entry.

@@ -30,6 +30,11 @@ get_more (z ∷ zs) x y (suc k) h = further (get_more zs x y k h)
     further (inl e) = inl e
     further (inr e) = inr (ap suc e.0, e.1)
 
+get_front : {A : Type 0} (xs : List A) (x y : A) (k : ℕ) → slice_get xs k ≡ Some y → slice_get (xs ++ x ∷ []) k ≡ Some y
+get_front [] x y k h = absurd (none-some y h)
+get_front (z ∷ zs) x y zero h = h
+get_front (z ∷ zs) x y (suc k) h = get_front zs x y k h
+
 pub get_last : {A : Type 0} (xs : List A) (x : A) → slice_get (xs ++ x ∷ []) (length xs) ≡ Some x
 get_last [] x = refl
 get_last (z ∷ zs) x = get_last zs x
@@ -80,6 +85,7 @@ adds rows cols groups row bytes g many fits place made = record {
   only = only_that;
   there = if_true (allows rows cols row) (slice_get (group_at new (order row)) (rank rows cols row)) fits
       ∙ (ap (λ (xs : List (List ℕ)). slice_get xs (rank rows cols row)) (here ∙ made) ∙ (ap (λ (k : ℕ). slice_get (before ++ bytes ∷ []) k) place ∙ get_last before bytes));
+  kept = kept_that;
   later = λ other found h same.
       let w = there_within old other found h in
       let w2 : rank rows cols other < length before = subst (λ (n : ℕ). rank rows cols other < length (slice_index_or groups n [])) same w in
@@ -103,6 +109,17 @@ adds rows cols groups row bytes g many fits place made = record {
     joined other true e = ap (λ (n : ℕ). not (length (slice_index_or (slice_set groups (order row) g) n []) == 0)) (same_places (order other) (order row) e)
         ∙ (ap (λ (xs : List (List ℕ)). not (length xs == 0)) (here ∙ made) ∙ not_empty before bytes)
     joined other false e = ap (λ (xs : List (List ℕ)). not (length xs == 0)) (get_or-set_other groups (order row) (order other) g [] (other_places (order other) (order row) e))
+
+    kept_that : (other : Row) (found : List ℕ) → string_in old other ≡ Some found → string_in new other ≡ Some found
+    kept_that other found h =
+        let p = if_some (allows rows cols other) (slice_get (group_at old (order other)) (rank rows cols other)) found h in
+        if_true (allows rows cols other) (slice_get (group_at new (order other)) (rank rows cols other)) p.0 ∙ by_place p.1 (same_or_not (order other) (order row) (order other == order row) refl)
+      where
+        by_place : slice_get (group_at old (order other)) (rank rows cols other) ≡ Some found → (order other ≡ order row) ⊎ (order other ≢ order row) → slice_get (group_at new (order other)) (rank rows cols other) ≡ Some found
+        by_place e (inl same) = ap (λ (n : ℕ). slice_get (slice_index_or (slice_set groups (order row) g) n []) (rank rows cols other)) same
+            ∙ (ap (λ (xs : List (List ℕ)). slice_get xs (rank rows cols other)) (here ∙ made)
+            ∙ get_front before bytes found (rank rows cols other) (ap (λ (n : ℕ). slice_get (slice_index_or groups n []) (rank rows cols other)) (sym same) ∙ e))
+        by_place e (inr differ) = ap (λ (xs : List (List ℕ)). slice_get xs (rank rows cols other)) (get_or-set_other groups (order row) (order other) g [] differ) ∙ e
 
     in_group : (other : Row) (found : List ℕ) → allows rows cols other ≡ true → order other ≡ order row
         → (slice_get before (rank rows cols other) ≡ Some found) ⊎ ((rank rows cols other ≡ length before) × (found ≡ bytes)) → (string_in old other ≡ Some found) ⊎ ((other ≡ row) × (found ≡ bytes))
@@ -160,7 +177,7 @@ pub no_line : (s : Strings) (row : Row) → has_group s row ≡ false → (other
 no_line s row h other same = none_of_none (allows s.rows s.cols other) (slice_get (group_at s (order other)) (rank s.rows s.cols other))
     (no_string (group_at s (order other)) (rank s.rows s.cols other) (ap (λ (n : ℕ). not (length (group_at s n) == 0)) same ∙ h))
 
-empty_group : (m n : ℕ) → slice_index_or (replicate {A = List (List ℕ)} m []) n [] ≡ []
+pub empty_group : (m n : ℕ) → slice_index_or (replicate {A = List (List ℕ)} m []) n [] ≡ []
 empty_group zero n = refl
 empty_group (suc m) zero = refl
 empty_group (suc m) (suc n) = empty_group m n

@@ -37,7 +37,7 @@ over_steps [] s = refl
 over_steps (t ∷ ts) s = over_steps ts (step t s) ∙ ap (λ (c : Charset). charset_over ts c) (act_charset (function_of t) s)
 
 -- the tokens do to the sets what their record says
-record_sets : (rows cols : ℕ) (row : Row) (tokens : List (List ℕ)) (e : Effect) → record_of rows cols (start_of rows cols row) tokens ≡ Some e → (c : Charset) → charset_over tokens c ≡ designated e.charset c
+pub record_sets : (rows cols : ℕ) (row : Row) (tokens : List (List ℕ)) (e : Effect) → record_of rows cols (start_of rows cols row) tokens ≡ Some e → (c : Charset) → charset_over tokens c ≡ designated e.charset c
 record_sets rows cols row tokens e recorded c =
     let s : Screen = record (reset_screen rows cols) { charset = c } in
     let sets : SetsAs e s (steps tokens s) = (records_tell rows cols (start_of rows cols row) tokens e recorded).settings s refl (record { autowrap = refl; inserting = refl }) in
@@ -68,7 +68,7 @@ some_there None h = cc
 there_is : (o : Option (List ℕ)) (x : List ℕ) → o ≡ Some x → is_some o ≡ true
 there_is o x e = ap (λ (p : Option (List ℕ)). is_some p) e
 
-change_there : (s : Strings) (row : Row) (o : Option Sets) → Changes s row o → is_some (string_in s row) ≡ is_some o
+pub change_there : (s : Strings) (row : Row) (o : Option Sets) → Changes s row o → is_some (string_in s row) ≡ is_some o
 change_there s row _ (NoString none) = ap (λ (p : Option (List ℕ)). is_some p) none
 change_there s row _ (OfString bytes there tokens whole effect recorded) = ap (λ (p : Option (List ℕ)). is_some p) there
 
@@ -82,7 +82,7 @@ same_change s row _ bytes tokens effect there whole recorded (OfString b t ts w 
     let effects : e ≡ effect = same_Some e effect (sym r ∙ (ap (λ (x : List (List ℕ)). record_of s.rows s.cols (start_of s.rows s.cols row) x) tokens_same.0 ∙ recorded)) in
     ap (λ (x : Effect). Some x.charset) effects
 
-abbrev head_of : List ℕ → Option ℕ
+abbrev pub head_of : List ℕ → Option ℕ
 head_of [] = None
 head_of (b ∷ bytes) = Some b
 
@@ -173,9 +173,10 @@ active k settled smacs rmacs s r g q Smcup bytes tokens effect there whole recor
 active k settled smacs rmacs s r g q Rmcup bytes tokens effect there whole recorded ch h = tt
 active k settled smacs rmacs s r g q Bel bytes tokens effect there whole recorded ch h = tt
 
-resync_begins : (k : Known) (settled : Charsets) → first_of_resync k.strings ≡ Some 27 → (rest : List ℕ) × (resync (checked_of k settled) ≡ 27 ∷ rest)
+-- a resynchronization begins with the first byte of the first string that has one
+pub resync_head : (k : Known) (settled : Charsets) → first_of_resync k.strings ≡ head_of (resync (checked_of k settled))
 unfolding resync
-resync_begins k settled escape = tail_of (resync (checked_of k settled)) 27 (ap (λ (xs : List ℕ). head_of xs) (sym (join_six (part_of Smcup) (part_of Enacs) (part_of Sgr0) (part_of Rmacs) (part_of (Csr 0 (k.strings.rows - 1))) (part_of Clear))) ∙ (sym heads ∙ escape))
+resync_head k settled = heads ∙ ap (λ (xs : List ℕ). head_of xs) (join_six (part_of Smcup) (part_of Enacs) (part_of Sgr0) (part_of Rmacs) (part_of (Csr 0 (k.strings.rows - 1))) (part_of Clear))
   where
     part_of : Row → List ℕ
     part_of row = or_nothing (string_in k.strings row)
@@ -183,6 +184,9 @@ resync_begins k settled escape = tail_of (resync (checked_of k settled)) 27 (ap 
     heads : first_of_resync k.strings ≡ head_of (part_of Smcup ++ (part_of Enacs ++ (part_of Sgr0 ++ (part_of Rmacs ++ (part_of (Csr 0 (k.strings.rows - 1)) ++ (part_of Clear ++ []))))))
     heads = first_head (string_in k.strings Smcup) _ _ (first_head (string_in k.strings Enacs) _ _ (first_head (string_in k.strings Sgr0) _ _ (first_head (string_in k.strings Rmacs) _ _
         (first_head (string_in k.strings (Csr 0 (k.strings.rows - 1))) _ _ (first_head (string_in k.strings Clear) [] None refl)))))
+
+resync_begins : (k : Known) (settled : Charsets) → first_of_resync k.strings ≡ Some 27 → (rest : List ℕ) × (resync (checked_of k settled) ≡ 27 ∷ rest)
+resync_begins k settled escape = tail_of (resync (checked_of k settled)) 27 (sym (resync_head k settled) ∙ escape)
 
 pub judged : (k : Known) (settled first : Charsets) (smcup enacs sgr0 rmacs smacs : Option Sets) (has_acsc : Bool) → Ends k settled first smcup enacs sgr0 rmacs smacs has_acsc → IsJudged (checked_of k settled)
 judged k settled first smcup enacs sgr0 rmacs smacs has_acsc p = record {

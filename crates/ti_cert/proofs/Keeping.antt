@@ -4,6 +4,7 @@ use Rattle.std.specs.Prelude.{replicate}
 use Rattle.vt_term.specs.Text.{Splits}
 use Rattle.vt_effects.specs.declared.effects.Effect.{Effect}
 use Rattle.vt_effects.specs.declared.effects.Sets.{Sets}
+use Rattle.vt_effects.specs.Record.{record_of}
 use Rattle.ti_charsets.specs.Charsets.{IsAmong, reach_of, joined}
 use Rattle.ti_charsets.specs.declared.reach.Reach.{Reach}
 use Rattle.ti_charsets.proofs.Reaching.{reach_of-append}
@@ -16,11 +17,11 @@ use Rattle.ti_rows.specs.Bits.{number_of}
 use Rattle.ti_rows.specs.Names.{order, no_attributes}
 use Rattle.ti_rows.specs.Lists.{rank}
 use Rattle.ti_rows.specs.Looks.{learned, shown}
-use Rattle.ti_rows.specs.Asked.{asked, rendering, just, ink_of, defaults_both_inks, with_marks_on}
+use Rattle.ti_rows.specs.Asked.{start_of, asked, rendering, just, ink_of, defaults_both_inks, with_marks_on}
 use Rattle.ti_rows.proofs.Telling.{earlier_kept}
 use Rattle.ti_checked.specs.Table.{keeps_settled}
 use Rattle.ti_cert.specs.Strings.{Strings, string_in, has_group, Adds}
-use Rattle.ti_cert.specs.Audit.{Known, rival, looks_with, HasRecord, IsKept, IsChange, Holds, with_change}
+use Rattle.ti_cert.specs.Audit.{Known, rival, looks_with, HasRecord, IsKept, IsChange, IsFrom, IsTold, Holds, with_change}
 use Rattle.ti_cert.specs.Singles.{LooksAlone, no_looks}
 use Rattle.ti_cert.proofs.Ranges.{less}
 use Rattle.ti_cert.proofs.Singling.{looks_more}
@@ -170,6 +171,14 @@ which_among true changes change x a = tail_is (either_list changes (change ∷ [
     tail_is (inr (inr b)) = absurd b
 which_among false changes change x a = inl a
 
+which_told : (b : Bool) (changes : List Sets) (change x : Sets) → IsAmong (with_change b changes change) x → IsAmong changes x ⊎ ((b ≡ true) × (x ≡ change))
+which_told true changes change x a = onto (which_among true changes change x a)
+  where
+    onto : IsAmong changes x ⊎ (x ≡ change) → IsAmong changes x ⊎ ((true ≡ true) × (x ≡ change))
+    onto (inl b) = inl b
+    onto (inr e) = inr (refl, e)
+which_told false changes change x a = inl a
+
 pub holds_more : (k : Known) (strings : Strings) (row : Row) (bytes : List ℕ) (tokens : List (List ℕ)) (effect : Effect) (looks : Looks) (reach : Reach) (changes : List Sets)
     → Holds k → Adds k.strings strings row bytes → Splits bytes tokens [] → looks ≡ looks_with k row effect → HasRecord k.strings.rows k.strings.cols looks row tokens effect
     → reach ≡ joined k.reach (reach_of tokens) → changes ≡ with_change (keeps_settled row) k.changes effect.charset
@@ -179,6 +188,8 @@ holds_more k strings row bytes tokens effect looks reach changes h a whole looks
   reach_is = reach_so ∙ (ap (λ (r : Reach). joined r (reach_of tokens)) h.reach_is ∙ sym (reach_of-append h.all tokens));
   lines = λ r b there. line r b (a.only r b there);
   changes = λ x among. change x (which_among (keeps_settled row) k.changes effect.charset x (subst (λ (xs : List Sets). IsAmong xs x) changes_so among));
+  from_lines = λ token among. from_either token (either_list h.all tokens token among);
+  told = λ x among. told_either x (which_told (keeps_settled row) k.changes effect.charset x (subst (λ (xs : List Sets). IsAmong xs x) changes_so among));
   looks = subst (λ (l : Looks). LooksAlone (λ r. has_group strings r) l) (sym looks_are) (looks_more k strings row bytes effect a h.looks);
 }
   where
@@ -215,6 +226,18 @@ holds_more k strings row bytes tokens effect looks reach changes h a whole looks
     line r b (inl there) = old_line r b there (h.lines r b there)
     line r b (inr e) = subst (λ (x : Row). IsKept new (h.all ++ tokens) x b) (sym e.0) (subst (λ (y : List ℕ). IsKept new (h.all ++ tokens) row y) (sym e.1) new_line)
 
+    from_either : (token : List ℕ) → IsAmong h.all token ⊎ IsAmong tokens token → IsFrom new token
+    from_either token (inl among) = let f : IsFrom k token = h.from_lines token among in record { row = f.row; bytes = f.bytes; there = a.kept f.row f.bytes f.there; tokens = f.tokens; whole = f.whole; among = f.among }
+    from_either token (inr among) = record { row = row; bytes = bytes; there = a.there; tokens = tokens; whole = whole; among = among }
+
+    same_record : (r : Row) (ts : List (List ℕ)) (e : Effect) → record_of k.strings.rows k.strings.cols (start_of k.strings.rows k.strings.cols r) ts ≡ Some e → record_of strings.rows strings.cols (start_of strings.rows strings.cols r) ts ≡ Some e
+    same_record r ts e p = subst (λ (n : ℕ). record_of n strings.cols (start_of n strings.cols r) ts ≡ Some e) (sym a.rows_kept) (subst (λ (n : ℕ). record_of k.strings.rows n (start_of k.strings.rows n r) ts ≡ Some e) (sym a.cols_kept) p)
+
+    told_either : (x : Sets) → IsAmong k.changes x ⊎ ((keeps_settled row ≡ true) × (x ≡ effect.charset)) → IsTold new x
+    told_either x (inl among) = let f : IsTold k x = h.told x among in
+        record { row = f.row; bytes = f.bytes; there = a.kept f.row f.bytes f.there; keeps = f.keeps; tokens = f.tokens; whole = f.whole; effect = f.effect; recorded = same_record f.row f.tokens f.effect f.recorded; is = f.is }
+    told_either x (inr e) = record { row = row; bytes = bytes; there = a.there; keeps = e.0; tokens = tokens; whole = whole; effect = effect; recorded = same_record row tokens effect has.recorded; is = e.1 }
+
     change : (x : Sets) → IsAmong k.changes x ⊎ (x ≡ effect.charset) → IsChange (h.all ++ tokens) x
     change x (inl among) =
         let p : IsChange h.all x = h.changes x among in
@@ -240,5 +263,7 @@ holds_at_first strings reach changes rows cols s r c = record {
   reach_is = r;
   lines = λ row bytes there. absurd (none_at_first rows cols row bytes (subst (λ (x : Strings). string_in x row ≡ Some bytes) s there));
   changes = λ x among. absurd (subst (λ (xs : List Sets). IsAmong xs x) c among);
+  from_lines = λ token among. absurd among;
+  told = λ x among. absurd (subst (λ (xs : List Sets). IsAmong xs x) c among);
   looks = subst (λ (x : Strings). LooksAlone (λ row. has_group x row) no_looks) (sym s) (looks_at_first rows cols);
 }

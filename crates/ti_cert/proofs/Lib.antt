@@ -3,4 +3,9 @@ pub mod Grouping
 pub mod Singling
 pub mod Keeping
 pub mod Judging
+pub mod Ordering
+pub mod Placing
+pub mod Clashing
+pub mod Auditing
+pub mod Relating
 pub mod Accepted

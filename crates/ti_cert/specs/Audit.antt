@@ -1,4 +1,4 @@
--- What is known of the lines that were judged so far.
+-- (Serves the code alone.) What is known of the lines that were judged so far.
 use Rattle.std.specs.Prelude.{ℕ, ◌≡◌, Bool, true, false, if◌then◌else◌, List, [], ◌∷◌, ◌++◌, Some}
 use Rattle.vt_term.specs.Text.{Splits}
 use Rattle.vt_effects.specs.declared.effects.Effect.{Effect}
@@ -8,13 +8,12 @@ use Rattle.ti_charsets.specs.Charsets.{IsAmong, reach_of}
 use Rattle.ti_charsets.specs.declared.reach.Reach.{Reach}
 use Rattle.ti_rows.specs.declared.rows.Looks.{Looks}
 use Rattle.ti_rows.specs.declared.rows.Row.{Row}
-use Rattle.ti_rows.specs.declared.rows.Row.TheVariants.{Sgr, Smso}
-use Rattle.ti_rows.specs.Names.{no_attributes}
 use Rattle.ti_rows.specs.Looks.{learned}
 use Rattle.ti_rows.specs.Asked.{start_of, asked}
 use Rattle.ti_checked.specs.Table.{keeps_settled}
 use Rattle.ti_cert.specs.Strings.{Strings, string_in, has_group}
 use Rattle.ti_cert.specs.Singles.{LooksAlone}
+pub use Rattle.ti_cert.specs.Singles.{rival}
 
 -- what lines have told so far
 pub record Known : Type 0 where
@@ -23,11 +22,6 @@ pub record Known : Type 0 where
   -- the marks of the charsets that tokens turn on, and what whole strings do to the charsets
   pub reach : Reach
   pub changes : List Sets
-
--- looks come from `sgr`, or else from the strings of single attributes
-abbrev pub rival : Row → Row
-rival (Sgr a) = Smso
-rival _ = Sgr no_attributes
 
 abbrev pub looks_with : Known → Row → Effect → Looks
 looks_with k row e = if has_group k.strings (rival row) then k.looks else learned row e k.looks
@@ -57,11 +51,34 @@ pub record IsChange (all : List (List ℕ)) (change : Sets) : Type 0 where
   pub is : change ≡ effect.charset
   pub reached : (token : List ℕ) → IsAmong tokens token → IsAmong all token
 
+-- the token is one of a string's
+pub record IsFrom (k : Known) (token : List ℕ) : Type 0 where
+  pub row : Row
+  pub bytes : List ℕ
+  pub there : string_in k.strings row ≡ Some bytes
+  pub tokens : List (List ℕ)
+  pub whole : Splits bytes tokens []
+  pub among : IsAmong tokens token
+
+-- the change is that of a string
+pub record IsTold (k : Known) (change : Sets) : Type 0 where
+  pub row : Row
+  pub bytes : List ℕ
+  pub there : string_in k.strings row ≡ Some bytes
+  pub keeps : keeps_settled row ≡ true
+  pub tokens : List (List ℕ)
+  pub whole : Splits bytes tokens []
+  pub effect : Effect
+  pub recorded : record_of k.strings.rows k.strings.cols (start_of k.strings.rows k.strings.cols row) tokens ≡ Some effect
+  pub is : change ≡ effect.charset
+
 pub record Holds (k : Known) : Type 0 where
   pub all : List (List ℕ)
   pub reach_is : k.reach ≡ reach_of all
   pub lines : (row : Row) (bytes : List ℕ) → string_in k.strings row ≡ Some bytes → IsKept k all row bytes
   pub changes : (change : Sets) → IsAmong k.changes change → IsChange all change
+  pub from_lines : (token : List ℕ) → IsAmong all token → IsFrom k token
+  pub told : (change : Sets) → IsAmong k.changes change → IsTold k change
   pub looks : LooksAlone (λ row. has_group k.strings row) k.looks
 
 -- the changes with that of one more line

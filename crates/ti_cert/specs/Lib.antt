@@ -2,5 +2,10 @@ pub mod Strings
 pub mod Singles
 pub mod Audit
 pub mod Table
+pub mod Order
+pub mod Clashes
+pub mod Certificates
+pub mod Texts
+pub mod Places
 pub mod Good
 pub mod Verified

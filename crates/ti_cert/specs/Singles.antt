@@ -28,3 +28,8 @@ LooksStand t = LooksAlone (λ row. has t row) t.looks
 -- attributes that can't be seen
 abbrev pub no_looks : Looks
 no_looks = record { standout = no_marks; underline = false; reverse = false; blink = false; dim = false; bold = false; invisible = false }
+
+-- looks come from `sgr`, or else from the strings of single attributes
+abbrev pub rival : Row → Row
+rival (Sgr a) = Smso
+rival _ = Sgr no_attributes

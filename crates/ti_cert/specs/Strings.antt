@@ -43,5 +43,6 @@ pub record Adds (old new : Strings) (row : Row) (bytes : List ℕ) : Type 0 wher
   pub cols_kept : new.cols ≡ old.cols
   pub only : (other : Row) (found : List ℕ) → string_in new other ≡ Some found → (string_in old other ≡ Some found) ⊎ ((other ≡ row) × (found ≡ bytes))
   pub there : string_in new row ≡ Some bytes
+  pub kept : (other : Row) (found : List ℕ) → string_in old other ≡ Some found → string_in new other ≡ Some found
   pub later : (other : Row) (found : List ℕ) → string_in old other ≡ Some found → order other ≡ order row → nat_lt (rank old.rows old.cols other) (rank old.rows old.cols row) ≡ true
   pub groups : (other : Row) → has_group new other ≡ (order other == order row || has_group old other)

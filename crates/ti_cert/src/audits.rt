@@ -1,29 +1,33 @@
 //! A certificate judged line by line as a reader gives it.
 
-ghost use Rattle.std.specs.Prelude.{◌≡◌, ◌<◌, ◌≤◌, ◌+◌, length, take, true, IfOk, OnOk};
-ghost use Rattle.ti_cert.specs.Good.{IsGood};
+ghost use Rattle.std.specs.Prelude.{◌≡◌, ℕ, List, true, false, IfOk, IfErr, OnOk, Ok};
+ghost use Rattle.ti_checked.specs.Judged.{IsJudged};
+ghost use Rattle.ti_lines.specs.Heads.{IsSizeText};
+ghost use Rattle.ti_reader.specs.Reader.{Rose};
+ghost use Rattle.ti_cert.specs.Good as spec;
 ghost use Rattle.ti_cert.specs.Singles.{LooksStand};
 ghost use Rattle.ti_cert.specs.Table.{table_of};
-ghost use Rattle.ti_checked.specs.Judged.{IsJudged};
+ghost use Rattle.ti_cert.specs.Texts.{IsTableOf, IsRefused};
 
 use crate::ending::conclude;
 use crate::faults::{CertFault, CertFaultKind};
 use crate::known::Known;
 use crate::places::Place;
 use crate::table::Table;
+use crate::tokenizing::whole_tokens;
 use std::alloc::{AllocError, Global};
 use ti_caps::Bytes;
 use ti_charsets::Charsets;
 use ti_lines::{RowLine, is_end_line, read_acsc_line, read_row_line, read_size_line};
-use ti_reader::{Halt, Lines, Next, Reader};
-use vt_term::{Size, tokens};
+use ti_reader::{Judge, Reader, judge_lines};
+use vt_term::Size;
 
 /// The most bytes that a certificate has.
 const LIMIT: u32 = 67_108_864;
 
 /// Which line comes next.
 #[derive(Clone, Copy)]
-enum Stage {
+enum Awaited {
     /// The first, with the size.
     First,
     /// That of alternate characters, if there is one.
@@ -41,71 +45,80 @@ struct Progress {
     known: Known,
     acsc: Option<Bytes>,
     place: Place,
-    stage: Stage,
+    awaited: Awaited,
+}
+
+/// Whether this is the first line of a certificate for this size.
+fn is_size_line(text: &[u8], size: Size) -> bool
+    ensures yes { result ≡ true → IsSizeText text.now size.rows size.cols }
+    ensures no { result ≡ false → IsSizeText text.now size.rows size.cols → ⊥ }
+{
+    match read_size_line(text) {
+        Some((rows, cols)) => usize::from(rows) == size.rows && usize::from(cols) == size.cols,
+        None => false,
+    }
+}
+
+/// The fault of a line that is none about a capability: a line of alternate characters comes too late.
+fn misplaced(alloc: Global, text: &[u8]) -> CertFaultKind
+    ensures { spec.IsMisplacedBy text.now result }
+{
+    match read_acsc_line(alloc, text) {
+        Ok(Some(_)) => CertFaultKind::OutOfOrder,
+        Ok(None) => CertFaultKind::BadLine,
+        Err(_) => CertFaultKind::NoMemory,
+    }
 }
 
 impl Progress {
+    #[tactic(auto, using(crate::proofs::Auditing::starts_so))]
     fn new(alloc: Global, size: Size) -> Result<Progress, AllocError>
-        ensures good { IfOk result (λ p. IsGood p) }
-        ensures size { IfOk result (λ p. p.size ≡ size) }
+        ensures { IfOk result (spec.Starts size.rows size.cols) }
     {
         Ok(Progress {
             size,
             known: Known::new(alloc, size)?,
             acsc: None,
             place: Place::new(),
-            stage: Stage::First,
+            awaited: Awaited::First,
         })
     }
 
-    /// Judges one more line, given without its LF.
-    fn judge(&mut self, alloc: Global, text: &[u8]) -> Result<(), CertFaultKind>
-        requires { IsGood self.old }
-        ensures good { OnOk result (IsGood self.new) }
-        ensures size { OnOk result (self.new.size ≡ self.old.size) }
-    {
-        match self.stage {
-            Stage::First => self.judge_size(text),
-            Stage::Acsc => self.judge_acsc(alloc, text),
-            Stage::Rows => self.judge_row_or_end(alloc, text),
-            Stage::Ended(_) => Err(CertFaultKind::BadLine),
-        }
-    }
-
+    #[tactic(auto, using(crate::proofs::Auditing::first_ok, crate::proofs::Auditing::first_wrong))]
     fn judge_size(&mut self, text: &[u8]) -> Result<(), CertFaultKind>
-        requires { IsGood self.old }
-        ensures good { OnOk result (IsGood self.new) }
-        ensures size { OnOk result (self.new.size ≡ self.old.size) }
+        requires { self.old.awaited ≡ Awaited.First }
+        ensures ok { OnOk result (spec.AnswersLine self.old text.now (Ok self.new)) }
+        ensures err { IfErr result (λ kind. spec.OrNoMemory kind (spec.AnswersLine self.old text.now)) }
     {
-        match read_size_line(text) {
-            Some((rows, cols))
-                if usize::from(rows) == self.size.rows && usize::from(cols) == self.size.cols => {
-                self.stage = Stage::Acsc;
-                Ok(())
-            }
-            _ => Err(CertFaultKind::BadLine),
+        if is_size_line(text, self.size) {
+            self.awaited = Awaited::Acsc;
+            Ok(())
+        } else {
+            Err(CertFaultKind::BadLine)
         }
     }
 
+    #[tactic(auto, using(crate::proofs::Auditing::second_pairs, crate::proofs::Auditing::second_later, crate::proofs::Auditing::second_refused))]
     fn judge_acsc(&mut self, alloc: Global, text: &[u8]) -> Result<(), CertFaultKind>
-        requires { IsGood self.old }
-        ensures good { OnOk result (IsGood self.new) }
-        ensures size { OnOk result (self.new.size ≡ self.old.size) }
+        requires { self.old.awaited ≡ Awaited.Acsc }
+        ensures ok { OnOk result (spec.AnswersLine self.old text.now (Ok self.new)) }
+        ensures err { IfErr result (λ kind. spec.OrNoMemory kind (spec.AnswersLine self.old text.now)) }
     {
-        self.stage = Stage::Rows;
-        match read_acsc_line(alloc, text)? {
+        let pairs = read_acsc_line(alloc, text)?;
+        self.awaited = Awaited::Rows;
+        match pairs {
             Some(bytes) => {
                 self.acsc = Some(Bytes::from_vec(bytes));
                 Ok(())
             }
-            None => self.judge_row_or_end(alloc, text),
+            None => self.judge_later(alloc, text),
         }
     }
 
-    fn judge_row_or_end(&mut self, alloc: Global, text: &[u8]) -> Result<(), CertFaultKind>
-        requires { IsGood self.old }
-        ensures good { OnOk result (IsGood self.new) }
-        ensures size { OnOk result (self.new.size ≡ self.old.size) }
+    #[tactic(auto, using(crate::proofs::Auditing::later_last, crate::proofs::Auditing::last_refused, crate::proofs::Auditing::later_row, crate::proofs::Auditing::row_refused, crate::proofs::Auditing::later_none))]
+    fn judge_later(&mut self, alloc: Global, text: &[u8]) -> Result<(), CertFaultKind>
+        ensures ok { OnOk result (spec.AnswersLater self.old text.now (Ok self.new)) }
+        ensures err { IfErr result (λ kind. spec.OrNoMemory kind (spec.AnswersLater self.old text.now)) }
     {
         if is_end_line(text) {
             return self.judge_end(alloc);
@@ -116,91 +129,92 @@ impl Progress {
         }
     }
 
+    #[tactic(auto, using(crate::proofs::Auditing::row_misplaced, crate::proofs::Auditing::row_cut, crate::proofs::Auditing::row_misshows, crate::proofs::Auditing::row_stands))]
     fn judge_row(&mut self, alloc: Global, line: RowLine) -> Result<(), CertFaultKind>
-        requires { IsGood self.old }
-        ensures good { OnOk result (IsGood self.new) }
-        ensures size { OnOk result (self.new.size ≡ self.old.size) }
+        ensures ok { OnOk result (spec.AnswersRow self.old line (Ok self.new)) }
+        ensures err { IfErr result (λ kind. spec.OrNoMemory kind (spec.AnswersRow self.old line)) }
     {
         let row = line.row;
         self.place.check(row, &self.known.strings)?;
-        let tokens = tokens(alloc, line.bytes.as_slice())?;
+        let tokens = whole_tokens(alloc, line.bytes.as_slice())?;
         let (effect, looks) = self.known.judge_effect(row, &line.effect, &tokens)?;
         self.known.add(row, line.bytes, &tokens, &effect, looks)?;
         self.place = Place::after(row);
-        self.stage = Stage::Rows;
+        self.awaited = Awaited::Rows;
         Ok(())
     }
 
+    #[tactic(auto, using(crate::proofs::Auditing::last_lacks, crate::proofs::Auditing::last_clashes, crate::proofs::Auditing::last_closes))]
     fn judge_end(&mut self, alloc: Global) -> Result<(), CertFaultKind>
-        requires { IsGood self.old }
-        ensures good { OnOk result (IsGood self.new) }
-        ensures size { OnOk result (self.new.size ≡ self.old.size) }
+        ensures ok { OnOk result (spec.AnswersLast self.old (Ok self.new)) }
+        ensures err { IfErr result (λ kind. spec.OrNoMemory kind (spec.AnswersLast self.old)) }
     {
-        if let Some(missing) = self.place.missing(self.size, 42) {
-            return Err(CertFaultKind::Missing(missing));
+        match self.place.missing(self.size, 42) {
+            Some(missing) => Err(CertFaultKind::Missing(missing)),
+            None => {
+                let settled = conclude(alloc, &self.known, self.acsc.is_some())?;
+                self.awaited = Awaited::Ended(settled);
+                Ok(())
+            }
         }
-        let settled = conclude(alloc, &self.known, self.acsc.is_some())?;
-        self.stage = Stage::Ended(settled);
-        Ok(())
     }
 
-    /// The table of a text that ends here.
+    /// The table of a text that was read to its end.
     fn into_table(self) -> Result<Table, CertFaultKind>
-        requires { IsGood self }
-        ensures rows { IfOk result (λ t. t.known.strings.rows ≡ self.size.rows) }
-        ensures cols { IfOk result (λ t. t.known.strings.cols ≡ self.size.cols) }
+        requires { spec.IsWholeRead self }
+        ensures made { IfOk result (spec.IsTableMade self) }
+        ensures never { IfErr result (λ kind. ⊥) }
     {
-        match self.stage {
-            Stage::Ended(settled) => Ok(Table::new(self.known, self.acsc, settled)),
-            _ => Err(CertFaultKind::BadLine),
+        match self.awaited {
+            Awaited::Ended(settled) => Ok(Table::new(self.known, self.acsc, settled)),
+            Awaited::First => Err(CertFaultKind::BadLine),
+            Awaited::Acsc => Err(CertFaultKind::BadLine),
+            Awaited::Rows => Err(CertFaultKind::BadLine),
         }
     }
 }
 
-/// The fault of a line that is none about a capability: a line of alternate characters comes too late.
-fn misplaced(alloc: Global, text: &[u8]) -> CertFaultKind {
-    match read_acsc_line(alloc, text) {
-        Ok(Some(_)) => CertFaultKind::OutOfOrder,
-        Ok(None) => CertFaultKind::BadLine,
-        Err(_) => CertFaultKind::NoMemory,
-    }
-}
+impl Judge for Progress {
+    ghost use Rattle.ti_cert.specs.Good.{progress_rules};
 
-impl From<Halt> for CertFaultKind {
-    fn from(halt: Halt) -> CertFaultKind {
-        match halt {
-            Halt::ReadFailed => CertFaultKind::ReadFailed,
-            Halt::NoMemory => CertFaultKind::NoMemory,
+    type Fault = CertFaultKind;
+
+    ghost rules = { progress_rules };
+
+    fn judge(&mut self, alloc: Global, line: &[u8]) -> Result<(), CertFaultKind> {
+        match self.awaited {
+            Awaited::First => self.judge_size(line),
+            Awaited::Acsc => self.judge_acsc(alloc, line),
+            Awaited::Rows => self.judge_later(alloc, line),
+            Awaited::Ended(_) => Err(CertFaultKind::BadLine),
         }
     }
-}
 
-/// Judges the certificate that a reader has left, line by line as it arrives. What is kept is the table
-/// alone, never the text.
-///
-/// # Errors
-/// The first fault of the text with its line, `ReadFailed` where the reader failed, and `NoMemory`.
-pub fn audit_from<R: Reader>(alloc: Global, reader: &mut R, size: Size) -> Result<Table, CertFault>
-    ensures judged { IfOk result (λ table. IsJudged (table_of table)) }
-    ensures looks { IfOk result (λ table. LooksStand (table_of table)) }
-    ensures rows { IfOk result (λ table. table.known.strings.rows ≡ size.rows) }
-    ensures cols { IfOk result (λ table. table.known.strings.cols ≡ size.cols) }
-{
-    let mut line = 1u64;
-    let mut progress = started(alloc, size)?;
-    let mut lines = Lines::new(alloc, LIMIT);
-    loop {
-        match advance(alloc, reader, &mut lines, &mut progress) {
-            Ok(true) => line = line.saturating_add(1),
-            Ok(false) => return closed(progress, line),
-            Err(kind) => return Err(CertFault { line, kind }),
+    fn finish(&mut self, _: Global) -> Result<(), CertFaultKind> {
+        match self.awaited {
+            Awaited::Ended(_) => Ok(()),
+            Awaited::First => Err(CertFaultKind::BadLine),
+            Awaited::Acsc => Err(CertFaultKind::BadLine),
+            Awaited::Rows => Err(CertFaultKind::BadLine),
         }
+    }
+
+    fn no_line() -> CertFaultKind {
+        CertFaultKind::BadLine
+    }
+
+    fn no_memory() -> CertFaultKind {
+        CertFaultKind::NoMemory
+    }
+
+    fn read_failed() -> CertFaultKind {
+        CertFaultKind::ReadFailed
     }
 }
 
 fn started(alloc: Global, size: Size) -> Result<Progress, CertFault>
-    ensures good { IfOk result (λ p. IsGood p) }
-    ensures size { IfOk result (λ p. p.size ≡ size) }
+    ensures ok { IfOk result (spec.Starts size.rows size.cols) }
+    ensures err { IfErr result (λ fault. fault.kind ≡ CertFaultKind.NoMemory) }
 {
     match Progress::new(alloc, size) {
         Ok(progress) => Ok(progress),
@@ -211,49 +225,39 @@ fn started(alloc: Global, size: Size) -> Result<Progress, CertFault>
     }
 }
 
-fn closed(progress: Progress, line: u64) -> Result<Table, CertFault>
-    requires { IsGood progress }
-    ensures judged { IfOk result (λ table. IsJudged (table_of table)) }
-    ensures looks { IfOk result (λ table. LooksStand (table_of table)) }
-    ensures rows { IfOk result (λ t. t.known.strings.rows ≡ progress.size.rows) }
-    ensures cols { IfOk result (λ t. t.known.strings.cols ≡ progress.size.cols) }
+/// The table of a text that was read to its end.
+fn closed(progress: Progress) -> Result<Table, CertFault>
+    requires { spec.IsWholeRead progress }
+    ensures made { IfOk result (spec.IsTableMade progress) }
+    ensures never { IfErr result (λ kind. ⊥) }
 {
     match progress.into_table() {
         Ok(table) => Ok(table),
-        Err(kind) => Err(CertFault { line, kind }),
+        Err(kind) => Err(CertFault { line: 0, kind }),
     }
 }
 
-/// The first `count` bytes.
-fn front(bytes: &[u8], count: usize) -> &[u8]
-    requires { count ≤ length bytes.now }
-    ensures { result.now ≡ take count bytes.now }
+/// Judges the certificate that a reader has left, line by line as it arrives. What is kept is the table
+/// alone, never the text.
+///
+/// # Errors
+/// The first fault of the text with its line, `ReadFailed` where the reader failed in this call, and
+/// `NoMemory`.
+pub fn audit_from<R: Reader>(alloc: Global, reader: &mut R, size: Size) -> Result<Table, CertFault>
+    ensures judged { IfOk result (λ table. IsJudged (table_of table)) }
+    ensures looks { IfOk result (λ table. LooksStand (table_of table)) }
+    ensures rows { IfOk result (λ table. table.known.strings.rows ≡ size.rows) }
+    ensures cols { IfOk result (λ table. table.known.strings.cols ≡ size.cols) }
+    ensures accepted { (text : List ℕ) → R.left reader.old text → IfOk result (IsTableOf size.rows size.cols text) }
+    ensures refused { (text : List ℕ) → R.left reader.old text → IfErr result (IsRefused size.rows size.cols text (Rose (R.failures reader.old) (R.failures reader.new))) }
 {
-    &bytes[..count]
-}
-
-/// Judges the next line; false where the text has ended.
-fn advance<R: Reader>(
-    alloc: Global,
-    reader: &mut R,
-    lines: &mut Lines,
-    progress: &mut Progress,
-) -> Result<bool, CertFaultKind>
-    requires bound { length lines.old.unread ≤ lines.old.budget + 1 }
-    requires good { IsGood progress.old }
-    ensures good { OnOk result (IsGood progress.new) }
-    ensures size { OnOk result (progress.new.size ≡ progress.old.size) }
-    ensures bound { OnOk result (length lines.new.unread ≤ lines.new.budget + 1) }
-    ensures fewer { IfOk result (λ more. more ≡ true → lines.new.budget < lines.old.budget) }
-{
-    match lines.next(reader)? {
-        Next::Line(count) => {
-            progress.judge(alloc, front(lines.unread(), count))?;
-            lines.pass(count);
-            Ok(true)
-        }
-        Next::End => Ok(false),
-        Next::Unended | Next::Long => Err(CertFaultKind::BadLine),
+    let mut progress = started(alloc, size)?;
+    match judge_lines(alloc, LIMIT, reader, &mut progress) {
+        Ok(()) => closed(progress),
+        Err(fault) => Err(CertFault {
+            line: fault.line,
+            kind: fault.kind,
+        }),
     }
 }
 
@@ -266,6 +270,8 @@ pub fn audit(alloc: Global, text: &[u8], size: Size) -> Result<Table, CertFault>
     ensures looks { IfOk result (λ table. LooksStand (table_of table)) }
     ensures rows { IfOk result (λ table. table.known.strings.rows ≡ size.rows) }
     ensures cols { IfOk result (λ table. table.known.strings.cols ≡ size.cols) }
+    ensures accepted { IfOk result (IsTableOf size.rows size.cols text.now) }
+    ensures refused { IfErr result (IsRefused size.rows size.cols text.now ⊥) }
 {
     let mut reader = text;
     audit_from(alloc, &mut reader, size)

@@ -1,6 +1,7 @@
 //! What is judged at the end of a certificate: charsets, and the strings that lead out of any state.
 
-ghost use Rattle.std.specs.Prelude.{◌≡◌, ◌-◌, ◌&&◌, IfOk, OnOk, Some, true, false, is_some};
+ghost use Rattle.std.specs.Prelude.{◌≡◌, ◌⊎◌, ◌-◌, ◌&&◌, IfOk, IfErr, OnOk, Some, true, false, is_some};
+ghost use Rattle.ti_cert.specs.Good.{LacksRecord, LacksNeeded, Misleads, ConcludesBy};
 ghost use Rattle.ti_checked.specs.Judged.{IsJudged};
 ghost use Rattle.ti_cert.specs.Audit.{Holds};
 ghost use Rattle.ti_cert.specs.Strings.{has_group, string_in};
@@ -13,11 +14,11 @@ ghost use Rattle.ti_rows.specs.declared.rows.Row.TheVariants as rows;
 use crate::faults::CertFaultKind;
 use crate::known::Known;
 use crate::strings::Strings;
+use crate::tokenizing::whole_tokens;
 use std::alloc::Global;
 use ti_charsets::{Charsets, Reach};
 use ti_rows::Row;
 use vt_effects::{Sets, Switch, effect_of};
-use vt_term::tokens;
 
 /// Nothing changes.
 const KEPT: Sets = Sets {
@@ -36,13 +37,15 @@ struct Resync {
 }
 
 /// What the row's string does to the charsets, `None` where there is no such string.
+#[tactic(auto, using(crate::proofs::Auditing::not_split))]
 fn change_of(alloc: Global, strings: &Strings, row: Row) -> Result<Option<Sets>, CertFaultKind>
-    ensures { IfOk result (λ change. spec.Changes strings.now row change) }
+    ensures change { IfOk result (λ change. spec.Changes strings.now row change) }
+    ensures fails { IfErr result (LacksRecord strings.now) }
 {
     match strings.get(row) {
         None => Ok(None),
         Some(bytes) => {
-            let tokens = tokens(alloc, bytes)?;
+            let tokens = whole_tokens(alloc, bytes)?;
             let size = strings.size();
             match effect_of(&tokens, size, &row.start(size)) {
                 Some(effect) => Ok(Some(effect.charset)),
@@ -53,6 +56,7 @@ fn change_of(alloc: Global, strings: &Strings, row: Row) -> Result<Option<Sets>,
 }
 
 fn resync_of(alloc: Global, strings: &Strings) -> Result<Resync, CertFaultKind>
+    ensures fails { IfErr result (LacksRecord strings.now) }
     ensures smcup { IfOk result (λ r. spec.Changes strings.now rows.Smcup r.smcup) }
     ensures enacs { IfOk result (λ r. spec.Changes strings.now rows.Enacs r.enacs) }
     ensures sgr0 { IfOk result (λ r. spec.Changes strings.now rows.Sgr0 r.sgr0) }
@@ -91,6 +95,7 @@ fn first_of_resync(strings: &Strings) -> Option<u8>
 
 /// The lines that a certificate needs.
 fn check_needed(strings: &Strings) -> Result<(), CertFaultKind>
+    ensures fails { IfErr result (LacksNeeded strings.now) }
     ensures clear { OnOk result (is_some (string_in strings.now rows.Clear) ≡ true) }
     ensures sgr0 { OnOk result (is_some (string_in strings.now rows.Sgr0) ≡ true) }
     ensures csr { OnOk result (has_group strings.now (rows.Csr 0 1) ≡ true → is_some (string_in strings.now (rows.Csr 0 (strings.now.rows - 1))) ≡ true) }
@@ -138,28 +143,45 @@ fn settled_from(first: Charsets, changes: &[Sets]) -> Charsets
     settled
 }
 
+/// Whether a change leaves the other set active from one of these charsets.
+#[tactic(auto, using(crate::proofs::Clashing::misled_some))]
+fn misleads(settled: &Charsets, change: Sets, graphic: bool) -> bool
+    ensures yes { result ≡ true → Misleads settled.now (Some change) graphic }
+    ensures no { result ≡ false → spec.Leads settled.now (Some change) graphic }
+{
+    settled.misled(change, graphic).is_some()
+}
+
 /// From each settled charset a string activates its set.
 fn check_active(
     settled: &Charsets,
     change: Option<Sets>,
     graphic: bool,
 ) -> Result<(), CertFaultKind>
-    ensures { OnOk result (spec.Leads settled.now change graphic) }
+    ensures leads { OnOk result (spec.Leads settled.now change graphic) }
+    ensures fails { IfErr result (λ kind. (kind ≡ CertFaultKind.NotShown) × Misleads settled.now change graphic) }
 {
     match change {
-        Some(change) if settled.misled(change, graphic).is_some() => Err(CertFaultKind::NotShown),
-        _ => Ok(()),
+        None => Ok(()),
+        Some(change) => {
+            if misleads(settled, change, graphic) {
+                Err(CertFaultKind::NotShown)
+            } else {
+                Ok(())
+            }
+        }
     }
 }
 
 /// Judges what can only be judged when all lines are known. The settled charsets.
+#[tactic(auto, using(crate::proofs::Auditing::no_lack))]
 pub(crate) fn conclude(
     alloc: Global,
     known: &Known,
     has_acsc: bool,
 ) -> Result<Charsets, CertFaultKind>
-    requires { Holds known.now }
-    ensures { IfOk result (λ settled. IsJudged (spec.checked_of known.now settled)) }
+    ensures judged { IfOk result (λ settled. Holds known.now → IsJudged (spec.checked_of known.now settled)) }
+    ensures fails { IfErr result (λ kind. Holds known.now → ConcludesBy known.now has_acsc kind) }
 {
     let strings = &known.strings;
     check_needed(strings)?;
@@ -183,25 +205,41 @@ fn all_there(has_acsc: bool, smacs: Option<Sets>, rmacs: Option<Sets>) -> bool
 
 /// Without strings that switch sets every settled charset is plain.
 fn check_plain(settled: &Charsets, has_sets: bool) -> Result<(), CertFaultKind>
-    ensures { OnOk result (has_sets ≡ false → spec.Leads settled.now (Some spec.kept) false) }
+    ensures plain { OnOk result (has_sets ≡ false → spec.Leads settled.now (Some spec.kept) false) }
+    ensures fails { IfErr result (λ kind. (kind ≡ CertFaultKind.BadLook) × (has_sets ≡ false) × Misleads settled.now (Some spec.kept) false) }
 {
-    if !has_sets && settled.misled(KEPT, false).is_some() {
-        Err(CertFaultKind::BadLook)
-    } else {
-        Ok(())
+    if has_sets {
+        return Ok(());
     }
+    if misleads(settled, KEPT, false) {
+        return Err(CertFaultKind::BadLook);
+    }
+    Ok(())
 }
 
 /// What leads out of any state begins with ESC and leaves the plain set active.
 fn check_resync(first: &Charsets, strings: &Strings) -> Result<(), CertFaultKind>
     ensures plain { OnOk result (spec.Leads first.now (Some spec.kept) false) }
     ensures escape { OnOk result (spec.first_of_resync strings.now ≡ Some 27) }
+    ensures fails { IfErr result (λ kind. (kind ≡ CertFaultKind.NoResync) × (Misleads first.now (Some spec.kept) false ⊎ (spec.first_of_resync strings.now ≡ Some 27 → ⊥))) }
 {
-    if first.misled(KEPT, false).is_some() {
+    if misleads(first, KEPT, false) {
         return Err(CertFaultKind::NoResync);
     }
+    if begins_with_escape(strings) {
+        Ok(())
+    } else {
+        Err(CertFaultKind::NoResync)
+    }
+}
+
+/// Whether what leads out of a state that isn't known begins with ESC.
+fn begins_with_escape(strings: &Strings) -> bool
+    ensures yes { result ≡ true → spec.first_of_resync strings.now ≡ Some 27 }
+    ensures no { result ≡ false → spec.first_of_resync strings.now ≡ Some 27 → ⊥ }
+{
     match first_of_resync(strings) {
-        Some(27) => Ok(()),
-        _ => Err(CertFaultKind::NoResync),
+        Some(first) => first == 27,
+        None => false,
     }
 }

@@ -5,7 +5,6 @@ ghost use Rattle.std.specs.Prelude.{◌≡◌};
 use std::alloc::AllocError;
 use ti_caps::Cap;
 use ti_rows::{Params, Row};
-use vt_term::{TokenFault, TokenFaultKind};
 
 /// What is wrong with a line of a certificate.
 #[derive(Clone, Copy, Debug, PartialEq, Eq)]
@@ -33,19 +32,15 @@ pub enum CertFaultKind {
 }
 
 impl From<AllocError> for CertFaultKind {
+    ghost use Rattle.std.specs.Prelude.{◌≡◌};
+    ghost use Rattle.ti_cert.specs.declared.faults.CertFaultKind.{CertFaultKind};
+
+    ghost from_gives = { λ _ kind. kind ≡ CertFaultKind.NoMemory };
+
     fn from(_: AllocError) -> CertFaultKind
         ensures { result ≡ CertFaultKind.NoMemory }
     {
         CertFaultKind::NoMemory
-    }
-}
-
-impl From<TokenFault> for CertFaultKind {
-    fn from(fault: TokenFault) -> CertFaultKind {
-        match fault.kind {
-            TokenFaultKind::NoMemory => CertFaultKind::NoMemory,
-            _ => CertFaultKind::NotWhole,
-        }
     }
 }
 

@@ -1,11 +1,14 @@
 //! What the lines of a certificate have told so far.
 
-ghost use Rattle.std.specs.Prelude.{◌≡◌, [], length, IfOk, OnOk, true};
+ghost use Rattle.std.specs.Prelude.{◌≡◌, [], length, replicate, IfOk, IfErr, OnOk, IsTrue, true};
 ghost use Rattle.vt_term.specs.Text.{Splits};
 ghost use Rattle.ti_rows.specs.Lists.{rank};
 ghost use Rattle.ti_rows.specs.Names.{order};
 ghost use Rattle.ti_checked.specs.Table.{keeps_settled};
-ghost use Rattle.ti_cert.specs.Strings.{allows, group_at};
+ghost use Rattle.ti_cert.specs.Strings.{Adds, allows, group_at};
+ghost use Rattle.ti_cert.specs.Singles.{no_looks};
+ghost use Rattle.ti_cert.specs.Certificates as certificates;
+ghost use Rattle.ti_cert.specs.Good.{Misshows};
 ghost use Rattle.ti_cert.specs.Audit as spec;
 
 use crate::faults::CertFaultKind;
@@ -14,7 +17,7 @@ use std::alloc::{AllocError, Global};
 use std::marker::Model;
 use ti_caps::Bytes;
 use ti_charsets::Reach;
-use ti_rows::{Attributes, Looks, Marks, Row};
+use ti_rows::{Attributes, Looks, NO_ATTRIBUTES, NO_MARKS, Row};
 use vt_effects::{Effect, Sets, effect_of};
 use vt_term::{Size, Token};
 
@@ -35,30 +38,10 @@ impl Model for Known {
     ghost view = { λ k. record { strings = k.strings; looks = k.looks; reach = k.reach; changes = k.changes.items } };
 }
 
-/// No attribute.
-const NO_ATTRIBUTES: Attributes = Attributes {
-    standout: false,
-    underline: false,
-    reverse: false,
-    blink: false,
-    dim: false,
-    bold: false,
-    invisible: false,
-};
-
 /// Standout alone.
 const STANDOUT: Attributes = Attributes {
     standout: true,
     ..NO_ATTRIBUTES
-};
-
-const NO_MARKS: Marks = Marks {
-    bold: false,
-    faint: false,
-    underline: false,
-    blink: false,
-    negative: false,
-    concealed: false,
 };
 
 /// Attributes that can't be seen.
@@ -99,19 +82,42 @@ fn push_change(changes: &mut Vec<Sets>, row: Row, change: Sets) -> Result<(), Al
     Ok(())
 }
 
+/// Whether a number of `sgr` is that of one attribute other than standout.
+fn is_single(number: usize) -> bool
+    ensures { result ≡ certificates.is_single number }
+{
+    number == 1 || number == 2 || number == 4 || number == 8 || number == 16 || number == 32
+}
+
 /// Whether one attribute other than standout is asked for.
-fn is_single(row: Row) -> bool {
+fn is_alone(row: Row) -> bool
+    ensures { result ≡ certificates.is_alone row }
+{
     match row {
-        Row::Sgr(attributes) => { matches!(attributes.number(), 1 | 2 | 4 | 8 | 16 | 32) }
+        Row::Sgr(attributes) => is_single(attributes.number()),
         _ => false,
     }
 }
 
-/// The fault of an effect that isn't the one asked for: an attribute that looks like others, or any.
-fn misfit(row: Row, effect: &Effect) -> CertFaultKind {
+/// Whether an effect is of the form that `sgr` has for one attribute that may look like anything.
+fn is_some_look(effect: &Effect) -> bool
+    ensures yes { IsTrue result → certificates.IsSomeLook effect.now }
+    ensures no { certificates.IsSomeLook effect.now → IsTrue result }
+{
     let alone = Row::Sgr(STANDOUT);
-    if is_single(row) && alone.asks_for(NO_LOOKS.learned(alone, effect), effect) {
-        CertFaultKind::BadLook
+    alone.asks_for(NO_LOOKS.learned(alone, effect), effect)
+}
+
+/// The fault of an effect that isn't the one asked for: an attribute that looks like others, or any.
+fn misfit(row: Row, effect: &Effect) -> CertFaultKind
+    ensures { certificates.IsMisfit row effect.now result }
+{
+    if is_alone(row) {
+        if is_some_look(effect) {
+            CertFaultKind::BadLook
+        } else {
+            CertFaultKind::NotShown
+        }
     } else {
         CertFaultKind::NotShown
     }
@@ -120,8 +126,8 @@ fn misfit(row: Row, effect: &Effect) -> CertFaultKind {
 impl Known {
     pub fn new(alloc: Global, size: Size) -> Result<Known, AllocError>
         ensures holds { IfOk result (λ known. spec.Holds known) }
-        ensures rows { IfOk result (λ known. known.strings.rows ≡ size.rows) }
-        ensures cols { IfOk result (λ known. known.strings.cols ≡ size.cols) }
+        ensures strings { IfOk result (λ known. known.strings ≡ record { rows = size.rows; cols = size.cols; groups = replicate 42 [] }) }
+        ensures looks { IfOk result (λ known. known.looks ≡ no_looks) }
     {
         Ok(Known {
             strings: Strings::new(alloc, size)?,
@@ -151,6 +157,8 @@ impl Known {
     ) -> Result<(Effect, Looks), CertFaultKind>
         ensures looks { IfOk result (λ r. r.1 ≡ spec.looks_with self.now row r.0) }
         ensures record { IfOk result (λ r. spec.HasRecord self.now.strings.rows self.now.strings.cols r.1 row tokens.now r.0) }
+        ensures stated { IfOk result (λ r. r.0 ≡ stated.now) }
+        ensures fails { IfErr result (Misshows self.now row stated.now tokens.now) }
     {
         let size = self.strings.size();
         let Some(effect) = effect_of(tokens, size, &row.start(size)) else {
@@ -176,15 +184,14 @@ impl Known {
         effect: &Effect,
         looks: Looks,
     ) -> Result<(), AllocError>
-        requires holds { spec.Holds self.old }
         requires range { allows self.old.strings.rows self.old.strings.cols row ≡ true }
         requires place { rank self.old.strings.rows self.old.strings.cols row ≡ length (group_at self.old.strings (order row)) }
         requires whole { Splits bytes tokens.now [] }
         requires looks { looks ≡ spec.looks_with self.old row effect.now }
         requires record { spec.HasRecord self.old.strings.rows self.old.strings.cols looks row tokens.now effect.now }
-        ensures holds { OnOk result (spec.Holds self.new) }
-        ensures rows { OnOk result (self.new.strings.rows ≡ self.old.strings.rows) }
-        ensures cols { OnOk result (self.new.strings.cols ≡ self.old.strings.cols) }
+        ensures holds { OnOk result (spec.Holds self.old → spec.Holds self.new) }
+        ensures strings { OnOk result (Adds self.old.strings self.new.strings row bytes) }
+        ensures looks { OnOk result (self.new.looks ≡ looks) }
     {
         self.strings.push(row, bytes)?;
         push_change(&mut self.changes, row, effect.charset)?;

@@ -9,6 +9,7 @@ mod known;
 mod places;
 mod strings;
 mod table;
+mod tokenizing;
 mod verifying;
 
 pub use agreeing::agrees;

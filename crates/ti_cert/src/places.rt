@@ -1,6 +1,7 @@
 //! The order of the lines about capabilities.
 
-ghost use Rattle.std.specs.Prelude.{◌≡◌, OnOk, length, true};
+ghost use Rattle.std.specs.Prelude.{◌≡◌, ◌<◌, OnOk, IfErr, None, Some, length, true};
+ghost use Rattle.ti_cert.specs.Places as spec;
 ghost use Rattle.ti_cert.specs.Strings.{allows, group_at};
 ghost use Rattle.ti_rows.specs.Lists.{rank};
 ghost use Rattle.ti_rows.specs.Names.{order};
@@ -10,9 +11,6 @@ use crate::strings::{Strings, allows};
 use ti_rows::Row;
 use vt_term::Size;
 
-/// The places of `clear`, `cup` and `sgr0`, which every certificate has.
-const REQUIRED: [usize; 3] = [4, 14, 36];
-
 /// How far the lines about capabilities have come.
 #[derive(Clone, Copy)]
 pub(crate) struct Place {
@@ -21,7 +19,9 @@ pub(crate) struct Place {
 
 /// What follows a row among its capability's lines.
 #[tactic(auto, using(crate::proofs::Ranges::in_range))]
-fn next_of(row: Row, size: Size) -> Option<Row> {
+fn next_of(row: Row, size: Size) -> Option<Row>
+    ensures { result ≡ spec.next_within size.rows size.cols row }
+{
     if allows(size, row) {
         row.next(size)
     } else {
@@ -29,53 +29,109 @@ fn next_of(row: Row, size: Size) -> Option<Row> {
     }
 }
 
+fn is_between(from: usize, order: usize, to: usize) -> bool
+    ensures { result ≡ spec.is_between from order to }
+{
+    from <= order && order < to
+}
+
 /// The first line of a required capability between two places.
-fn required(from: usize, to: usize) -> Option<Row> {
-    for order in REQUIRED {
-        if from <= order && order < to {
-            return Row::first(order);
-        }
+fn required(from: usize, to: usize) -> Option<Row>
+    ensures { result ≡ spec.required from to }
+{
+    if is_between(from, 4, to) {
+        Row::first(4)
+    } else if is_between(from, 14, to) {
+        Row::first(14)
+    } else if is_between(from, 36, to) {
+        Row::first(36)
+    } else {
+        None
     }
-    None
+}
+
+/// What is missing behind the line of the capability at a place, whose next line is this one.
+fn missing_behind(next: Option<Row>, last: usize, order: usize) -> Option<Row>
+    requires { last < 42 }
+    ensures { result ≡ spec.missing_behind next last order }
+{
+    match next {
+        Some(next) => {
+            if last < order {
+                Some(next)
+            } else {
+                required(last + 1, order)
+            }
+        }
+        None => required(last + 1, order),
+    }
 }
 
 impl Place {
     /// Before the first line.
-    pub fn new() -> Place {
+    pub fn new() -> Place
+        ensures { result.last ≡ None }
+    {
         Place { last: None }
     }
 
     /// After the line of this row.
-    pub fn after(row: Row) -> Place {
+    pub fn after(row: Row) -> Place
+        ensures { result.last ≡ Some row }
+    {
         Place { last: Some(row) }
     }
 
     /// Whether a line of this capability comes too late.
-    fn is_late(&self, row: Row) -> bool {
-        self.last.is_some_and(|last| row.order() < last.order())
+    fn is_late(&self, row: Row) -> bool
+        ensures { result ≡ spec.is_late self.now.last row }
+    {
+        match self.last {
+            None => false,
+            Some(last) => row.order() < last.order(),
+        }
     }
 
     /// The first line that has to come before those of the capability at a place; 42 is that of the end.
-    pub fn missing(&self, size: Size, order: usize) -> Option<Row> {
+    pub fn missing(&self, size: Size, order: usize) -> Option<Row>
+        ensures { result ≡ spec.missing size.rows size.cols self.now.last order }
+    {
         match self.last {
             None => required(0, order),
-            Some(last) => match next_of(last, size) {
-                Some(next) if last.order() < order => Some(next),
-                _ => required(last.order() + 1, order),
-            },
+            Some(last) => missing_behind(next_of(last, size), last.order(), order),
         }
     }
 
     /// The line that has to come next where lines of this row's capability come.
-    fn expected(&self, size: Size, row: Row) -> Option<Row> {
+    fn expected(&self, size: Size, row: Row) -> Option<Row>
+        ensures { result ≡ spec.expected size.rows size.cols self.now.last row }
+    {
         match self.last {
-            Some(last) if last.order() == row.order() => next_of(last, size),
-            _ => Row::first(row.order()),
+            None => Row::first(row.order()),
+            Some(last) => {
+                if last.order() == row.order() {
+                    next_of(last, size)
+                } else {
+                    Row::first(row.order())
+                }
+            }
+        }
+    }
+
+    /// The line that is missing where this one comes before others of its capability.
+    fn early(&self, size: Size, row: Row) -> Row
+        ensures { result ≡ spec.or_row (spec.expected size.rows size.cols self.now.last row) row }
+    {
+        match self.expected(size, row) {
+            Some(expected) => expected,
+            None => row,
         }
     }
 
     /// The fault of a line of this row here, behind these.
     pub fn check(&self, row: Row, strings: &Strings) -> Result<(), CertFaultKind>
+        ensures passes { OnOk result (spec.place_fault strings.now.rows strings.now.cols self.now.last (length (group_at strings.now (order row))) row ≡ None) }
+        ensures fails { IfErr result (λ kind. spec.place_fault strings.now.rows strings.now.cols self.now.last (length (group_at strings.now (order row))) row ≡ Some kind) }
         ensures range { OnOk result (allows strings.now.rows strings.now.cols row ≡ true) }
         ensures place { OnOk result (rank strings.now.rows strings.now.cols row ≡ length (group_at strings.now (order row))) }
     {
@@ -94,7 +150,7 @@ impl Place {
         if rank == count {
             Ok(())
         } else {
-            Err(CertFaultKind::Missing(self.expected(size, row).unwrap_or(row)))
+            Err(CertFaultKind::Missing(self.early(size, row)))
         }
     }
 }

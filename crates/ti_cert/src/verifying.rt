@@ -1,6 +1,8 @@
 //! An entry that its certificate verifies.
 
-ghost use Rattle.std.specs.Prelude.{◌≡◌, ◌++◌, IfOk, IfSome, OnOk, option_copied};
+ghost use Rattle.std.specs.Prelude.{◌≡◌, ◌++◌, ℕ, List, IfOk, IfErr, IfSome, OnOk, option_copied};
+ghost use Rattle.ti_reader.specs.Reader.{Rose};
+ghost use Rattle.ti_cert.specs.Texts.{IsCertRefused};
 ghost use Rattle.ti_caps.specs.Entry.{string_at};
 ghost use Rattle.ti_checked.specs.Checked.{IsLine};
 ghost use Rattle.ti_checked.specs.Table.{part, resync, widening};
@@ -125,7 +127,8 @@ impl Checked {
 /// The strings of a table that agrees with an entry.
 fn handed_out(alloc: Global, table: Table) -> Result<Checked, VerifyFault>
     requires { spec.IsVerified table }
-    ensures { IfOk result (λ checked. checked ≡ table) }
+    ensures same { IfOk result (λ checked. checked ≡ table) }
+    ensures fails { IfErr result (λ fault. fault ≡ VerifyFault.Agree AgreeFault.NoMemory) }
 {
     match Checked::new(alloc, table) {
         Ok(checked) => Ok(checked),
@@ -144,6 +147,7 @@ pub fn verify_from<R: Reader>(
     size: Size,
     reader: &mut R,
 ) -> Result<Checked, VerifyFault>
+    ensures refused { (text : List ℕ) → R.left reader.old text → IfErr result (IsCertRefused size.rows size.cols text (Rose (R.failures reader.old) (R.failures reader.new))) }
     ensures conforms { IfOk result (λ _. Conforms entry.now size.rows size.cols) }
     ensures rows { IfOk result (λ checked. checked.known.strings.rows ≡ size.rows) }
     ensures cols { IfOk result (λ checked. checked.known.strings.cols ≡ size.cols) }
@@ -167,6 +171,7 @@ pub fn verify_from<R: Reader>(
 /// `Cert` with the certificate's first fault, `Agree` where it is that of another entry or memory runs
 /// out.
 pub fn verify(alloc: Global, entry: &Entry, size: Size, text: &[u8]) -> Result<Checked, VerifyFault>
+    ensures refused { IfErr result (IsCertRefused size.rows size.cols text.now ⊥) }
     ensures conforms { IfOk result (λ _. Conforms entry.now size.rows size.cols) }
     ensures rows { IfOk result (λ checked. checked.known.strings.rows ≡ size.rows) }
     ensures cols { IfOk result (λ checked. checked.known.strings.cols ≡ size.cols) }

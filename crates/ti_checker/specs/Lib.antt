@@ -1,1 +1,3 @@
+pub mod Ignored
 pub mod No
+pub mod Notes

@@ -95,7 +95,6 @@ IsFaulty rows cols string row _ = ⊥
 abbrev pub IsUnsendable : List ℕ → Row → Cause → Type 0
 IsUnsendable string row (Parm fault) = meaning string (values row) zeros ≡ Err fault
 IsUnsendable string row StaticRead = ReadsStatic string row
-IsUnsendable string row NotShown = Unit {0}
 IsUnsendable string row NoMemory = Unit {0}
 IsUnsendable string row _ = ⊥
 

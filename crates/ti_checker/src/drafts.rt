@@ -20,7 +20,7 @@ use ti_sends::is_checked;
 use vt_term::Size;
 
 /// A line's bytes in hexadecimal, a dash for none.
-fn push_hex(alloc: Global, bytes: &[u8], text: &mut Vec<u8>) -> Result<(), AllocError>
+pub(crate) fn push_hex(alloc: Global, bytes: &[u8], text: &mut Vec<u8>) -> Result<(), AllocError>
     ensures { OnOk result (text.new.items ≡ text.old.items ++ hex_text bytes.now) }
 {
     if bytes.is_empty() {

@@ -94,7 +94,7 @@ fn cause_of(fault: TokenFault) -> Cause
 }
 
 /// The tokens of what a string sends.
-fn tokens_of(alloc: Global, bytes: &[u8]) -> Result<Vec<Token>, Cause>
+pub(crate) fn tokens_of(alloc: Global, bytes: &[u8]) -> Result<Vec<Token>, Cause>
     ensures whole { IfOk result (λ found. Splits bytes.now found.items []) }
     ensures fault { IfErr result (λ cause. spec.IsNotWhole bytes.now cause) }
 {

@@ -5,9 +5,15 @@ mod causes;
 mod checking;
 mod drafts;
 mod fitness;
+mod ignoring;
 mod judging;
+pub mod laws;
+mod noting;
+mod printing;
 mod sending;
 
 pub use causes::{Cause, No};
 pub use checking::check;
+pub use noting::{CheckNote, notes};
+pub use printing::note_lines;
 pub use ti_probes::Probe;

@@ -1,8 +1,10 @@
 //! What a string sends for a row, or which fault it has.
 
-ghost use Rattle.std.specs.Prelude.{◌≡◌, IfErr, IfOk};
+ghost use Rattle.std.specs.Prelude.{◌≡◌, Err, IfErr, IfOk};
 ghost use Rattle.ti_checker.specs.No as spec;
-ghost use Rattle.ti_parm.specs.Value.{values_of};
+ghost use Rattle.ti_parm.specs.Meaning.{meaning};
+ghost use Rattle.ti_parm.specs.Value.{values_of, zeros};
+ghost use Rattle.ti_parm.specs.declared.fault.ParmFault.{ParmFault};
 ghost use Rattle.ti_sends.specs.Sends as sends;
 
 use crate::causes::Cause;
@@ -26,11 +28,12 @@ fn values(row: Row) -> ArrayVec<Param<'static>, 9>
 
 /// The fault of a string's run for a row.
 fn fault_of(alloc: Global, string: &[u8], row: Row) -> Cause
+    requires { (fault : ParmFault) × (meaning string.now (sends.values row) zeros ≡ Err fault) }
     ensures { spec.IsUnsendable string.now row result }
 {
     let values = values(row);
     match reads_unset(alloc, string, values.as_slice()) {
-        Ok(_) => Cause::NotShown,
+        Ok(_) => unreachable!(),
         Err(ParmFault::NoMemory) => Cause::NoMemory,
         Err(fault) => Cause::Parm(fault),
     }

@@ -13,7 +13,7 @@ use Rattle.ti_compiled.specs.declared.sections.Sizes.{Sizes}
 use Rattle.ti_compiled.specs.Layout.{Parts, words, longs, width, numbers_in, half, is_number, is_flag, is_nul, ends_with_nul}
 use Rattle.ti_compiled.specs.Reading.{word_of, form_of, sizes_fit, sizes_of, cut_at, sections_of, offset_judged, offsets_judged, parts_judged, parts_of}
 use Rattle.ti_compiled.specs.Contents.{before_nul, flag_value, number_value, string_value, entry_of, read_of}
-use Rattle.ti_compiled.specs.Packed.{word, long, magic, number_bytes, layout, HasNoNul, IsFlag, IsNumber, IsString, Each, Sheet, IsSheet, PackedIsRead}
+use Rattle.ti_compiled.specs.Packed.{word, long, magic, number_bytes, layout, HasNoNul, IsFlag, IsNumber, IsString, Each, Sections, HasSections, PackedIsRead}
 
 pub word_again : (n : ℕ) (rest : List ℕ) → word_of (word n ++ rest) ≡ Ok (n, rest)
 unfolding word
@@ -206,45 +206,45 @@ sections_again form sizes names flags padding numbers offsets table rest a b c d
       cut_again table rest sizes.table f,
     ) refl
 
--- the sections of a sheet, as bytes
-abbrev pub sheet_parts : Sheet → Parts
-sheet_parts sheet = record { form = sheet.form; names = sheet.names; flags = sheet.flags; numbers = flat_map (number_bytes sheet.form) sheet.numbers; offsets = flat_map word sheet.offsets; table = sheet.table }
+-- what sections hold, as bytes
+abbrev pub held_parts : Sections → Parts
+held_parts held = record { form = held.form; names = held.names; flags = held.flags; numbers = flat_map (number_bytes held.form) held.numbers; offsets = flat_map word held.offsets; table = held.table }
 
-abbrev sheet_sizes : Sheet → Sizes
-sheet_sizes sheet = record { names = length sheet.names; flags = length sheet.flags; numbers = length sheet.numbers; offsets = length sheet.offsets; table = length sheet.table }
+abbrev held_sizes : Sections → Sizes
+held_sizes held = record { names = length held.names; flags = length held.flags; numbers = length held.numbers; offsets = length held.offsets; table = length held.table }
 
-parts_judged_again : (sheet : Sheet) (file : List ℕ) (entry : Content) (rest : List ℕ) → IsSheet sheet file entry rest → parts_judged (sheet_parts sheet) ≡ Ok tt
+parts_judged_again : (held : Sections) (file : List ℕ) (entry : Content) (rest : List ℕ) → HasSections held file entry rest → parts_judged (held_parts held) ≡ Ok tt
 unfolding parts_judged
-parts_judged_again sheet file entry rest h =
+parts_judged_again held file entry rest h =
     let front = h.names.0 in
-    let names : ends_with_nul sheet.names ≡ true = ap ends_with_nul front.1 ∙ ends_again front.0 in
-    let flags = (flags_again sheet.flags sheet.flag_values h.flags).0 in
-    let numbers = (numbers_judged_again sheet.form sheet.numbers sheet.number_values h.numbers).0 in
-    let strings = (strings_again sheet.table sheet.offsets sheet.string_values h.strings).0 in
-    rw (names, flags, numbers_again sheet.form sheet.numbers, numbers, words_again sheet.offsets, strings) refl
+    let names : ends_with_nul held.names ≡ true = ap ends_with_nul front.1 ∙ ends_again front.0 in
+    let flags = (flags_again held.flags held.flag_values h.flags).0 in
+    let numbers = (numbers_judged_again held.form held.numbers held.number_values h.numbers).0 in
+    let strings = (strings_again held.table held.offsets held.string_values h.strings).0 in
+    rw (names, flags, numbers_again held.form held.numbers, numbers, words_again held.offsets, strings) refl
 
-parts_again : (sheet : Sheet) (file : List ℕ) (entry : Content) (rest : List ℕ) → IsSheet sheet file entry rest → parts_of file ≡ Ok (sheet_parts sheet)
+parts_again : (held : Sections) (file : List ℕ) (entry : Content) (rest : List ℕ) → HasSections held file entry rest → parts_of file ≡ Ok (held_parts held)
 unfolding parts_of layout
-parts_again sheet file entry rest h =
-    let fit = sizes_fit_again (length sheet.names) (length sheet.flags) (length sheet.numbers) (length sheet.offsets) (length sheet.table) h.names_size h.flags_size h.numbers_size h.offsets_size h.table_size in
-    let behind : List ℕ = sheet.names ++ (sheet.flags ++ (sheet.padding ++ (flat_map (number_bytes sheet.form) sheet.numbers ++ (flat_map word sheet.offsets ++ (sheet.table ++ rest))))) in
-    let sizes = sizes_again (sheet_sizes sheet) behind fit in
-    let sections = sections_again sheet.form (sheet_sizes sheet) sheet.names sheet.flags sheet.padding (flat_map (number_bytes sheet.form) sheet.numbers) (flat_map word sheet.offsets) sheet.table rest refl refl h.padding_size (length-numbers sheet.form sheet.numbers) (length-words sheet.offsets) refl in
-    rw (h.whole, word_again, form_again sheet.form, sizes, sections, parts_judged_again sheet file entry rest h) refl
+parts_again held file entry rest h =
+    let fit = sizes_fit_again (length held.names) (length held.flags) (length held.numbers) (length held.offsets) (length held.table) h.names_size h.flags_size h.numbers_size h.offsets_size h.table_size in
+    let behind : List ℕ = held.names ++ (held.flags ++ (held.padding ++ (flat_map (number_bytes held.form) held.numbers ++ (flat_map word held.offsets ++ (held.table ++ rest))))) in
+    let sizes = sizes_again (held_sizes held) behind fit in
+    let sections = sections_again held.form (held_sizes held) held.names held.flags held.padding (flat_map (number_bytes held.form) held.numbers) (flat_map word held.offsets) held.table rest refl refl h.padding_size (length-numbers held.form held.numbers) (length-words held.offsets) refl in
+    rw (h.whole, word_again, form_again held.form, sizes, sections, parts_judged_again held file entry rest h) refl
 
 same_content : {n m : List ℕ} {v w : List (Option Value)} → n ≡ m → v ≡ w → ◌≡◌ {A = Content} (record { names = n; values = v }) (record { names = m; values = w })
 same_content e f = cc
 
-entry_again : (sheet : Sheet) (file : List ℕ) (entry : Content) (rest : List ℕ) → IsSheet sheet file entry rest → entry_of (sheet_parts sheet) ≡ entry
+entry_again : (held : Sections) (file : List ℕ) (entry : Content) (rest : List ℕ) → HasSections held file entry rest → entry_of (held_parts held) ≡ entry
 unfolding entry_of
-entry_again sheet file entry rest h =
+entry_again held file entry rest h =
     let stands = h.names.1 in
-    let names : before_nul sheet.names ≡ entry.names = ap before_nul stands.1.1 ∙ before_again entry.names stands.1.0 stands.0 in
-    let flags = (flags_again sheet.flags sheet.flag_values h.flags).1 in
-    let numbers = (numbers_judged_again sheet.form sheet.numbers sheet.number_values h.numbers).1 in
-    let strings = (strings_again sheet.table sheet.offsets sheet.string_values h.strings).1 in
-    same_content names (rw (flags, numbers_again sheet.form sheet.numbers, numbers, words_again sheet.offsets, strings) (sym h.values))
+    let names : before_nul held.names ≡ entry.names = ap before_nul stands.1.1 ∙ before_again entry.names stands.1.0 stands.0 in
+    let flags = (flags_again held.flags held.flag_values h.flags).1 in
+    let numbers = (numbers_judged_again held.form held.numbers held.number_values h.numbers).1 in
+    let strings = (strings_again held.table held.offsets held.string_values h.strings).1 in
+    same_content names (rw (flags, numbers_again held.form held.numbers, numbers, words_again held.offsets, strings) (sym h.values))
 
 pub packed_is_read : PackedIsRead
 unfolding read_of
-packed_is_read file entry rest (sheet, h) = rw (parts_again sheet file entry rest h) (ap (λ e. Ok e) (entry_again sheet file entry rest h))
+packed_is_read file entry rest (held, h) = rw (parts_again held file entry rest h) (ap (λ e. Ok e) (entry_again held file entry rest h))

@@ -16,7 +16,7 @@ use Rattle.ti_compiled.specs.declared.types.Form.TheVariants.{Legacy, Wide}
 use Rattle.ti_compiled.specs.declared.types.PackFault.TheVariants.{TooLarge}
 use Rattle.ti_compiled.specs.Layout.{half, width}
 use Rattle.ti_compiled.specs.Contents.{filled, rows_of}
-use Rattle.ti_compiled.specs.Packed.{layout, HasNoNul, IsFlag, IsNumber, IsString, Each, Sheet, IsSheet}
+use Rattle.ti_compiled.specs.Packed.{layout, HasNoNul, IsFlag, IsNumber, IsString, Each, Sections, HasSections}
 use Rattle.ti_compiled.specs.Written.{flags_of, numbers_of, strings_of, kept, trimmed, itself, number_cell, offsets_from, table_of, is_wide, form_for, flag_cells, number_cells, offset_cells, padding_for, written_in, written, limit, packing_of, WrittenIsPacked, WrittenIsRead}
 use Rattle.ti_compiled.proofs.Again.{packed_is_read}
 use Rattle.ti_compiled.proofs.Files.{layout_size, length-offsets, limit_small, narrow, number_bounded, any_none, not_above}
@@ -253,9 +253,9 @@ unfolding strings_of value_at
 strings_clean entry h = mapped_all IsClean (drop 83 entry.values) (all_by_index (λ v. IsClean (string_in v)) (drop 83 entry.values) None (λ i below.
     string_clean (83 + i) (get_or (drop 83 entry.values) i None) (subst (FitsPlace (83 + i)) (sym (get_or-drop 83 entry.values i None)) (h.fits (83 + i)))))
 
--- the sheet of an entry
-sheet_for : Content → Sheet
-sheet_for entry = record {
+-- the held of an entry
+held_for : Content → Sections
+held_for entry = record {
   form = form_for entry;
   names = entry.names ++ 0 ∷ [];
   flags = flag_cells entry;
@@ -291,9 +291,9 @@ packing_ok entry file h =
     let within = room (limit (form_for entry)) (length (written entry)) fits.0 in
     (fits.1, omega arith)
 
-sheet_is : (entry : Content) → IsEntry entry → length (written entry) ≤ 32768 → IsSheet (sheet_for entry) (written entry) entry []
-unfolding sheet_for
-sheet_is entry h most =
+held_is : (entry : Content) → IsEntry entry → length (written entry) ≤ 32768 → HasSections (held_for entry) (written entry) entry []
+unfolding held_for
+held_is entry h most =
     let small = parts_small (length (entry.names ++ 0 ∷ [])) (length (flag_cells entry)) (length (padding_for (entry.names ++ 0 ∷ []) (flag_cells entry)))
     (width (form_for entry) * length (number_cells (form_for entry) entry)) (2 * length (offset_cells entry)) (length (table_of (trimmed is_some (strings_of entry)))) (length (written entry)) (written_size entry) most in
     record {
@@ -314,7 +314,7 @@ sheet_is entry h most =
 pub written_is_packed : WrittenIsPacked
 written_is_packed entry file h e =
     let packing = packing_ok entry file e in
-    (sheet_for entry, subst (λ bytes. IsSheet (sheet_for entry) bytes entry []) packing.0 (sheet_is entry h packing.1))
+    (held_for entry, subst (λ bytes. HasSections (held_for entry) bytes entry []) packing.0 (held_is entry h packing.1))
 
 pub written_is_read : WrittenIsRead
 written_is_read entry file h e = packed_is_read file entry [] (written_is_packed entry file h e)

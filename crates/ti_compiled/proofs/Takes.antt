@@ -14,7 +14,7 @@ use Rattle.ti_compiled.specs.declared.sections.Sizes.{Sizes}
 use Rattle.ti_compiled.specs.Layout.{Parts, words, longs, width, numbers_in, half, is_number, is_flag, is_nul, ends_with_nul}
 use Rattle.ti_compiled.specs.Reading.{◌>>=◌, judged, word_of, form_of, sizes_fit, sizes_of, cut_at, sections_of, offset_judged, offsets_judged, parts_judged, parts_of}
 use Rattle.ti_compiled.specs.Contents.{before_nul, flag_value, number_value, string_value, entry_of, read_of, flag_values, number_values, string_values}
-use Rattle.ti_compiled.specs.Packed.{word, long, magic, number_bytes, layout, StandsFirst, IsFlag, IsNumber, IsString, Each, Sheet, IsSheet, IsPacked, ReadIsPacked}
+use Rattle.ti_compiled.specs.Packed.{word, long, magic, number_bytes, layout, StandsFirst, IsFlag, IsNumber, IsString, Each, Sections, HasSections, IsPacked, ReadIsPacked}
 
 abbrev pub AreBytes : List ℕ → Type 0
 AreBytes bytes = AllByRecursion (λ b. b < 256) bytes
@@ -371,9 +371,9 @@ form_tests number form false false l w h = let bad : ⊥ = cc in absurd bad
 form_taken : (number : ℕ) (form : Form) → form_of number ≡ Ok form → number ≡ magic form
 form_taken number form h = form_tests number form (nat_eq number 282) (nat_eq number 542) refl refl h
 
--- the sheet of what was read
-pub sheet_of : Parts → List ℕ → Sheet
-sheet_of parts padding = record {
+-- the held of what was read
+pub held_of : Parts → List ℕ → Sections
+held_of parts padding = record {
   form = parts.form;
   names = parts.names;
   flags = parts.flags;
@@ -399,12 +399,12 @@ unfolding layout
 whole_joins file header behind number names flags numbers offsets table form names_bytes flags_bytes padding numbers_bytes offsets_bytes table_bytes rest values places
     e0 e1 e2 e3 a b c d e f g = rw (a, b, c, d, e, f, g, ← e1) (e0 ∙ ap (λ r. word number ++ r) (e2 ∙ ap (λ r. word names ++ (word flags ++ (word numbers ++ (word offsets ++ (word table ++ r))))) e3))
 
-sheet_taken : (parts : Parts) (number : ℕ) (sizes : Sizes) (file header behind padding rest : List ℕ)
+held_taken : (parts : Parts) (number : ℕ) (sizes : Sizes) (file header behind padding rest : List ℕ)
     → file ≡ word number ++ header → number ≡ magic parts.form → TakesSizes header sizes behind
     → TakesSections parts.form sizes behind parts padding rest → AreJudged parts
-    → IsSheet (sheet_of parts padding) file (entry_of parts) rest
-unfolding sheet_of entry_of
-sheet_taken parts number sizes file header behind padding rest front form head body right =
+    → HasSections (held_of parts padding) file (entry_of parts) rest
+unfolding held_of entry_of
+held_taken parts number sizes file header behind padding rest front form head body right =
     let numbers = numbers_whole parts.form parts.numbers sizes.numbers body.numbers_small body.numbers in
     let offsets = words_whole parts.offsets sizes.offsets body.offsets_small body.offsets in
     record {
@@ -440,8 +440,8 @@ parts_taken file parts small h =
     let is_form : form.0 ≡ sections.0.form = sym c.2.form_is in
     let body = subst (λ f. TakesSections f sizes.0.0 sizes.0.1 sections.0 c.0 c.1) is_form c.2 in
     let number = form_taken front.0.0 form.0 form.1 ∙ ap magic is_form in
-    let sheet = sheet_taken sections.0 front.0.0 sizes.0.0 file front.0.1 sizes.0.1 c.0 c.1 a.0 number b body judged_right in
-    subst (λ p. (rest : List ℕ) × IsPacked file (entry_of p) rest) same (c.1, (sheet_of sections.0 c.0, sheet))
+    let held = held_taken sections.0 front.0.0 sizes.0.0 file front.0.1 sizes.0.1 c.0 c.1 a.0 number b body judged_right in
+    subst (λ p. (rest : List ℕ) × IsPacked file (entry_of p) rest) same (c.1, (held_of sections.0 c.0, held))
 
 pub read_is_packed : ReadIsPacked
 unfolding read_of

@@ -74,7 +74,7 @@ Each Is (number ∷ numbers) [] = ⊥
 Each Is (number ∷ numbers) (value ∷ values) = Is number value × Each Is numbers values
 
 -- what the sections of a file hold
-pub record Sheet : Type 0 where
+pub record Sections : Type 0 where
   pub form : Form
   pub names : List ℕ
   pub flags : List ℕ
@@ -87,23 +87,23 @@ pub record Sheet : Type 0 where
   pub string_values : List (Option Value)
 
 -- a file with these sections holds this entry, and the rest of it is not read
-pub record IsSheet (sheet : Sheet) (file : List ℕ) (entry : Content) (rest : List ℕ) : Type 0 where
-  pub whole : file ≡ layout sheet.form sheet.names sheet.flags sheet.padding sheet.numbers sheet.offsets sheet.table rest
-  pub names_size : length sheet.names < 32768
-  pub flags_size : length sheet.flags ≤ 44
-  pub padding_size : length sheet.padding ≡ (length sheet.names + length sheet.flags) % 2
-  pub numbers_size : length sheet.numbers ≤ 39
-  pub offsets_size : length sheet.offsets ≤ 414
-  pub table_size : length sheet.table < 32768
-  pub names : AreNames sheet.names entry.names
-  pub flags : Each IsFlag sheet.flags sheet.flag_values
-  pub numbers : Each (IsNumber sheet.form) sheet.numbers sheet.number_values
-  pub strings : Each (IsString sheet.table) sheet.offsets sheet.string_values
-  pub values : entry.values ≡ rows_of sheet.flag_values sheet.number_values sheet.string_values
+pub record HasSections (held : Sections) (file : List ℕ) (entry : Content) (rest : List ℕ) : Type 0 where
+  pub whole : file ≡ layout held.form held.names held.flags held.padding held.numbers held.offsets held.table rest
+  pub names_size : length held.names < 32768
+  pub flags_size : length held.flags ≤ 44
+  pub padding_size : length held.padding ≡ (length held.names + length held.flags) % 2
+  pub numbers_size : length held.numbers ≤ 39
+  pub offsets_size : length held.offsets ≤ 414
+  pub table_size : length held.table < 32768
+  pub names : AreNames held.names entry.names
+  pub flags : Each IsFlag held.flags held.flag_values
+  pub numbers : Each (IsNumber held.form) held.numbers held.number_values
+  pub strings : Each (IsString held.table) held.offsets held.string_values
+  pub values : entry.values ≡ rows_of held.flag_values held.number_values held.string_values
 
 -- a file that holds this entry, and the rest of it that is not read
 abbrev pub IsPacked : List ℕ → Content → List ℕ → Type 0
-IsPacked file entry rest = (sheet : Sheet) × IsSheet sheet file entry rest
+IsPacked file entry rest = (held : Sections) × HasSections held file entry rest
 
 -- the law that a file in this layout is read as its entry
 abbrev pub PackedIsRead : Type 0

@@ -32,9 +32,9 @@ abbrev pub LacksCertificate : List ℕ → Failure → Type 0
 LacksCertificate path failure = IsFileFailure path failure ⊎ ((fault : VerifyFault) × TellsFault path fault failure)
 
 -- the words of the size come first, then the entry, then the certificate
-pub record FailsAtEntry (held : Held) (words : Verification) (failure : Failure) : Type 0 where
-  pub sized : HasSize words.rows.now words.cols.now
-  pub lacks : LacksEntry held words.entry.now failure
+pub record FailsAtEntry (held : Held) (rows cols word : List ℕ) (failure : Failure) : Type 0 where
+  pub sized : HasSize rows cols
+  pub lacks : LacksEntry held word failure
 
 pub record FailsAtCertificate (held : Held) (words : Verification) (failure : Failure) : Type 0 where
   pub sized : HasSize words.rows.now words.cols.now
@@ -43,4 +43,4 @@ pub record FailsAtCertificate (held : Held) (words : Verification) (failure : Fa
   pub lacks : LacksCertificate words.certificate.now failure
 
 abbrev pub FailsToVerify : Held → Verification → Failure → Type 0
-FailsToVerify held words failure = LacksSize words.rows.now words.cols.now failure ⊎ FailsAtEntry held words failure ⊎ FailsAtCertificate held words failure
+FailsToVerify held words failure = LacksSize words.rows.now words.cols.now failure ⊎ FailsAtEntry held words.rows.now words.cols.now words.entry.now failure ⊎ FailsAtCertificate held words failure

@@ -2,9 +2,18 @@
 #![tactic(auto)]
 
 mod certificates;
+mod certifiers;
+mod checking;
 mod explaining;
+mod outcomes;
+mod probing;
+mod reasons;
 mod seen;
+mod spelling;
 mod telling;
 mod verifying;
+mod wanted;
 
+pub use certifiers::{Certifier, Checker};
+pub use checking::{Inspection, check_entry};
 pub use verifying::{Verification, checked_at, verify_certificate};

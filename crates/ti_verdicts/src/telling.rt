@@ -1,12 +1,15 @@
-//! The words of the line that tells why a certificate is refused.
+//! The words of the line that tells why a certificate is refused, or why an entry has none.
 
-ghost use Rattle.std.specs.Prelude.{◌≡◌, ◌++◌, ◌∷◌, IfOk, OnOk};
+ghost use Rattle.std.specs.Prelude.{◌≡◌, ◌++◌, ◌∷◌, ℕ, List, IfOk, OnOk};
 ghost use Rattle.std.specs.Fmt.{decimal};
 ghost use Rattle.ti_verdicts.specs.Telling as spec;
 
 use std::alloc::{AllocError, Global};
 use ti_caps::{Cap, name};
 use ti_cert::{CertFault, CertFaultKind};
+use ti_checker::{Cause, No};
+use ti_commands::{Failure, Refusal};
+use ti_parm::ParmFault;
 
 /// `line N: KIND`, and the capability that the kind has.
 pub fn fault_words(alloc: Global, fault: CertFault) -> Result<Vec<u8>, AllocError>
@@ -29,6 +32,72 @@ pub fn disagreement_words(alloc: Global, cap: Cap, numbers: &[u16]) -> Result<Ve
     words.extend_from_slice(name(cap))?;
     push_numbers(alloc, numbers, &mut words)?;
     Ok(words)
+}
+
+/// `no CAP P..: CAUSE`
+pub fn no_words(alloc: Global, no: &No) -> Result<Vec<u8>, AllocError>
+    ensures { IfOk result (λ words. words.items ≡ spec.no_text no.now) }
+{
+    let mut words = Vec::new(alloc);
+    words.extend_from_slice(b"no ")?;
+    words.extend_from_slice(name(no.cap))?;
+    push_numbers(alloc, no.params.as_slice(), &mut words)?;
+    words.extend_from_slice(b": ")?;
+    words.extend_from_slice(cause_name(no.cause))?;
+    Ok(words)
+}
+
+/// The failure that a no is.
+pub fn no_failure(alloc: Global, no: &No) -> Failure
+    ensures { spec.TellsNo no.now result }
+{
+    match no.cause {
+        Cause::NoMemory => Failure::NoMemory,
+        _ => verdict(no_words(alloc, no)),
+    }
+}
+
+/// The refusal in these words.
+pub fn verdict(words: Result<Vec<u8>, AllocError>) -> Failure
+    ensures { (text : List ℕ) → IfOk words (λ words. words.items ≡ text) → spec.IsVerdict text result }
+{
+    match words {
+        Ok(words) => Failure::Refused(Refusal::Verdict(words)),
+        Err(_) => Failure::NoMemory,
+    }
+}
+
+fn cause_name(cause: Cause) -> &'static [u8]
+    ensures { result.now ≡ spec.cause_name cause }
+{
+    match cause {
+        Cause::FlagOut => b"FlagOut",
+        Cause::Absent => b"Absent",
+        Cause::AcsByte => b"AcsByte",
+        Cause::Parm(fault) => parm_name(fault),
+        Cause::StaticRead => b"StaticRead",
+        Cause::Unfinished => b"Unfinished",
+        Cause::Stuck => b"Stuck",
+        Cause::NotTame => b"NotTame",
+        Cause::BadLook => b"BadLook",
+        Cause::WrongEffect(_) => b"WrongEffect",
+        Cause::NotShown => b"NotShown",
+        Cause::NoMemory => b"NoMemory",
+    }
+}
+
+fn parm_name(fault: ParmFault) -> &'static [u8]
+    ensures { result.now ≡ spec.parm_name fault }
+{
+    match fault {
+        ParmFault::Underflow => b"Underflow",
+        ParmFault::BadNest => b"BadNest",
+        ParmFault::BadCode => b"BadCode",
+        ParmFault::Overflow => b"Overflow",
+        ParmFault::BadChar => b"BadChar",
+        ParmFault::WrongKind => b"WrongKind",
+        ParmFault::NoMemory => b"NoMemory",
+    }
 }
 
 fn kind_name(kind: CertFaultKind) -> &'static [u8]

@@ -1,18 +1,18 @@
 //! The command `verify`.
 
-ghost use Rattle.std.specs.Prelude.{◌≡◌, ℕ, List, IfErr, IfOk};
+ghost use Rattle.std.specs.Prelude.{◌≡◌, IfErr, IfOk};
 ghost use Rattle.ti_conforms.specs.Conforms.{Conforms};
-ghost use Rattle.ti_verdicts.specs.Telling.{IsVerdict, TellsFault};
+ghost use Rattle.ti_verdicts.specs.Telling.{TellsFault};
 ghost use Rattle.ti_verdicts.specs.Verifying.{FailsToVerify, IsVerified, LacksCertificate};
 
 use crate::certificates::CertificateFile;
 use crate::explaining::{explain_disagreement, explain_fault};
-use crate::telling::{disagreement_words, fault_words};
-use std::alloc::{AllocError, Global};
+use crate::telling::{disagreement_words, fault_words, verdict};
+use std::alloc::Global;
 use std::io::Read;
 use ti_caps::Entry;
 use ti_cert::{AgreeFault, CertFault, CertFaultKind, Checked, VerifyFault, verify_from};
-use ti_commands::{Failure, Files, Refusal, Remarks, Reply, entry_of, file_fault, size_words};
+use ti_commands::{Failure, Files, Remarks, Reply, entry_of, file_fault, size_words};
 use vt_term::Size;
 
 /// The words of `verify`.
@@ -116,15 +116,5 @@ fn cert_failure<R: Read>(
             let _ = explain_fault(alloc, path, size, fault, reader.seen(), remarks);
             verdict(fault_words(alloc, fault))
         }
-    }
-}
-
-/// The refusal in these words.
-fn verdict(words: Result<Vec<u8>, AllocError>) -> Failure
-    ensures { (text : List ℕ) → IfOk words (λ words. words.items ≡ text) → IsVerdict text result }
-{
-    match words {
-        Ok(words) => Failure::Refused(Refusal::Verdict(words)),
-        Err(_) => Failure::NoMemory,
     }
 }

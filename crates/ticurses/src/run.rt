@@ -9,7 +9,7 @@ use ti_commands::{
     Comparison, Expansion, Failure, Files, Output, Remarks, Reply, Written, compare_entries,
     compile_entry, expand_string, feed_file, print_entry, report, write_reply, write_text,
 };
-use ti_verdicts::{Verification, verify_certificate};
+use ti_verdicts::{Checker, Inspection, Verification, check_entry, verify_certificate};
 
 /// Does what the words after the program's own name ask for: the answer goes to `out`, notes and a
 /// failure's lines to `err`, and the result is the exit status: 0 done, 1 refused, 2 a usage error,
@@ -77,22 +77,18 @@ fn reply_to<F: Files>(
         } => expand(alloc, *cup, string, rows, cols, params.as_slice(), remarks),
         Request::Feed { rows, cols, file } => feed_file(alloc, rows, cols, file, files, remarks),
         Request::Tic { entry, out } => compile_entry(alloc, entry, *out, files, remarks),
+        Request::Check {
+            entry,
+            rows,
+            cols,
+            out,
+        } => check(alloc, entry, rows, cols, *out, files, remarks),
         Request::Verify {
             entry,
             rows,
             cols,
             certificate,
-        } => verify_certificate(
-            alloc,
-            &Verification {
-                entry,
-                rows,
-                cols,
-                certificate,
-            },
-            files,
-            remarks,
-        ),
+        } => verify(alloc, entry, rows, cols, certificate, files, remarks),
         Request::Print { entry } => print_entry(alloc, entry, files, remarks),
         Request::Common { first, second } => {
             compare_entries(alloc, first, second, Comparison::Common, files, remarks)
@@ -120,4 +116,40 @@ fn expand(
         judges_cup,
     };
     expand_string(alloc, &words, remarks)
+}
+
+fn check<F: Files>(
+    alloc: Global,
+    entry: &str,
+    rows: &str,
+    cols: &str,
+    out: Option<&str>,
+    files: &mut F,
+    remarks: &mut Remarks,
+) -> Result<Reply, Failure> {
+    let words = Inspection {
+        entry,
+        rows,
+        cols,
+        out,
+    };
+    check_entry(alloc, &Checker, &words, files, remarks)
+}
+
+fn verify<F: Files>(
+    alloc: Global,
+    entry: &str,
+    rows: &str,
+    cols: &str,
+    certificate: &str,
+    files: &mut F,
+    remarks: &mut Remarks,
+) -> Result<Reply, Failure> {
+    let words = Verification {
+        entry,
+        rows,
+        cols,
+        certificate,
+    };
+    verify_certificate(alloc, &words, files, remarks)
 }

@@ -142,58 +142,26 @@ impl Rendition {
     pub fn changed(self, change: RenditionChange) -> Rendition
         ensures { result ≡ spec.changed change self }
     {
+        let mut changed = self;
         match change {
-            RenditionChange::Plain => Rendition::plain(),
-            RenditionChange::Bold => Rendition { bold: true, ..self },
-            RenditionChange::Faint => Rendition {
-                faint: true,
-                ..self
-            },
-            RenditionChange::Underline => Rendition {
-                underline: true,
-                ..self
-            },
-            RenditionChange::Blink => Rendition {
-                blink: true,
-                ..self
-            },
-            RenditionChange::Negative => Rendition {
-                negative: true,
-                ..self
-            },
-            RenditionChange::Concealed => Rendition {
-                concealed: true,
-                ..self
-            },
-            RenditionChange::NormalIntensity => Rendition {
-                bold: false,
-                faint: false,
-                ..self
-            },
-            RenditionChange::NotUnderlined => Rendition {
-                underline: false,
-                ..self
-            },
-            RenditionChange::Steady => Rendition {
-                blink: false,
-                ..self
-            },
-            RenditionChange::Positive => Rendition {
-                negative: false,
-                ..self
-            },
-            RenditionChange::Revealed => Rendition {
-                concealed: false,
-                ..self
-            },
-            RenditionChange::Foreground(color) => Rendition {
-                foreground: color,
-                ..self
-            },
-            RenditionChange::Background(color) => Rendition {
-                background: color,
-                ..self
-            },
+            RenditionChange::Plain => changed = Rendition::plain(),
+            RenditionChange::Bold => changed.bold = true,
+            RenditionChange::Faint => changed.faint = true,
+            RenditionChange::Underline => changed.underline = true,
+            RenditionChange::Blink => changed.blink = true,
+            RenditionChange::Negative => changed.negative = true,
+            RenditionChange::Concealed => changed.concealed = true,
+            RenditionChange::NormalIntensity => {
+                changed.bold = false;
+                changed.faint = false;
+            }
+            RenditionChange::NotUnderlined => changed.underline = false,
+            RenditionChange::Steady => changed.blink = false,
+            RenditionChange::Positive => changed.negative = false,
+            RenditionChange::Revealed => changed.concealed = false,
+            RenditionChange::Foreground(color) => changed.foreground = color,
+            RenditionChange::Background(color) => changed.background = color,
         }
+        changed
     }
 }

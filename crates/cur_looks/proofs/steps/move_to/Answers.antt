@@ -1,10 +1,10 @@
-use Rattle.std.proofs.Common.{◌*◌, refl}
+use Rattle.std.proofs.Common.{◌*◌, refl, arith}
 use Rattle.cur_steps.proofs.Stopping.{steps_none}
 use Rattle.cur_looks.specs.Certified.{IsPiece, IsLost}
 use Rattle.cur_looks.specs.Beliefs.{Agrees, moves}
 use Rattle.cur_looks.proofs.Doing.{agrees_lost}
 use Rattle.cur_looks.proofs.Telling.{once}
-use Rattle.cur_looks.proofs.Turning.{moved}
+use Rattle.cur_looks.proofs.Moving.{turned, limited}
 use Rattle.cur_looks.proofs.steps.move_to.Goals as goal
 
 pub returns-then-stands-clause-step : goal.returns-then-stands-clause-step
@@ -17,4 +17,7 @@ pub returns-clause-step : goal.returns-clause-step
 returns-clause-step g c h =
     let t = g.C.Certificate.table c.args.checked.now in
     let b = c.args.belief.now in
-    c.send_line.ensures.step (moves b.place c.args.row c.args.col * t.longest.cup) h h b _ (once _ t.longest.cup (c.if-stands.ensures.counted refl)) (moved t h b c.args.row c.args.col)
+    let way = c.shortest-line.ensures.way in
+    c.send_line.ensures.step (moves b.place c.args.row c.args.col * t.longest.cup) h h b _
+    (omega (arith, limited t b.place c.args.row c.args.col c.shortest-line.result way.moves way.short, once _ t.longest.cup (c.if-stands.ensures.counted refl)))
+    (turned t h b c.args.row c.args.col c.requires.row c.requires.col c.shortest-line.result way.moves)

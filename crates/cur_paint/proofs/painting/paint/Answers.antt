@@ -5,7 +5,7 @@ use Rattle.cur_looks.specs.Certified.{IsPiece, IsLost, cell_limit}
 use Rattle.cur_looks.specs.Beliefs.{Agrees}
 use Rattle.cur_looks.specs.declared.beliefs.Belief.{Belief}
 use Rattle.cur_paint.specs.Differ.{all_differ}
-use Rattle.cur_paint.specs.Limits.{settle_limit, paint_limit}
+use Rattle.cur_paint.specs.Limits.{cursor_limit, paint_limit}
 use Rattle.cur_paint.proofs.Bounding.{limit_sum, limit_more}
 use Rattle.cur_paint.proofs.painting.paint.Goals as goal
 
@@ -26,7 +26,7 @@ returns-clause-step g c =
     let old = g.O.View.cells c.args.old.now in
     let new = g.N.View.cells c.args.new.now in
     let a : Belief = c.mend_rows.new.belief in
-    steps_next g.W.Wire.went g.W.Wire.failures g.met.W.Wire.lawful c.args.wire.now c.mend_rows.new.wire c.settle.new.wire _ c.settle.result (IsPiece t)
-    (all_differ old new t.cols t.rows * cell_limit t) (settle_limit t a c.args.cursor c.args.mode) (paint_limit t old new b c.args.cursor c.args.mode) (IsLost t)
-    (Agrees t old b) (Agrees t new a) (Agrees t new c.settle.new.belief)
-    (limit_sum t old new b a c.args.cursor c.args.mode c.in_ok-mend_rows.ensures.idle) c.in_ok-mend_rows.ensures.step (c.settle.ensures.step new)
+    steps_next g.W.Wire.went g.W.Wire.failures g.met.W.Wire.lawful c.args.wire.now c.mend_rows.new.wire c.set_cursor.new.wire _ c.set_cursor.result (IsPiece t)
+    (all_differ old new t.cols t.rows * cell_limit t) (cursor_limit t a c.args.cursor c.args.mode) (paint_limit t old new b c.args.cursor c.args.mode) (IsLost t)
+    (Agrees t old b) (Agrees t new a) (Agrees t new c.set_cursor.new.belief)
+    (limit_sum t old new b a c.args.cursor c.args.mode c.in_ok-mend_rows.ensures.idle) c.in_ok-mend_rows.ensures.step (c.set_cursor.ensures.step new)

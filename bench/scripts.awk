@@ -1,0 +1,170 @@
+# A script of curses calls for a screen of rows by cols, the same in each run.
+# awk -v kind=KIND -v rows=24 -v cols=80 -f scripts.awk, where KIND is a scene of refresh.sh, of which the calls behind the
+# line `# from here` are measured, or
+#   calls      100,000 calls in nine windows: short texts, moves, cells deleted, 2,000 refreshes
+#   texts      42,000 calls: texts of 20 to 30 characters all over the screen, 2,000 refreshes
+function next_number(below) {
+    state = (state * 16807) % 2147483647
+    return state % below
+}
+function words(count, text) {
+    text = ""
+    while (length(text) < count)
+        text = text word[next_number(12)] " "
+    return substr(text, 1, count)
+}
+function move(w, row, col) {
+    print "move " w " " row " " col
+}
+function text_at(w, row, col, text) {
+    move(w, row, col)
+    print "addstr " w " " text
+}
+# the window full of text, but the first and the last `margin` rows and columns
+function fill(w, height, width, margin, row) {
+    for (row = margin; row < height - margin; row++)
+        text_at(w, row, margin, words(width - 2 * margin - (w == 0 && row == rows - 1)))
+}
+# a screen of text that the terminal shows, with the cursor at the place; without the last cell of the last row, which ncurses
+# cannot write in a terminal like `vt`
+function shown_text(row, col) {
+    fill(0, rows, cols, 0)
+    move(0, row, col)
+    print "refresh 0\n# from here"
+}
+function full() {
+    print "# from here"
+    fill(0, rows, cols, 0)
+    print "refresh 0"
+}
+function blank() {
+    print "# from here"
+    text_at(0, 1, 4, "ticurses")
+    text_at(0, 3, 4, "Press any key to go on.")
+    text_at(0, rows - 1, 0, "ready")
+    print "refresh 0"
+}
+function cell() {
+    shown_text(2, 3)
+    move(0, middle_row, middle_col)
+    print "addch 0 58\nrefresh 0"
+}
+function one_word() {
+    shown_text(2, 3)
+    text_at(0, middle_row, middle_col, "certain")
+    print "refresh 0"
+}
+# right, down, left, up, to the start of the line, of the next one, far away, home
+function cursor(n, steps, place) {
+    shown_text(2, 3)
+    n = split("2,4 3,4 3,3 2,3 2,0 3,0 " middle_row "," middle_col " 0,0", steps, " ")
+    for (step = 1; step <= n; step++) {
+        split(steps[step], place, ",")
+        move(0, place[1], place[2])
+        print "refresh 0"
+    }
+}
+# forty characters, a refresh after each
+function typed(line, i) {
+    for (i = 0; i < middle_row; i++)
+        text_at(0, i, 0, words(cols - 10))
+    move(0, middle_row, 0)
+    print "refresh 0\n# from here"
+    line = words(40)
+    for (i = 1; i <= 40; i++)
+        print "addstr 0 " substr(line, i, 1) "\nrefresh 0"
+}
+function boxed() {
+    print "refresh 0\n# from here"
+    print "newwin 1 " middle_row " " middle_col " 4 8"
+    print "box 1 - -\nrefresh 1"
+}
+function status() {
+    shown_text(2, 3)
+    move(0, rows - 1, 0)
+    print "attrset 0 R\naddstr 0 " words(cols - 1)
+    print "attrset 0 -\nrefresh 0"
+}
+# eight by eight cells of four characters, a foreground in each column and a background in each row
+function colours(pair) {
+    for (pair = 1; pair < 64; pair++)
+        print "init_pair " pair " " pair % 8 " " int(pair / 8)
+    print "refresh 0\n# from here"
+    for (pair = 0; pair < 64; pair++) {
+        print "color_set 0 " pair
+        text_at(0, 4 + int(pair / 8), 8 + 4 * (pair % 8), " " pair % 8 int(pair / 8) " ")
+    }
+    print "refresh 0"
+}
+function scrolled() {
+    print "scrollok 0 1\nidlok 0 1"
+    fill(0, rows, cols, 0)
+    print "refresh 0\n# from here\nscroll 0 1"
+    text_at(0, rows - 1, 0, words(cols - 1))
+    print "refresh 0"
+}
+# the window moves over the text by one row and two columns
+function moved() {
+    fill(0, rows, cols, 0)
+    print "newwin 1 9 32 4 8\nbox 1 - -"
+    fill(1, 9, 32, 1)
+    print "noutrefresh 0\nnoutrefresh 1\ndoupdate\n# from here"
+    print "mvwin 1 5 10\ntouchwin 0\nnoutrefresh 0\nnoutrefresh 1\ndoupdate"
+}
+function nothing() {
+    shown_text(2, 3)
+    print "touchwin 0\nrefresh 0"
+}
+# fifty calls in one of nine windows of 8 by 26, at most 524 bytes
+function frame(w, count) {
+    for (count = 0; count < 6; count++) {
+        text_at(w, next_number(8), next_number(10), words(4))
+        move(w, next_number(8), next_number(10))
+        print "addch " w " " 61 + next_number(9) "\naddch " w " " 61 + next_number(9)
+    }
+    move(w, next_number(8), next_number(10))
+    for (count = 0; count < 15; count++)
+        print "delch " w
+    count = next_number(4)
+    print "attrset " w " " (count == 0 ? "R" : "B")
+    print count == 0 ? "erase " w : count == 1 ? "box " w " - -" : count == 2 ? "clrtoeol " w : "scroll " w " 1"
+    print "attrset " w " -\nrefresh " w
+}
+function many_calls(w, count) {
+    for (w = 1; w <= 9; w++) {
+        print "newwin " w " 8 26 " 8 * int((w - 1) / 3) " " 26 * ((w - 1) % 3)
+        print "scrollok " w " 1"
+    }
+    for (count = 0; count < 2000; count++)
+        frame(1 + next_number(9))
+}
+function many_texts(count, line) {
+    for (count = 0; count < 2000; count++) {
+        for (line = 0; line < 10; line++)
+            text_at(0, next_number(rows), next_number(cols - 30), words(20 + next_number(11)))
+        print "refresh 0"
+    }
+}
+BEGIN {
+    state = 4711
+    split("ls total make cc1 warning error Makefile src/lib.c 4096 root drwxr-xr-x README", list, " ")
+    for (i in list)
+        word[i - 1] = list[i]
+    middle_row = int(rows / 2)
+    middle_col = int(cols / 2)
+    if (kind == "full") full()
+    else if (kind == "blank") blank()
+    else if (kind == "cell") cell()
+    else if (kind == "word") one_word()
+    else if (kind == "cursor") cursor()
+    else if (kind == "typed") typed()
+    else if (kind == "box") boxed()
+    else if (kind == "status") status()
+    else if (kind == "colours") colours()
+    else if (kind == "scroll") scrolled()
+    else if (kind == "window") moved()
+    else if (kind == "nothing") nothing()
+    else if (kind == "calls") many_calls()
+    else if (kind == "texts") many_texts()
+    else exit 2
+}

@@ -1,0 +1,22 @@
+use Rattle.std.proofs.Common.{ℕ, Option, Some}
+use Rattle.cur_looks.specs.Certified.{Table}
+use Rattle.cur_looks.specs.Beliefs.{Place}
+use Rattle.cur_looks.specs.Moves.{IsWay}
+use Rattle.cur_looks.proofs.moves.shortest.Goals as goal
+
+pub returns-in_default : goal.returns-in_default
+returns-in_default g c = record {
+  way = c.shorter-best.ensures.way c.args.from c.args.row c.args.col (c.straight.ensures.way c.args.from) (c.by_corner.ensures.moves c.args.from);
+}
+
+pub returns : goal.returns
+returns g c =
+    let t : Table = g.C.Certificate.table c.args.checked.now in
+    let row : ℕ = c.args.row in
+    let col : ℕ = c.args.col in
+    let from : Option Place = Some c.in-Some.at in
+    let corner : IsWay t from row col c.shorter-best.result = c.shorter-best.ensures.way from row col (c.straight.ensures.way from) (c.by_corner.ensures.moves from) in
+    let start : IsWay t from row col c.shorter-best-2.result = c.shorter-best-2.ensures.way from row col corner c.by_line_start.ensures.moves in
+    let one : IsWay t from row col c.shorter-best-3.result = c.shorter-best-3.ensures.way from row col start c.by_one.ensures.moves in
+    let count : IsWay t from row col c.shorter-best-4.result = c.shorter-best-4.ensures.way from row col one c.by_count.ensures.moves in
+    record { way = rw c.in-Some.is (c.shorter.ensures.way from row col count c.by_name.ensures.moves) }

@@ -1,0 +1,5 @@
+use Rattle.cur_paint.proofs.Starting.{reset_fresh}
+use Rattle.cur_paint.proofs.laws.reset_is_fresh.Goals as goal
+
+pub returns : goal.returns
+returns c = reset_fresh

@@ -1,0 +1,15 @@
+use Rattle.std.proofs.Common.{◌≡◌, IfSome, Some, Ok, refl, sym, subst}
+use Rattle.std.specs.Prelude.{option_map}
+use Rattle.std.proofs.lemmas.Result.{on_ok_weaker}
+use Rattle.std.proofs.lemmas.Option.{none-some}
+use Rattle.ti_lines.specs.Heads.{IsAcscText}
+use Rattle.ti_cert.proofs.Auditing.{second_pairs, second_later}
+use Rattle.ti_cert.proofs.audits.Progress.judge_acsc.Goals as goal
+
+pub returns-in-Some-clause-ok : goal.returns-in-Some-clause-ok
+returns-in-Some-clause-ok c = second_pairs c.args.self.now _ c.args.text.now c.from_vec.result c.requires
+    (subst (λ b. IsAcscText c.args.text.now b) (sym c.from_vec.ensures) (subst (λ o. IfSome o (λ b. IsAcscText c.args.text.now b.items)) c.in-Some.is c.in_ok-pairs.ensures.found)) refl
+
+pub returns-in-None-clause-ok : goal.returns-in-None-clause-ok
+returns-in-None-clause-ok c = on_ok_weaker c.judge_later.result (λ h. second_later c.args.self.now c.args.text.now (Ok c.judge_later.new.self) c.requires
+    (λ bytes is. none-some bytes (subst (λ o. option_map (λ b. b.items) o ≡ Some bytes) c.in-None.is (c.in_ok-pairs.ensures.each bytes is))) h) c.judge_later.ensures.ok

@@ -1,0 +1,12 @@
+use Rattle.std.proofs.Common.{inl}
+use Rattle.std.proofs.lemmas.Result.{err_from_is_err_and}
+use Rattle.ti_cert.proofs.Auditing.{last_lacks, last_clashes}
+use Rattle.ti_cert.proofs.audits.Progress.judge_end.Goals as goal
+
+pub returns-in-Some-clause-err : goal.returns-in-Some-clause-err
+returns-in-Some-clause-err c = inl (last_lacks c.args.self.now c.in-Some.missing c.in-Some.ensures)
+
+pub returns-in_err-settled-in-None-clause-err : goal.returns-in_err-settled-in-None-clause-err
+returns-in_err-settled-in-None-clause-err c =
+    let p = err_from_is_err_and c.from_residual.result c.from_residual.ensures.1 in
+    rw (p.1, p.2) (last_clashes c.args.self.now _ c.is_some.result c.is_some.ensures c.in-None.ensures c.in_err-settled-in-None.ensures.fails)

@@ -1,0 +1,51 @@
+-- What the terminal ignores of a sequence: all of it, where it names no function, or some of its numbers (ECMA-48 5.4,
+-- control sequences; 8.3.106 RM, 8.3.117 SGR, 8.3.125 SM; ECMA-35 13.2, escape sequences).
+use Rattle.std.specs.Prelude.{ℕ, ◌==◌, ◌&&◌, ◌||◌, nat_le, not, is_none, Bool, true, false, List, [], ◌∷◌, if◌then◌else◌, Option}
+use Rattle.std.specs.Option.{unwrap_or}
+use Rattle.std.specs.List.{list_any}
+use Rattle.vt_term.specs.Rendering.{change_of}
+use Rattle.vt_term.specs.Function.{Function, ModeKind, Standard, Private, SelectRendition, Modes, Ignored, function_of}
+
+-- ---- a sequence that is whole
+
+abbrev pub is_final : ℕ → Bool
+is_final b = nat_le 0x40 b && nat_le b 0x7e
+
+abbrev pub is_escape_final : ℕ → Bool
+is_escape_final b = nat_le 0x30 b && nat_le b 0x7e
+
+-- among the bytes after ESC is a final one: of a control sequence after ESC [, else of an escape sequence
+abbrev pub has_final : List ℕ → Bool
+has_final [] = false
+has_final (second ∷ body) = if second == 91 then list_any is_final body else list_any is_escape_final (second ∷ body)
+
+-- A token that begins with ESC and has its final byte; one that ESC, CAN or SUB cut off has none.
+abbrev pub is_whole_sequence : List ℕ → Bool
+is_whole_sequence [] = false
+is_whole_sequence (first ∷ behind) = (first == 27) && has_final behind
+
+-- ---- a number that is unknown
+
+-- of SGR; the default is 0
+abbrev pub is_unknown_rendition : Option ℕ → Bool
+is_unknown_rendition n = is_none (change_of (unwrap_or n 0))
+
+-- insertion (ECMA-48 7.2.10, IRM); autowrap and the cursor's visibility (VT220, DECAWM and DECTCEM)
+abbrev pub is_mode : ModeKind → ℕ → Bool
+is_mode Standard n = n == 4
+is_mode Private n = (n == 7) || (n == 25)
+
+abbrev pub is_unknown_mode : ModeKind → Option ℕ → Bool
+is_unknown_mode kind n = not (is_mode kind (unwrap_or n 0))
+
+-- ---- what is ignored
+
+-- nothing is done, or for one of the numbers nothing is
+abbrev pub ignores : Function → Bool
+ignores Ignored = true
+ignores (SelectRendition numbers) = list_any is_unknown_rendition numbers
+ignores (Modes kind on numbers) = list_any (is_unknown_mode kind) numbers
+ignores _ = false
+
+abbrev pub is_ignored : List ℕ → Bool
+is_ignored token = is_whole_sequence token && ignores (function_of token)

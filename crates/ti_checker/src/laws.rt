@@ -1,0 +1,49 @@
+//! Laws of the checker: what the terminal ignores changes nothing, and a no that claims something
+//! excludes a yes.
+
+ghost use Rattle.std.specs.Option.{unwrap_or};
+ghost use Rattle.std.specs.Prelude.{◌≡◌, ◌≢◌, ℕ, Bool, List, Option, true, false};
+ghost use Rattle.ti_caps.specs.Entry.{Content};
+ghost use Rattle.ti_checker.specs.Ignored.{is_unknown_mode, is_unknown_rendition, is_whole_sequence};
+ghost use Rattle.ti_checker.specs.No.{ClaimsNothing, IsSo};
+ghost use Rattle.ti_checker.specs.Notes.{EntryNotes};
+ghost use Rattle.ti_checker.specs.declared.causes.No.{No};
+ghost use Rattle.ti_checker.specs.declared.noting.CheckNote.{CheckNote};
+ghost use Rattle.ti_conforms.specs.Conforms.{Conforms};
+ghost use Rattle.vt_term.specs.Function.{ModeKind};
+ghost use Rattle.vt_term.specs.Look.{Rendition};
+ghost use Rattle.vt_term.specs.Screen.{Screen};
+ghost use Rattle.vt_term.specs.Rendering.{rendered};
+ghost use Rattle.vt_term.specs.Step.{mode_set};
+ghost use Rattle.vt_term.specs.Text.{IsDropped, IsSequence, IsSingle};
+
+/// Whole sequences are told from the other tokens of a text: from printed characters, controls and
+/// sequences that were cut off.
+pub fn sequences_told_apart()
+    ensures sequence { (token : List ℕ) → IsSequence token → is_whole_sequence token ≡ true }
+    ensures single { (token : List ℕ) → IsSingle token → is_whole_sequence token ≡ false }
+    ensures dropped { (token behind : List ℕ) → IsDropped token behind → is_whole_sequence token ≡ false }
+{}
+
+/// An unknown number of SGR changes no rendition, and each other number changes some.
+pub fn unknown_renditions_change_nothing()
+    ensures unknown { (number : Option ℕ) (rendition : Rendition) → is_unknown_rendition number ≡ true → rendered (unwrap_or number 0) rendition ≡ rendition }
+    ensures known { (number : Option ℕ) → is_unknown_rendition number ≡ false → (rendition : Rendition) × (rendered (unwrap_or number 0) rendition ≢ rendition) }
+{}
+
+/// To set or reset an unknown mode changes no screen, and each other mode changes some.
+pub fn unknown_modes_change_nothing()
+    ensures unknown { (kind : ModeKind) (on : Bool) (number : Option ℕ) (screen : Screen) → is_unknown_mode kind number ≡ true → mode_set kind on (unwrap_or number 0) screen ≡ screen }
+    ensures known { (kind : ModeKind) (number : Option ℕ) → is_unknown_mode kind number ≡ false → (on : Bool) × (screen : Screen) × (mode_set kind on (unwrap_or number 0) screen ≢ screen) }
+{}
+
+/// An entry has one list of notes at most.
+pub fn one_list_of_notes()
+    ensures { (entry : Content) (notes others : List CheckNote) → EntryNotes entry notes → EntryNotes entry others → others ≡ notes }
+{}
+
+/// An entry of which a no is so doesn't conform, unless the no claims nothing: its cause is
+/// `NotTame`, `NotShown` or `NoMemory`.
+pub fn no_excludes_yes()
+    ensures { (entry : Content) (rows cols : ℕ) (refusal : No) → IsSo entry rows cols refusal → Conforms entry rows cols → ClaimsNothing refusal.cause }
+{}

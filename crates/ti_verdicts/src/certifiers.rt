@@ -1,0 +1,43 @@
+//! Who writes certificates.
+
+ghost use Rattle.std.specs.Prelude.{ℕ, List, IfErr, IfOk};
+ghost use Rattle.ti_caps.specs.Entry.{Content};
+ghost use Rattle.ti_checker.specs.declared.causes.No.{No};
+ghost use Rattle.ti_conforms.specs.Conforms.{Conforms};
+ghost use Rattle.ti_verdicts.specs.Checking.{IsNo};
+
+use std::alloc::Global;
+use ti_caps::Entry;
+use ti_checker::{No, check};
+use vt_term::Size;
+
+/// Writes the certificates of entries.
+pub trait Certifier {
+    /// What holds of the text that it writes for an entry and so many rows and columns.
+    ghost certifies: { Self → Content → ℕ → ℕ → List ℕ → Type 0 };
+
+    /// What holds of its no for an entry and so many rows and columns.
+    ghost refuses: { Self → Content → ℕ → ℕ → No → Type 0 };
+
+    /// The certificate of an entry for a size.
+    ///
+    /// # Errors
+    /// The capability, the parameters and the cause for which there is none.
+    fn certify(&self, alloc: Global, entry: &Entry, size: Size) -> Result<Vec<u8>, No>
+        ensures certifies { IfOk result (λ text. certifies self.now entry.now size.rows size.cols text.items) }
+        ensures refuses { IfErr result (λ refusal. refuses self.now entry.now size.rows size.cols refusal) };
+}
+
+/// The checker: an entry that it writes a certificate for conforms, and each of its noes is so.
+#[derive(Clone, Copy)]
+pub struct Checker;
+
+impl Certifier for Checker {
+    ghost certifies = { λ _ entry rows cols _. Conforms entry rows cols };
+
+    ghost refuses = { λ _ entry rows cols refusal. IsNo entry rows cols refusal };
+
+    fn certify(&self, alloc: Global, entry: &Entry, size: Size) -> Result<Vec<u8>, No> {
+        check(alloc, entry, size)
+    }
+}
