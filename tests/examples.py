@@ -1,11 +1,14 @@
 """Whole runs of the program: the words, the status, standard output and standard error."""
 
 import os
+import pty
+import shutil
 import struct
+import subprocess
 import sys
 import tempfile
 
-from trying import TOP, Case, run_cases
+from trying import PROGRAM, TOP, Case, Told, run_cases
 
 MINI = b"mini|sample,\n\tclear=\\E[H\\E[2J, cup=\\E[%i%p1%d;%p2%dH, sgr0=\\E[m,\n"
 VT = rb"""vt|vt100 manner,
@@ -187,10 +190,32 @@ CHECKED = [
     ("sgr=\\E[%?%p6%t1%e0%;m,", "mini", "2", "4", "sgr 0 0 0 0 0 1 0 0 0: WrongEffect"),
     ("sgr=\\E[0%?%p5%t;1%;m,", "mini", "2", "4", "sgr 0 0 0 0 1 0 0 0 0: BadLook"),
     ("el=\\E[,", "xt", "24", "80", "el: Unfinished"),
+    # what is wrong with all strings together: the way out of an unknown state begins with SI or with CR, and not with ESC
+    ("sgr0=^O\\E[m,", "mini", "2", "2", "clear: NoResync"),
+    ("smcup=\\r\\E[?1049h,", "vt", "2", "4", "clear: NoResync"),
+    # two faults: that of the first line is told
+    ("bel=^N, el=%+,", "mini", "2", "2", "bel: WrongEffect"),
+    ("sgr0=^O\\E[m, vpa=%+,", "mini", "2", "2", "vpa 0: Underflow"),
 ]
 
+# entries of the system's own database, and why each has its certificate at 24 by 80, worked out by hand from what infocmp prints of it.
+# In all: `clear` and `cup` are absolute; `ed`, `el`, `el1`, `ech` erase from the cursor alone; `cub1`, `cuf1`, `cuu1`, `cud1`, `cr`, `ind`, `ri` are BS or CUB, CUF,
+# CUU or RI, LF, CR, LF and RI, which do on the screen and on a margin what is wanted; setaf and setab with 0 to 7 send SGR 30 to 37 and 40 to 47, op SGR 39 and 49; a set of
+# attributes sends SGR 0 and the number of each. What the terminal ignores changes nothing.
+SYSTEM = {
+    # smacs and rmacs designate G0, and sgr0 begins with that
+    "xterm": None,
+    "xterm-256color": None,
+    "kitty": None,
+    # enacs designates G1, which smacs shifts in and rmacs, sgr and sgr0 shift out; standout of screen is SGR 3, which the terminal doesn't know: it looks like nothing
+    "screen": None,
+    "tmux": None,
+    "linux": None,
+    "vt100": None,
+}
+
 # the notes on entries of the table, worked out by hand: what the terminal ignores of their strings. The others have none;
-# nor has the last one, of which a string ends within a sequence.
+# nor has one of which a string ends within a sequence, or has a fault.
 XT_NOTES = [
     "clear 1b5b334a",
     "cnorm 1b5b3f31326c",
@@ -200,7 +225,7 @@ XT_NOTES = [
     "smcup 1b5b3f3130343968",
     "smcup 1b5b32323b303b3074",
 ]
-NOTES = {4: XT_NOTES, 5: [*XT_NOTES[:2], "cvvis 1b5b33346c", *XT_NOTES[3:]], 6: XT_NOTES, 7: XT_NOTES}
+NOTES = {4: XT_NOTES, 5: [*XT_NOTES[:2], "cvvis 1b5b33346c", *XT_NOTES[3:]], 6: XT_NOTES, 7: XT_NOTES, 43: ["smcup 1b5b3f3130343968"]}
 
 # a source of the sample entries, and one with an entry c0, c1 and so on for each line of the table
 FILES["samples"] = MINI + VT + XT
@@ -290,6 +315,7 @@ RUNS = [
     (["verify", "mini:mini", "2", "2", "long.cert"], 1, "", "refused: line 2: BadLine\n"),
     (["verify", "mini:mini", "2", "2", "empty.cert"], 1, "", "refused: line 1: BadLine\n"),
     (["verify", "mini:mini", "2", "3", "mini.cert"], 1, "", "refused: line 1: BadLine\n"),
+    (["verify", "mini:mini", "24", "80", "/dev/zero"], 1, "", "refused: line 1: BadLine\n"),
     (["verify", "uses:z", "2", "2", "mini.cert"], 1, "", "refused: Disagree clear\n"),
     (["verify", "mini:mini", "2", "2", "absent"], 3, "", "file: absent\n"),
     (["verify", "mini:mini", "2", "2", "/"], 3, "", "file: /\n"),
@@ -313,6 +339,22 @@ RUNS += [
     (["check", "mini:mini", "2", "2", "2"], 2, "", None),
 ]
 
+# what is said of each entry of the sample source, of compiled files, and of files without entries
+RUNS += [
+    (
+        ["survey", "24", "80", "samples", "even.out", "wide.out", "even_short", "wrong_kind", "unknown_use"],
+        0,
+        "mini yes\nvt yes\nxt yes\nxc yes\na no clear: Absent\na no clear: Absent\neven_short refused: Short\n"
+        "wrong_kind refused: line 1: WrongKind\na refused: NoSuchEntry q\n"
+        "total 9, yes 4, Absent 2, refused 3\n",
+        "",
+    ),
+    (["survey", "24", "80", "absent", "mini"], 3, "mini yes\ntotal 1, yes 1\n", "file: absent\n"),
+    (["survey", "24", "501", "mini"], 1, "", "refused: BadSize\n"),
+    (["survey", "24", "x", "mini"], 2, "", None),
+    (["survey", "24", "80"], 2, "", None),
+]
+
 # a word that is not UTF-8
 RUNS.append((["feed", "2", "2", "no\udcff"], 2, "", None))
 
@@ -321,6 +363,11 @@ CARET = "hint line 2: in setaf `%^` is read as `%` and a control character; excl
 LONG = (
     f"'{'x' * 200}' .. in line 2 of long.cert: a line is written as `cup 0 0 1b5b313b3148 row=0 col=0 nopend`, with"
     " parameters that the size allows; the last one is `end`, and each ends with LF"
+)
+
+OPEN = (
+    "smcup, enacs, sgr0, rmacs, csr of the whole screen and clear, sent one after another, are to lead a terminal out of any"
+    " state, so they have to begin with ESC: a sequence that was cut off would take any other first byte as part of it"
 )
 
 # parts of what is said of a run
@@ -386,6 +433,8 @@ EXPLAINED = [
     (["check", "checks:c32", "2", "4"], "seen: 8 cells from row 0, column 0 to row 1, column 3 are blank, the cursor is at row 1, column 0"),
     (["check", "checks:c33", "2", "4"], "seen: nothing changes"),
     (["check", "checks:c34", "3", "4"], "seen: nothing changes"),
+    (["check", "checks:c42", "2", "2"], OPEN),
+    (["check", "checks:c43", "2", "4"], OPEN),
 ]
 
 # what begins no further line
@@ -463,6 +512,19 @@ def judge_checks():
     print(f"examples: {len(CHECKED)} entries are checked, and {len(verified)} certificates verify")
 
 
+def judge_system():
+    """`check` of entries of the system's database, those that it has."""
+    folders = subprocess.run(["infocmp", "-D"], capture_output=True, text=True, check=False).stdout.split() if shutil.which("infocmp") else []
+    paths = {name: path for name in SYSTEM for folder in reversed(folders) if os.path.isfile(path := f"{folder}/{name[0]}/{name}")}
+    cases = [Case(["check", path, "24", "80"]) for path in paths.values()]
+    for name, case, answer in zip(paths, cases, run_cases(f"{TOP}/crates/ticurses", cases, FILES)):
+        refused = next((line for line in answer.err.splitlines() if line.startswith(b"refused: no ")), None)
+        wanted = SYSTEM[name] and b"refused: no " + SYSTEM[name].encode()
+        if refused != wanted or answer.out.startswith(b"ticert 2 24 80\n") != (wanted is None):
+            sys.exit(f"examples: {case.words}: status {answer.status}, {answer.out[:200]}, {answer.err}")
+    print(f"examples: {len(paths)} of {len(SYSTEM)} entries of the system's database have their verdict")
+
+
 def judge_certificate_stored(work):
     """`check --out` writes the certificate and nothing else; where it refuses or fails, all files are as before."""
     stored = f"{work}/stored"
@@ -512,6 +574,19 @@ def judge_kept(work):
         sys.exit("examples: tic --out changed the permissions of its file")
 
 
+def judge_progress(work):
+    """On a terminal `survey` tells what it is at, a file and then its entry, and takes that away."""
+    with open(f"{work}/mini", "wb") as file:
+        file.write(MINI)
+    leader, follower = pty.openpty()
+    words = ["survey", "24", "80", "mini"]
+    ran = subprocess.run([f"{PROGRAM}/out/ticurses", *words], cwd=work, env={}, stdout=subprocess.PIPE, stderr=follower)
+    shown = os.read(leader, 4096)
+    judge(words, Told(ran.returncode, ran.stdout, b""), 0, "mini yes\ntotal 1, yes 1\n", "")
+    if shown != b"\r0 of 1: mini\r0 of 1: mini\r            \r":
+        sys.exit(f"examples: survey on a terminal showed {shown}")
+
+
 def judge_neither(told):
     """`infocmp -n` of x and z: flags, numbers and strings, each kind in the order of names; `am` and `el` are had."""
     lines = told.out.decode().splitlines()
@@ -541,7 +616,9 @@ def main():
             judge_explained(words, answer, last)
         judge_kept(work)
         judge_certificate_stored(work)
+        judge_progress(work)
         judge_checks()
+        judge_system()
     print(f"examples: {len(EXPLAINED)} failures are explained, and a file that can't be replaced is as before")
     print(f"examples: {len(RUNS)} runs told what they are to tell, and {len(WRITTEN)} of `tic --out` wrote their file or none")
 

@@ -49,4 +49,26 @@ grep -v '^#' tests/memory.txt | while read -r call; do
         exit 1
     fi
 done
+
+# `verify`, and `run` with what it hands out, ask too often for a round each. Request 100 of this program is refused, and before it verifies
+# it asks from 1 to 100 times.
+mkdir "$work/cases"
+word=
+for n in $(seq 100 199); do
+    word=x$word
+    : >"$work/cases/$n"
+    echo "$word" >"$work/cases/$n.args"
+done
+# shellcheck disable=SC2046
+lay "$work/verify" $(used tests/memory_probe.txt)
+cp tests/memory_probe.txt "$work/verify/crates/probe/src/main.rt"
+attempt "$work/verify" --steps 1 --cases "$work/cases" --fail-alloc 100
+must_run "$work/verify" "memory: verify fails where a request is refused"
+sed -n 's/^case=\([0-9]*\) run=ended status=\([0-9]*\) .*/\1 \2/p' "$work/verify.log" | sort | cut -d ' ' -f 2 >"$work/statuses"
+if [ "$(wc -l <"$work/statuses")" -ne 100 ] || [ "$(uniq "$work/statuses" | tr -d '\n')" != 0312 ]; then
+    cat "$work/verify.log" >&2
+    echo "memory: verify or run does not say that memory ran out where one of its requests is refused" >&2
+    exit 1
+fi
+echo "memory: $(grep -c 1 "$work/statuses") requests of verify and $(grep -c 3 "$work/statuses") of run are refused"
 echo "memory: $(grep -vc '^#' tests/memory.txt) calls are refused each of their requests in turn, $(($(sort -n "$work"/lane*.ended | head -n 1) - 1)) at most"

@@ -17,7 +17,7 @@ from crates import TOP, listed
 # reckoned: the toolchain's own gate took more than an hour on four processors that did other work beside it
 MINUTES = "90"
 # the scripts that run the program, which `rt ci` leaves built
-OF_PROGRAM = {"compiled.sh", "examples.sh", "expansions.sh", "infocmp.sh", "screens.sh"}
+OF_PROGRAM = {"compiled.sh", "examples.sh", "expansions.sh", "hello.sh", "infocmp.sh", "screens.sh", "scripts.sh", "tour.sh"}
 
 
 def minutes(since):

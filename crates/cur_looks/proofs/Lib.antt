@@ -7,3 +7,4 @@ pub mod Singling
 pub mod Lengths
 pub mod Verifying
 pub mod Moving
+pub mod Gaps

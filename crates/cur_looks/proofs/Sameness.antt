@@ -30,7 +30,7 @@ color_known Magenta = refl
 color_known Cyan = refl
 color_known White = refl
 
-color_equal : (a b : Option Color) → same_color a b ≡ true → a ≡ b
+pub color_equal : (a b : Option Color) → same_color a b ≡ true → a ≡ b
 color_equal None None h = refl
 color_equal None (Some d) h = absurd (cc)
 color_equal (Some c) None h = absurd (cc)

@@ -4,3 +4,4 @@ pub mod Inks
 pub mod Beliefs
 pub mod Singles
 pub mod Moves
+pub mod Gaps

@@ -1,20 +1,23 @@
 //! A cell, and the end of a line, each in as few of the single steps as its look needs.
-ghost use Rattle.std.specs.Prelude.{◌≡◌, ◌<◌, ℕ, Some, None, OnOk, IfOk};
+ghost use Rattle.std.specs.Prelude.{◌≡◌, ◌<◌, ℕ, true, Some, None, OnOk, IfOk};
 ghost use Rattle.cur_steps.specs.Steps.{Steps};
 ghost use Rattle.ti_rows.specs.declared.rows.Row.TheVariants.{El};
 ghost use Rattle.cur_looks.specs.Certified.{IsPiece, IsLost, cell_limit};
-ghost use Rattle.cur_looks.specs.Inks.{IsInk, IsColored, put_at, tail_blank, plain_brush};
+ghost use Rattle.cur_looks.specs.Inks.{CanShow, IsInk, IsColored, put_at, tail_blank, plain_brush};
 ghost use Rattle.cur_looks.specs.Beliefs.{Agrees, Belief, plain_limit, colors_limit, brush_limit, ready_limit, stamp_limit};
+ghost use Rattle.cur_looks.specs.Gaps.{BeginsAs};
 ghost use Rattle.cur_looks.specs.declared.inks.Ink.{Ink};
 
 use crate::beliefs::Belief;
 use crate::certificates::Certificate;
-use crate::inks::{Brush, Ink, same_brush};
+use crate::inks::{Brush, Ink, View, same_attributes};
+use crate::reaching::reach;
 use crate::steps::{
-    attributes_as, background_as, colors_off, erase_tail, foreground_as, move_to, print_at, set_as,
+    attributes_as, background_as, colors_off, erase_tail, foreground_as, print_at, set_as,
 };
 use cur_wires::{Wire, WireFault};
 use ti_rows::Attributes;
+use vt_term::Color;
 
 /// The attributes become these, and the colours the default ones.
 fn plainly_as<C: Certificate, W: Wire>(
@@ -32,14 +35,16 @@ fn plainly_as<C: Certificate, W: Wire>(
     attributes_as(checked, belief, wire, wanted)
 }
 
-/// The colours become these, from the default ones.
+/// The colours become these, where none of them becomes the default one.
 fn colors_as<C: Certificate, W: Wire>(
     checked: &C,
     belief: &mut Belief,
     wire: &mut W,
     wanted: Brush,
 ) -> Result<(), WireFault>
-    requires attributes { belief.old.brush ≡ record { attributes = wanted.attributes; foreground = None; background = None } }
+    requires attributes { belief.old.brush.attributes ≡ wanted.attributes }
+    requires foreground { wanted.foreground ≡ None → belief.old.brush.foreground ≡ None }
+    requires background { wanted.background ≡ None → belief.old.brush.background ≡ None }
     requires colored { IsColored (C.table checked.now) wanted }
     ensures brush { OnOk result (belief.new.brush ≡ wanted) }
     ensures place { OnOk result (belief.new.place ≡ belief.old.place) }
@@ -48,6 +53,31 @@ fn colors_as<C: Certificate, W: Wire>(
 {
     foreground_as(checked, belief, wire, wanted.foreground)?;
     background_as(checked, belief, wire, wanted.background)
+}
+
+/// Whether a colour is wanted, or the default one is there already.
+fn needs_no_default(now: Option<Color>, wanted: Option<Color>) -> bool
+    ensures { result ≡ true → wanted ≡ None → now ≡ None }
+{
+    matches!((now, wanted), (None, _) | (_, Some(_)))
+}
+
+/// Whether no colour becomes the default one.
+fn needs_no_defaults(now: Brush, wanted: Brush) -> bool
+    ensures foreground { result ≡ true → wanted.foreground ≡ None → now.foreground ≡ None }
+    ensures background { result ≡ true → wanted.background ≡ None → now.background ≡ None }
+{
+    needs_no_default(now.foreground, wanted.foreground)
+        && needs_no_default(now.background, wanted.background)
+}
+
+/// Whether one brush becomes another by its colours, none of which becomes the default one.
+fn is_recolored(now: Brush, wanted: Brush) -> bool
+    ensures attributes { result ≡ true → now.attributes ≡ wanted.attributes }
+    ensures foreground { result ≡ true → wanted.foreground ≡ None → now.foreground ≡ None }
+    ensures background { result ≡ true → wanted.background ≡ None → now.background ≡ None }
+{
+    same_attributes(now.attributes, wanted.attributes) && needs_no_defaults(now, wanted)
 }
 
 /// The brush becomes this one.
@@ -63,32 +93,33 @@ fn brush_as<C: Certificate, W: Wire>(
     ensures step { (g : ℕ → ℕ → Ink) → Steps W.went W.failures wire.old wire.new result (IsPiece (C.table checked.now)) (brush_limit (C.table checked.now))
         (IsLost (C.table checked.now)) (Agrees (C.table checked.now) g belief.old) (Agrees (C.table checked.now) g belief.new) }
 {
-    let _ = checked.rows();
-    if same_brush(belief.brush, wanted) {
-        return Ok(());
+    if is_recolored(belief.brush, wanted) {
+        return colors_as(checked, belief, wire, wanted);
     }
     plainly_as(checked, belief, wire, wanted.attributes)?;
     colors_as(checked, belief, wire, wanted)
 }
 
 /// The cursor is in a place, and the brush is this one.
-fn poise<C: Certificate, W: Wire>(
+fn poise<C: Certificate, N: View, W: Wire>(
     checked: &C,
     belief: &mut Belief,
     wire: &mut W,
+    shown: &N,
     row: usize,
     col: usize,
     wanted: Brush,
 ) -> Result<(), WireFault>
+    requires drawable { CanShow (C.table checked.now) (N.cells shown.now) }
     requires row { row < (C.table checked.now).rows }
     requires col { col < (C.table checked.now).cols }
     requires colored { IsColored (C.table checked.now) wanted }
     ensures brush { OnOk result (belief.new.brush ≡ wanted) }
     ensures place { OnOk result (belief.new.place ≡ Some (record { row = row; col = col })) }
-    ensures step { (g : ℕ → ℕ → Ink) → Steps W.went W.failures wire.old wire.new result (IsPiece (C.table checked.now)) (ready_limit (C.table checked.now))
+    ensures step { (g : ℕ → ℕ → Ink) → BeginsAs g (N.cells shown.now) row col → Steps W.went W.failures wire.old wire.new result (IsPiece (C.table checked.now)) (ready_limit (C.table checked.now))
         (IsLost (C.table checked.now)) (Agrees (C.table checked.now) g belief.old) (Agrees (C.table checked.now) g belief.new) }
 {
-    move_to(checked, belief, wire, row, col)?;
+    reach(checked, belief, wire, shown, row, col)?;
     brush_as(checked, belief, wire, wanted)
 }
 
@@ -112,40 +143,44 @@ fn stamp<C: Certificate, W: Wire>(
     print_at(checked, belief, wire, row, col, ink)
 }
 
-/// One cell.
-pub fn put_cell<C: Certificate, W: Wire>(
+/// A cell of a line that is shown as far as that place.
+pub fn put_cell<C: Certificate, N: View, W: Wire>(
     checked: &C,
     belief: &mut Belief,
     wire: &mut W,
+    shown: &N,
     row: usize,
     col: usize,
     ink: Ink,
 ) -> Result<(), WireFault>
+    requires drawable { CanShow (C.table checked.now) (N.cells shown.now) }
     requires row { row < (C.table checked.now).rows }
     requires col { col < (C.table checked.now).cols }
     requires ink { IsInk (C.table checked.now) ink }
-    ensures step { (g : ℕ → ℕ → Ink) → Steps W.went W.failures wire.old wire.new result (IsPiece (C.table checked.now)) (cell_limit (C.table checked.now))
+    ensures step { (g : ℕ → ℕ → Ink) → BeginsAs g (N.cells shown.now) row col → Steps W.went W.failures wire.old wire.new result (IsPiece (C.table checked.now)) (cell_limit (C.table checked.now))
         (IsLost (C.table checked.now)) (Agrees (C.table checked.now) g belief.old) (Agrees (C.table checked.now) (put_at row col ink g) belief.new) }
 {
-    poise(checked, belief, wire, row, col, ink.brush)?;
+    poise(checked, belief, wire, shown, row, col, ink.brush)?;
     stamp(checked, belief, wire, row, col, ink)
 }
 
-/// A line is blank from a place on.
-pub fn blank_tail<C: Certificate, W: Wire>(
+/// A line that is shown as far as a place is blank from there on.
+pub fn blank_tail<C: Certificate, N: View, W: Wire>(
     checked: &C,
     belief: &mut Belief,
     wire: &mut W,
+    shown: &N,
     row: usize,
     col: usize,
     tail: &[u8],
 ) -> Result<(), WireFault>
+    requires drawable { CanShow (C.table checked.now) (N.cells shown.now) }
     requires row { row < (C.table checked.now).rows }
     requires col { col < (C.table checked.now).cols }
     requires tail { (C.table checked.now).line_of El ≡ Some tail.now }
-    ensures step { (g : ℕ → ℕ → Ink) → Steps W.went W.failures wire.old wire.new result (IsPiece (C.table checked.now)) (cell_limit (C.table checked.now))
+    ensures step { (g : ℕ → ℕ → Ink) → BeginsAs g (N.cells shown.now) row col → Steps W.went W.failures wire.old wire.new result (IsPiece (C.table checked.now)) (cell_limit (C.table checked.now))
         (IsLost (C.table checked.now)) (Agrees (C.table checked.now) g belief.old) (Agrees (C.table checked.now) (tail_blank row col g) belief.new) }
 {
-    poise(checked, belief, wire, row, col, Brush::plain())?;
+    poise(checked, belief, wire, shown, row, col, Brush::plain())?;
     erase_tail(checked, tail, belief, wire, row, col)
 }

@@ -12,7 +12,7 @@ ghost use Rattle.cur_looks.specs.declared.inks.Ink.{Ink};
 
 use crate::beliefs::{Belief, Place};
 use crate::certificates::Certificate;
-use crate::inks::{Brush, Ink, same_attributes};
+use crate::inks::{Brush, Ink, same_attributes, same_color};
 use crate::lines::send_line;
 use crate::moves::shortest;
 use crate::singles::attributes_singly;
@@ -22,7 +22,7 @@ use vt_term::Color;
 
 /// The cursor goes to a place, if it isn't known to be there, by the shortest line that leads there from
 /// what is known of its place.
-pub fn move_to<C: Certificate, W: Wire>(
+pub(crate) fn move_to<C: Certificate, W: Wire>(
     checked: &C,
     belief: &mut Belief,
     wire: &mut W,
@@ -140,14 +140,18 @@ pub(crate) fn foreground_as<C: Certificate, W: Wire>(
     wire: &mut W,
     wanted: Option<Color>,
 ) -> Result<(), WireFault>
-    requires now { belief.old.brush.foreground ≡ None }
+    requires now { wanted ≡ None → belief.old.brush.foreground ≡ None }
     requires colors { has (C.table checked.now) Op ≡ false → wanted ≡ None }
     ensures belief { belief.new ≡ record belief.old { brush = record belief.old.brush { foreground = wanted } } }
     ensures step { (g : ℕ → ℕ → Ink) → Steps W.went W.failures wire.old wire.new result (IsPiece (C.table checked.now)) (C.table checked.now).longest.setaf
         (IsLost (C.table checked.now)) (Agrees (C.table checked.now) g belief.old) (Agrees (C.table checked.now) g belief.new) }
 {
     let _ = checked.rows();
+    let same = same_color(belief.brush.foreground, wanted);
     belief.brush.foreground = wanted;
+    if same {
+        return Ok(());
+    }
     let Some(color) = wanted else {
         return Ok(());
     };
@@ -164,14 +168,18 @@ pub(crate) fn background_as<C: Certificate, W: Wire>(
     wire: &mut W,
     wanted: Option<Color>,
 ) -> Result<(), WireFault>
-    requires now { belief.old.brush.background ≡ None }
+    requires now { wanted ≡ None → belief.old.brush.background ≡ None }
     requires colors { has (C.table checked.now) Op ≡ false → wanted ≡ None }
     ensures belief { belief.new ≡ record belief.old { brush = record belief.old.brush { background = wanted } } }
     ensures step { (g : ℕ → ℕ → Ink) → Steps W.went W.failures wire.old wire.new result (IsPiece (C.table checked.now)) (C.table checked.now).longest.setab
         (IsLost (C.table checked.now)) (Agrees (C.table checked.now) g belief.old) (Agrees (C.table checked.now) g belief.new) }
 {
     let _ = checked.rows();
+    let same = same_color(belief.brush.background, wanted);
     belief.brush.background = wanted;
+    if same {
+        return Ok(());
+    }
     let Some(color) = wanted else {
         return Ok(());
     };
@@ -213,7 +221,7 @@ fn row_of_set(graphic: bool) -> Row
 }
 
 /// Whether a set is known to be the active one.
-fn is_active(now: Option<bool>, graphic: bool) -> bool
+pub(crate) fn is_active(now: Option<bool>, graphic: bool) -> bool
     ensures { result ≡ true → now ≡ Some graphic }
 {
     match now {

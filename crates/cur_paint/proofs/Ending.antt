@@ -17,6 +17,7 @@ use Rattle.cur_looks.specs.declared.inks.Ink.{Ink}
 use Rattle.cur_looks.specs.Certified.{Table, IsLost, IsReady, IsChecked, IsLine, IsPiece, Line, Ended, or_nothing, text_of}
 use Rattle.cur_looks.proofs.Doing.{ready_lost}
 use Rattle.cur_looks.proofs.Turning.{any_of, free_of, by_screen}
+use Rattle.cur_paint.specs.Cleared.{IsLeft}
 use Rattle.cur_paint.specs.Update.{Fits, IsFresh}
 use Rattle.cur_paint.specs.Finish.{from_cnorm_text, from_cup_text, from_rmacs_text, end_text, finish_text}
 use Rattle.cur_paint.specs.declared.updates.Status.{Status}
@@ -123,5 +124,5 @@ finish_leads t checked g Known b =
     record { most = k.most; leads = leads_wider (IsPiece t) k.most k.most (IsLost t) (IsReady t) (IsFresh t) (Fits t g Known b) (IsFresh t) (end_text t) (omega arith) (λ s h. h.ready) (λ s h. h) k.leads }
 finish_leads t checked g Lost b =
     let k = end_leads t checked in
-    let r = leads_wider (IsPiece t) (length t.resync) (length t.resync) (IsLost t) (IsLost t) _ (IsLost t) (IsReady t) t.resync (omega arith) (λ s h. h) (λ s h. h.ready) (resync_leads t checked) in
+    let r = leads_wider (IsPiece t) (length t.resync) (length t.resync) (IsLost t) (IsLeft t None) _ (IsLost t) (IsReady t) t.resync (omega arith) (λ s h. record { lost = h; seen = tt }) (λ s h. h.ready) (resync_leads t checked None) in
     record { most = _; leads = leads_then (IsPiece t) _ _ (IsLost t) (IsLost t) (IsReady t) (IsFresh t) t.resync (end_text t) r k.leads }

@@ -3,6 +3,7 @@ use Rattle.std.proofs.Common.{◌≡◌, ℕ, ◌+◌, ◌-◌, ◌*◌, ◌<◌
 use Rattle.std.proofs.lemmas.Bool.Decides.{nat_tests}
 use Rattle.std.proofs.lemmas.Bool.{cases_lt}
 use Rattle.cur_looks.specs.Inks.{same, mixed, put_at, tail_blank, blank_ink}
+use Rattle.cur_looks.specs.Gaps.{BeginsAs}
 use Rattle.cur_paint.specs.Differ.{differs, span, all_differ}
 use Rattle.cur_looks.specs.Certified.{Table}
 use Rattle.cur_looks.specs.Beliefs.{Agrees}
@@ -24,6 +25,10 @@ mixed_same old new r c i j e = grind (arith, nat_tests)
 
 pub mixed_blank : (old new : ℕ → ℕ → Ink) (r c cols i j : ℕ) → j < cols → ((k : ℕ) → c ≤ k → k < cols → new r k ≡ blank_ink) → tail_blank r c (mixed old new r c) i j ≡ mixed old new r cols i j
 mixed_blank old new r c cols i j lt h = grind (arith, nat_tests, h j)
+
+-- the line is new as far as the place
+pub mixed_before : (old new : ℕ → ℕ → Ink) (r c : ℕ) → BeginsAs (mixed old new r c) new r c
+mixed_before old new r c k lt = grind (arith, nat_tests)
 
 pub mixed_row : (old new : ℕ → ℕ → Ink) (r cols i j : ℕ) → j < cols → mixed old new r cols i j ≡ mixed old new (r + 1) 0 i j
 mixed_row old new r cols i j lt = grind (arith, nat_tests)

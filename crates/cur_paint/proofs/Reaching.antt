@@ -217,15 +217,15 @@ cursor_reaches t checked g b (Some p) mode clear w e =
     (agrees_shows t g d (record { cursor = Some p; mode = mode; clear = clear }) refl e) (reaches_has t checked (Cup p.row p.col) (checked.moves p.row p.col w.0 w.1) g g b d (moved t g b p.row p.col))
 
 -- a state after the resynchronization
-pub blank_agrees : (t : Table) (seen : Bool) (s : State) → IsBlank t seen s → Agrees t (λ i j. blank_ink) at_start s
-blank_agrees t seen s h = record {
+pub blank_agrees : (t : Table) (mode : Option Mode) (seen : Bool) → IsSeen mode seen → (s : State) → IsBlank t seen s → Agrees t (λ i j. blank_ink) (at_start mode) s
+blank_agrees t mode seen so s h = record {
   ready = h.ready;
   cells = h.cells;
   place = (h.row, h.col, h.pending);
   brush = h.rendition;
   colored = record { foreground = λ e. refl; background = λ e. refl };
   set = h.set;
-  seen = tt;
+  seen = subst (λ (b : Bool). IsSeen mode b) (sym h.visible) so;
 }
 
 -- [Cut anywhere]: the completion of what was cut short
@@ -239,7 +239,7 @@ anywhere_shows t checked new fit w within can =
       pieces = checked.resync_pieces;
       made = checked.resync_made;
       each = checked.resync_each;
-      ends = λ s a. ends_as s t.resync (IsBlank t s.screen.visible) (Agrees t (mixed blank new 0 0) unknown) (λ u h. none_done t blank new unknown u (forget t blank at_start refl u (blank_agrees t s.screen.visible u h))) (checked.resyncs s a);
+      ends = λ s a. ends_as s t.resync (IsBlank t s.screen.visible) (Agrees t (mixed blank new 0 0) unknown) (λ u h. none_done t blank new unknown u (forget t blank (at_start None) refl u (blank_agrees t None s.screen.visible tt u h))) (checked.resyncs s a);
     })
     (reaches_then (IsPiece t) _ (Agrees t (mixed blank new t.rows 0) unknown) _ (rows_reach t checked new fit blank t.rows (omega arith))
     (reaches_as (IsPiece t) (Agrees t new unknown) (Shows t new w) (Agrees t (mixed blank new t.rows 0) unknown) (Shows t new w) (all_done t blank new unknown) (λ s h. h)

@@ -1,5 +1,5 @@
 -- All anew: what begins with the resynchronization, or with the clearing.
-use Rattle.std.proofs.Common.{◌≡◌, ℕ, ◌+◌, ◌≤◌, Bool, true, false, List, [], ◌++◌, length, Some, Result, Err, refl, sym, ap, subst, ◌∙◌, arith}
+use Rattle.std.proofs.Common.{◌≡◌, ℕ, ◌+◌, ◌≤◌, Bool, true, false, List, [], ◌++◌, length, Option, Some, None, Result, Err, refl, sym, ap, subst, ◌∙◌, arith}
 use Rattle.std.proofs.lemmas.List.{append-nil}
 use Rattle.std.specs.Prelude.{OnOk}
 use Rattle.vt_term.specs.Look.{Rendition, blank}
@@ -17,8 +17,10 @@ use Rattle.cur_looks.specs.declared.inks.Ink.{Ink}
 use Rattle.cur_looks.specs.Certified.{Table, IsLost, IsBlank, IsChecked, IsPiece}
 use Rattle.cur_looks.specs.Inks.{blank_ink}
 use Rattle.cur_looks.specs.Beliefs.{Agrees, Turns}
+use Rattle.cur_looks.specs.declared.beliefs.Mode.{Mode}
+use Rattle.cur_looks.specs.declared.beliefs.Mode.TheVariants.{Normal}
 use Rattle.cur_looks.proofs.Turning.{free_of, by_screen, look_at-drawn}
-use Rattle.cur_paint.specs.Cleared.{at_start, cleared}
+use Rattle.cur_paint.specs.Cleared.{IsLeft, at_start, cleared}
 use Rattle.cur_paint.specs.Limits.{fresh_limit, IsPlaced, paint_limit}
 use Rattle.cur_paint.specs.Update.{Anew, Draws, IsFresh}
 use Rattle.cur_paint.specs.declared.updates.Wanted.{Wanted}
@@ -53,14 +55,14 @@ anew_then went failures laws a m z answer t A B C first k le h sent steps =
       begins = record { more = steps.bytes; begins = refl };
     }
 
-pub resync_leads : (t : Table) → IsChecked t → Leads (IsPiece t) (length t.resync) (IsLost t) (IsLost t) t.resync (Agrees t (λ i j. blank_ink) at_start)
-resync_leads t checked = record {
+pub resync_leads : (t : Table) → IsChecked t → (mode : Option Mode) → Leads (IsPiece t) (length t.resync) (IsLost t) (IsLeft t mode) t.resync (Agrees t (λ i j. blank_ink) (at_start mode))
+resync_leads t checked mode = record {
   pieces = checked.resync_pieces;
   made = checked.resync_made;
   each = checked.resync_each;
   bound = omega arith;
-  ends = λ s a. ends_as s t.resync (IsBlank t s.screen.visible) (Agrees t (λ i j. blank_ink) at_start) (blank_agrees t s.screen.visible) (checked.resyncs s a);
-  cut = λ front back e s a. checked.resync_fronts s a front back e;
+  ends = λ s a. ends_as s t.resync (IsBlank t s.screen.visible) (Agrees t (λ i j. blank_ink) (at_start mode)) (blank_agrees t mode s.screen.visible a.seen) (checked.resyncs s a.lost);
+  cut = λ front back e s a. checked.resync_fronts s a.lost front back e;
 }
 
 -- all is erased on the background that is set
@@ -87,22 +89,28 @@ pub clear_leads : (t : Table) → IsChecked t → (line : List ℕ) → t.line_o
 clear_leads t checked line is g b = line_leads t checked Clear line is (length line) (omega arith) g (cleared b.brush.background) b (record b { place = Some (record { row = 0; col = 0 }) }) (all_cleared t g b)
 
 pub draws_fresh : {W T E : Type 0} (went : W → W → List ℕ → Type 0) (failures : W → ℕ) (a z : W) (answer : Result T E) (t : Table) (shown g : ℕ → ℕ → Ink) (w : Wanted) (status : Status) (b after : Belief) → status ≡ Fresh
-    → Anew went failures a z answer t (IsLost t) (Agrees t g after) t.resync → OnOk answer (IsPlaced w.cursor after.place) → OnOk answer (after.mode ≡ Some w.mode) → Draws went failures a z answer t shown g w status b after
+    → Anew went failures a z answer t (IsLeft t (Some Normal)) (Agrees t g after) t.resync → OnOk answer (IsPlaced w.cursor after.place) → OnOk answer (after.mode ≡ Some w.mode) → Draws went failures a z answer t shown g w status b after
 draws_fresh went failures a z answer t shown g w status b after e h there mode =
     let D : State → Type 0 = then_kind answer (Agrees t g after) (IsLost t) in
     let P : Status → Type 0 = λ x. Draws went failures a z answer t shown g w x b after in
     subst P (sym e) (record {
-      step = record { bytes = h.step.bytes; leads = leads_wider (IsPiece t) (fresh_limit t) (fresh_limit t) (IsLost t) (IsLost t) D (IsFresh t) D h.step.bytes (omega arith) (λ s x. x.lost) (λ s x. x) h.step.leads; sends = h.step.sends };
+      step = record { bytes = h.step.bytes; leads = leads_wider (IsPiece t) (fresh_limit t) (fresh_limit t) (IsLost t) (IsLeft t (Some Normal)) D (IsFresh t) D h.step.bytes (omega arith) (λ s x. record { lost = x.lost; seen = x.visible }) (λ s x. x) h.step.leads; sends = h.step.sends };
       begins = h.begins;
       there = there;
       mode = mode;
     })
 
 pub draws_lost : {W T E : Type 0} (went : W → W → List ℕ → Type 0) (failures : W → ℕ) (a z : W) (answer : Result T E) (t : Table) (shown g : ℕ → ℕ → Ink) (w : Wanted) (status : Status) (b after : Belief) → status ≡ Lost
-    → Anew went failures a z answer t (IsLost t) (Agrees t g after) t.resync → OnOk answer (IsPlaced w.cursor after.place) → OnOk answer (after.mode ≡ Some w.mode) → Draws went failures a z answer t shown g w status b after
+    → Anew went failures a z answer t (IsLeft t None) (Agrees t g after) t.resync → OnOk answer (IsPlaced w.cursor after.place) → OnOk answer (after.mode ≡ Some w.mode) → Draws went failures a z answer t shown g w status b after
 draws_lost went failures a z answer t shown g w status b after e h there mode =
+    let D : State → Type 0 = then_kind answer (Agrees t g after) (IsLost t) in
     let P : Status → Type 0 = λ x. Draws went failures a z answer t shown g w x b after in
-    subst P (sym e) (record { step = h.step; begins = h.begins; there = there; mode = mode })
+    subst P (sym e) (record {
+      step = record { bytes = h.step.bytes; leads = leads_wider (IsPiece t) (fresh_limit t) (fresh_limit t) (IsLost t) (IsLeft t None) D (IsLost t) D h.step.bytes (omega arith) (λ s x. record { lost = x; seen = tt }) (λ s x. x) h.step.leads; sends = h.step.sends };
+      begins = h.begins;
+      there = there;
+      mode = mode;
+    })
 
 as_wanted : (w : Wanted) (x : Bool) → w.clear ≡ x → w ≡ record w { clear = x }
 as_wanted w x e = ap (λ (y : Bool). record w { clear = y }) e

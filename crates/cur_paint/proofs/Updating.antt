@@ -34,6 +34,7 @@ refreshed went failures a z v t shown g w before after d = record {
   };
   fits = d.step.leads.ends;
   known = refl;
+  there = d.there;
   mode = d.mode;
 }
 

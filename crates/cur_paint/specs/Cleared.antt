@@ -1,7 +1,11 @@
 -- What is on the screen, and known of the terminal, after all was erased.
-use Rattle.std.specs.Prelude.{ℕ, false, Option, Some, None}
+use Rattle.std.specs.Prelude.{ℕ, false, Option, Some}
 use Rattle.vt_term.specs.Color.{Color}
+use Rattle.vt_term.specs.Screen.{State}
+use Rattle.cur_looks.specs.Certified.{Table, IsLost}
 use Rattle.cur_looks.specs.Inks.{blank_ink, plain_brush}
+use Rattle.cur_looks.specs.Beliefs.{IsSeen}
+use Rattle.cur_looks.specs.declared.beliefs.Mode.{Mode}
 use Rattle.cur_looks.specs.declared.beliefs.Belief.{Belief}
 use Rattle.cur_looks.specs.declared.inks.Ink.{Ink}
 
@@ -9,5 +13,11 @@ use Rattle.cur_looks.specs.declared.inks.Ink.{Ink}
 abbrev pub cleared : Option Color → ℕ → ℕ → Ink
 cleared background i j = record blank_ink { brush = record plain_brush { background = background } }
 
-abbrev pub at_start : Belief
-at_start = record { place = Some (record { row = 0; col = 0 }); brush = plain_brush; graphic = Some false; mode = None }
+-- after the resynchronization, which leaves the cursor as visible as it was
+abbrev pub at_start : Option Mode → Belief
+at_start mode = record { place = Some (record { row = 0; col = 0 }); brush = plain_brush; graphic = Some false; mode = mode }
+
+-- nothing is known but what is believed of the cursor's mode
+pub record IsLeft (t : Table) (mode : Option Mode) (s : State) : Type 0 where
+  pub lost : IsLost t s
+  pub seen : IsSeen mode s.screen.visible

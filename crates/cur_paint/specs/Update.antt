@@ -91,6 +91,7 @@ pub record Refreshed {W : Type 0} (went : W → W → List ℕ → Type 0) (old 
   pub lawful : Lawful t (Fits t shown before.status before.belief) before.status bytes g w
   pub fits : (s : State) → Fits t shown before.status before.belief s → Ends s bytes (Fits t g Known after.belief)
   pub known : after.status ≡ Known
+  pub there : IsPlaced w.cursor after.belief.place
   pub mode : after.belief.mode ≡ Some w.mode
 
 -- A refresh that the wire cut short: a front of lawful bytes went out, and the terminal may be in any state that fits a lost session.

@@ -31,7 +31,7 @@ fn mend_cell<C: Certificate, O: View, N: View, W: Wire>(
     if is_same(old.at(row, col), cell) {
         return Ok(());
     }
-    put_cell(checked, belief, wire, row, col, cell)
+    put_cell(checked, belief, wire, new, row, col, cell)
 }
 
 /// So many cells of a line from a column on.
@@ -111,7 +111,7 @@ fn mend_tail<C: Certificate, O: View, N: View, W: Wire>(
         return mend_span(checked, belief, wire, old, new, row, from, count);
     }
     match checked.line(Row::El) {
-        Some(tail) => blank_tail(checked, belief, wire, row, from, tail),
+        Some(tail) => blank_tail(checked, belief, wire, new, row, from, tail),
         None => mend_span(checked, belief, wire, old, new, row, from, count),
     }
 }

@@ -7,7 +7,7 @@ ghost use Rattle.cur_looks.specs.Beliefs.{Agrees, CanHide};
 ghost use Rattle.cur_looks.specs.declared.inks.Ink.{Ink};
 ghost use Rattle.cur_paint.specs.Limits.{IsWithin, IsPlaced};
 ghost use Rattle.cur_paint.specs.declared.updates.Status.TheVariants.{Fresh};
-ghost use Rattle.cur_paint.specs.Cleared.{at_start, cleared};
+ghost use Rattle.cur_paint.specs.Cleared.{IsLeft, at_start, cleared};
 ghost use Rattle.cur_paint.specs.Update.{Anew, Draws, Refreshes};
 
 use crate::painting::paint;
@@ -49,20 +49,20 @@ impl Session {
     {
         Session {
             status: Status::Fresh,
-            belief: start_belief(),
+            belief: start_belief(None),
         }
     }
 }
 
 /// What is known after the resynchronization.
-fn start_belief() -> Belief
-    ensures value { result ≡ at_start }
+fn start_belief(mode: Option<Mode>) -> Belief
+    ensures value { result ≡ at_start mode }
 {
     Belief {
         place: Some(Place { row: 0, col: 0 }),
         brush: Brush::plain(),
         graphic: Some(false),
-        mode: None,
+        mode,
     }
 }
 
@@ -86,11 +86,12 @@ impl View for Cleared {
     }
 }
 
-/// From any lost state: all anew.
+/// From any lost state in which the cursor is shown in this mode, if it is known: all anew.
 fn repaint<C: Certificate, N: View, W: Wire>(
     checked: &C,
     belief: &mut Belief,
     wire: &mut W,
+    shown_as: Option<Mode>,
     new: &N,
     wanted: Wanted,
 ) -> Result<(), WireFault>
@@ -99,10 +100,10 @@ fn repaint<C: Certificate, N: View, W: Wire>(
     requires lines { CanHide (C.table checked.now) wanted.mode }
     ensures there { OnOk result (IsPlaced wanted.cursor belief.new.place) }
     ensures mode { OnOk result (belief.new.mode ≡ Some wanted.mode) }
-    ensures step { Anew W.went W.failures wire.old wire.new result (C.table checked.now) (IsLost (C.table checked.now)) (Agrees (C.table checked.now) (N.cells new.now) belief.new) (C.table checked.now).resync }
+    ensures step { Anew W.went W.failures wire.old wire.new result (C.table checked.now) (IsLeft (C.table checked.now) shown_as) (Agrees (C.table checked.now) (N.cells new.now) belief.new) (C.table checked.now).resync }
 {
     let _ = checked.rows();
-    *belief = start_belief();
+    *belief = start_belief(shown_as);
     send_all(wire, checked.resync())?;
     paint(
         checked,
@@ -175,8 +176,8 @@ fn draw<C: Certificate, O: View, N: View, W: Wire>(
             wanted.mode,
         ),
         (Status::Known, true) => clear_first(checked, belief, wire, new, wanted),
-        (Status::Fresh, _) => repaint(checked, belief, wire, new, wanted),
-        (Status::Lost, _) => repaint(checked, belief, wire, new, wanted),
+        (Status::Fresh, _) => repaint(checked, belief, wire, Some(Mode::Normal), new, wanted),
+        (Status::Lost, _) => repaint(checked, belief, wire, None, new, wanted),
     }
 }
 

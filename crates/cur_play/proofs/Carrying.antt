@@ -21,8 +21,8 @@ use Rattle.cur_update.specs.Differ.{in_lines}
 use Rattle.cur_update.specs.Inks.{ink_at}
 use Rattle.cur_update.specs.Paper.{on_paper, Drawing}
 use Rattle.cur_update.specs.Painters.{Painted, place_of, wanted_of}
-use Rattle.cur_play.specs.Bounds.{is_shown, last_after, most}
-use Rattle.cur_play.specs.Carrying.{FitsIn, IsLast, Carries}
+use Rattle.cur_play.specs.Bounds.{is_shown, last_after, mode_after, most}
+use Rattle.cur_play.specs.Carrying.{FitsIn, IsLast, IsSettled, Carries}
 use Rattle.cur_play.specs.Outputs.{IsQuiet, Showed, ShowedShort, Puts}
 use Rattle.cur_play.specs.declared.answers.Answer.{Answer}
 use Rattle.cur_play.specs.declared.answers.Answer.TheVariants.{Done, Was, Refused, WireFailed}
@@ -52,6 +52,25 @@ stays t before after e f s p =
 keeps_last : {C : Type 0} (t : Table) (partners : ℕ → Option ℕ) (before after : Painted C) (last : Screen) → (after.session.status ≡ Known → before.session.status ≡ Known) → after.paper ≡ before.paper
     → IsLast t partners before last → IsLast t partners after last
 keeps_last t partners before after last known paper h e = ap on_paper paper ∙ h (known e)
+
+-- the mode shown last changes only with what is shown
+mode_kept : (o : Output) (answer : Answer) (last m : Mode) → is_shown o answer ≡ false → mode_after o answer last m ≡ last
+mode_kept Update Done last m e = absurd (cc)
+mode_kept Update (Was n) last m e = refl
+mode_kept Update (Refused r) last m e = refl
+mode_kept Update WireFailed last m e = refl
+mode_kept Nothing answer last m e = refl
+mode_kept Bell answer last m e = refl
+mode_kept End answer last m e = refl
+
+settled_on : {C : Type 0} (before after : Painted C) (v : Screen) (o : Output) (answer : Answer) (last : Screen) (last_mode : Mode) → is_shown o answer ≡ false → ((last : Screen) → last_after o answer last v ≡ last)
+    → (after.session.status ≡ Known → after.session ≡ before.session) → IsSettled before last last_mode → IsSettled after (last_after o answer last v) (mode_after o answer last_mode before.mode)
+settled_on before after v o answer last last_mode none same kept h known =
+    let P : Session → Type 0 = λ x. x.status ≡ Known → IsPlaced (place_of last.cursor) x.belief.place × (x.belief.mode ≡ Some last_mode) in
+    let Q : Screen → Type 0 = λ x. IsPlaced (place_of x.cursor) after.session.belief.place × (after.session.belief.mode ≡ Some (mode_after o answer last_mode before.mode)) in
+    let R : Mode → Type 0 = λ x. IsPlaced (place_of last.cursor) after.session.belief.place × (after.session.belief.mode ≡ Some x) in
+    let here : P after.session = subst P (sym (kept known)) h in
+    subst Q (sym (same last)) (subst R (sym (mode_kept o answer last_mode before.mode none)) (here known))
 
 fresh_unknown : (s : Status) → s ≡ Fresh → s ≡ Known → ⊥
 fresh_unknown s e f = cc
@@ -88,6 +107,7 @@ quietly {W} went failures laws old new t partners v o answer before after none s
   shows = λ e. absurd (cc);
   last = λ last h. (let P : Screen → Type 0 = λ x. IsLast t partners after x in
       subst P (sym (same last)) (keeps_last t partners before after last (λ k. ap (λ (x : Session). x.status) (sym q.session) ∙ k) q.paper h));
+  settled = λ last m h. settled_on before after v o answer last m none same (λ k. q.session) h;
   bound = λ e last rows cols h. omega arith;
   idle = λ e last rows cols h k. refl;
   quiet = λ e. refl;
@@ -96,14 +116,15 @@ quietly {W} went failures laws old new t partners v o answer before after none s
 -- all went out, or a front of it, without showing the screen
 otherwise : {W C : Type 0} (went : W → W → List ℕ → Type 0) (old new : W) (t : Table) (partners : ℕ → Option ℕ) (v : Screen) (o : Output) (answer : Answer) (before after : Painted C) (bytes : List ℕ)
     → is_shown o answer ≡ false → ((last : Screen) → last_after o answer last v ≡ last) → (o ≡ Update → ⊥) → (o ≡ Nothing → ⊥)
-    → went old new bytes → ((s : State) → FitsIn t before s → Ends s bytes (FitsIn t after)) → (after.session.status ≡ Known → before.session.status ≡ Known) → after.paper ≡ before.paper
+    → went old new bytes → ((s : State) → FitsIn t before s → Ends s bytes (FitsIn t after)) → (after.session.status ≡ Known → after.session ≡ before.session) → after.paper ≡ before.paper
     → Carries went old new t partners v o answer before after
-otherwise went old new t partners v o answer before after bytes none same other some sent fits known paper = record {
+otherwise went old new t partners v o answer before after bytes none same other some sent fits kept paper = record {
   bytes = bytes;
   sent = sent;
   fits = fits;
   shows = λ e. absurd (cc);
-  last = λ last h. (let P : Screen → Type 0 = λ x. IsLast t partners after x in subst P (sym (same last)) (keeps_last t partners before after last known paper h));
+  last = λ last h. (let P : Screen → Type 0 = λ x. IsLast t partners after x in subst P (sym (same last)) (keeps_last t partners before after last (λ k. ap (λ (x : Session). x.status) (sym (kept k)) ∙ k) paper h));
+  settled = λ last m h. settled_on before after v o answer last m none same kept h;
   bound = λ e last rows cols h. absurd (other e);
   idle = λ e last rows cols h k. absurd (other e);
   quiet = λ e. absurd (some e);
@@ -128,6 +149,7 @@ showed went old new t partners v before after laws high wide p =
       fits = λ s f. refit t (ink_at t partners v) (on_paper after.paper) Known after.session.status after.session.belief r.bytes s p.paper r.known (r.fits s f);
       shows = λ e s f. r.lawful.shows s f;
       last = λ last h k. p.paper;
+      settled = λ last m h k. (r.there, r.mode);
       bound = λ e last rows cols h. (let m = most_of laws t partners (on_paper before.paper) v before.session.status before.session.belief before.mode v.clearok last (rows ∙ sym high) (cols ∙ sym wide) h in omega (arith, le, m));
       idle = λ e last rows cols h k. (let z = none_of laws t partners (on_paper before.paper) v before.session.status before.session.belief before.mode v.clearok last (rows ∙ sym high) (cols ∙ sym wide) h k.known k.same k.placed k.mode k.clear in omega (arith, le, z));
       quiet = λ e. absurd (cc);
@@ -145,6 +167,7 @@ showed_short went failures old new t partners v before after laws high wide p =
       fits = λ s f. refit t (on_paper after.paper) (on_paper after.paper) Lost after.session.status after.session.belief r.front s refl r.lost (r.fits s f);
       shows = λ e. absurd (cc);
       last = λ last h k. absurd (lost_unknown after.session.status r.lost k);
+      settled = λ last m h k. absurd (lost_unknown after.session.status r.lost k);
       bound = λ e last rows cols h. (let m = most_of laws t partners (on_paper before.paper) v before.session.status before.session.belief before.mode v.clearok last (rows ∙ sym high) (cols ∙ sym wide) h in omega (arith, le, m));
       idle = λ e last rows cols h k. (let z = none_of laws t partners (on_paper before.paper) v before.session.status before.session.belief before.mode v.clearok last (rows ∙ sym high) (cols ∙ sym wide) h k.known k.same k.placed k.mode k.clear in omega (arith, le, z));
       quiet = λ e. absurd (cc);
@@ -174,7 +197,7 @@ carries went failures wire laws old new t partners v End (Refused r) before afte
 carries went failures wire laws old new t partners v Bell Done before after high wide p =
     let r = p.sends in
     otherwise went old new t partners v Bell Done before after r.line refl (λ l. refl) (λ e. cc) (λ e. cc) r.sent
-    (λ s f. same_session t before after r.line s r.same p.paper (r.fits (on_paper before.paper) s f)) (λ k. ap (λ (x : Session). x.status) (sym r.same) ∙ k) p.paper
+    (λ s f. same_session t before after r.line s r.same p.paper (r.fits (on_paper before.paper) s f)) (λ k. r.same) p.paper
 carries went failures wire laws old new t partners v Bell WireFailed before after high wide p =
     let r = p.sends in
     otherwise went old new t partners v Bell WireFailed before after r.front refl (λ l. refl) (λ e. cc) (λ e. cc) r.sent

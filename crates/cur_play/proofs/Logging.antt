@@ -1,5 +1,5 @@
 -- One call after another, with what went out so far and the log so far.
-use Rattle.std.proofs.Common.{◌≡◌, ℕ, ◌+◌, ◌^◌, ◌<◌, ◌≤◌, true, List, [], ◌∷◌, ◌++◌, length, take, drop, Option, refl, sym, ap, subst, ◌∙◌, arith, append_assoc, length-append, get_or, add-one}
+use Rattle.std.proofs.Common.{◌≡◌, ℕ, ◌+◌, ◌^◌, ◌<◌, ◌≤◌, true, List, [], ◌∷◌, ◌++◌, length, take, drop, Option, refl, sym, ap, subst, ◌∙◌, arith, append_assoc, length-append, get_or, add-one, Some, None}
 use Rattle.std.specs.Prelude.{suc}
 use Rattle.std.specs.Borrow.{MutBor}
 use Rattle.std.proofs.Math.Seq.{drop-cons, drop-length, take-append_seam}
@@ -14,15 +14,18 @@ use Rattle.cur_wires.specs.Counted.{Counts, counts_joins}
 use Rattle.cur_steps.specs.Leads.{Ends}
 use Rattle.cur_steps.proofs.Leading.{ends_then}
 use Rattle.cur_looks.specs.Certified.{Table}
+use Rattle.cur_looks.specs.declared.beliefs.Mode.{Mode}
+use Rattle.cur_looks.specs.declared.beliefs.Place.{Place}
+use Rattle.cur_paint.specs.Limits.{IsPlaced}
 use Rattle.cur_paint.specs.Update.{Fits, IsFresh, Shows}
 use Rattle.cur_paint.specs.declared.updates.Status.{Status}
 use Rattle.cur_paint.specs.declared.updates.Status.TheVariants.{Fresh, Known}
 use Rattle.cur_update.specs.Inks.{ink_at}
 use Rattle.cur_update.specs.Paper.{on_paper}
-use Rattle.cur_update.specs.Painters.{Painted, wanted_of}
+use Rattle.cur_update.specs.Painters.{Painted, place_of, wanted_of}
 use Rattle.cur_calls.specs.declared.calls.Call.{Call}
-use Rattle.cur_play.specs.Bounds.{is_shown, last_after, most}
-use Rattle.cur_play.specs.Carrying.{Carries, FitsIn, IsLast}
+use Rattle.cur_play.specs.Bounds.{is_shown, last_after, mode_after, most}
+use Rattle.cur_play.specs.Carrying.{Carries, FitsIn, IsLast, IsSettled, IsShown}
 use Rattle.cur_play.specs.Log.{Plays, Tells}
 use Rattle.cur_play.specs.Outputs.{poised}
 use Rattle.cur_play.specs.Running.{RanOn}
@@ -91,9 +94,11 @@ pub record Logged {W C : Type 0} (went : W → W → List ℕ → Type 0) (old n
   pub rows : last.rows ≡ t.rows
   pub cols : last.cols ≡ t.cols
   pub is_last : IsLast t partners stage.painter last
+  pub last_mode : Mode
+  pub settled : IsSettled stage.painter last last_mode
   pub counted : length log ≡ i
-  pub plays : (more : List ℕ) (rest : List Entry) → length (bytes ++ more) < 2 ^ 128 → Plays t partners (bytes ++ more) count last (scene_of stage) (drop i calls) rest
-      → Plays t partners (bytes ++ more) 0 (new_screen t.rows t.cols) (first t) calls (log ++ rest)
+  pub plays : (more : List ℕ) (rest : List Entry) → length (bytes ++ more) < 2 ^ 128 → Plays t partners (bytes ++ more) count last last_mode (scene_of stage) (drop i calls) rest
+      → Plays t partners (bytes ++ more) 0 (new_screen t.rows t.cols) (first t).mode (first t) calls (log ++ rest)
 
 last_sized : (o : Output) (answer : Answer) (last v : Screen) (n : ℕ) (f : Screen → ℕ) → f last ≡ n → f v ≡ n → f (last_after o answer last v) ≡ n
 last_sized Update Done last v n f e h = h
@@ -117,6 +122,24 @@ last_same t partners Nothing answer p last d a e h = h
 last_same t partners Bell answer p last d a e h = h
 last_same t partners End answer p last d a e h = h
 
+-- the same of the cursor
+settled_same : {C : Type 0} (o : Output) (answer : Answer) (p : Painted C) (last : Screen) (last_mode : Mode) (d a : Scene) → (is_shown o answer ≡ true → a ≡ shown_scene d)
+    → IsSettled p (last_after o answer last d.screen) (mode_after o answer last_mode d.mode) → IsSettled p (last_after o answer last a.screen) (mode_after o answer last_mode a.mode)
+settled_same Update Done p last last_mode d a e h =
+    let P : Scene → Type 0 = λ x. IsSettled p x.screen x.mode in
+    subst P (sym (e refl)) h
+settled_same Update (Was n) p last last_mode d a e h = h
+settled_same Update (Refused r) p last last_mode d a e h = h
+settled_same Update WireFailed p last last_mode d a e h = h
+settled_same Nothing answer p last last_mode d a e h = h
+settled_same Bell answer p last last_mode d a e h = h
+settled_same End answer p last last_mode d a e h = h
+
+-- the cursor is wanted nowhere, or where it was wanted last, and so where it is known to be
+placed_still : (want last now : Option Place) → IsPlaced want last → IsPlaced last now → IsPlaced want now
+placed_still None last now h k = tt
+placed_still (Some p) last now h k = let P : Option Place → Type 0 = λ x. IsPlaced x now in subst P h k
+
 pub log_more : {W C : Type 0} (went : W → W → List ℕ → Type 0) (failures : W → ℕ) → IsWire went failures → (a m z : MutBor W) (to upto : ℕ) (t : Table) (partners : ℕ → Option ℕ) (calls : List Call) (i : ℕ) (call : Call) (before after : Stage C) (log : List Entry) (answer : Answer)
     (b : List ℕ) → Logged went a m to t partners calls i before log → drop i calls ≡ call ∷ drop (i + 1) calls
     → CallStep t (scene_of before) call answer (scene_of after) → IsStage t after.desk after.screen → Counts went m z to upto b
@@ -125,8 +148,10 @@ pub log_more : {W C : Type 0} (went : W → W → List ℕ → Type 0) (failures
     → ((last : Screen) → IsLast t partners before.painter last → IsLast t partners after.painter (last_after (output_of call) answer last (drawn t (scene_of before) call).0.screen))
     → (output_of call ≡ Update → (last : Screen) → last.rows ≡ t.rows → last.cols ≡ t.cols → IsLast t partners before.painter last → length b ≤ most t before.painter.session.status (drawn t (scene_of before) call).0.screen.clearok last (drawn t (scene_of before) call).0.screen)
     → (output_of call ≡ Nothing → length b ≡ 0)
+    → ((last : Screen) (last_mode : Mode) → IsSettled before.painter last last_mode → IsSettled after.painter (last_after (output_of call) answer last (drawn t (scene_of before) call).0.screen) (mode_after (output_of call) answer last_mode (drawn t (scene_of before) call).0.mode))
+    → (output_of call ≡ Update → (last : Screen) → last.rows ≡ t.rows → last.cols ≡ t.cols → IsLast t partners before.painter last → IsShown t (drawn t (scene_of before) call).0.screen (poised t before call) last → length b ≡ 0)
     → Logged went a z upto t partners calls (i + 1) after (log ++ record { answer = answer; sent = upto } ∷ [])
-log_more {W} {C} went failures laws a m z to upto t partners calls i call before after log answer b l left step sized c fits shows last bound quiet =
+log_more {W} {C} went failures laws a m z to upto t partners calls i call before after log answer b l left step sized c fits shows last bound quiet settled idle =
     let e : Entry = record { answer = answer; sent = upto } in
     let d : Scene = (drawn t (scene_of before) call).0 in
     let A : State → Type 0 = FitsIn t before.painter in
@@ -143,6 +168,8 @@ log_more {W} {C} went failures laws a m z to upto t partners calls i call before
       rows = last_sized (output_of call) answer l.last after.screen t.rows (λ x. x.rows) l.rows sized.rows;
       cols = last_sized (output_of call) answer l.last after.screen t.cols (λ x. x.cols) l.cols sized.cols;
       is_last = last_same t partners (output_of call) answer after.painter l.last d (scene_of after) there (last l.last l.is_last);
+      last_mode = mode_after (output_of call) answer l.last_mode after.painter.mode;
+      settled = settled_same (output_of call) answer after.painter l.last l.last_mode d (scene_of after) there (settled l.last l.last_mode l.settled);
       counted = omega (arith, l.counted, length-append log (e ∷ []));
       plays = λ more rest small h. (
           let whole : bytes ++ more ≡ l.bytes ++ (b ++ more) = append_assoc l.bytes b more in
@@ -151,7 +178,7 @@ log_more {W} {C} went failures laws a m z to upto t partners calls i call before
           let last_count : upto ≡ length bytes = out.counted (omega (arith, small, size, length-append l.bytes b)) ∙ omega arith in
           let sum : length bytes ≡ length l.bytes + length b = length-append l.bytes b in
           let seam : take upto (bytes ++ more) ≡ bytes = ap (λ (n : ℕ). take n (bytes ++ more)) last_count ∙ take-append_seam bytes more in
-          let tells : Tells t partners (bytes ++ more) to l.last (scene_of before) call e (scene_of after) = record {
+          let tells : Tells t partners (bytes ++ more) to l.last l.last_mode (scene_of before) call e (scene_of after) = record {
             step = step;
             later = omega (arith, first_count, last_count, sum);
             within = omega (arith, last_count, size, sum);
@@ -162,15 +189,26 @@ log_more {W} {C} went failures laws a m z to upto t partners calls i call before
                 let P : List ℕ → Type 0 = λ y. Ends s y T in
                 subst P (sym seam) (record { after = x.after; runs = x.runs; there = shows_after t partners d (scene_of after) x.after (there k) x.there }));
             bound = λ k. (let most_now = bound k l.last l.rows l.cols l.is_last in omega (arith, first_count, last_count, sum, most_now));
+            idle = λ k known u. (
+                let at : IsPlaced (place_of l.last.cursor) before.painter.session.belief.place × (before.painter.session.belief.mode ≡ Some l.last_mode) = l.settled known in
+                let shown : IsShown t d.screen (poised t before call) l.last = record {
+                  known = known;
+                  same = u.same;
+                  placed = placed_still (place_of d.screen.cursor) (place_of l.last.cursor) before.painter.session.belief.place u.placed at.0;
+                  mode = at.1 ∙ ap (λ (m : Mode). Some m) (sym u.mode);
+                  clear = u.clear;
+                } in
+                let none = idle k l.last l.rows l.cols l.is_last shown in
+                omega (arith, first_count, last_count, sum, none));
             quiet = λ k. (let none = quiet k in omega (arith, first_count, last_count, sum, none));
           } in
-          let P : List ℕ → Type 0 = λ y. Plays t partners y 0 (new_screen t.rows t.cols) (first t) calls (log ++ e ∷ rest) in
-          let Q : List ℕ → Type 0 = λ y. Plays t partners y to l.last (scene_of before) (drop i calls) (e ∷ rest) in
-          let R : List Call → Type 0 = λ y. Plays t partners (bytes ++ more) to l.last (scene_of before) y (e ∷ rest) in
-          let T : List Entry → Type 0 = λ y. Plays t partners (bytes ++ more) 0 (new_screen t.rows t.cols) (first t) calls y in
-          let here : Plays t partners (bytes ++ more) to l.last (scene_of before) (call ∷ drop (i + 1) calls) (e ∷ rest) = (scene_of after, tells, h) in
+          let P : List ℕ → Type 0 = λ y. Plays t partners y 0 (new_screen t.rows t.cols) (first t).mode (first t) calls (log ++ e ∷ rest) in
+          let Q : List ℕ → Type 0 = λ y. Plays t partners y to l.last l.last_mode (scene_of before) (drop i calls) (e ∷ rest) in
+          let R : List Call → Type 0 = λ y. Plays t partners (bytes ++ more) to l.last l.last_mode (scene_of before) y (e ∷ rest) in
+          let T : List Entry → Type 0 = λ y. Plays t partners (bytes ++ more) 0 (new_screen t.rows t.cols) (first t).mode (first t) calls y in
+          let here : Plays t partners (bytes ++ more) to l.last l.last_mode (scene_of before) (call ∷ drop (i + 1) calls) (e ∷ rest) = (scene_of after, tells, h) in
           let small_too : length (l.bytes ++ (b ++ more)) < 2 ^ 128 = subst (λ (y : List ℕ). length y < 2 ^ 128) whole small in
-          let all : Plays t partners (l.bytes ++ (b ++ more)) 0 (new_screen t.rows t.cols) (first t) calls (log ++ e ∷ rest) =
+          let all : Plays t partners (l.bytes ++ (b ++ more)) 0 (new_screen t.rows t.cols) (first t).mode (first t) calls (log ++ e ∷ rest) =
           l.plays (b ++ more) (e ∷ rest) small_too (subst Q whole (subst R (sym left) here)) in
           subst T (sym (append_assoc log (e ∷ []) rest)) (subst P (sym whole) all));
     }
@@ -207,11 +245,13 @@ log_none went failures laws a to t partners calls stage log none begins empty =
       rows = refl;
       cols = refl;
       is_last = λ k. absurd (fresh_known stage.painter.session.status status k);
+      last_mode = (first t).mode;
+      settled = λ k. absurd (fresh_known stage.painter.session.status status k);
       counted = empty;
       plays = λ more rest small h. (
-          let P : Scene → Type 0 = λ x. Plays t partners more to (new_screen t.rows t.cols) x calls rest in
-          let Q : ℕ → Type 0 = λ n. Plays t partners more n (new_screen t.rows t.cols) (first t) calls rest in
-          let R : List Entry → Type 0 = λ l. Plays t partners more 0 (new_screen t.rows t.cols) (first t) calls (l ++ rest) in
+          let P : Scene → Type 0 = λ x. Plays t partners more to (new_screen t.rows t.cols) (first t).mode x calls rest in
+          let Q : ℕ → Type 0 = λ n. Plays t partners more n (new_screen t.rows t.cols) (first t).mode (first t) calls rest in
+          let R : List Entry → Type 0 = λ l. Plays t partners more 0 (new_screen t.rows t.cols) (first t).mode (first t) calls (l ++ rest) in
           subst R (sym nil) (subst Q none (subst P begins h)));
     }
 
@@ -224,9 +264,9 @@ log_whole went a z to t partners calls i stage log all l = record {
     counted = l.counted ∙ all;
     plays = λ small. (
         let none : drop i calls ≡ [] = ap (λ (n : ℕ). drop n calls) all ∙ drop-length calls in
-        let P : List Call → Type 0 = λ x. Plays t partners (l.bytes ++ []) to l.last (scene_of stage) x [] in
-        let Q : List ℕ → Type 0 = λ x. Plays t partners x 0 (new_screen t.rows t.cols) (first t) calls (log ++ []) in
-        let R : List Entry → Type 0 = λ x. Plays t partners l.bytes 0 (new_screen t.rows t.cols) (first t) calls x in
+        let P : List Call → Type 0 = λ x. Plays t partners (l.bytes ++ []) to l.last l.last_mode (scene_of stage) x [] in
+        let Q : List ℕ → Type 0 = λ x. Plays t partners x 0 (new_screen t.rows t.cols) (first t).mode (first t) calls (log ++ []) in
+        let R : List Entry → Type 0 = λ x. Plays t partners l.bytes 0 (new_screen t.rows t.cols) (first t).mode (first t) calls x in
         let few : length (l.bytes ++ []) < 2 ^ 128 = subst (λ (x : List ℕ). length x < 2 ^ 128) (sym (append-nil l.bytes)) small in
         subst R (append-nil log) (subst Q (append-nil l.bytes) (l.plays [] [] few (subst P (sym none) tt))));
   };
@@ -246,7 +286,7 @@ log_call {W} {V} {C} went failures laws wire count a m z table partners given ca
     let G : C → Type 0 = λ y. IsStage (table y) after.desk after.screen in
     let K : C → Type 0 = λ y. Carries {W = V} (λ x z b. Counts went (wire x) (wire z) (count x) (count z) b) m z (table y) (partners y) (drawn (table y) (scene_of before) call).0.screen (output_of call) answer (poised (table y) before call) after.painter in
     let c : K given = subst K same carries in
-    log_more went failures laws a (wire m) (wire z) (count m) (count z) (table given) (partners given) calls i call before after log answer c.bytes l left (subst S same step) (subst G (kept ∙ same) sized) c.sent c.fits c.shows c.last c.bound c.quiet
+    log_more went failures laws a (wire m) (wire z) (count m) (count z) (table given) (partners given) calls i call before after log answer c.bytes l left (subst S same step) (subst G (kept ∙ same) sized) c.sent c.fits c.shows c.last c.bound c.quiet c.settled c.idle
 
 pub next_call : (calls : List Call) (i : ℕ) (call : Call) → i < length calls → call ≡ get_or calls i call → drop i calls ≡ call ∷ drop (i + 1) calls
 next_call calls i call lt e =

@@ -1,6 +1,6 @@
 //! How cells of the virtual screen are printed.
 ghost use Rattle.std.specs.Prelude.{◌≡◌};
-ghost use Rattle.ti_rows.specs.declared.rows.Row.TheVariants.{Smacs};
+ghost use Rattle.ti_rows.specs.declared.rows.Row.TheVariants.{Smacs, Op};
 ghost use Rattle.cur_looks.specs.Certified.{has};
 ghost use Rattle.cur_update.specs.Inks as spec;
 
@@ -33,11 +33,11 @@ fn attributes_of(attrs: Attrs) -> Attributes
 }
 
 /// The colour of a number, where the entry has colours.
-fn color_of(colored: bool, number: Option<u8>) -> Option<Color>
-    ensures { result ≡ spec.color_of colored number }
+fn color_of<C: Certificate>(checked: &C, number: Option<u8>) -> Option<Color>
+    ensures { result ≡ spec.color_of (has (C.table checked.now) Op) number }
 {
     match number {
-        Some(number) if colored => Some(color(number as u16)),
+        Some(number) if has_line(checked, Row::Op) => Some(color(number as u16)),
         _ => None,
     }
 }
@@ -77,14 +77,13 @@ pub(crate) fn ink_of<C: Certificate + Alternates>(
     ensures { result ≡ spec.ink_of (C.table checked.now) (C.partners checked.now) (record { foreground = colors.0; background = colors.1 }) cell }
 {
     let character = character_of(checked, cell);
-    let colored = has_line(checked, Row::Op);
     Ink {
         byte: character.byte,
         graphic: character.graphic,
         brush: Brush {
             attributes: attributes_of(cell.attrs()),
-            foreground: color_of(colored, colors.0),
-            background: color_of(colored, colors.1),
+            foreground: color_of(checked, colors.0),
+            background: color_of(checked, colors.1),
         },
     }
 }

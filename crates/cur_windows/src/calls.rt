@@ -122,7 +122,10 @@ impl Desk {
         answer
     }
 
-    /// A string at the cursor. It stops at its first refusal, and what was written before stands.
+    /// A string at the cursor. It stops at its first refusal, and what was written before stands. At `NoScroll` the byte
+    /// at which it stopped was written too, and the cursor stays in the cell that was written last. The answer doesn't
+    /// tell how many bytes that were: of a string without controls, as many as there were cells from the cursor to the
+    /// window's last one.
     pub fn addstr(&mut self, id: usize, text: &[u8]) -> Result<(), Refusal>
         ensures { spec.step self.new result ≡ spec.on_window self.old id (call.added_all text.now) }
     {

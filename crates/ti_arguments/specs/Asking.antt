@@ -11,7 +11,7 @@ use Rattle.ti_arguments.specs.Line.{line}
 use Rattle.ti_arguments.specs.declared.parsing.Answer.{Answer}
 use Rattle.ti_arguments.specs.declared.parsing.Answer.TheVariants as answers
 use Rattle.ti_arguments.specs.declared.request.Request.{Request}
-use Rattle.ti_arguments.specs.declared.request.Request.TheVariants.{Expand, Feed, Tic, Check, Verify, Print, Common, Neither}
+use Rattle.ti_arguments.specs.declared.request.Request.TheVariants.{Expand, Feed, Tic, Check, Verify, Play, Show, Survey, Print, Common, Neither}
 
 -- the word that stands for an argument, if it has one
 abbrev pub word_of : Text → List Row → Text
@@ -44,6 +44,14 @@ AsksFor name rows (Check entry height width out) =
 AsksFor name rows (Verify entry height width certificate) =
     (name ≡ codes "verify") × (entry.now ≡ word_of (codes "ENTRY") rows) × (height.now ≡ word_of (codes "ROWS") rows) × (width.now ≡ word_of (codes "COLS") rows)
     × (certificate.now ≡ word_of (codes "CERT") rows)
+AsksFor name rows (Play entry height width certificate script) =
+    (name ≡ codes "play") × (entry.now ≡ word_of (codes "ENTRY") rows) × (height.now ≡ word_of (codes "ROWS") rows) × (width.now ≡ word_of (codes "COLS") rows)
+    × (certificate.now ≡ word_of (codes "CERT") rows) × (script.now ≡ word_of (codes "SCRIPT") rows)
+AsksFor name rows (Show entry height width certificate script) =
+    (name ≡ codes "show") × (entry.now ≡ word_of (codes "ENTRY") rows) × (height.now ≡ word_of (codes "ROWS") rows) × (width.now ≡ word_of (codes "COLS") rows)
+    × (certificate.now ≡ word_of (codes "CERT") rows) × (script.now ≡ word_of (codes "SCRIPT") rows)
+AsksFor name rows (Survey height width files) =
+    (name ≡ codes "survey") × (height.now ≡ word_of (codes "ROWS") rows) × (width.now ≡ word_of (codes "COLS") rows) × (map (λ f. f.now) files.items ≡ words_of (codes "FILE") rows)
 AsksFor name rows (Print entry) = IsInfocmp name rows false false (entry.now ∷ [])
 AsksFor name rows (Common first second) = IsInfocmp name rows true false (first.now ∷ second.now ∷ [])
 AsksFor name rows (Neither first second) = IsInfocmp name rows false true (first.now ∷ second.now ∷ [])

@@ -3,7 +3,7 @@
 ghost use Rattle.std.specs.Prelude.{◌≡◌, Some, IfOk, codes, false};
 ghost use Rattle.clap.specs.Words.{app_of, rule_of, with_subcommand};
 ghost use Rattle.clap.specs.declared.builder.command.Command.TheViews.{out-Command};
-ghost use Rattle.ti_arguments.specs.Line.{check_rules, cup_rule, entries_rule, expand_rules, feed_rules, infocmp_rules, line, out_rule, params_rule, positional_rule, program, switch_rule, tic_rules, verify_rules, with_size_rules};
+ghost use Rattle.ti_arguments.specs.Line.{check_rules, cup_rule, expand_rules, feed_rules, infocmp_rules, line, out_rule, params_rule, play_rules, positional_rule, program, several_rule, show_rules, survey_rules, switch_rule, tic_rules, verify_rules, with_plays, with_script_rules, with_size_rules, with_verdicts};
 
 use crate::help;
 use clap::{Arg, ArgAction, Command};
@@ -15,7 +15,8 @@ pub fn command_line<'a>(alloc: Global) -> Result<Command<'a>, AllocError>
 {
     let command = with_screen_commands(alloc, top_command(alloc)?)?;
     let command = with_entry_commands(alloc, command)?;
-    with_verdict_commands(alloc, command)
+    let command = with_verdict_commands(alloc, command)?;
+    with_script_commands(alloc, command)
 }
 
 /// The command, and those that show what a terminal does.
@@ -29,11 +30,24 @@ fn with_screen_commands<'a>(alloc: Global, command: Command<'a>) -> Result<Comma
 
 /// The command, and those that judge entries.
 fn with_verdict_commands<'a>(alloc: Global, command: Command<'a>) -> Result<Command<'a>, AllocError>
-    ensures { IfOk result (λ c. app_of c ≡ with_subcommand (with_subcommand (app_of command.entry) check_rules.top) verify_rules.top) }
+    ensures { IfOk result (λ c. app_of c ≡ with_verdicts (app_of command.entry)) }
 {
     let check = check_command(alloc)?;
     let verify = verify_command(alloc)?;
-    command.subcommand(check)?.subcommand(verify)
+    let survey = survey_command(alloc)?;
+    command
+        .subcommand(check)?
+        .subcommand(verify)?
+        .subcommand(survey)
+}
+
+/// The command, and those that play scripts.
+fn with_script_commands<'a>(alloc: Global, command: Command<'a>) -> Result<Command<'a>, AllocError>
+    ensures { IfOk result (λ c. app_of c ≡ with_plays (app_of command.entry)) }
+{
+    let play = play_command(alloc)?;
+    let show = show_command(alloc)?;
+    command.subcommand(play)?.subcommand(show)
 }
 
 /// The command, and those whose words are entries.
@@ -129,7 +143,11 @@ fn infocmp_command<'a>(alloc: Global) -> Result<Command<'a>, AllocError>
             'n',
             "List the capabilities that neither entry has",
         ))?
-        .arg(entries(alloc))
+        .arg(several(
+            alloc,
+            "ENTRY",
+            "FILE:NAME of a source file, or a compiled FILE",
+        ))
 }
 
 fn check_command<'a>(alloc: Global) -> Result<Command<'a>, AllocError>
@@ -153,6 +171,56 @@ fn verify_command<'a>(alloc: Global) -> Result<Command<'a>, AllocError>
         .after_help(help::VERIFY_MORE)
         .arg(entry(alloc))?;
     with_size(alloc, command)?.arg(positional(alloc, "CERT", "The certificate"))
+}
+
+fn play_command<'a>(alloc: Global) -> Result<Command<'a>, AllocError>
+    ensures shape { IfOk result (λ c. app_of c ≡ play_rules) }
+    ensures local { IfOk result (λ c. (out-Command c).has_globals ≡ false) }
+{
+    let command = Command::new(alloc, "play")
+        .about(help::PLAY)
+        .after_help(help::PLAY_MORE);
+    with_script(alloc, command)
+}
+
+fn show_command<'a>(alloc: Global) -> Result<Command<'a>, AllocError>
+    ensures shape { IfOk result (λ c. app_of c ≡ show_rules) }
+    ensures local { IfOk result (λ c. (out-Command c).has_globals ≡ false) }
+{
+    let command = Command::new(alloc, "show")
+        .about(help::SHOW)
+        .after_help(help::SHOW_MORE);
+    with_script(alloc, command)
+}
+
+/// The command, and the words of a run of a script.
+fn with_script<'a>(alloc: Global, command: Command<'a>) -> Result<Command<'a>, AllocError>
+    requires { (out-Command command).has_globals ≡ false }
+    ensures shape { IfOk result (λ c. app_of c ≡ with_script_rules (app_of command.entry)) }
+    ensures local { IfOk result (λ c. (out-Command c).has_globals ≡ false) }
+{
+    let command = command.arg(entry(alloc))?;
+    with_size(alloc, command)?
+        .arg(positional(alloc, "CERT", "The entry's certificate"))?
+        .arg(positional(
+            alloc,
+            "SCRIPT",
+            "The calls, one a line, at most 1048576 bytes",
+        ))
+}
+
+fn survey_command<'a>(alloc: Global) -> Result<Command<'a>, AllocError>
+    ensures shape { IfOk result (λ c. app_of c ≡ survey_rules) }
+    ensures local { IfOk result (λ c. (out-Command c).has_globals ≡ false) }
+{
+    let command = Command::new(alloc, "survey")
+        .about(help::SURVEY)
+        .after_help(help::SURVEY_MORE);
+    with_size(alloc, command)?.arg(several(
+        alloc,
+        "FILE",
+        "A source file, all entries of which are checked, or a compiled file",
+    ))
 }
 
 fn cup_flag<'a>(alloc: Global) -> Arg<'a>
@@ -187,15 +255,15 @@ fn entry<'a>(alloc: Global) -> Arg<'a>
     )
 }
 
-fn entries<'a>(alloc: Global) -> Arg<'a>
-    ensures rule { rule_of result ≡ entries_rule }
+fn several<'a>(alloc: Global, name: &'a str, help: &'a str) -> Arg<'a>
+    ensures rule { rule_of result ≡ several_rule name.entry.now }
     ensures local { result.global ≡ false }
 {
-    Arg::new(alloc, "ENTRY")
+    Arg::new(alloc, name)
         .required(true)
         .action(ArgAction::Append)
         .num_args(1..)
-        .help("FILE:NAME of a source file, or a compiled FILE")
+        .help(help)
 }
 
 fn switch<'a>(alloc: Global, name: &'a str, letter: char, help: &'a str) -> Arg<'a>

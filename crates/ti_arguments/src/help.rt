@@ -142,6 +142,10 @@ size allows, the bytes that the string sends and what they do. There is one only
 rely on, from every state in which programs send it. `ticurses verify` reads it. With --out it is written to FILE,
 whole or not at all, and there is no output.
 
+Standard error gets a line `note CAP HEX` for each sequence of the entry's strings, with the first parameters of each,
+that the terminal ignores, or of which it ignores a number. There are none where a string can't be expanded, or doesn't
+send text and whole sequences.
+
 If there is none, standard error has a line `refused: no CAP P..: CAUSE` with a capability and its parameters, the
 first in the order of a certificate's lines. The lines below it say what the string sends for these parameters, from
 which state of the terminal it goes wrong, what was wanted there, and what happens instead.
@@ -166,6 +170,7 @@ CAUSE is one of:
   WrongEffect  from the state that is described the string doesn't do what it is for
   NotTame      no single effect describes what is sent from all states; the string may be right
   NotShown     the effect is not the wanted one, but no state was found that shows it; the string may be right
+  NoResync     what leads out of any state (smcup, enacs, sgr0, rmacs, csr and clear, one after another) doesn't begin with ESC
 KIND is one of:
   BadSize      ROWS is not 2 to 200, or COLS is not 2 to 500
   and for the entry each KIND of `ticurses tic --help`.
@@ -204,3 +209,79 @@ for the entry: each KIND of `ticurses tic --help`.
 
 Example:
   ticurses verify my.ti:myterm 24 80 myterm.cert";
+
+/// `play` in one line.
+pub const PLAY: &str = "Plays a script of curses calls, and writes what it sends to the terminal";
+
+/// `play` in full.
+pub const PLAY_MORE: &str = "\
+SCRIPT lists calls of curses, one a line, as in `newwin 1 5 20 2 2` or `addstr 1 hello`; docs/TOUR.md has examples. It is
+played on a terminal of this size, which the entry drives as the certificate CERT shows. The output is the bytes that
+the calls send; what a refresh sends is written before the next call, in one piece where it is no more than 65536
+bytes. A call that curses refuses does nothing, and the calls after it are played; `ticurses show` lists such calls.
+
+Exit status: 0 done; 1 refused, with a line `refused: KIND` on standard error; 2 usage error; 3 a file could not
+be read or the script has more than 1048576 bytes, or, told after the last call, standard output could not be
+written; 4 out of memory.
+
+KIND is one of, for the script:
+  line N: BadLine  the line is not a call with its arguments, and neither empty nor a comment that begins with `#`
+for the size, the entry and the certificate: each KIND of `ticurses verify --help`.
+
+Example:
+  ticurses play my.ti:myterm 24 80 myterm.cert my.script";
+
+/// `show` in one line.
+pub const SHOW: &str =
+    "Plays a script of curses calls on the specified terminal, and shows its screen";
+
+/// `show` in full.
+pub const SHOW_MORE: &str = "\
+SCRIPT, ENTRY and CERT are those of `ticurses play --help`. The output is a line `call N: NAME` for each call that
+curses refused, calls being counted from 1 and NAME being the reason, and then the screen in the form of
+`ticurses feed --help`.
+
+NAME is one of:
+  NoWindow     the number is not that of a window
+  NumberUsed   the number is that of a window already
+  Full         window numbers are 0 to 63
+  OutOfWindow  the place or the part is not in the window
+  OutOfScreen  the place or the part is not on the screen
+  HasChildren  the window has subwindows
+  IsSub        the window is a subwindow
+  IsScreen     window 0 stays
+  PadKind      the call is not for a pad, or for nothing else
+  NoScroll     the text goes on behind the last line, and the window may not scroll
+  BadRegion    a size, a range or a mode that there is not
+  BadCell      the byte cannot stand in a cell
+  BadPair      pairs are 0 to 63, pair 0 cannot be changed, and colors are 0 to 7
+  NoCap        the entry lacks the strings for it
+  IsLost       what the terminal shows is not known
+  NoMemory     out of memory
+
+Exit status: as for `ticurses play`.
+
+Example:
+  ticurses show my.ti:myterm 24 80 myterm.cert my.script";
+
+/// `survey` in one line.
+pub const SURVEY: &str = "Checks all entries of some files: a line for each, and a line of counts";
+
+/// `survey` in full.
+pub const SURVEY_MORE: &str = "\
+Each FILE is a source file, of which all entries are checked in their order, or a compiled file, which begins with
+1a 01 or 1e 02. The output is a line for each entry, after its first name:
+  NAME yes                   there is a certificate
+  NAME no CAP P..: CAUSE     there is none; `ticurses check --help` explains each CAUSE
+  NAME refused: KIND         the entry can't be had; `ticurses tic --help` explains each KIND
+A file without entries has one line, `FILE refused: KIND`. The last line is the number of entries, and then how many
+got each answer.
+
+A FILE has at most 16777216 bytes. One that can't be read has no line, and the others are checked all the same.
+
+Exit status: 0 done, whatever the answers are; 1 refused, with a line `refused: BadSize` on standard error; 2 usage
+error; 3 a file could not be read or is too long (`file: PATH` names the first), or standard output could not be
+written; 4 out of memory.
+
+Example:
+  ticurses survey 24 80 my.ti /usr/share/terminfo/x/xterm";

@@ -74,6 +74,9 @@ fn request_of<'a>(alloc: Global, matches: &ArgMatches<'a>) -> Result<Request<'a>
         Some(("infocmp", words)) => infocmp_request(alloc, words),
         Some(("check", words)) => Ok(check_request(words)),
         Some(("verify", words)) => Ok(verify_request(words)),
+        Some(("play", words)) => Ok(play_request(words)),
+        Some(("show", words)) => Ok(show_request(words)),
+        Some(("survey", words)) => Ok(survey_request(alloc, words)?),
         _ => Err(LineFault::Usage(String::new(alloc))),
     }
 }
@@ -131,6 +134,42 @@ fn verify_request<'a>(words: &ArgMatches<'a>) -> Request<'a>
         cols: word(words, "COLS"),
         certificate: word(words, "CERT"),
     }
+}
+
+fn play_request<'a>(words: &ArgMatches<'a>) -> Request<'a>
+    ensures { AsksFor (codes "play") (rows_of (found_of words.now)) result }
+{
+    Request::Play {
+        entry: word(words, "ENTRY"),
+        rows: word(words, "ROWS"),
+        cols: word(words, "COLS"),
+        certificate: word(words, "CERT"),
+        script: word(words, "SCRIPT"),
+    }
+}
+
+fn show_request<'a>(words: &ArgMatches<'a>) -> Request<'a>
+    ensures { AsksFor (codes "show") (rows_of (found_of words.now)) result }
+{
+    Request::Show {
+        entry: word(words, "ENTRY"),
+        rows: word(words, "ROWS"),
+        cols: word(words, "COLS"),
+        certificate: word(words, "CERT"),
+        script: word(words, "SCRIPT"),
+    }
+}
+
+#[tactic(auto, using(crate::proofs::Rows::all_in_rows))]
+fn survey_request<'a>(alloc: Global, words: &ArgMatches<'a>) -> Result<Request<'a>, AllocError>
+    ensures { IfOk result (λ request. AsksFor (codes "survey") (rows_of (found_of words.now)) request) }
+{
+    let files = words.get_strs("FILE").unwrap_or(&[]);
+    Ok(Request::Survey {
+        rows: word(words, "ROWS"),
+        cols: word(words, "COLS"),
+        files: Vec::from_slice(alloc, files)?,
+    })
 }
 
 /// One entry is printed, two are compared.

@@ -54,6 +54,41 @@ pub enum Request<'a> {
         /// The path of the certificate.
         certificate: &'a str,
     },
+    /// `play ENTRY ROWS COLS CERT SCRIPT`: play a script of curses calls.
+    Play {
+        /// The entry.
+        entry: &'a str,
+        /// The terminal's rows.
+        rows: &'a str,
+        /// The terminal's columns.
+        cols: &'a str,
+        /// The path of the certificate.
+        certificate: &'a str,
+        /// The path of the script.
+        script: &'a str,
+    },
+    /// `show ENTRY ROWS COLS CERT SCRIPT`: show the screen that a script of curses calls leaves.
+    Show {
+        /// The entry.
+        entry: &'a str,
+        /// The terminal's rows.
+        rows: &'a str,
+        /// The terminal's columns.
+        cols: &'a str,
+        /// The path of the certificate.
+        certificate: &'a str,
+        /// The path of the script.
+        script: &'a str,
+    },
+    /// `survey ROWS COLS FILE..`: check all entries of some files.
+    Survey {
+        /// The terminal's rows.
+        rows: &'a str,
+        /// The terminal's columns.
+        cols: &'a str,
+        /// The paths of the files.
+        files: Vec<&'a str>,
+    },
     /// `infocmp ENTRY`: print an entry.
     Print {
         /// The entry.

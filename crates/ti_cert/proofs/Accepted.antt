@@ -1,5 +1,5 @@
 -- What verifies an entry makes it conform.
-use Rattle.std.proofs.Common.{◌≡◌, ◌++◌, ℕ, List, [], Option, Some, None, IfSome, Result, Ok, Err, IfOk, Bor, sym, ap, subst, ◌∙◌, append_assoc}
+use Rattle.std.proofs.Common.{◌≡◌, ◌<◌, ◌++◌, ℕ, List, [], Option, Some, None, IfSome, Result, Ok, Err, IfOk, Bor, sym, ap, subst, ◌∙◌, append_assoc}
 use Rattle.std.specs.Prelude.{option_copied}
 use Rattle.vt_term.specs.Size.{IsSize}
 use Rattle.ti_caps.specs.Entry.{Content}
@@ -14,7 +14,8 @@ use Rattle.ti_conforms.specs.Conforms.{IsFit, Conforms}
 use Rattle.ti_conforms.proofs.Conforming.{agreed_conforms}
 use Rattle.ti_conforms.proofs.Together.{agreed_stand_together}
 use Rattle.ti_cert.specs.Singles.{LooksStand}
-use Rattle.ti_cert.specs.Strings.{string_in}
+use Rattle.ti_cert.specs.Strings.{string_in, total}
+use Rattle.ti_cert.specs.Certificates.{limit}
 use Rattle.ti_cert.specs.Table as tables
 use Rattle.ti_cert.specs.Verified.{IsVerified, Resyncs}
 
@@ -24,9 +25,10 @@ verified entry t rows cols fit judged agrees r c =
     subst (λ (n : ℕ). Conforms entry rows n) c (subst (λ (n : ℕ). Conforms entry n t.known.strings.cols) r (agreed_conforms entry (tables.table_of t) fit judged agrees))
 
 pub is_verified : (entry : Content) (t : tables.Content) (rows cols : ℕ) → IsSize rows cols → IsFit entry → IsJudged (tables.table_of t) → LooksStand (tables.table_of t)
-    → EntryAgrees t.known.strings.rows t.known.strings.cols entry (λ row. string_in t.known.strings row) → t.known.strings.rows ≡ rows → t.known.strings.cols ≡ cols → IsVerified t
-is_verified entry t rows cols size fit judged looks agrees r c = record {
+    → EntryAgrees t.known.strings.rows t.known.strings.cols entry (λ row. string_in t.known.strings row) → t.known.strings.rows ≡ rows → t.known.strings.cols ≡ cols → total t.known.strings < limit → IsVerified t
+is_verified entry t rows cols size fit judged looks agrees r c few = record {
   size = subst (λ (n : ℕ). IsSize n t.known.strings.cols) (sym r) (subst (λ (n : ℕ). IsSize rows n) (sym c) size);
+  few = few;
   checked = judged_is_checked (tables.table_of t) judged;
   together = agreed_stand_together entry (tables.table_of t) fit agrees;
   looks = looks;

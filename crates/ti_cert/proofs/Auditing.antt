@@ -13,7 +13,6 @@ use Rattle.vt_effects.specs.declared.starts.Start.{Start}
 use Rattle.vt_effects.specs.Record.{record_of}
 use Rattle.ti_charsets.specs.Charsets.{IsAmong}
 use Rattle.ti_charsets.specs.declared.closing.Charsets.{Charsets}
-use Rattle.ti_checked.specs.Judged.{IsJudged}
 use Rattle.ti_rows.specs.declared.rows.Looks.{Looks}
 use Rattle.ti_rows.specs.declared.rows.Row.{Row}
 use Rattle.ti_rows.specs.declared.rows.Row.TheVariants.{Clear, Sgr0, Csr}
@@ -24,15 +23,15 @@ use Rattle.ti_rows.specs.Asked.{start_of, asked}
 use Rattle.ti_lines.specs.declared.lines.RowLine.{RowLine}
 use Rattle.ti_lines.specs.Heads.{IsSizeText, IsAcscText, is_end}
 use Rattle.ti_lines.specs.Lines.{IsTextOf}
-use Rattle.ti_cert.specs.Strings.{Strings, allows, group_at, string_in, has_group, Adds}
+use Rattle.ti_cert.specs.Strings.{Strings, allows, group_at, string_in, has_group, total, Adds}
 use Rattle.ti_cert.specs.Singles.{no_looks, rival}
 use Rattle.ti_cert.specs.Audit.{Known, Holds, IsKept, HasRecord, looks_with}
 use Rattle.ti_cert.specs.Table.{checked_of}
 use Rattle.ti_cert.specs.Order.{Precedes, HasLine, HasCap, HasBytes, IsRequired, IsComplete, IsInPlace}
 use Rattle.ti_cert.specs.Certificates.{Said, Nothing, Sized, Listing, Ended, speaks_of, looks_of, IsWhole, IsMisfit, JudgesRow, Cut, Wild, Untrue, Unasked, Stands as RowStands, JudgesLast, Lacks, Clashes, Closes, JudgesLater, IsLast, IsRow, IsMisplaced, IsNone, JudgesSecond, HasPairs as SecondHasPairs, HasNoPairs as SecondHasNoPairs, HasSize, HasNoSize, JudgesLine}
-use Rattle.ti_cert.specs.Clashes.{ClashesBy}
+use Rattle.ti_cert.specs.Clashes.{ClashesBy, GoesTogether}
 use Rattle.ti_cert.specs.Places.{missing, place_fault}
-use Rattle.ti_cert.specs.Good.{Lists, IsLastRow, IsUpTo, Stands, Tells, Steps, Becomes, AnswersLine, AnswersLater, AnswersRow, AnswersLast, OrNoMemory, IsTokenFault, Misshows, NoRecord, Another, NotAsked, IsMisplacedBy, HasPairs, HasNoPairs, HasNoMemory, LacksRecord, NotSplit, NotRecorded, RanOut, LacksNeeded, NoClear, NoSgr0, NoWidening, ConcludesBy, Lacking, Together, NoRoom}
+use Rattle.ti_cert.specs.Good.{Lists, IsLastRow, IsUpTo, Stands, Tells, Steps, Becomes, AnswersLine, AnswersLater, AnswersRow, AnswersLast, OrNoMemory, IsTokenFault, Misshows, NoRecord, Another, NotAsked, IsMisplacedBy, HasPairs, HasNoPairs, HasNoMemory, LacksRecord, NotSplit, NotRecorded, RanOut, LacksNeeded, NoClear, NoSgr0, NoWidening, IsConcluded, ConcludesBy, Lacking, Together, NoRoom}
 use Rattle.ti_cert.specs.declared.audits.Progress.{Progress}
 use Rattle.ti_cert.specs.declared.audits.Awaited.{Awaited}
 use Rattle.ti_cert.specs.declared.audits.Awaited.TheVariants as lines_awaited
@@ -244,7 +243,7 @@ last_clashes p kind has_pairs same none h = by_kind (is_no_memory kind)
       cols_are = st.cols;
       found = st.lists.found;
       kept = st.lists.kept;
-      clashes = subst (λ (o : Option (List ℕ)). ClashesBy (is_some o) (checked_of p.known settled) kind) pa t;
+      is = subst (λ (o : Option (List ℕ)). ClashesBy (is_some o) (checked_of p.known settled) kind) pa t;
     }) refl
     by_why lines pairs never st pa complete (NoRoom e) = absurd (never e)
 
@@ -252,11 +251,19 @@ last_clashes p kind has_pairs same none h = by_kind (is_no_memory kind)
     by_kind (inl e) = inr e
     by_kind (inr never) = inl (λ pairs lines st pa. by_why lines pairs never st pa (complete_at_end p.size.rows p.size.cols lines p.place.last p.size.limits st.place (sym none)) (subst (λ (b : Bool). ConcludesBy p.known b kind) same (h st.holds)))
 
-pub last_closes : (p : Progress) (settled : Charsets) → None ≡ missing p.size.rows p.size.cols p.place.last 42 → (Holds p.known → IsJudged (checked_of p.known settled)) → AnswersLast p (Ok (record p { awaited = lines_awaited.Ended settled }))
-last_closes p settled none judged = λ pairs lines st pa. record {
+pub last_closes : (p : Progress) (settled : Charsets) (has_pairs : Bool) → has_pairs ≡ is_some p.acsc → None ≡ missing p.size.rows p.size.cols p.place.last 42 → (Holds p.known → IsConcluded p.known has_pairs settled)
+    → AnswersLast p (Ok (record p { awaited = lines_awaited.Ended settled }))
+last_closes p settled has_pairs same none concluded = λ pairs lines st pa. record {
   after = Ended pairs lines;
-  judges = Closes (complete_at_end p.size.rows p.size.cols lines p.place.last p.size.limits st.place (sym none)) refl;
-  tells = (reawaited p (lines_awaited.Ended settled) lines st, pa, judged st.holds);
+  judges = Closes (complete_at_end p.size.rows p.size.cols lines p.place.last p.size.limits st.place (sym none)) (record {
+    table = checked_of p.known settled;
+    rows_are = st.rows;
+    cols_are = st.cols;
+    found = st.lists.found;
+    kept = st.lists.kept;
+    is = subst (λ (b : Bool). GoesTogether b (checked_of p.known settled)) (same ∙ ap (λ (o : Option (List ℕ)). is_some o) pa) (concluded st.holds).together;
+  }) refl;
+  tells = (reawaited p (lines_awaited.Ended settled) lines st, pa, (concluded st.holds).judged);
   rows = refl;
   cols = refl;
 }
@@ -338,6 +345,7 @@ lists_more k lines line new l a looks = record {
   kept = kept;
   groups = λ row. a.groups row ∙ ap (λ (b : Bool). (order row == order line.row) || b) (l.groups row);
   looks = looks ∙ looks_more k lines line l;
+  total_is = let new_is = a.total_is in let old_is = l.total_is in omega (arith, new_is, old_is);
 }
   where
     by_only : (row : Row) (bytes : List ℕ) → (string_in k.strings row ≡ Some bytes) ⊎ ((row ≡ line.row) × (bytes ≡ line.bytes)) → HasBytes (line ∷ lines) row bytes
@@ -432,6 +440,7 @@ starts_so p s looks holds none last = record {
     kept = λ line among. absurd among;
     groups = λ row. ap (λ (x : Strings). has_group x row) s ∙ ap (λ (g : List (List ℕ)). not (length g == 0)) (empty_group 42 (order row));
     looks = looks;
+    total_is = ap (λ (x : Strings). total x) s;
   };
   place = subst (λ (o : Option Row). IsUpTo p.size.rows p.size.cols [] o) (sym last) (λ line among. among);
 }

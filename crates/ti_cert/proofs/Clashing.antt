@@ -3,31 +3,33 @@ use Rattle.std.proofs.Common.{◌≡◌, ◌⊎◌, inl, inr, ◌-◌, ◌&&◌,
 use Rattle.std.specs.Prelude.{is_some}
 use Rattle.vt_term.specs.Function.{function_of}
 use Rattle.vt_term.specs.Screen.{Charset, is_graphic}
-use Rattle.vt_term.proofs.Splitting.{splits_append, empty_splits}
+use Rattle.vt_term.specs.Text.{Splits}
+use Rattle.vt_term.proofs.Splitting.{one_splitting, splits_append, empty_splits}
 use Rattle.vt_effects.specs.declared.effects.Effect.{Effect}
 use Rattle.vt_effects.specs.declared.effects.Sets.{Sets}
 use Rattle.vt_effects.specs.Effect.{designated}
 use Rattle.ti_charsets.specs.declared.reach.Reach.{Reach}
 use Rattle.ti_charsets.specs.declared.closing.Charsets.{Charsets}
-use Rattle.ti_charsets.specs.Charsets.{charset_after, charset_over, can_have, Reached, AtReset, AfterToken}
+use Rattle.ti_charsets.specs.Charsets.{charset_after, charset_over, can_have, IsAmong, Reached, AtReset, AfterToken}
 use Rattle.ti_charsets.specs.Closing.{Settled, First, After, SomeLeads, Leaves, designated_all}
 use Rattle.ti_charsets.specs.Closing as closing
-use Rattle.ti_charsets.proofs.Reaching.{can_reached}
+use Rattle.ti_charsets.proofs.Reaching.{reached_can, can_reached}
 use Rattle.ti_rows.specs.declared.rows.Row.{Row}
 use Rattle.ti_rows.specs.declared.rows.Row.TheVariants.{Clear, Csr, Smcup, Enacs, Sgr0, Smacs, Rmacs}
 use Rattle.ti_checked.specs.Table.{or_nothing, part, widening, resync, resync_front}
-use Rattle.ti_checked.specs.Sets.{CanHave, LeadsBy, CanSettle, AfterResync, AfterLine, has_sets}
+use Rattle.ti_checked.specs.Sets.{CanHave, LeadsBy, CanSettle, AfterResync, AfterLine}
 use Rattle.ti_checked.specs.Sets as sets
 use Rattle.ti_checked.proofs.Holding.{Leads}
-use Rattle.ti_cert.specs.Strings.{string_in}
+use Rattle.ti_cert.specs.Strings.{Strings, string_in}
 use Rattle.ti_cert.specs.Audit.{Known, IsKept, IsFrom, IsTold, Holds}
-use Rattle.ti_cert.specs.Table.{checked_of, first_of_resync, Changes, NoString, OfString, kept, or_kept, changes_of}
-use Rattle.ti_cert.specs.Clashes.{LeavesPlain, LeavesGraphic, SettlesGraphic, BeginsOpen, ResyncsGraphic}
-use Rattle.ti_cert.specs.Good.{Misleads, ConcludesBy, Together}
+use Rattle.ti_cert.specs.Table.{checked_of, first_of_resync, Changes, NoString, OfString, kept, or_kept, changes_of, Leads as Activates}
+use Rattle.ti_cert.specs.Clashes.{Misswitches, LeavesPlain, LeavesGraphic, StaysGraphic, Misresyncs, BeginsOpen, ResyncsGraphic, ByActive, ByLook, ByResync}
+use Rattle.ti_cert.specs.Good.{Misleads, FailsTogether, AtActive, AtLook, AtResync, IsConcluded, ConcludesBy, Together}
 use Rattle.ti_cert.specs.declared.faults.CertFaultKind.{CertFaultKind}
 use Rattle.ti_cert.specs.declared.faults.CertFaultKind.TheVariants.{NotShown, NoResync, BadLook}
-use Rattle.std.proofs.lemmas.Option.{same_Some}
-use Rattle.ti_cert.proofs.Judging.{record_sets, resync_head, head_of, change_there}
+use Rattle.std.proofs.lemmas.Bool.{true≢false}
+use Rattle.std.proofs.lemmas.Option.{same_Some, none-some}
+use Rattle.ti_cert.proofs.Judging.{Ends, judged, record_sets, resync_head, resync_begins, head_of, change_there}
 
 over_append : (ts us : List (List ℕ)) (c : Charset) → charset_over (ts ++ us) c ≡ charset_over us (charset_over ts c)
 over_append [] us c = refl
@@ -70,7 +72,9 @@ pub record Settles (k : Known) (settled first : Charsets) (smcup enacs sgr0 rmac
   pub sgr0_is : Changes k.strings Sgr0 sgr0
   pub rmacs_is : Changes k.strings Rmacs rmacs
   pub first_sound : (d : Charset) → closing.has first d ≡ true → Leaves k.reach (changes_of smcup enacs sgr0 rmacs) d
+  pub first_complete : (d : Charset) → Leaves k.reach (changes_of smcup enacs sgr0 rmacs) d → closing.has first d ≡ true
   pub close_sound : (c : Charset) → closing.has settled c ≡ true → Settled (λ d. closing.has first d ≡ true) (SomeLeads k.changes) c
+  pub close_complete : (c : Charset) → Settled (λ d. closing.has first d ≡ true) (SomeLeads k.changes) c → closing.has settled c ≡ true
 
 resync_leads : (k : Known) (settled first : Charsets) (smcup enacs sgr0 rmacs : Option Sets) → Settles k settled first smcup enacs sgr0 rmacs → Leads (resync (checked_of k settled)) (λ c. designated_all (changes_of smcup enacs sgr0 rmacs) c)
 unfolding resync
@@ -122,41 +126,159 @@ changed k row _ change (OfString bytes there tokens whole effect recorded) e = r
   leads = λ c. record { tokens = tokens; whole = whole; is = sym (record_sets k.strings.rows k.strings.cols row tokens effect recorded c ∙ ap (λ (x : Sets). designated x c) (same_Some effect.charset change e)) };
 }
 
-pub smacs_clash : (k : Known) (settled first : Charsets) (smcup enacs sgr0 rmacs smacs : Option Sets) (pairs : Bool) (kind : CertFaultKind) → Settles k settled first smcup enacs sgr0 rmacs → Changes k.strings Smacs smacs
-    → Misleads settled smacs true → kind ≡ NotShown → ConcludesBy k pairs kind
-smacs_clash k settled first smcup enacs sgr0 rmacs smacs pairs kind p is m e =
+-- Both ways: what was computed has every charset that tokens of lines lead to.
+
+token_reached : (k : Known) (settled : Charsets) (h : Holds k) (c : Charset) → CanHave (checked_of k settled) c → Reached h.all c
+token_reached k settled h c (sets.AtReset _ e) = AtReset c e
+token_reached k settled h d (sets.AfterToken c _ token r o e) =
+    let l : IsKept k h.all o.row o.bytes = h.lines o.row o.bytes o.there in
+    let same = one_splitting o.bytes o.tokens l.tokens [] [] o.whole l.whole in
+    AfterToken c d token (token_reached k settled h c r) (l.reached token (subst (λ (ts : List (List ℕ)). IsAmong ts token) (sym same.0) o.among)) e
+
+-- there is one splitting, so there is one such charset
+led : (bytes : List ℕ) (f : Charset → Charset) (c d : Charset) → Leads bytes f → LeadsBy bytes c d → d ≡ f c
+led bytes f c d p l =
+    let same = one_splitting bytes l.tokens p.tokens [] [] l.whole p.whole in
+    l.is ∙ (ap (λ (ts : List (List ℕ)). charset_over ts c) (sym same.0) ∙ p.leads c)
+
+left : (k : Known) (settled first : Charsets) (smcup enacs sgr0 rmacs : Option Sets) → Settles k settled first smcup enacs sgr0 rmacs → (c d : Charset) → CanHave (checked_of k settled) c → LeadsBy (resync (checked_of k settled)) c d
+    → Leaves k.reach (changes_of smcup enacs sgr0 rmacs) d
+left k settled first smcup enacs sgr0 rmacs p c d h l = record {
+  before = c;
+  there = ap (λ (x : Reach). can_have x c) p.holds.reach_is ∙ reached_can p.holds.all c (token_reached k settled p.holds c h);
+  leads = led (resync (checked_of k settled)) (λ x. designated_all (changes_of smcup enacs sgr0 rmacs) x) c d (resync_leads k settled first smcup enacs sgr0 rmacs p) l;
+}
+
+is_settled : (k : Known) (settled first : Charsets) (smcup enacs sgr0 rmacs : Option Sets) → Settles k settled first smcup enacs sgr0 rmacs → (c : Charset) → CanSettle (checked_of k settled) c → closing.has settled c ≡ true
+is_settled k settled first smcup enacs sgr0 rmacs p d (AfterResync c _ h l) = p.close_complete d (First d (p.first_complete d (left k settled first smcup enacs sgr0 rmacs p c d h l)))
+is_settled k settled first smcup enacs sgr0 rmacs p d (AfterLine c _ row bytes s there keeps l) =
+    let x : IsKept k p.holds.all row bytes = p.holds.lines row bytes there in
+    p.close_complete d (After c d (p.close_sound c (is_settled k settled first smcup enacs sgr0 rmacs p c s)) (record {
+      change = x.effect.charset;
+      among = x.settled keeps;
+      leads = led bytes (λ y. designated x.effect.charset y) c d (record { tokens = x.tokens; whole = x.whole; leads = record_sets k.strings.rows k.strings.cols row x.tokens x.effect x.has.recorded }) l;
+    }))
+
+-- a string whose change activates a set does so by its tokens
+switched : (k : Known) (settled : Charsets) (row : Row) (o : Option Sets) (graphic : Bool) → Changes k.strings row o → Activates settled o graphic → (bytes : List ℕ) → string_in k.strings row ≡ Some bytes
+    → (c d : Charset) → closing.has settled c ≡ true → LeadsBy bytes c d → is_graphic d ≡ graphic
+switched k settled row _ graphic (NoString none) a bytes there c d s l = absurd (none-some bytes (sym none ∙ there))
+switched k settled row _ graphic (OfString own is tokens whole effect recorded) a bytes there c d s l =
+    ap (λ (x : Charset). is_graphic x) (led bytes (λ y. designated effect.charset y) c d (record {
+      tokens = tokens;
+      whole = subst (λ (b : List ℕ). Splits b tokens []) (same_Some own bytes (sym is ∙ there)) whole;
+      leads = record_sets k.strings.rows k.strings.cols row tokens effect recorded;
+    }) l)
+    ∙ a c s
+
+never_both : (c : Charset) → is_graphic c ≡ true → is_graphic c ≡ false → ⊥
+never_both c on off = true≢false (sym on ∙ off)
+
+switches_right : (k : Known) (settled first : Charsets) (smcup enacs sgr0 rmacs smacs : Option Sets) → Settles k settled first smcup enacs sgr0 rmacs → Changes k.strings Smacs smacs
+    → Activates settled smacs true → Activates settled rmacs false → Misswitches (checked_of k settled) → ⊥
+switches_right k settled first smcup enacs sgr0 rmacs smacs p is g q (LeavesPlain bytes there c d s l off) =
+    never_both d (switched k settled Smacs smacs true is g bytes there c d (is_settled k settled first smcup enacs sgr0 rmacs p c s) l) off
+switches_right k settled first smcup enacs sgr0 rmacs smacs p is g q (LeavesGraphic bytes there c d s l on) =
+    never_both d on (switched k settled Rmacs rmacs false p.rmacs_is q bytes there c d (is_settled k settled first smcup enacs sgr0 rmacs p c s) l)
+
+-- which of the strings that switch sets are there
+sets_there : (k : Known) (rmacs smacs : Option Sets) (pairs : Bool) → Changes k.strings Smacs smacs → Changes k.strings Rmacs rmacs
+    → (pairs && (is_some (string_in k.strings Smacs) && is_some (string_in k.strings Rmacs))) ≡ (pairs && (is_some smacs && is_some rmacs))
+sets_there k rmacs smacs pairs s r =
+    ap (λ (b : Bool). pairs && (b && is_some (string_in k.strings Rmacs))) (change_there k.strings Smacs smacs s) ∙ ap (λ (b : Bool). pairs && (is_some smacs && b)) (change_there k.strings Rmacs rmacs r)
+
+stays_plain : (k : Known) (settled first : Charsets) (smcup enacs sgr0 rmacs smacs : Option Sets) (pairs all : Bool) → Settles k settled first smcup enacs sgr0 rmacs → Changes k.strings Smacs smacs
+    → all ≡ (pairs && (is_some smacs && is_some rmacs)) → (all ≡ false → Activates settled (Some kept) false) → StaysGraphic pairs (checked_of k settled) → ⊥
+stays_plain k settled first smcup enacs sgr0 rmacs smacs pairs all p is all_is plain s =
+    never_both s.charset s.graphic (plain (all_is ∙ (sym (sets_there k rmacs smacs pairs is p.rmacs_is) ∙ s.unsent)) s.charset (is_settled k settled first smcup enacs sgr0 rmacs p s.charset s.settles))
+
+resyncs_right : (k : Known) (settled first : Charsets) (smcup enacs sgr0 rmacs : Option Sets) → Settles k settled first smcup enacs sgr0 rmacs → Activates first (Some kept) false → first_of_resync k.strings ≡ Some 27
+    → Misresyncs (checked_of k settled) → ⊥
+resyncs_right k settled first smcup enacs sgr0 rmacs p quiet escape (BeginsOpen never) = let b = resync_begins k settled escape in never b.0 b.1
+resyncs_right k settled first smcup enacs sgr0 rmacs p quiet escape (ResyncsGraphic c d h l on) =
+    never_both d on (quiet d (p.first_complete d (left k settled first smcup enacs sgr0 rmacs p c d h l)))
+
+-- nothing is wrong with all lines together
+pub settles_of : (k : Known) (settled first : Charsets) (smcup enacs sgr0 rmacs smacs : Option Sets) (pairs : Bool) → Ends k settled first smcup enacs sgr0 rmacs smacs pairs → Settles k settled first smcup enacs sgr0 rmacs
+settles_of k settled first smcup enacs sgr0 rmacs smacs pairs p = record {
+  holds = p.holds;
+  smcup_is = p.smcup_is;
+  enacs_is = p.enacs_is;
+  sgr0_is = p.sgr0_is;
+  rmacs_is = p.rmacs_is;
+  first_sound = p.first_sound;
+  first_complete = p.first_complete;
+  close_sound = p.close_sound;
+  close_complete = p.close_complete;
+}
+
+pub concluded : (k : Known) (settled first : Charsets) (smcup enacs sgr0 rmacs smacs : Option Sets) (pairs : Bool) → Ends k settled first smcup enacs sgr0 rmacs smacs pairs → IsConcluded k pairs settled
+concluded k settled first smcup enacs sgr0 rmacs smacs pairs p =
+    let s : Settles k settled first smcup enacs sgr0 rmacs = settles_of k settled first smcup enacs sgr0 rmacs smacs pairs p in
+    record {
+      judged = judged k settled first smcup enacs sgr0 rmacs smacs pairs p;
+      together = record {
+        switches = switches_right k settled first smcup enacs sgr0 rmacs smacs s p.smacs_is p.goes_graphic p.goes_plain;
+        plain = stays_plain k settled first smcup enacs sgr0 rmacs smacs pairs (pairs && (is_some smacs && is_some rmacs)) s p.smacs_is refl p.plain;
+        resyncs = resyncs_right k settled first smcup enacs sgr0 rmacs s p.quiet p.escape;
+      };
+    }
+
+-- what was found wrong is so by the tokens
+
+active_wrong : (k : Known) (settled first : Charsets) (smcup enacs sgr0 rmacs smacs : Option Sets) → Settles k settled first smcup enacs sgr0 rmacs → Changes k.strings Smacs smacs
+    → Misleads settled smacs true ⊎ Misleads settled rmacs false → Misswitches (checked_of k settled)
+active_wrong k settled first smcup enacs sgr0 rmacs smacs p is (inl m) =
     let x : Changed k Smacs m.change = changed k Smacs smacs m.change is m.there in
-    Together settled (LeavesPlain x.bytes x.there m.charset (designated m.change m.charset) (can_settle k settled first smcup enacs sgr0 rmacs p m.charset (p.close_sound m.charset m.settled)) (x.leads m.charset) m.wrong e)
-
-pub rmacs_clash : (k : Known) (settled first : Charsets) (smcup enacs sgr0 rmacs : Option Sets) (pairs : Bool) (kind : CertFaultKind) → Settles k settled first smcup enacs sgr0 rmacs
-    → Misleads settled rmacs false → kind ≡ NotShown → ConcludesBy k pairs kind
-rmacs_clash k settled first smcup enacs sgr0 rmacs pairs kind p m e =
+    LeavesPlain x.bytes x.there m.charset (designated m.change m.charset) (can_settle k settled first smcup enacs sgr0 rmacs p m.charset (p.close_sound m.charset m.settled)) (x.leads m.charset) m.wrong
+active_wrong k settled first smcup enacs sgr0 rmacs smacs p is (inr m) =
     let x : Changed k Rmacs m.change = changed k Rmacs rmacs m.change p.rmacs_is m.there in
-    Together settled (LeavesGraphic x.bytes x.there m.charset (designated m.change m.charset) (can_settle k settled first smcup enacs sgr0 rmacs p m.charset (p.close_sound m.charset m.settled)) (x.leads m.charset) m.wrong e)
+    LeavesGraphic x.bytes x.there m.charset (designated m.change m.charset) (can_settle k settled first smcup enacs sgr0 rmacs p m.charset (p.close_sound m.charset m.settled)) (x.leads m.charset) m.wrong
 
-pub look_clash : (k : Known) (settled first : Charsets) (smcup enacs sgr0 rmacs smacs : Option Sets) (pairs all : Bool) (kind : CertFaultKind) → Settles k settled first smcup enacs sgr0 rmacs → Changes k.strings Smacs smacs
-    → all ≡ (pairs && (is_some smacs && is_some rmacs)) → all ≡ false → Misleads settled (Some kept) false → kind ≡ BadLook → ConcludesBy k pairs kind
-look_clash k settled first smcup enacs sgr0 rmacs smacs pairs all kind p is all_is off m e =
-    Together settled (SettlesGraphic
-    (ap (λ (b : Bool). pairs && (b && is_some (string_in k.strings Rmacs))) (change_there k.strings Smacs smacs is) ∙ (ap (λ (b : Bool). pairs && (is_some smacs && b)) (change_there k.strings Rmacs rmacs p.rmacs_is) ∙ (sym all_is ∙ off)))
-    m.charset (can_settle k settled first smcup enacs sgr0 rmacs p m.charset (p.close_sound m.charset m.settled))
-    (ap (λ (x : Sets). is_graphic (designated x m.charset)) (same_Some kept m.change m.there) ∙ m.wrong) e)
+misled_graphic : (s : Charsets) (m : Misleads s (Some kept) false) → is_graphic m.charset ≡ true
+misled_graphic s m = ap (λ (x : Sets). is_graphic (designated x m.charset)) (same_Some kept m.change m.there) ∙ m.wrong
 
-graphic_clash : (k : Known) (settled first : Charsets) (smcup enacs sgr0 rmacs : Option Sets) (pairs : Bool) (kind : CertFaultKind) → Settles k settled first smcup enacs sgr0 rmacs
-    → Misleads first (Some kept) false → kind ≡ NoResync → ConcludesBy k pairs kind
-graphic_clash k settled first smcup enacs sgr0 rmacs pairs kind p m e =
+look_wrong : (k : Known) (settled first : Charsets) (smcup enacs sgr0 rmacs smacs : Option Sets) (pairs all : Bool) → Settles k settled first smcup enacs sgr0 rmacs → Changes k.strings Smacs smacs
+    → all ≡ (pairs && (is_some smacs && is_some rmacs)) → all ≡ false → Misleads settled (Some kept) false → StaysGraphic pairs (checked_of k settled)
+look_wrong k settled first smcup enacs sgr0 rmacs smacs pairs all p is all_is off m = record {
+  unsent = sets_there k rmacs smacs pairs is p.rmacs_is ∙ (sym all_is ∙ off);
+  charset = m.charset;
+  settles = can_settle k settled first smcup enacs sgr0 rmacs p m.charset (p.close_sound m.charset m.settled);
+  graphic = misled_graphic settled m;
+}
+
+resync_wrong : (k : Known) (settled first : Charsets) (smcup enacs sgr0 rmacs : Option Sets) → Settles k settled first smcup enacs sgr0 rmacs → Misleads first (Some kept) false ⊎ (first_of_resync k.strings ≡ Some 27 → ⊥)
+    → Misresyncs (checked_of k settled)
+resync_wrong k settled first smcup enacs sgr0 rmacs p (inl m) =
     let l : Leaves k.reach (changes_of smcup enacs sgr0 rmacs) m.charset = p.first_sound m.charset m.settled in
-    Together settled (ResyncsGraphic l.before m.charset (can_be k settled p.holds l.before l.there) (first_leads k settled first smcup enacs sgr0 rmacs p m.charset l)
-    (ap (λ (x : Sets). is_graphic (designated x m.charset)) (same_Some kept m.change m.there) ∙ m.wrong) e)
+    ResyncsGraphic l.before m.charset (can_be k settled p.holds l.before l.there) (first_leads k settled first smcup enacs sgr0 rmacs p m.charset l) (misled_graphic first m)
+resync_wrong k settled first smcup enacs sgr0 rmacs p (inr never) = BeginsOpen (λ rest f. never (resync_head k settled ∙ ap (λ (xs : List ℕ). head_of xs) f))
 
-open_clash : (k : Known) (settled : Charsets) (pairs : Bool) (kind : CertFaultKind) → (first_of_resync k.strings ≡ Some 27 → ⊥) → kind ≡ NoResync → ConcludesBy k pairs kind
-open_clash k settled pairs kind h e = Together settled (BeginsOpen (λ rest f. h (resync_head k settled ∙ ap (λ (xs : List ℕ). head_of xs) f)) e)
+pub clash : (k : Known) (settled first : Charsets) (smcup enacs sgr0 rmacs smacs : Option Sets) (pairs all : Bool) (kind : CertFaultKind) → Settles k settled first smcup enacs sgr0 rmacs → Changes k.strings Smacs smacs
+    → all ≡ (pairs && (is_some smacs && is_some rmacs)) → FailsTogether settled first smacs rmacs all k.strings kind → ConcludesBy k pairs kind
+clash k settled first smcup enacs sgr0 rmacs smacs pairs all kind p is all_is (AtActive m e) = Together settled (ByActive (active_wrong k settled first smcup enacs sgr0 rmacs smacs p is m) e)
+clash k settled first smcup enacs sgr0 rmacs smacs pairs all kind p is all_is (AtLook g q off m e) =
+    Together settled (ByLook (switches_right k settled first smcup enacs sgr0 rmacs smacs p is g q) (look_wrong k settled first smcup enacs sgr0 rmacs smacs pairs all p is all_is off m) e)
+clash k settled first smcup enacs sgr0 rmacs smacs pairs all kind p is all_is (AtResync g q plain m e) =
+    Together settled (ByResync (switches_right k settled first smcup enacs sgr0 rmacs smacs p is g q) (stays_plain k settled first smcup enacs sgr0 rmacs smacs pairs all p is all_is plain)
+    (resync_wrong k settled first smcup enacs sgr0 rmacs p m) e)
 
 pub misled_some : (s : Charsets) (change : Sets) (graphic : Bool) (o : Option Charset) → IfSome o (λ c. (closing.has s c ≡ true) × (is_graphic (designated change c) ≡ not graphic)) → is_some o ≡ true → Misleads s (Some change) graphic
 misled_some s change graphic (Some c) h e = record { change = change; there = refl; charset = c; settled = h.0; wrong = h.1 }
 misled_some s change graphic None h e = cc
 
-pub resync_clash : (k : Known) (settled first : Charsets) (smcup enacs sgr0 rmacs : Option Sets) (pairs : Bool) (kind : CertFaultKind) → Settles k settled first smcup enacs sgr0 rmacs
-    → Misleads first (Some kept) false ⊎ (first_of_resync k.strings ≡ Some 27 → ⊥) → kind ≡ NoResync → ConcludesBy k pairs kind
-resync_clash k settled first smcup enacs sgr0 rmacs pairs kind p (inl m) e = graphic_clash k settled first smcup enacs sgr0 rmacs pairs kind p m e
-resync_clash k settled first smcup enacs sgr0 rmacs pairs kind p (inr h) e = open_clash k settled pairs kind h e
+-- the tests one after another
+
+pub at_smacs : (settled first : Charsets) (smacs rmacs : Option Sets) (all : Bool) (s : Strings) (kind : CertFaultKind) → (kind ≡ NotShown) × Misleads settled smacs true → FailsTogether settled first smacs rmacs all s kind
+at_smacs settled first smacs rmacs all s kind m = AtActive (inl m.1) m.0
+
+pub at_rmacs : (settled first : Charsets) (smacs rmacs : Option Sets) (all : Bool) (s : Strings) (kind : CertFaultKind) → (kind ≡ NotShown) × Misleads settled rmacs false → FailsTogether settled first smacs rmacs all s kind
+at_rmacs settled first smacs rmacs all s kind m = AtActive (inr m.1) m.0
+
+pub at_look : (settled first : Charsets) (smacs rmacs : Option Sets) (all : Bool) (s : Strings) (kind : CertFaultKind) → Activates settled smacs true → Activates settled rmacs false
+    → (kind ≡ BadLook) × (all ≡ false) × Misleads settled (Some kept) false → FailsTogether settled first smacs rmacs all s kind
+at_look settled first smacs rmacs all s kind g q m = AtLook g q m.1 m.2 m.0
+
+pub at_resync : (settled first : Charsets) (smacs rmacs : Option Sets) (all : Bool) (s : Strings) (kind : CertFaultKind) → Activates settled smacs true → Activates settled rmacs false
+    → (all ≡ false → Activates settled (Some kept) false) → (kind ≡ NoResync) × (Misleads first (Some kept) false ⊎ (first_of_resync s ≡ Some 27 → ⊥)) → FailsTogether settled first smacs rmacs all s kind
+at_resync settled first smacs rmacs all s kind g q plain m = AtResync g q plain m.1 m.0

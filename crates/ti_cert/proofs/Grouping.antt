@@ -1,6 +1,7 @@
 -- One more string in its capability's group.
-use Rattle.std.proofs.Common.{◌≡◌, ◌≢◌, ◌⊎◌, ◌<◌, ◌==◌, ℕ, zero, suc, Bool, true, false, if◌then◌else◌, ◌||◌, List, [], ◌∷◌, ◌++◌, length, length-append, slice_index_or, slice_set, Option, Some, None, inl, inr, refl, sym, ap, ◌∙◌, subst, arith, not}
-use Rattle.std.specs.List.{slice_get}
+use Rattle.std.proofs.Common.{◌≡◌, ◌≢◌, ◌⊎◌, ◌<◌, ◌+◌, ◌==◌, ℕ, zero, suc, Bool, true, false, if◌then◌else◌, ◌||◌, List, [], ◌∷◌, ◌++◌, length, length-append, slice_index_or, slice_set, Option, Some, None, inl, inr, refl, sym, ap, ◌∙◌, subst, arith, not}
+use Rattle.std.specs.List.{slice_get, sum_by}
+use Rattle.std.proofs.lemmas.List.Sums.{sum_by-set, sum_by-append}
 use Rattle.std.proofs.lemmas.List.{get_or-set_same, get_or-set_other}
 use Rattle.std.proofs.lemmas.Bool.{true≢false}
 use Rattle.std.proofs.lemmas.Bool.Decides.{nat_tests}
@@ -17,7 +18,7 @@ use Rattle.ti_rows.specs.Names.{order}
 use Rattle.ti_rows.specs.Lists.{rank}
 use Rattle.ti_rows.proofs.Naming.{orders_small}
 use Rattle.ti_rows.proofs.Listing.{one_of_rank}
-use Rattle.ti_cert.specs.Strings.{Strings, allows, group_at, string_in, has_group, Adds}
+use Rattle.ti_cert.specs.Strings.{Strings, allows, group_at, string_in, has_group, total, Adds}
 use Rattle.ti_cert.proofs.Ranges.{in_range, is_allowed, is_less}
 
 pub get_more : {A : Type 0} (xs : List A) (x y : A) (k : ℕ) → slice_get (xs ++ x ∷ []) k ≡ Some y → (slice_get xs k ≡ Some y) ⊎ ((k ≡ length xs) × (y ≡ x))
@@ -91,6 +92,7 @@ adds rows cols groups row bytes g many fits place made = record {
       let w2 : rank rows cols other < length before = subst (λ (n : ℕ). rank rows cols other < length (slice_index_or groups n [])) same w in
       is_less (rank rows cols other) (rank rows cols row) (omega (arith, w2, place));
   groups = λ other. joined other (order other == order row) refl;
+  total_is = more;
 }
   where
     old : Strings
@@ -104,6 +106,16 @@ adds rows cols groups row bytes g many fits place made = record {
 
     here : slice_index_or (slice_set groups (order row) g) (order row) [] ≡ g
     here = get_or-set_same groups (order row) g [] (subst (λ (n : ℕ). order row < n) (sym many) (orders_small row))
+
+    bytes_of : List (List ℕ) → ℕ
+    bytes_of xs = sum_by (λ b. length b) xs
+
+    more : total new ≡ total old + length bytes
+    more =
+        let set : total new + bytes_of before ≡ total old + bytes_of g = sum_by-set (λ xs. sum_by (λ b. length b) xs) groups (order row) g [] (subst (λ (n : ℕ). order row < n) (sym many) (orders_small row)) in
+        let single : bytes_of (bytes ∷ []) ≡ length bytes = omega arith in
+        let one : bytes_of g ≡ bytes_of before + bytes_of (bytes ∷ []) = ap (λ (xs : List (List ℕ)). sum_by (λ b. length b) xs) made ∙ sum_by-append (λ b. length b) before (bytes ∷ []) in
+        omega (arith, set, one, single)
 
     joined : (other : Row) (b : Bool) → (order other == order row) ≡ b → has_group new other ≡ (b || has_group old other)
     joined other true e = ap (λ (n : ℕ). not (length (slice_index_or (slice_set groups (order row) g) n []) == 0)) (same_places (order other) (order row) e)

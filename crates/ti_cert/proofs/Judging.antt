@@ -185,7 +185,7 @@ resync_head k settled = heads ∙ ap (λ (xs : List ℕ). head_of xs) (join_six 
     heads = first_head (string_in k.strings Smcup) _ _ (first_head (string_in k.strings Enacs) _ _ (first_head (string_in k.strings Sgr0) _ _ (first_head (string_in k.strings Rmacs) _ _
         (first_head (string_in k.strings (Csr 0 (k.strings.rows - 1))) _ _ (first_head (string_in k.strings Clear) [] None refl)))))
 
-resync_begins : (k : Known) (settled : Charsets) → first_of_resync k.strings ≡ Some 27 → (rest : List ℕ) × (resync (checked_of k settled) ≡ 27 ∷ rest)
+pub resync_begins : (k : Known) (settled : Charsets) → first_of_resync k.strings ≡ Some 27 → (rest : List ℕ) × (resync (checked_of k settled) ≡ 27 ∷ rest)
 resync_begins k settled escape = tail_of (resync (checked_of k settled)) 27 (sym (resync_head k settled) ∙ escape)
 
 pub judged : (k : Known) (settled first : Charsets) (smcup enacs sgr0 rmacs smacs : Option Sets) (has_acsc : Bool) → Ends k settled first smcup enacs sgr0 rmacs smacs has_acsc → IsJudged (checked_of k settled)

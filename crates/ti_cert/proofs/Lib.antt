@@ -8,4 +8,6 @@ pub mod Placing
 pub mod Clashing
 pub mod Auditing
 pub mod Relating
+pub mod Singleness
+pub mod Spelling
 pub mod Accepted

@@ -1,6 +1,6 @@
 -- How the lines of a certificate are judged one after another: which line may follow those that were read, and otherwise its
 -- first fault. Lines are listed with the latest first.
-use Rattle.std.specs.Prelude.{ℕ, ◌≡◌, ◌==◌, ◌||◌, Bool, true, false, if◌then◌else◌, List, [], ◌∷◌, Option, None, Some, Result, Ok, Err}
+use Rattle.std.specs.Prelude.{ℕ, ◌≡◌, ◌==◌, ◌||◌, is_some, Bool, true, false, if◌then◌else◌, List, [], ◌∷◌, Option, None, Some, Result, Ok, Err}
 use Rattle.vt_term.specs.Text.{Splits}
 use Rattle.vt_effects.specs.declared.effects.Effect.{Effect}
 use Rattle.vt_effects.specs.Record.{record_of}
@@ -18,7 +18,7 @@ use Rattle.ti_lines.specs.Lines.{IsTextOf}
 use Rattle.ti_reader.specs.Judging.{Rules, Judged}
 use Rattle.ti_reader.specs.declared.judging.LineFault.{LineFault}
 use Rattle.ti_cert.specs.Singles.{no_looks, rival}
-use Rattle.ti_cert.specs.Clashes.{Clash}
+use Rattle.ti_cert.specs.Clashes.{ClashesBy, GoesTogether, OfLines}
 use Rattle.ti_cert.specs.Order.{IsFirstLacking, IsComplete, IsLate, IsBehind, IsInPlace}
 use Rattle.ti_cert.specs.declared.faults.CertFaultKind.{CertFaultKind}
 use Rattle.ti_cert.specs.declared.faults.CertFaultKind.TheVariants.{BadLine, Missing, OutOfOrder, NotWhole, NotTame, NotShown, BadLook, NoMemory, ReadFailed}
@@ -94,11 +94,11 @@ pub data JudgesRow (rows cols : ℕ) (lines : List RowLine) (line : RowLine) (af
       → JudgesRow rows cols lines line after answer
   Stands : IsInPlace rows cols lines line.row → HasEffect rows cols line line.effect → IsAskedFor lines line → answer ≡ Ok after → JudgesRow rows cols lines line after answer
 
--- the last line
+-- the last line, by cases in the order in which faults are reported
 pub data JudgesLast (rows cols : ℕ) (pairs : Option (List ℕ)) (lines : List RowLine) (answer : Result Said CertFaultKind) : Type 0 where
   Lacks : (row : Row) → IsFirstLacking rows cols lines None row → answer ≡ Err (Missing row) → JudgesLast rows cols pairs lines answer
-  Clashes : IsComplete rows cols lines None → (kind : CertFaultKind) → Clash rows cols pairs lines kind → answer ≡ Err kind → JudgesLast rows cols pairs lines answer
-  Closes : IsComplete rows cols lines None → answer ≡ Ok (Ended pairs lines) → JudgesLast rows cols pairs lines answer
+  Clashes : IsComplete rows cols lines None → (kind : CertFaultKind) → OfLines rows cols lines (λ t. ClashesBy (is_some pairs) t kind) → answer ≡ Err kind → JudgesLast rows cols pairs lines answer
+  Closes : IsComplete rows cols lines None → OfLines rows cols lines (λ t. GoesTogether (is_some pairs) t) → answer ≡ Ok (Ended pairs lines) → JudgesLast rows cols pairs lines answer
 
 -- a line after that of alternate characters, or where that one may stand
 pub data JudgesLater (rows cols : ℕ) (pairs : Option (List ℕ)) (lines : List RowLine) (text : List ℕ) (answer : Result Said CertFaultKind) : Type 0 where

@@ -1,5 +1,5 @@
 -- (Serves the code alone.) What is known while a certificate is read, and how that stands to what its lines say.
-use Rattle.std.specs.Prelude.{ℕ, ◌-◌, ◌≡◌, ◌⊎◌, Bool, true, not, List, [], ◌∷◌, Option, None, Some, Result, Ok, Err}
+use Rattle.std.specs.Prelude.{ℕ, ◌+◌, ◌-◌, ◌≡◌, ◌⊎◌, Bool, true, false, not, List, [], ◌∷◌, length, Option, None, Some, Result, Ok, Err}
 use Rattle.vt_effects.specs.declared.effects.Effect.{Effect}
 use Rattle.vt_effects.specs.declared.effects.Sets.{Sets}
 use Rattle.vt_effects.specs.Effect.{designated}
@@ -20,14 +20,19 @@ use Rattle.ti_reader.specs.Judging.{Rules}
 use Rattle.ti_cert.specs.Audit.{Known, Holds, looks_with}
 use Rattle.ti_cert.specs.Certificates.{Said, Nothing, Sized, Listing, Ended, speaks_of, looks_of, IsWhole, IsMisfit, JudgesRow, JudgesLast, JudgesLater, JudgesLine, JudgesEnd}
 use Rattle.ti_cert.specs.Order.{Precedes, HasLine, HasBytes, IsComplete}
-use Rattle.ti_cert.specs.Clashes.{ClashesBy}
-use Rattle.ti_cert.specs.Strings.{Strings, string_in, has_group}
-use Rattle.ti_cert.specs.Table.{Content, checked_of}
+use Rattle.ti_cert.specs.Clashes.{ClashesBy, GoesTogether}
+use Rattle.ti_cert.specs.Strings.{Strings, string_in, has_group, total}
+use Rattle.ti_cert.specs.Table.{Content, checked_of, first_of_resync, kept, Leads}
 use Rattle.ti_cert.specs.declared.audits.Progress.{Progress}
 use Rattle.ti_cert.specs.declared.audits.Awaited.{Awaited}
 use Rattle.ti_cert.specs.declared.audits.Awaited.TheVariants as lines_awaited
 use Rattle.ti_cert.specs.declared.faults.CertFaultKind.{CertFaultKind}
-use Rattle.ti_cert.specs.declared.faults.CertFaultKind.TheVariants.{BadLine, OutOfOrder, NotWhole, NotTame, NotShown, NoMemory, ReadFailed}
+use Rattle.ti_cert.specs.declared.faults.CertFaultKind.TheVariants.{BadLine, OutOfOrder, NotWhole, NotTame, NotShown, NoResync, BadLook, NoMemory, ReadFailed}
+
+-- how many bytes lines have together
+abbrev pub all_bytes : List RowLine → ℕ
+all_bytes [] = 0
+all_bytes (line ∷ lines) = length line.bytes + all_bytes lines
 
 -- the strings are those of the lines, and attributes look as these tell
 pub record Lists (k : Known) (lines : List RowLine) : Type 0 where
@@ -35,6 +40,7 @@ pub record Lists (k : Known) (lines : List RowLine) : Type 0 where
   pub kept : (line : RowLine) → IsAmong lines line → string_in k.strings line.row ≡ Some line.bytes
   pub groups : (row : Row) → has_group k.strings row ≡ speaks_of lines row
   pub looks : k.looks ≡ looks_of lines
+  pub total_is : total k.strings ≡ all_bytes lines
 
 -- the last of these lines is about this row, and nothing is missing before it
 pub record IsLastRow (rows cols : ℕ) (lines : List RowLine) (last : Row) : Type 0 where
@@ -160,6 +166,18 @@ pub record Misleads (s : Charsets) (found : Option Sets) (graphic : Bool) : Type
   pub charset : Charset
   pub settled : closing.has s charset ≡ true
   pub wrong : is_graphic (designated change charset) ≡ not graphic
+
+-- what is wrong with all lines together by the charsets that were computed: the first that is, in the order in which faults are reported
+pub data FailsTogether (settled first : Charsets) (smacs rmacs : Option Sets) (has_sets : Bool) (s : Strings) (kind : CertFaultKind) : Type 0 where
+  AtActive : Misleads settled smacs true ⊎ Misleads settled rmacs false → kind ≡ NotShown → FailsTogether settled first smacs rmacs has_sets s kind
+  AtLook : Leads settled smacs true → Leads settled rmacs false → has_sets ≡ false → Misleads settled (Some kept) false → kind ≡ BadLook → FailsTogether settled first smacs rmacs has_sets s kind
+  AtResync : Leads settled smacs true → Leads settled rmacs false → (has_sets ≡ false → Leads settled (Some kept) false) → Misleads first (Some kept) false ⊎ (first_of_resync s ≡ Some 27 → ⊥) → kind ≡ NoResync
+      → FailsTogether settled first smacs rmacs has_sets s kind
+
+-- what is known where nothing is wrong with them
+pub record IsConcluded (k : Known) (has_pairs : Bool) (settled : Charsets) : Type 0 where
+  pub judged : IsJudged (checked_of k settled)
+  pub together : GoesTogether has_pairs (checked_of k settled)
 
 -- why lines that were judged one by one can't be concluded
 pub data ConcludesBy (k : Known) (has_pairs : Bool) (kind : CertFaultKind) : Type 0 where

@@ -1,6 +1,6 @@
 -- The strings of a certificate: for each checked capability those of its parameter lists, in ascending order.
-use Rattle.std.specs.Prelude.{ℕ, ◌≡◌, ◌⊎◌, ◌&&◌, ◌||◌, nat_le, nat_lt, Bool, true, not, ◌==◌, if◌then◌else◌, List, [], Option, Some, None, length, slice_index_or}
-use Rattle.std.specs.List.{slice_get}
+use Rattle.std.specs.Prelude.{ℕ, ◌≡◌, ◌⊎◌, ◌&&◌, ◌||◌, nat_le, nat_lt, Bool, true, not, ◌+◌, ◌==◌, if◌then◌else◌, List, [], Option, Some, None, length, slice_index_or}
+use Rattle.std.specs.List.{slice_get, sum_by}
 use Rattle.ti_rows.specs.declared.rows.Row.{Row}
 use Rattle.ti_rows.specs.declared.rows.Row.TheVariants.{Cup, Hpa, Vpa, Cub, Cuf, Cuu, Cud, Ech, Csr}
 use Rattle.ti_rows.specs.Names.{order}
@@ -37,6 +37,10 @@ string_in s row = if allows s.rows s.cols row then slice_get (group_at s (order 
 abbrev pub has_group : Strings → Row → Bool
 has_group s row = not (length (group_at s (order row)) == 0)
 
+-- how many bytes all strings have together
+abbrev pub total : Strings → ℕ
+total s = sum_by (λ group. sum_by (λ bytes. length bytes) group) s.groups
+
 -- one more string, and all others stay
 pub record Adds (old new : Strings) (row : Row) (bytes : List ℕ) : Type 0 where
   pub rows_kept : new.rows ≡ old.rows
@@ -46,3 +50,4 @@ pub record Adds (old new : Strings) (row : Row) (bytes : List ℕ) : Type 0 wher
   pub kept : (other : Row) (found : List ℕ) → string_in old other ≡ Some found → string_in new other ≡ Some found
   pub later : (other : Row) (found : List ℕ) → string_in old other ≡ Some found → order other ≡ order row → nat_lt (rank old.rows old.cols other) (rank old.rows old.cols row) ≡ true
   pub groups : (other : Row) → has_group new other ≡ (order other == order row || has_group old other)
+  pub total_is : total new ≡ total old + length bytes

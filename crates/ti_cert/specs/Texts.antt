@@ -1,14 +1,19 @@
 -- What an audit's answer says of the text of a certificate.
-use Rattle.std.specs.Prelude.{ℕ, ◌≡◌, ◌⊎◌, List, Some, Ok, Err}
+use Rattle.std.specs.Prelude.{ℕ, ◌+◌, ◌≤◌, ◌≡◌, ◌⊎◌, List, [], ◌∷◌, length, reverse, Option, None, Some, Result, Ok, Err}
 use Rattle.ti_charsets.specs.Charsets.{IsAmong}
 use Rattle.ti_rows.specs.declared.rows.Row.{Row}
 use Rattle.ti_lines.specs.declared.lines.RowLine.{RowLine}
+use Rattle.ti_lines.specs.Texts.{IsCertificateText}
+use Rattle.ti_reader.specs.Reader.{Gave}
+use Rattle.ti_reader.specs.Text.{cut_of}
 use Rattle.ti_reader.specs.Judging.{fault_at}
+use Rattle.ti_reader.specs.declared.judging.LineFault.{LineFault}
 use Rattle.ti_cert.specs.Strings.{string_in}
 use Rattle.ti_cert.specs.Table.{Content}
-use Rattle.ti_cert.specs.Order.{HasBytes}
-use Rattle.ti_cert.specs.Certificates.{Ended, IsAnswer}
+use Rattle.ti_cert.specs.Order.{HasBytes, IsComplete, IsInPlace}
+use Rattle.ti_cert.specs.Certificates.{Said, Ended, IsAnswer, limit}
 use Rattle.ti_cert.specs.declared.faults.CertFault.{CertFault}
+use Rattle.ti_cert.specs.declared.faults.CertFaultKind.{CertFaultKind}
 use Rattle.ti_cert.specs.declared.faults.CertFaultKind.TheVariants.{NoMemory, ReadFailed}
 use Rattle.ti_cert.specs.declared.faults.VerifyFault.{VerifyFault}
 use Rattle.ti_cert.specs.declared.faults.VerifyFault.TheVariants.{Cert, Agree}
@@ -29,3 +34,52 @@ IsRefused rows cols text Failed fault =
 abbrev pub IsCertRefused : ℕ → ℕ → List ℕ → Type 0 → VerifyFault → Type 0
 IsCertRefused rows cols text Failed (Cert fault) = IsRefused rows cols text Failed fault
 IsCertRefused rows cols text Failed (Agree fault) = Unit {0}
+
+-- a reader that failed did so in this line
+abbrev pub IsLineRead : ℕ → CertFault → Type 0
+IsLineRead number fault = fault.kind ≡ ReadFailed → fault.line ≡ number
+
+abbrev pub IsCertLineRead : ℕ → VerifyFault → Type 0
+IsCertLineRead number (Cert fault) = IsLineRead number fault
+IsCertLineRead number (Agree fault) = Unit {0}
+
+-- What a call takes from its reader: at most one byte more than a certificate may have; and what is so of the number of the line being
+-- read, which is the one after those that were given whole.
+pub record Takes {R : Type 0} (left : R → List ℕ → Type 0) (failures : R → ℕ) (old new : R) (IsSo : ℕ → Type 0) : Type 0 where
+  pub given : List ℕ
+  pub gave : Gave left failures old new given
+  pub few : length given ≤ limit + 1
+  pub reading : IsSo (length (cut_of given).lines + 1)
+
+-- No text has two answers.
+abbrev pub OneAnswer : Type 0
+OneAnswer = (rows cols : ℕ) (text : List ℕ) (one other : Result Said (LineFault CertFaultKind)) → IsAnswer rows cols text one → IsAnswer rows cols text other → one ≡ other
+
+-- So tables of the same text have the same pairs and the same strings,
+abbrev pub OneTable : Type 0
+OneTable = (rows cols : ℕ) (text : List ℕ) (one other : Content) → IsTableOf rows cols text one → IsTableOf rows cols text other
+    → (one.acsc ≡ other.acsc) × ((row : Row) → string_in one.known.strings row ≡ string_in other.known.strings row)
+
+-- and a text that has a table is refused only where memory runs out,
+abbrev pub NoOther : Type 0
+NoOther = (rows cols : ℕ) (text : List ℕ) (table : Content) (fault : CertFault) → IsTableOf rows cols text table → IsRefused rows cols text ⊥ fault → fault.kind ≡ NoMemory
+
+-- and one that has none always for the same fault in the same line.
+abbrev pub OneFault : Type 0
+OneFault = (rows cols : ℕ) (text : List ℕ) (one other : CertFault) → IsRefused rows cols text ⊥ one → IsRefused rows cols text ⊥ other → (one ≡ other) ⊎ ((one.kind ≡ NoMemory) ⊎ (other.kind ≡ NoMemory))
+
+-- These lines about capabilities, each in its place after those before it, which are listed with the latest first; after the last of
+-- them nothing is missing.
+abbrev pub StandInOrder : ℕ → ℕ → List RowLine → List RowLine → Type 0
+StandInOrder rows cols before [] = IsComplete rows cols before None
+StandInOrder rows cols before (line ∷ lines) = IsInPlace rows cols before line.row × StandInOrder rows cols (line ∷ before) lines
+
+-- the text of a certificate for this size, with these pairs and lines
+pub record IsCertificate (rows cols : ℕ) (text : List ℕ) (pairs : Option (List ℕ)) (lines : List RowLine) : Type 0 where
+  pub spelled : IsCertificateText text (record { rows = rows; cols = cols; acsc = pairs; lines = lines })
+  pub stands : StandInOrder rows cols [] lines
+  pub few : length text ≤ limit
+
+-- A text that is accepted is that of a certificate.
+abbrev pub IsThatOfCertificate : Type 0
+IsThatOfCertificate = (rows cols : ℕ) (text : List ℕ) (pairs : Option (List ℕ)) (lines : List RowLine) → IsAnswer rows cols text (Ok (Ended pairs lines)) → IsCertificate rows cols text pairs (reverse lines)

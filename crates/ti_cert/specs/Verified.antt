@@ -1,5 +1,5 @@
 -- The strings of an entry that was verified for a size, and what may be relied on of them, by runs of a terminal alone.
-use Rattle.std.specs.Prelude.{ℕ, ◌≡◌, ◌&&◌, List, Option, Some, None, if◌then◌else◌}
+use Rattle.std.specs.Prelude.{ℕ, ◌<◌, ◌≡◌, ◌&&◌, List, Option, Some, None, if◌then◌else◌}
 use Rattle.vt_term.specs.Size.{IsSize}
 use Rattle.vt_term.specs.Screen.{State}
 use Rattle.ti_looks.specs.Alternates.{partner_of}
@@ -9,10 +9,14 @@ use Rattle.ti_checked.specs.Table.{Table, has, resync, IsLost}
 use Rattle.ti_checked.specs.Checked.{IsChecked, IsResynced}
 use Rattle.ti_conforms.specs.Together.{StandTogether}
 use Rattle.ti_cert.specs.Singles.{LooksStand}
+use Rattle.ti_cert.specs.Strings.{total}
+use Rattle.ti_cert.specs.Certificates.{limit}
 use Rattle.ti_cert.specs.Table.{Content, table_of}
 
 pub record IsVerified (c : Content) : Type 0 where
   pub size : IsSize c.known.strings.rows c.known.strings.cols
+  -- all strings together have fewer bytes than a certificate may have, 2^26
+  pub few : total c.known.strings < limit
   -- where the lines' runs end, whole and cut off, and where a resynchronization leads
   pub checked : IsChecked (table_of c)
   -- which lines there are beside each other

@@ -1,13 +1,15 @@
 //! A certificate judged line by line as a reader gives it.
 
-ghost use Rattle.std.specs.Prelude.{◌≡◌, ℕ, List, true, false, IfOk, IfErr, OnOk, Ok};
+ghost use Rattle.std.specs.Prelude.{◌≡◌, ◌<◌, ℕ, List, true, false, IfOk, IfErr, OnOk, Ok};
 ghost use Rattle.ti_checked.specs.Judged.{IsJudged};
 ghost use Rattle.ti_lines.specs.Heads.{IsSizeText};
 ghost use Rattle.ti_reader.specs.Reader.{Rose};
 ghost use Rattle.ti_cert.specs.Good as spec;
+ghost use Rattle.ti_cert.specs.Certificates.{limit};
 ghost use Rattle.ti_cert.specs.Singles.{LooksStand};
+ghost use Rattle.ti_cert.specs.Strings.{total};
 ghost use Rattle.ti_cert.specs.Table.{table_of};
-ghost use Rattle.ti_cert.specs.Texts.{IsTableOf, IsRefused};
+ghost use Rattle.ti_cert.specs.Texts.{IsTableOf, IsRefused, IsLineRead, Takes};
 
 use crate::ending::conclude;
 use crate::faults::{CertFault, CertFaultKind};
@@ -248,8 +250,10 @@ pub fn audit_from<R: Reader>(alloc: Global, reader: &mut R, size: Size) -> Resul
     ensures looks { IfOk result (λ table. LooksStand (table_of table)) }
     ensures rows { IfOk result (λ table. table.known.strings.rows ≡ size.rows) }
     ensures cols { IfOk result (λ table. table.known.strings.cols ≡ size.cols) }
+    ensures few { IfOk result (λ table. total table.known.strings < limit) }
     ensures accepted { (text : List ℕ) → R.left reader.old text → IfOk result (IsTableOf size.rows size.cols text) }
     ensures refused { (text : List ℕ) → R.left reader.old text → IfErr result (IsRefused size.rows size.cols text (Rose (R.failures reader.old) (R.failures reader.new))) }
+    ensures takes { Takes R.left R.failures reader.old reader.new (λ number. IfErr result (IsLineRead number)) }
 {
     let mut progress = started(alloc, size)?;
     match judge_lines(alloc, LIMIT, reader, &mut progress) {
@@ -270,6 +274,7 @@ pub fn audit(alloc: Global, text: &[u8], size: Size) -> Result<Table, CertFault>
     ensures looks { IfOk result (λ table. LooksStand (table_of table)) }
     ensures rows { IfOk result (λ table. table.known.strings.rows ≡ size.rows) }
     ensures cols { IfOk result (λ table. table.known.strings.cols ≡ size.cols) }
+    ensures few { IfOk result (λ table. total table.known.strings < limit) }
     ensures accepted { IfOk result (IsTableOf size.rows size.cols text.now) }
     ensures refused { IfErr result (IsRefused size.rows size.cols text.now ⊥) }
 {

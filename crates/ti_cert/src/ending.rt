@@ -1,8 +1,7 @@
 //! What is judged at the end of a certificate: charsets, and the strings that lead out of any state.
 
 ghost use Rattle.std.specs.Prelude.{◌≡◌, ◌⊎◌, ◌-◌, ◌&&◌, IfOk, IfErr, OnOk, Some, true, false, is_some};
-ghost use Rattle.ti_cert.specs.Good.{LacksRecord, LacksNeeded, Misleads, ConcludesBy};
-ghost use Rattle.ti_checked.specs.Judged.{IsJudged};
+ghost use Rattle.ti_cert.specs.Good.{LacksRecord, LacksNeeded, Misleads, FailsTogether, IsConcluded, ConcludesBy};
 ghost use Rattle.ti_cert.specs.Audit.{Holds};
 ghost use Rattle.ti_cert.specs.Strings.{has_group, string_in};
 ghost use Rattle.ti_cert.specs.Table as spec;
@@ -180,7 +179,7 @@ pub(crate) fn conclude(
     known: &Known,
     has_acsc: bool,
 ) -> Result<Charsets, CertFaultKind>
-    ensures judged { IfOk result (λ settled. Holds known.now → IsJudged (spec.checked_of known.now settled)) }
+    ensures concluded { IfOk result (λ settled. Holds known.now → IsConcluded known.now has_acsc settled) }
     ensures fails { IfErr result (λ kind. Holds known.now → ConcludesBy known.now has_acsc kind) }
 {
     let strings = &known.strings;
@@ -189,11 +188,33 @@ pub(crate) fn conclude(
     let first = first_settled(&resync, known.reach);
     let settled = settled_from(first, &known.changes);
     let smacs = change_of(alloc, strings, Row::Smacs)?;
-    check_active(&settled, smacs, true)?;
-    check_active(&settled, resync.rmacs, false)?;
-    check_plain(&settled, all_there(has_acsc, smacs, resync.rmacs))?;
-    check_resync(&first, strings)?;
+    let has_sets = all_there(has_acsc, smacs, resync.rmacs);
+    check_together(&settled, &first, smacs, resync.rmacs, has_sets, strings)?;
     Ok(settled)
+}
+
+/// Judges all lines together: which set is active after `smacs` and `rmacs`, that settled charsets are
+/// plain where letters of line graphics can't be sent, and what leads out of any state.
+#[tactic(auto, using(crate::proofs::Clashing::at_smacs, crate::proofs::Clashing::at_rmacs, crate::proofs::Clashing::at_look, crate::proofs::Clashing::at_resync))]
+fn check_together(
+    settled: &Charsets,
+    first: &Charsets,
+    smacs: Option<Sets>,
+    rmacs: Option<Sets>,
+    has_sets: bool,
+    strings: &Strings,
+) -> Result<(), CertFaultKind>
+    ensures graphic { OnOk result (spec.Leads settled.now smacs true) }
+    ensures plain { OnOk result (spec.Leads settled.now rmacs false) }
+    ensures unsent { OnOk result (has_sets ≡ false → spec.Leads settled.now (Some spec.kept) false) }
+    ensures resync { OnOk result (spec.Leads first.now (Some spec.kept) false) }
+    ensures escape { OnOk result (spec.first_of_resync strings.now ≡ Some 27) }
+    ensures fails { IfErr result (FailsTogether settled.now first.now smacs rmacs has_sets strings.now) }
+{
+    check_active(settled, smacs, true)?;
+    check_active(settled, rmacs, false)?;
+    check_plain(settled, has_sets)?;
+    check_resync(first, strings)
 }
 
 /// Whether letters of line graphics can be sent.

@@ -6,6 +6,7 @@ mod audits;
 mod ending;
 mod faults;
 mod known;
+pub mod laws;
 mod places;
 mod strings;
 mod table;

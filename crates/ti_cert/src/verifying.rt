@@ -2,7 +2,7 @@
 
 ghost use Rattle.std.specs.Prelude.{◌≡◌, ◌++◌, ℕ, List, IfOk, IfErr, IfSome, OnOk, option_copied};
 ghost use Rattle.ti_reader.specs.Reader.{Rose};
-ghost use Rattle.ti_cert.specs.Texts.{IsCertRefused};
+ghost use Rattle.ti_cert.specs.Texts.{IsCertRefused, IsCertLineRead, Takes};
 ghost use Rattle.ti_caps.specs.Entry.{string_at};
 ghost use Rattle.ti_checked.specs.Checked.{IsLine};
 ghost use Rattle.ti_checked.specs.Table.{part, resync, widening};
@@ -148,6 +148,7 @@ pub fn verify_from<R: Reader>(
     reader: &mut R,
 ) -> Result<Checked, VerifyFault>
     ensures refused { (text : List ℕ) → R.left reader.old text → IfErr result (IsCertRefused size.rows size.cols text (Rose (R.failures reader.old) (R.failures reader.new))) }
+    ensures takes { Takes R.left R.failures reader.old reader.new (λ number. IfErr result (IsCertLineRead number)) }
     ensures conforms { IfOk result (λ _. Conforms entry.now size.rows size.cols) }
     ensures rows { IfOk result (λ checked. checked.known.strings.rows ≡ size.rows) }
     ensures cols { IfOk result (λ checked. checked.known.strings.cols ≡ size.cols) }

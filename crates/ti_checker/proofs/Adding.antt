@@ -12,7 +12,7 @@ use Rattle.ti_checker.specs.No.{IsFaulty, IsSo}
 use Rattle.ti_checker.specs.Notes.{SendsNoTokens, RowNotes, RowsNotes, IsUnsentAt, IsFirstUnsent, AddsNotesAt}
 use Rattle.ti_checker.specs.declared.noting.CheckNote.{CheckNote}
 use Rattle.ti_checker.specs.declared.causes.Cause.{Cause}
-use Rattle.ti_checker.specs.declared.causes.Cause.TheVariants.{FlagOut, Absent, AcsByte, Parm, StaticRead, Unfinished, Stuck, NotTame, BadLook, WrongEffect, NotShown, NoMemory}
+use Rattle.ti_checker.specs.declared.causes.Cause.TheVariants.{FlagOut, Absent, AcsByte, Parm, StaticRead, Unfinished, Stuck, NotTame, BadLook, WrongEffect, NotShown, NoResync, NoMemory}
 use Rattle.ti_checker.specs.declared.causes.No.{No}
 
 -- ---- rows
@@ -72,6 +72,7 @@ faulty rows cols string row NoMemory h = tt
 faulty rows cols string row FlagOut h = absurd h
 faulty rows cols string row Absent h = absurd h
 faulty rows cols string row AcsByte h = absurd h
+faulty rows cols string row NoResync h = absurd h
 faulty rows cols string row NotTame h = absurd h
 faulty rows cols string row BadLook h = absurd h
 faulty rows cols string row (WrongEffect p) h = absurd h

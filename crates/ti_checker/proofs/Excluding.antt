@@ -27,9 +27,11 @@ use Rattle.ti_probes.specs.declared.probes.Probe.{Probe}
 use Rattle.ti_sends.specs.Sends.{Sends, values}
 use Rattle.ti_sends.specs.Entries.{has_string, is_checked, string_of}
 use Rattle.ti_conforms.specs.Conforms.{Conforms, IsFit, xmc, hc, gn, os}
+use Rattle.ti_checker.proofs.Together.{none_open}
+use Rattle.ti_checker.specs.First.{SendsRight}
 use Rattle.ti_checker.specs.No.{is_flag_out, IsRequired, HasMisfit, IsUnfitBy, SendsSome, IsFaulty, HasFaulty, IsSo, IsSoBy, ClaimsNothing}
 use Rattle.ti_checker.specs.declared.causes.Cause.{Cause}
-use Rattle.ti_checker.specs.declared.causes.Cause.TheVariants.{FlagOut, Absent, AcsByte, Parm, StaticRead, Unfinished, Stuck, NotTame, BadLook, WrongEffect, NotShown, NoMemory}
+use Rattle.ti_checker.specs.declared.causes.Cause.TheVariants.{FlagOut, Absent, AcsByte, Parm, StaticRead, Unfinished, Stuck, NotTame, BadLook, WrongEffect, NotShown, NoResync, NoMemory}
 use Rattle.ti_checker.specs.declared.causes.No.{No}
 
 -- ---- what the entry has
@@ -70,14 +72,8 @@ none_misfit entry fit m =
 
 -- ---- what a string sends
 
-record IsSentRight (rows cols : ℕ) (string : List ℕ) (row : Row) : Type 0 where
-  bytes : List ℕ
-  sends : Sends string row bytes
-  looks : Looks
-  right : IsRight rows cols looks row bytes
-
 sent_right : (entry : Content) (rows cols : ℕ) → Conforms entry rows cols → (row : Row) → IsInRange rows cols row → is_checked entry row ≡ true → (string : List ℕ) → string_of entry row ≡ Some string
-    → IsSentRight rows cols string row
+    → SendsRight rows cols string row
 sent_right entry rows cols c row range checked string there =
     let s = (c.sends row range).checked checked in
     let same : s.string ≡ string = cc (s.there, there) in
@@ -111,10 +107,10 @@ not_broken rows cols looks row bytes p r b =
     b.unwanted looks (subst (λ (s : State). Wants looks row (screen_of rows cols p) s.screen) same e.wanted)
 
 -- what holds of the bytes that a string sends holds of those that are right
-sent_is : (rows cols : ℕ) (string : List ℕ) (row : Row) (Holds : List ℕ → Type 0) → (r : IsSentRight rows cols string row) → SendsSome string row Holds → Holds r.bytes
+sent_is : (rows cols : ℕ) (string : List ℕ) (row : Row) (Holds : List ℕ → Type 0) → (r : SendsRight rows cols string row) → SendsSome string row Holds → Holds r.bytes
 sent_is rows cols string row Holds r s = subst Holds (same_bytes string row s.bytes r.bytes s.sends r.sends) s.holds
 
-none_faulty : (rows cols : ℕ) (string : List ℕ) (row : Row) (cause : Cause) → IsSentRight rows cols string row → IsFaulty rows cols string row cause → ClaimsNothing cause
+none_faulty : (rows cols : ℕ) (string : List ℕ) (row : Row) (cause : Cause) → SendsRight rows cols string row → IsFaulty rows cols string row cause → ClaimsNothing cause
 none_faulty rows cols string row (Parm fault) r h = no_fault string row r.bytes fault r.sends h
 none_faulty rows cols string row StaticRead r h = r.sends.sets_first h.end h.runs h.reads
 none_faulty rows cols string row Unfinished r h =
@@ -128,6 +124,7 @@ none_faulty rows cols string row (WrongEffect p) r h =
 none_faulty rows cols string row NotTame r h = tt
 none_faulty rows cols string row NotShown r h = tt
 none_faulty rows cols string row NoMemory r h = tt
+none_faulty rows cols string row NoResync r h = absurd h
 none_faulty rows cols string row FlagOut r h = absurd h
 none_faulty rows cols string row Absent r h = absurd h
 none_faulty rows cols string row AcsByte r h = absurd h
@@ -142,6 +139,7 @@ none_unfit entry cap Unfinished fit h = absurd h
 none_unfit entry cap Stuck fit h = absurd h
 none_unfit entry cap BadLook fit h = absurd h
 none_unfit entry cap (WrongEffect p) fit h = absurd h
+none_unfit entry cap NoResync fit h = absurd h
 none_unfit entry cap NotTame fit h = tt
 none_unfit entry cap NotShown fit h = tt
 none_unfit entry cap NoMemory fit h = tt
@@ -156,6 +154,7 @@ by_cause entry rows cols refusal AcsByte e c h = none_unfit entry refusal.cap re
 by_cause entry rows cols refusal NotTame e c h = subst ClaimsNothing (sym e) tt
 by_cause entry rows cols refusal NotShown e c h = subst ClaimsNothing (sym e) tt
 by_cause entry rows cols refusal NoMemory e c h = subst ClaimsNothing (sym e) tt
+by_cause entry rows cols refusal NoResync e c h = absurd (none_open entry rows cols c h.1)
 by_cause entry rows cols refusal (Parm fault) e c h = row_faulty entry rows cols refusal c h
 by_cause entry rows cols refusal StaticRead e c h = row_faulty entry rows cols refusal c h
 by_cause entry rows cols refusal Unfinished e c h = row_faulty entry rows cols refusal c h

@@ -1,7 +1,10 @@
 pub mod Walking
+pub mod Earliest
+pub mod Together
 pub mod Misjudging
 pub mod Telling
 pub mod Changing
 pub mod Adding
 pub mod Once
 pub mod Excluding
+pub mod Certifying

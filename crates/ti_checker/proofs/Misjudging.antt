@@ -6,7 +6,7 @@ use Rattle.ti_sends.specs.Sends.{Sends}
 use Rattle.ti_probes.proofs.Showing.{shown_breaks}
 use Rattle.ti_checker.specs.No.{IsFaulty, IsMisjudged}
 use Rattle.ti_checker.specs.declared.causes.Cause.{Cause}
-use Rattle.ti_checker.specs.declared.causes.Cause.TheVariants.{FlagOut, Absent, AcsByte, Parm, StaticRead, Unfinished, Stuck, NotTame, BadLook, WrongEffect, NotShown, NoMemory}
+use Rattle.ti_checker.specs.declared.causes.Cause.TheVariants.{FlagOut, Absent, AcsByte, Parm, StaticRead, Unfinished, Stuck, NotTame, BadLook, WrongEffect, NotShown, NoResync, NoMemory}
 
 pub misjudged : (rows cols : ℕ) (string : List ℕ) (row : Row) (bytes : List ℕ) (tokens : List (List ℕ)) (cause : Cause) → Sends string row bytes → Splits bytes tokens []
     → IsMisjudged rows cols row tokens cause → IsFaulty rows cols string row cause
@@ -15,11 +15,13 @@ misjudged rows cols string row bytes tokens Absent sends split m = absurd m.misf
 misjudged rows cols string row bytes tokens AcsByte sends split m = absurd m.misfit
 misjudged rows cols string row bytes tokens (Parm fault) sends split m = absurd m.misfit
 misjudged rows cols string row bytes tokens StaticRead sends split m = absurd m.misfit
+misjudged rows cols string row bytes tokens NoResync sends split m = absurd m.misfit
 misjudged rows cols string row bytes tokens Unfinished sends split m = absurd m.misfit
 misjudged rows cols string row bytes tokens Stuck sends split m = absurd m.misfit
-misjudged rows cols string row bytes tokens NotTame sends split m = tt
+misjudged rows cols string row bytes tokens NotTame sends split m = record { bytes = bytes; sends = sends; holds = record { tokens = tokens; whole = split; unrecorded = m } }
 misjudged rows cols string row bytes tokens BadLook sends split m =
     (m.misfit.0, record { bytes = bytes; sends = sends; holds = (m.misfit.1.0, shown_breaks rows cols row bytes tokens m.effect m.misfit.1.0 split m.recorded m.misfit.1.1) })
 misjudged rows cols string row bytes tokens (WrongEffect p) sends split m = record { bytes = bytes; sends = sends; holds = shown_breaks rows cols row bytes tokens m.effect p split m.recorded m.misfit }
-misjudged rows cols string row bytes tokens NotShown sends split m = tt
+misjudged rows cols string row bytes tokens NotShown sends split m =
+    record { bytes = bytes; sends = sends; holds = record { tokens = tokens; whole = split; effect = m.effect; recorded = m.recorded; unasked = m.misfit } }
 misjudged rows cols string row bytes tokens NoMemory sends split m = tt

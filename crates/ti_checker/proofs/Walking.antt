@@ -1,5 +1,5 @@
 -- What is wrong with a row of a checked capability is wrong with the entry.
-use Rattle.std.proofs.Common.{◌≡◌, ◌+◌, ◌==◌, ◌&&◌, ℕ, true, List, Option, Some, if◌then◌else◌, refl, sym, ap, ◌∙◌}
+use Rattle.std.proofs.Common.{◌≡◌, inl, ◌+◌, ◌==◌, ◌&&◌, ℕ, true, List, Option, Some, if◌then◌else◌, refl, sym, ap, ◌∙◌}
 use Rattle.std.specs.Prelude.{is_some, Result, Ok, Err, IfErr}
 use Rattle.ti_caps.specs.Entry.{Content, string_at}
 use Rattle.ti_rows.specs.declared.rows.Row.{Row}
@@ -10,7 +10,7 @@ use Rattle.ti_sends.specs.declared.entries.Group.TheVariants.{Colors, Single, Se
 use Rattle.ti_sends.specs.Entries.{group_of, string_of, has_string, meets, is_checked}
 use Rattle.ti_checker.specs.No.{HasFaulty, IsFaulty, IsFaultyOf, IsSo, IsSoBy}
 use Rattle.ti_checker.specs.declared.causes.Cause.{Cause}
-use Rattle.ti_checker.specs.declared.causes.Cause.TheVariants.{FlagOut, Absent, AcsByte, Parm, StaticRead, Unfinished, Stuck, NotTame, BadLook, WrongEffect, NotShown, NoMemory}
+use Rattle.ti_checker.specs.declared.causes.Cause.TheVariants.{FlagOut, Absent, AcsByte, Parm, StaticRead, Unfinished, Stuck, NotTame, BadLook, WrongEffect, NotShown, NoResync, NoMemory}
 use Rattle.ti_checker.specs.declared.causes.No.{No}
 
 group_at : ℕ → Group
@@ -45,10 +45,10 @@ grouped Smacs = refl
 grouped Rmacs = refl
 grouped _ = refl
 
-same_string : (entry : Content) (row other : Row) → order row ≡ order other → string_of entry row ≡ string_of entry other
+pub same_string : (entry : Content) (row other : Row) → order row ≡ order other → string_of entry row ≡ string_of entry other
 same_string entry row other e = ap (λ (n : ℕ). string_at entry (83 + string_in_order n)) e
 
-same_checked : (entry : Content) (row other : Row) → order row ≡ order other → is_checked entry row ≡ is_checked entry other
+pub same_checked : (entry : Content) (row other : Row) → order row ≡ order other → is_checked entry row ≡ is_checked entry other
 same_checked entry row other e =
     ap (λ (s : Option (List ℕ)). is_some s && meets entry (group_of row)) (same_string entry row other e)
     ∙ ap (λ (g : Group). has_string entry other && meets entry g) (grouped row ∙ (ap group_at e ∙ sym (grouped other)))
@@ -69,8 +69,9 @@ by_cause : (entry : Content) (rows cols : ℕ) (string : List ℕ) (row : Row) (
 by_cause entry rows cols string row refusal FlagOut f h = absurd f
 by_cause entry rows cols string row refusal Absent f h = absurd f
 by_cause entry rows cols string row refusal AcsByte f h = absurd f
-by_cause entry rows cols string row refusal NotTame f h = tt
-by_cause entry rows cols string row refusal NotShown f h = tt
+by_cause entry rows cols string row refusal NoResync f h = absurd f
+by_cause entry rows cols string row refusal NotTame f h = h
+by_cause entry rows cols string row refusal NotShown f h = inl h
 by_cause entry rows cols string row refusal NoMemory f h = tt
 by_cause entry rows cols string row refusal (Parm fault) f h = h
 by_cause entry rows cols string row refusal StaticRead f h = h

@@ -1,3 +1,6 @@
+pub mod Certificate
+pub mod First
 pub mod Ignored
 pub mod No
 pub mod Notes
+pub mod Resync

@@ -1,14 +1,15 @@
 -- When a no is so.
-use Rattle.std.specs.Prelude.{ℕ, ◌≡◌, ◌==◌, ◌&&◌, ◌||◌, Bool, true, false, List, Some, None, Err, is_some}
+use Rattle.std.specs.Prelude.{ℕ, ◌≡◌, ◌⊎◌, ◌==◌, ◌&&◌, ◌||◌, Bool, true, false, List, [], Some, None, Err, is_some}
 use Rattle.ti_caps.specs.Entry.{Content, flag_at, number_at, string_at}
 use Rattle.ti_parm.specs.Meaning.{meaning}
 use Rattle.ti_parm.specs.Value.{zeros}
-use Rattle.vt_term.specs.Text.{IsStuck, IsUnfinished}
+use Rattle.vt_term.specs.Text.{IsStuck, IsUnfinished, Splits}
 use Rattle.vt_term.specs.declared.tokenizing.TokenFaultKind.{TokenFaultKind}
 use Rattle.vt_term.specs.declared.tokenizing.TokenFaultKind.TheVariants as kinds
 use Rattle.vt_effects.specs.declared.effects.Effect.{Effect}
 use Rattle.vt_effects.specs.Record.{record_of}
-use Rattle.ti_rows.specs.Asked.{start_of}
+use Rattle.ti_rows.specs.Asked.{start_of, asked}
+use Rattle.ti_rows.specs.declared.rows.Looks.{Looks}
 use Rattle.ti_rows.specs.declared.rows.Row.{Row}
 use Rattle.ti_rows.specs.declared.rows.Row.TheVariants.{Clear, Cup, Sgr0, Sgr}
 use Rattle.ti_rows.specs.Bits.{number_of}
@@ -22,8 +23,10 @@ use Rattle.ti_conforms.specs.Conforms.{IsFit, xmc, hc, gn, os}
 use Rattle.ti_probes.specs.declared.probes.Probe.{Probe}
 use Rattle.ti_probes.specs.Breaking.{Breaks, IsShown}
 use Rattle.ti_checker.specs.declared.causes.Cause.{Cause}
-use Rattle.ti_checker.specs.declared.causes.Cause.TheVariants.{FlagOut, Absent, AcsByte, Parm, StaticRead, Unfinished, Stuck, NotTame, BadLook, WrongEffect, NotShown, NoMemory}
+use Rattle.ti_checker.specs.declared.causes.Cause.TheVariants.{FlagOut, Absent, AcsByte, Parm, StaticRead, Unfinished, Stuck, NotTame, BadLook, WrongEffect, NotShown, NoResync, NoMemory}
 use Rattle.ti_checker.specs.declared.causes.No.{No}
+use Rattle.ti_checker.specs.First.{EachStands}
+use Rattle.ti_checker.specs.Resync.{StaysOpen}
 
 -- ---- what rules every certificate out
 
@@ -77,8 +80,28 @@ abbrev pub is_single : Row → Bool
 is_single (Sgr a) = (number_of a == 1) || ((number_of a == 2) || ((number_of a == 4) || ((number_of a == 8) || ((number_of a == 16) || (number_of a == 32)))))
 is_single _ = false
 
+-- whole control functions without one effect from all starts of the row
+pub record IsUntamed (rows cols : ℕ) (row : Row) (bytes : List ℕ) : Type 0 where
+  pub tokens : List (List ℕ)
+  pub whole : Splits bytes tokens []
+  pub unrecorded : record_of rows cols (start_of rows cols row) tokens ≡ None
+
+-- an effect that isn't the one that is asked for where attributes look so
+pub record IsUnasked (row : Row) (e : Effect) : Type 0 where
+  pub looks : Looks
+  pub unasked : e ≡ asked looks row e → ⊥
+
+-- whole control functions with such an effect
+pub record HasUnasked (rows cols : ℕ) (row : Row) (bytes : List ℕ) : Type 0 where
+  pub tokens : List (List ℕ)
+  pub whole : Splits bytes tokens []
+  pub effect : Effect
+  pub recorded : record_of rows cols (start_of rows cols row) tokens ≡ Some effect
+  pub unasked : IsUnasked row effect
+
 -- The fault is one of the string's run; what is sent ends within a sequence, or has a byte that fits nothing; from a
--- start of the row it runs to an end that isn't wanted, however attributes look.
+-- start of the row it runs to an end that isn't wanted, however attributes look; it has no record, or another than is
+-- asked for. With these two the string may still be right.
 abbrev pub IsFaulty : ℕ → ℕ → List ℕ → Row → Cause → Type 0
 IsFaulty rows cols string row (Parm fault) = meaning string (values row) zeros ≡ Err fault
 IsFaulty rows cols string row StaticRead = ReadsStatic string row
@@ -86,8 +109,8 @@ IsFaulty rows cols string row Unfinished = SendsSome string row (λ bytes. (at :
 IsFaulty rows cols string row Stuck = SendsSome string row (λ bytes. (at : ℕ) × IsStuck bytes at)
 IsFaulty rows cols string row BadLook = (is_single row ≡ true) × SendsSome string row (λ bytes. (p : Probe) × Breaks rows cols row bytes p)
 IsFaulty rows cols string row (WrongEffect p) = SendsSome string row (λ bytes. Breaks rows cols row bytes p)
-IsFaulty rows cols string row NotTame = Unit {0}
-IsFaulty rows cols string row NotShown = Unit {0}
+IsFaulty rows cols string row NotTame = SendsSome string row (λ bytes. IsUntamed rows cols row bytes)
+IsFaulty rows cols string row NotShown = SendsSome string row (λ bytes. HasUnasked rows cols row bytes)
 IsFaulty rows cols string row NoMemory = Unit {0}
 IsFaulty rows cols string row _ = ⊥
 
@@ -112,7 +135,7 @@ IsNotWhole bytes _ = ⊥
 abbrev pub IsMisfit : ℕ → ℕ → Row → Effect → Cause → Type 0
 IsMisfit rows cols row e BadLook = (is_single row ≡ true) × ((p : Probe) × IsShown rows cols row e p)
 IsMisfit rows cols row e (WrongEffect p) = IsShown rows cols row e p
-IsMisfit rows cols row e NotShown = Unit {0}
+IsMisfit rows cols row e NotShown = IsUnasked row e
 IsMisfit rows cols row e _ = ⊥
 
 pub record Misfits (rows cols : ℕ) (row : Row) (tokens : List (List ℕ)) (cause : Cause) : Type 0 where
@@ -121,7 +144,7 @@ pub record Misfits (rows cols : ℕ) (row : Row) (tokens : List (List ℕ)) (cau
   pub misfit : IsMisfit rows cols row effect cause
 
 abbrev pub IsMisjudged : ℕ → ℕ → Row → List (List ℕ) → Cause → Type 0
-IsMisjudged rows cols row tokens NotTame = Unit {0}
+IsMisjudged rows cols row tokens NotTame = record_of rows cols (start_of rows cols row) tokens ≡ None
 IsMisjudged rows cols row tokens cause = Misfits rows cols row tokens cause
 
 -- the entry's string for a checked row is so
@@ -137,13 +160,13 @@ pub record HasFaulty (entry : Content) (rows cols : ℕ) (refusal : No) : Type 0
 
 -- ---- a no
 
--- `NotTame`, `NotShown` and `NoMemory` claim nothing
+-- `NoMemory` claims nothing. `NotShown` is of a row, or of all strings together where each is right by itself.
 abbrev pub IsSoBy : Content → ℕ → ℕ → No → Cause → Type 0
 IsSoBy entry rows cols refusal FlagOut = IsUnfit entry refusal
 IsSoBy entry rows cols refusal Absent = IsUnfit entry refusal
 IsSoBy entry rows cols refusal AcsByte = IsUnfit entry refusal
-IsSoBy entry rows cols refusal NotTame = Unit {0}
-IsSoBy entry rows cols refusal NotShown = Unit {0}
+IsSoBy entry rows cols refusal NotShown = HasFaulty entry rows cols refusal ⊎ EachStands entry rows cols
+IsSoBy entry rows cols refusal NoResync = (refusal.cap ≡ cap_of Clear) × StaysOpen entry rows cols
 IsSoBy entry rows cols refusal NoMemory = Unit {0}
 IsSoBy entry rows cols refusal _ = HasFaulty entry rows cols refusal
 
@@ -159,11 +182,19 @@ pub record IsFaultyOf (rows cols : ℕ) (string : List ℕ) (first : Row) (refus
   pub same_order : order row ≡ order first
   pub faulty : IsFaulty rows cols string row refusal.cause
 
+-- a string with one of these may be right
 abbrev pub ClaimsNothing : Cause → Type 0
 ClaimsNothing NotTame = Unit {0}
 ClaimsNothing NotShown = Unit {0}
 ClaimsNothing NoMemory = Unit {0}
 ClaimsNothing _ = ⊥
+
+-- what may be wrong with all strings together, where each is right by itself
+abbrev pub IsTogether : Content → ℕ → ℕ → Cause → Type 0
+IsTogether entry rows cols NotShown = Unit {0}
+IsTogether entry rows cols NoMemory = Unit {0}
+IsTogether entry rows cols NoResync = StaysOpen entry rows cols
+IsTogether entry rows cols _ = ⊥
 
 -- ---- the order of causes
 

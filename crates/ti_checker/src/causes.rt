@@ -35,9 +35,12 @@ pub enum Cause {
     BadLook,
     /// From this start the terminal ends elsewhere than it should.
     WrongEffect(Probe),
-    /// The effect isn't the one that is asked for, or something else of the certificate can't be shown. The
-    /// string may be right.
+    /// The effect isn't the one that is asked for, or something of all strings together can't be shown.
+    /// They may be right.
     NotShown,
+    /// What leads out of an unknown state (`smcup`, `enacs`, `sgr0`, `rmacs`, `csr` and `clear`, one after
+    /// another) doesn't begin with ESC, so that a sequence which was cut off swallows some of it.
+    NoResync,
     /// Out of memory.
     NoMemory,
 }
@@ -64,6 +67,7 @@ impl fmt::Display for Cause {
             Cause::BadLook => write!(f, "BadLook"),
             Cause::WrongEffect(_) => write!(f, "WrongEffect"),
             Cause::NotShown => write!(f, "NotShown"),
+            Cause::NoResync => write!(f, "NoResync"),
             Cause::NoMemory => write!(f, "NoMemory"),
         }
     }

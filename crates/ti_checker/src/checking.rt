@@ -1,44 +1,81 @@
 //! An entry checked for a size.
 
-ghost use Rattle.std.specs.Prelude.{◌≡◌, IfErr, IfOk};
+ghost use Rattle.std.specs.Prelude.{◌≡◌, IfErr, IfOk, OnOk};
+ghost use Rattle.ti_checker.specs.Certificate.{IsCertificateOf};
+ghost use Rattle.ti_checker.specs.First.{EachStands, IsFirstTold};
 ghost use Rattle.ti_checker.specs.No as spec;
-ghost use Rattle.ti_conforms.specs.Conforms.{Conforms};
+ghost use Rattle.ti_conforms.specs.Conforms.{Conforms, IsFit};
 
 use crate::causes::{Cause, No};
 use crate::drafts::draft_of;
 use crate::fitness::check_fitness;
+use crate::resync::stays_open;
 use std::alloc::Global;
 use ti_caps::Entry;
-use ti_cert::{AgreeFault, CertFaultKind, VerifyFault, verify};
+use ti_cert::{AgreeFault, CertFaultKind, VerifyFault, agrees, audit};
 use ti_rows::Row;
 use vt_term::Size;
 
-/// What an accepted draft that isn't verified answers.
-fn unverified(fault: VerifyFault) -> No
-    ensures { spec.ClaimsNothing result.cause }
+/// Judges a finished text, and compares it with the entry, as `ti_cert::verify` does.
+fn judge_text(alloc: Global, entry: &Entry, size: Size, text: &[u8]) -> Result<(), VerifyFault>
+    ensures conforms { OnOk result (Conforms entry.now size.rows size.cols) }
+    ensures certificate { OnOk result (IsCertificateOf entry.now size.rows size.cols text.now) }
+{
+    let table = match audit(alloc, text, size) {
+        Ok(table) => table,
+        Err(fault) => return Err(VerifyFault::Cert(fault)),
+    };
+    match agrees(alloc, &table, entry) {
+        Ok(()) => Ok(()),
+        Err(fault) => Err(VerifyFault::Agree(fault)),
+    }
+}
+
+/// What is wrong with all strings together, where each is right by itself.
+#[tactic(auto, using(crate::proofs::Together::so_together))]
+fn unverified(alloc: Global, entry: &Entry, size: Size, fault: VerifyFault) -> No
+    requires fit { IsFit entry.now }
+    requires stands { EachStands entry.now size.rows size.cols }
+    ensures so { spec.IsSo entry.now size.rows size.cols result }
+    ensures order { spec.IsFirstCause entry.now result.cause }
+    ensures first { IsFirstTold entry.now size.rows size.cols result }
 {
     let cause = match fault {
-        VerifyFault::Cert(fault) if fault.kind == CertFaultKind::NoMemory => Cause::NoMemory,
+        VerifyFault::Cert(fault) => cause_together(alloc, entry, size, fault.kind),
         VerifyFault::Agree(AgreeFault::NoMemory) => Cause::NoMemory,
-        _ => Cause::NotShown,
+        VerifyFault::Agree(_) => Cause::NotShown,
     };
     No::of(Row::Clear.cap(), cause)
 }
 
-/// The certificate of an entry for a size, which `ti_cert::verify` accepts.
+/// The cause that a fault of the whole certificate is.
+fn cause_together(alloc: Global, entry: &Entry, size: Size, kind: CertFaultKind) -> Cause
+    ensures { spec.IsTogether entry.now size.rows size.cols result }
+{
+    match kind {
+        CertFaultKind::NoMemory => Cause::NoMemory,
+        CertFaultKind::NoResync if stays_open(alloc, entry, size) => Cause::NoResync,
+        _ => Cause::NotShown,
+    }
+}
+
+/// The certificate of an entry for a size: a text whose lines are just what the entry's strings send,
+/// judged as `ti_cert::verify` judges it.
 ///
 /// # Errors
 /// The first capability and parameters for which there is none, in the order of a certificate's lines,
 /// with the cause. Every cause but `NotTame`, `NotShown` and `NoMemory` states a fault of the entry.
 pub fn check(alloc: Global, entry: &Entry, size: Size) -> Result<Vec<u8>, No>
     ensures conforms { IfOk result (λ text. Conforms entry.now size.rows size.cols) }
+    ensures certificate { IfOk result (λ text. IsCertificateOf entry.now size.rows size.cols text.items) }
     ensures refused { IfErr result (λ refusal. spec.IsSo entry.now size.rows size.cols refusal) }
     ensures order { IfErr result (λ refusal. spec.IsFirstCause entry.now refusal.cause) }
+    ensures first { IfErr result (IsFirstTold entry.now size.rows size.cols) }
 {
     check_fitness(entry)?;
     let text = draft_of(alloc, entry, size)?;
-    match verify(alloc, entry, size, &text) {
-        Ok(_) => Ok(text),
-        Err(fault) => Err(unverified(fault)),
+    match judge_text(alloc, entry, size, &text) {
+        Ok(()) => Ok(text),
+        Err(fault) => Err(unverified(alloc, entry, size, fault)),
     }
 }

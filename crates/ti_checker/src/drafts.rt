@@ -2,11 +2,13 @@
 
 ghost use Rattle.std.specs.Fmt.{decimal};
 ghost use Rattle.std.specs.Prelude.{◌≡◌, ◌++◌, ◌∷◌, [], IfErr, IfOk, OnOk, Some, true};
+ghost use Rattle.ti_checker.specs.First as told;
 ghost use Rattle.ti_checker.specs.No as spec;
 ghost use Rattle.ti_lines.specs.Heads.{acsc_text, end_text, size_text};
 ghost use Rattle.ti_lines.specs.Hex.{hex_text};
 ghost use Rattle.ti_lines.specs.Lines.{line_text};
 ghost use Rattle.ti_rows.specs.Lists.{IsFirst, IsInRange};
+ghost use Rattle.ti_rows.specs.Names.{order};
 ghost use Rattle.ti_sends.specs.Entries as entries;
 
 use crate::causes::{Cause, No};
@@ -69,7 +71,8 @@ fn push_row(
     text: &mut Vec<u8>,
 ) -> Result<(), Cause>
     requires { IsInRange size.rows size.cols row }
-    ensures { IfErr result (λ cause. spec.IsFaulty size.rows size.cols string.now row cause) }
+    ensures right { OnOk result (told.SendsRight size.rows size.cols string.now row) }
+    ensures faulty { IfErr result (λ cause. spec.IsFaulty size.rows size.cols string.now row cause) }
 {
     let line = line_of(alloc, string, row, size, looks)?;
     match push_line(alloc, &line, text) {
@@ -88,7 +91,9 @@ fn push_rows(
     text: &mut Vec<u8>,
 ) -> Result<(), No>
     requires { IsFirst size.rows size.cols first }
-    ensures { IfErr result (λ refusal. spec.IsFaultyOf size.rows size.cols string.now first refusal) }
+    ensures right { OnOk result (told.AllRight size.rows size.cols string.now (order first)) }
+    ensures faulty { IfErr result (λ refusal. spec.IsFaultyOf size.rows size.cols string.now first refusal) }
+    ensures first { IfErr result (λ refusal. told.IsFirstOf size.rows size.cols string.now (order first) refusal) }
 {
     let mut row = first;
     loop {
@@ -113,7 +118,9 @@ fn push_cap(
     text: &mut Vec<u8>,
 ) -> Result<(), No>
     requires { IsFirst size.rows size.cols first }
-    ensures { IfErr result (λ refusal. spec.IsSo entry.now size.rows size.cols refusal) }
+    ensures stands { OnOk result (told.CapStands entry.now size.rows size.cols (order first)) }
+    ensures so { IfErr result (λ refusal. spec.IsSo entry.now size.rows size.cols refusal) }
+    ensures first { IfErr result (λ refusal. told.IsFirstInCap entry.now size.rows size.cols (order first) refusal) }
 {
     if !is_checked(entry, first) {
         return Ok(());
@@ -126,7 +133,9 @@ fn push_cap(
 
 /// Adds the lines of all checked capabilities of the entry.
 fn push_caps(alloc: Global, entry: &Entry, size: Size, text: &mut Vec<u8>) -> Result<(), No>
-    ensures { IfErr result (λ refusal. spec.IsSo entry.now size.rows size.cols refusal) }
+    ensures stands { OnOk result (told.EachStands entry.now size.rows size.cols) }
+    ensures so { IfErr result (λ refusal. spec.IsSo entry.now size.rows size.cols refusal) }
+    ensures first { IfErr result (λ refusal. told.IsFirstRow entry.now size.rows size.cols refusal) }
 {
     let mut looks = NO_LOOKS;
     for order in 0..42 {
@@ -139,7 +148,9 @@ fn push_caps(alloc: Global, entry: &Entry, size: Size, text: &mut Vec<u8>) -> Re
 
 /// The certificate's text of the entry's lines, each of which was judged.
 pub(crate) fn draft_of(alloc: Global, entry: &Entry, size: Size) -> Result<Vec<u8>, No>
-    ensures { IfErr result (λ refusal. spec.IsSo entry.now size.rows size.cols refusal) }
+    ensures stands { IfOk result (λ _. told.EachStands entry.now size.rows size.cols) }
+    ensures so { IfErr result (λ refusal. spec.IsSo entry.now size.rows size.cols refusal) }
+    ensures first { IfErr result (told.IsFirstTold entry.now size.rows size.cols) }
 {
     let mut text = Vec::new(alloc);
     if push_head(alloc, entry, size, &mut text).is_err() {

@@ -1,9 +1,11 @@
 //! A string judged for a row.
 
-ghost use Rattle.std.specs.Prelude.{◌≡◌, [], IfErr, IfOk, Some, true};
+ghost use Rattle.std.specs.Prelude.{◌≡◌, ℕ, List, [], IfErr, IfOk, Some, true};
+ghost use Rattle.ti_checker.specs.First.{SendsRight};
 ghost use Rattle.ti_checker.specs.No as spec;
 ghost use Rattle.ti_rows.specs.Asked.{start_of};
 ghost use Rattle.ti_rows.specs.Lists.{IsInRange};
+ghost use Rattle.ti_rows.specs.Right.{IsRight};
 ghost use Rattle.vt_effects.specs.Record.{record_of};
 ghost use Rattle.vt_term.specs.Text.{Splits};
 
@@ -67,7 +69,8 @@ fn shows_marks(effect: &Effect) -> bool {
 
 /// What is wrong with an effect that isn't the one that is asked for.
 fn misfit(row: Row, effect: &Effect, size: Size) -> Cause
-    requires { IsInRange size.rows size.cols row }
+    requires range { IsInRange size.rows size.cols row }
+    requires unasked { spec.IsUnasked row effect.now }
     ensures { spec.IsMisfit size.rows size.cols row effect.now result }
 {
     match probe_for(row, effect, size) {
@@ -107,7 +110,8 @@ pub(crate) fn tokens_of(alloc: Global, bytes: &[u8]) -> Result<Vec<Token>, Cause
 /// The effect of tokens, which has to be the one that is asked for. Looks that the row tells are added.
 fn judged(row: Row, tokens: &[Token], size: Size, looks: &mut Looks) -> Result<Effect, Cause>
     requires { IsInRange size.rows size.cols row }
-    ensures { IfErr result (λ cause. spec.IsMisjudged size.rows size.cols row tokens.now cause) }
+    ensures right { IfOk result (λ _. (bytes : List ℕ) → Splits bytes tokens.now [] → IsRight size.rows size.cols looks.new row bytes) }
+    ensures misjudged { IfErr result (λ cause. spec.IsMisjudged size.rows size.cols row tokens.now cause) }
 {
     match effect_of(tokens, size, &row.start(size)) {
         None => Err(Cause::NotTame),
@@ -131,7 +135,8 @@ pub(crate) fn line_of(
     looks: &mut Looks,
 ) -> Result<RowLine, Cause>
     requires { IsInRange size.rows size.cols row }
-    ensures { IfErr result (λ cause. spec.IsFaulty size.rows size.cols string.now row cause) }
+    ensures right { IfOk result (λ _. SendsRight size.rows size.cols string.now row) }
+    ensures faulty { IfErr result (λ cause. spec.IsFaulty size.rows size.cols string.now row cause) }
 {
     let bytes = sent(alloc, string, row)?;
     let tokens = tokens_of(alloc, &bytes)?;

@@ -10,6 +10,7 @@ mod judging;
 pub mod laws;
 mod noting;
 mod printing;
+mod resync;
 mod sending;
 
 pub use causes::{Cause, No};

@@ -1,6 +1,8 @@
 -- What `verify` answers, by what its files hold.
-use Rattle.std.specs.Prelude.{◌⊎◌, ℕ, List, codes}
-use Rattle.ti_caps.specs.Entry.{Content}
+use Rattle.std.specs.Prelude.{◌≡◌, ◌⊎◌, ℕ, List, codes}
+use Rattle.ti_caps.specs.Entry.{Content, string_at}
+use Rattle.ti_sends.specs.Entries.{EntryAgrees, acsc}
+use Rattle.ti_cert.specs.Table.{Content as Strings, table_of}
 use Rattle.ti_cert.specs.declared.faults.VerifyFault.{VerifyFault}
 use Rattle.ti_conforms.specs.Conforms.{Conforms}
 use Rattle.ti_commands.specs.Failing.{IsFileFailure}
@@ -21,6 +23,13 @@ pub record GivesConforming (held : Held) (words : Verification) : Type 0 where
   pub entry : Content
   pub gives : GivesEntry held words.entry.now entry
   pub conforms : Conforms entry height width
+
+-- the strings that are handed out are for this size, and just what the entry sends
+pub record HandsOut (entry : Content) (height width : ℕ) (checked : Strings) : Type 0 where
+  pub rows : checked.known.strings.rows ≡ height
+  pub cols : checked.known.strings.cols ≡ width
+  pub sends : EntryAgrees height width entry (table_of checked).line_of
+  pub partners : checked.acsc ≡ string_at entry acsc
 
 -- the reply is yes
 pub record IsVerified (held : Held) (words : Verification) (reply : Reply) : Type 0 where

@@ -16,4 +16,5 @@ mod wanted;
 
 pub use certifiers::{Certifier, Checker};
 pub use checking::{Inspection, check_entry};
+pub use telling::no_words;
 pub use verifying::{Verification, checked_at, verify_certificate};

@@ -12,7 +12,7 @@ use ti_commands::Remarks;
 use ti_looks::misfit;
 use ti_parm::ParmFault;
 use ti_rows::{Looks, NO_MARKS, Row};
-use ti_sends::{Unsent, send};
+use ti_sends::{Unsent, is_checked, send};
 use vt_effects::effect_of;
 use vt_term::{Size, Terminal, TokenFault, TokenFaultKind, tokens};
 
@@ -32,6 +32,7 @@ fn explain_cause(
         Cause::FlagOut => remarks.add(name(no.cap), flag_words(name(no.cap))),
         Cause::Absent => remarks.add(name(no.cap), absent_words(name(no.cap))),
         Cause::AcsByte => explain_pairs(alloc, entry.get_string(no.cap), remarks)?,
+        Cause::NoResync => explain_resync(alloc, entry, size, remarks)?,
         Cause::NoMemory => {}
         cause => {
             if let Some(row) = row_of(no) {
@@ -65,6 +66,40 @@ fn absent_words(string: &[u8]) -> &'static [u8] {
             b" is not in the entry: without it a program can't bring the screen into a known state",
         b"cup" => b" is not in the entry: without it a program can't reach a place of the screen",
         _ => b" is not in the entry: without it a program can't turn attributes off",
+    }
+}
+
+/// Which string comes first in what leads a terminal out of an unknown state.
+fn explain_resync(
+    alloc: Global,
+    entry: &Entry,
+    size: Size,
+    remarks: &mut Remarks,
+) -> Result<(), AllocError> {
+    let csr = Row::Csr(0, (size.rows - 1) as u16);
+    for row in [
+        Row::Smcup,
+        Row::Enacs,
+        Row::Sgr0,
+        Row::Rmacs,
+        csr,
+        Row::Clear,
+    ] {
+        if sends_some(alloc, entry, row) {
+            return explain_string(alloc, entry, size, row, Cause::NoResync, remarks);
+        }
+    }
+    Ok(())
+}
+
+/// Whether the entry sends anything for the row.
+fn sends_some(alloc: Global, entry: &Entry, row: Row) -> bool {
+    if !is_checked(entry, row) {
+        return false;
+    }
+    match send(alloc, entry.get_string(row.cap()).unwrap_or(&[]), row) {
+        Ok(bytes) => !bytes.is_empty(),
+        Err(_) => false,
     }
 }
 
@@ -179,6 +214,10 @@ fn explain_sent(
             remarks.add_words(NOT_TAME);
             Ok(())
         }
+        Cause::NoResync => {
+            remarks.add_words(NO_RESYNC);
+            Ok(())
+        }
         _ => explain_unshown(alloc, size, row, bytes, remarks),
     }
 }
@@ -188,6 +227,9 @@ const NOT_TAME: &[u8] =
 
 const NOT_SHOWN: &[u8] =
     b"the string may be right: its effect is not the one that is wanted, but it goes wrong from none of the states that were tried";
+
+const NO_RESYNC: &[u8] =
+    b"smcup, enacs, sgr0, rmacs, csr of the whole screen and clear, sent one after another, are to lead a terminal out of any state, so they have to begin with ESC: a sequence that was cut off would take any other first byte as part of it";
 
 const NOT_TOGETHER: &[u8] =
     b"each string is right by itself; it is not shown that smacs and rmacs switch the sets in every state that the other strings leave, or that smcup, enacs, sgr0, rmacs, csr and clear, sent one after another, lead from any state to a blank screen";

@@ -3,7 +3,7 @@
 ghost use Rattle.std.specs.Prelude.{◌≡◌, IfErr, IfOk};
 ghost use Rattle.ti_conforms.specs.Conforms.{Conforms};
 ghost use Rattle.ti_verdicts.specs.Telling.{TellsFault};
-ghost use Rattle.ti_verdicts.specs.Verifying.{FailsToVerify, IsVerified, LacksCertificate};
+ghost use Rattle.ti_verdicts.specs.Verifying.{FailsToVerify, HandsOut, IsVerified, LacksCertificate};
 
 use crate::certificates::CertificateFile;
 use crate::explaining::{explain_disagreement, explain_fault};
@@ -56,6 +56,7 @@ pub fn checked_at<F: Files>(
     remarks: &mut Remarks,
 ) -> Result<Checked, Failure>
     ensures conforms { IfOk result (λ _. Conforms entry.now size.rows size.cols) }
+    ensures hands_out { IfOk result (λ checked. HandsOut entry.now size.rows size.cols checked) }
     ensures failure { IfErr result (λ e. LacksCertificate path.now e) }
     ensures kept { F.holds files.new ≡ F.holds files.old }
 {

@@ -1,6 +1,7 @@
 //! `ticurses`: checks terminal descriptions.
 #![tactic(auto)]
 
+mod progress;
 mod run;
 mod stored;
 

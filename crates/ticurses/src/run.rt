@@ -2,19 +2,22 @@
 
 ghost use Rattle.std.specs.Prelude.{◌≤◌};
 
+use crate::progress::ProgressLine;
+use cur_commands::{Playing, play_script, show_script};
 use std::alloc::Global;
-use std::io::Write;
+use std::io::{IsTerminal, Write};
 use ti_arguments::{Answer, LineFault, Request, parse_line};
 use ti_commands::{
     Comparison, Expansion, Failure, Files, Output, Remarks, Reply, Written, compare_entries,
     compile_entry, expand_string, feed_file, print_entry, report, write_reply, write_text,
 };
+use ti_surveys::{Survey, survey_files};
 use ti_verdicts::{Checker, Inspection, Verification, check_entry, verify_certificate};
 
 /// Does what the words after the program's own name ask for: the answer goes to `out`, notes and a
 /// failure's lines to `err`, and the result is the exit status: 0 done, 1 refused, 2 a usage error,
 /// 3 a file or the output failed, 4 out of memory. Files are reached through `files` alone.
-pub fn command<F: Files, O: Write, E: Write>(
+pub fn command<F: Files, O: Write, E: Write + IsTerminal>(
     alloc: Global,
     words: &[String],
     files: &mut F,
@@ -40,7 +43,7 @@ pub fn command<F: Files, O: Write, E: Write>(
     }
 }
 
-fn perform<F: Files, O: Output, E: Write>(
+fn perform<F: Files, O: Output, E: Write + IsTerminal>(
     alloc: Global,
     words: &[String],
     files: &mut F,
@@ -50,7 +53,7 @@ fn perform<F: Files, O: Output, E: Write>(
 ) -> Result<(), Failure> {
     match parse_line(alloc, words) {
         Ok(Answer::Request(request)) => {
-            let reply = reply_to(alloc, &request, files, remarks)?;
+            let reply = reply_to(alloc, &request, files, out, err, remarks)?;
             let _ = err.write_all(reply.notes.as_slice());
             write_reply(out, reply)
         }
@@ -60,11 +63,13 @@ fn perform<F: Files, O: Output, E: Write>(
     }
 }
 
-/// What the command answers.
-fn reply_to<F: Files>(
+/// What the command answers. What `play` sends goes to `out` as it comes, and its reply has nothing more.
+fn reply_to<F: Files, O: Output, E: Write + IsTerminal>(
     alloc: Global,
     request: &Request<'_>,
     files: &mut F,
+    out: &mut O,
+    err: &mut E,
     remarks: &mut Remarks,
 ) -> Result<Reply, Failure> {
     match request {
@@ -89,6 +94,40 @@ fn reply_to<F: Files>(
             cols,
             certificate,
         } => verify(alloc, entry, rows, cols, certificate, files, remarks),
+        Request::Play {
+            entry,
+            rows,
+            cols,
+            certificate,
+            script,
+        } => {
+            let words = script_words(entry, rows, cols, certificate, script);
+            play_script(alloc, &words, files, out, remarks)?;
+            Ok(Reply::of_text(alloc, Vec::new(alloc)))
+        }
+        Request::Show {
+            entry,
+            rows,
+            cols,
+            certificate,
+            script,
+        } => {
+            let words = script_words(entry, rows, cols, certificate, script);
+            show_script(alloc, &words, files, remarks)
+        }
+        Request::Survey {
+            rows,
+            cols,
+            files: paths,
+        } => {
+            let words = Survey {
+                rows,
+                cols,
+                files: paths.as_slice(),
+            };
+            let line = ProgressLine::new(alloc, err);
+            survey_files(alloc, &Checker, &words, files, line, remarks)
+        }
         Request::Print { entry } => print_entry(alloc, entry, files, remarks),
         Request::Common { first, second } => {
             compare_entries(alloc, first, second, Comparison::Common, files, remarks)
@@ -96,6 +135,22 @@ fn reply_to<F: Files>(
         Request::Neither { first, second } => {
             compare_entries(alloc, first, second, Comparison::Neither, files, remarks)
         }
+    }
+}
+
+fn script_words<'a>(
+    entry: &'a str,
+    rows: &'a str,
+    cols: &'a str,
+    certificate: &'a str,
+    script: &'a str,
+) -> Playing<'a> {
+    Playing {
+        entry,
+        rows,
+        cols,
+        certificate,
+        script,
     }
 }
 

@@ -1,10 +1,8 @@
-use Rattle.std.proofs.Common.{arith, sym}
+use Rattle.std.proofs.Common.{arith}
 use Rattle.std.proofs.lemmas.Result.{err_from_is_err_and}
-use Rattle.cur_steps.proofs.Stopping.{steps_fail, steps_next, steps_none}
+use Rattle.cur_steps.proofs.Stopping.{steps_fail, steps_next, steps_wider}
 use Rattle.cur_looks.specs.Certified.{IsPiece, IsLost}
 use Rattle.cur_looks.specs.Beliefs.{Agrees, plain_limit, colors_limit, brush_limit}
-use Rattle.cur_looks.proofs.Doing.{agrees_lost}
-use Rattle.cur_looks.proofs.Sameness.{brush_equal}
 use Rattle.cur_looks.proofs.cells.brush_as.Goals as goal
 
 pub returns-in_err-plainly_as-clause-step : goal.returns-in_err-plainly_as-clause-step
@@ -19,14 +17,13 @@ pub returns-clause-step : goal.returns-clause-step
 returns-clause-step g c h =
     let t = g.C.Certificate.table c.args.checked.now in
     let b = c.args.belief.now in
-    steps_next g.W.Wire.went g.W.Wire.failures g.met.W.Wire.lawful c.args.wire.now c.plainly_as.new.wire c.colors_as.new.wire _ c.colors_as.result (IsPiece t) (plain_limit t) (colors_limit t) (brush_limit t) (IsLost t)
-    (Agrees t h b) (Agrees t h c.plainly_as.new.belief) (Agrees t h c.colors_as.new.belief) (omega arith) (c.in_ok-plainly_as.ensures.step h) (c.colors_as.ensures.step h)
+    steps_next g.W.Wire.went g.W.Wire.failures g.met.W.Wire.lawful c.args.wire.now c.plainly_as.new.wire c.colors_as-2.new.wire _ c.colors_as-2.result (IsPiece t) (plain_limit t) (colors_limit t) (brush_limit t) (IsLost t)
+    (Agrees t h b) (Agrees t h c.plainly_as.new.belief) (Agrees t h c.colors_as-2.new.belief) (omega arith) (c.in_ok-plainly_as.ensures.step h) (c.colors_as-2.ensures.step h)
 
-pub returns-then-same_brush-clause-step : goal.returns-then-same_brush-clause-step
-returns-then-same_brush-clause-step g c h =
+pub returns-then-is_recolored-clause-step : goal.returns-then-is_recolored-clause-step
+returns-then-is_recolored-clause-step g c h =
     let t = g.C.Certificate.table c.args.checked.now in
     let b = c.args.belief.now in
-    steps_none g.W.Wire.went g.W.Wire.failures g.met.W.Wire.lawful c.args.wire.now tt (IsPiece t) _ (IsLost t) (Agrees t h b) (λ s x. x.ready.rest) (agrees_lost t c.rows.ensures.checked h b)
-
-pub returns-then-same_brush-clause-brush : goal.returns-then-same_brush-clause-brush
-returns-then-same_brush-clause-brush g c = brush_equal c.args.belief.now.brush c.args.wanted (sym c.if-same_brush.ensures.value)
+    let z = c.colors_as.new in
+    steps_wider g.W.Wire.went g.W.Wire.failures c.args.wire.now z.wire c.colors_as.result (IsPiece t) (colors_limit t) (brush_limit t) (IsLost t) (Agrees t h b) (Agrees t h z.belief) (Agrees t h b) (Agrees t h z.belief)
+    (omega arith) (λ s x. x) (λ s x. x) (c.colors_as.ensures.step h)

@@ -12,8 +12,8 @@ returns-in_err-poise g c =
     let t = g.C.Certificate.table c.args.checked.now in
     let b = c.args.belief.now in
     rw e.1 (record {
-      step = λ h. steps_fail g.W.Wire.went g.W.Wire.failures c.args.wire.now c.poise.new.wire _ _ (IsPiece t) (ready_limit t) (cell_limit t) (IsLost t) (Agrees t h b) (Agrees t h c.poise.new.belief) (Agrees t (put_at c.args.row c.args.col c.args.ink h) c.poise.new.belief)
-          (omega arith) (c.in_err-poise.ensures.step h);
+      step = λ h k. steps_fail g.W.Wire.went g.W.Wire.failures c.args.wire.now c.poise.new.wire _ _ (IsPiece t) (ready_limit t) (cell_limit t) (IsLost t) (Agrees t h b) (Agrees t h c.poise.new.belief) (Agrees t (put_at c.args.row c.args.col c.args.ink h) c.poise.new.belief)
+          (omega arith) (c.in_err-poise.ensures.step h k);
     })
 
 pub returns : goal.returns
@@ -21,6 +21,6 @@ returns g c =
     let t = g.C.Certificate.table c.args.checked.now in
     let b = c.args.belief.now in
     record {
-      step = λ h. steps_next g.W.Wire.went g.W.Wire.failures g.met.W.Wire.lawful c.args.wire.now c.poise.new.wire c.stamp.new.wire _ c.stamp.result (IsPiece t) (ready_limit t) (stamp_limit t) (cell_limit t) (IsLost t)
-          (Agrees t h b) (Agrees t h c.poise.new.belief) (Agrees t (put_at c.args.row c.args.col c.args.ink h) c.stamp.new.belief) (omega arith) (c.in_ok-poise.ensures.step h) (c.stamp.ensures.step h);
+      step = λ h k. steps_next g.W.Wire.went g.W.Wire.failures g.met.W.Wire.lawful c.args.wire.now c.poise.new.wire c.stamp.new.wire _ c.stamp.result (IsPiece t) (ready_limit t) (stamp_limit t) (cell_limit t) (IsLost t)
+          (Agrees t h b) (Agrees t h c.poise.new.belief) (Agrees t (put_at c.args.row c.args.col c.args.ink h) c.stamp.new.belief) (omega arith) (c.in_ok-poise.ensures.step h k) (c.stamp.ensures.step h);
     }

@@ -7,7 +7,17 @@ use Rattle.cur_looks.specs.Beliefs.{Agrees, Belief}
 use Rattle.cur_looks.proofs.Doing.{agrees_lost}
 use Rattle.cur_looks.proofs.Telling.{has_none}
 use Rattle.cur_looks.proofs.Turning.{foreground_set, brush_as, colored_has}
+use Rattle.cur_looks.proofs.Sameness.{color_equal}
 use Rattle.cur_looks.proofs.steps.foreground_as.Goals as goal
+
+pub returns-then-same-clause-step : goal.returns-then-same-clause-step
+returns-then-same-clause-step g c h =
+    let t = g.C.Certificate.table c.args.checked.now in
+    let b = c.args.belief.now in
+    let d : Belief = record b { brush = record b.brush { foreground = c.args.wanted } } in
+    let same : b.brush.foreground ≡ c.args.wanted = color_equal b.brush.foreground c.args.wanted (sym c.same_color-same.ensures.value ∙ c.if-same.true) in
+    steps_nothing g.W.Wire.went g.W.Wire.failures g.met.W.Wire.lawful c.args.wire.now tt (IsPiece t) _ (IsLost t) (Agrees t h b) (Agrees t h d) (λ s x. x.ready.rest)
+    (brush_as t h b (record b.brush { foreground = c.args.wanted }) (ap (λ (f : Option Color). record b.brush { foreground = f }) same)) (agrees_lost t c.rows.ensures.checked h b)
 
 pub returns-in_default-clause-step : goal.returns-in_default-clause-step
 returns-in_default-clause-step g c h =
@@ -15,7 +25,7 @@ returns-in_default-clause-step g c h =
     let b = c.args.belief.now in
     let d : Belief = record b { brush = record b.brush { foreground = c.args.wanted } } in
     steps_nothing g.W.Wire.went g.W.Wire.failures g.met.W.Wire.lawful c.args.wire.now tt (IsPiece t) _ (IsLost t) (Agrees t h b) (Agrees t h d) (λ s x. x.ready.rest)
-    (brush_as t h b (record b.brush { foreground = c.args.wanted }) (ap (λ (f : Option Color). record b.brush { foreground = f }) (c.requires.now ∙ sym c.in_default.is))) (agrees_lost t c.rows.ensures.checked h b)
+    (brush_as t h b (record b.brush { foreground = c.args.wanted }) (ap (λ (f : Option Color). record b.brush { foreground = f }) (c.requires.now c.in_default.is ∙ sym c.in_default.is))) (agrees_lost t c.rows.ensures.checked h b)
 
 pub returns-in-Some-line-clause-step : goal.returns-in-Some-line-clause-step
 returns-in-Some-line-clause-step g c h =

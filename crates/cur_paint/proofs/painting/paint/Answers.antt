@@ -29,4 +29,4 @@ returns-clause-step g c =
     steps_next g.W.Wire.went g.W.Wire.failures g.met.W.Wire.lawful c.args.wire.now c.mend_rows.new.wire c.set_cursor.new.wire _ c.set_cursor.result (IsPiece t)
     (all_differ old new t.cols t.rows * cell_limit t) (cursor_limit t a c.args.cursor c.args.mode) (paint_limit t old new b c.args.cursor c.args.mode) (IsLost t)
     (Agrees t old b) (Agrees t new a) (Agrees t new c.set_cursor.new.belief)
-    (limit_sum t old new b a c.args.cursor c.args.mode c.in_ok-mend_rows.ensures.idle) c.in_ok-mend_rows.ensures.step (c.set_cursor.ensures.step new)
+    (limit_sum t old new b a c.args.cursor c.args.mode c.in_ok-mend_rows.ensures.idle) c.in_ok-mend_rows.ensures.step c.set_cursor.ensures.step

@@ -5,7 +5,7 @@ use Rattle.cur_looks.specs.Certified.{IsPiece, IsLost, cell_limit}
 use Rattle.cur_looks.specs.Beliefs.{Agrees}
 use Rattle.cur_steps.proofs.Stopping.{steps_nothing, steps_wider}
 use Rattle.cur_looks.proofs.Doing.{agrees_lost}
-use Rattle.cur_paint.proofs.Mixing.{agrees_as, mixed_same, put_new, told_same, told_different}
+use Rattle.cur_paint.proofs.Mixing.{agrees_as, mixed_before, mixed_same, put_new, told_same, told_different}
 use Rattle.cur_looks.proofs.Telling.{once}
 use Rattle.cur_paint.proofs.rows.mend_cell.Goals as goal
 
@@ -35,4 +35,4 @@ returns-clause-step g c =
     (Agrees t (mixed old new row col) b) (Agrees t (mixed old new row (col + 1)) c.put_cell.new.belief)
     (once _ (cell_limit t) e) (λ s x. x)
     (agrees_as t (put_at row col c.at-cell.result (mixed old new row col)) (mixed old new row (col + 1)) c.put_cell.new.belief (λ i j li lj. put_new old new row col c.at-cell.result c.at-cell.ensures.value i j))
-    (c.put_cell.ensures.step (mixed old new row col))
+    (c.put_cell.ensures.step (mixed old new row col) (mixed_before old new row col))

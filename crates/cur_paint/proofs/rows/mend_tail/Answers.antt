@@ -4,7 +4,7 @@ use Rattle.cur_paint.specs.Differ.{span}
 use Rattle.cur_looks.specs.Certified.{IsPiece, IsLost, cell_limit}
 use Rattle.cur_looks.specs.Beliefs.{Agrees}
 use Rattle.cur_steps.proofs.Stopping.{steps_wider}
-use Rattle.cur_paint.proofs.Mixing.{tail_done, some_times}
+use Rattle.cur_paint.proofs.Mixing.{mixed_before, tail_done, some_times}
 use Rattle.cur_paint.proofs.rows.mend_tail.Goals as goal
 
 pub returns-in-Some-clause-step : goal.returns-in-Some-clause-step
@@ -19,4 +19,4 @@ returns-in-Some-clause-step g c =
     let some : 0 < span old new row from (t.cols - from) = subst P c.cols.ensures.value (c.if-not-differs_in.ensures refl) in
     steps_wider g.W.Wire.went g.W.Wire.failures c.args.wire.now c.blank_tail.new.wire c.blank_tail.result (IsPiece t) (cell_limit t) (span old new row from (t.cols - from) * cell_limit t) (IsLost t)
     (Agrees t (mixed old new row from) b) (Agrees t (tail_blank row from (mixed old new row from)) c.blank_tail.new.belief) (Agrees t (mixed old new row from) b) (Agrees t (mixed old new row t.cols) c.blank_tail.new.belief)
-    (some_times _ (cell_limit t) some) (λ s x. x) (tail_done t old new row from c.blank_tail.new.belief c.requires.blank) (c.blank_tail.ensures.step (mixed old new row from))
+    (some_times _ (cell_limit t) some) (λ s x. x) (tail_done t old new row from c.blank_tail.new.belief c.requires.blank) (c.blank_tail.ensures.step (mixed old new row from) (mixed_before old new row from))

@@ -1,11 +1,10 @@
 use Rattle.std.proofs.Common.{ℕ, length, arith}
 use Rattle.std.proofs.lemmas.Result.{err_from_is_err_and}
-use Rattle.cur_looks.specs.Certified.{IsLost}
 use Rattle.cur_looks.specs.declared.inks.Ink.{Ink}
 use Rattle.cur_looks.specs.Inks.{blank_ink}
 use Rattle.cur_looks.specs.Beliefs.{Agrees}
 use Rattle.cur_looks.proofs.Doing.{agrees_lost}
-use Rattle.cur_paint.specs.Cleared.{at_start}
+use Rattle.cur_paint.specs.Cleared.{IsLeft, at_start}
 use Rattle.cur_paint.specs.Limits.{paint_limit}
 use Rattle.cur_paint.proofs.Bounding.{fresh_enough}
 use Rattle.cur_paint.proofs.Renewing.{anew_failed, anew_then, resync_leads}
@@ -18,8 +17,8 @@ returns-in_err-send_all-clause-step g c =
     let new = g.N.View.cells c.args.new.now in
     let blank : ℕ → ℕ → Ink = λ i j. blank_ink in
     let sends = rw c.resync.ensures.value at c.in_err-send_all.ensures.sends in
-    rw e.1 (anew_failed g.W.Wire.went g.W.Wire.failures c.args.wire.now c.send_all.new.wire _ t (IsLost t) (Agrees t blank at_start) (Agrees t new c.start_belief.result) t.resync (agrees_lost t c.rows.ensures.checked blank at_start) (omega arith)
-    (resync_leads t c.rows.ensures.checked) sends)
+    rw e.1 (anew_failed g.W.Wire.went g.W.Wire.failures c.args.wire.now c.send_all.new.wire _ t (IsLeft t c.args.shown_as) (Agrees t blank (at_start c.args.shown_as)) (Agrees t new c.start_belief.result) t.resync (agrees_lost t c.rows.ensures.checked blank (at_start c.args.shown_as)) (omega arith)
+    (resync_leads t c.rows.ensures.checked c.args.shown_as) sends)
 
 pub returns-clause-step : goal.returns-clause-step
 returns-clause-step g c =
@@ -27,7 +26,8 @@ returns-clause-step g c =
     let new = g.N.View.cells c.args.new.now in
     let blank : ℕ → ℕ → Ink = λ i j. blank_ink in
     let w = c.args.wanted in
+    let start = at_start c.args.shown_as in
     let sends = rw c.resync.ensures.value at c.in_ok-send_all.ensures.sends in
     let steps = rw c.start_belief.ensures.value at c.paint.ensures.step in
-    anew_then g.W.Wire.went g.W.Wire.failures g.met.W.Wire.lawful c.args.wire.now c.send_all.new.wire c.paint.new.wire c.paint.result t (IsLost t) (Agrees t blank at_start) (Agrees t new c.paint.new.belief) t.resync
-    (paint_limit t blank new at_start w.cursor w.mode) (fresh_enough t (length t.resync) blank new at_start w.cursor w.mode (omega arith)) (resync_leads t c.rows.ensures.checked) sends steps
+    anew_then g.W.Wire.went g.W.Wire.failures g.met.W.Wire.lawful c.args.wire.now c.send_all.new.wire c.paint.new.wire c.paint.result t (IsLeft t c.args.shown_as) (Agrees t blank start) (Agrees t new c.paint.new.belief) t.resync
+    (paint_limit t blank new start w.cursor w.mode) (fresh_enough t (length t.resync) blank new start w.cursor w.mode (omega arith)) (resync_leads t c.rows.ensures.checked c.args.shown_as) sends steps

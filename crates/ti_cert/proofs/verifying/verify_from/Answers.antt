@@ -15,7 +15,7 @@ use Rattle.ti_cert.specs.declared.faults.VerifyFault.TheVariants.{Agree}
 use Rattle.ti_cert.proofs.verifying.verify_from.Goals as goal
 
 pub handed_out-requires : goal.handed_out-requires
-handed_out-requires g c = is_verified c.args.entry.now c.in-Ok.table c.args.size.rows c.args.size.cols c.args.size.limits c.in-Ok-agrees.ensures.fit c.in-Ok.ensures.judged c.in-Ok.ensures.looks c.in-Ok-agrees.ensures.lines c.in-Ok.ensures.rows c.in-Ok.ensures.cols
+handed_out-requires g c = is_verified c.args.entry.now c.in-Ok.table c.args.size.rows c.args.size.cols c.args.size.limits c.in-Ok-agrees.ensures.fit c.in-Ok.ensures.judged c.in-Ok.ensures.looks c.in-Ok-agrees.ensures.lines c.in-Ok.ensures.rows c.in-Ok.ensures.cols c.in-Ok.ensures.few
 
 pub returns-in-Ok-agrees-clause-conforms : goal.returns-in-Ok-agrees-clause-conforms
 returns-in-Ok-agrees-clause-conforms g c = at_ok (λ (t : tables.Content). Conforms c.args.entry.now c.args.size.rows c.args.size.cols) c.in-Ok.table c.handed_out.result c.handed_out.ensures.same
@@ -27,7 +27,7 @@ returns-in-Ok-agrees-clause-sends g c = at_ok (λ (t : tables.Content). EntryAgr
 
 pub returns-in-Ok-agrees-clause-resyncs : goal.returns-in-Ok-agrees-clause-resyncs
 returns-in-Ok-agrees-clause-resyncs g c = at_ok (λ (t : tables.Content). Resyncs (table_of t)) c.in-Ok.table c.handed_out.result c.handed_out.ensures.same
-    (resyncs c.in-Ok.table (is_verified c.args.entry.now c.in-Ok.table c.args.size.rows c.args.size.cols c.args.size.limits c.in-Ok-agrees.ensures.fit c.in-Ok.ensures.judged c.in-Ok.ensures.looks c.in-Ok-agrees.ensures.lines c.in-Ok.ensures.rows c.in-Ok.ensures.cols))
+    (resyncs c.in-Ok.table (is_verified c.args.entry.now c.in-Ok.table c.args.size.rows c.args.size.cols c.args.size.limits c.in-Ok-agrees.ensures.fit c.in-Ok.ensures.judged c.in-Ok.ensures.looks c.in-Ok-agrees.ensures.lines c.in-Ok.ensures.rows c.in-Ok.ensures.cols c.in-Ok.ensures.few))
 
 pub returns-in-Ok-agrees-clause-refused : goal.returns-in-Ok-agrees-clause-refused
 returns-in-Ok-agrees-clause-refused g c = λ text left.

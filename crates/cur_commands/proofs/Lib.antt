@@ -1,0 +1,3 @@
+pub mod Running
+pub mod Telling
+pub mod Ending

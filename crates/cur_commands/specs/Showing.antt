@@ -1,0 +1,77 @@
+-- What `show` tells: a line for each call that was refused, and then the screen of the terminal.
+use Rattle.std.specs.Prelude.{◌≡◌, ℕ, ◌+◌, List, [], ◌∷◌, ◌++◌, Option, Some, codes}
+use Rattle.std.specs.Fmt.{decimal}
+use Rattle.std.specs.Io.KnownBytes.{Appends}
+use Rattle.vt_term.specs.Printed.{screen_text}
+use Rattle.vt_term.specs.Run.{Runs, Sticks}
+use Rattle.vt_term.specs.Screen.{State, reset}
+use Rattle.ti_commands.specs.declared.failure.Failure.{Failure}
+use Rattle.ti_commands.specs.declared.failure.Failure.TheVariants.{Refused, NoMemory}
+use Rattle.ti_commands.specs.declared.failure.Refusal.TheVariants.{Stuck}
+use Rattle.cur_drawing.specs.declared.refusals.Refusal.{Refusal}
+use Rattle.cur_drawing.specs.declared.refusals.Refusal.TheVariants as refusals
+use Rattle.cur_looks.specs.Certified.{Table}
+use Rattle.cur_calls.specs.declared.calls.Call.{Call}
+use Rattle.cur_play.specs.Log.{Ran}
+use Rattle.cur_play.specs.declared.answers.Answer.{Answer}
+use Rattle.cur_play.specs.declared.answers.Answer.TheVariants as answers
+use Rattle.cur_play.specs.declared.runs.Entry.{Entry}
+use Rattle.cur_commands.specs.Through.{AreThrough}
+
+abbrev pub refusal_name : Refusal → List ℕ
+refusal_name refusals.NoWindow = codes "NoWindow"
+refusal_name refusals.OutOfWindow = codes "OutOfWindow"
+refusal_name refusals.OutOfScreen = codes "OutOfScreen"
+refusal_name refusals.HasChildren = codes "HasChildren"
+refusal_name refusals.IsSub = codes "IsSub"
+refusal_name refusals.PadKind = codes "PadKind"
+refusal_name refusals.NoScroll = codes "NoScroll"
+refusal_name refusals.BadRegion = codes "BadRegion"
+refusal_name refusals.NumberUsed = codes "NumberUsed"
+refusal_name refusals.BadCell = codes "BadCell"
+refusal_name refusals.Full = codes "Full"
+refusal_name refusals.NoMemory = codes "NoMemory"
+refusal_name refusals.IsScreen = codes "IsScreen"
+refusal_name refusals.NoCap = codes "NoCap"
+refusal_name refusals.IsLost = codes "IsLost"
+refusal_name refusals.BadPair = codes "BadPair"
+
+-- `call N: NAME`
+abbrev pub refusal_line : ℕ → Refusal → List ℕ
+refusal_line n refusal = codes "call " ++ (decimal n ++ (codes ": " ++ (refusal_name refusal ++ 10 ∷ [])))
+
+-- the line of the call of this number, if it was refused
+abbrev pub answer_line : ℕ → Answer → List ℕ
+answer_line n (answers.Refused refusal) = refusal_line n refusal
+answer_line n _ = []
+
+-- the lines of the calls after the first n
+abbrev pub refusals_text : ℕ → List Entry → List ℕ
+refusals_text n [] = []
+refusals_text n (e ∷ log) = answer_line (n + 1) e.answer ++ refusals_text (n + 1) log
+
+-- A run of these calls, of which none was cut short, and the bytes that it sent in all.
+pub record RanWhole (t : Table) (partners : ℕ → Option ℕ) (calls : List Call) (bytes : List ℕ) : Type 0 where
+  pub log : List Entry
+  pub ran : Ran Appends (Some []) (Some bytes) t partners calls log
+  pub through : AreThrough log
+
+-- the text tells of a run and of the screen that a terminal in its reset state shows after the bytes
+pub record ShowsRun (t : Table) (partners : ℕ → Option ℕ) (rows cols : ℕ) (calls : List Call) (text : List ℕ) : Type 0 where
+  pub bytes : List ℕ
+  pub whole : RanWhole t partners calls bytes
+  pub after : State
+  pub runs : Runs (reset rows cols) bytes after
+  pub spelled : text ≡ refusals_text 0 whole.log ++ screen_text after.screen
+
+-- the terminal takes no byte at this place of what a run of the calls sent
+pub record SticksInRun (t : Table) (partners : ℕ → Option ℕ) (rows cols : ℕ) (calls : List Call) (at : ℕ) : Type 0 where
+  pub bytes : List ℕ
+  pub whole : RanWhole t partners calls bytes
+  pub after : State
+  pub sticks : Sticks (reset rows cols) bytes at after
+
+abbrev pub IsUnshown : Table → (ℕ → Option ℕ) → ℕ → ℕ → List Call → Failure → Type 0
+IsUnshown t partners rows cols calls (Refused (Stuck stuck)) = SticksInRun t partners rows cols calls stuck.at
+IsUnshown t partners rows cols calls NoMemory = Unit {0}
+IsUnshown t partners rows cols calls _ = ⊥

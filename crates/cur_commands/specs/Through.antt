@@ -1,0 +1,20 @@
+-- How a run over an output ends.
+use Rattle.std.specs.Prelude.{◌≡◌, Bool, true, List}
+use Rattle.std.specs.List.{AllByRecursion}
+use Rattle.ti_commands.specs.declared.failure.Failure.{Failure}
+use Rattle.ti_commands.specs.declared.failure.Failure.TheVariants.{Output, NoMemory}
+use Rattle.cur_play.specs.declared.answers.Answer.TheVariants.{WireFailed}
+use Rattle.cur_play.specs.declared.runs.Entry.{Entry}
+
+-- no call was cut short
+abbrev pub IsThrough : Entry → Type 0
+IsThrough e = e.answer ≡ WireFailed → ⊥
+
+abbrev pub AreThrough : List Entry → Type 0
+AreThrough log = AllByRecursion IsThrough log
+
+-- there was no memory, and nothing was written; or the output has failed
+abbrev pub IsUnplayed : {O : Type 0} → (O → Bool) → O → O → Failure → Type 0
+IsUnplayed has_failed old new NoMemory = new ≡ old
+IsUnplayed has_failed old new Output = has_failed new ≡ true
+IsUnplayed has_failed old new _ = ⊥

@@ -1,0 +1,66 @@
+//! Bytes that are held back.
+ghost use Rattle.std.specs.Prelude.{◌≡◌, ◌↔◌, ◌≤◌, ◌-◌, ◌++◌, [], IfOk, IsTrue, length, min, take};
+
+use std::alloc::{AllocError, Global};
+use std::marker::Model;
+
+/// The most bytes that a buffer holds.
+const CAPACITY: usize = 65_536;
+
+/// Bytes in memory that was reserved for them.
+#[derive(Drop)]
+pub struct Buffer {
+    bytes: Vec<u8>,
+}
+
+impl Model for Buffer {
+    ghost use Rattle.std.specs.Prelude.{ℕ, List, ◌≤◌, length, vec_capacity};
+
+    ghost Value = { List ℕ };
+
+    ghost view = { λ b. b.bytes.items };
+
+    ghost invariant = { λ b. (length b.bytes.items ≤ 65536) × (65536 ≤ vec_capacity b.bytes) };
+}
+
+impl Buffer {
+    /// An empty buffer, or out of memory.
+    pub fn new(alloc: Global) -> Result<Buffer, AllocError>
+        ensures value { IfOk result (λ buffer. buffer ≡ []) }
+    {
+        Ok(Buffer {
+            bytes: Vec::with_capacity(alloc, CAPACITY)?,
+        })
+    }
+
+    /// Whether there is no room.
+    pub fn is_full(&self) -> bool
+        ensures value { IsTrue result ↔ (65536 ≤ length self.now) }
+    {
+        self.bytes.len() >= CAPACITY
+    }
+
+    /// Takes what fits of a piece, and returns how many bytes that is.
+    pub fn hold(&mut self, piece: &[u8]) -> usize
+        ensures count { result ≡ min (length piece.now) (65536 - length self.old) }
+        ensures value { self.new ≡ self.old ++ take result piece.now }
+    {
+        let held = piece.len().min(CAPACITY - self.bytes.len());
+        self.bytes.extend_from_slice(&piece[..held]).unwrap();
+        held
+    }
+
+    /// What it holds.
+    pub fn as_slice(&self) -> &[u8]
+        ensures value { result.now ≡ self.now }
+    {
+        self.bytes.as_slice()
+    }
+
+    /// Lets go of all of it.
+    pub fn clear(&mut self)
+        ensures value { self.new ≡ [] }
+    {
+        self.bytes.clear();
+    }
+}

@@ -1,0 +1,11 @@
+//! Wires that may hold back what they took.
+ghost use Rattle.std.specs.Prelude.{[]};
+
+use cur_wires::Wire;
+
+/// A wire that may hold back what it took, until it is told to pass it on.
+pub trait Paced: Wire {
+    /// Passes on what is held back. Where that fails, the wire's count of failures rises.
+    fn pass_on(&mut self)
+        ensures { Self.went self.old self.new [] };
+}

@@ -1,0 +1,57 @@
+//! What a run of a script needs, in the order of the line's words.
+ghost use Rattle.std.specs.Prelude.{◌≡◌, IfErr, IfOk};
+ghost use Rattle.cur_commands.specs.Preparing.{FailsToPrepare, Prepared};
+
+use std::alloc::Global;
+use ti_cert::Checked;
+use ti_commands::{Failure, Files, Remarks, entry_of, read_whole, size_words};
+use ti_verdicts::checked_at;
+use vt_term::Size;
+
+/// The most bytes of a script.
+const LIMIT: u32 = 1_048_576;
+
+/// The words of `play` and `show`.
+#[derive(Clone, Copy)]
+pub struct Playing<'a> {
+    /// The entry.
+    pub entry: &'a str,
+    /// The terminal's rows, a decimal number.
+    pub rows: &'a str,
+    /// The terminal's columns, a decimal number.
+    pub cols: &'a str,
+    /// The path of the certificate.
+    pub certificate: &'a str,
+    /// The path of the script.
+    pub script: &'a str,
+}
+
+/// A size, the strings of an entry that was verified for it, and the text of a script.
+#[derive(Drop)]
+pub struct Ready {
+    pub size: Size,
+    pub checked: Checked,
+    pub text: Vec<u8>,
+}
+
+/// What the words give: the size comes first, then the entry, then the certificate, then the script's text.
+pub fn prepare<F: Files>(
+    alloc: Global,
+    words: &Playing<'_>,
+    files: &mut F,
+    remarks: &mut Remarks,
+) -> Result<Ready, Failure>
+    ensures ready { IfOk result (λ ready. Prepared (F.holds files.old) words.now ready.size.rows ready.size.cols ready.checked ready.text.items) }
+    ensures failure { IfErr result (λ e. FailsToPrepare (F.holds files.old) words.now e) }
+    ensures kept { F.holds files.new ≡ F.holds files.old }
+{
+    let size = size_words(alloc, words.rows, words.cols, remarks)?;
+    let entry = entry_of(alloc, files, words.entry, remarks)?;
+    let checked = checked_at(alloc, &entry, size, words.certificate, files, remarks)?;
+    let text = read_whole(alloc, files, words.script, LIMIT, remarks)?;
+    Ok(Ready {
+        size,
+        checked,
+        text,
+    })
+}

@@ -1,0 +1,39 @@
+-- Cells printed once more, and the columns between.
+use Rattle.std.proofs.Common.{◌≡◌, ℕ, ◌+◌, ◌<◌, Some, ap, subst, ◌∙◌, inl, inr, arith}
+use Rattle.std.proofs.lemmas.Bool.Decides.{nat_tests}
+use Rattle.std.proofs.lemmas.Bool.{cases_lt}
+use Rattle.vt_term.specs.Screen.{State}
+use Rattle.cur_looks.specs.Certified.{Table}
+use Rattle.cur_looks.specs.Inks.{put_at}
+use Rattle.cur_looks.specs.Beliefs.{Agrees, Belief, after_print}
+use Rattle.cur_looks.specs.Gaps.{IsAlike}
+use Rattle.cur_looks.specs.declared.inks.Ink.{Ink}
+
+put_same : (h : ℕ → ℕ → Ink) (r c i j : ℕ) (x : Ink) → h r c ≡ x → put_at r c x h i j ≡ h i j
+put_same h r c i j x e = grind (arith, nat_tests)
+
+-- a cell printed once more is as before
+pub reprinted : (t : Table) (h : ℕ → ℕ → Ink) (b : Belief) (r c : ℕ) (x : Ink) → h r c ≡ x → (s : State) → Agrees t (put_at r c x h) b s → Agrees t h b s
+reprinted t h b r c x e s a = record {
+  ready = a.ready;
+  cells = λ i j li lj. rw (← put_same h r c i j x e) (a.cells i j li lj);
+  place = a.place;
+  brush = a.brush;
+  colored = a.colored;
+  set = a.set;
+  seen = a.seen;
+}
+
+-- the cursor after a character that isn't the last of its line
+pub next_place : (cols r c d : ℕ) → c + 1 < cols → c + 1 ≡ d → after_print cols r c ≡ Some (record { row = r; col = d })
+next_place cols r c d lt e = step cols r c lt ∙ ap (λ (n : ℕ). Some (record { row = r; col = n })) e
+  where
+    step : (cols r c : ℕ) → c + 1 < cols → after_print cols r c ≡ Some (record { row = r; col = c + 1 })
+    step cols r c lt = grind (arith, nat_tests)
+
+-- one cell more
+pub alike_more : (b : Belief) (f : ℕ → Ink) (n : ℕ) → ((k : ℕ) → k < n → IsAlike b (f k)) → IsAlike b (f n) → (k : ℕ) → k < n + 1 → IsAlike b (f k)
+alike_more b f n before last k lt = elim (cases_lt k n) [
+  | inl less ↦ before k less
+  | inr more ↦ (let same : n ≡ k = omega (arith, lt, more) in subst (λ (m : ℕ). IsAlike b (f m)) same last)
+]

@@ -1,0 +1,41 @@
+-- The first refresh shows the greeting.
+use Rattle.std.proofs.Common.{◌≡◌, ℕ, List, Option, sym, subst}
+use Rattle.vt_term.specs.Screen.{State}
+use Rattle.cur_windows.specs.VirtualScreen.{Screen}
+use Rattle.cur_looks.specs.Certified.{Table}
+use Rattle.cur_looks.specs.declared.beliefs.Belief.{Belief}
+use Rattle.cur_looks.specs.declared.beliefs.Mode.{Mode}
+use Rattle.cur_looks.specs.declared.beliefs.Mode.TheVariants.{Normal}
+use Rattle.cur_looks.specs.declared.inks.Ink.{Ink}
+use Rattle.cur_paint.specs.Update.{Fits, IsFresh, Refreshed}
+use Rattle.cur_paint.specs.declared.updates.Session.{Session}
+use Rattle.cur_paint.specs.declared.updates.Status.{Status}
+use Rattle.cur_paint.specs.declared.updates.Status.TheVariants.{Fresh}
+use Rattle.cur_update.specs.Inks.{ink_at}
+use Rattle.cur_update.specs.Painters.{Painted, wanted_of}
+use Rattle.cur_update.specs.Paper.{on_paper}
+use Rattle.hello.specs.Greeting.{IsGreeting}
+use Rattle.hello.specs.Showing.{Greets}
+
+fresh_fits : (t : Table) (shown : ℕ → ℕ → Ink) (status : Status) (b : Belief) (s : State) → status ≡ Fresh → IsFresh t s → Fits t shown status b s
+fresh_fits t shown status b s e h = subst (λ (x : Status). Fits t shown x b s) (sym e) h
+
+sized : (rows cols : ℕ) (t : Table) (v : Screen) → rows ≡ t.rows → cols ≡ t.cols → IsGreeting rows cols v → IsGreeting t.rows t.cols v
+sized rows cols t v e f h = subst (λ (n : ℕ). IsGreeting t.rows n v) f (subst (λ (n : ℕ). IsGreeting n cols v) e h)
+
+pub greets : {W C : Type 0} (went : W → W → List ℕ → Type 0) (old new : W) (table : C → Table) (partners : C → ℕ → Option ℕ) (checked : C) (p : Painted C) (after : Session) (rows cols : ℕ) (v : Screen)
+    → p.checked ≡ checked → p.session.status ≡ Fresh → p.mode ≡ Normal → rows ≡ (table checked).rows → cols ≡ (table checked).cols → IsGreeting rows cols v
+    → Refreshed went old new (table p.checked) (on_paper p.paper) (ink_at (table p.checked) (partners p.checked) v) (wanted_of v p.mode) p.session after
+    → Greets went old new (table checked) (partners checked)
+greets {W} {C} went old new table partners checked p after rows cols v same fresh normal rows_same cols_same greeting refreshed =
+    let of_checked : Refreshed went old new (table checked) (on_paper p.paper) (ink_at (table checked) (partners checked) v) (wanted_of v p.mode) p.session after
+    = subst (λ (k : C). Refreshed went old new (table k) (on_paper p.paper) (ink_at (table k) (partners k) v) (wanted_of v p.mode) p.session after) same refreshed in
+    let done : Refreshed went old new (table checked) (on_paper p.paper) (ink_at (table checked) (partners checked) v) (wanted_of v Normal) p.session after
+    = subst (λ (m : Mode). Refreshed went old new (table checked) (on_paper p.paper) (ink_at (table checked) (partners checked) v) (wanted_of v m) p.session after) normal of_checked in
+    record {
+      screen = v;
+      greeting = sized rows cols (table checked) v rows_same cols_same greeting;
+      bytes = done.bytes;
+      sent = done.sent;
+      shows = λ s first. done.lawful.shows s (fresh_fits (table checked) (on_paper p.paper) p.session.status p.session.belief s fresh first);
+    }

@@ -1,0 +1,51 @@
+//! A writer, such as standard output, as a wire.
+ghost use Rattle.std.specs.Prelude.{◌≡◌, ◌<◌, ◌≤◌, length, take, IfOk, OnErr};
+ghost use Rattle.cur_wires.specs.Wire.{Rose};
+ghost use Rattle.hello.specs.Console.{Wrote};
+
+use cur_update::{Wire, WireFault};
+use std::io;
+use std::io::Write;
+
+/// A writer that bytes are sent to.
+#[derive(Drop)]
+pub struct Console<W> {
+    writer: W,
+    failures: u128,
+}
+
+impl<W: Write> Console<W> {
+    /// The wire that this writer is.
+    pub fn new(writer: W) -> Console<W> {
+        Console {
+            writer,
+            failures: 0,
+        }
+    }
+
+    /// Passes on what the writer holds back.
+    pub fn flush(&mut self) -> io::Result<()> {
+        self.writer.flush()
+    }
+}
+
+impl<W: Write> Wire for Console<W> {
+    ghost use Rattle.hello.specs.Console.{Wrote, wrote_lawful};
+
+    ghost went = { λ a b x. Wrote (W.contents a.writer) (W.contents b.writer) a.failures b.failures x };
+
+    ghost failures = { λ a. a.failures };
+
+    /// Writes what the writer takes of a piece, and fails where that is nothing.
+    fn send(&mut self, piece: &[u8]) -> Result<usize, WireFault> {
+        match self.writer.write(piece) {
+            Ok(taken) if taken > 0 => Ok(taken),
+            _ => {
+                self.failures = self.failures.saturating_add(1);
+                Err(WireFault)
+            }
+        }
+    }
+
+    ghost lawful = { wrote_lawful W.contents (λ a. a.writer) (λ a. a.failures) };
+}

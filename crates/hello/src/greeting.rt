@@ -1,0 +1,53 @@
+//! A greeting in a window with a border.
+ghost use Rattle.std.specs.Prelude.{◌≡◌, Ok, IfOk, OnOk};
+ghost use Rattle.hello.specs.Calls.{greeting};
+ghost use Rattle.hello.specs.Greeting.{IsGreeting};
+ghost use Rattle.hello.specs.Showing.{Greets};
+
+use anyhow::Result;
+use cur_looks::Certificate;
+use cur_update::{Alternates, Painter, Wire};
+use cur_windows::{Desk, Put, Refusal, Virtual};
+use std::alloc::Global;
+use vt_term::Size;
+
+/// The number of the greeting's window.
+const GREETING: usize = 1;
+
+/// Shows the greeting on a terminal to which nothing was sent, and hands out the painter that knows what it shows.
+pub fn greet<'a, C: Certificate + Alternates, W: Wire>(
+    alloc: Global,
+    checked: &'a C,
+    wire: &mut W,
+) -> Result<Painter<'a, C>>
+    ensures shown { OnOk result (Greets W.went wire.old wire.new (C.table checked.now) (C.partners checked.now)) }
+{
+    let size = Size::new(checked.rows(), checked.cols()).unwrap();
+    let screen = greeting_screen(alloc, size)?;
+    let mut painter = Painter::start(alloc, checked)?;
+    painter.update(&screen, wire)?;
+    Ok(painter)
+}
+
+/// A virtual screen with the greeting.
+fn greeting_screen(alloc: Global, size: Size) -> Result<Virtual>
+    ensures greeting { IfOk result (λ screen. IsGreeting size.rows size.cols screen) }
+{
+    let mut desk = Desk::new(alloc, size)?;
+    let mut screen = Virtual::new(alloc, size)?;
+    draw(&mut desk)?;
+    desk.noutrefresh(GREETING, &mut screen)?;
+    Ok(screen)
+}
+
+/// Draws the greeting in a window of its own. The desk's rows and columns are what `noutrefresh` asks about.
+fn draw(desk: &mut Desk) -> Result<(), Refusal>
+    ensures drawn { OnOk result ((desk.new, Ok tt) ≡ greeting desk.old) }
+    ensures rows { OnOk result ((desk.new).rows ≡ (desk.old).rows) }
+    ensures cols { OnOk result ((desk.new).cols ≡ (desk.old).cols) }
+{
+    desk.newwin(GREETING, 3, 17, 1, 4)?;
+    desk.draw_box(GREETING, Put::vertical_line(), Put::horizontal_line())?;
+    desk.move_to(GREETING, 1, 2)?;
+    desk.addstr(GREETING, b"Hello, world!")
+}

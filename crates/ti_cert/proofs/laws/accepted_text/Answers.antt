@@ -1,0 +1,5 @@
+use Rattle.ti_cert.proofs.Spelling.{that_of_certificate}
+use Rattle.ti_cert.proofs.laws.accepted_text.Goals as goal
+
+pub returns : goal.returns
+returns c = that_of_certificate

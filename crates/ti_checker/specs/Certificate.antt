@@ -1,0 +1,25 @@
+-- The certificate of an entry: a text whose lines are just what its strings send.
+use Rattle.std.specs.Prelude.{ℕ, ◌≡◌, true, List, Ok}
+use Rattle.ti_caps.specs.Entry.{Content, string_at}
+use Rattle.ti_rows.specs.declared.rows.Row.{Row}
+use Rattle.ti_rows.specs.Lists.{IsInRange}
+use Rattle.ti_lines.specs.declared.lines.RowLine.{RowLine}
+use Rattle.ti_sends.specs.Entries.{acsc, is_checked}
+use Rattle.ti_charsets.specs.Charsets.{IsAmong}
+use Rattle.ti_cert.specs.Order.{HasLine}
+use Rattle.ti_cert.specs.Certificates.{Ended, IsAnswer}
+use Rattle.ti_checker.specs.Resync.{SendsFor}
+
+-- the row is checked, and the entry's string sends these bytes for it
+pub record IsSent (entry : Content) (rows cols : ℕ) (row : Row) (bytes : List ℕ) : Type 0 where
+  pub range : IsInRange rows cols row
+  pub checked : is_checked entry row ≡ true
+  pub sends : SendsFor entry row bytes
+
+pub record IsCertificateOf (entry : Content) (rows cols : ℕ) (text : List ℕ) : Type 0 where
+  pub lines : List RowLine
+  -- read from its first byte to its last, the text is a certificate for the size, with the entry's pairs of alternate
+  -- characters and these lines, each of them judged
+  pub says : IsAnswer rows cols text (Ok (Ended (string_at entry acsc) lines))
+  pub sends : (line : RowLine) → IsAmong lines line → IsSent entry rows cols line.row line.bytes
+  pub complete : (row : Row) → IsInRange rows cols row → is_checked entry row ≡ true → HasLine lines row

@@ -1,0 +1,98 @@
+-- Which of several noes is told: the first, in the order of a certificate's lines.
+use Rattle.std.specs.Prelude.{ℕ, ◌≡◌, ◌<◌, ◌⊎◌, true, List, Some}
+use Rattle.ti_caps.specs.Entry.{Content}
+use Rattle.ti_rows.specs.declared.rows.Looks.{Looks}
+use Rattle.ti_rows.specs.declared.rows.Row.{Row}
+use Rattle.ti_rows.specs.Names.{cap_of, order}
+use Rattle.ti_rows.specs.Params.{params}
+use Rattle.ti_rows.specs.Lists.{IsInRange, rank}
+use Rattle.ti_rows.specs.Right.{IsRight}
+use Rattle.ti_sends.specs.Sends.{Sends}
+use Rattle.ti_sends.specs.Entries.{is_checked, string_of}
+use Rattle.ti_cert.specs.Order.{Precedes}
+use Rattle.ti_checker.specs.declared.causes.Cause.{Cause}
+use Rattle.ti_checker.specs.declared.causes.Cause.TheVariants.{FlagOut, Absent, AcsByte, BadLook, WrongEffect, NotShown, NoResync, NoMemory}
+use Rattle.ti_checker.specs.declared.causes.No.{No}
+
+-- ---- a row without fault
+
+-- the string sends bytes that are whole, and whose run from every start of the row ends as is wanted
+pub record SendsRight (rows cols : ℕ) (string : List ℕ) (row : Row) : Type 0 where
+  pub bytes : List ℕ
+  pub sends : Sends string row bytes
+  pub looks : Looks
+  pub right : IsRight rows cols looks row bytes
+
+-- so of the entry's string, where the row is checked
+abbrev pub RowStands : Content → ℕ → ℕ → Row → Type 0
+RowStands entry rows cols row = is_checked entry row ≡ true → (string : List ℕ) → string_of entry row ≡ Some string → SendsRight rows cols string row
+
+abbrev pub EachStands : Content → ℕ → ℕ → Type 0
+EachStands entry rows cols = (row : Row) → IsInRange rows cols row → RowStands entry rows cols row
+
+-- ---- the first row with a fault
+
+-- causes that a row may have
+abbrev pub IsOfRow : Cause → Type 0
+IsOfRow FlagOut = ⊥
+IsOfRow Absent = ⊥
+IsOfRow AcsByte = ⊥
+IsOfRow NoResync = ⊥
+IsOfRow _ = Unit {0}
+
+-- the no is about a row, and all that come before it stand
+pub record IsFirstRow (entry : Content) (rows cols : ℕ) (refusal : No) : Type 0 where
+  pub row : Row
+  pub cap_is : refusal.cap ≡ cap_of row
+  pub params_are : refusal.params.items ≡ params row
+  pub range : IsInRange rows cols row
+  pub of_row : IsOfRow refusal.cause
+  pub earlier : (other : Row) → IsInRange rows cols other → Precedes rows cols other row → RowStands entry rows cols other
+
+-- What the entry has to have or may not have is told before any row, what is wrong with rows before what is wrong with
+-- all of them together. Running out of memory has no place.
+abbrev pub IsFirstBy : Content → ℕ → ℕ → No → Cause → Type 0
+IsFirstBy entry rows cols refusal FlagOut = Unit {0}
+IsFirstBy entry rows cols refusal Absent = Unit {0}
+IsFirstBy entry rows cols refusal AcsByte = Unit {0}
+IsFirstBy entry rows cols refusal NoMemory = Unit {0}
+IsFirstBy entry rows cols refusal BadLook = IsFirstRow entry rows cols refusal ⊎ EachStands entry rows cols
+IsFirstBy entry rows cols refusal (WrongEffect p) = IsFirstRow entry rows cols refusal ⊎ EachStands entry rows cols
+IsFirstBy entry rows cols refusal NotShown = IsFirstRow entry rows cols refusal ⊎ EachStands entry rows cols
+IsFirstBy entry rows cols refusal NoResync = EachStands entry rows cols
+IsFirstBy entry rows cols refusal _ = IsFirstRow entry rows cols refusal
+
+abbrev pub IsFirstTold : Content → ℕ → ℕ → No → Type 0
+IsFirstTold entry rows cols refusal = IsFirstBy entry rows cols refusal refusal.cause
+
+-- ---- (Serves the code alone.) The rows of one capability.
+
+-- those of a string for the capability at a place that have this place among its lists
+abbrev pub RightAt : ℕ → ℕ → List ℕ → ℕ → ℕ → Type 0
+RightAt rows cols string n k = (row : Row) → order row ≡ n → IsInRange rows cols row → rank rows cols row ≡ k → SendsRight rows cols string row
+
+abbrev pub AllRight : ℕ → ℕ → List ℕ → ℕ → Type 0
+AllRight rows cols string n = (row : Row) → order row ≡ n → IsInRange rows cols row → SendsRight rows cols string row
+
+-- the no is about such a row, and those before it are right
+pub record IsFirstOf (rows cols : ℕ) (string : List ℕ) (n : ℕ) (refusal : No) : Type 0 where
+  pub row : Row
+  pub cap_is : refusal.cap ≡ cap_of row
+  pub params_are : refusal.params.items ≡ params row
+  pub range : IsInRange rows cols row
+  pub of_row : IsOfRow refusal.cause
+  pub ordered : order row ≡ n
+  pub earlier : (k : ℕ) → k < rank rows cols row → RightAt rows cols string n k
+
+-- the same of the entry's string, where the capability is checked
+abbrev pub CapStands : Content → ℕ → ℕ → ℕ → Type 0
+CapStands entry rows cols n = (row : Row) → order row ≡ n → IsInRange rows cols row → RowStands entry rows cols row
+
+pub record IsFirstInCap (entry : Content) (rows cols n : ℕ) (refusal : No) : Type 0 where
+  pub row : Row
+  pub cap_is : refusal.cap ≡ cap_of row
+  pub params_are : refusal.params.items ≡ params row
+  pub range : IsInRange rows cols row
+  pub of_row : IsOfRow refusal.cause
+  pub ordered : order row ≡ n
+  pub earlier : (other : Row) → order other ≡ n → IsInRange rows cols other → rank rows cols other < rank rows cols row → RowStands entry rows cols other

@@ -1,0 +1,43 @@
+-- An entry whose strings lead a terminal out of no unknown state, since a sequence that was cut off stays open
+-- (terminfo(5), "Initialization"; ECMA-48 5.4).
+use Rattle.std.specs.Prelude.{ℕ, ◌-◌, ◌≡◌, true, false, List, [], ◌∷◌, ◌++◌, Some}
+use Rattle.ti_caps.specs.Entry.{Content}
+use Rattle.ti_rows.specs.declared.rows.Row.{Row}
+use Rattle.ti_rows.specs.declared.rows.Row.TheVariants.{Clear, Csr, Smcup, Enacs, Sgr0, Rmacs}
+use Rattle.ti_rows.specs.Lists.{IsInRange}
+use Rattle.ti_sends.specs.Sends.{Sends}
+use Rattle.ti_sends.specs.Entries.{is_checked, string_of}
+
+-- the entry's string sends the bytes for the row
+pub record SendsFor (entry : Content) (row : Row) (bytes : List ℕ) : Type 0 where
+  pub string : List ℕ
+  pub there : string_of entry row ≡ Some string
+  pub sends : Sends string row bytes
+
+-- what the entry sends for the row, nothing where it isn't checked
+pub record IsPart (entry : Content) (row : Row) (bytes : List ℕ) : Type 0 where
+  pub checked : is_checked entry row ≡ true → SendsFor entry row bytes
+  pub unchecked : is_checked entry row ≡ false → bytes ≡ []
+
+-- `smcup`, `enacs`, `sgr0`, `rmacs`, `csr` of the whole screen and `clear`, one after another
+pub record SendsResync (entry : Content) (rows : ℕ) (text : List ℕ) : Type 0 where
+  pub smcup : List ℕ
+  pub enters : IsPart entry Smcup smcup
+  pub enacs : List ℕ
+  pub enables : IsPart entry Enacs enacs
+  pub sgr0 : List ℕ
+  pub makes_plain : IsPart entry Sgr0 sgr0
+  pub rmacs : List ℕ
+  pub leaves : IsPart entry Rmacs rmacs
+  pub csr : List ℕ
+  pub widens : IsPart entry (Csr 0 (rows - 1)) csr
+  pub clear : List ℕ
+  pub clears : IsPart entry Clear clear
+  pub joined : text ≡ smcup ++ (enacs ++ (sgr0 ++ (rmacs ++ (csr ++ clear))))
+
+-- they don't begin with ESC
+pub record StaysOpen (entry : Content) (rows cols : ℕ) : Type 0 where
+  pub tall : IsInRange rows cols (Csr 0 (rows - 1))
+  pub text : List ℕ
+  pub sends : SendsResync entry rows text
+  pub opens : (rest : List ℕ) → text ≡ 27 ∷ rest → ⊥

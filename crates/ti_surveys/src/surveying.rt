@@ -1,0 +1,142 @@
+//! The command `survey`.
+
+ghost use Rattle.std.specs.Prelude.{◌≡◌, IfErr, IfOk};
+ghost use Rattle.ti_commands.specs.Sizes.{LacksSize};
+ghost use Rattle.ti_commands.specs.Words.{texts_of};
+ghost use Rattle.ti_surveys.specs.Lines.{Answers};
+ghost use Rattle.ti_surveys.specs.Surveying as spec;
+
+use crate::entries::file_lines;
+use crate::tallies::Tally;
+use crate::watching::{Course, Watcher};
+use std::alloc::{AllocError, Global};
+use ti_commands::{Failure, Files, Remarks, Reply, read_whole, size_words};
+use ti_verdicts::Certifier;
+use vt_term::Size;
+
+/// The most bytes of a file.
+const LIMIT: u32 = 16_777_216;
+
+/// The words of `survey`.
+#[derive(Clone, Copy)]
+pub struct Survey<'a> {
+    /// The terminal's rows, a decimal number.
+    pub rows: &'a str,
+    /// The terminal's columns, a decimal number.
+    pub cols: &'a str,
+    /// The paths of the files.
+    pub files: &'a [&'a str],
+}
+
+/// What a survey of some paths has told so far.
+#[derive(Drop)]
+struct Told {
+    /// The lines of the paths.
+    lines: Vec<u8>,
+    /// The failure of the first path that can't be had.
+    failure: Option<Failure>,
+}
+
+/// Says for each entry of each file whether there is a certificate, or why not, and counts the answers.
+/// What can't be read as an entry has its line too. The reply fails as the first file does that can't be
+/// had, and the others are surveyed all the same.
+///
+/// # Errors
+/// Why the words give no size; out of memory.
+pub fn survey_files<C: Certifier, F: Files, W: Watcher + Drop>(
+    alloc: Global,
+    certifier: &C,
+    words: &Survey<'_>,
+    files: &mut F,
+    watcher: W,
+    remarks: &mut Remarks,
+) -> Result<Reply, Failure>
+    ensures reply { IfOk result (λ reply. spec.IsSurveyed (C.certifies certifier.now) (C.refuses certifier.now) (F.holds files.old) words.now reply) }
+    ensures failure { IfErr result (λ e. LacksSize words.now.rows.now words.now.cols.now e) }
+    ensures kept { F.holds files.new ≡ F.holds files.old }
+{
+    let size = size_words(alloc, words.rows, words.cols, remarks)?;
+    let mut course = Course {
+        tally: Tally::new(),
+        watcher,
+    };
+    let told = survey_paths(
+        alloc,
+        certifier,
+        size,
+        words.files,
+        files,
+        &mut course,
+        remarks,
+    );
+    course.watcher.ends();
+    let told = told?;
+    let mut text = told.lines;
+    let counts = course.tally.line(alloc)?;
+    text.extend_from_slice(counts.as_slice())?;
+    Ok(Reply {
+        notes: Vec::new(alloc),
+        text,
+        failure: told.failure,
+    })
+}
+
+/// The lines of all paths, one after another.
+fn survey_paths<C: Certifier, F: Files, W: Watcher>(
+    alloc: Global,
+    certifier: &C,
+    size: Size,
+    paths: &[&str],
+    files: &mut F,
+    course: &mut Course<W>,
+    remarks: &mut Remarks,
+) -> Result<Told, AllocError>
+    ensures told { IfOk result (λ told. spec.EndsPaths (Answers (C.certifies certifier.now) (C.refuses certifier.now) size.rows size.cols) (F.holds files.old) (texts_of paths.now) told.lines.items told.failure) }
+    ensures kept { F.holds files.new ≡ F.holds files.old }
+{
+    let mut lines = Vec::new(alloc);
+    let mut failure = None;
+    for (done, path) in paths.iter().enumerate() {
+        course.watcher.begins(done, paths.len(), path.as_bytes());
+        let own = survey_path(alloc, certifier, size, path, files, course, remarks)?;
+        lines.extend_from_slice(own.lines.as_slice())?;
+        failure = first_failure(failure, own.failure);
+    }
+    Ok(Told { lines, failure })
+}
+
+/// The first of two failures.
+fn first_failure(failure: Option<Failure>, later: Option<Failure>) -> Option<Failure>
+    ensures { result ≡ spec.first_failure failure later }
+{
+    match failure {
+        Some(failure) => Some(failure),
+        None => later,
+    }
+}
+
+/// The lines of a path; none where it can't be had.
+fn survey_path<C: Certifier, F: Files, W: Watcher>(
+    alloc: Global,
+    certifier: &C,
+    size: Size,
+    path: &str,
+    files: &mut F,
+    course: &mut Course<W>,
+    remarks: &mut Remarks,
+) -> Result<Told, AllocError>
+    ensures told { IfOk result (λ told. spec.EndsPath (Answers (C.certifies certifier.now) (C.refuses certifier.now) size.rows size.cols) (F.holds files.old) path.now told.lines.items told.failure) }
+    ensures kept { F.holds files.new ≡ F.holds files.old }
+{
+    match read_whole(alloc, files, path, LIMIT, remarks) {
+        Ok(bytes) => Ok(Told {
+            lines: file_lines(alloc, certifier, size, path, bytes.as_slice(), course)?,
+            failure: None,
+        }),
+        Err(Failure::NoMemory) => Err(AllocError),
+        Err(failure) => Ok(Told {
+            lines: Vec::new(alloc),
+            failure: Some(failure),
+        }),
+    }
+}

@@ -1,0 +1,5 @@
+#!/bin/sh
+# The commands of docs/TOUR.md print what stands there. They are the indented lines that begin with `$`.
+set -eu
+cd -- "$(dirname -- "$0")"
+exec python3 -B tour.py
