@@ -193,6 +193,15 @@ CHECKED = [
     # what is wrong with all strings together: the way out of an unknown state begins with SI or with CR, and not with ESC
     ("sgr0=^O\\E[m,", "mini", "2", "2", "clear: NoResync"),
     ("smcup=\\r\\E[?1049h,", "vt", "2", "4", "clear: NoResync"),
+    # and the character sets: without enacs nothing makes G1 the line drawing set, so that SO activates a plain one; a new G0 leaves G1 active;
+    # sgr0 leaves G0 the line drawing set, where there is no way to switch sets, or none for lack of acsc
+    ("enacs@,", "vt", "2", "4", "smacs: WrongEffect"),
+    ("rmacs=\\E(B,", "vt", "2", "4", "rmacs: WrongEffect"),
+    ("enacs@, rmacs=\\E(B,", "vt", "2", "4", "smacs: WrongEffect"),
+    ("sgr0=\\E[m\\E(0,", "mini", "2", "2", "acsc: BadLook"),
+    ("smacs=\\E(0, rmacs=\\E(B, sgr0=\\E(0\\E[m,", "mini", "2", "2", "acsc: BadLook"),
+    # before the way out of an unknown state
+    ("enacs=^N, sgr0=\\E)0\\E[m,", "mini", "2", "2", "acsc: BadLook"),
     # two faults: that of the first line is told
     ("bel=^N, el=%+,", "mini", "2", "2", "bel: WrongEffect"),
     ("sgr0=^O\\E[m, vpa=%+,", "mini", "2", "2", "vpa 0: Underflow"),
@@ -370,6 +379,11 @@ OPEN = (
     " state, so they have to begin with ESC: a sequence that was cut off would take any other first byte as part of it"
 )
 
+DRAWN = (
+    "each string is right by itself, but they can leave the line drawing set active, and a program switches sets only where"
+    " acsc, smacs and rmacs are all there: its letters would show as lines"
+)
+
 # parts of what is said of a run
 KEPT = "no cell has changed"
 ALL = "bold dim underlined blinking reverse invisible in red on blue"
@@ -435,6 +449,9 @@ EXPLAINED = [
     (["check", "checks:c34", "3", "4"], "seen: nothing changes"),
     (["check", "checks:c42", "2", "2"], OPEN),
     (["check", "checks:c43", "2", "4"], OPEN),
+    # from the charset to which smacs leads
+    (["check", "checks:c45", "2", "4"], "seen: nothing changes"),
+    (["check", "checks:c47", "2", "2"], DRAWN),
 ]
 
 # what begins no further line

@@ -52,6 +52,7 @@ log_passed {W} {C} went failures laws a m z to upto t partners calls i stage log
       last_mode = l.last_mode;
       settled = l.settled;
       counted = l.counted;
+      few = l.few;
       plays = l.plays;
     })
 

@@ -2,14 +2,12 @@
 ghost use Rattle.std.specs.Prelude.{◌≡◌, IfErr, IfOk};
 ghost use Rattle.cur_commands.specs.Preparing.{FailsToPrepare, Prepared};
 
+use cur_scripts::LONGEST;
 use std::alloc::Global;
 use ti_cert::Checked;
 use ti_commands::{Failure, Files, Remarks, entry_of, read_whole, size_words};
 use ti_verdicts::checked_at;
 use vt_term::Size;
-
-/// The most bytes of a script.
-const LIMIT: u32 = 1_048_576;
 
 /// The words of `play` and `show`.
 #[derive(Clone, Copy)]
@@ -48,7 +46,7 @@ pub fn prepare<F: Files>(
     let size = size_words(alloc, words.rows, words.cols, remarks)?;
     let entry = entry_of(alloc, files, words.entry, remarks)?;
     let checked = checked_at(alloc, &entry, size, words.certificate, files, remarks)?;
-    let text = read_whole(alloc, files, words.script, LIMIT, remarks)?;
+    let text = read_whole(alloc, files, words.script, LONGEST as u32, remarks)?;
     Ok(Ready {
         size,
         checked,

@@ -1,11 +1,11 @@
 -- Cells printed once more, and the columns between.
-use Rattle.std.proofs.Common.{◌≡◌, ℕ, ◌+◌, ◌<◌, Some, ap, subst, ◌∙◌, inl, inr, arith}
+use Rattle.std.proofs.Common.{◌≡◌, ℕ, ◌+◌, ◌<◌, subst, inl, inr, arith}
 use Rattle.std.proofs.lemmas.Bool.Decides.{nat_tests}
 use Rattle.std.proofs.lemmas.Bool.{cases_lt}
 use Rattle.vt_term.specs.Screen.{State}
 use Rattle.cur_looks.specs.Certified.{Table}
 use Rattle.cur_looks.specs.Inks.{put_at}
-use Rattle.cur_looks.specs.Beliefs.{Agrees, Belief, after_print}
+use Rattle.cur_looks.specs.Beliefs.{Agrees, Belief}
 use Rattle.cur_looks.specs.Gaps.{IsAlike}
 use Rattle.cur_looks.specs.declared.inks.Ink.{Ink}
 
@@ -23,13 +23,6 @@ reprinted t h b r c x e s a = record {
   set = a.set;
   seen = a.seen;
 }
-
--- the cursor after a character that isn't the last of its line
-pub next_place : (cols r c d : ℕ) → c + 1 < cols → c + 1 ≡ d → after_print cols r c ≡ Some (record { row = r; col = d })
-next_place cols r c d lt e = step cols r c lt ∙ ap (λ (n : ℕ). Some (record { row = r; col = n })) e
-  where
-    step : (cols r c : ℕ) → c + 1 < cols → after_print cols r c ≡ Some (record { row = r; col = c + 1 })
-    step cols r c lt = grind (arith, nat_tests)
 
 -- one cell more
 pub alike_more : (b : Belief) (f : ℕ → Ink) (n : ℕ) → ((k : ℕ) → k < n → IsAlike b (f k)) → IsAlike b (f n) → (k : ℕ) → k < n + 1 → IsAlike b (f k)

@@ -34,7 +34,7 @@ at_most (y ∷ ys) zero x h = let e : length y ≡ length x = ap length (same_So
 at_most (y ∷ ys) (suc k) x h = let further : length x ≤ greatest ys = at_most ys k x h in omega arith
 
 -- the string of a row is at most as long as the longest of its capability
-within : (s : Strings) (row : Row) (bytes : List ℕ) → string_in s row ≡ Some bytes → length bytes ≤ longest_line s row
+pub within : (s : Strings) (row : Row) (bytes : List ℕ) → string_in s row ≡ Some bytes → length bytes ≤ longest_line s row
 within s row bytes h = at_most (group_at s (order row)) (rank s.rows s.cols row) bytes (allowed (allows s.rows s.cols row) (slice_get (group_at s (order row)) (rank s.rows s.cols row)) bytes h)
 
 -- a line that has a limit of its own

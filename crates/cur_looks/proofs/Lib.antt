@@ -5,6 +5,7 @@ pub mod Printing
 pub mod Sameness
 pub mod Singling
 pub mod Lengths
+pub mod Smallness
 pub mod Verifying
 pub mod Moving
 pub mod Gaps

@@ -1,10 +1,10 @@
 -- What a printed character does to a state that agrees with what is believed.
-use Rattle.std.proofs.Common.{◌≡◌, ℕ, ◌+◌, ◌-◌, ◌<◌, ◌≤◌, ◌==◌, ◌&&◌, Bool, true, false, nat_le, min, List, [], ◌∷◌, ◌++◌, Option, Some, None, Result, refl, sym, ap, subst, ◌∙◌, inl, arith, if◌then◌else◌}
+use Rattle.std.proofs.Common.{◌≡◌, ℕ, ◌+◌, ◌-◌, ◌<◌, ◌≤◌, ◌==◌, ◌&&◌, Bool, true, false, nat_le, nat_lt, min, List, [], ◌∷◌, ◌++◌, Option, Some, Result, refl, sym, ap, subst, ◌∙◌, inl, inr, arith, if◌then◌else◌}
 use Rattle.std.proofs.lemmas.List.{append-nil}
 use Rattle.std.proofs.lemmas.Bool.Decides.{nat_tests}
 use Rattle.vt_term.specs.Look.{Rendition, IsPrinted}
 use Rattle.vt_term.specs.Grid.{look_at, put}
-use Rattle.vt_term.specs.Screen.{Screen, State, is_graphic}
+use Rattle.vt_term.specs.Screen.{Screen, State, IsScreen, IsOfSize, is_graphic}
 use Rattle.vt_term.specs.Text.{IsWhole}
 use Rattle.vt_term.specs.Function.{Function, Print, function_of, single}
 use Rattle.vt_term.specs.Step.{act}
@@ -22,9 +22,9 @@ use Rattle.cur_looks.specs.declared.inks.Brush.{Brush}
 use Rattle.cur_looks.specs.declared.inks.Ink.{Ink}
 use Rattle.cur_looks.specs.Certified.{Table, IsLost, IsChecked, IsPiece, Character}
 use Rattle.cur_looks.specs.Inks.{rendition_of, look_of, put_at}
-use Rattle.cur_looks.specs.Beliefs.{Agrees, Belief, Place, IsHere, IsSo, after_print}
+use Rattle.cur_looks.specs.Beliefs.{Agrees, Belief, Place, IsHere, IsNext, IsSo}
 use Rattle.cur_looks.proofs.Doing.{agrees_lost}
-use Rattle.cur_looks.proofs.Turning.{drawn_look, look_at-drawn, one_place}
+use Rattle.cur_looks.proofs.Turning.{drawn_look, look_at-drawn, one_place, stands_at, calmly}
 
 -- a token is run where nothing is open
 token_runs : (s : State) (token : List ℕ) (x : Screen) → s.rest ≡ [] → IsWhole token → act (function_of token) s.screen ≡ x → Runs s token (record { screen = x; rest = [] })
@@ -54,52 +54,116 @@ shown_as t s x c e =
     ap (λ (g : Bool). record { byte = x.byte; graphic = g && nat_le 95 x.byte; rendition = s.rendition }) c
     ∙ ap (λ (r : Rendition). record { byte = x.byte; graphic = x.graphic && nat_le 95 x.byte; rendition = r }) e
 
-not_last : (col cols : ℕ) (b : Bool) → col + 1 < cols → ((col + 1 == cols) && b) ≡ false
-not_last col cols b lt = grind (arith, nat_tests)
+last_column : (c cols : ℕ) (b : Bool) → c < cols → b ≡ true → ((c + 1 == cols) && b) ≡ nat_le cols (c + 1)
+last_column c cols true lt e = grind (arith, nat_tests)
+last_column c cols false lt e = absurd (cc)
 
-here_after : (cols r c : ℕ) (s : Screen) → s.cols ≡ cols → s.row ≡ r → s.col ≡ c → c < cols → (last : Bool) → (c + 1 == cols) ≡ last
-    → IsHere (if last then None else Some (record { row = r; col = c + 1 })) s.row (min (s.col + 1) (s.cols - 1)) ((s.col + 1 == s.cols) && s.autowrap)
-here_after cols r c s e p q lt true l = tt
-here_after cols r c s e p q lt false l =
-    let near : c + 1 < cols = grind (arith, nat_tests, l, lt) in
-    (p, omega (arith, near), not_last s.col s.cols s.autowrap (omega (arith, near)))
+-- past the last column a wrap is pending
+here_after : (cols r c : ℕ) (s : Screen) → s.cols ≡ cols → s.row ≡ r → s.col ≡ c → c < cols → s.autowrap ≡ true
+    → IsHere cols (Some (record { row = r; col = c + 1 })) s.row (min (s.col + 1) (s.cols - 1)) ((s.col + 1 == s.cols) && s.autowrap)
+here_after cols r c s e p q lt on = (
+  p,
+  ap (λ (n : ℕ). min (n + 1) (s.cols - 1)) q ∙ ap (λ (n : ℕ). min (c + 1) (n - 1)) e,
+  ap (λ (n : ℕ). (n + 1 == s.cols) && s.autowrap) q ∙ ap (λ (n : ℕ). (c + 1 == n) && s.autowrap) e ∙ last_column c cols s.autowrap lt on,
+)
 
--- the cursor, the brush and the set are known for it
-pub record IsPoised (b : Belief) (r c : ℕ) (x : Ink) : Type 0 where
-  pub place : b.place ≡ Some (record { row = r; col = c })
-  pub brush : b.brush ≡ x.brush
-  pub set : b.graphic ≡ Some x.graphic
+-- what is believed where the cursor is known to be in a place
+abbrev pub standing : Belief → ℕ → ℕ → Belief
+standing b r c = record b { place = Some (record { row = r; col = c }) }
 
-pub typed_agrees : (t : Table) (g : ℕ → ℕ → Ink) (b : Belief) (r c : ℕ) (x : Ink) → c < t.cols → IsPrinted x.byte → IsPoised b r c x
-    → (s : State) → Agrees t g b s → Ends s (x.byte ∷ []) (Agrees t (put_at r c x g) (record b { place = after_print t.cols r c }))
+-- printed in a state, as in another one in which the cursor is there
+typed_from : (t : Table) (g : ℕ → ℕ → Ink) (b : Belief) (r c : ℕ) (x : Ink) → c < t.cols → IsPrinted x.byte → b.brush ≡ x.brush → b.graphic ≡ Some x.graphic
+    → (s v : State) → s.rest ≡ [] → IsOfSize t.rows t.cols s → act (Print x.byte) s.screen ≡ act (Print x.byte) v.screen → Agrees t g (standing b r c) v → Ends s (x.byte ∷ []) (Agrees t (put_at r c x g) (standing b r (c + 1)))
 unfolding typed
-typed_agrees t g b r c x lc printed poised s h =
-    let at : IsHere (Some (record { row = r; col = c })) s.screen.row s.screen.col s.screen.pending = subst (λ (o : Option Place). IsHere o s.screen.row s.screen.col s.screen.pending) poised.place h.place in
-    let so : s.screen.rendition ≡ rendition_of t.looks x.brush = h.brush ∙ ap (λ (y : Brush). rendition_of t.looks y) poised.brush in
-    let set : is_graphic s.screen.charset ≡ x.graphic = subst (λ (o : Option Bool). IsSo o (is_graphic s.screen.charset)) poised.set h.set in
-    let u : State = record { screen = typed s.screen x.byte; rest = [] } in
-    let acts : act (function_of (x.byte ∷ [])) s.screen ≡ typed s.screen x.byte =
-    ap (λ (f : Function). act f s.screen) (single_print x.byte printed) ∙ types s.screen x.byte at.2 h.ready.tame.inserting in
-    let runs : Runs s (x.byte ∷ []) u = token_runs s (x.byte ∷ []) (typed s.screen x.byte) h.ready.rest (inl (inl printed)) acts in
+typed_from t g b r c x lc printed brush graphic s v closed sized same h =
+    let at : (v.screen.row ≡ r) × (v.screen.col ≡ c) × (v.screen.pending ≡ false) = calmly t.cols (record { row = r; col = c }) v.screen.row v.screen.col v.screen.pending lc h.place in
+    let so : v.screen.rendition ≡ rendition_of t.looks x.brush = h.brush ∙ ap (λ (y : Brush). rendition_of t.looks y) brush in
+    let set : is_graphic v.screen.charset ≡ x.graphic = subst (λ (o : Option Bool). IsSo o (is_graphic v.screen.charset)) graphic h.set in
+    let u : State = record { screen = typed v.screen x.byte; rest = [] } in
+    let acts : act (function_of (x.byte ∷ [])) s.screen ≡ typed v.screen x.byte =
+    ap (λ (f : Function). act f s.screen) (single_print x.byte printed) ∙ same ∙ types v.screen x.byte at.2 h.ready.tame.inserting in
+    let runs : Runs s (x.byte ∷ []) u = token_runs s (x.byte ∷ []) (typed v.screen x.byte) closed (inl (inl printed)) acts in
     record {
       after = u;
       runs = runs;
       there = record {
-        ready = record { sized = run_keeps t.rows t.cols s u (x.byte ∷ []) h.ready.sized runs; rest = refl; tame = record { autowrap = h.ready.tame.autowrap; inserting = h.ready.tame.inserting }; whole = record { top = h.ready.whole.top; bottom = h.ready.whole.bottom }; settled = h.ready.settled; visible = h.ready.visible };
+        ready = record { sized = run_keeps t.rows t.cols s u (x.byte ∷ []) sized runs; rest = refl; tame = record { autowrap = h.ready.tame.autowrap; inserting = h.ready.tame.inserting }; whole = record { top = h.ready.whole.top; bottom = h.ready.whole.bottom }; settled = h.ready.settled; visible = h.ready.visible };
         cells = λ i j li lj.
-            look_at-drawn (λ i j old. if is_in (one s.screen.row s.screen.col) i j then step.shown s.screen x.byte else old) s.screen.grid i j
+            look_at-drawn (λ i j old. if is_in (one v.screen.row v.screen.col) i j then step.shown v.screen x.byte else old) v.screen.grid i j
             (omega (arith, h.ready.sized.state.screen.columns i (omega (arith, h.ready.sized.rows)), h.ready.sized.cols))
-            ∙ ap (λ (p : Bool). if p then step.shown s.screen x.byte else look_at s.screen.grid i j) (one_place s.screen.row s.screen.col i j)
-            ∙ ap (λ (n : ℕ). if (i == n) && (j == s.screen.col) then step.shown s.screen x.byte else look_at s.screen.grid i j) at.0
-            ∙ ap (λ (n : ℕ). if (i == r) && (j == n) then step.shown s.screen x.byte else look_at s.screen.grid i j) at.1
-            ∙ drawn_look t ((i == r) && (j == c)) (step.shown s.screen x.byte) (look_at s.screen.grid i j) x (g i j) (shown_as t s.screen x set so) (h.cells i j li lj);
-        place = here_after t.cols r c s.screen h.ready.sized.cols at.0 at.1 lc (c + 1 == t.cols) refl;
+            ∙ ap (λ (p : Bool). if p then step.shown v.screen x.byte else look_at v.screen.grid i j) (one_place v.screen.row v.screen.col i j)
+            ∙ ap (λ (n : ℕ). if (i == n) && (j == v.screen.col) then step.shown v.screen x.byte else look_at v.screen.grid i j) at.0
+            ∙ ap (λ (n : ℕ). if (i == r) && (j == n) then step.shown v.screen x.byte else look_at v.screen.grid i j) at.1
+            ∙ drawn_look t ((i == r) && (j == c)) (step.shown v.screen x.byte) (look_at v.screen.grid i j) x (g i j) (shown_as t v.screen x set so) (h.cells i j li lj);
+        place = here_after t.cols r c v.screen h.ready.sized.cols at.0 at.1 lc h.ready.tame.autowrap;
         brush = h.brush;
         colored = h.colored;
         set = h.set;
         seen = h.seen;
       };
     }
+
+-- a wrap that isn't on the last line leads to the start of the next one
+wraps : (s : Screen) (r c b : ℕ) → s.pending ≡ true → s.row + 1 ≡ r → c ≡ 0 → r < s.rows → s.bottom + 1 ≡ s.rows → act (Print b) s ≡ act (Print b) (record s { row = r; col = c; pending = false })
+wraps s r c b on up start lt whole =
+    let above : (s.row == s.bottom) ≡ false = differ s.row s.bottom (omega (arith, up, lt, whole)) in
+    let below : nat_lt (s.row + 1) s.rows ≡ true = less (s.row + 1) s.rows (omega (arith, up, lt)) in
+    let goes : step.wrapped s ≡ record s { row = r; col = c; pending = false } = rw (on, above, below, start) (ap (λ (n : ℕ). record s { row = n; col = 0; pending = false }) up) in
+    ap (λ (y : Screen). step.placed b (step.opened y)) goes
+  where
+    differ : (m n : ℕ) → m < n → (m == n) ≡ false
+    differ m n lt = grind (arith, nat_tests)
+
+    less : (m n : ℕ) → m < n → nat_lt m n ≡ true
+    less m n lt = grind (arith, nat_tests)
+
+-- a state whose cursor is elsewhere on the screen
+sized_at : (t : Table) (s : State) (r c : ℕ) → r < t.rows → c < t.cols → IsOfSize t.rows t.cols s → IsOfSize t.rows t.cols (record { screen = record s.screen { row = r; col = c; pending = false }; rest = [] })
+sized_at t s r c lr lc h =
+    let k : IsScreen s.screen = h.state.screen in
+    record {
+      state = record {
+        screen = record { size = k.size; lines = k.lines; columns = k.columns; characters = k.characters; row = omega (arith, lr, h.rows); col = omega (arith, lc, h.cols); region = k.region; bottom = k.bottom };
+        rest = empty_open;
+      };
+      rows = h.rows;
+      cols = h.cols;
+    }
+
+-- the cursor, the brush and the set are known for it
+pub record IsPoised (cols : ℕ) (b : Belief) (r c : ℕ) (x : Ink) : Type 0 where
+  pub place : IsNext cols b.place r c
+  pub brush : b.brush ≡ x.brush
+  pub set : b.graphic ≡ Some x.graphic
+
+pub typed_agrees : (t : Table) (g : ℕ → ℕ → Ink) (b : Belief) (r c : ℕ) (x : Ink) → r < t.rows → c < t.cols → IsPrinted x.byte → IsPoised t.cols b r c x
+    → (s : State) → Agrees t g b s → Ends s (x.byte ∷ []) (Agrees t (put_at r c x g) (standing b r (c + 1)))
+typed_agrees t g b r c x lr lc printed poised s h = by_place poised.place
+  where
+    known : (p : Option Place) → b.place ≡ p → Agrees t g (record b { place = p }) s
+    known p e = record { ready = h.ready; cells = h.cells; place = subst (λ (o : Option Place). IsHere t.cols o s.screen.row s.screen.col s.screen.pending) e h.place; brush = h.brush; colored = h.colored; set = h.set; seen = h.seen }
+
+    itself : (n : ℕ) → nat_le n n ≡ true
+    itself n = grind (arith, nat_tests)
+
+    by_place : IsNext t.cols b.place r c → Ends s (x.byte ∷ []) (Agrees t (put_at r c x g) (standing b r (c + 1)))
+    by_place (inl e) = typed_from t g b r c x lc printed poised.brush poised.set s s h.ready.rest h.ready.sized refl (known (Some (record { row = r; col = c })) e)
+    by_place (inr e) =
+        let p : Place = record { row = r - 1; col = t.cols } in
+        let at : IsHere t.cols (Some p) s.screen.row s.screen.col s.screen.pending = (known (Some p) e.0).place in
+        let v : State = record { screen = record s.screen { row = r; col = c; pending = false }; rest = [] } in
+        let pending : s.screen.pending ≡ true = at.2 ∙ itself t.cols in
+        let up : s.screen.row + 1 ≡ r = omega (arith, at.0, e.1) in
+        typed_from t g b r c x lc printed poised.brush poised.set s v h.ready.rest h.ready.sized (wraps s.screen r c x.byte pending up e.2 (omega (arith, lr, h.ready.sized.rows)) h.ready.whole.bottom)
+        (record {
+          ready = record { sized = sized_at t s r c lr lc h.ready.sized; rest = refl; tame = record { autowrap = h.ready.tame.autowrap; inserting = h.ready.tame.inserting }; whole = record { top = h.ready.whole.top; bottom = h.ready.whole.bottom }; settled = h.ready.settled; visible = h.ready.visible };
+          cells = h.cells;
+          place = stands_at t.cols r c lc;
+          brush = h.brush;
+          colored = h.colored;
+          set = h.set;
+          seen = h.seen;
+        })
 
 -- a front of one byte is nothing or that byte
 front_lost : (t : Table) (s : State) (x : ℕ) (front back : List ℕ) → x ∷ [] ≡ front ++ back → IsLost t s → s.rest ≡ [] → Ends s (x ∷ []) (IsLost t) → Ends s front (IsLost t)
@@ -109,13 +173,13 @@ front_lost t s x (y ∷ z ∷ zs) back e h r k = absurd (cc)
 
 -- a character is sent
 pub print_steps : {W T E : Type 0} (went : W → W → List ℕ → Type 0) (failures : W → ℕ) (a z : W) (answer : Result T E) (t : Table) → IsChecked t → (g : ℕ → ℕ → Ink) (b : Belief) (r c : ℕ) (x : Ink)
-    → c < t.cols → IsPrinted x.byte → IsPoised b r c x → Sends went failures a z (x.byte ∷ []) answer
-    → Steps went failures a z answer (IsPiece t) 1 (IsLost t) (Agrees t g b) (Agrees t (put_at r c x g) (record b { place = after_print t.cols r c }))
-print_steps went failures a z answer t checked g b r c x lc printed poised sends =
-    let B : State → Type 0 = Agrees t (put_at r c x g) (record b { place = after_print t.cols r c }) in
-    let lost : (s : State) → B s → IsLost t s = agrees_lost t checked (put_at r c x g) (record b { place = after_print t.cols r c }) in
+    → r < t.rows → c < t.cols → IsPrinted x.byte → IsPoised t.cols b r c x → Sends went failures a z (x.byte ∷ []) answer
+    → Steps went failures a z answer (IsPiece t) 1 (IsLost t) (Agrees t g b) (Agrees t (put_at r c x g) (standing b r (c + 1)))
+print_steps went failures a z answer t checked g b r c x lr lc printed poised sends =
+    let B : State → Type 0 = Agrees t (put_at r c x g) (standing b r (c + 1)) in
+    let lost : (s : State) → B s → IsLost t s = agrees_lost t checked (put_at r c x g) (standing b r (c + 1)) in
     steps_sent went failures a z answer (IsPiece t) 1 (IsLost t) (Agrees t g b) B (x.byte ∷ [])
     (leads_line (IsPiece t) 1 (IsLost t) (Agrees t g b) B (x.byte ∷ []) (Character x.byte printed refl) (omega arith)
-    (typed_agrees t g b r c x lc printed poised)
-    (λ s h front back e. front_lost t s x.byte front back e (agrees_lost t checked g b s h) h.ready.rest (ends_as s (x.byte ∷ []) B (IsLost t) lost (typed_agrees t g b r c x lc printed poised s h))))
+    (typed_agrees t g b r c x lr lc printed poised)
+    (λ s h front back e. front_lost t s x.byte front back e (agrees_lost t checked g b s h) h.ready.rest (ends_as s (x.byte ∷ []) B (IsLost t) lost (typed_agrees t g b r c x lr lc printed poised s h))))
     lost sends

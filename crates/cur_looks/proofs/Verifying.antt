@@ -21,6 +21,7 @@ use Rattle.cur_steps.specs.Lines.{Closed}
 use Rattle.cur_looks.specs.Certified.{Table, IsLost, IsWhole, IsLine, IsBlank, IsPiece, Line, IsChecked, HasSingles, Ended, Activates, settles, has, text_of, or_nothing, lengths, singles}
 use Rattle.cur_looks.specs.Contents.{line_in, longest_line, longest_change, singly, certified}
 use Rattle.cur_looks.proofs.Lengths.{let_through, line_there, short}
+use Rattle.cur_looks.proofs.Smallness.{is_small}
 
 -- `cnorm` itself is never held back
 kept_by_itself : (o : Option (List ℕ)) → is_some (if true && not (is_some o) then None else o) ≡ is_some o
@@ -197,6 +198,7 @@ second_false false b h = refl
 pub is_checked : (c : Content) → IsVerified c → IsChecked (certified c)
 is_checked c v = record {
   size = v.size;
+  small = is_small c v.few;
   lines = lines c v;
   moves = v.together.moves;
   clears = v.together.clears;

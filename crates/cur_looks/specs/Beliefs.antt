@@ -1,5 +1,5 @@
 -- What is believed of the terminal, and when a state agrees with it.
-use Rattle.std.specs.Prelude.{ℕ, ◌+◌, ◌<◌, ◌≡◌, ◌==◌, ◌&&◌, Bool, true, false, Option, Some, None, if◌then◌else◌, []}
+use Rattle.std.specs.Prelude.{ℕ, ◌+◌, ◌-◌, ◌<◌, ◌≤◌, ◌≡◌, ◌⊎◌, ◌==◌, ◌&&◌, nat_le, min, Bool, true, false, Option, Some, None, if◌then◌else◌, []}
 use Rattle.vt_term.specs.Grid.{look_at}
 use Rattle.vt_term.specs.Screen.{State, IsOfSize, is_graphic}
 use Rattle.ti_rows.specs.declared.rows.Row.{Row}
@@ -13,9 +13,14 @@ pub use Rattle.cur_looks.specs.declared.beliefs.Belief.{Belief}
 pub use Rattle.cur_looks.specs.declared.beliefs.Mode.{Mode}
 pub use Rattle.cur_looks.specs.declared.beliefs.Mode.TheVariants.{Hidden, Normal, Prominent}
 
-abbrev pub IsHere : Option Place → ℕ → ℕ → Bool → Type 0
-IsHere None row col pending = Unit {0}
-IsHere (Some p) row col pending = (row ≡ p.row) × (col ≡ p.col) × (pending ≡ false)
+-- where the cursor is; past the last column a wrap is pending in that column (VT100 user guide, autowrap)
+abbrev pub IsHere : ℕ → Option Place → ℕ → ℕ → Bool → Type 0
+IsHere cols None row col pending = Unit {0}
+IsHere cols (Some p) row col pending = (row ≡ p.row) × (col ≡ min p.col (cols - 1)) × (pending ≡ nat_le cols p.col)
+
+-- the next character goes to this place: the cursor is there, or a wrap is pending in the line above
+abbrev pub IsNext : ℕ → Option Place → ℕ → ℕ → Type 0
+IsNext cols place row col = (place ≡ Some (record { row = row; col = col })) ⊎ ((place ≡ Some (record { row = row - 1; col = cols })) × (1 ≤ row) × (col ≡ 0))
 
 abbrev pub IsSo : Option Bool → Bool → Type 0
 IsSo None b = Unit {0}
@@ -34,7 +39,7 @@ IsSeen (Some m) visible = visible ≡ is_shown m
 pub record Agrees (t : Table) (g : ℕ → ℕ → Ink) (b : Belief) (s : State) : Type 0 where
   pub ready : IsReady t s
   pub cells : (i j : ℕ) → i < t.rows → j < t.cols → look_at s.screen.grid i j ≡ look_of t.looks (g i j)
-  pub place : IsHere b.place s.screen.row s.screen.col s.screen.pending
+  pub place : IsHere t.cols b.place s.screen.row s.screen.col s.screen.pending
   pub brush : s.screen.rendition ≡ rendition_of t.looks b.brush
   pub colored : IsColored t b.brush
   pub set : IsSo b.graphic (is_graphic s.screen.charset)
@@ -49,10 +54,6 @@ pub record Turns (t : Table) (row : Row) (g : ℕ → ℕ → Ink) (b : Belief) 
 abbrev pub moves : Option Place → ℕ → ℕ → ℕ
 moves None row col = 1
 moves (Some p) row col = if (p.row == row) && (p.col == col) then 0 else 1
-
--- where the cursor is known to be after a character was printed there
-abbrev pub after_print : ℕ → ℕ → ℕ → Option Place
-after_print cols r c = if c + 1 == cols then None else Some (record { row = r; col = c + 1 })
 
 -- the row whose line makes a set the active one
 abbrev pub set_row : Bool → Row
@@ -74,6 +75,9 @@ ready_limit t = t.longest.cup + brush_limit t
 
 abbrev pub stamp_limit : Table → ℕ
 stamp_limit t = t.longest.sets + 1
+
+abbrev pub ink_limit : Table → ℕ
+ink_limit t = brush_limit t + stamp_limit t
 
 abbrev pub modes_limit : Table → ℕ
 modes_limit t = t.longest.civis + t.longest.cnorm + t.longest.cvvis

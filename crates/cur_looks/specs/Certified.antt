@@ -1,5 +1,5 @@
 -- What a painter may know of a verified certificate: its lines, what each does, and what resynchronizes.
-use Rattle.std.specs.Prelude.{ℕ, ◌+◌, ◌-◌, ◌<◌, ◌≤◌, ◌≡◌, Bool, true, false, List, [], ◌∷◌, ◌++◌, length, sum_by, Option, Some, None, is_some}
+use Rattle.std.specs.Prelude.{ℕ, ◌+◌, ◌-◌, ◌^◌, ◌<◌, ◌≤◌, ◌≡◌, Bool, true, false, List, [], ◌∷◌, ◌++◌, length, sum_by, Option, Some, None, is_some}
 use Rattle.std.specs.List.{AllByRecursion, concat}
 use Rattle.vt_term.specs.Size.{IsSize}
 use Rattle.vt_term.specs.Color.{Color}
@@ -165,9 +165,16 @@ pub record HasSingles (t : Table) : Type 0 where
   pub standout : has t Smso ≡ false → t.looks.standout ≡ no_marks
   pub short : length (text_of t Sgr0) + lengths t singles ≤ t.longest.sgr
 
+-- how few bytes a line has, a cell takes and a resynchronization has
+pub record IsSmall (t : Table) : Type 0 where
+  pub lines : (row : Row) → length (text_of t row) < 2 ^ 26
+  pub cell : cell_limit t < 2 ^ 31
+  pub resync : length t.resync < 2 ^ 29
+
 -- the colours have lines together, and so have the graphic set's
 pub record IsChecked (t : Table) : Type 0 where
   pub size : IsSize t.rows t.cols
+  pub small : IsSmall t
   pub lines : (row : Row) (bytes : List ℕ) → t.line_of row ≡ Some bytes → IsLine t row bytes
   pub moves : (r c : ℕ) → r < t.rows → c < t.cols → has t (Cup r c) ≡ true
   pub clears : has t Clear ≡ true

@@ -5,3 +5,4 @@ pub mod Beliefs
 pub mod Singles
 pub mod Moves
 pub mod Gaps
+pub mod Routes

@@ -16,8 +16,8 @@ pub enum Mode {
     Prominent,
 }
 
-/// What is known of the terminal: where the cursor is, with no wrap pending; how characters are printed;
-/// whether the graphic set is active; how the cursor is shown.
+/// What is known of the terminal: where the cursor is, past the last column where a wrap is pending; how characters are
+/// printed; whether the graphic set is active; how the cursor is shown.
 #[derive(Clone, Copy)]
 pub struct Belief {
     pub place: Option<Place>,

@@ -4,11 +4,11 @@ ghost use Rattle.cur_steps.specs.Steps.{Steps};
 ghost use Rattle.ti_rows.specs.declared.rows.Row.TheVariants.{El};
 ghost use Rattle.cur_looks.specs.Certified.{IsPiece, IsLost, cell_limit};
 ghost use Rattle.cur_looks.specs.Inks.{CanShow, IsInk, IsColored, put_at, tail_blank, plain_brush};
-ghost use Rattle.cur_looks.specs.Beliefs.{Agrees, Belief, plain_limit, colors_limit, brush_limit, ready_limit, stamp_limit};
+ghost use Rattle.cur_looks.specs.Beliefs.{Agrees, Belief, IsNext, plain_limit, colors_limit, brush_limit, ready_limit, stamp_limit, ink_limit};
 ghost use Rattle.cur_looks.specs.Gaps.{BeginsAs};
 ghost use Rattle.cur_looks.specs.declared.inks.Ink.{Ink};
 
-use crate::beliefs::Belief;
+use crate::beliefs::{Belief, Place};
 use crate::certificates::Certificate;
 use crate::inks::{Brush, Ink, View, same_attributes};
 use crate::reaching::reach;
@@ -123,7 +123,7 @@ fn poise<C: Certificate, N: View, W: Wire>(
     brush_as(checked, belief, wire, wanted)
 }
 
-/// A character in its set, where the cursor is known to be and in the brush that is known.
+/// A character in its set, where the next one is known to go and in the brush that is known.
 fn stamp<C: Certificate, W: Wire>(
     checked: &C,
     belief: &mut Belief,
@@ -132,15 +132,69 @@ fn stamp<C: Certificate, W: Wire>(
     col: usize,
     ink: Ink,
 ) -> Result<(), WireFault>
+    requires row { row < (C.table checked.now).rows }
     requires col { col < (C.table checked.now).cols }
     requires ink { IsInk (C.table checked.now) ink }
-    requires place { belief.old.place ≡ Some (record { row = row; col = col }) }
+    requires place { IsNext (C.table checked.now).cols belief.old.place row col }
     requires brush { belief.old.brush ≡ ink.brush }
     ensures step { (g : ℕ → ℕ → Ink) → Steps W.went W.failures wire.old wire.new result (IsPiece (C.table checked.now)) (stamp_limit (C.table checked.now))
         (IsLost (C.table checked.now)) (Agrees (C.table checked.now) g belief.old) (Agrees (C.table checked.now) (put_at row col ink g) belief.new) }
 {
     set_as(checked, belief, wire, ink.graphic)?;
     print_at(checked, belief, wire, row, col, ink)
+}
+
+/// Whether a wrap is pending that takes the next character there.
+fn wraps_to(place: Option<Place>, cols: usize, row: usize, col: usize) -> bool
+    ensures { result ≡ true → IsNext cols place row col }
+{
+    match place {
+        Some(at) => col == 0 && row > 0 && at.row == row - 1 && at.col == cols,
+        None => false,
+    }
+}
+
+/// The next character goes to a place of a line that is shown as far as that place.
+fn approach<C: Certificate, N: View, W: Wire>(
+    checked: &C,
+    belief: &mut Belief,
+    wire: &mut W,
+    shown: &N,
+    row: usize,
+    col: usize,
+) -> Result<(), WireFault>
+    requires drawable { CanShow (C.table checked.now) (N.cells shown.now) }
+    requires row { row < (C.table checked.now).rows }
+    requires col { col < (C.table checked.now).cols }
+    ensures place { OnOk result (IsNext (C.table checked.now).cols belief.new.place row col) }
+    ensures step { (g : ℕ → ℕ → Ink) → BeginsAs g (N.cells shown.now) row col → Steps W.went W.failures wire.old wire.new result (IsPiece (C.table checked.now)) (C.table checked.now).longest.cup
+        (IsLost (C.table checked.now)) (Agrees (C.table checked.now) g belief.old) (Agrees (C.table checked.now) g belief.new) }
+{
+    let _ = checked.rows();
+    if wraps_to(belief.place, checked.cols(), row, col) {
+        return Ok(());
+    }
+    reach(checked, belief, wire, shown, row, col)
+}
+
+/// A cell to which the next character is known to go.
+fn ink_in<C: Certificate, W: Wire>(
+    checked: &C,
+    belief: &mut Belief,
+    wire: &mut W,
+    row: usize,
+    col: usize,
+    ink: Ink,
+) -> Result<(), WireFault>
+    requires row { row < (C.table checked.now).rows }
+    requires col { col < (C.table checked.now).cols }
+    requires ink { IsInk (C.table checked.now) ink }
+    requires place { IsNext (C.table checked.now).cols belief.old.place row col }
+    ensures step { (g : ℕ → ℕ → Ink) → Steps W.went W.failures wire.old wire.new result (IsPiece (C.table checked.now)) (ink_limit (C.table checked.now))
+        (IsLost (C.table checked.now)) (Agrees (C.table checked.now) g belief.old) (Agrees (C.table checked.now) (put_at row col ink g) belief.new) }
+{
+    brush_as(checked, belief, wire, ink.brush)?;
+    stamp(checked, belief, wire, row, col, ink)
 }
 
 /// A cell of a line that is shown as far as that place.
@@ -160,8 +214,8 @@ pub fn put_cell<C: Certificate, N: View, W: Wire>(
     ensures step { (g : ℕ → ℕ → Ink) → BeginsAs g (N.cells shown.now) row col → Steps W.went W.failures wire.old wire.new result (IsPiece (C.table checked.now)) (cell_limit (C.table checked.now))
         (IsLost (C.table checked.now)) (Agrees (C.table checked.now) g belief.old) (Agrees (C.table checked.now) (put_at row col ink g) belief.new) }
 {
-    poise(checked, belief, wire, shown, row, col, ink.brush)?;
-    stamp(checked, belief, wire, row, col, ink)
+    approach(checked, belief, wire, shown, row, col)?;
+    ink_in(checked, belief, wire, row, col, ink)
 }
 
 /// A line that is shown as far as a place is blank from there on.

@@ -10,6 +10,7 @@ mod lines;
 mod modes;
 mod moves;
 mod reaching;
+mod routes;
 mod singles;
 mod steps;
 mod verified;

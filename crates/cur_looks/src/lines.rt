@@ -1,7 +1,7 @@
 //! The sending of one line.
-ghost use Rattle.std.specs.Prelude.{◌≡◌, ◌≤◌, ℕ, Some};
+ghost use Rattle.std.specs.Prelude.{◌≡◌, ◌≤◌, ℕ, length, Some};
 ghost use Rattle.cur_steps.specs.Steps.{Steps};
-ghost use Rattle.cur_looks.specs.Certified.{IsPiece, IsLost, limit_of};
+ghost use Rattle.cur_looks.specs.Certified.{IsPiece, IsLost, limit_of, text_of};
 ghost use Rattle.cur_looks.specs.Beliefs.{Agrees, Belief, Turns};
 ghost use Rattle.cur_looks.specs.declared.inks.Ink.{Ink};
 
@@ -17,6 +17,8 @@ pub(crate) fn send_line<C: Certificate, W: Wire>(
     wire: &mut W,
 ) -> Result<(), WireFault>
     requires line { (C.table checked.now).line_of row ≡ Some bytes.now }
+    ensures exact { (n : ℕ) (g h : ℕ → ℕ → Ink) (b c : Belief) → length (text_of (C.table checked.now) row) ≤ n → Turns (C.table checked.now) row g b h c
+        → Steps W.went W.failures wire.old wire.new result (IsPiece (C.table checked.now)) n (IsLost (C.table checked.now)) (Agrees (C.table checked.now) g b) (Agrees (C.table checked.now) h c) }
     ensures step { (n : ℕ) (g h : ℕ → ℕ → Ink) (b c : Belief) → limit_of (C.table checked.now) row ≤ n → Turns (C.table checked.now) row g b h c
         → Steps W.went W.failures wire.old wire.new result (IsPiece (C.table checked.now)) n (IsLost (C.table checked.now)) (Agrees (C.table checked.now) g b) (Agrees (C.table checked.now) h c) }
 {

@@ -1,5 +1,5 @@
 //! The row by which the cursor moves: of those that lead to a place, one with the shortest line.
-ghost use Rattle.std.specs.Prelude.{ℕ, ◌<◌, Option, Some};
+ghost use Rattle.std.specs.Prelude.{ℕ, ◌<◌, ◌≤◌, Option, Some};
 ghost use Rattle.cur_looks.specs.Beliefs.{Place};
 ghost use Rattle.cur_looks.specs.Moves.{Moves, IsWay};
 
@@ -17,9 +17,11 @@ pub(crate) fn shortest<C: Certificate>(checked: &C, from: Option<Place>, row: u1
     let Some(at) = from else {
         return best;
     };
+    let _ = checked.rows();
+    let cols = checked.cols();
     let best = shorter(checked, best, by_line_start(at, row, col));
-    let best = shorter(checked, best, by_one(at, row, col));
-    let best = shorter(checked, best, by_count(at, row, col));
+    let best = shorter(checked, best, by_one(at, row, col, cols));
+    let best = shorter(checked, best, by_count(at, row, col, cols));
     shorter(checked, best, by_name(at, row, col))
 }
 
@@ -35,7 +37,7 @@ fn straight<C: Certificate>(checked: &C, row: u16, col: u16) -> Row
 
 /// The other row if its line is there and is the shorter one.
 fn shorter<C: Certificate>(checked: &C, best: Row, other: Row) -> Row
-    ensures way { (from : Option Place) (row col : ℕ) → IsWay (C.table checked.now) from row col best → Moves from row col other
+    ensures way { (from : Option Place) (row col : ℕ) → IsWay (C.table checked.now) from row col best → Moves (C.table checked.now).cols from row col other
         → IsWay (C.table checked.now) from row col result }
 {
     let Some(known) = checked.line(best) else {
@@ -53,7 +55,7 @@ fn shorter<C: Certificate>(checked: &C, best: Row, other: Row) -> Row
 
 /// `home` to the corner.
 fn by_corner(row: u16, col: u16) -> Row
-    ensures moves { (from : Option Place) → Moves from row col result }
+    ensures moves { (cols : ℕ) (from : Option Place) → Moves cols from row col result }
 {
     if row == 0 && col == 0 {
         Row::Home
@@ -64,7 +66,7 @@ fn by_corner(row: u16, col: u16) -> Row
 
 /// `cr` to the first column of the cursor's line.
 fn by_line_start(at: Place, row: u16, col: u16) -> Row
-    ensures moves { Moves (Some at) row col result }
+    ensures moves { (cols : ℕ) → Moves cols (Some at) row col result }
 {
     if at.row == row as usize && col == 0 {
         Row::Cr
@@ -73,15 +75,15 @@ fn by_line_start(at: Place, row: u16, col: u16) -> Row
     }
 }
 
-/// A move by one, to a neighbour.
-fn by_one(at: Place, row: u16, col: u16) -> Row
-    ensures moves { Moves (Some at) row col result }
+/// A move by one, to a neighbour, where no wrap is pending.
+fn by_one(at: Place, row: u16, col: u16, cols: usize) -> Row
+    ensures moves { Moves cols (Some at) row col result }
 {
     let to = Place {
         row: row as usize,
         col: col as usize,
     };
-    if at.row == to.row && at.col == to.col + 1 {
+    if at.row == to.row && at.col == to.col + 1 && at.col < cols {
         Row::Cub1
     } else if at.row == to.row && to.col > 0 && at.col == to.col - 1 {
         Row::Cuf1
@@ -94,9 +96,10 @@ fn by_one(at: Place, row: u16, col: u16) -> Row
     }
 }
 
-/// A move by a count, in the cursor's line or column.
-fn by_count(at: Place, row: u16, col: u16) -> Row
-    ensures moves { Moves (Some at) row col result }
+/// A move by a count, in the cursor's line or column, where no wrap is pending.
+fn by_count(at: Place, row: u16, col: u16, cols: usize) -> Row
+    requires cols { cols ≤ 1000 }
+    ensures moves { Moves cols (Some at) row col result }
 {
     let to = Place {
         row: row as usize,
@@ -104,7 +107,7 @@ fn by_count(at: Place, row: u16, col: u16) -> Row
     };
     if at.row == to.row && at.col < to.col {
         Row::Cuf((to.col - at.col) as u16)
-    } else if at.row == to.row && at.col < 65_536 {
+    } else if at.row == to.row && at.col < cols {
         Row::Cub((at.col - to.col) as u16)
     } else if at.col == to.col && at.row < to.row {
         Row::Cud((to.row - at.row) as u16)
@@ -117,7 +120,7 @@ fn by_count(at: Place, row: u16, col: u16) -> Row
 
 /// `hpa` to a column of the cursor's line, `vpa` to a row of its column.
 fn by_name(at: Place, row: u16, col: u16) -> Row
-    ensures moves { Moves (Some at) row col result }
+    ensures moves { (cols : ℕ) → Moves cols (Some at) row col result }
 {
     if at.row == row as usize {
         Row::Hpa(col)

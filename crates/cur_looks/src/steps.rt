@@ -1,12 +1,12 @@
 //! The single steps of a painter: each sends at most one line or one character.
-ghost use Rattle.std.specs.Prelude.{◌≡◌, ◌*◌, ◌<◌, ℕ, Bool, true, false, Option, Some, None, OnOk};
+ghost use Rattle.std.specs.Prelude.{◌≡◌, ◌+◌, ◌<◌, ℕ, Bool, true, false, Option, Some, None, OnOk};
 ghost use Rattle.vt_term.specs.Color.{Color};
 ghost use Rattle.vt_term.specs.Look.{IsPrinted};
 ghost use Rattle.cur_steps.specs.Steps.{Steps};
 ghost use Rattle.ti_rows.specs.declared.rows.Row.TheVariants.{Op, El, Sgr, Smacs};
 ghost use Rattle.cur_looks.specs.Certified.{IsPiece, IsLost, has};
 ghost use Rattle.cur_looks.specs.Inks.{put_at, tail_blank, plain_brush};
-ghost use Rattle.cur_looks.specs.Beliefs.{Agrees, Belief, moves, after_print, set_row};
+ghost use Rattle.cur_looks.specs.Beliefs.{Agrees, Belief, moves, IsNext, set_row};
 ghost use Rattle.cur_looks.specs.declared.inks.Brush.{Brush};
 ghost use Rattle.cur_looks.specs.declared.inks.Ink.{Ink};
 
@@ -14,39 +14,13 @@ use crate::beliefs::{Belief, Place};
 use crate::certificates::Certificate;
 use crate::inks::{Brush, Ink, same_attributes, same_color};
 use crate::lines::send_line;
-use crate::moves::shortest;
 use crate::singles::attributes_singly;
 use cur_wires::{Wire, WireFault, send_all};
 use ti_rows::{Attributes, Row};
 use vt_term::Color;
 
-/// The cursor goes to a place, if it isn't known to be there, by the shortest line that leads there from
-/// what is known of its place.
-pub(crate) fn move_to<C: Certificate, W: Wire>(
-    checked: &C,
-    belief: &mut Belief,
-    wire: &mut W,
-    row: usize,
-    col: usize,
-) -> Result<(), WireFault>
-    requires row { row < (C.table checked.now).rows }
-    requires col { col < (C.table checked.now).cols }
-    ensures belief { belief.new ≡ record belief.old { place = Some (record { row = row; col = col }) } }
-    ensures step { (g : ℕ → ℕ → Ink) → Steps W.went W.failures wire.old wire.new result (IsPiece (C.table checked.now)) (moves belief.old.place row col * (C.table checked.now).longest.cup)
-        (IsLost (C.table checked.now)) (Agrees (C.table checked.now) g belief.old) (Agrees (C.table checked.now) g belief.new) }
-{
-    let _ = checked.rows();
-    let _ = checked.cols();
-    if stands(belief.place, row, col) {
-        return Ok(());
-    }
-    let line = shortest(checked, belief.place, row as u16, col as u16);
-    belief.place = Some(Place { row, col });
-    send_line(checked, line, checked.line(line).unwrap(), wire)
-}
-
 /// Whether the cursor is known to be there.
-fn stands(place: Option<Place>, row: usize, col: usize) -> bool
+pub(crate) fn stands(place: Option<Place>, row: usize, col: usize) -> bool
     ensures here { result ≡ true → place ≡ Some (record { row = row; col = col }) }
     ensures counted { result ≡ false → moves place row col ≡ 1 }
 {
@@ -230,7 +204,7 @@ pub(crate) fn is_active(now: Option<bool>, graphic: bool) -> bool
     }
 }
 
-/// A character where the cursor is known to be, printed in the brush and the set that are known.
+/// A character in a place to which the next one is known to go, printed in the brush and the set that are known.
 pub(crate) fn print_at<C: Certificate, W: Wire>(
     checked: &C,
     belief: &mut Belief,
@@ -239,30 +213,20 @@ pub(crate) fn print_at<C: Certificate, W: Wire>(
     col: usize,
     ink: Ink,
 ) -> Result<(), WireFault>
+    requires row { row < (C.table checked.now).rows }
     requires col { col < (C.table checked.now).cols }
     requires printed { IsPrinted ink.byte }
-    requires place { belief.old.place ≡ Some (record { row = row; col = col }) }
+    requires place { IsNext (C.table checked.now).cols belief.old.place row col }
     requires brush { belief.old.brush ≡ ink.brush }
     requires set { belief.old.graphic ≡ Some ink.graphic }
-    ensures belief { belief.new ≡ record belief.old { place = after_print (C.table checked.now).cols row col } }
+    ensures belief { belief.new ≡ record belief.old { place = Some (record { row = row; col = col + 1 }) } }
     ensures step { (g : ℕ → ℕ → Ink) → Steps W.went W.failures wire.old wire.new result (IsPiece (C.table checked.now)) 1
         (IsLost (C.table checked.now)) (Agrees (C.table checked.now) g belief.old) (Agrees (C.table checked.now) (put_at row col ink g) belief.new) }
 {
     let _ = checked.rows();
-    belief.place = after_of(checked.cols(), row, col);
+    let _ = checked.cols();
+    belief.place = Some(Place { row, col: col + 1 });
     send_all(wire, &[ink.byte])
-}
-
-/// Where the cursor is known to be after a character was printed there.
-fn after_of(cols: usize, row: usize, col: usize) -> Option<Place>
-    requires { col < cols }
-    ensures { result ≡ after_print cols row col }
-{
-    if col + 1 == cols {
-        None
-    } else {
-        Some(Place { row, col: col + 1 })
-    }
 }
 
 /// The line's end is erased from where the cursor is known to be.
@@ -274,6 +238,7 @@ pub(crate) fn erase_tail<C: Certificate, W: Wire>(
     row: usize,
     col: usize,
 ) -> Result<(), WireFault>
+    requires col { col < (C.table checked.now).cols }
     requires tail { (C.table checked.now).line_of El ≡ Some tail.now }
     requires place { belief.now.place ≡ Some (record { row = row; col = col }) }
     requires brush { belief.now.brush ≡ plain_brush }

@@ -30,6 +30,13 @@ mixed_blank old new r c cols i j lt h = grind (arith, nat_tests, h j)
 pub mixed_before : (old new : ℕ → ℕ → Ink) (r c : ℕ) → BeginsAs (mixed old new r c) new r c
 mixed_before old new r c k lt = grind (arith, nat_tests)
 
+-- columns that are shown already
+pub mixed_front : (old new : ℕ → ℕ → Ink) (r c i j : ℕ) → ((k : ℕ) → k < c → old r k ≡ new r k) → mixed old new r 0 i j ≡ mixed old new r c i j
+mixed_front old new r c i j h = grind (arith, nat_tests, h j)
+
+pub mixed_rest : (old new : ℕ → ℕ → Ink) (r c cols i j : ℕ) → j < cols → ((k : ℕ) → c ≤ k → k < cols → old r k ≡ new r k) → mixed old new r c i j ≡ mixed old new r cols i j
+mixed_rest old new r c cols i j lt h = grind (arith, nat_tests, h j)
+
 pub mixed_row : (old new : ℕ → ℕ → Ink) (r cols i j : ℕ) → j < cols → mixed old new r cols i j ≡ mixed old new (r + 1) 0 i j
 mixed_row old new r cols i j lt = grind (arith, nat_tests)
 
@@ -89,6 +96,15 @@ span_parts old new i a cols le =
     let Q : ℕ → Type 0 = λ m. span old new i 0 a + span old new i m (cols - a) ≡ span old new i 0 (a + (cols - a)) in
     subst P same (subst Q zeroth (span_join old new i 0 a (cols - a)))
 
+-- two parts of what comes from a column on
+pub span_split : (old new : ℕ → ℕ → Ink) (i from a cols : ℕ) → from ≤ a → a ≤ cols → span old new i from (a - from) + span old new i a (cols - a) ≡ span old new i from (cols - from)
+span_split old new i from a cols le more =
+    let there : from + (a - from) ≡ a = omega arith in
+    let same : (a - from) + (cols - a) ≡ cols - from = omega arith in
+    let P : ℕ → Type 0 = λ m. span old new i from (a - from) + span old new i a (cols - a) ≡ span old new i from m in
+    let Q : ℕ → Type 0 = λ m. span old new i from (a - from) + span old new i m (cols - a) ≡ span old new i from ((a - from) + (cols - a)) in
+    subst P same (subst Q there (span_join old new i from (a - from) (cols - a)))
+
 pub all_more : (old new : ℕ → ℕ → Ink) (cols n : ℕ) → all_differ old new cols (n + 1) ≡ all_differ old new cols n + span old new n 0 cols
 all_more old new cols n = let same : suc n ≡ n + 1 = omega arith in let P : ℕ → Type 0 = λ m. all_differ old new cols m ≡ all_differ old new cols n + span old new n 0 cols in subst P same refl
 
@@ -98,6 +114,14 @@ all_grows old new cols n (suc m) le = elim (cases_lt n (suc m)) [
   | inl lt ↦ (let h : all_differ old new cols n ≤ all_differ old new cols m = all_grows old new cols n m (omega arith) in omega (arith, h))
   | inr ge ↦ (let P : ℕ → Type 0 = λ k. all_differ old new cols k ≤ all_differ old new cols (suc m) in let same : suc m ≡ n = omega arith in subst P same (omega arith))
 ]
+
+-- columns that are shown already
+pub front_shown : (t : Table) (old new : ℕ → ℕ → Ink) (r c : ℕ) (b : Belief) → ((k : ℕ) → k < c → old r k ≡ new r k) → (s : State) → Agrees t (mixed old new r 0) b s → Agrees t (mixed old new r c) b s
+front_shown t old new r c b e s h = agrees_as t (mixed old new r 0) (mixed old new r c) b (λ i j li lj. mixed_front old new r c i j e) s h
+
+pub rest_shown : (t : Table) (old new : ℕ → ℕ → Ink) (r c : ℕ) (b : Belief) → ((k : ℕ) → c ≤ k → k < t.cols → old r k ≡ new r k) → (s : State)
+    → Agrees t (mixed old new r c) b s → Agrees t (mixed old new r t.cols) b s
+rest_shown t old new r c b e s h = agrees_as t (mixed old new r c) (mixed old new r t.cols) b (λ i j li lj. mixed_rest old new r c t.cols i j lj e) s h
 
 -- a line is done
 pub row_done : (t : Table) (old new : ℕ → ℕ → Ink) (r : ℕ) (b : Belief) (s : State) → Agrees t (mixed old new r t.cols) b s → Agrees t (mixed old new (r + 1) 0) b s

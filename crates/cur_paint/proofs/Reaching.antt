@@ -1,5 +1,5 @@
 -- From anywhere some lawful bytes make the terminal show a screen: the resynchronization, and then every cell.
-use Rattle.std.proofs.Common.{◌≡◌, ℕ, ◌+◌, ◌<◌, ◌≤◌, Bool, true, false, zero, suc, List, [], ◌∷◌, length, Option, Some, None, is_some, refl, sym, ap, subst, ◌∙◌, arith}
+use Rattle.std.proofs.Common.{◌≡◌, ℕ, ◌+◌, ◌<◌, ◌≤◌, Bool, true, false, zero, suc, List, [], ◌∷◌, length, Option, Some, None, is_some, refl, sym, ap, subst, ◌∙◌, inl, arith}
 use Rattle.vt_term.specs.Color.{Color}
 use Rattle.vt_term.specs.Screen.{State}
 use Rattle.cur_steps.specs.Leads.{Ends, Leads}
@@ -18,9 +18,9 @@ use Rattle.cur_looks.specs.declared.inks.Ink.{Ink}
 use Rattle.cur_looks.specs.Certified.{Table, IsLost, IsBlank, IsLine, IsChecked, IsPiece, Line, Character, Ended, has, HasSingles, singles}
 use Rattle.cur_looks.specs.Singles.{has_single, turned_on, with_single, with_singles}
 use Rattle.cur_looks.specs.Inks.{CanShow, IsInk, IsColored, mixed, put_at, blank_ink, plain_brush, no_attributes, rendition_of}
-use Rattle.cur_looks.specs.Beliefs.{Agrees, Turns, IsHere, IsSeen, is_shown, after_print, set_row, CanHide}
+use Rattle.cur_looks.specs.Beliefs.{Agrees, Turns, IsHere, IsSeen, is_shown, set_row, CanHide}
 use Rattle.cur_looks.proofs.Doing.{agrees_lost}
-use Rattle.cur_looks.proofs.Turning.{moved, attributes_set, foreground_set, background_set, colors_gone, no_colors, no_color_lines, brush_as, colored_has, set_chosen, set_absent, hidden, normal, always_normal, stressed, stressed_without}
+use Rattle.cur_looks.proofs.Turning.{moved, attributes_set, foreground_set, background_set, colors_gone, no_colors, no_color_lines, brush_as, colored_has, set_chosen, set_absent, hidden, normal, always_normal, stressed, stressed_without, stands_at, calmly}
 use Rattle.cur_looks.proofs.Singling.{stripped, with_attributes, single_set, single_absent, unwanted, wanted_on, all_singles}
 use Rattle.cur_looks.proofs.Printing.{typed_agrees}
 use Rattle.cur_paint.specs.Limits.{IsWithin, IsPlaced}
@@ -155,12 +155,12 @@ cell_reaches t checked new fit old r c lr lc =
     let a : Belief = record unknown { place = Some (record { row = r; col = c }) } in
     let b : Belief = record a { brush = x.brush; graphic = None } in
     let d : Belief = record b { graphic = Some x.graphic } in
-    let e : Belief = record d { place = after_print t.cols r c } in
-    reaches_then (IsPiece t) (Agrees t m unknown) (Agrees t m a) _ (reaches_has t checked (Cup r c) (checked.moves r c lr lc) m m unknown a (moved t m unknown r c))
+    let e : Belief = record d { place = Some (record { row = r; col = c + 1 }) } in
+    reaches_then (IsPiece t) (Agrees t m unknown) (Agrees t m a) _ (reaches_has t checked (Cup r c) (checked.moves r c lr lc) m m unknown a (moved t m unknown r c lc))
     (reaches_then (IsPiece t) (Agrees t m a) (Agrees t m b) _ (dressed t checked m a x.brush k.colored refl)
     (reaches_then (IsPiece t) (Agrees t m b) (Agrees t m d) _ (one_way t checked (set_row x.graphic) m b d (set_chosen t m b x.graphic) (λ h. set_absent t checked x.graphic k.set h m b) (has t (set_row x.graphic)) refl)
     (reaches_then (IsPiece t) (Agrees t m d) (Agrees t (put_at r c x m) e) _
-    (reaches_piece (IsPiece t) (Agrees t m d) (Agrees t (put_at r c x m) e) (x.byte ∷ []) (Character x.byte k.printed refl) (typed_agrees t m d r c x lc k.printed (record { place = refl; brush = refl; set = refl })))
+    (reaches_piece (IsPiece t) (Agrees t m d) (Agrees t (put_at r c x m) e) (x.byte ∷ []) (Character x.byte k.printed refl) (typed_agrees t m d r c x lr lc k.printed (record { place = inl refl; brush = refl; set = refl })))
     (reaches_as (IsPiece t) (Agrees t (put_at r c x m) e) (Agrees t (put_at r c x m) unknown) (Agrees t (put_at r c x m) e) (Agrees t (mixed old new r (c + 1)) unknown) (λ s h. h)
     (agrees_as t (put_at r c x m) (mixed old new r (c + 1)) unknown (λ i j li lj. mixed_put old new r c i j)) (undressed t checked (put_at r c x m) e)))))
 
@@ -191,18 +191,18 @@ mode_reaches t checked g b Prominent can =
     reaches_then (IsPiece t) (Agrees t g b) (Agrees t g p) (Agrees t g q) (normal_reaches t checked g b)
     (one_way t checked Cvvis g p q (stressed t g p refl) (λ e. stressed_without t g p refl) (has t Cvvis) refl)
 
-placed_at : (p : Place) (now : Option Place) (row col : ℕ) (pending : Bool) → now ≡ Some p → IsHere now row col pending → IsCursor (Some p) row col
-placed_at p now row col pending e h = let k : IsHere (Some p) row col pending = subst (λ (o : Option Place). IsHere o row col pending) e h in (k.0, k.1)
+placed_at : (t : Table) (p : Place) (now : Option Place) (row col : ℕ) (pending : Bool) → p.col < t.cols → now ≡ Some p → IsHere t.cols now row col pending → IsCursor (Some p) row col
+placed_at t p now row col pending lt e h = let k = calmly t.cols p row col pending lt (subst (λ (o : Option Place). IsHere t.cols o row col pending) e h) in (k.0, k.1)
 
-cursor_at : (cursor now : Option Place) (row col : ℕ) (pending : Bool) → IsPlaced cursor now → IsHere now row col pending → IsCursor cursor row col
-cursor_at None now row col pending e h = tt
-cursor_at (Some p) now row col pending e h = placed_at p now row col pending e h
+cursor_at : (t : Table) (cursor now : Option Place) (row col : ℕ) (pending : Bool) → IsWithin t cursor → IsPlaced cursor now → IsHere t.cols now row col pending → IsCursor cursor row col
+cursor_at t None now row col pending within e h = tt
+cursor_at t (Some p) now row col pending within e h = placed_at t p now row col pending within.1 e h
 
-pub agrees_shows : (t : Table) (g : ℕ → ℕ → Ink) (b : Belief) (w : Wanted) → IsPlaced w.cursor b.place → b.mode ≡ Some w.mode → (s : State) → Agrees t g b s → Shows t g w s
-agrees_shows t g b w e f s h = record {
+pub agrees_shows : (t : Table) (g : ℕ → ℕ → Ink) (b : Belief) (w : Wanted) → IsWithin t w.cursor → IsPlaced w.cursor b.place → b.mode ≡ Some w.mode → (s : State) → Agrees t g b s → Shows t g w s
+agrees_shows t g b w within e f s h = record {
   closed = h.ready.rest;
   cells = h.cells;
-  cursor = cursor_at w.cursor b.place s.screen.row s.screen.col s.screen.pending e h.place;
+  cursor = cursor_at t w.cursor b.place s.screen.row s.screen.col s.screen.pending within e h.place;
   visible = seen_so w.mode s.screen.visible f h.seen;
 }
   where
@@ -210,18 +210,18 @@ agrees_shows t g b w e f s h = record {
     seen_so m v e h = subst (λ (o : Option Mode). IsSeen o v) e h
 
 cursor_reaches : (t : Table) → IsChecked t → (g : ℕ → ℕ → Ink) (b : Belief) (cursor : Option Place) (mode : Mode) (clear : Bool) → IsWithin t cursor → b.mode ≡ Some mode → Reaches (IsPiece t) (Agrees t g b) (Shows t g (record { cursor = cursor; mode = mode; clear = clear }))
-cursor_reaches t checked g b None mode clear w e = reaches_self (IsPiece t) (Agrees t g b) (Shows t g (record { cursor = None; mode = mode; clear = clear })) (λ s h. h.ready.rest) (agrees_shows t g b (record { cursor = None; mode = mode; clear = clear }) tt e)
+cursor_reaches t checked g b None mode clear w e = reaches_self (IsPiece t) (Agrees t g b) (Shows t g (record { cursor = None; mode = mode; clear = clear })) (λ s h. h.ready.rest) (agrees_shows t g b (record { cursor = None; mode = mode; clear = clear }) tt tt e)
 cursor_reaches t checked g b (Some p) mode clear w e =
     let d : Belief = record b { place = Some (record { row = p.row; col = p.col }) } in
     reaches_as (IsPiece t) (Agrees t g b) (Agrees t g d) (Agrees t g b) (Shows t g (record { cursor = Some p; mode = mode; clear = clear })) (λ s h. h)
-    (agrees_shows t g d (record { cursor = Some p; mode = mode; clear = clear }) refl e) (reaches_has t checked (Cup p.row p.col) (checked.moves p.row p.col w.0 w.1) g g b d (moved t g b p.row p.col))
+    (agrees_shows t g d (record { cursor = Some p; mode = mode; clear = clear }) w refl e) (reaches_has t checked (Cup p.row p.col) (checked.moves p.row p.col w.0 w.1) g g b d (moved t g b p.row p.col w.1))
 
 -- a state after the resynchronization
 pub blank_agrees : (t : Table) (mode : Option Mode) (seen : Bool) → IsSeen mode seen → (s : State) → IsBlank t seen s → Agrees t (λ i j. blank_ink) (at_start mode) s
 blank_agrees t mode seen so s h = record {
   ready = h.ready;
   cells = h.cells;
-  place = (h.row, h.col, h.pending);
+  place = (let k = stands_at t.cols 0 0 (omega (arith, h.ready.sized.state.screen.col, h.ready.sized.cols)) in (h.row, h.col ∙ k.1, h.pending ∙ k.2));
   brush = h.rendition;
   colored = record { foreground = λ e. refl; background = λ e. refl };
   set = h.set;

@@ -19,7 +19,7 @@ use Rattle.cur_looks.specs.Inks.{blank_ink}
 use Rattle.cur_looks.specs.Beliefs.{Agrees, Turns}
 use Rattle.cur_looks.specs.declared.beliefs.Mode.{Mode}
 use Rattle.cur_looks.specs.declared.beliefs.Mode.TheVariants.{Normal}
-use Rattle.cur_looks.proofs.Turning.{free_of, by_screen, look_at-drawn}
+use Rattle.cur_looks.proofs.Turning.{free_of, by_screen, look_at-drawn, stands_at}
 use Rattle.cur_paint.specs.Cleared.{IsLeft, at_start, cleared}
 use Rattle.cur_paint.specs.Limits.{fresh_limit, IsPlaced, paint_limit}
 use Rattle.cur_paint.specs.Update.{Anew, Draws, IsFresh}
@@ -76,7 +76,7 @@ all_cleared t g b = record {
         cells = λ i j li lj.
             look_at-drawn (λ i j old. blank s.screen.rendition) s.screen.grid i j (omega (arith, h.ready.sized.state.screen.columns i (omega (arith, h.ready.sized.rows)), h.ready.sized.cols))
             ∙ ap (λ (r : Rendition). blank r) h.brush;
-        place = (refl, refl, refl);
+        place = stands_at t.cols 0 0 (omega (arith, h.ready.sized.state.screen.col, h.ready.sized.cols));
         brush = h.brush;
         colored = h.colored;
         set = h.set;

@@ -1,5 +1,5 @@
 -- In how many places two screens differ.
-use Rattle.std.specs.Prelude.{ℕ, ◌+◌, if◌then◌else◌, zero, suc}
+use Rattle.std.specs.Prelude.{ℕ, ◌+◌, ◌<◌, ◌≤◌, ◌≡◌, if◌then◌else◌, zero, suc}
 use Rattle.cur_looks.specs.Inks.{same}
 use Rattle.cur_looks.specs.declared.inks.Ink.{Ink}
 
@@ -16,3 +16,8 @@ span old new i from (suc n) = span old new i from n + differs old new i (from + 
 abbrev pub all_differ : (ℕ → ℕ → Ink) → (ℕ → ℕ → Ink) → ℕ → ℕ → ℕ
 all_differ old new cols zero = 0
 all_differ old new cols (suc n) = all_differ old new cols n + span old new n 0 cols
+
+-- a line is the same in both before a column, and from another one on
+pub record IsSameOutside (old new : ℕ → ℕ → Ink) (i from end cols : ℕ) : Type 0 where
+  pub before : (j : ℕ) → j < from → old i j ≡ new i j
+  pub after : (j : ℕ) → end ≤ j → j < cols → old i j ≡ new i j

@@ -2,6 +2,7 @@
 #![tactic(auto)]
 
 mod bells;
+mod changes;
 mod endings;
 mod laws;
 mod painting;
@@ -9,6 +10,7 @@ mod rows;
 mod updates;
 
 pub use bells::{Unsent, beep};
+pub use changes::{Changes, Columns};
 pub use endings::finish;
 pub use laws::{bounded, reset_is_fresh};
 pub use updates::{Session, Status, Wanted, update};

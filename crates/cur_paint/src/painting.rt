@@ -7,6 +7,7 @@ ghost use Rattle.cur_looks.specs.Beliefs.{Agrees, CanHide};
 ghost use Rattle.cur_looks.specs.declared.inks.Ink.{Ink};
 ghost use Rattle.cur_paint.specs.Limits.{IsWithin, IsPlaced, last_move, cursor_limit, paint_limit};
 
+use crate::changes::Changes;
 use crate::rows::mend_rows;
 use cur_looks::{Belief, Certificate, Mode, Place, View, reach, show_as};
 use cur_wires::{Wire, WireFault};
@@ -55,16 +56,18 @@ fn set_cursor<C: Certificate, N: View, W: Wire>(
 }
 
 /// All that differs, and then the cursor.
-pub(crate) fn paint<C: Certificate, O: View, N: View, W: Wire>(
+pub(crate) fn paint<C: Certificate, O: View, N: View, D: Changes, W: Wire>(
     checked: &C,
     belief: &mut Belief,
     wire: &mut W,
     old: &O,
     new: &N,
+    changes: &D,
     cursor: Option<Place>,
     mode: Mode,
 ) -> Result<(), WireFault>
     requires drawable { CanShow (C.table checked.now) (N.cells new.now) }
+    requires changes { D.between changes.now (O.cells old.now) (N.cells new.now) }
     requires cursor { IsWithin (C.table checked.now) cursor }
     requires lines { CanHide (C.table checked.now) mode }
     ensures there { OnOk result (IsPlaced cursor belief.new.place) }
@@ -72,6 +75,6 @@ pub(crate) fn paint<C: Certificate, O: View, N: View, W: Wire>(
     ensures step { Steps W.went W.failures wire.old wire.new result (IsPiece (C.table checked.now)) (paint_limit (C.table checked.now) (O.cells old.now) (N.cells new.now) belief.old cursor mode)
         (IsLost (C.table checked.now)) (Agrees (C.table checked.now) (O.cells old.now) belief.old) (Agrees (C.table checked.now) (N.cells new.now) belief.new) }
 {
-    mend_rows(checked, belief, wire, old, new)?;
+    mend_rows(checked, belief, wire, old, new, changes)?;
     set_cursor(checked, belief, wire, new, cursor, mode)
 }

@@ -10,6 +10,7 @@ ghost use Rattle.cur_paint.specs.declared.updates.Status.TheVariants.{Fresh};
 ghost use Rattle.cur_paint.specs.Cleared.{IsLeft, at_start, cleared};
 ghost use Rattle.cur_paint.specs.Update.{Anew, Draws, Refreshes};
 
+use crate::changes::{Changes, Whole};
 use crate::painting::paint;
 use cur_looks::{Belief, Blank, Brush, Certificate, Ink, Mode, Place, Row, View};
 use cur_wires::{Wire, WireFault, send_all};
@@ -111,6 +112,7 @@ fn repaint<C: Certificate, N: View, W: Wire>(
         wire,
         &Blank,
         new,
+        &Whole,
         wanted.cursor,
         wanted.mode,
     )
@@ -144,22 +146,25 @@ fn clear_first<C: Certificate, N: View, W: Wire>(
         wire,
         &cleared,
         new,
+        &Whole,
         wanted.cursor,
         wanted.mode,
     )
 }
 
 /// What differs where the terminal is known and isn't to be cleared, else all.
-fn draw<C: Certificate, O: View, N: View, W: Wire>(
+fn draw<C: Certificate, O: View, N: View, D: Changes, W: Wire>(
     checked: &C,
     status: Status,
     belief: &mut Belief,
     wire: &mut W,
     old: &O,
     new: &N,
+    changes: &D,
     wanted: Wanted,
 ) -> Result<(), WireFault>
     requires drawable { CanShow (C.table checked.now) (N.cells new.now) }
+    requires changes { D.between changes.now (O.cells old.now) (N.cells new.now) }
     requires cursor { IsWithin (C.table checked.now) wanted.cursor }
     requires lines { CanHide (C.table checked.now) wanted.mode }
     ensures draws { Draws W.went W.failures wire.old wire.new result (C.table checked.now) (O.cells old.now) (N.cells new.now) wanted status belief.old belief.new }
@@ -172,6 +177,7 @@ fn draw<C: Certificate, O: View, N: View, W: Wire>(
             wire,
             old,
             new,
+            changes,
             wanted.cursor,
             wanted.mode,
         ),
@@ -181,17 +187,20 @@ fn draw<C: Certificate, O: View, N: View, W: Wire>(
     }
 }
 
-/// Makes the terminal show the new screen. The old one is what it shows, where that is known. On
-/// `WireFault` a front of lawful bytes went out, and the session is lost.
-pub fn update<C: Certificate, O: View, N: View, W: Wire>(
+/// Makes the terminal show the new screen. The old one is what it shows, where that is known; only the
+/// columns that may differ from it are looked at. On `WireFault` a front of lawful bytes went out, and the
+/// session is lost.
+pub fn update<C: Certificate, O: View, N: View, D: Changes, W: Wire>(
     checked: &C,
     session: &mut Session,
     wire: &mut W,
     old: &O,
     new: &N,
+    changes: &D,
     wanted: Wanted,
 ) -> Result<(), WireFault>
     requires drawable { CanShow (C.table checked.now) (N.cells new.now) }
+    requires changes { D.between changes.now (O.cells old.now) (N.cells new.now) }
     requires cursor { IsWithin (C.table checked.now) wanted.cursor }
     requires lines { CanHide (C.table checked.now) wanted.mode }
     ensures refreshes { Refreshes W.went W.failures wire.old wire.new result (C.table checked.now) (O.cells old.now) (N.cells new.now) wanted session.old session.new }
@@ -199,7 +208,16 @@ pub fn update<C: Certificate, O: View, N: View, W: Wire>(
     let _ = checked.rows();
     let status = session.status;
     session.status = Status::Lost;
-    draw(checked, status, &mut session.belief, wire, old, new, wanted)?;
+    draw(
+        checked,
+        status,
+        &mut session.belief,
+        wire,
+        old,
+        new,
+        changes,
+        wanted,
+    )?;
     session.status = Status::Known;
     Ok(())
 }

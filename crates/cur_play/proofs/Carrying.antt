@@ -1,17 +1,20 @@
 -- From what a call puts on the wire to what that does to the terminal.
-use Rattle.std.proofs.Common.{◌≡◌, ℕ, ◌+◌, ◌*◌, ◌≤◌, Bool, true, false, List, [], length, Option, Some, refl, sym, ap, subst, ◌∙◌, arith}
+use Rattle.std.proofs.Common.{◌≡◌, ℕ, ◌+◌, ◌*◌, ◌<◌, ◌≤◌, ◌^◌, Bool, true, false, List, [], length, Option, Some, refl, sym, ap, subst, ◌∙◌, arith}
 use Rattle.std.proofs.Math.Nat.{le_refl}
 use Rattle.vt_term.specs.Screen.{State}
+use Rattle.vt_term.specs.Size.{IsSize}
 use Rattle.vt_term.specs.Text.{IsOpen}
 use Rattle.vt_term.proofs.Running.{runs_nothing}
 use Rattle.cur_windows.specs.VirtualScreen.{Screen}
 use Rattle.cur_wires.specs.Wire.{IsWire}
 use Rattle.cur_steps.specs.Leads.{Ends}
-use Rattle.cur_looks.specs.Certified.{Table, IsLost, cell_limit}
+use Rattle.ti_rows.specs.declared.rows.Row.TheVariants.{Bel}
+use Rattle.cur_looks.specs.Certified.{Table, IsLost, IsSmall, cell_limit}
 use Rattle.cur_looks.specs.declared.beliefs.Belief.{Belief}
 use Rattle.cur_looks.specs.declared.beliefs.Mode.{Mode}
 use Rattle.cur_looks.specs.declared.beliefs.Place.{Place}
 use Rattle.cur_looks.specs.declared.inks.Ink.{Ink}
+use Rattle.cur_paint.specs.Finish.{finish_text}
 use Rattle.cur_paint.specs.Limits.{IsPlaced, paint_limit, fresh_limit}
 use Rattle.cur_paint.specs.Update.{Fits, refresh_limit}
 use Rattle.cur_paint.specs.declared.updates.Session.{Session}
@@ -19,8 +22,8 @@ use Rattle.cur_paint.specs.declared.updates.Status.{Status}
 use Rattle.cur_paint.specs.declared.updates.Status.TheVariants.{Fresh, Known, Lost}
 use Rattle.cur_update.specs.Differ.{in_lines}
 use Rattle.cur_update.specs.Inks.{ink_at}
-use Rattle.cur_update.specs.Paper.{on_paper, Drawing}
 use Rattle.cur_update.specs.Painters.{Painted, place_of, wanted_of}
+use Rattle.cur_play.proofs.Fewness.{finish_few, front_few, line_few, refresh_few}
 use Rattle.cur_play.specs.Bounds.{is_shown, last_after, mode_after, most}
 use Rattle.cur_play.specs.Carrying.{FitsIn, IsLast, IsSettled, Carries}
 use Rattle.cur_play.specs.Outputs.{IsQuiet, Showed, ShowedShort, Puts}
@@ -42,16 +45,16 @@ fits_open t g Known b s f = f.ready.sized.state.rest
 fits_open t g Lost b s f = f.sized.state.rest
 
 -- nothing went out
-stays : {C : Type 0} (t : Table) (before after : Painted C) → after.session ≡ before.session → after.paper ≡ before.paper → (s : State) → FitsIn t before s → Ends s [] (FitsIn t after)
-stays t before after e f s p =
-    let P : Session → Type 0 = λ x. Fits t (on_paper after.paper) x.status x.belief s in
-    let Q : Drawing → Type 0 = λ d. Fits t (on_paper d) before.session.status before.session.belief s in
-    record { after = s; runs = runs_nothing s (fits_open t (on_paper before.paper) before.session.status before.session.belief s p); there = subst P (sym e) (subst Q (sym f) p) }
+stays : {C : Type 0} (t : Table) (partners : ℕ → Option ℕ) (before after : Painted C) → after.session ≡ before.session → after.shown ≡ before.shown → (s : State) → FitsIn t partners before s → Ends s [] (FitsIn t partners after)
+stays t partners before after e f s p =
+    let P : Session → Type 0 = λ x. Fits t (ink_at t partners after.shown) x.status x.belief s in
+    let Q : Screen → Type 0 = λ d. Fits t (ink_at t partners d) before.session.status before.session.belief s in
+    record { after = s; runs = runs_nothing s (fits_open t (ink_at t partners before.shown) before.session.status before.session.belief s p); there = subst P (sym e) (subst Q (sym f) p) }
 
 -- the screen shown last where nothing was shown
-keeps_last : {C : Type 0} (t : Table) (partners : ℕ → Option ℕ) (before after : Painted C) (last : Screen) → (after.session.status ≡ Known → before.session.status ≡ Known) → after.paper ≡ before.paper
+keeps_last : {C : Type 0} (t : Table) (partners : ℕ → Option ℕ) (before after : Painted C) (last : Screen) → (after.session.status ≡ Known → before.session.status ≡ Known) → after.shown ≡ before.shown
     → IsLast t partners before last → IsLast t partners after last
-keeps_last t partners before after last known paper h e = ap on_paper paper ∙ h (known e)
+keeps_last t partners before after last known same_screen h e = ap (ink_at t partners) same_screen ∙ h (known e)
 
 -- the mode shown last changes only with what is shown
 mode_kept : (o : Output) (answer : Answer) (last m : Mode) → is_shown o answer ≡ false → mode_after o answer last m ≡ last
@@ -103,110 +106,114 @@ pub quietly : {W C : Type 0} (went : W → W → List ℕ → Type 0) (failures 
 quietly {W} went failures laws old new t partners v o answer before after none same q = record {
   bytes = [];
   sent = (let P : W → Type 0 = λ w. went old w [] in subst P (sym q.wire) (laws.nothing old));
-  fits = stays t before after q.session q.paper;
+  fits = stays t partners before after q.session q.shown;
   shows = λ e. absurd (cc);
   last = λ last h. (let P : Screen → Type 0 = λ x. IsLast t partners after x in
-      subst P (sym (same last)) (keeps_last t partners before after last (λ k. ap (λ (x : Session). x.status) (sym q.session) ∙ k) q.paper h));
+      subst P (sym (same last)) (keeps_last t partners before after last (λ k. ap (λ (x : Session). x.status) (sym q.session) ∙ k) q.shown h));
   settled = λ last m h. settled_on before after v o answer last m none same (λ k. q.session) h;
   bound = λ e last rows cols h. omega arith;
   idle = λ e last rows cols h k. refl;
   quiet = λ e. refl;
+  few = omega arith;
 }
 
 -- all went out, or a front of it, without showing the screen
 otherwise : {W C : Type 0} (went : W → W → List ℕ → Type 0) (old new : W) (t : Table) (partners : ℕ → Option ℕ) (v : Screen) (o : Output) (answer : Answer) (before after : Painted C) (bytes : List ℕ)
     → is_shown o answer ≡ false → ((last : Screen) → last_after o answer last v ≡ last) → (o ≡ Update → ⊥) → (o ≡ Nothing → ⊥)
-    → went old new bytes → ((s : State) → FitsIn t before s → Ends s bytes (FitsIn t after)) → (after.session.status ≡ Known → after.session ≡ before.session) → after.paper ≡ before.paper
+    → went old new bytes → ((s : State) → FitsIn t partners before s → Ends s bytes (FitsIn t partners after)) → (after.session.status ≡ Known → after.session ≡ before.session) → after.shown ≡ before.shown → length bytes < 2 ^ 60
     → Carries went old new t partners v o answer before after
-otherwise went old new t partners v o answer before after bytes none same other some sent fits kept paper = record {
+otherwise went old new t partners v o answer before after bytes none same other some sent fits kept same_screen few = record {
   bytes = bytes;
   sent = sent;
   fits = fits;
   shows = λ e. absurd (cc);
-  last = λ last h. (let P : Screen → Type 0 = λ x. IsLast t partners after x in subst P (sym (same last)) (keeps_last t partners before after last (λ k. ap (λ (x : Session). x.status) (sym (kept k)) ∙ k) paper h));
+  last = λ last h. (let P : Screen → Type 0 = λ x. IsLast t partners after x in subst P (sym (same last)) (keeps_last t partners before after last (λ k. ap (λ (x : Session). x.status) (sym (kept k)) ∙ k) same_screen h));
   settled = λ last m h. settled_on before after v o answer last m none same kept h;
   bound = λ e last rows cols h. absurd (other e);
   idle = λ e last rows cols h k. absurd (other e);
   quiet = λ e. absurd (some e);
+  few = few;
 }
 
--- a state that fits a session of this status, on this paper
+-- a state that fits a session of this status, with these cells
 refit : (t : Table) (g h : ℕ → ℕ → Ink) (a b : Status) (k : Belief) (bytes : List ℕ) (s : State) → h ≡ g → b ≡ a → Ends s bytes (Fits t g a k) → Ends s bytes (Fits t h b k)
 refit t g h a b k bytes s e f x =
     let P : (ℕ → ℕ → Ink) → Type 0 = λ y. Fits t y b k x.after in
     let Q : Status → Type 0 = λ y. Fits t g y k x.after in
     record { after = x.after; runs = x.runs; there = subst P (sym e) (subst Q (sym f) x.there) }
 
-showed : {W C : Type 0} (went : W → W → List ℕ → Type 0) (old new : W) (t : Table) (partners : ℕ → Option ℕ) (v : Screen) (before after : Painted C) → IsBound → v.rows ≡ t.rows → v.cols ≡ t.cols
+showed : {W C : Type 0} (went : W → W → List ℕ → Type 0) (old new : W) (t : Table) (partners : ℕ → Option ℕ) (v : Screen) (before after : Painted C) → IsBound → IsSize t.rows t.cols → IsSmall t → v.rows ≡ t.rows → v.cols ≡ t.cols
     → Showed went old new t partners v before after → Carries went old new t partners v Update Done before after
-showed went old new t partners v before after laws high wide p =
+showed went old new t partners v before after laws size small high wide p =
     let r = p.refreshed in
-    let limit : ℕ = refresh_limit t (on_paper before.paper) (ink_at t partners v) before.session.status before.session.belief (wanted_of v before.mode) in
+    let limit : ℕ = refresh_limit t (ink_at t partners before.shown) (ink_at t partners v) before.session.status before.session.belief (wanted_of v before.mode) in
     let le : length r.bytes ≤ limit = r.bound in
     record {
       bytes = r.bytes;
       sent = r.sent;
-      fits = λ s f. refit t (ink_at t partners v) (on_paper after.paper) Known after.session.status after.session.belief r.bytes s p.paper r.known (r.fits s f);
+      fits = λ s f. refit t (ink_at t partners v) (ink_at t partners after.shown) Known after.session.status after.session.belief r.bytes s (ap (ink_at t partners) p.shown) r.known (r.fits s f);
       shows = λ e s f. r.lawful.shows s f;
-      last = λ last h k. p.paper;
+      last = λ last h k. ap (ink_at t partners) p.shown;
       settled = λ last m h k. (r.there, r.mode);
-      bound = λ e last rows cols h. (let m = most_of laws t partners (on_paper before.paper) v before.session.status before.session.belief before.mode v.clearok last (rows ∙ sym high) (cols ∙ sym wide) h in omega (arith, le, m));
-      idle = λ e last rows cols h k. (let z = none_of laws t partners (on_paper before.paper) v before.session.status before.session.belief before.mode v.clearok last (rows ∙ sym high) (cols ∙ sym wide) h k.known k.same k.placed k.mode k.clear in omega (arith, le, z));
+      bound = λ e last rows cols h. (let m = most_of laws t partners (ink_at t partners before.shown) v before.session.status before.session.belief before.mode v.clearok last (rows ∙ sym high) (cols ∙ sym wide) h in omega (arith, le, m));
+      idle = λ e last rows cols h k. (let z = none_of laws t partners (ink_at t partners before.shown) v before.session.status before.session.belief before.mode v.clearok last (rows ∙ sym high) (cols ∙ sym wide) h k.known k.same k.placed k.mode k.clear in omega (arith, le, z));
       quiet = λ e. absurd (cc);
+      few = (let f = refresh_few t (ink_at t partners before.shown) (ink_at t partners v) before.session.status before.session.belief (wanted_of v before.mode) size small in omega (arith, le, f));
     }
 
-showed_short : {W C : Type 0} (went : W → W → List ℕ → Type 0) (failures : W → ℕ) (old new : W) (t : Table) (partners : ℕ → Option ℕ) (v : Screen) (before after : Painted C) → IsBound → v.rows ≡ t.rows → v.cols ≡ t.cols
+showed_short : {W C : Type 0} (went : W → W → List ℕ → Type 0) (failures : W → ℕ) (old new : W) (t : Table) (partners : ℕ → Option ℕ) (v : Screen) (before after : Painted C) → IsBound → IsSize t.rows t.cols → IsSmall t → v.rows ≡ t.rows → v.cols ≡ t.cols
     → ShowedShort went failures old new t partners v before after → Carries went old new t partners v Update WireFailed before after
-showed_short went failures old new t partners v before after laws high wide p =
+showed_short went failures old new t partners v before after laws size small high wide p =
     let r = p.cut in
-    let limit : ℕ = refresh_limit t (on_paper before.paper) (ink_at t partners v) before.session.status before.session.belief (wanted_of v before.mode) in
+    let limit : ℕ = refresh_limit t (ink_at t partners before.shown) (ink_at t partners v) before.session.status before.session.belief (wanted_of v before.mode) in
     let le : length r.front ≤ limit = r.bound in
     record {
       bytes = r.front;
       sent = r.sent;
-      fits = λ s f. refit t (on_paper after.paper) (on_paper after.paper) Lost after.session.status after.session.belief r.front s refl r.lost (r.fits s f);
+      fits = λ s f. refit t (ink_at t partners after.shown) (ink_at t partners after.shown) Lost after.session.status after.session.belief r.front s refl r.lost (r.fits s f);
       shows = λ e. absurd (cc);
       last = λ last h k. absurd (lost_unknown after.session.status r.lost k);
       settled = λ last m h k. absurd (lost_unknown after.session.status r.lost k);
-      bound = λ e last rows cols h. (let m = most_of laws t partners (on_paper before.paper) v before.session.status before.session.belief before.mode v.clearok last (rows ∙ sym high) (cols ∙ sym wide) h in omega (arith, le, m));
-      idle = λ e last rows cols h k. (let z = none_of laws t partners (on_paper before.paper) v before.session.status before.session.belief before.mode v.clearok last (rows ∙ sym high) (cols ∙ sym wide) h k.known k.same k.placed k.mode k.clear in omega (arith, le, z));
+      bound = λ e last rows cols h. (let m = most_of laws t partners (ink_at t partners before.shown) v before.session.status before.session.belief before.mode v.clearok last (rows ∙ sym high) (cols ∙ sym wide) h in omega (arith, le, m));
+      idle = λ e last rows cols h k. (let z = none_of laws t partners (ink_at t partners before.shown) v before.session.status before.session.belief before.mode v.clearok last (rows ∙ sym high) (cols ∙ sym wide) h k.known k.same k.placed k.mode k.clear in omega (arith, le, z));
       quiet = λ e. absurd (cc);
+      few = (let f = refresh_few t (ink_at t partners before.shown) (ink_at t partners v) before.session.status before.session.belief (wanted_of v before.mode) size small in omega (arith, le, f));
     }
 
-to_lost : {C : Type 0} (t : Table) (after : Painted C) (bytes : List ℕ) (s : State) → after.session.status ≡ Lost → Ends s bytes (IsLost t) → Ends s bytes (FitsIn t after)
-to_lost t after bytes s e x = refit t (on_paper after.paper) (on_paper after.paper) Lost after.session.status after.session.belief bytes s refl e x
+to_lost : {C : Type 0} (t : Table) (partners : ℕ → Option ℕ) (after : Painted C) (bytes : List ℕ) (s : State) → after.session.status ≡ Lost → Ends s bytes (IsLost t) → Ends s bytes (FitsIn t partners after)
+to_lost t partners after bytes s e x = refit t (ink_at t partners after.shown) (ink_at t partners after.shown) Lost after.session.status after.session.belief bytes s refl e x
 
 -- the session is the same
-same_session : {C : Type 0} (t : Table) (before after : Painted C) (bytes : List ℕ) (s : State) → after.session ≡ before.session → after.paper ≡ before.paper → Ends s bytes (FitsIn t before) → Ends s bytes (FitsIn t after)
-same_session t before after bytes s e f x =
-    let P : Session → Type 0 = λ y. Fits t (on_paper after.paper) y.status y.belief x.after in
-    let Q : Drawing → Type 0 = λ d. Fits t (on_paper d) before.session.status before.session.belief x.after in
+same_session : {C : Type 0} (t : Table) (partners : ℕ → Option ℕ) (before after : Painted C) (bytes : List ℕ) (s : State) → after.session ≡ before.session → after.shown ≡ before.shown → Ends s bytes (FitsIn t partners before) → Ends s bytes (FitsIn t partners after)
+same_session t partners before after bytes s e f x =
+    let P : Session → Type 0 = λ y. Fits t (ink_at t partners after.shown) y.status y.belief x.after in
+    let Q : Screen → Type 0 = λ d. Fits t (ink_at t partners d) before.session.status before.session.belief x.after in
     record { after = x.after; runs = x.runs; there = subst P (sym e) (subst Q (sym f) x.there) }
 
-pub carries : {W C : Type 0} (went : W → W → List ℕ → Type 0) (failures : W → ℕ) → IsWire went failures → IsBound → (old new : W) (t : Table) (partners : ℕ → Option ℕ) (v : Screen) (o : Output) (answer : Answer) (before after : Painted C) → v.rows ≡ t.rows → v.cols ≡ t.cols
+pub carries : {W C : Type 0} (went : W → W → List ℕ → Type 0) (failures : W → ℕ) → IsWire went failures → IsBound → (old new : W) (t : Table) (partners : ℕ → Option ℕ) (v : Screen) (o : Output) (answer : Answer) (before after : Painted C) → IsSize t.rows t.cols → IsSmall t → v.rows ≡ t.rows → v.cols ≡ t.cols
     → Puts went failures old new t partners v o answer before after → Carries went old new t partners v o answer before after
-carries went failures wire laws old new t partners v Nothing answer before after high wide p = quietly went failures wire old new t partners v Nothing answer before after refl (λ l. refl) p
-carries went failures wire laws old new t partners v Update Done before after high wide p = showed went old new t partners v before after laws high wide p
-carries went failures wire laws old new t partners v Update WireFailed before after high wide p = showed_short went failures old new t partners v before after laws high wide p
-carries went failures wire laws old new t partners v Update (Was n) before after high wide p = quietly went failures wire old new t partners v Update (Was n) before after refl (λ l. refl) p
-carries went failures wire laws old new t partners v Update (Refused r) before after high wide p = quietly went failures wire old new t partners v Update (Refused r) before after refl (λ l. refl) p
-carries went failures wire laws old new t partners v Bell (Was n) before after high wide p = quietly went failures wire old new t partners v Bell (Was n) before after refl (λ l. refl) p
-carries went failures wire laws old new t partners v Bell (Refused r) before after high wide p = quietly went failures wire old new t partners v Bell (Refused r) before after refl (λ l. refl) p
-carries went failures wire laws old new t partners v End (Was n) before after high wide p = quietly went failures wire old new t partners v End (Was n) before after refl (λ l. refl) p
-carries went failures wire laws old new t partners v End (Refused r) before after high wide p = quietly went failures wire old new t partners v End (Refused r) before after refl (λ l. refl) p
-carries went failures wire laws old new t partners v Bell Done before after high wide p =
+carries went failures wire laws old new t partners v Nothing answer before after size small high wide p = quietly went failures wire old new t partners v Nothing answer before after refl (λ l. refl) p
+carries went failures wire laws old new t partners v Update Done before after size small high wide p = showed went old new t partners v before after laws size small high wide p
+carries went failures wire laws old new t partners v Update WireFailed before after size small high wide p = showed_short went failures old new t partners v before after laws size small high wide p
+carries went failures wire laws old new t partners v Update (Was n) before after size small high wide p = quietly went failures wire old new t partners v Update (Was n) before after refl (λ l. refl) p
+carries went failures wire laws old new t partners v Update (Refused r) before after size small high wide p = quietly went failures wire old new t partners v Update (Refused r) before after refl (λ l. refl) p
+carries went failures wire laws old new t partners v Bell (Was n) before after size small high wide p = quietly went failures wire old new t partners v Bell (Was n) before after refl (λ l. refl) p
+carries went failures wire laws old new t partners v Bell (Refused r) before after size small high wide p = quietly went failures wire old new t partners v Bell (Refused r) before after refl (λ l. refl) p
+carries went failures wire laws old new t partners v End (Was n) before after size small high wide p = quietly went failures wire old new t partners v End (Was n) before after refl (λ l. refl) p
+carries went failures wire laws old new t partners v End (Refused r) before after size small high wide p = quietly went failures wire old new t partners v End (Refused r) before after refl (λ l. refl) p
+carries went failures wire laws old new t partners v Bell Done before after size small high wide p =
     let r = p.sends in
     otherwise went old new t partners v Bell Done before after r.line refl (λ l. refl) (λ e. cc) (λ e. cc) r.sent
-    (λ s f. same_session t before after r.line s r.same p.paper (r.fits (on_paper before.paper) s f)) (λ k. r.same) p.paper
-carries went failures wire laws old new t partners v Bell WireFailed before after high wide p =
+    (λ s f. same_session t partners before after r.line s r.same p.shown (r.fits (ink_at t partners before.shown) s f)) (λ k. r.same) p.shown (line_few t Bel r.line r.is small)
+carries went failures wire laws old new t partners v Bell WireFailed before after size small high wide p =
     let r = p.sends in
     otherwise went old new t partners v Bell WireFailed before after r.front refl (λ l. refl) (λ e. cc) (λ e. cc) r.sent
-    (λ s f. to_lost t after r.front s r.lost (r.fits (on_paper before.paper) s f)) (λ k. absurd (lost_unknown after.session.status r.lost k)) p.paper
-carries went failures wire laws old new t partners v End Done before after high wide p =
+    (λ s f. to_lost t partners after r.front s r.lost (r.fits (ink_at t partners before.shown) s f)) (λ k. absurd (lost_unknown after.session.status r.lost k)) p.shown (front_few r.line r.front r.back r.parts (line_few t Bel r.line r.is small))
+carries went failures wire laws old new t partners v End Done before after size small high wide p =
     let r = p.sends in
     otherwise went old new t partners v End Done before after _ refl (λ l. refl) (λ e. cc) (λ e. cc) r.sent
-    (λ s f. refit t (on_paper after.paper) (on_paper after.paper) Fresh after.session.status after.session.belief _ s refl r.fresh (r.fits (on_paper before.paper) s f)) (λ k. absurd (fresh_unknown after.session.status r.fresh k)) p.paper
-carries went failures wire laws old new t partners v End WireFailed before after high wide p =
+    (λ s f. refit t (ink_at t partners after.shown) (ink_at t partners after.shown) Fresh after.session.status after.session.belief _ s refl r.fresh (r.fits (ink_at t partners before.shown) s f)) (λ k. absurd (fresh_unknown after.session.status r.fresh k)) p.shown (finish_few t before.session.status small)
+carries went failures wire laws old new t partners v End WireFailed before after size small high wide p =
     let r = p.sends in
     otherwise went old new t partners v End WireFailed before after r.front refl (λ l. refl) (λ e. cc) (λ e. cc) r.sent
-    (λ s f. to_lost t after r.front s r.lost (r.fits (on_paper before.paper) s f)) (λ k. absurd (lost_unknown after.session.status r.lost k)) p.paper
+    (λ s f. to_lost t partners after r.front s r.lost (r.fits (ink_at t partners before.shown) s f)) (λ k. absurd (lost_unknown after.session.status r.lost k)) p.shown (front_few (finish_text t before.session.status) r.front r.back r.parts (finish_few t before.session.status small))

@@ -1,5 +1,6 @@
 pub mod Sizes
 pub mod Performing
+pub mod Fewness
 pub mod Carrying
 pub mod Playing
 pub mod Logging

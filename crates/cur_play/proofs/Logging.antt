@@ -1,5 +1,5 @@
 -- One call after another, with what went out so far and the log so far.
-use Rattle.std.proofs.Common.{◌≡◌, ℕ, ◌+◌, ◌^◌, ◌<◌, ◌≤◌, true, List, [], ◌∷◌, ◌++◌, length, take, drop, Option, refl, sym, ap, subst, ◌∙◌, arith, append_assoc, length-append, get_or, add-one, Some, None}
+use Rattle.std.proofs.Common.{◌≡◌, ℕ, ◌+◌, ◌*◌, ◌^◌, ◌<◌, ◌≤◌, true, List, [], ◌∷◌, ◌++◌, length, take, drop, Option, refl, sym, ap, subst, ◌∙◌, arith, append_assoc, length-append, get_or, add-one, Some, None}
 use Rattle.std.specs.Prelude.{suc}
 use Rattle.std.specs.Borrow.{MutBor}
 use Rattle.std.proofs.Math.Seq.{drop-cons, drop-length, take-append_seam}
@@ -21,7 +21,6 @@ use Rattle.cur_paint.specs.Update.{Fits, IsFresh, Shows}
 use Rattle.cur_paint.specs.declared.updates.Status.{Status}
 use Rattle.cur_paint.specs.declared.updates.Status.TheVariants.{Fresh, Known}
 use Rattle.cur_update.specs.Inks.{ink_at}
-use Rattle.cur_update.specs.Paper.{on_paper}
 use Rattle.cur_update.specs.Painters.{Painted, place_of, wanted_of}
 use Rattle.cur_calls.specs.declared.calls.Call.{Call}
 use Rattle.cur_play.specs.Bounds.{is_shown, last_after, mode_after, most}
@@ -88,7 +87,7 @@ shows_after t partners d a s e h =
 pub record Logged {W C : Type 0} (went : W → W → List ℕ → Type 0) (old new : MutBor W) (count : ℕ) (t : Table) (partners : ℕ → Option ℕ) (calls : List Call) (i : ℕ) (stage : Stage C) (log : List Entry) : Type 0 where
   pub bytes : List ℕ
   pub out : Counts went old new 0 count bytes
-  pub fits : (s : State) → IsFresh t s → Ends s bytes (FitsIn t stage.painter)
+  pub fits : (s : State) → IsFresh t s → Ends s bytes (FitsIn t partners stage.painter)
   pub sized : IsStage t stage.desk stage.screen
   pub last : Screen
   pub rows : last.rows ≡ t.rows
@@ -97,6 +96,7 @@ pub record Logged {W C : Type 0} (went : W → W → List ℕ → Type 0) (old n
   pub last_mode : Mode
   pub settled : IsSettled stage.painter last last_mode
   pub counted : length log ≡ i
+  pub few : length bytes ≤ i * 2 ^ 60
   pub plays : (more : List ℕ) (rest : List Entry) → length (bytes ++ more) < 2 ^ 128 → Plays t partners (bytes ++ more) count last last_mode (scene_of stage) (drop i calls) rest
       → Plays t partners (bytes ++ more) 0 (new_screen t.rows t.cols) (first t).mode (first t) calls (log ++ rest)
 
@@ -143,18 +143,19 @@ placed_still (Some p) last now h k = let P : Option Place → Type 0 = λ x. IsP
 pub log_more : {W C : Type 0} (went : W → W → List ℕ → Type 0) (failures : W → ℕ) → IsWire went failures → (a m z : MutBor W) (to upto : ℕ) (t : Table) (partners : ℕ → Option ℕ) (calls : List Call) (i : ℕ) (call : Call) (before after : Stage C) (log : List Entry) (answer : Answer)
     (b : List ℕ) → Logged went a m to t partners calls i before log → drop i calls ≡ call ∷ drop (i + 1) calls
     → CallStep t (scene_of before) call answer (scene_of after) → IsStage t after.desk after.screen → Counts went m z to upto b
-    → ((s : State) → FitsIn t before.painter s → Ends s b (FitsIn t after.painter))
-    → (is_shown (output_of call) answer ≡ true → (s : State) → FitsIn t before.painter s → Ends s b (Shows t (ink_at t partners (drawn t (scene_of before) call).0.screen) (wanted_of (drawn t (scene_of before) call).0.screen (drawn t (scene_of before) call).0.mode)))
+    → ((s : State) → FitsIn t partners before.painter s → Ends s b (FitsIn t partners after.painter))
+    → (is_shown (output_of call) answer ≡ true → (s : State) → FitsIn t partners before.painter s → Ends s b (Shows t (ink_at t partners (drawn t (scene_of before) call).0.screen) (wanted_of (drawn t (scene_of before) call).0.screen (drawn t (scene_of before) call).0.mode)))
     → ((last : Screen) → IsLast t partners before.painter last → IsLast t partners after.painter (last_after (output_of call) answer last (drawn t (scene_of before) call).0.screen))
     → (output_of call ≡ Update → (last : Screen) → last.rows ≡ t.rows → last.cols ≡ t.cols → IsLast t partners before.painter last → length b ≤ most t before.painter.session.status (drawn t (scene_of before) call).0.screen.clearok last (drawn t (scene_of before) call).0.screen)
     → (output_of call ≡ Nothing → length b ≡ 0)
     → ((last : Screen) (last_mode : Mode) → IsSettled before.painter last last_mode → IsSettled after.painter (last_after (output_of call) answer last (drawn t (scene_of before) call).0.screen) (mode_after (output_of call) answer last_mode (drawn t (scene_of before) call).0.mode))
+    → length b < 2 ^ 60
     → (output_of call ≡ Update → (last : Screen) → last.rows ≡ t.rows → last.cols ≡ t.cols → IsLast t partners before.painter last → IsShown t (drawn t (scene_of before) call).0.screen (poised t before call) last → length b ≡ 0)
     → Logged went a z upto t partners calls (i + 1) after (log ++ record { answer = answer; sent = upto } ∷ [])
-log_more {W} {C} went failures laws a m z to upto t partners calls i call before after log answer b l left step sized c fits shows last bound quiet settled idle =
+log_more {W} {C} went failures laws a m z to upto t partners calls i call before after log answer b l left step sized c fits shows last bound quiet settled few idle =
     let e : Entry = record { answer = answer; sent = upto } in
     let d : Scene = (drawn t (scene_of before) call).0 in
-    let A : State → Type 0 = FitsIn t before.painter in
+    let A : State → Type 0 = FitsIn t partners before.painter in
     let bytes : List ℕ = l.bytes ++ b in
     let out : Counts went a z 0 upto bytes = counts_joins went failures laws a m z 0 to upto l.bytes b l.out c in
     let there : is_shown (output_of call) answer ≡ true → scene_of after ≡ shown_scene d = λ k. scene_shown t (scene_of before) call answer (scene_of after) k step in
@@ -162,7 +163,7 @@ log_more {W} {C} went failures laws a m z to upto t partners calls i call before
     record {
       bytes = bytes;
       out = out;
-      fits = λ s f. ends_then A (FitsIn t after.painter) s l.bytes b (l.fits s f) fits;
+      fits = λ s f. ends_then A (FitsIn t partners after.painter) s l.bytes b (l.fits s f) fits;
       sized = sized;
       last = now;
       rows = last_sized (output_of call) answer l.last after.screen t.rows (λ x. x.rows) l.rows sized.rows;
@@ -171,6 +172,7 @@ log_more {W} {C} went failures laws a m z to upto t partners calls i call before
       last_mode = mode_after (output_of call) answer l.last_mode after.painter.mode;
       settled = settled_same (output_of call) answer after.painter l.last l.last_mode d (scene_of after) there (settled l.last l.last_mode l.settled);
       counted = omega (arith, l.counted, length-append log (e ∷ []));
+      few = omega (arith, l.few, few, length-append l.bytes b);
       plays = λ more rest small h. (
           let whole : bytes ++ more ≡ l.bytes ++ (b ++ more) = append_assoc l.bytes b more in
           let size : length (bytes ++ more) ≡ length l.bytes + length b + length more = omega (arith, length-append bytes more, length-append l.bytes b) in
@@ -233,7 +235,7 @@ log_none went failures laws a to t partners calls stage log none begins empty =
     record {
       bytes = [];
       out = record { inner = laws.nothing a.now; counted = λ lt. omega (arith, none); same = refl };
-      fits = λ s f. (let P : Status → Type 0 = λ x. Fits t (on_paper stage.painter.paper) x stage.painter.session.belief s in
+      fits = λ s f. (let P : Status → Type 0 = λ x. Fits t (ink_at t partners stage.painter.shown) x stage.painter.session.belief s in
           record { after = s; runs = runs_nothing s (nothing_open t s f); there = subst P (sym status) f });
       sized = record {
         rows = ap (λ (x : Screen). x.rows) screen;
@@ -248,6 +250,7 @@ log_none went failures laws a to t partners calls stage log none begins empty =
       last_mode = (first t).mode;
       settled = λ k. absurd (fresh_known stage.painter.session.status status k);
       counted = empty;
+      few = omega arith;
       plays = λ more rest small h. (
           let P : Scene → Type 0 = λ x. Plays t partners more to (new_screen t.rows t.cols) (first t).mode x calls rest in
           let Q : ℕ → Type 0 = λ n. Plays t partners more n (new_screen t.rows t.cols) (first t).mode (first t) calls rest in
@@ -256,18 +259,18 @@ log_none went failures laws a to t partners calls stage log none begins empty =
     }
 
 pub log_whole : {W C : Type 0} (went : W → W → List ℕ → Type 0) (a z : MutBor W) (to : ℕ) (t : Table) (partners : ℕ → Option ℕ) (calls : List Call) (i : ℕ) (stage : Stage C) (log : List Entry)
-    → i ≡ length calls → Logged went a z to t partners calls i stage log → RanOn went a z t partners calls log
-log_whole went a z to t partners calls i stage log all l = record {
+    → i ≡ length calls → i < 2 ^ 64 → Logged went a z to t partners calls i stage log → RanOn went a z t partners calls log
+log_whole went a z to t partners calls i stage log all many l = record {
   ran = record {
     bytes = l.bytes;
     sent = l.out.inner;
     counted = l.counted ∙ all;
-    plays = λ small. (
+    plays = (
         let none : drop i calls ≡ [] = ap (λ (n : ℕ). drop n calls) all ∙ drop-length calls in
         let P : List Call → Type 0 = λ x. Plays t partners (l.bytes ++ []) to l.last l.last_mode (scene_of stage) x [] in
         let Q : List ℕ → Type 0 = λ x. Plays t partners x 0 (new_screen t.rows t.cols) (first t).mode (first t) calls (log ++ []) in
         let R : List Entry → Type 0 = λ x. Plays t partners l.bytes 0 (new_screen t.rows t.cols) (first t).mode (first t) calls x in
-        let few : length (l.bytes ++ []) < 2 ^ 128 = subst (λ (x : List ℕ). length x < 2 ^ 128) (sym (append-nil l.bytes)) small in
+        let few : length (l.bytes ++ []) < 2 ^ 128 = omega (arith, l.few, many, ap length (append-nil l.bytes)) in
         subst R (append-nil log) (subst Q (append-nil l.bytes) (l.plays [] [] few (subst P (sym none) tt))));
   };
   same = l.out.same;
@@ -286,7 +289,7 @@ log_call {W} {V} {C} went failures laws wire count a m z table partners given ca
     let G : C → Type 0 = λ y. IsStage (table y) after.desk after.screen in
     let K : C → Type 0 = λ y. Carries {W = V} (λ x z b. Counts went (wire x) (wire z) (count x) (count z) b) m z (table y) (partners y) (drawn (table y) (scene_of before) call).0.screen (output_of call) answer (poised (table y) before call) after.painter in
     let c : K given = subst K same carries in
-    log_more went failures laws a (wire m) (wire z) (count m) (count z) (table given) (partners given) calls i call before after log answer c.bytes l left (subst S same step) (subst G (kept ∙ same) sized) c.sent c.fits c.shows c.last c.bound c.quiet c.settled c.idle
+    log_more went failures laws a (wire m) (wire z) (count m) (count z) (table given) (partners given) calls i call before after log answer c.bytes l left (subst S same step) (subst G (kept ∙ same) sized) c.sent c.fits c.shows c.last c.bound c.quiet c.settled c.few c.idle
 
 pub next_call : (calls : List Call) (i : ℕ) (call : Call) → i < length calls → call ≡ get_or calls i call → drop i calls ≡ call ∷ drop (i + 1) calls
 next_call calls i call lt e =

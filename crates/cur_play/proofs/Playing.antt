@@ -4,7 +4,7 @@ use Rattle.cur_drawing.specs.declared.refusals.Refusal.{Refusal}
 use Rattle.cur_drawing.specs.declared.refusals.Refusal.TheVariants.{NoMemory}
 use Rattle.cur_windows.specs.Desks.{State}
 use Rattle.cur_windows.specs.VirtualScreen.{Screen, refreshed}
-use Rattle.cur_looks.specs.Certified.{Table}
+use Rattle.cur_looks.specs.Certified.{Table, IsChecked}
 use Rattle.cur_looks.specs.declared.beliefs.Mode.{Mode}
 use Rattle.cur_paint.specs.declared.updates.Status.{Status}
 use Rattle.cur_paint.specs.declared.updates.Status.TheVariants.{Fresh, Known, Lost}
@@ -138,12 +138,15 @@ pub puts_refused : {W C : Type 0} (went : W → W → List ℕ → Type 0) (fail
     → Puts went failures w w t partners (drawn t (scene_of p) call).0.screen (output_of call) a (poised t p call) q
 puts_refused {W} {C} went failures w t partners p call a q h k e =
     quiet_puts went failures w w t partners (drawn t (scene_of p) call).0.screen (output_of call) a (poised t p call) q h k
-    (record { wire = refl; session = ap (λ (y : Painted C). y.session) e; paper = ap (λ (y : Painted C). y.paper) e })
+    (record { wire = refl; session = ap (λ (y : Painted C). y.session) e; shown = ap (λ (y : Painted C). y.shown) e })
 
 pub stage_kept : {C : Type 0} (table : C → Table) (p q : Painted C) (d e : State) (v w : Screen) → IsStage (table p.checked) d v → SameSizes d v e w → q.checked ≡ p.checked → IsStage (table q.checked) e w
 stage_kept {C} table p q d e v w h k f =
     let P : C → Type 0 = λ y. IsStage (table y) e w in
     subst P (sym f) (record { rows = k.rows ∙ h.rows; cols = k.cols ∙ h.cols; desk_rows = k.desk_rows ∙ h.desk_rows; desk_cols = k.desk_cols ∙ h.desk_cols })
+
+pub checked_kept : {C : Type 0} (table : C → Table) (p q : Painted C) → IsChecked (table p.checked) → q.checked ≡ p.checked → IsChecked (table q.checked)
+checked_kept {C} table p q h f = let P : C → Type 0 = λ y. IsChecked (table y) in subst P (sym f) h
 
 -- the sizes after the sending
 screen_sizes : (t : Table) (o : Output) (v w : Screen) (status after : Status) (a : Answer) → Delivers t o v status a w after → (w.rows ≡ v.rows) × (w.cols ≡ v.cols)
@@ -174,16 +177,16 @@ pub record Played {W C : Type 0} (went : W → W → List ℕ → Type 0) (failu
   pub certificate : q.painter.checked ≡ p.painter.checked
 
 carried : {W C : Type 0} (went : W → W → List ℕ → Type 0) (failures : W → ℕ) → IsWire went failures → IsBound → (old new : W) (t : Table) (partners : ℕ → Option ℕ) (p : Stage C) (call : Call) (a : Answer) (r : Painted C)
-    → p.screen.rows ≡ t.rows → p.screen.cols ≡ t.cols
+    → IsChecked t → p.screen.rows ≡ t.rows → p.screen.cols ≡ t.cols
     → Puts went failures old new t partners (drawn t (scene_of p) call).0.screen (output_of call) a (poised t p call) r
     → Carries went old new t partners (drawn t (scene_of p) call).0.screen (output_of call) a (poised t p call) r
-carried went failures laws bound old new t partners p call a r rows cols h =
+carried went failures laws bound old new t partners p call a r checked rows cols h =
     let k = drawn_sizes t (scene_of p) call in
-    carries went failures laws bound old new t partners (drawn t (scene_of p) call).0.screen (output_of call) a (poised t p call) r (k.rows ∙ rows) (k.cols ∙ cols) h
+    carries went failures laws bound old new t partners (drawn t (scene_of p) call).0.screen (output_of call) a (poised t p call) r checked.size checked.small (k.rows ∙ rows) (k.cols ∙ cols) h
 
 pub played_done : {W C : Type 0} (went : W → W → List ℕ → Type 0) (failures : W → ℕ) → IsWire went failures → IsBound → (old new : W) (table : C → Table) (partners : C → ℕ → Option ℕ) (d : State) (v : Screen) (p : Painted C) (call : Call)
     (mid_desk : State) (mid_screen : Screen) (q : Painted C) (drawn_answer : Answer) (a : Answer) (o : Output) (w : Screen) (r : Painted C)
-    → v.rows ≡ (table p.checked).rows → v.cols ≡ (table p.checked).cols
+    → IsChecked (table p.checked) → v.rows ≡ (table p.checked).rows → v.cols ≡ (table p.checked).cols
     → drawn_answer ≡ Done
     → Draws (table p.checked) (scene_of (stage_of d v p)) call drawn_answer (record { desk = mid_desk; screen = mid_screen; mode = q.mode; status = p.session.status })
     → SameSizes d v mid_desk mid_screen → q ≡ record p { mode = q.mode } → o ≡ output_of call
@@ -191,7 +194,7 @@ pub played_done : {W C : Type 0} (went : W → W → List ℕ → Type 0) (failu
     → Puts went failures old new (table q.checked) (partners q.checked) mid_screen o a q r
     → r.checked ≡ q.checked → r.mode ≡ q.mode
     → Played went failures old new table partners (stage_of d v p) call a (stage_of mid_desk w r)
-played_done {W} {C} went failures laws bound old new table partners d v p call md mv q da a o w r rows cols done draws sizes poised_q out delivers puts checked mode =
+played_done {W} {C} went failures laws bound old new table partners d v p call md mv q da a o w r verified rows cols done draws sizes poised_q out delivers puts checked mode =
     let t = table p.checked in
     let st = stage_of d v p in
     let mid : Scene = record { desk = md; screen = mv; mode = q.mode; status = p.session.status } in
@@ -212,19 +215,19 @@ played_done {W} {C} went failures laws bound old new table partners d v p call m
     record {
       step = subst M (sym mode) step;
       puts = goes;
-      carries = carried went failures laws bound old new t (partners p.checked) st call a r rows cols goes;
+      carries = carried went failures laws bound old new t (partners p.checked) st call a r verified rows cols goes;
       sizes = record { desk_rows = sizes.desk_rows; desk_cols = sizes.desk_cols; rows = left.0 ∙ sizes.rows; cols = left.1 ∙ sizes.cols };
       certificate = checked ∙ same;
     }
 
 pub played_refused : {W C : Type 0} (went : W → W → List ℕ → Type 0) (failures : W → ℕ) → IsWire went failures → IsBound → (wire : W) (table : C → Table) (partners : C → ℕ → Option ℕ) (d : State) (v : Screen) (p : Painted C) (call : Call)
     (mid_desk : State) (mid_screen : Screen) (q : Painted C) (a : Answer)
-    → v.rows ≡ (table p.checked).rows → v.cols ≡ (table p.checked).cols
+    → IsChecked (table p.checked) → v.rows ≡ (table p.checked).rows → v.cols ≡ (table p.checked).cols
     → (a ≡ Done → ⊥)
     → Draws (table p.checked) (scene_of (stage_of d v p)) call a (record { desk = mid_desk; screen = mid_screen; mode = q.mode; status = p.session.status })
     → SameSizes d v mid_desk mid_screen → q ≡ record p { mode = q.mode }
     → Played went failures wire wire table partners (stage_of d v p) call a (stage_of mid_desk mid_screen q)
-played_refused {W} {C} went failures laws bound wire table partners d v p call md mv q a rows cols other draws sizes poised_q =
+played_refused {W} {C} went failures laws bound wire table partners d v p call md mv q a verified rows cols other draws sizes poised_q =
     let t = table p.checked in
     let st = stage_of d v p in
     let mid : Scene = record { desk = md; screen = mv; mode = q.mode; status = p.session.status } in
@@ -235,7 +238,7 @@ played_refused {W} {C} went failures laws bound wire table partners d v p call m
     record {
       step = subst M (sym status) (call_refused t (scene_of st) call a mid other draws);
       puts = goes;
-      carries = carried went failures laws bound wire wire t (partners p.checked) st call a q rows cols goes;
+      carries = carried went failures laws bound wire wire t (partners p.checked) st call a q verified rows cols goes;
       sizes = sizes;
       certificate = ap (λ (y : Painted C). y.checked) poised_q;
     }

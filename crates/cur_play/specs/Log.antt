@@ -1,5 +1,5 @@
 -- Playing a list of calls, any of which may be refused or cut short (X/Open Curses Issue 7, refresh, doupdate).
-use Rattle.std.specs.Prelude.{ℕ, ◌-◌, ◌^◌, ◌<◌, ◌≤◌, ◌≡◌, true, List, [], ◌∷◌, length, take, Option}
+use Rattle.std.specs.Prelude.{ℕ, ◌-◌, ◌≤◌, ◌≡◌, true, List, [], ◌∷◌, length, take, Option}
 use Rattle.vt_term.specs.Screen.{State}
 use Rattle.cur_windows.specs.VirtualScreen.{Screen, new_screen}
 use Rattle.cur_steps.specs.Leads.{Ends}
@@ -40,9 +40,9 @@ Plays t partners bytes past last last_mode before (call ∷ calls) (e ∷ log) =
     (after : Scene) × Tells t partners bytes past last last_mode before call e after
     × Plays t partners bytes e.sent (last_after (output_of call) e.answer last after.screen) (mode_after (output_of call) e.answer last_mode after.mode) after calls log
 
--- A run: what went out, and the log. The counts are those of the bytes, if these are fewer than 2^128.
+-- a run: what went out, and the log, whose counts are those of the bytes
 pub record Ran {W : Type 0} (went : W → W → List ℕ → Type 0) (old new : W) (t : Table) (partners : ℕ → Option ℕ) (calls : List Call) (log : List Entry) : Type 0 where
   pub bytes : List ℕ
   pub sent : went old new bytes
   pub counted : length log ≡ length calls
-  pub plays : length bytes < 2 ^ 128 → Plays t partners bytes 0 (new_screen t.rows t.cols) (first t).mode (first t) calls log
+  pub plays : Plays t partners bytes 0 (new_screen t.rows t.cols) (first t).mode (first t) calls log

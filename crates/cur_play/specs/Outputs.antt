@@ -6,7 +6,6 @@ use Rattle.cur_paint.specs.Update.{Refreshed, CutShort}
 use Rattle.cur_paint.specs.Beep.{Rang, RangShort}
 use Rattle.cur_paint.specs.Finish.{Finished, FinishedShort}
 use Rattle.cur_update.specs.Inks.{ink_at}
-use Rattle.cur_update.specs.Paper.{on_paper}
 use Rattle.cur_update.specs.Painters.{Painted, wanted_of}
 use Rattle.cur_calls.specs.declared.calls.Call.{Call}
 use Rattle.cur_play.specs.Scenes.{Stage, scene_of}
@@ -20,22 +19,22 @@ use Rattle.cur_play.specs.declared.sending.Output.TheVariants.{Update, Bell, End
 pub record IsQuiet {W C : Type 0} (old new : W) (before after : Painted C) : Type 0 where
   pub wire : new ≡ old
   pub session : after.session ≡ before.session
-  pub paper : after.paper ≡ before.paper
+  pub shown : after.shown ≡ before.shown
 
 -- what shows this virtual screen, which is then the one shown last
 pub record Showed {W C : Type 0} (went : W → W → List ℕ → Type 0) (old new : W) (t : Table) (partners : ℕ → Option ℕ) (v : Screen) (before after : Painted C) : Type 0 where
-  pub refreshed : Refreshed went old new t (on_paper before.paper) (ink_at t partners v) (wanted_of v before.mode) before.session after.session
-  pub paper : on_paper after.paper ≡ ink_at t partners v
+  pub refreshed : Refreshed went old new t (ink_at t partners before.shown) (ink_at t partners v) (wanted_of v before.mode) before.session after.session
+  pub shown : after.shown ≡ v
 
 -- only a front of that
 pub record ShowedShort {W C : Type 0} (went : W → W → List ℕ → Type 0) (failures : W → ℕ) (old new : W) (t : Table) (partners : ℕ → Option ℕ) (v : Screen) (before after : Painted C) : Type 0 where
-  pub cut : CutShort went failures old new t (on_paper before.paper) (ink_at t partners v) (wanted_of v before.mode) before.session after.session
-  pub paper : after.paper ≡ before.paper
+  pub cut : CutShort went failures old new t (ink_at t partners before.shown) (ink_at t partners v) (wanted_of v before.mode) before.session after.session
+  pub shown : after.shown ≡ before.shown
 
 -- the bell, and the end of the program's screen: beside what is sent nothing but what is known of the terminal has changed
 pub record Told {C : Type 0} (Sends : Type 0) (before after : Painted C) : Type 0 where
   pub sends : Sends
-  pub paper : after.paper ≡ before.paper
+  pub shown : after.shown ≡ before.shown
 
 -- by what is to be sent, and by the answer; v is the virtual screen as it was when the sending began
 abbrev pub Puts : {W C : Type 0} → (W → W → List ℕ → Type 0) → (W → ℕ) → W → W → Table → (ℕ → Option ℕ) → Screen → Output → Answer → Painted C → Painted C → Type 0

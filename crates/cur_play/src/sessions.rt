@@ -1,5 +1,6 @@
 //! A session: windows, the virtual screen, and a painter for the terminal.
 ghost use Rattle.std.specs.Prelude.{◌≡◌, IfOk};
+ghost use Rattle.cur_looks.specs.Certified.{IsChecked};
 ghost use Rattle.cur_play.specs.Carrying.{Carries};
 ghost use Rattle.cur_play.specs.Drawing.{SameSizes};
 ghost use Rattle.cur_play.specs.Outputs.{Puts, poised};
@@ -25,13 +26,14 @@ pub struct Session<'a, C: Certificate + Alternates> {
 }
 
 impl<'a, C: Certificate + Alternates> Model for Session<'a, C> {
+    ghost use Rattle.cur_looks.specs.Certified.{IsChecked};
     ghost use Rattle.cur_play.specs.Scenes.{Stage, IsStage};
 
     ghost Value = { Stage C };
 
     ghost view = { λ s. record { desk = s.desk; screen = s.screen; painter = s.painter } };
 
-    ghost invariant = { λ s. IsStage (C.table s.painter.checked) s.desk s.screen };
+    ghost invariant = { λ s. IsStage (C.table s.painter.checked) s.desk s.screen × IsChecked (C.table s.painter.checked) };
 }
 
 impl<'a, C: Certificate + Alternates> Session<'a, C> {
@@ -81,6 +83,7 @@ fn play<C: Certificate + Alternates, W: Wire>(
     call: &Call<'_>,
     wire: &mut W,
 ) -> Answer
+    requires checked { IsChecked (C.table painter.old.checked) }
     requires rows { (screen.old).rows ≡ (C.table painter.old.checked).rows }
     requires cols { (screen.old).cols ≡ (C.table painter.old.checked).cols }
     requires desk_rows { (desk.old).rows ≡ (C.table painter.old.checked).rows }

@@ -1,6 +1,6 @@
 -- The definitions of painters.
 pub mod Inks
-pub mod Paper
+pub mod Shift
 pub mod Painters
 pub mod Beep
 pub mod Differ

@@ -14,20 +14,19 @@ use Rattle.cur_looks.specs.declared.beliefs.Mode.{Mode}
 use Rattle.cur_looks.specs.declared.beliefs.Mode.TheVariants.{Hidden, Normal, Prominent}
 use Rattle.cur_paint.specs.declared.updates.Session.{Session}
 use Rattle.cur_paint.specs.declared.updates.Wanted.{Wanted}
-use Rattle.cur_update.specs.Paper.{Drawing}
 
 pub record Painted (C : Type 0) : Type 0 where
   pub checked : C
   -- the screen of the last refresh that was done
-  pub paper : Drawing
+  pub shown : Screen
   pub session : Session
   -- the mode that was set last, shown or not
   pub mode : Mode
 
--- the paper has the terminal's size, and a hidden cursor can be shown again
-pub record IsPainter (t : Table) (d : Drawing) (m : Mode) : Type 0 where
-  pub rows : d.rows ≡ t.rows
-  pub cols : d.cols ≡ t.cols
+-- the screen has the terminal's size, and a hidden cursor can be shown again
+pub record IsPainter (t : Table) (v : Screen) (m : Mode) : Type 0 where
+  pub rows : v.rows ≡ t.rows
+  pub cols : v.cols ≡ t.cols
   pub mode : CanHide t m
 
 abbrev pub place_of : Option ScreenPlace → Option Place

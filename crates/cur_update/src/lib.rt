@@ -3,10 +3,10 @@
 
 mod alternates;
 mod bells;
+mod changes;
 mod inks;
 mod laws;
 mod painters;
-mod papers;
 mod screens;
 
 pub use alternates::Alternates;

@@ -4,20 +4,20 @@ ghost use Rattle.cur_looks.specs.declared.beliefs.Mode.TheVariants.{Normal};
 ghost use Rattle.cur_paint.specs.declared.updates.Status.TheVariants.{Fresh};
 ghost use Rattle.cur_paint.specs.Finish.{Finishes};
 ghost use Rattle.cur_paint.specs.Update.{Refreshes};
+ghost use Rattle.cur_windows.specs.VirtualScreen.{new_screen};
 ghost use Rattle.cur_update.specs.Inks.{ink_at};
-ghost use Rattle.cur_update.specs.Paper.{blank_drawing, on_paper};
 ghost use Rattle.cur_update.specs.Painters.{IsPainter, mode_number, mode_of, set_mode, wanted_of};
 ghost use Rattle.cur_update.specs.Beep.{Rings};
 
 use crate::alternates::Alternates;
 use crate::bells::{Unsent, ring};
+use crate::changes::{Shift, same_pairs};
 use crate::inks::has_line;
-use crate::papers::Paper;
 use crate::screens::{PrintedScreen, all_cells};
 use cur_drawing::{Refusal, place_below};
 use cur_looks::{Certificate, Mode, Place, Row};
 use cur_paint::{Session, Wanted};
-use cur_windows::Virtual;
+use cur_windows::{Size, Virtual};
 use cur_wires::{Wire, WireFault};
 use std::alloc::{AllocError, Global};
 use std::marker::Model;
@@ -26,7 +26,7 @@ use std::marker::Model;
 #[derive(Drop)]
 pub struct Painter<'a, C: Certificate + Alternates> {
     checked: &'a C,
-    paper: Paper,
+    shown: Virtual,
     session: Session,
     mode: Mode,
 }
@@ -36,9 +36,9 @@ impl<'a, C: Certificate + Alternates> Model for Painter<'a, C> {
 
     ghost Value = { Painted C };
 
-    ghost view = { λ p. record { checked = p.checked.now; paper = p.paper; session = p.session; mode = p.mode } };
+    ghost view = { λ p. record { checked = p.checked.now; shown = p.shown; session = p.session; mode = p.mode } };
 
-    ghost invariant = { λ p. IsPainter (C.table p.checked.now) p.paper p.mode };
+    ghost invariant = { λ p. IsPainter (C.table p.checked.now) p.shown p.mode };
 }
 
 impl<'a, C: Certificate + Alternates> Painter<'a, C> {
@@ -47,34 +47,35 @@ impl<'a, C: Certificate + Alternates> Painter<'a, C> {
     pub fn start(alloc: Global, checked: &'a C) -> Result<Painter<'a, C>, AllocError>
         ensures certificate { IfOk result (λ p. p.checked ≡ checked.now) }
         ensures fresh { IfOk result (λ p. p.session.status ≡ Fresh) }
-        ensures paper { IfOk result (λ p. p.paper ≡ blank_drawing ((C.table checked.now).rows) ((C.table checked.now).cols)) }
+        ensures shown { IfOk result (λ p. p.shown ≡ new_screen ((C.table checked.now).rows) ((C.table checked.now).cols)) }
         ensures mode { IfOk result (λ p. p.mode ≡ Normal) }
     {
-        let paper = Paper::blank(alloc, checked.rows(), checked.cols())?;
+        let size = Size::new(checked.rows(), checked.cols()).unwrap();
+        let shown = Virtual::new(alloc, size)?;
         Ok(Painter {
             checked,
-            paper,
+            shown,
             session: Session::new(),
             mode: Mode::Normal,
         })
     }
 
     /// Makes the terminal show the virtual screen, which is of the terminal's size, and then has a copy of
-    /// it. On `WireFault` a front of lawful bytes went out, and the session is lost.
+    /// it. Only lines that aren't as in the copy are looked at, if no pair's colours changed. On `WireFault` a front of lawful bytes went out, and the session is lost.
     pub fn update<W: Wire>(&mut self, screen: &Virtual, wire: &mut W) -> Result<(), WireFault>
         requires rows { (screen.now).rows ≡ (C.table self.old.checked).rows }
         requires cols { (screen.now).cols ≡ (C.table self.old.checked).cols }
-        ensures refreshes { Refreshes W.went W.failures wire.old wire.new result (C.table self.old.checked) (on_paper self.old.paper)
+        ensures refreshes { Refreshes W.went W.failures wire.old wire.new result (C.table self.old.checked) (ink_at (C.table self.old.checked) (C.partners self.old.checked) self.old.shown)
             (ink_at (C.table self.old.checked) (C.partners self.old.checked) screen.now) (wanted_of screen.now self.old.mode) self.old.session self.new.session }
-        ensures shown { OnOk result (on_paper self.new.paper ≡ ink_at (C.table self.old.checked) (C.partners self.old.checked) screen.now) }
-        ensures kept { OnErr result (self.new.paper ≡ self.old.paper) }
+        ensures shown { OnOk result (self.new.shown ≡ screen.now) }
+        ensures kept { OnErr result (self.new.shown ≡ self.old.shown) }
         ensures certificate { self.new.checked ≡ self.old.checked }
         ensures mode { self.new.mode ≡ self.old.mode }
     {
         let wanted = wanted_of(screen, self.mode);
         refresh(
             self.checked,
-            &mut self.paper,
+            &mut self.shown,
             &mut self.session,
             wire,
             screen,
@@ -140,10 +141,10 @@ fn wanted_of(screen: &Virtual, mode: Mode) -> Wanted
     }
 }
 
-/// What goes out in a refresh; the paper then has a copy of the screen.
+/// What goes out in a refresh; the first screen then is a copy of the other.
 fn refresh<C: Certificate + Alternates, W: Wire>(
     checked: &C,
-    paper: &mut Paper,
+    shown: &mut Virtual,
     session: &mut Session,
     wire: &mut W,
     screen: &Virtual,
@@ -151,21 +152,30 @@ fn refresh<C: Certificate + Alternates, W: Wire>(
 ) -> Result<(), WireFault>
     requires rows { (screen.now).rows ≡ (C.table checked.now).rows }
     requires cols { (screen.now).cols ≡ (C.table checked.now).cols }
-    requires paper { IsPainter (C.table checked.now) paper.old wanted.mode }
+    requires shown { IsPainter (C.table checked.now) shown.old wanted.mode }
     requires wanted { wanted ≡ wanted_of screen.now wanted.mode }
-    ensures refreshes { Refreshes W.went W.failures wire.old wire.new result (C.table checked.now) (on_paper paper.old)
+    ensures refreshes { Refreshes W.went W.failures wire.old wire.new result (C.table checked.now) (ink_at (C.table checked.now) (C.partners checked.now) shown.old)
         (ink_at (C.table checked.now) (C.partners checked.now) screen.now) wanted session.old session.new }
-    ensures shown { OnOk result (on_paper paper.new ≡ ink_at (C.table checked.now) (C.partners checked.now) screen.now) }
-    ensures kept { OnErr result (paper.new ≡ paper.old) }
-    ensures rows { paper.new.rows ≡ paper.old.rows }
-    ensures cols { paper.new.cols ≡ paper.old.cols }
+    ensures shown { OnOk result (shown.new ≡ screen.now) }
+    ensures kept { OnErr result (shown.new ≡ shown.old) }
 {
     let _ = checked.rows();
     all_cells(screen);
     let _ = screen.row(0);
-    let printed = PrintedScreen { screen, checked };
-    cur_paint::update(checked, session, wire, paper, &printed, wanted)?;
-    paper.copy(&printed);
+    let same_pairs = same_pairs(shown, screen);
+    let shift = Shift {
+        shown: &*shown,
+        screen,
+        checked,
+        same_pairs,
+    };
+    let old = PrintedScreen {
+        screen: &*shown,
+        checked,
+    };
+    let new = PrintedScreen { screen, checked };
+    cur_paint::update(checked, session, wire, &old, &new, &shift, wanted)?;
+    shown.copy_from(screen);
     Ok(())
 }
 

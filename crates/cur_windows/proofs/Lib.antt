@@ -8,5 +8,6 @@ pub mod Places
 pub mod Ranks
 pub mod Sharing
 pub mod Showing
+pub mod Taking
 pub mod Viewing
 pub mod Within

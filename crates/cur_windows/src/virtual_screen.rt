@@ -134,6 +134,25 @@ impl Virtual {
         (colors.foreground, colors.background)
     }
 
+    /// Becomes what another virtual screen of its size is. Takes no memory.
+    pub fn copy_from(&mut self, other: &Virtual)
+        requires rows { (self.old).rows ≡ (other.now).rows }
+        requires cols { (self.old).cols ≡ (other.now).cols }
+        ensures { self.new ≡ other.now }
+    {
+        let area = Area {
+            top: 0,
+            left: 0,
+            rows: self.rows,
+            cols: self.cols,
+        };
+        self.grid
+            .copy_from(area, &other.grid, Place { row: 0, col: 0 });
+        self.pairs.copy_from_slice(&other.pairs);
+        self.cursor = other.cursor;
+        self.clearok = other.clearok;
+    }
+
     // A rectangle gets the cells of a grid from a place on.
     pub(crate) fn show(
         &mut self,

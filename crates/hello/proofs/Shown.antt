@@ -13,7 +13,6 @@ use Rattle.cur_paint.specs.declared.updates.Status.{Status}
 use Rattle.cur_paint.specs.declared.updates.Status.TheVariants.{Fresh}
 use Rattle.cur_update.specs.Inks.{ink_at}
 use Rattle.cur_update.specs.Painters.{Painted, wanted_of}
-use Rattle.cur_update.specs.Paper.{on_paper}
 use Rattle.hello.specs.Greeting.{IsGreeting}
 use Rattle.hello.specs.Showing.{Greets}
 
@@ -25,17 +24,17 @@ sized rows cols t v e f h = subst (λ (n : ℕ). IsGreeting t.rows n v) f (subst
 
 pub greets : {W C : Type 0} (went : W → W → List ℕ → Type 0) (old new : W) (table : C → Table) (partners : C → ℕ → Option ℕ) (checked : C) (p : Painted C) (after : Session) (rows cols : ℕ) (v : Screen)
     → p.checked ≡ checked → p.session.status ≡ Fresh → p.mode ≡ Normal → rows ≡ (table checked).rows → cols ≡ (table checked).cols → IsGreeting rows cols v
-    → Refreshed went old new (table p.checked) (on_paper p.paper) (ink_at (table p.checked) (partners p.checked) v) (wanted_of v p.mode) p.session after
+    → Refreshed went old new (table p.checked) (ink_at (table p.checked) (partners p.checked) p.shown) (ink_at (table p.checked) (partners p.checked) v) (wanted_of v p.mode) p.session after
     → Greets went old new (table checked) (partners checked)
 greets {W} {C} went old new table partners checked p after rows cols v same fresh normal rows_same cols_same greeting refreshed =
-    let of_checked : Refreshed went old new (table checked) (on_paper p.paper) (ink_at (table checked) (partners checked) v) (wanted_of v p.mode) p.session after
-    = subst (λ (k : C). Refreshed went old new (table k) (on_paper p.paper) (ink_at (table k) (partners k) v) (wanted_of v p.mode) p.session after) same refreshed in
-    let done : Refreshed went old new (table checked) (on_paper p.paper) (ink_at (table checked) (partners checked) v) (wanted_of v Normal) p.session after
-    = subst (λ (m : Mode). Refreshed went old new (table checked) (on_paper p.paper) (ink_at (table checked) (partners checked) v) (wanted_of v m) p.session after) normal of_checked in
+    let of_checked : Refreshed went old new (table checked) (ink_at (table checked) (partners checked) p.shown) (ink_at (table checked) (partners checked) v) (wanted_of v p.mode) p.session after
+    = subst (λ (k : C). Refreshed went old new (table k) (ink_at (table k) (partners k) p.shown) (ink_at (table k) (partners k) v) (wanted_of v p.mode) p.session after) same refreshed in
+    let done : Refreshed went old new (table checked) (ink_at (table checked) (partners checked) p.shown) (ink_at (table checked) (partners checked) v) (wanted_of v Normal) p.session after
+    = subst (λ (m : Mode). Refreshed went old new (table checked) (ink_at (table checked) (partners checked) p.shown) (ink_at (table checked) (partners checked) v) (wanted_of v m) p.session after) normal of_checked in
     record {
       screen = v;
       greeting = sized rows cols (table checked) v rows_same cols_same greeting;
       bytes = done.bytes;
       sent = done.sent;
-      shows = λ s first. done.lawful.shows s (fresh_fits (table checked) (on_paper p.paper) p.session.status p.session.belief s fresh first);
+      shows = λ s first. done.lawful.shows s (fresh_fits (table checked) (ink_at (table checked) (partners checked) p.shown) p.session.status p.session.belief s fresh first);
     }

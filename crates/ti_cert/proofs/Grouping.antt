@@ -159,7 +159,7 @@ adds_to old rows cols groups row bytes n g is place many = subst (λ (s : String
     (λ fits ranked made. subst (λ (k : ℕ). Adds (record { rows = rows; cols = cols; groups = groups }) (record { rows = rows; cols = cols; groups = slice_set groups k g }) row bytes) (sym place)
     (adds rows cols groups row bytes g many fits ranked (made ∙ ap (λ (k : ℕ). slice_index_or groups k [] ++ bytes ∷ []) place)))
 
-first_string : (g : List (List ℕ)) → not (length g == 0) ≡ true → (x : List ℕ) × (slice_get g 0 ≡ Some x)
+pub first_string : (g : List (List ℕ)) → not (length g == 0) ≡ true → (x : List ℕ) × (slice_get g 0 ≡ Some x)
 first_string [] h = absurd (true≢false (sym h))
 first_string (x ∷ xs) h = (x, refl)
 

@@ -1,4 +1,5 @@
 pub mod Ranges
+pub mod Pieces
 pub mod Grouping
 pub mod Singling
 pub mod Keeping
@@ -11,3 +12,10 @@ pub mod Relating
 pub mod Singleness
 pub mod Spelling
 pub mod Accepted
+pub mod BasicOrder
+pub mod BasicLines
+pub mod BasicTogether
+pub mod BasicTexts
+pub mod BasicAgreeing
+pub mod BasicAlone
+pub mod Disagreeing

@@ -1,14 +1,14 @@
 -- What the test of a line's place tells of the lines before it.
-use Rattle.std.proofs.Common.{◌≡◌, ◌⊎◌, ◌<◌, ◌≤◌, ◌+◌, ◌-◌, ◌*◌, ◌==◌, nat_lt, nat_le, ℕ, Bool, true, false, if◌then◌else◌, List, Option, Some, None, inl, inr, refl, sym, ap, subst, ◌∙◌, arith}
+use Rattle.std.proofs.Common.{◌≡◌, ◌⊎◌, ◌<◌, ◌≤◌, ◌+◌, nat_lt, nat_le, ℕ, Bool, true, false, if◌then◌else◌, List, Option, Some, None, inl, inr, refl, sym, ap, subst, ◌∙◌, arith}
 use Rattle.std.proofs.lemmas.Bool.{ltb-true, ltb-false, leb-true, leb-false, cases_lt, cases_order, and_parts, and_cases}
 use Rattle.std.proofs.lemmas.Option.{same_Some, none-some}
 use Rattle.vt_term.specs.Size.{IsSize}
 use Rattle.ti_rows.specs.declared.rows.Row.{Row}
-use Rattle.ti_rows.specs.declared.rows.Row.TheVariants.{Cup, Hpa, Vpa, Cub, Cuf, Cuu, Cud, Ech, Sgr, Setaf, Setab, Csr}
 use Rattle.ti_rows.specs.Names.{order, first_in_order, HasFirst}
-use Rattle.ti_rows.specs.Lists.{IsInRange, above, next, rank, count, IsFirst, Follows}
+use Rattle.ti_rows.specs.Lists.{IsInRange, next, rank, count, IsFirst, Follows}
 use Rattle.ti_rows.proofs.Naming.{firsts_in_order, orders_small}
 use Rattle.ti_rows.proofs.Listing.{firsts_in_range, next_follows, ranks_below, last_is_last, one_of_rank}
+use Rattle.ti_sends.proofs.Walking.{same_count}
 use Rattle.ti_lines.specs.declared.lines.RowLine.{RowLine}
 use Rattle.ti_cert.specs.Strings.{allows}
 use Rattle.ti_cert.specs.Order.{Precedes, HasLine, HasCap, IsRequired, IsLacking, IsFirstLacking, IsComplete}
@@ -76,42 +76,6 @@ none_beyond rows cols lines last row l h c = by_upper (l.upper c.line c.among)
     by_upper : (c.line.row ≡ last) ⊎ Precedes rows cols c.line.row last → ⊥
     by_upper (inl e) = let o : order c.line.row ≡ order last = ap order e in let s : order c.line.row ≡ order row = c.of_cap in omega (arith, h, o, s)
     by_upper (inr p) = let s : order c.line.row ≡ order row = c.of_cap in not_before rows cols c.line.row last (omega (arith, h, s)) p
-
--- how many lists the capability at a place has
-count_at : ℕ → ℕ → ℕ → ℕ
-count_at rows cols n =
-    if n == 14 then rows * cols else
-    (if n == 25 then cols else
-    (if n == 41 then rows else
-    (if n == 8 then cols - 1 else
-    (if n == 12 then cols - 1 else
-    (if n == 15 then rows - 1 else
-    (if n == 10 then rows - 1 else
-    (if n == 19 then cols else
-    (if n == 35 then 128 else
-    (if n == 34 then 8 else
-    (if n == 33 then 8 else
-    (if n == 7 then above rows (rows - 1) else
-    1)))))))))))
-
-counted : (rows cols : ℕ) (row : Row) → count rows cols row ≡ count_at rows cols (order row)
-unfolding count_at
-counted rows cols (Cup row col) = refl
-counted rows cols (Hpa col) = refl
-counted rows cols (Vpa row) = refl
-counted rows cols (Cub n) = refl
-counted rows cols (Cuf n) = refl
-counted rows cols (Cuu n) = refl
-counted rows cols (Cud n) = refl
-counted rows cols (Ech n) = refl
-counted rows cols (Sgr a) = refl
-counted rows cols (Setaf c) = refl
-counted rows cols (Setab c) = refl
-counted rows cols (Csr top bottom) = refl
-counted rows cols _ = refl
-
-same_count : (rows cols : ℕ) (row other : Row) → order row ≡ order other → count rows cols row ≡ count rows cols other
-same_count rows cols row other e = counted rows cols row ∙ (ap (count_at rows cols) e ∙ sym (counted rows cols other))
 
 -- no list follows the last of a capability
 pub none_after : (rows cols : ℕ) (last row : Row) → IsSize rows cols → IsInRange rows cols last → next rows cols last ≡ None → IsInRange rows cols row → order row ≡ order last → rank rows cols last < rank rows cols row → ⊥

@@ -146,14 +146,14 @@ text_refused p q rows cols text Failed fault s (inl (inr e)) = inr (inl e)
 text_refused p q rows cols text Failed fault s (inr e) = inr (inr e)
 
 -- a slice never fails
+pub not_rose : Rose 0 0 → ⊥
+not_rose (inl h) = omega (arith, h)
+not_rose (inr h) = let z = h.0 in omega (arith, z)
+
 pub never_failed : (rows cols : ℕ) (text : List ℕ) (fault : CertFault) → IsRefused rows cols text (Rose 0 0) fault → IsRefused rows cols text ⊥ fault
 never_failed rows cols text fault (inl h) = inl h
 never_failed rows cols text fault (inr (inl e)) = inr (inl e)
 never_failed rows cols text fault (inr (inr e)) = absurd (not_rose e.1)
-  where
-    not_rose : Rose 0 0 → ⊥
-    not_rose (inl h) = omega (arith, h)
-    not_rose (inr h) = let z = h.0 in omega (arith, z)
 
 pub never_failed_there : (rows cols : ℕ) (text : List ℕ) (fault : VerifyFault) → IsCertRefused rows cols text (Rose 0 0) fault → IsCertRefused rows cols text ⊥ fault
 never_failed_there rows cols text (Cert fault) h = never_failed rows cols text fault h
@@ -269,13 +269,9 @@ pub takes_nothing : {R : Type 0} (left : R → List ℕ → Type 0) (failures : 
 takes_nothing left failures reader P f = record { given = []; gave = gave_nothing left failures reader; few = omega arith; reading = f (length (cut_of []).lines + 1) }
 
 -- nothing failed while a table was made
-pub taken : {R : Type 0} (p q : Progress) (rows cols : ℕ) (left : R → List ℕ → Type 0) (failures : R → ℕ) (reader after : R) (result : Result Content CertFault) → Starts rows cols p
-    → Reports progress_rules limit p q left failures reader after (read) → IfErr result (λ fault. ⊥) → Takes left failures reader after (λ n. IfErr result (IsLineRead n))
-taken p q rows cols left failures reader after result s r never = takes_by left failures reader after (LineFails (read)) (λ n. IfErr result (IsLineRead n)) (λ n t. by_result n result never) (takes p q rows cols left failures reader after (read) s r)
-  where
-    by_result : (n : ℕ) (x : Result Content CertFault) → IfErr x (λ fault. ⊥) → IfErr x (IsLineRead n)
-    by_result n (Ok t) h = tt
-    by_result n (Err f) h = absurd h
+pub taken : {R : Type 0} (p q : Progress) (rows cols : ℕ) (left : R → List ℕ → Type 0) (failures : R → ℕ) (reader after : R) (table : Content) → Starts rows cols p
+    → Reports progress_rules limit p q left failures reader after (read) → Takes left failures reader after (λ n. IfErr (Ok table) (IsLineRead n))
+taken p q rows cols left failures reader after table s r = takes_by left failures reader after (LineFails (read)) (λ n. IfErr (Ok table) (IsLineRead n)) (λ n t. tt) (takes p q rows cols left failures reader after (read) s r)
 
 pub failed_at : {R : Type 0} (p q : Progress) (rows cols : ℕ) (left : R → List ℕ → Type 0) (failures : R → ℕ) (reader after : R) (fault : LineFault CertFaultKind) → Starts rows cols p
     → Reports {X = Unit {0}} progress_rules limit p q left failures reader after (Err fault) → Takes left failures reader after (λ n. IsLineRead n (record { line = fault.line; kind = fault.kind }))

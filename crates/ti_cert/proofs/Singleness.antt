@@ -50,11 +50,11 @@ equal_to If x a b p q = p.1 ∙ sym q.1
 
 -- the order of lines
 
-never_itself : (rows cols : ℕ) (a : Row) → Precedes rows cols a a → ⊥
+pub never_itself : (rows cols : ℕ) (a : Row) → Precedes rows cols a a → ⊥
 never_itself rows cols a (inl h) = omega (arith, h)
 never_itself rows cols a (inr h) = let k = h.1 in omega (arith, k)
 
-never_back : (rows cols : ℕ) (a b : Row) → Precedes rows cols a b → Precedes rows cols b a → ⊥
+pub never_back : (rows cols : ℕ) (a b : Row) → Precedes rows cols a b → Precedes rows cols b a → ⊥
 never_back rows cols a b (inl h) (inl k) = omega (arith, h, k)
 never_back rows cols a b (inl h) (inr k) = let o = k.0 in omega (arith, h, o)
 never_back rows cols a b (inr h) (inl k) = let o = h.0 in omega (arith, o, k)

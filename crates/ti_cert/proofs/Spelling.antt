@@ -17,10 +17,10 @@ use Rattle.ti_reader.specs.Text.{IsText, cut_of}
 use Rattle.ti_reader.proofs.Texts.{text_is}
 use Rattle.ti_reader.specs.Judging.{Passes, Fails, TooLong, JudgedLine, JudgedLines, JudgedFrom, Judged}
 use Rattle.ti_reader.specs.declared.judging.LineFault.{LineFault}
-use Rattle.ti_cert.specs.Order.{IsComplete, IsInPlace}
+use Rattle.ti_cert.specs.Order.{IsComplete}
 use Rattle.ti_cert.specs.Certificates.{Said, Nothing, Sized, Listing, Ended, JudgesRow, NotAllowed, TooLate, TooEarly, Cut, Wild, Untrue, Unasked, Stands, JudgesLast, Lacks, Clashes, Closes, JudgesLater, IsLast, IsRow, IsMisplaced, IsNone, JudgesSecond, HasPairs, HasNoPairs, JudgesFirst, HasSize, HasNoSize, JudgesLine, rules_of, limit, IsAnswer}
 use Rattle.ti_cert.specs.Good.{all_bytes}
-use Rattle.ti_cert.specs.Texts.{StandInOrder, IsCertificate, IsThatOfCertificate}
+use Rattle.ti_cert.specs.Texts.{StandsNext, StandInOrder, IsCertificate, IsThatOfCertificate}
 use Rattle.ti_cert.specs.declared.faults.CertFaultKind.{CertFaultKind}
 
 abbrev Answer : Type 0
@@ -37,7 +37,7 @@ same_said s t a e f = cc
 never_fails : (s : Said) (e : LineFault CertFaultKind) → (a : Answer) → a ≡ Ok s → a ≡ Err e → ⊥
 never_fails s e a f g = cc
 
-row_passes : (rows cols : ℕ) (lines : List RowLine) (line : RowLine) (after u : Said) → JudgesRow rows cols lines line after (Ok u) → IsInPlace rows cols lines line.row × (u ≡ after)
+row_passes : (rows cols : ℕ) (lines : List RowLine) (line : RowLine) (after u : Said) → JudgesRow rows cols lines line after (Ok u) → StandsNext rows cols lines line × (u ≡ after)
 row_passes rows cols lines line after u (NotAllowed never e) = absurd (never_errs u _ (Ok u) refl e)
 row_passes rows cols lines line after u (TooLate range late e) = absurd (never_errs u _ (Ok u) refl e)
 row_passes rows cols lines line after u (TooEarly range behind row first e) = absurd (never_errs u _ (Ok u) refl e)
@@ -45,7 +45,7 @@ row_passes rows cols lines line after u (Cut place never e) = absurd (never_errs
 row_passes rows cols lines line after u (Wild place none e) = absurd (never_errs u _ (Ok u) refl e)
 row_passes rows cols lines line after u (Untrue place effect has never e) = absurd (never_errs u _ (Ok u) refl e)
 row_passes rows cols lines line after u (Unasked place has never kind misfit e) = absurd (never_errs u _ (Ok u) refl e)
-row_passes rows cols lines line after u (Stands place has asked e) = (place, same_said u after (Ok u) refl e)
+row_passes rows cols lines line after u (Stands place has asked e) = (record { place = place; has = has; asked = asked }, same_said u after (Ok u) refl e)
 
 last_passes : (rows cols : ℕ) (pairs : Option (List ℕ)) (lines : List RowLine) (u : Said) → JudgesLast rows cols pairs lines (Ok u) → IsComplete rows cols lines None × (u ≡ Ended pairs lines)
 last_passes rows cols pairs lines u (Lacks row first e) = absurd (never_errs u _ (Ok u) refl e)
@@ -61,14 +61,14 @@ record Ends (rows cols : ℕ) (pairs : Option (List ℕ)) (lines : List RowLine)
 record Goes (rows cols : ℕ) (pairs : Option (List ℕ)) (lines : List RowLine) (text : List ℕ) (u : Said) : Type 0 where
   line : RowLine
   text_is : IsTextOf text line
-  place : IsInPlace rows cols lines line.row
+  stands : StandsNext rows cols lines line
   after : u ≡ Listing pairs (line ∷ lines)
 
 later_passes : (rows cols : ℕ) (pairs : Option (List ℕ)) (lines : List RowLine) (text : List ℕ) (u : Said) → JudgesLater rows cols pairs lines text (Ok u) → Ends rows cols pairs lines text u ⊎ Goes rows cols pairs lines text u
 later_passes rows cols pairs lines text u (IsLast end p) =
     let l = last_passes rows cols pairs lines u p in inl (record { text_is = sym ((bytes_eq-Decides text end_text).0 end); complete = l.0; after = l.1 })
 later_passes rows cols pairs lines text u (IsRow off line is p) =
-    let l = row_passes rows cols lines line (Listing pairs (line ∷ lines)) u p in inr (record { line = line; text_is = is; place = l.0; after = l.1 })
+    let l = row_passes rows cols lines line (Listing pairs (line ∷ lines)) u p in inr (record { line = line; text_is = is; stands = l.0; after = l.1 })
 later_passes rows cols pairs lines text u (IsMisplaced off never bytes is e) = absurd (never_errs u _ (Ok u) refl e)
 later_passes rows cols pairs lines text u (IsNone off never none e) = absurd (never_errs u _ (Ok u) refl e)
 
@@ -130,7 +130,7 @@ nothing_after rows cols budget number own before (line ∷ texts) last pairs fin
     let h = has_passed rows cols budget number (Ended own before) (Ended pairs final) line (λ u. JudgedLines (rules_of rows cols) (budget - (length line + 1)) (number + 1) u texts last (Ok (Ended pairs final))) p in
     absurd (never_errs h.after _ (Ok h.after) refl h.is)
 
-turned : (line : RowLine) (lines before : List RowLine) → reverse (line ∷ lines) ++ before ≡ reverse lines ++ (line ∷ before)
+pub turned : (line : RowLine) (lines before : List RowLine) → reverse (line ∷ lines) ++ before ≡ reverse lines ++ (line ∷ before)
 turned line lines before = ap (λ (x : List RowLine). x ++ before) (reverse_onto lines line []) ∙ append_assoc (reverse lines) (line ∷ []) before
 
 -- one more line, and what is left after it
@@ -162,7 +162,7 @@ rest_with rows cols budget number own before text texts last pairs final h later
       pairs_are = r.pairs_are;
       final_is = r.final_is ∙ sym (turned g.line r.lines before);
       each = (g.text_is.line_is, r.each);
-      stand = (g.place, r.stand);
+      stand = (g.stands, r.stand);
       few = length_ended text texts budget h.small r.few;
       counted = let c = r.counted in let l = ended_length text texts in let b = bytes_within text g.line g.text_is in omega (arith, c, l, b);
     }

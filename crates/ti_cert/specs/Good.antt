@@ -111,6 +111,10 @@ pub record IsWholeRead (p : Progress) : Type 0 where
   pub lines : List RowLine
   pub tells : TellsNow p (Ended pairs lines)
 
+abbrev pub settled_of : Awaited → Option Charsets
+settled_of (lines_awaited.Ended settled) = Some settled
+settled_of _ = None
+
 pub record IsTableMade (p : Progress) (table : Content) : Type 0 where
   pub known : table.known ≡ p.known
   pub acsc : table.acsc ≡ p.acsc

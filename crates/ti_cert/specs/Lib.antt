@@ -1,3 +1,4 @@
+pub mod Groups
 pub mod Strings
 pub mod Singles
 pub mod Audit
@@ -9,3 +10,6 @@ pub mod Texts
 pub mod Places
 pub mod Good
 pub mod Verified
+pub mod Basic
+pub mod Unfit
+pub mod Disagreeing

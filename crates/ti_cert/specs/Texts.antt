@@ -11,7 +11,7 @@ use Rattle.ti_reader.specs.declared.judging.LineFault.{LineFault}
 use Rattle.ti_cert.specs.Strings.{string_in}
 use Rattle.ti_cert.specs.Table.{Content}
 use Rattle.ti_cert.specs.Order.{HasBytes, IsComplete, IsInPlace}
-use Rattle.ti_cert.specs.Certificates.{Said, Ended, IsAnswer, limit}
+use Rattle.ti_cert.specs.Certificates.{Said, Ended, HasEffect, IsAskedFor, IsAnswer, limit}
 use Rattle.ti_cert.specs.declared.faults.CertFault.{CertFault}
 use Rattle.ti_cert.specs.declared.faults.CertFaultKind.{CertFaultKind}
 use Rattle.ti_cert.specs.declared.faults.CertFaultKind.TheVariants.{NoMemory, ReadFailed}
@@ -68,11 +68,17 @@ NoOther = (rows cols : ℕ) (text : List ℕ) (table : Content) (fault : CertFau
 abbrev pub OneFault : Type 0
 OneFault = (rows cols : ℕ) (text : List ℕ) (one other : CertFault) → IsRefused rows cols text ⊥ one → IsRefused rows cols text ⊥ other → (one ≡ other) ⊎ ((one.kind ≡ NoMemory) ⊎ (other.kind ≡ NoMemory))
 
--- These lines about capabilities, each in its place after those before it, which are listed with the latest first; after the last of
--- them nothing is missing.
+-- a line after those before it: in its place, and its bytes have its effect, which is the one that is asked for
+pub record StandsNext (rows cols : ℕ) (before : List RowLine) (line : RowLine) : Type 0 where
+  pub place : IsInPlace rows cols before line.row
+  pub has : HasEffect rows cols line line.effect
+  pub asked : IsAskedFor before line
+
+-- These lines about capabilities, each after those before it, which are listed with the latest first; after the last of them nothing is
+-- missing.
 abbrev pub StandInOrder : ℕ → ℕ → List RowLine → List RowLine → Type 0
 StandInOrder rows cols before [] = IsComplete rows cols before None
-StandInOrder rows cols before (line ∷ lines) = IsInPlace rows cols before line.row × StandInOrder rows cols (line ∷ before) lines
+StandInOrder rows cols before (line ∷ lines) = StandsNext rows cols before line × StandInOrder rows cols (line ∷ before) lines
 
 -- the text of a certificate for this size, with these pairs and lines
 pub record IsCertificate (rows cols : ℕ) (text : List ℕ) (pairs : Option (List ℕ)) (lines : List RowLine) : Type 0 where

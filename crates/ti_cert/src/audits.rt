@@ -1,9 +1,10 @@
 //! A certificate judged line by line as a reader gives it.
 
-ghost use Rattle.std.specs.Prelude.{◌≡◌, ◌<◌, ℕ, List, true, false, IfOk, IfErr, OnOk, Ok};
+ghost use Rattle.std.specs.Prelude.{◌≡◌, ◌<◌, ℕ, Bool, List, true, false, IfOk, IfErr, OnOk, Ok};
 ghost use Rattle.ti_checked.specs.Judged.{IsJudged};
 ghost use Rattle.ti_lines.specs.Heads.{IsSizeText};
 ghost use Rattle.ti_reader.specs.Reader.{Rose};
+ghost use Rattle.ti_cert.specs.Basic.{IsStopped, basic_text};
 ghost use Rattle.ti_cert.specs.Good as spec;
 ghost use Rattle.ti_cert.specs.Certificates.{limit};
 ghost use Rattle.ti_cert.specs.Singles.{LooksStand};
@@ -38,6 +39,20 @@ enum Awaited {
     Rows,
     /// None. These charsets are settled.
     Ended(Charsets),
+}
+
+impl Awaited {
+    /// The settled charsets, where the last line was read.
+    fn settled(self) -> Option<Charsets>
+        ensures { result ≡ spec.settled_of self }
+    {
+        match self {
+            Awaited::Ended(settled) => Some(settled),
+            Awaited::First => None,
+            Awaited::Acsc => None,
+            Awaited::Rows => None,
+        }
+    }
 }
 
 /// What a certificate's lines so far make.
@@ -140,7 +155,8 @@ impl Progress {
         self.place.check(row, &self.known.strings)?;
         let tokens = whole_tokens(alloc, line.bytes.as_slice())?;
         let (effect, looks) = self.known.judge_effect(row, &line.effect, &tokens)?;
-        self.known.add(row, line.bytes, &tokens, &effect, looks)?;
+        self.known
+            .add(row, line.bytes.as_slice(), &tokens, &effect, looks)?;
         self.place = Place::after(row);
         self.awaited = Awaited::Rows;
         Ok(())
@@ -162,17 +178,12 @@ impl Progress {
     }
 
     /// The table of a text that was read to its end.
-    fn into_table(self) -> Result<Table, CertFaultKind>
+    fn into_table(self) -> Table
         requires { spec.IsWholeRead self }
-        ensures made { IfOk result (spec.IsTableMade self) }
-        ensures never { IfErr result (λ kind. ⊥) }
+        ensures { spec.IsTableMade self result }
     {
-        match self.awaited {
-            Awaited::Ended(settled) => Ok(Table::new(self.known, self.acsc, settled)),
-            Awaited::First => Err(CertFaultKind::BadLine),
-            Awaited::Acsc => Err(CertFaultKind::BadLine),
-            Awaited::Rows => Err(CertFaultKind::BadLine),
-        }
+        let settled = self.awaited.settled().unwrap();
+        Table::new(self.known, self.acsc, settled)
     }
 }
 
@@ -227,18 +238,6 @@ fn started(alloc: Global, size: Size) -> Result<Progress, CertFault>
     }
 }
 
-/// The table of a text that was read to its end.
-fn closed(progress: Progress) -> Result<Table, CertFault>
-    requires { spec.IsWholeRead progress }
-    ensures made { IfOk result (spec.IsTableMade progress) }
-    ensures never { IfErr result (λ kind. ⊥) }
-{
-    match progress.into_table() {
-        Ok(table) => Ok(table),
-        Err(kind) => Err(CertFault { line: 0, kind }),
-    }
-}
-
 /// Judges the certificate that a reader has left, line by line as it arrives. What is kept is the table
 /// alone, never the text.
 ///
@@ -253,11 +252,12 @@ pub fn audit_from<R: Reader>(alloc: Global, reader: &mut R, size: Size) -> Resul
     ensures few { IfOk result (λ table. total table.known.strings < limit) }
     ensures accepted { (text : List ℕ) → R.left reader.old text → IfOk result (IsTableOf size.rows size.cols text) }
     ensures refused { (text : List ℕ) → R.left reader.old text → IfErr result (IsRefused size.rows size.cols text (Rose (R.failures reader.old) (R.failures reader.new))) }
+    ensures basic { (home el : Bool) → R.left reader.old (basic_text size.rows size.cols home el) → IfErr result (IsStopped (Rose (R.failures reader.old) (R.failures reader.new))) }
     ensures takes { Takes R.left R.failures reader.old reader.new (λ number. IfErr result (IsLineRead number)) }
 {
     let mut progress = started(alloc, size)?;
     match judge_lines(alloc, LIMIT, reader, &mut progress) {
-        Ok(()) => closed(progress),
+        Ok(()) => Ok(progress.into_table()),
         Err(fault) => Err(CertFault {
             line: fault.line,
             kind: fault.kind,
@@ -277,6 +277,7 @@ pub fn audit(alloc: Global, text: &[u8], size: Size) -> Result<Table, CertFault>
     ensures few { IfOk result (λ table. total table.known.strings < limit) }
     ensures accepted { IfOk result (IsTableOf size.rows size.cols text.now) }
     ensures refused { IfErr result (IsRefused size.rows size.cols text.now ⊥) }
+    ensures basic { (home el : Bool) → text.now ≡ basic_text size.rows size.cols home el → IfErr result (λ fault. fault.kind ≡ CertFaultKind.NoMemory) }
 {
     let mut reader = text;
     audit_from(alloc, &mut reader, size)

@@ -15,7 +15,6 @@ use crate::faults::CertFaultKind;
 use crate::strings::Strings;
 use std::alloc::{AllocError, Global};
 use std::marker::Model;
-use ti_caps::Bytes;
 use ti_charsets::Reach;
 use ti_rows::{Attributes, Looks, NO_ATTRIBUTES, NO_MARKS, Row};
 use vt_effects::{Effect, Sets, effect_of};
@@ -179,18 +178,18 @@ impl Known {
     pub fn add(
         &mut self,
         row: Row,
-        bytes: Bytes,
+        bytes: &[u8],
         tokens: &[Token],
         effect: &Effect,
         looks: Looks,
     ) -> Result<(), AllocError>
         requires range { allows self.old.strings.rows self.old.strings.cols row ≡ true }
         requires place { rank self.old.strings.rows self.old.strings.cols row ≡ length (group_at self.old.strings (order row)) }
-        requires whole { Splits bytes tokens.now [] }
+        requires whole { Splits bytes.now tokens.now [] }
         requires looks { looks ≡ spec.looks_with self.old row effect.now }
         requires record { spec.HasRecord self.old.strings.rows self.old.strings.cols looks row tokens.now effect.now }
         ensures holds { OnOk result (spec.Holds self.old → spec.Holds self.new) }
-        ensures strings { OnOk result (Adds self.old.strings self.new.strings row bytes) }
+        ensures strings { OnOk result (Adds self.old.strings self.new.strings row bytes.now) }
         ensures looks { OnOk result (self.new.looks ≡ looks) }
     {
         self.strings.push(row, bytes)?;

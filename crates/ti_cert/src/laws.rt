@@ -1,5 +1,7 @@
 //! Laws of certificates' texts.
 
+ghost use Rattle.ti_cert.specs.Basic.{BasicAccepted, BasicAgrees, BasicAlone};
+ghost use Rattle.ti_cert.specs.Disagreeing.{DisagreementExcludesYes};
 ghost use Rattle.ti_cert.specs.Texts.{IsThatOfCertificate, OneAnswer, OneTable, NoOther, OneFault};
 
 /// A text has one answer: what its lines say, or its first fault in one line. So what an audit makes of
@@ -13,7 +15,28 @@ pub fn one_answer()
 {}
 
 /// A text that is accepted is that of a certificate: ASCII, the size, the pairs of alternate characters,
-/// where there are any, the lines about capabilities, each in its place, none missing, and the last line.
+/// where there are any, the lines about capabilities, each in its place and with the effect that is asked
+/// for, none missing, and the last line.
 pub fn accepted_text()
     ensures { IsThatOfCertificate }
+{}
+
+/// The certificate of a basic entry is accepted, for every size. So no audit finds a fault in it.
+pub fn basic_text_accepted()
+    ensures { BasicAccepted }
+{}
+
+/// The table of that text is just what the entry sends.
+pub fn basic_text_agrees()
+    ensures { BasicAgrees }
+{}
+
+/// Of a basic entry no other text is accepted with just what it sends.
+pub fn basic_text_alone()
+    ensures { BasicAlone }
+{}
+
+/// A certificate of which a disagreement is so isn't that of the entry: `agrees` doesn't say yes.
+pub fn disagreement_excludes_yes()
+    ensures { DisagreementExcludesYes }
 {}

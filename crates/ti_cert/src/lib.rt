@@ -5,6 +5,7 @@ mod agreeing;
 mod audits;
 mod ending;
 mod faults;
+mod groups;
 mod known;
 pub mod laws;
 mod places;

@@ -8,57 +8,14 @@ ghost use Rattle.ti_sends.specs.Agreeing.{SomeLine};
 ghost use Rattle.ti_rows.specs.declared.rows.Row as rows;
 ghost use Rattle.ti_cert.specs.Strings as spec;
 
+use crate::groups::Group;
 use std::alloc::{AllocError, Global};
 use std::marker::Model;
-use ti_caps::Bytes;
 use ti_rows::Row;
 use vt_term::Size;
 
 /// How many capabilities are checked.
 const CAPABILITIES: usize = 42;
-
-/// The strings of one capability, one for each parameter list, in ascending order.
-#[derive(Drop)]
-struct Group {
-    strings: Vec<Bytes>,
-}
-
-impl Model for Group {
-    ghost use Rattle.std.specs.Prelude.{List, ℕ};
-
-    ghost Value = { List (List ℕ) };
-
-    ghost view = { λ g. g.strings.items };
-}
-
-impl Group {
-    fn new(alloc: Global) -> Group
-        ensures { result ≡ [] }
-    {
-        Group {
-            strings: Vec::new(alloc),
-        }
-    }
-
-    fn len(&self) -> usize
-        ensures { result ≡ length self.now }
-    {
-        self.strings.len()
-    }
-
-    fn get(&self, at: usize) -> Option<&[u8]>
-        ensures { option_copied result ≡ slice_get self.now at }
-    {
-        self.strings.get(at).map(|bytes| bytes.as_slice())
-    }
-
-    fn push(&mut self, bytes: Bytes) -> Result<(), AllocError>
-        ensures { OnOk result (self.new ≡ self.old ++ bytes ∷ []) }
-    {
-        self.strings.push(bytes)?;
-        Ok(())
-    }
-}
 
 /// The strings of a certificate for a size.
 #[derive(Drop)]
@@ -145,10 +102,10 @@ impl Strings {
     }
 
     /// Adds the string of the capability's next parameter list. The error is out of memory.
-    pub fn push(&mut self, row: Row, bytes: Bytes) -> Result<(), AllocError>
+    pub fn push(&mut self, row: Row, bytes: &[u8]) -> Result<(), AllocError>
         requires range { spec.allows self.old.rows self.old.cols row ≡ true }
         requires place { rank self.old.rows self.old.cols row ≡ length (spec.group_at self.old (order row)) }
-        ensures { OnOk result (spec.Adds self.old self.new row bytes) }
+        ensures { OnOk result (spec.Adds self.old self.new row bytes.now) }
     {
         self.groups[row.order()].push(bytes)
     }

@@ -3,6 +3,8 @@
 ghost use Rattle.std.specs.Prelude.{◌≡◌, ◌++◌, ℕ, List, IfOk, IfErr, IfSome, OnOk, option_copied};
 ghost use Rattle.ti_reader.specs.Reader.{Rose};
 ghost use Rattle.ti_cert.specs.Texts.{IsCertRefused, IsCertLineRead, Takes};
+ghost use Rattle.ti_cert.specs.Basic.{IsBasic, IsVerifyStopped, basic_text_of};
+ghost use Rattle.ti_cert.specs.Disagreeing.{IsAgreeRefused};
 ghost use Rattle.ti_caps.specs.Entry.{string_at};
 ghost use Rattle.ti_checked.specs.Checked.{IsLine};
 ghost use Rattle.ti_checked.specs.Table.{part, resync, widening};
@@ -148,6 +150,8 @@ pub fn verify_from<R: Reader>(
     reader: &mut R,
 ) -> Result<Checked, VerifyFault>
     ensures refused { (text : List ℕ) → R.left reader.old text → IfErr result (IsCertRefused size.rows size.cols text (Rose (R.failures reader.old) (R.failures reader.new))) }
+    ensures disagrees { (text : List ℕ) → R.left reader.old text → IfErr result (IsAgreeRefused size.rows size.cols text entry.now) }
+    ensures basic { IsBasic entry.now size.rows size.cols → R.left reader.old (basic_text_of entry.now size.rows size.cols) → IfErr result (IsVerifyStopped (Rose (R.failures reader.old) (R.failures reader.new))) }
     ensures takes { Takes R.left R.failures reader.old reader.new (λ number. IfErr result (IsCertLineRead number)) }
     ensures conforms { IfOk result (λ _. Conforms entry.now size.rows size.cols) }
     ensures rows { IfOk result (λ checked. checked.known.strings.rows ≡ size.rows) }
@@ -173,6 +177,8 @@ pub fn verify_from<R: Reader>(
 /// out.
 pub fn verify(alloc: Global, entry: &Entry, size: Size, text: &[u8]) -> Result<Checked, VerifyFault>
     ensures refused { IfErr result (IsCertRefused size.rows size.cols text.now ⊥) }
+    ensures disagrees { IfErr result (IsAgreeRefused size.rows size.cols text.now entry.now) }
+    ensures basic { IsBasic entry.now size.rows size.cols → text.now ≡ basic_text_of entry.now size.rows size.cols → IfErr result (IsVerifyStopped ⊥) }
     ensures conforms { IfOk result (λ _. Conforms entry.now size.rows size.cols) }
     ensures rows { IfOk result (λ checked. checked.known.strings.rows ≡ size.rows) }
     ensures cols { IfOk result (λ checked. checked.known.strings.cols ≡ size.cols) }

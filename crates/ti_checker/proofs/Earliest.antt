@@ -1,14 +1,14 @@
 -- All rows before the one that is refused stand.
-use Rattle.std.proofs.Common.{◌≡◌, inl, inr, ◌<◌, ◌+◌, ◌-◌, ◌*◌, ◌==◌, ℕ, true, false, List, None, Some, if◌then◌else◌, refl, sym, ap, subst, ◌∙◌, arith, below_more}
+use Rattle.std.proofs.Common.{◌≡◌, inl, inr, ◌<◌, ◌+◌, ℕ, true, false, List, None, Some, refl, sym, subst, ◌∙◌, arith, below_more}
 use Rattle.std.proofs.lemmas.Bool.{false≢true}
 use Rattle.vt_term.specs.Size.{IsSize}
 use Rattle.ti_caps.specs.Entry.{Content}
 use Rattle.ti_rows.specs.declared.rows.Row.{Row}
-use Rattle.ti_rows.specs.declared.rows.Row.TheVariants.{Cup, Hpa, Vpa, Cub, Cuf, Cuu, Cud, Ech, Sgr, Setaf, Setab, Csr}
 use Rattle.ti_rows.specs.Names.{order}
-use Rattle.ti_rows.specs.Lists.{IsInRange, above, next, rank, count}
+use Rattle.ti_rows.specs.Lists.{IsInRange, next, rank, count}
 use Rattle.ti_rows.proofs.Listing.{last_is_last, ranks_below, one_of_rank}
 use Rattle.ti_sends.specs.Entries.{is_checked, string_of}
+use Rattle.ti_sends.proofs.Walking.{same_count}
 use Rattle.ti_cert.specs.Order.{Precedes}
 use Rattle.ti_checker.specs.No.{IsFaulty}
 use Rattle.ti_checker.specs.First.{SendsRight, RowStands, IsOfRow, IsFirstRow, IsFirstBy, IsFirstTold, RightAt, AllRight, IsFirstOf, CapStands, IsFirstInCap}
@@ -18,42 +18,6 @@ use Rattle.ti_checker.specs.declared.causes.No.{No}
 use Rattle.ti_checker.proofs.Walking.{same_string, same_checked}
 
 -- ---- the rows of a string
-
--- how many lists the capability at a place has
-count_at : ℕ → ℕ → ℕ → ℕ
-count_at rows cols n =
-    if n == 14 then rows * cols else
-    (if n == 25 then cols else
-    (if n == 41 then rows else
-    (if n == 8 then cols - 1 else
-    (if n == 12 then cols - 1 else
-    (if n == 15 then rows - 1 else
-    (if n == 10 then rows - 1 else
-    (if n == 19 then cols else
-    (if n == 35 then 128 else
-    (if n == 34 then 8 else
-    (if n == 33 then 8 else
-    (if n == 7 then above rows (rows - 1) else
-    1)))))))))))
-
-counted : (rows cols : ℕ) (row : Row) → count rows cols row ≡ count_at rows cols (order row)
-unfolding count_at
-counted rows cols (Cup row col) = refl
-counted rows cols (Hpa col) = refl
-counted rows cols (Vpa row) = refl
-counted rows cols (Cub n) = refl
-counted rows cols (Cuf n) = refl
-counted rows cols (Cuu n) = refl
-counted rows cols (Cud n) = refl
-counted rows cols (Ech n) = refl
-counted rows cols (Sgr a) = refl
-counted rows cols (Setaf c) = refl
-counted rows cols (Setab c) = refl
-counted rows cols (Csr top bottom) = refl
-counted rows cols _ = refl
-
-same_count : (rows cols : ℕ) (row other : Row) → order row ≡ order other → count rows cols row ≡ count rows cols other
-same_count rows cols row other e = counted rows cols row ∙ (ap (count_at rows cols) e ∙ sym (counted rows cols other))
 
 -- one list more
 pub one_more : (rows cols : ℕ) (string : List ℕ) (n : ℕ) (row : Row) → IsInRange rows cols row → order row ≡ n → SendsRight rows cols string row

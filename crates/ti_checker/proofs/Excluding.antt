@@ -1,23 +1,19 @@
 -- A no that claims something excludes a yes.
-use Rattle.std.proofs.Common.{◌≡◌, ℕ, ◌+◌, ◌<◌, ◌==◌, ◌&&◌, ◌||◌, Bool, true, false, List, [], ◌∷◌, length, take, drop, Option, None, Some, if◌then◌else◌, refl, sym, ap, subst, ◌∙◌, inl, inr, arith, rules}
-use Rattle.std.specs.Prelude.{Result, Ok, Err, is_some}
-use Rattle.std.specs.List.{AllByRecursion}
-use Rattle.std.proofs.lemmas.Bool.{false≢true, or_cases, and_parts, eqb-true, cases_Bool}
+use Rattle.std.proofs.Common.{◌≡◌, ℕ, ◌+◌, true, List, [], length, take, drop, Some, refl, sym, ap, subst, inl, inr, arith}
+use Rattle.std.specs.Prelude.{Result, Ok, Err}
 use Rattle.std.proofs.lemmas.List.{take-append-drop}
 use Rattle.vt_term.specs.Screen.{State}
 use Rattle.vt_term.specs.Text.{Splits, IsStuck, IsUnfinished}
 use Rattle.vt_term.proofs.Splitting.{one_splitting, splits_front}
 use Rattle.vt_term.proofs.Running.{runs_once}
-use Rattle.ti_caps.specs.Entry.{Content, flag_at, number_at}
+use Rattle.ti_caps.specs.Entry.{Content}
 use Rattle.ti_parm.specs.Delays.{strip}
 use Rattle.ti_parm.specs.Fault.{◌>>=◌}
 use Rattle.ti_parm.specs.Meaning.{State as Meant, meaning}
 use Rattle.ti_parm.specs.Value.{zeros}
 use Rattle.ti_parm.specs.declared.fault.ParmFault.{ParmFault}
-use Rattle.ti_looks.specs.Alternates.{Plain, letters, found, fallback_of}
 use Rattle.ti_rows.specs.declared.rows.Looks.{Looks}
 use Rattle.ti_rows.specs.declared.rows.Row.{Row}
-use Rattle.ti_rows.specs.declared.rows.Row.TheVariants.{Clear, Cup, Sgr0}
 use Rattle.ti_rows.specs.Lists.{IsInRange}
 use Rattle.ti_rows.specs.Right.{IsRight}
 use Rattle.ti_rows.specs.Wants.{Wants}
@@ -25,50 +21,16 @@ use Rattle.ti_probes.specs.Breaking.{Breaks}
 use Rattle.ti_probes.specs.Probe.{screen_of}
 use Rattle.ti_probes.specs.declared.probes.Probe.{Probe}
 use Rattle.ti_sends.specs.Sends.{Sends, values}
-use Rattle.ti_sends.specs.Entries.{has_string, is_checked, string_of}
-use Rattle.ti_conforms.specs.Conforms.{Conforms, IsFit, xmc, hc, gn, os}
+use Rattle.ti_sends.specs.Entries.{is_checked, string_of}
+use Rattle.ti_conforms.specs.Conforms.{Conforms, IsFit}
+use Rattle.ti_cert.proofs.Disagreeing.{flag_not_out, none_lacking, none_misfit}
 use Rattle.ti_checker.proofs.Together.{none_open}
+use Rattle.ti_checker.proofs.Sent.{none_graphic, none_misswitching}
 use Rattle.ti_checker.specs.First.{SendsRight}
-use Rattle.ti_checker.specs.No.{is_flag_out, IsRequired, HasMisfit, IsUnfitBy, SendsSome, IsFaulty, HasFaulty, IsSo, IsSoBy, ClaimsNothing}
+use Rattle.ti_checker.specs.No.{IsUnfitBy, SendsSome, IsFaulty, HasFaulty, IsSo, IsSoBy, ClaimsNothing}
 use Rattle.ti_checker.specs.declared.causes.Cause.{Cause}
 use Rattle.ti_checker.specs.declared.causes.Cause.TheVariants.{FlagOut, Absent, AcsByte, Parm, StaticRead, Unfinished, Stuck, NotTame, BadLook, WrongEffect, NotShown, NoResync, NoMemory}
 use Rattle.ti_checker.specs.declared.causes.No.{No}
-
--- ---- what the entry has
-
-none_there : (o : Option ℕ) → o ≡ None → is_some o ≡ true → ⊥
-none_there None e h = false≢true h
-none_there (Some n) e h = cc
-
-flag_not_out : (entry : Content) (cap : ℕ) → IsFit entry → is_flag_out entry cap ≡ true → ⊥
-flag_not_out entry cap fit h = elim (or_cases ((cap == xmc) && is_some (number_at entry cap)) (((cap == hc) || ((cap == gn) || (cap == os))) && flag_at entry cap) h) [
-  | inl a ↦ (let p = and_parts (cap == xmc) (is_some (number_at entry cap)) a in
-      none_there (number_at entry cap) (ap (number_at entry) (eqb-true cap xmc p.0) ∙ fit.no_cookies) p.1)
-  | inr a ↦ (let p = and_parts ((cap == hc) || ((cap == gn) || (cap == os))) (flag_at entry cap) a in
-      let kept : (place : ℕ) → (cap == place) ≡ true → flag_at entry place ≡ false → ⊥ = λ place e none. false≢true (sym (ap (flag_at entry) (eqb-true cap place e) ∙ none) ∙ p.1) in
-      elim (or_cases (cap == hc) ((cap == gn) || (cap == os)) p.0) [
-        | inl e ↦ kept hc e fit.no_paper
-        | inr f ↦ elim (or_cases (cap == gn) (cap == os) f) [ inl e ↦ kept gn e fit.no_generic | inr e ↦ kept os e fit.no_overstrike ]
-      ])
-]
-
-none_lacking : (entry : Content) (row : Row) → IsFit entry → IsRequired row → has_string entry row ≡ false → ⊥
-none_lacking entry Clear fit r h = false≢true (sym h ∙ fit.clear)
-none_lacking entry (Cup row col) fit r h = false≢true (sym h ∙ fit.cup)
-none_lacking entry Sgr0 fit r h = false≢true (sym h ∙ fit.sgr0)
-none_lacking entry _ fit r h = absurd r
-
-letter_small : (ps : List Plain) (letter : ℕ) → AllByRecursion (λ (p : Plain). p.letter < 256) ps → is_some (found ps letter) ≡ true → letter < 256
-letter_small [] letter h e = absurd (false≢true e)
-letter_small (p ∷ ps) letter h e = elim (cases_Bool (p.letter == letter)) [
-  | inl same ↦ omega (arith, h.0, eqb-true p.letter letter same)
-  | inr other ↦ letter_small ps letter h.1 (sym (ap (λ (t : Bool). is_some (if t then Some p.byte else found ps letter)) other) ∙ e)
-]
-
-none_misfit : (entry : Content) → IsFit entry → HasMisfit entry → ⊥
-none_misfit entry fit m =
-    let small : m.letter < 256 = letter_small letters m.letter (search (rules)) (and_parts (is_some (fallback_of m.letter)) _ m.misfit).0 in
-    false≢true (sym (fit.partners m.pairs m.there m.letter small) ∙ m.misfit)
 
 -- ---- what a string sends
 
@@ -159,8 +121,10 @@ by_cause entry rows cols refusal (Parm fault) e c h = row_faulty entry rows cols
 by_cause entry rows cols refusal StaticRead e c h = row_faulty entry rows cols refusal c h
 by_cause entry rows cols refusal Unfinished e c h = row_faulty entry rows cols refusal c h
 by_cause entry rows cols refusal Stuck e c h = row_faulty entry rows cols refusal c h
-by_cause entry rows cols refusal BadLook e c h = row_faulty entry rows cols refusal c h
-by_cause entry rows cols refusal (WrongEffect p) e c h = row_faulty entry rows cols refusal c h
+by_cause entry rows cols refusal BadLook e c (inl h) = row_faulty entry rows cols refusal c h
+by_cause entry rows cols refusal BadLook e c (inr h) = absurd (none_graphic entry rows cols c h.1)
+by_cause entry rows cols refusal (WrongEffect p) e c (inl h) = row_faulty entry rows cols refusal c h
+by_cause entry rows cols refusal (WrongEffect p) e c (inr h) = absurd (none_misswitching entry rows cols c h.row p h.switches)
 
 pub no_excludes_yes : (entry : Content) (rows cols : ℕ) (refusal : No) → IsSo entry rows cols refusal → Conforms entry rows cols → ClaimsNothing refusal.cause
 no_excludes_yes entry rows cols refusal h c = by_cause entry rows cols refusal refusal.cause refl c h

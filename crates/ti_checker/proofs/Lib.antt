@@ -1,10 +1,13 @@
 pub mod Walking
 pub mod Earliest
 pub mod Together
+pub mod Settled
 pub mod Misjudging
 pub mod Telling
 pub mod Changing
 pub mod Adding
 pub mod Once
+pub mod Sent
 pub mod Excluding
 pub mod Certifying
+pub mod BasicCertificates

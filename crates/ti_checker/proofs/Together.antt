@@ -8,10 +8,10 @@ use Rattle.ti_rows.specs.Lists.{IsInRange}
 use Rattle.ti_sends.specs.Sends.{Sends}
 use Rattle.ti_sends.specs.Entries.{is_checked, EntryAgrees}
 use Rattle.ti_checked.specs.Table.{Table, or_nothing, part, widening, resync}
-use Rattle.ti_conforms.specs.Conforms.{Conforms}
+use Rattle.ti_conforms.specs.Conforms.{Conforms, IsFit}
 use Rattle.ti_rows.specs.Names.{cap_of}
-use Rattle.ti_checker.specs.No.{IsSo, IsSoBy, IsTogether}
-use Rattle.ti_checker.specs.First.{EachStands}
+use Rattle.ti_checker.specs.No.{IsSoBy, IsTogether, IsFirstCause, IsOfAll}
+use Rattle.ti_checker.specs.First.{EachStands, IsFirstBy}
 use Rattle.ti_checker.specs.declared.causes.Cause.{Cause}
 use Rattle.ti_checker.specs.declared.causes.Cause.TheVariants.{NotShown, NoResync, NoMemory}
 use Rattle.ti_checker.specs.declared.causes.No.{No}
@@ -23,8 +23,24 @@ so_by entry rows cols refusal NoMemory stands e h = tt
 so_by entry rows cols refusal NoResync stands e h = (e, h)
 so_by entry rows cols refusal _ stands e h = absurd h
 
-pub so_together : (entry : Content) (rows cols : ℕ) (refusal : No) → EachStands entry rows cols → refusal.cap ≡ cap_of Clear → IsTogether entry rows cols refusal.cause → IsSo entry rows cols refusal
-so_together entry rows cols refusal stands e h = so_by entry rows cols refusal refusal.cause stands e h
+order_by : (entry : Content) (rows cols : ℕ) (cause : Cause) → IsFit entry → IsTogether entry rows cols cause → IsFirstCause entry cause
+order_by entry rows cols NotShown fit h = fit
+order_by entry rows cols NoMemory fit h = fit
+order_by entry rows cols NoResync fit h = fit
+order_by entry rows cols _ fit h = absurd h
+
+first_by : (entry : Content) (rows cols : ℕ) (refusal : No) (cause : Cause) → EachStands entry rows cols → IsTogether entry rows cols cause → IsFirstBy entry rows cols refusal cause
+first_by entry rows cols refusal NotShown stands h = inr stands
+first_by entry rows cols refusal NoMemory stands h = tt
+first_by entry rows cols refusal NoResync stands h = stands
+first_by entry rows cols refusal _ stands h = absurd h
+
+pub of_all : (entry : Content) (rows cols : ℕ) (refusal : No) → IsFit entry → EachStands entry rows cols → refusal.cap ≡ cap_of Clear → IsTogether entry rows cols refusal.cause → IsOfAll entry rows cols refusal
+of_all entry rows cols refusal fit stands e h = record {
+  so = so_by entry rows cols refusal refusal.cause stands e h;
+  order = order_by entry rows cols refusal.cause fit h;
+  first = first_by entry rows cols refusal refusal.cause stands h;
+}
 
 same_part : (entry : Content) (rows cols : ℕ) (t : Table) → EntryAgrees rows cols entry t.line_of → (row : Row) → IsInRange rows cols row → (bytes : List ℕ) → IsPart entry row bytes → part t row ≡ bytes
 same_part entry rows cols t agrees row range bytes p = elim (cases_Bool (is_checked entry row)) [

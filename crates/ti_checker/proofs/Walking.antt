@@ -77,8 +77,8 @@ by_cause entry rows cols string row refusal (Parm fault) f h = h
 by_cause entry rows cols string row refusal StaticRead f h = h
 by_cause entry rows cols string row refusal Unfinished f h = h
 by_cause entry rows cols string row refusal Stuck f h = h
-by_cause entry rows cols string row refusal BadLook f h = h
-by_cause entry rows cols string row refusal (WrongEffect p) f h = h
+by_cause entry rows cols string row refusal BadLook f h = inl h
+by_cause entry rows cols string row refusal (WrongEffect p) f h = inl h
 
 -- a faulty row is one of the entry's
 pub so_of : (entry : Content) (rows cols : ℕ) (string : List ℕ) (first : Row) (refusal : No) → is_checked entry first ≡ true → string_of entry first ≡ Some string → IsFaultyOf rows cols string first refusal → IsSo entry rows cols refusal

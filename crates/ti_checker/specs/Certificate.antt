@@ -6,6 +6,8 @@ use Rattle.ti_rows.specs.Lists.{IsInRange}
 use Rattle.ti_lines.specs.declared.lines.RowLine.{RowLine}
 use Rattle.ti_sends.specs.Entries.{acsc, is_checked}
 use Rattle.ti_charsets.specs.Charsets.{IsAmong}
+use Rattle.vt_term.specs.Size.{IsSize}
+use Rattle.ti_cert.specs.Basic.{IsBasic, basic_text_of}
 use Rattle.ti_cert.specs.Order.{HasLine}
 use Rattle.ti_cert.specs.Certificates.{Ended, IsAnswer}
 use Rattle.ti_checker.specs.Resync.{SendsFor}
@@ -23,3 +25,7 @@ pub record IsCertificateOf (entry : Content) (rows cols : ℕ) (text : List ℕ)
   pub says : IsAnswer rows cols text (Ok (Ended (string_at entry acsc) lines))
   pub sends : (line : RowLine) → IsAmong lines line → IsSent entry rows cols line.row line.bytes
   pub complete : (row : Row) → IsInRange rows cols row → is_checked entry row ≡ true → HasLine lines row
+
+-- the certificate of a basic entry is its basic text
+abbrev pub BasicCertificate : Type 0
+BasicCertificate = (entry : Content) (rows cols : ℕ) (text : List ℕ) → IsSize rows cols → IsBasic entry rows cols → IsCertificateOf entry rows cols text → text ≡ basic_text_of entry rows cols

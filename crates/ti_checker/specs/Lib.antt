@@ -4,3 +4,4 @@ pub mod Ignored
 pub mod No
 pub mod Notes
 pub mod Resync
+pub mod Switching

@@ -1,6 +1,6 @@
 -- When a no is so.
-use Rattle.std.specs.Prelude.{ℕ, ◌≡◌, ◌⊎◌, ◌==◌, ◌&&◌, ◌||◌, Bool, true, false, List, [], Some, None, Err, is_some}
-use Rattle.ti_caps.specs.Entry.{Content, flag_at, number_at, string_at}
+use Rattle.std.specs.Prelude.{ℕ, ◌≡◌, ◌⊎◌, ◌==◌, ◌||◌, Bool, true, false, List, [], Some, None, Err}
+use Rattle.ti_caps.specs.Entry.{Content, flag_at, number_at}
 use Rattle.ti_parm.specs.Meaning.{meaning}
 use Rattle.ti_parm.specs.Value.{zeros}
 use Rattle.vt_term.specs.Text.{IsStuck, IsUnfinished, Splits}
@@ -16,48 +16,22 @@ use Rattle.ti_rows.specs.Bits.{number_of}
 use Rattle.ti_rows.specs.Names.{cap_of, order}
 use Rattle.ti_rows.specs.Params.{params}
 use Rattle.ti_rows.specs.Lists.{IsInRange}
-use Rattle.ti_looks.specs.Alternates.{is_misfit}
 use Rattle.ti_sends.specs.Sends.{Sends, ReadsStatic, values}
 use Rattle.ti_sends.specs.Entries.{acsc, has_string, is_checked, string_of}
 use Rattle.ti_conforms.specs.Conforms.{IsFit, xmc, hc, gn, os}
 use Rattle.ti_probes.specs.declared.probes.Probe.{Probe}
 use Rattle.ti_probes.specs.Breaking.{Breaks, IsShown}
+use Rattle.ti_cert.specs.Unfit.{HasMisfit, LacksCap, is_flag_out}
 use Rattle.ti_checker.specs.declared.causes.Cause.{Cause}
 use Rattle.ti_checker.specs.declared.causes.Cause.TheVariants.{FlagOut, Absent, AcsByte, Parm, StaticRead, Unfinished, Stuck, NotTame, BadLook, WrongEffect, NotShown, NoResync, NoMemory}
 use Rattle.ti_checker.specs.declared.causes.No.{No}
-use Rattle.ti_checker.specs.First.{EachStands}
+use Rattle.ti_checker.specs.First.{EachStands, IsFirstTold}
 use Rattle.ti_checker.specs.Resync.{StaysOpen}
+use Rattle.ti_checker.specs.Switching.{OfSent, Misswitches, StaysGraphic}
 
 -- ---- what rules every certificate out
 
--- a number or flag that the entry has: attributes that take room on the screen, paper, a generic type, cells that keep
--- what was printed before
-abbrev pub is_flag_out : Content → ℕ → Bool
-is_flag_out entry cap = ((cap == xmc) && is_some (number_at entry cap)) || (((cap == hc) || ((cap == gn) || (cap == os))) && flag_at entry cap)
-
-abbrev pub IsRequired : Row → Type 0
-IsRequired Clear = Unit {0}
-IsRequired (Cup row col) = Unit {0}
-IsRequired Sgr0 = Unit {0}
-IsRequired _ = ⊥
-
--- a required string that the entry hasn't
-pub record IsLacking (entry : Content) (row : Row) : Type 0 where
-  pub required : IsRequired row
-  pub absent : has_string entry row ≡ false
-
--- `acsc` lists a letter of line graphics with a partner that can't be printed
-pub record HasMisfit (entry : Content) : Type 0 where
-  pub pairs : List ℕ
-  pub there : string_at entry acsc ≡ Some pairs
-  pub letter : ℕ
-  pub misfit : is_misfit pairs letter ≡ true
-
-pub record LacksCap (entry : Content) (cap : ℕ) : Type 0 where
-  pub row : Row
-  pub lacking : IsLacking entry row
-  pub named : cap ≡ cap_of row
-
+-- the capability that is the reason
 abbrev pub IsUnfitBy : Content → ℕ → Cause → Type 0
 IsUnfitBy entry cap FlagOut = is_flag_out entry cap ≡ true
 IsUnfitBy entry cap Absent = LacksCap entry cap
@@ -160,11 +134,22 @@ pub record HasFaulty (entry : Content) (rows cols : ℕ) (refusal : No) : Type 0
 
 -- ---- a no
 
--- `NoMemory` claims nothing. `NotShown` is of a row, or of all strings together where each is right by itself.
+-- `smacs` or `rmacs` ends with the other set active from a start with a settled charset
+pub record HasMisswitch (entry : Content) (rows cols : ℕ) (refusal : No) (p : Probe) : Type 0 where
+  pub row : Row
+  pub cap_is : refusal.cap ≡ cap_of row
+  pub params_are : refusal.params.items ≡ params row
+  pub switches : OfSent entry rows cols (λ t. Misswitches rows cols row p t)
+
+-- `NoMemory` claims nothing. `BadLook`, `WrongEffect` and `NotShown` are of a row, or of all strings together where each is
+-- right by itself: the graphic set can stay active where letters of line graphics can't be sent, which is told of `acsc`;
+-- `smacs` or `rmacs` leaves the other set active; or nothing is claimed.
 abbrev pub IsSoBy : Content → ℕ → ℕ → No → Cause → Type 0
 IsSoBy entry rows cols refusal FlagOut = IsUnfit entry refusal
 IsSoBy entry rows cols refusal Absent = IsUnfit entry refusal
 IsSoBy entry rows cols refusal AcsByte = IsUnfit entry refusal
+IsSoBy entry rows cols refusal BadLook = HasFaulty entry rows cols refusal ⊎ ((refusal.cap ≡ acsc) × OfSent entry rows cols (λ t. StaysGraphic entry t))
+IsSoBy entry rows cols refusal (WrongEffect p) = HasFaulty entry rows cols refusal ⊎ HasMisswitch entry rows cols refusal p
 IsSoBy entry rows cols refusal NotShown = HasFaulty entry rows cols refusal ⊎ EachStands entry rows cols
 IsSoBy entry rows cols refusal NoResync = (refusal.cap ≡ cap_of Clear) × StaysOpen entry rows cols
 IsSoBy entry rows cols refusal NoMemory = Unit {0}
@@ -216,3 +201,9 @@ IsFirstCause entry FlagOut = Unit {0}
 IsFirstCause entry Absent = HasNoFlagOut entry
 IsFirstCause entry AcsByte = HasRequired entry
 IsFirstCause entry _ = IsFit entry
+
+-- ---- (Serves the code alone.) A no of all strings together: it is so, and the first.
+pub record IsOfAll (entry : Content) (rows cols : ℕ) (refusal : No) : Type 0 where
+  pub so : IsSo entry rows cols refusal
+  pub order : IsFirstCause entry refusal.cause
+  pub first : IsFirstTold entry rows cols refusal

@@ -1,6 +1,7 @@
 //! An entry checked for a size.
 
 ghost use Rattle.std.specs.Prelude.{◌≡◌, IfErr, IfOk, OnOk};
+ghost use Rattle.ti_cert.specs.Basic.{IsBasic, basic_text_of};
 ghost use Rattle.ti_checker.specs.Certificate.{IsCertificateOf};
 ghost use Rattle.ti_checker.specs.First.{EachStands, IsFirstTold};
 ghost use Rattle.ti_checker.specs.No as spec;
@@ -10,6 +11,7 @@ use crate::causes::{Cause, No};
 use crate::drafts::draft_of;
 use crate::fitness::check_fitness;
 use crate::resync::stays_open;
+use crate::switching::clash_of;
 use std::alloc::Global;
 use ti_caps::Entry;
 use ti_cert::{AgreeFault, CertFaultKind, VerifyFault, agrees, audit};
@@ -31,21 +33,45 @@ fn judge_text(alloc: Global, entry: &Entry, size: Size, text: &[u8]) -> Result<(
     }
 }
 
-/// What is wrong with all strings together, where each is right by itself.
-#[tactic(auto, using(crate::proofs::Together::so_together))]
+/// Why an entry isn't verified of which each string is right by itself.
 fn unverified(alloc: Global, entry: &Entry, size: Size, fault: VerifyFault) -> No
     requires fit { IsFit entry.now }
     requires stands { EachStands entry.now size.rows size.cols }
-    ensures so { spec.IsSo entry.now size.rows size.cols result }
-    ensures order { spec.IsFirstCause entry.now result.cause }
-    ensures first { IsFirstTold entry.now size.rows size.cols result }
+    ensures { spec.IsOfAll entry.now size.rows size.cols result }
 {
-    let cause = match fault {
-        VerifyFault::Cert(fault) => cause_together(alloc, entry, size, fault.kind),
-        VerifyFault::Agree(AgreeFault::NoMemory) => Cause::NoMemory,
-        VerifyFault::Agree(_) => Cause::NotShown,
-    };
-    No::of(Row::Clear.cap(), cause)
+    match fault {
+        VerifyFault::Cert(fault) => match fault.kind {
+            CertFaultKind::NotShown | CertFaultKind::BadLook => clashing(alloc, entry, size),
+            kind => no_together(alloc, entry, size, kind),
+        },
+        VerifyFault::Agree(AgreeFault::NoMemory) => {
+            no_together(alloc, entry, size, CertFaultKind::NoMemory)
+        }
+        VerifyFault::Agree(_) => no_together(alloc, entry, size, CertFaultKind::NotShown),
+    }
+}
+
+/// What is wrong with the character sets that all strings together leave.
+fn clashing(alloc: Global, entry: &Entry, size: Size) -> No
+    requires fit { IsFit entry.now }
+    requires stands { EachStands entry.now size.rows size.cols }
+    ensures { spec.IsOfAll entry.now size.rows size.cols result }
+{
+    match clash_of(alloc, entry, size) {
+        Ok(Some(no)) => no,
+        Err(Cause::NoMemory) => no_together(alloc, entry, size, CertFaultKind::NoMemory),
+        _ => no_together(alloc, entry, size, CertFaultKind::NotShown),
+    }
+}
+
+/// The no of `clear` for a fault of the whole certificate.
+#[tactic(auto, using(crate::proofs::Together::of_all))]
+fn no_together(alloc: Global, entry: &Entry, size: Size, kind: CertFaultKind) -> No
+    requires fit { IsFit entry.now }
+    requires stands { EachStands entry.now size.rows size.cols }
+    ensures { spec.IsOfAll entry.now size.rows size.cols result }
+{
+    No::of(Row::Clear.cap(), cause_together(alloc, entry, size, kind))
 }
 
 /// The cause that a fault of the whole certificate is.
@@ -68,6 +94,7 @@ fn cause_together(alloc: Global, entry: &Entry, size: Size, kind: CertFaultKind)
 pub fn check(alloc: Global, entry: &Entry, size: Size) -> Result<Vec<u8>, No>
     ensures conforms { IfOk result (λ text. Conforms entry.now size.rows size.cols) }
     ensures certificate { IfOk result (λ text. IsCertificateOf entry.now size.rows size.cols text.items) }
+    ensures basic { IsBasic entry.now size.rows size.cols → IfOk result (λ text. text.items ≡ basic_text_of entry.now size.rows size.cols) }
     ensures refused { IfErr result (λ refusal. spec.IsSo entry.now size.rows size.cols refusal) }
     ensures order { IfErr result (λ refusal. spec.IsFirstCause entry.now refusal.cause) }
     ensures first { IfErr result (IsFirstTold entry.now size.rows size.cols) }

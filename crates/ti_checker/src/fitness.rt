@@ -2,6 +2,7 @@
 
 ghost use Rattle.std.specs.Prelude.{◌≡◌, ◌<◌, ℕ, List, IfErr, IfNone, IfSome, OnOk, true, false, Some, None};
 ghost use Rattle.ti_caps.specs.Entry.{flag_at, number_at, string_at};
+ghost use Rattle.ti_cert.specs.Unfit.{HasMisfit, IsLacking, is_flag_out};
 ghost use Rattle.ti_checker.specs.No as spec;
 ghost use Rattle.ti_conforms.specs.Conforms as conforms;
 ghost use Rattle.ti_looks.specs.Alternates.{is_misfit};
@@ -16,7 +17,7 @@ use ti_rows::Row;
 /// The first of the flags and numbers that rule every certificate out.
 #[tactic(auto, unfolding(ti_caps::specs::Table::kind_of, ti_caps::specs::Table::position_of, ti_caps::specs::Table::place_from))]
 fn flagged(entry: &Entry) -> Option<Cap>
-    ensures some { IfSome result (λ cap. spec.is_flag_out entry.now cap ≡ true) }
+    ensures some { IfSome result (λ cap. is_flag_out entry.now cap ≡ true) }
     ensures xmc { IfNone result (number_at entry.now conforms.xmc ≡ None) }
     ensures hc { IfNone result (flag_at entry.now conforms.hc ≡ false) }
     ensures gn { IfNone result (flag_at entry.now conforms.gn ≡ false) }
@@ -43,7 +44,7 @@ fn flagged(entry: &Entry) -> Option<Cap>
 
 /// The first required string that the entry hasn't.
 fn lacking(entry: &Entry) -> Option<Row>
-    ensures some { IfSome result (λ row. spec.IsLacking entry.now row) }
+    ensures some { IfSome result (λ row. IsLacking entry.now row) }
     ensures clear { IfNone result (entries.has_string entry.now rows.Clear ≡ true) }
     ensures cup { IfNone result (entries.has_string entry.now (rows.Cup 0 0) ≡ true) }
     ensures sgr0 { IfNone result (entries.has_string entry.now rows.Sgr0 ≡ true) }
@@ -70,7 +71,7 @@ pub(crate) fn acsc() -> Cap
 
 /// Whether a letter of line graphics has a partner that can't be printed.
 fn has_misfit(entry: &Entry) -> bool
-    ensures some { result ≡ true → spec.HasMisfit entry.now }
+    ensures some { result ≡ true → HasMisfit entry.now }
     ensures none { result ≡ false → (pairs : List ℕ) → string_at entry.now entries.acsc ≡ Some pairs → (letter : ℕ) → letter < 256 → is_misfit pairs letter ≡ false }
 {
     match entry.get_string(acsc()) {

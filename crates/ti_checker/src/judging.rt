@@ -10,10 +10,8 @@ ghost use Rattle.vt_effects.specs.Record.{record_of};
 ghost use Rattle.vt_term.specs.Text.{Splits};
 
 use crate::causes::Cause;
-use crate::sending::sent;
+use crate::sending::sent_into;
 use std::alloc::Global;
-use ti_caps::Bytes;
-use ti_lines::RowLine;
 use ti_probes::probe_for;
 use ti_rows::{Attributes, Looks, Marks, Row};
 use vt_effects::{Effect, effect_of};
@@ -126,26 +124,20 @@ fn judged(row: Row, tokens: &[Token], size: Size, looks: &mut Looks) -> Result<E
     }
 }
 
-/// The certificate's line of a row, of which the entry has this string.
-pub(crate) fn line_of(
+/// The effect of what the entry's string sends for a row. The bytes that it sends are left in `bytes`.
+pub(crate) fn judge_row(
     alloc: Global,
     string: &[u8],
     row: Row,
     size: Size,
     looks: &mut Looks,
-) -> Result<RowLine, Cause>
+    bytes: &mut Vec<u8>,
+) -> Result<Effect, Cause>
     requires { IsInRange size.rows size.cols row }
     ensures right { IfOk result (λ _. SendsRight size.rows size.cols string.now row) }
     ensures faulty { IfErr result (λ cause. spec.IsFaulty size.rows size.cols string.now row cause) }
 {
-    let bytes = sent(alloc, string, row)?;
-    let tokens = tokens_of(alloc, &bytes)?;
-    match judged(row, &tokens, size, looks) {
-        Ok(effect) => Ok(RowLine {
-            row,
-            bytes: Bytes::from_vec(bytes),
-            effect,
-        }),
-        Err(cause) => Err(cause),
-    }
+    sent_into(alloc, string, row, bytes)?;
+    let tokens = tokens_of(alloc, bytes)?;
+    judged(row, &tokens, size, looks)
 }

@@ -4,6 +4,7 @@
 ghost use Rattle.std.specs.Option.{unwrap_or};
 ghost use Rattle.std.specs.Prelude.{◌≡◌, ◌≢◌, ℕ, Bool, List, Option, true, false};
 ghost use Rattle.ti_caps.specs.Entry.{Content};
+ghost use Rattle.ti_checker.specs.Certificate.{BasicCertificate};
 ghost use Rattle.ti_checker.specs.Ignored.{is_unknown_mode, is_unknown_rendition, is_whole_sequence};
 ghost use Rattle.ti_checker.specs.No.{ClaimsNothing, IsSo};
 ghost use Rattle.ti_checker.specs.Notes.{EntryNotes};
@@ -46,4 +47,9 @@ pub fn one_list_of_notes()
 /// `NotTame`, `NotShown` or `NoMemory`.
 pub fn no_excludes_yes()
     ensures { (entry : Content) (rows cols : ℕ) (refusal : No) → IsSo entry rows cols refusal → Conforms entry rows cols → ClaimsNothing refusal.cause }
+{}
+
+/// The certificate of a basic entry is its basic text.
+pub fn basic_certificate()
+    ensures { BasicCertificate }
 {}

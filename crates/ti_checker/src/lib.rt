@@ -12,6 +12,7 @@ mod noting;
 mod printing;
 mod resync;
 mod sending;
+mod switching;
 
 pub use causes::{Cause, No};
 pub use checking::check;

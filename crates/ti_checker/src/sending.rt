@@ -1,6 +1,6 @@
 //! What a string sends for a row, or which fault it has.
 
-ghost use Rattle.std.specs.Prelude.{◌≡◌, Err, IfErr, IfOk};
+ghost use Rattle.std.specs.Prelude.{◌≡◌, Err, IfErr, IfOk, OnOk};
 ghost use Rattle.ti_checker.specs.No as spec;
 ghost use Rattle.ti_parm.specs.Meaning.{meaning};
 ghost use Rattle.ti_parm.specs.Value.{values_of, zeros};
@@ -12,7 +12,7 @@ use arrayvec::ArrayVec;
 use std::alloc::Global;
 use ti_parm::{Param, ParmFault, reads_unset};
 use ti_rows::Row;
-use ti_sends::{Unsent, send};
+use ti_sends::{Unsent, send_into};
 
 /// The row's parameters, as a string takes them.
 fn values(row: Row) -> ArrayVec<Param<'static>, 9>
@@ -39,15 +39,32 @@ fn fault_of(alloc: Global, string: &[u8], row: Row) -> Cause
     }
 }
 
+/// Fills `bytes` with what the string sends for a row, in place of what they were.
+pub(crate) fn sent_into(
+    alloc: Global,
+    string: &[u8],
+    row: Row,
+    bytes: &mut Vec<u8>,
+) -> Result<(), Cause>
+    ensures sends { OnOk result (sends.Sends string.now row bytes.new.items) }
+    ensures unsent { IfErr result (λ cause. spec.IsUnsendable string.now row cause) }
+{
+    match send_into(alloc, string, row, bytes) {
+        Ok(()) => Ok(()),
+        Err(Unsent::NoMemory) => Err(Cause::NoMemory),
+        Err(Unsent::StaticRead) => Err(Cause::StaticRead),
+        Err(Unsent::Fault) => Err(fault_of(alloc, string, row)),
+    }
+}
+
 /// What the string sends for a row.
 pub(crate) fn sent(alloc: Global, string: &[u8], row: Row) -> Result<Vec<u8>, Cause>
     ensures sends { IfOk result (λ bytes. sends.Sends string.now row bytes.items) }
     ensures unsent { IfErr result (λ cause. spec.IsUnsendable string.now row cause) }
 {
-    match send(alloc, string, row) {
-        Ok(bytes) => Ok(bytes),
-        Err(Unsent::NoMemory) => Err(Cause::NoMemory),
-        Err(Unsent::StaticRead) => Err(Cause::StaticRead),
-        Err(Unsent::Fault) => Err(fault_of(alloc, string, row)),
+    let mut bytes = Vec::new(alloc);
+    match sent_into(alloc, string, row, &mut bytes) {
+        Ok(()) => Ok(bytes),
+        Err(cause) => Err(cause),
     }
 }

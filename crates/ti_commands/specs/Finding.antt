@@ -14,7 +14,7 @@ use Rattle.ti_source.specs.declared.types.NoteKind.{NoteKind}
 use Rattle.ti_source.specs.declared.types.NoteKind.TheVariants.{UnknownName, Duplicate, OddEscape}
 use Rattle.ti_source.specs.declared.types.RawEntry.{RawEntry}
 use Rattle.ti_commands.specs.Failing.{IsFileFailure}
-use Rattle.ti_commands.specs.Holding.{HasBytes, Held}
+use Rattle.ti_commands.specs.Holding.{HasBytes, Held, longest_file}
 use Rattle.ti_commands.specs.declared.failure.Failure.{Failure}
 use Rattle.ti_commands.specs.declared.failure.Failure.TheVariants.{Refused, NoMemory}
 use Rattle.ti_commands.specs.declared.failure.Refusal.{Refusal}
@@ -69,7 +69,7 @@ pub record IsOfFile (bytes notes : List ℕ) (entry : Result Content Refusal) : 
 -- the word's notes, and its entry or the entry's refusal
 abbrev pub Finds : Held → List ℕ → List ℕ → Result Content Refusal → Type 0
 Finds held word notes entry =
-    ((path : List ℕ) × (name : List ℕ) × IsPathAndName word path name × HasBytes (held path) 16777216 (λ bytes. IsOfSource bytes name notes entry))
+    ((path : List ℕ) × (name : List ℕ) × IsPathAndName word path name × HasBytes (held path) longest_file (λ bytes. IsOfSource bytes name notes entry))
     ⊎ (IsPath word × HasBytes (held word) 131072 (λ bytes. IsOfFile bytes notes entry))
 
 -- the source text has a fault
@@ -86,7 +86,7 @@ IsPackFailure bytes _ = ⊥
 
 -- the file at a path can't be had, or can't be read
 abbrev pub FailsInSource : Held → List ℕ → Failure → Type 0
-FailsInSource held path failure = IsFileFailure path failure ⊎ HasBytes (held path) 16777216 (λ bytes. IsSourceFailure bytes failure)
+FailsInSource held path failure = IsFileFailure path failure ⊎ HasBytes (held path) longest_file (λ bytes. IsSourceFailure bytes failure)
 
 abbrev pub FailsInFile : Held → List ℕ → Failure → Type 0
 FailsInFile held path failure = IsFileFailure path failure ⊎ HasBytes (held path) 131072 (λ bytes. IsPackFailure bytes failure)

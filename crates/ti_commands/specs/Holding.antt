@@ -17,6 +17,10 @@ IsLeft known left = IfSome known (λ held. left ≡ Some held)
 abbrev pub AreFirstBytesOf : Option (List ℕ) → ℕ → List ℕ → Type 0
 AreFirstBytesOf known count bytes = IfSome known (λ held. bytes ≡ take count held)
 
+-- the most bytes of a source file, of a file that is fed, and of one in a survey
+abbrev pub longest_file : ℕ
+longest_file = 16777216
+
 -- a file's bytes, of at most so many, of which this holds
 pub record HasBytes (held : Option (List ℕ)) (limit : ℕ) (P : List ℕ → Type 0) : Type 0 where
   pub bytes : List ℕ

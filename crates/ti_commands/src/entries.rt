@@ -3,13 +3,13 @@
 ghost use Rattle.std.specs.Prelude.{◌≡◌, ◌++◌, IfErr, IfNone, IfOk, IfSome, OnOk};
 ghost use Rattle.std.specs.List.{AllByRecursion, flat_map};
 ghost use Rattle.ti_source.specs.Raw.{IsRaw};
-ghost use Rattle.ti_commands.specs.Holding.{HasBytes};
+ghost use Rattle.ti_commands.specs.Holding.{HasBytes, longest_file};
 ghost use Rattle.ti_commands.specs.Finding.{FailsInFile, FailsInSource, FailsToFind, Finds, FitsTo, IsOfFile, IsOfSource, IsPath, IsPathAndName, ResolvesTo, IsPackFailure, IsSourceFailure, note_line, note_name, notes_text};
 
 use crate::explaining::{explain_packed, explain_source};
 use crate::failure::{Failure, Refusal};
 use crate::files::Files;
-use crate::reading::read_whole;
+use crate::reading::{LONGEST_FILE, read_whole};
 use crate::remarks::Remarks;
 use crate::unknown_names::unknown_names;
 use std::alloc::{AllocError, Global};
@@ -17,9 +17,6 @@ use ti_caps::Entry;
 use ti_compiled::{PackFault, Packed, decode};
 use ti_resolve::{ResolveFault, resolve};
 use ti_source::{FaultKind, Note, NoteKind, RawEntry, read};
-
-/// The most bytes of a source file.
-const SOURCE_LIMIT: u32 = 16_777_216;
 
 /// The most bytes of a compiled file.
 const COMPILED_LIMIT: u32 = 131_072;
@@ -67,11 +64,11 @@ fn find_in_source<F: Files>(
     name: &str,
     remarks: &mut Remarks,
 ) -> Result<Found, Failure>
-    ensures found { IfOk result (λ found. HasBytes (F.holds files.old path.now) 16777216 (λ bytes. IsOfSource bytes name.now found.notes.items found.entry)) }
+    ensures found { IfOk result (λ found. HasBytes (F.holds files.old path.now) longest_file (λ bytes. IsOfSource bytes name.now found.notes.items found.entry)) }
     ensures failure { IfErr result (λ e. FailsInSource (F.holds files.old) path.now e) }
     ensures kept { F.holds files.new ≡ F.holds files.old }
 {
-    let text = read_whole(alloc, files, path, SOURCE_LIMIT, remarks)?;
+    let text = read_whole(alloc, files, path, LONGEST_FILE, remarks)?;
     let found = find_in_text(alloc, text.as_slice(), name);
     explain_source(alloc, path, text.as_slice(), &found, remarks);
     found

@@ -6,14 +6,11 @@ ghost use Rattle.ti_commands.specs.Feeding.{FailsToFeed, ShowsAfter, ShowsScreen
 use crate::explaining::explain_stuck;
 use crate::failure::{Failure, Refusal, Reply};
 use crate::files::Files;
-use crate::reading::read_whole;
+use crate::reading::{LONGEST_FILE, read_whole};
 use crate::remarks::Remarks;
 use crate::sizes::size_words;
 use std::alloc::Global;
 use vt_term::{Size, Terminal};
-
-/// The most bytes of a file that is fed.
-const LIMIT: u32 = 16_777_216;
 
 /// Feeds the file at `path` to a terminal in its reset state, and shows its screen. Rows and columns are words of
 /// the line.
@@ -30,7 +27,7 @@ pub fn feed_file<F: Files>(
     ensures kept { F.holds files.new ≡ F.holds files.old }
 {
     let size = size_words(alloc, rows, cols, remarks)?;
-    let bytes = read_whole(alloc, files, path, LIMIT, remarks)?;
+    let bytes = read_whole(alloc, files, path, LONGEST_FILE, remarks)?;
     let text = screen_after(alloc, size, path, bytes.as_slice(), remarks)?;
     Ok(Reply::of_text(alloc, text))
 }

@@ -24,7 +24,7 @@ pub use failure::{Failure, Refusal, Reply, report, usage_error};
 pub use feeding::feed_file;
 pub use files::{Cause, FileFault, Files};
 pub use output::{Output, Unwritten, Written};
-pub use reading::{file_fault, read_whole};
+pub use reading::{LONGEST_FILE, file_fault, read_whole};
 pub use remarks::Remarks;
 pub use replying::{write_reply, write_text};
 pub use sizes::size_words;

@@ -10,6 +10,9 @@ use crate::remarks::{Remarks, file_remark, too_long_remark};
 use std::alloc::Global;
 use std::io::Read;
 
+/// The most bytes of a source file, of a file that is fed, and of one in a survey.
+pub const LONGEST_FILE: u32 = 16_777_216;
+
 /// The bytes of the file at `path`, at most `limit` of them: of a longer file one byte more is read,
 /// and then it is refused as one that can't be read.
 pub fn read_whole<F: Files>(

@@ -21,6 +21,9 @@ agreed_conforms entry t fit j agrees =
       cols_are = refl;
       sends = agrees;
       right = λ row bytes there. (k.lines row bytes there).right;
+      switches = λ row bytes there s rest start c.
+          let e = (k.lines row bytes there).ends s rest start in
+          record { after = e.after; runs = e.runs; there = e.there.active (k.sets.settled s.screen.charset c) };
       plain = λ unchecked c p. k.sets.plain (no_sets t ((agrees Smacs tt).unchecked unchecked)) c (k.sets.settled c p);
       resyncs = record {
         rest = j.rest;

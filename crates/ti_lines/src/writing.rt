@@ -1,53 +1,87 @@
 //! The text of a line about a checked capability.
+ghost use Rattle.std.specs.Prelude.{◌≡◌, ◌<◌, ◌++◌, ◌∷◌, [], slice_index, OnOk};
 ghost use Rattle.std.specs.Fmt.{decimal};
-ghost use Rattle.std.specs.Prelude.{◌≡◌, ◌++◌, ◌∷◌, [], OnOk, IfOk};
+ghost use Rattle.hex.specs.Hex.{encode_lower, lower_digits};
 ghost use Rattle.ti_lines.specs.Hex.{hex_text};
 ghost use Rattle.ti_lines.specs.Lines as spec;
 
-use crate::lines::RowLine;
-use std::alloc::{AllocError, Global};
+use std::alloc::AllocError;
+use ti_rows::Row;
+use vt_effects::Effect;
+use vt_notation::{push_number, text_into};
 
-impl RowLine {
-    /// The text of the line, without its LF. An `AllocError` comes if there is no memory for it.
-    pub fn text(&self, alloc: Global) -> Result<Vec<u8>, AllocError>
-        ensures { IfOk result (λ text. text.items ≡ spec.line_text self.now) }
-    {
-        let mut text = Vec::new(alloc);
-        text.extend_from_slice(self.row.name())?;
-        text.push(b' ')?;
-        push_numbers(alloc, self.row.params().as_slice(), &mut text)?;
-        push_hex(alloc, self.bytes.as_slice(), &mut text)?;
-        text.push(b' ')?;
-        let effect = vt_notation::text(alloc, &self.effect)?;
-        text.extend_from_slice(&effect)?;
-        Ok(text)
-    }
+/// Appends the text of a line about a checked capability, without its LF: with these parameters its
+/// string is these bytes, and their effect is this one. `words` hold the effect's text for the while.
+/// Memory is taken only where one of the two has to grow; the error is out of memory.
+pub fn push_row_line(
+    row: Row,
+    bytes: &[u8],
+    effect: &Effect,
+    words: &mut Vec<u8>,
+    text: &mut Vec<u8>,
+) -> Result<(), AllocError>
+    ensures { OnOk result (text.new.items ≡ text.old.items ++ spec.line_text (record { row = row; bytes = bytes.now; effect = effect.now })) }
+{
+    text.extend_from_slice(row.name())?;
+    text.push(b' ')?;
+    push_numbers(row.params().as_slice(), text)?;
+    push_hex(bytes, text)?;
+    text.push(b' ')?;
+    text_into(effect, words)?;
+    text.extend_from_slice(words.as_slice())
 }
 
 /// Each number in decimal, and a space after it.
-fn push_numbers(alloc: Global, numbers: &[u16], text: &mut Vec<u8>) -> Result<(), AllocError>
+fn push_numbers(numbers: &[u16], text: &mut Vec<u8>) -> Result<(), AllocError>
     ensures { OnOk result (text.new.items ≡ text.old.items ++ spec.numbers_text numbers.now) }
 {
     for number in numbers {
-        push_number(alloc, *number, text)?;
+        push_spaced(*number, text)?;
     }
     Ok(())
 }
 
-fn push_number(alloc: Global, number: u16, text: &mut Vec<u8>) -> Result<(), AllocError>
+fn push_spaced(number: u16, text: &mut Vec<u8>) -> Result<(), AllocError>
     ensures { OnOk result (text.new.items ≡ text.old.items ++ (decimal number ++ 32 ∷ [])) }
 {
-    let digits = format!(in alloc; "{number} ")?;
-    text.extend_from_slice(digits.as_bytes())
+    push_number(number, text)?;
+    text.push(b' ')?;
+    Ok(())
 }
 
-fn push_hex(alloc: Global, bytes: &[u8], text: &mut Vec<u8>) -> Result<(), AllocError>
+/// Appends bytes in hexadecimal, a dash for none. The error is out of memory.
+pub fn push_hex(bytes: &[u8], text: &mut Vec<u8>) -> Result<(), AllocError>
     ensures { OnOk result (text.new.items ≡ text.old.items ++ hex_text bytes.now) }
 {
     if bytes.is_empty() {
         text.push(b'-')?;
         return Ok(());
     }
-    let digits = hex::encode(alloc, bytes)?;
-    text.extend_from_slice(digits.as_bytes())
+    push_digits(bytes, text)
+}
+
+fn push_digits(bytes: &[u8], text: &mut Vec<u8>) -> Result<(), AllocError>
+    ensures { OnOk result (text.new.items ≡ text.old.items ++ encode_lower bytes.now) }
+{
+    for byte in bytes {
+        push_byte(*byte, text)?;
+    }
+    Ok(())
+}
+
+/// The two digits of a byte.
+#[tactic(auto, unfolding(hex::specs::Hex::encode_with))]
+fn push_byte(byte: u8, text: &mut Vec<u8>) -> Result<(), AllocError>
+    ensures { OnOk result (text.new.items ≡ text.old.items ++ encode_lower (byte ∷ [])) }
+{
+    text.push(digit(byte / 16))?;
+    text.push(digit(byte % 16))?;
+    Ok(())
+}
+
+fn digit(value: u8) -> u8
+    requires { value < 16 }
+    ensures { result ≡ slice_index lower_digits value }
+{
+    b"0123456789abcdef"[value as usize]
 }

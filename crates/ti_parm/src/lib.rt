@@ -24,7 +24,7 @@ pub use delays::strip_delays;
 pub use fault::ParmFault;
 pub use param::Param;
 pub use run::{
-    expand, plain_text_is_itself, reads_unset, sent, strings_have_one_answer, strings_spell_trees,
-    unread_statics_have_no_say,
+    expand, plain_text_is_itself, reads_unset, sent, sent_and_reads_unset, strings_have_one_answer,
+    strings_spell_trees, unread_statics_have_no_say,
 };
 pub use statics::Statics;

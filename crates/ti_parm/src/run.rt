@@ -1,6 +1,6 @@
 //! Running a parameter string.
 ghost use Rattle.std.specs.Prelude.{◌≡◌, ◌↔◌, ◌++◌, ◌⊎◌, ℕ, ℤ, List, Result, IfErr, IfOk, IsTrue, OnErr, OnOk, Ok, Err, length, take};
-ghost use Rattle.ti_parm.specs.Delays.{HasNoOpening};
+ghost use Rattle.ti_parm.specs.Delays.{HasNoOpening, strip};
 ghost use Rattle.ti_parm.specs.Fault.{Gives};
 ghost use Rattle.ti_parm.specs.Machine.{state_of};
 ghost use Rattle.ti_parm.specs.Meaning.{Agree, ReadsUnset, State, meaning, sent, sent_with, start_of};
@@ -97,6 +97,23 @@ pub fn sent(
     Ok(())
 }
 
+/// Runs a string from static variables that are all 0, appends what it writes to `out`, and says
+/// whether it reads one that it has not set before. On an error a part may have been written.
+fn run_alone(
+    alloc: Global,
+    string: &[u8],
+    params: &[Param],
+    out: &mut Vec<u8>,
+) -> Result<bool, ParmFault>
+    ensures ok { IfOk result (λ reads. (end : State) × (meaning string.now (values_of params.now) zeros ≡ Ok end) × (IsTrue reads ↔ ReadsUnset end) × (out.new.items ≡ out.old.items ++ end.output)) }
+    ensures fault { IfErr result (λ e. (e ≡ ParmFault.NoMemory) ⊎ (meaning string.now (values_of params.now) zeros ≡ Err e)) }
+{
+    let statics = Statics::new();
+    let mut machine = Machine::new(alloc, params, &statics);
+    run(alloc, string, &mut machine, out)?;
+    Ok(machine.reads_unset())
+}
+
 /// Whether a string, expanded for these parameters with all static variables 0, reads a static
 /// variable that it has not set before. Where it does not, what it sends is the same whatever the
 /// static variables are.
@@ -109,10 +126,28 @@ pub fn reads_unset(alloc: Global, string: &[u8], params: &[Param]) -> Result<boo
     ensures fault { IfErr result (λ e. (e ≡ ParmFault.NoMemory) ⊎ (meaning string.now (values_of params.now) zeros ≡ Err e)) }
 {
     let mut out = Vec::new(alloc);
-    let statics = Statics::new();
-    let mut machine = Machine::new(alloc, params, &statics);
-    run(alloc, string, &mut machine, &mut out)?;
-    Ok(machine.reads_unset())
+    run_alone(alloc, string, params, &mut out)
+}
+
+/// What `sent` and `reads_unset` do, in one run: appends to `out` the bytes that a string sends for
+/// these parameters, and says whether it reads a static variable that it has not set before.
+///
+/// The errors are those of `expand`. On an error a part may have been written.
+///
+/// terminfo(5), "Parameterized Strings", "Delays and Padding".
+pub fn sent_and_reads_unset(
+    alloc: Global,
+    string: &[u8],
+    params: &[Param],
+    out: &mut Vec<u8>,
+) -> Result<bool, ParmFault>
+    ensures ok { IfOk result (λ reads. (end : State) × (meaning string.now (values_of params.now) zeros ≡ Ok end) × (IsTrue reads ↔ ReadsUnset end) × (out.new.items ≡ out.old.items ++ strip end.output)) }
+    ensures fault { IfErr result (λ e. (e ≡ ParmFault.NoMemory) ⊎ (meaning string.now (values_of params.now) zeros ≡ Err e)) }
+{
+    let start = out.len();
+    let reads = run_alone(alloc, string, params, out)?;
+    strip_from(out, start);
+    Ok(reads)
 }
 
 /// A string without `%` is written as it stands, whatever the parameters, and changes no static

@@ -41,7 +41,8 @@ counted rows cols (Setab c) = refl
 counted rows cols (Csr top bottom) = refl
 counted rows cols _ = refl
 
-same_count : (rows cols : ℕ) (row other : Row) → order row ≡ order other → count rows cols row ≡ count rows cols other
+-- rows of one capability have as many lists
+pub same_count : (rows cols : ℕ) (row other : Row) → order row ≡ order other → count rows cols row ≡ count rows cols other
 same_count rows cols row other e = counted rows cols row ∙ (ap (count_at rows cols) e ∙ sym (counted rows cols other))
 
 -- one list more

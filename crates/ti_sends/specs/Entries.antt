@@ -5,7 +5,7 @@ use Rattle.ti_caps.specs.Entry.{Content, string_at}
 use Rattle.ti_rows.specs.declared.rows.Row.{Row}
 use Rattle.ti_rows.specs.declared.rows.Row.TheVariants.{Sgr, Setaf, Setab, Op, Smul, Rev, Blink, Dim, Bold, Invis, Smso, Smacs, Rmacs}
 use Rattle.ti_rows.specs.Names.{order, cap_of, no_attributes}
-use Rattle.ti_rows.specs.Lists.{IsInRange}
+use Rattle.ti_rows.specs.Lists.{IsFirst, IsInRange}
 use Rattle.ti_sends.specs.Agreeing.{LineSends, SomeLine}
 use Rattle.ti_sends.specs.declared.agreeing.AgreeFault.{AgreeFault}
 use Rattle.ti_sends.specs.declared.agreeing.AgreeFault.TheVariants.{Disagree, Unwanted, NoMemory}
@@ -73,5 +73,5 @@ EntryAgrees rows cols entry line_of = (row : Row) → IsInRange rows cols row �
 -- why lines aren't those of an entry, for a row of the table
 abbrev pub IsNotAgreed : ℕ → ℕ → Content → (Row → Option (List ℕ)) → AgreeFault → Type 0
 IsNotAgreed rows cols entry line_of (Disagree row) = IsInRange rows cols row × (is_checked entry row ≡ true) × (EntrySends entry (line_of row) row → ⊥)
-IsNotAgreed rows cols entry line_of (Unwanted row) = (is_checked entry row ≡ false) × SomeLine line_of (order row)
+IsNotAgreed rows cols entry line_of (Unwanted row) = IsFirst rows cols row × (is_checked entry row ≡ false) × SomeLine line_of (order row)
 IsNotAgreed rows cols entry line_of NoMemory = Unit {0}

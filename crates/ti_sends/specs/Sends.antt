@@ -31,9 +31,3 @@ abbrev pub IsUnsent : List ℕ → Row → Unsent → Type 0
 IsUnsent string row Fault = (fault : ParmFault) × (meaning string (values row) zeros ≡ Err fault)
 IsUnsent string row StaticRead = ReadsStatic string row
 IsUnsent string row NoMemory = Unit {0}
-
--- the same of a string and any values, where static variables are not looked at
-abbrev pub IsFaulty : List ℕ → List Value → Unsent → Type 0
-IsFaulty string given Fault = (fault : ParmFault) × (meaning string given zeros ≡ Err fault)
-IsFaulty string given StaticRead = ⊥
-IsFaulty string given NoMemory = Unit {0}

@@ -6,7 +6,7 @@ ghost use Rattle.ti_rows.specs.Names.{order};
 ghost use Rattle.ti_rows.specs.declared.rows.Row.{Row};
 ghost use Rattle.ti_sends.specs.Agreeing as spec;
 
-use crate::sending::{Unsent, send};
+use crate::sending::{Unsent, send_into};
 use std::alloc::Global;
 use ti_rows::Row;
 use vt_term::Size;
@@ -37,23 +37,24 @@ pub enum AgreeFault {
     NoMemory,
 }
 
-/// Whether the row's line has just the bytes that the string sends.
+/// Whether the row's line has just the bytes that the string sends, which go into `bytes`.
 fn row_agrees<L: Lines>(
     alloc: Global,
     size: Size,
     string: &[u8],
     lines: &L,
     row: Row,
+    bytes: &mut Vec<u8>,
 ) -> Result<(), AgreeFault>
     requires { IsInRange size.rows size.cols row }
     ensures sends { OnOk result (spec.LineSends string.now (L.line_of lines.now row) row) }
     ensures fault { IfErr result (spec.IsDisagreement size.rows size.cols string.now (L.line_of lines.now) (order row)) }
 {
-    let bytes = match send(alloc, string, row) {
-        Ok(bytes) => bytes,
+    match send_into(alloc, string, row, bytes) {
+        Ok(()) => {}
         Err(Unsent::NoMemory) => return Err(AgreeFault::NoMemory),
         Err(_) => return Err(AgreeFault::Disagree(row)),
-    };
+    }
     match lines.line(row) {
         Some(line) if line == bytes.as_slice() => Ok(()),
         _ => Err(AgreeFault::Disagree(row)),
@@ -76,9 +77,10 @@ pub fn all_agree<L: Lines>(
     ensures sends { OnOk result (spec.AllSend size.rows size.cols string.now (L.line_of lines.now) (order first)) }
     ensures fault { IfErr result (spec.IsDisagreement size.rows size.cols string.now (L.line_of lines.now) (order first)) }
 {
+    let mut bytes = Vec::new(alloc);
     let mut row = first;
     loop {
-        row_agrees(alloc, size, string, lines, row)?;
+        row_agrees(alloc, size, string, lines, row, &mut bytes)?;
         match row.next(size) {
             Some(next) => row = next,
             None => return Ok(()),

@@ -8,4 +8,4 @@ mod sending;
 
 pub use agreeing::{AgreeFault, Lines, all_agree};
 pub use entries::{Group, entry_agrees, is_checked};
-pub use sending::{Unsent, send};
+pub use sending::{Unsent, send, send_into};

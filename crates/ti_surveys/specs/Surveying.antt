@@ -3,7 +3,7 @@ use Rattle.std.specs.Prelude.{◌≡◌, ◌⊎◌, ℕ, List, [], ◌∷◌, �
 use Rattle.ti_caps.specs.Entry.{Content}
 use Rattle.ti_checker.specs.declared.causes.No.{No}
 use Rattle.ti_commands.specs.Failing.{IsFileFailure}
-use Rattle.ti_commands.specs.Holding.{HasBytes, Held}
+use Rattle.ti_commands.specs.Holding.{HasBytes, Held, longest_file}
 use Rattle.ti_commands.specs.Sizes.{SizeGiven}
 use Rattle.ti_commands.specs.Words.{texts_of}
 use Rattle.ti_commands.specs.declared.failure.Failure.{Failure}
@@ -13,7 +13,7 @@ use Rattle.ti_surveys.specs.declared.surveying.Survey.{Survey}
 
 -- the lines of what a path holds
 abbrev pub HasLines : (Content → List ℕ → Type 0) → Held → List ℕ → List ℕ → Type 0
-HasLines Says held path lines = HasBytes (held path) 16777216 (λ bytes. AreLines Says path bytes lines)
+HasLines Says held path lines = HasBytes (held path) longest_file (λ bytes. AreLines Says path bytes lines)
 
 -- or none
 abbrev pub MayHaveLines : (Content → List ℕ → Type 0) → Held → List ℕ → List ℕ → Type 0

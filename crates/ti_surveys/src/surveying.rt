@@ -10,12 +10,9 @@ use crate::entries::file_lines;
 use crate::tallies::Tally;
 use crate::watching::{Course, Watcher};
 use std::alloc::{AllocError, Global};
-use ti_commands::{Failure, Files, Remarks, Reply, read_whole, size_words};
+use ti_commands::{Failure, Files, LONGEST_FILE, Remarks, Reply, read_whole, size_words};
 use ti_verdicts::Certifier;
 use vt_term::Size;
-
-/// The most bytes of a file.
-const LIMIT: u32 = 16_777_216;
 
 /// The words of `survey`.
 #[derive(Clone, Copy)]
@@ -128,7 +125,7 @@ fn survey_path<C: Certifier, F: Files, W: Watcher>(
     ensures told { IfOk result (λ told. spec.EndsPath (Answers (C.certifies certifier.now) (C.refuses certifier.now) size.rows size.cols) (F.holds files.old) path.now told.lines.items told.failure) }
     ensures kept { F.holds files.new ≡ F.holds files.old }
 {
-    match read_whole(alloc, files, path, LIMIT, remarks) {
+    match read_whole(alloc, files, path, LONGEST_FILE, remarks) {
         Ok(bytes) => Ok(Told {
             lines: file_lines(alloc, certifier, size, path, bytes.as_slice(), course)?,
             failure: None,

@@ -34,6 +34,7 @@ fn explain_cause(
         Cause::AcsByte => explain_pairs(alloc, entry.get_string(no.cap), remarks)?,
         Cause::NoResync => explain_resync(alloc, entry, size, remarks)?,
         Cause::NoMemory => {}
+        Cause::BadLook if matches!(name(no.cap), b"acsc") => remarks.add_words(STAYS_GRAPHIC),
         cause => {
             if let Some(row) = row_of(no) {
                 explain_string(alloc, entry, size, row, cause, remarks)?;
@@ -231,6 +232,11 @@ const NOT_SHOWN: &[u8] =
 const NO_RESYNC: &[u8] =
     b"smcup, enacs, sgr0, rmacs, csr of the whole screen and clear, sent one after another, are to lead a terminal out of any state, so they have to begin with ESC: a sequence that was cut off would take any other first byte as part of it";
 
+const STAYS_GRAPHIC: &[u8] =
+    b"each string is right by itself, but they can leave the line drawing set active, and a program switches sets only where acsc, smacs and rmacs are all there: its letters would show as lines";
+
+const LED_THERE: &[u8] = b"the entry's other strings lead to these character sets";
+
 const NOT_TOGETHER: &[u8] =
     b"each string is right by itself; it is not shown that smacs and rmacs switch the sets in every state that the other strings leave, or that smcup, enacs, sgr0, rmacs, csr and clear, sent one after another, lead from any state to a blank screen";
 
@@ -242,7 +248,7 @@ fn explain_unshown(
     bytes: &[u8],
     remarks: &mut Remarks,
 ) -> Result<(), AllocError> {
-    if row == Row::Clear && is_clearing(alloc, size, bytes) {
+    if row == Row::Clear && does_its_own(alloc, size, row, bytes) {
         remarks.add_words(NOT_TOGETHER);
         return Ok(());
     }
@@ -251,9 +257,9 @@ fn explain_unshown(
     Ok(())
 }
 
-/// Whether the effect of the bytes is the one that is wanted of `clear`.
-fn is_clearing(alloc: Global, size: Size, bytes: &[u8]) -> bool {
-    let row = Row::Clear;
+/// Whether the effect of the bytes is the one that is wanted of the row, where attributes can't be seen.
+/// Which set `smacs` and `rmacs` leave active is no part of it.
+fn does_its_own(alloc: Global, size: Size, row: Row, bytes: &[u8]) -> bool {
     let Ok(found) = tokens(alloc, bytes) else {
         return false;
     };
@@ -336,6 +342,9 @@ fn explain_run(
     let wanted = wanted_words(alloc, row)?;
     let seen = seen_words(alloc, &start, &terminal, probe.fill)?;
     remarks.add_words(start_words(alloc, size, &start, probe.fill)?.as_slice());
+    if does_its_own(alloc, size, row, bytes) {
+        remarks.add_words(LED_THERE);
+    }
     remarks.add_words(wanted.as_slice());
     remarks.add_words(seen.as_slice());
     Ok(())

@@ -8,6 +8,6 @@ mod reading;
 mod spelling;
 mod words;
 
-pub use numbers::number_at;
+pub use numbers::{number_at, push_number};
 pub use reading::read;
-pub use spelling::text;
+pub use spelling::{text, text_into};

@@ -4,7 +4,8 @@ ghost use Rattle.std.specs.Prelude.{◌≡◌, ◌++◌, OnOk};
 ghost use Rattle.std.specs.Fmt.{decimal};
 ghost use Rattle.vt_notation.specs.Reading as spec;
 
-use std::alloc::{AllocError, Global};
+use itoa::Buffer;
+use std::alloc::AllocError;
 
 /// The number with one digit more.
 fn with_digit(number: u16, digit: u8) -> Option<u16>
@@ -53,9 +54,10 @@ pub(crate) fn positive_at(digits: &[u8]) -> Option<u16>
     }
 }
 
-pub(crate) fn push_number(alloc: Global, text: &mut Vec<u8>, number: u16) -> Result<(), AllocError>
+/// Appends the number in decimal. The error is out of memory.
+pub fn push_number(number: u16, text: &mut Vec<u8>) -> Result<(), AllocError>
     ensures { OnOk result (text.new.items ≡ text.old.items ++ decimal number) }
 {
-    let digits = format!(in alloc; "{number}")?;
-    text.extend_from_slice(digits.as_bytes())
+    let mut digits = Buffer::new();
+    text.extend_from_slice(digits.format(number).as_bytes())
 }

@@ -6,6 +6,7 @@ ghost use Rattle.vt_notation.specs.Writing.{with_text, with_texts};
 
 use crate::letters::{are_dots, ink_letter, switch_letter};
 use crate::numbers::push_number;
+use itoa::Buffer;
 use std::alloc::{AllocError, Global};
 use vt_effects::{Effect, Erasure, Move, Region, Rendering, Scroll, Sets, Switch};
 
@@ -23,25 +24,34 @@ pub fn text(alloc: Global, effect: &Effect) -> Result<Vec<u8>, AllocError>
     ensures { IfOk result (λ text. text.items ≡ spec.spelled effect.now) }
 {
     let mut text = Vec::new(alloc);
-    push_words(alloc, effect, &mut text)?;
-    if text.is_empty() {
-        text.push(b'-')?;
-    }
+    text_into(effect, &mut text)?;
     Ok(text)
 }
 
-fn push_words(alloc: Global, effect: &Effect, text: &mut Vec<u8>) -> Result<(), AllocError>
+/// Fills `text` with that of an effect, in place of what it was. The error is out of memory.
+pub fn text_into(effect: &Effect, text: &mut Vec<u8>) -> Result<(), AllocError>
+    ensures { OnOk result (text.new.items ≡ spec.spelled effect.now) }
+{
+    text.clear();
+    push_words(effect, text)?;
+    if text.is_empty() {
+        text.push(b'-')?;
+    }
+    Ok(())
+}
+
+fn push_words(effect: &Effect, text: &mut Vec<u8>) -> Result<(), AllocError>
     ensures { OnOk result (text.new.items ≡ with_texts text.old.items (spec.texts effect.now)) }
 {
-    push_row(alloc, effect.row, text)?;
-    push_col(alloc, effect.col, text)?;
+    push_row(effect.row, text)?;
+    push_col(effect.col, text)?;
     push_pending(effect.ends_pending, text)?;
-    push_erasure(alloc, effect.erasure, text)?;
+    push_erasure(effect.erasure, text)?;
     push_scroll(effect.scroll, text)?;
     push_look(effect.rendition, text)?;
     push_inks(effect.rendition, text)?;
     push_sets(effect.charset, text)?;
-    push_rows(alloc, effect.margins, text)?;
+    push_rows(effect.margins, text)?;
     push_visible(effect.visible, text)
 }
 
@@ -58,17 +68,12 @@ fn push_word(name: &[u8], rest: &[u8], text: &mut Vec<u8>) -> Result<(), AllocEr
     text.extend_from_slice(rest)
 }
 
-fn push_numbered(
-    alloc: Global,
-    name: &[u8],
-    number: u16,
-    text: &mut Vec<u8>,
-) -> Result<(), AllocError>
+fn push_numbered(name: &[u8], number: u16, text: &mut Vec<u8>) -> Result<(), AllocError>
     requires { 0 < length name.now }
     ensures { OnOk result (text.new.items ≡ with_text text.old.items (name.now ++ decimal number)) }
 {
-    let digits = format!(in alloc; "{number}")?;
-    push_word(name, digits.as_bytes(), text)
+    let mut digits = Buffer::new();
+    push_word(name, digits.format(number).as_bytes(), text)
 }
 
 /// A name and letters, unless each of them is a dot.
@@ -83,25 +88,25 @@ fn push_lettered(name: &[u8], letters: &[u8], text: &mut Vec<u8>) -> Result<(), 
     }
 }
 
-fn push_row(alloc: Global, row: Move, text: &mut Vec<u8>) -> Result<(), AllocError>
+fn push_row(row: Move, text: &mut Vec<u8>) -> Result<(), AllocError>
     ensures { OnOk result (text.new.items ≡ with_text text.old.items (spec.move_text spec.row_name row)) }
 {
     match row {
         Move::Kept => Ok(()),
-        Move::To(k) => push_numbered(alloc, b"row=", k, text),
-        Move::Back(k) => push_numbered(alloc, b"row-", k, text),
-        Move::Forward(k) => push_numbered(alloc, b"row+", k, text),
+        Move::To(k) => push_numbered(b"row=", k, text),
+        Move::Back(k) => push_numbered(b"row-", k, text),
+        Move::Forward(k) => push_numbered(b"row+", k, text),
     }
 }
 
-fn push_col(alloc: Global, col: Move, text: &mut Vec<u8>) -> Result<(), AllocError>
+fn push_col(col: Move, text: &mut Vec<u8>) -> Result<(), AllocError>
     ensures { OnOk result (text.new.items ≡ with_text text.old.items (spec.move_text spec.col_name col)) }
 {
     match col {
         Move::Kept => Ok(()),
-        Move::To(k) => push_numbered(alloc, b"col=", k, text),
-        Move::Back(k) => push_numbered(alloc, b"col-", k, text),
-        Move::Forward(k) => push_numbered(alloc, b"col+", k, text),
+        Move::To(k) => push_numbered(b"col=", k, text),
+        Move::Back(k) => push_numbered(b"col-", k, text),
+        Move::Forward(k) => push_numbered(b"col+", k, text),
     }
 }
 
@@ -115,7 +120,7 @@ fn push_pending(ends: bool, text: &mut Vec<u8>) -> Result<(), AllocError>
     }
 }
 
-fn push_erasure(alloc: Global, erasure: Erasure, text: &mut Vec<u8>) -> Result<(), AllocError>
+fn push_erasure(erasure: Erasure, text: &mut Vec<u8>) -> Result<(), AllocError>
     ensures { OnOk result (text.new.items ≡ with_text text.old.items (spec.erasure_text erasure)) }
 {
     match erasure {
@@ -124,7 +129,7 @@ fn push_erasure(alloc: Global, erasure: Erasure, text: &mut Vec<u8>) -> Result<(
         Erasure::Tail => push_word(b"tail", b"", text),
         Erasure::Head => push_word(b"head", b"", text),
         Erasure::Rest => push_word(b"rest", b"", text),
-        Erasure::Next(count) => push_numbered(alloc, b"next=", count, text),
+        Erasure::Next(count) => push_numbered(b"next=", count, text),
     }
 }
 
@@ -174,15 +179,15 @@ fn push_sets(sets: Sets, text: &mut Vec<u8>) -> Result<(), AllocError>
 }
 
 #[tactic(auto, using(crate::proofs::Joins::rows_begun))]
-fn push_rows(alloc: Global, margins: Option<Region>, text: &mut Vec<u8>) -> Result<(), AllocError>
+fn push_rows(margins: Option<Region>, text: &mut Vec<u8>) -> Result<(), AllocError>
     ensures { OnOk result (text.new.items ≡ with_text text.old.items (spec.rows_text margins)) }
 {
     match margins {
         None => Ok(()),
         Some(region) => {
-            push_numbered(alloc, b"rows:", region.top, text)?;
+            push_numbered(b"rows:", region.top, text)?;
             text.push(b',')?;
-            push_number(alloc, text, region.bottom)
+            push_number(region.bottom, text)
         }
     }
 }

@@ -46,6 +46,6 @@ returns g c =
     let given = c.args.session.painter.checked in
     record {
       ran = log_whole g.W.Wire.went c.args.wire.now.wire c.loop-call.wire.wire c.loop-call.wire.sent (g.C.Certificate.table given) (g.C.Alternates.partners given) c.args.calls.now c.loop-call.call-index c.loop-call.session c.loop-call.log.items
-          (omega (arith, c.loop-call-test.false, c.loop-call.auto.call-index-end)) c.loop-call.invariant.played;
+          (omega (arith, c.loop-call-test.false, c.loop-call.auto.call-index-end)) (omega (arith, c.loop-call.log.small, c.loop-call.log.ok, c.loop-call.invariant.room, c.loop-call.auto.call-index-end)) c.loop-call.invariant.played;
       through = c.loop-call.invariant.through;
     }

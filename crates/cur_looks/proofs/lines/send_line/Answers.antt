@@ -1,8 +1,15 @@
-use Rattle.cur_looks.proofs.Doing.{line_steps}
+use Rattle.std.proofs.Common.{length, ap, arith}
+use Rattle.cur_looks.specs.Certified.{or_nothing}
+use Rattle.cur_looks.proofs.Doing.{line_sent, line_steps}
 use Rattle.cur_looks.proofs.lines.send_line.Goals as goal
 
 pub returns : goal.returns
-returns g c = record {
-  step = λ n x y b d le turns. line_steps g.W.Wire.went g.W.Wire.failures c.args.wire.now c.send_all.new.wire c.send_all.result (g.C.Certificate.table c.args.checked.now) c.rows.ensures.checked c.args.row c.args.bytes.now c.requires.line
-      n x y b d le turns c.send_all.ensures.sends;
-}
+returns g c =
+    let t = g.C.Certificate.table c.args.checked.now in
+    let same = ap or_nothing c.requires.line in
+    record {
+      exact = λ n x y b d le turns. line_sent g.W.Wire.went g.W.Wire.failures c.args.wire.now c.send_all.new.wire c.send_all.result t c.rows.ensures.checked c.args.row c.args.bytes.now c.requires.line
+          n x y b d (omega (arith, le, ap length same)) turns c.send_all.ensures.sends;
+      step = λ n x y b d le turns. line_steps g.W.Wire.went g.W.Wire.failures c.args.wire.now c.send_all.new.wire c.send_all.result t c.rows.ensures.checked c.args.row c.args.bytes.now c.requires.line
+          n x y b d le turns c.send_all.ensures.sends;
+    }

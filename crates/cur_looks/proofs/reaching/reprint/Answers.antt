@@ -3,9 +3,9 @@ use Rattle.std.proofs.lemmas.Result.{err_from_is_err_and}
 use Rattle.cur_steps.proofs.Stopping.{steps_fail, steps_next, steps_none, steps_wider}
 use Rattle.cur_looks.specs.Certified.{IsPiece, IsLost}
 use Rattle.cur_looks.specs.Inks.{put_at}
-use Rattle.cur_looks.specs.Beliefs.{Agrees, Belief, Place, after_print}
+use Rattle.cur_looks.specs.Beliefs.{Agrees, Belief, Place}
 use Rattle.cur_looks.proofs.Doing.{agrees_lost}
-use Rattle.cur_looks.proofs.Gaps.{reprinted, next_place}
+use Rattle.cur_looks.proofs.Gaps.{reprinted}
 use Rattle.cur_looks.proofs.reaching.reprint.Goals as goal
 
 pub loop-n-init : goal.loop-n-init
@@ -27,9 +27,9 @@ loop-n-preserved g c =
     let row = c.args.row in
     let col = c.args.from + c.loop-n.n in
     let n = c.loop-n.n in
-    let next : after_print t.cols row col ≡ Some (record { row = row; col = c.args.from + (n + 1) }) = next_place t.cols row col (c.args.from + (n + 1)) (omega (arith, c.requires.col, c.loop-n-test.true)) (omega arith) in
+    let next : col + 1 ≡ c.args.from + (n + 1) = omega arith in
     record {
-      belief = c.print_at.ensures.belief ∙ ap (λ (x : Belief). record x { place = after_print t.cols row col }) c.loop-n.invariant.belief ∙ ap (λ (o : Option Place). record b { place = o }) next;
+      belief = c.print_at.ensures.belief ∙ ap (λ (x : Belief). record x { place = Some (record { row = row; col = col + 1 }) }) c.loop-n.invariant.belief ∙ ap (λ (m : ℕ). record b { place = Some (record { row = row; col = m }) }) next;
       step = λ h k. steps_next g.W.Wire.went g.W.Wire.failures g.met.W.Wire.lawful c.args.wire.now c.loop-n.wire c.print_at.new.wire _ (Ok tt) (IsPiece t) n 1 (n + 1) (IsLost t) (Agrees t h b) (Agrees t h a) (Agrees t h z) (omega arith)
           (c.loop-n.invariant.step h k)
           (steps_wider g.W.Wire.went g.W.Wire.failures c.loop-n.wire c.print_at.new.wire _ (IsPiece t) 1 1 (IsLost t) (Agrees t h a) (Agrees t (put_at row col c.at.result h) z) (Agrees t h a) (Agrees t h z) (omega arith) (λ s x. x)

@@ -1,25 +1,19 @@
-use Rattle.std.proofs.Common.{◌+◌, ◌-◌, ◌*◌, sym, ◌∙◌, arith}
-use Rattle.std.proofs.lemmas.Result.{err_from_is_err_and}
+use Rattle.std.proofs.Common.{◌+◌, ◌-◌, ◌*◌, arith}
 use Rattle.cur_looks.specs.Inks.{mixed}
-use Rattle.cur_paint.specs.Differ.{span}
+use Rattle.cur_paint.specs.Differ.{IsSameOutside, span}
 use Rattle.cur_looks.specs.Certified.{IsPiece, IsLost, cell_limit}
 use Rattle.cur_looks.specs.Beliefs.{Agrees}
-use Rattle.cur_steps.proofs.Stopping.{steps_next, steps_fail, steps_wider, on_ok_map}
-use Rattle.cur_paint.proofs.Mixing.{span_parts, span_grows, times_grows, sum_limit, agrees_at, row_done}
+use Rattle.cur_steps.proofs.Stopping.{steps_wider, on_ok_map}
+use Rattle.cur_paint.proofs.Mixing.{span_parts, times_grows, front_shown, row_done}
 use Rattle.cur_paint.proofs.rows.mend_row.Goals as goal
 
-pub returns-in_err-mend_span-clause-step : goal.returns-in_err-mend_span-clause-step
-returns-in_err-mend_span-clause-step g c =
-    let e = err_from_is_err_and c.from_residual.result c.from_residual.ensures.1 in
+pub mend_columns-requires-clause-same : goal.mend_columns-requires-clause-same
+mend_columns-requires-clause-same g c =
     let t = g.C.Certificate.table c.args.checked.now in
-    let b = c.args.belief.now in
     let old = g.O.View.cells c.args.old.now in
     let new = g.N.View.cells c.args.new.now in
-    let row = c.args.row in
-    let from = c.blank_from-from.result in
-    rw e.1 (steps_fail g.W.Wire.went g.W.Wire.failures c.args.wire.now c.mend_span.new.wire _ _ (IsPiece t) (span old new row 0 from * cell_limit t) (span old new row 0 t.cols * cell_limit t) (IsLost t)
-    (Agrees t (mixed old new row 0) b) (Agrees t (mixed old new row (0 + from)) c.mend_span.new.belief) (Agrees t (mixed old new (row + 1) 0) c.mend_span.new.belief)
-    (times_grows _ _ (cell_limit t) (span_grows old new row 0 from t.cols (omega (arith, c.blank_from-from.ensures.within, c.cols.ensures.value)))) c.in_err-mend_span.ensures.step)
+    let outside : IsSameOutside old new c.args.row c.columns-columns.result.from c.columns-columns.result.end c.cols.result = c.columns-columns.ensures.same old new c.requires.changes in
+    λ k le lt. outside.after k le (omega (arith, lt, c.cols.ensures.value))
 
 pub returns-clause-idle : goal.returns-clause-idle
 returns-clause-idle g c =
@@ -27,9 +21,9 @@ returns-clause-idle g c =
     let old = g.O.View.cells c.args.old.now in
     let new = g.N.View.cells c.args.new.now in
     let row = c.args.row in
-    let from = c.blank_from-from.result in
-    let parts = span_parts old new row from t.cols (omega (arith, c.blank_from-from.ensures.within, c.cols.ensures.value)) in
-    on_ok_map c.mend_tail.result _ _ (λ f e. f (omega (arith, e, parts)) ∙ c.in_ok-mend_span.ensures.idle (omega (arith, e, parts))) c.mend_tail.ensures.idle
+    let from = c.lesser-from.result in
+    let parts = span_parts old new row from t.cols (omega (arith, c.lesser-from.ensures.first, c.tail_from-tail.ensures.within, c.columns-columns.ensures.within, c.cols.ensures.value)) in
+    on_ok_map c.mend_columns.result _ _ (λ f e. f (omega (arith, e, parts))) c.mend_columns.ensures.idle
 
 pub returns-clause-step : goal.returns-clause-step
 returns-clause-step g c =
@@ -38,16 +32,9 @@ returns-clause-step g c =
     let old = g.O.View.cells c.args.old.now in
     let new = g.N.View.cells c.args.new.now in
     let row = c.args.row in
-    let from = c.blank_from-from.result in
-    let parts = span_parts old new row from t.cols (omega (arith, c.blank_from-from.ensures.within, c.cols.ensures.value)) in
-    let whole = span old new row 0 t.cols * cell_limit t in
-    steps_wider g.W.Wire.went g.W.Wire.failures c.args.wire.now c.mend_tail.new.wire c.mend_tail.result (IsPiece t) whole whole (IsLost t)
-    (Agrees t (mixed old new row 0) b) (Agrees t (mixed old new row t.cols) c.mend_tail.new.belief) (Agrees t (mixed old new row 0) b) (Agrees t (mixed old new (row + 1) 0) c.mend_tail.new.belief)
-    (omega arith) (λ s x. x) (row_done t old new row c.mend_tail.new.belief)
-    (steps_next g.W.Wire.went g.W.Wire.failures g.met.W.Wire.lawful c.args.wire.now c.mend_span.new.wire c.mend_tail.new.wire _ c.mend_tail.result (IsPiece t)
-    (span old new row 0 from * cell_limit t) (span old new row from (t.cols - from) * cell_limit t) whole (IsLost t)
-    (Agrees t (mixed old new row 0) b) (Agrees t (mixed old new row (0 + from)) c.mend_span.new.belief) (Agrees t (mixed old new row t.cols) c.mend_tail.new.belief)
-    (sum_limit _ _ _ (cell_limit t) (sym parts)) c.in_ok-mend_span.ensures.step
-    (steps_wider g.W.Wire.went g.W.Wire.failures c.mend_span.new.wire c.mend_tail.new.wire c.mend_tail.result (IsPiece t) (span old new row from (t.cols - from) * cell_limit t) (span old new row from (t.cols - from) * cell_limit t) (IsLost t)
-    (Agrees t (mixed old new row from) c.mend_span.new.belief) (Agrees t (mixed old new row t.cols) c.mend_tail.new.belief) (Agrees t (mixed old new row (0 + from)) c.mend_span.new.belief) (Agrees t (mixed old new row t.cols) c.mend_tail.new.belief)
-    (omega arith) (agrees_at t old new row (0 + from) from c.mend_span.new.belief (omega arith)) (λ s x. x) c.mend_tail.ensures.step))
+    let from = c.lesser-from.result in
+    let outside : IsSameOutside old new row c.columns-columns.result.from c.columns-columns.result.end c.cols.result = c.columns-columns.ensures.same old new c.requires.changes in
+    let parts = span_parts old new row from t.cols (omega (arith, c.lesser-from.ensures.first, c.tail_from-tail.ensures.within, c.columns-columns.ensures.within, c.cols.ensures.value)) in
+    steps_wider g.W.Wire.went g.W.Wire.failures c.args.wire.now c.mend_columns.new.wire c.mend_columns.result (IsPiece t) (span old new row from (t.cols - from) * cell_limit t) (span old new row 0 t.cols * cell_limit t) (IsLost t)
+    (Agrees t (mixed old new row from) b) (Agrees t (mixed old new row t.cols) c.mend_columns.new.belief) (Agrees t (mixed old new row 0) b) (Agrees t (mixed old new (row + 1) 0) c.mend_columns.new.belief)
+    (times_grows _ _ (cell_limit t) (omega (arith, parts))) (front_shown t old new row from b (λ k lt. outside.before k (omega (arith, lt, c.lesser-from.ensures.second)))) (row_done t old new row c.mend_columns.new.belief) c.mend_columns.ensures.step

@@ -5,9 +5,13 @@ use Rattle.ti_cert.specs.Table.{table_of}
 use Rattle.ti_cert.specs.Table as tables
 use Rattle.ti_cert.specs.Verified.{Resyncs}
 use Rattle.ti_cert.proofs.Accepted.{verified, is_verified, agrees_at, resyncs, at_ok}
-use Rattle.std.proofs.Common.{◌≡◌, sym, subst}
+use Rattle.std.proofs.Common.{◌≡◌, refl, sym, subst}
 use Rattle.std.proofs.lemmas.Result.{IfErr-weaker}
 use Rattle.ti_reader.specs.Reader.{Rose}
+use Rattle.ti_sends.specs.Entries.{has_string}
+use Rattle.ti_rows.specs.declared.rows.Row.TheVariants.{Home, El}
+use Rattle.ti_cert.specs.Basic.{IsVerifyStopped, basic_text_of}
+use Rattle.ti_cert.proofs.BasicAgreeing.{basic_table_at}
 use Rattle.ti_cert.specs.Texts.{IsCertRefused}
 use Rattle.ti_cert.specs.declared.faults.AgreeFault.TheVariants as agreeing
 use Rattle.ti_cert.specs.declared.faults.VerifyFault.{VerifyFault}
@@ -34,3 +38,16 @@ returns-in-Ok-agrees-clause-refused g c = λ text left.
     let F = Rose (g.R.Reader.failures c.args.reader.now) (g.R.Reader.failures c.audit_from.new.reader) in
     IfErr-weaker c.handed_out.result (λ fault. fault ≡ Agree agreeing.NoMemory) (IsCertRefused c.args.size.rows c.args.size.cols text F)
     (λ fault e. subst (λ (f : VerifyFault). IsCertRefused c.args.size.rows c.args.size.cols text F f) (sym e) tt) c.handed_out.ensures.fails
+
+pub returns-in-Err-clause-basic : goal.returns-in-Err-clause-basic
+returns-in-Err-clause-basic g c = λ basic left. c.in-Err.ensures.basic (has_string c.args.entry.now Home) (has_string c.args.entry.now El) left
+
+pub returns-in-Ok-agrees-clause-basic : goal.returns-in-Ok-agrees-clause-basic
+returns-in-Ok-agrees-clause-basic g c = λ basic left.
+    let F = Rose (g.R.Reader.failures c.args.reader.now) (g.R.Reader.failures c.audit_from.new.reader) in
+    IfErr-weaker c.handed_out.result (λ fault. fault ≡ Agree agreeing.NoMemory) (IsVerifyStopped F) (λ fault e. subst (IsVerifyStopped F) (sym e) refl) c.handed_out.ensures.fails
+
+pub returns-in-Err-agrees-clause-basic : goal.returns-in-Err-agrees-clause-basic
+returns-in-Err-agrees-clause-basic g c = λ basic left.
+    c.in-Err-agrees.ensures.basic (basic_table_at c.args.entry.now c.in-Ok.table c.args.size.rows c.args.size.cols c.in-Ok.ensures.rows c.in-Ok.ensures.cols c.args.size.limits basic
+    (c.in-Ok.ensures.accepted (basic_text_of c.args.entry.now c.args.size.rows c.args.size.cols) left))

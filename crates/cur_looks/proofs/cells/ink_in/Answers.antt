@@ -1,0 +1,26 @@
+use Rattle.std.proofs.Common.{arith}
+use Rattle.std.proofs.lemmas.Result.{err_from_is_err_and}
+use Rattle.cur_steps.proofs.Stopping.{steps_fail, steps_next}
+use Rattle.cur_looks.specs.Certified.{IsPiece, IsLost}
+use Rattle.cur_looks.specs.Inks.{put_at}
+use Rattle.cur_looks.specs.Beliefs.{Agrees, brush_limit, stamp_limit, ink_limit}
+use Rattle.cur_looks.proofs.cells.ink_in.Goals as goal
+
+pub returns-in_err-brush_as : goal.returns-in_err-brush_as
+returns-in_err-brush_as g c =
+    let e = err_from_is_err_and c.from_residual.result c.from_residual.ensures.1 in
+    let t = g.C.Certificate.table c.args.checked.now in
+    let b = c.args.belief.now in
+    rw e.1 (record {
+      step = λ h. steps_fail g.W.Wire.went g.W.Wire.failures c.args.wire.now c.brush_as.new.wire _ _ (IsPiece t) (brush_limit t) (ink_limit t) (IsLost t) (Agrees t h b) (Agrees t h c.brush_as.new.belief) (Agrees t (put_at c.args.row c.args.col c.args.ink h) c.brush_as.new.belief)
+          (omega arith) (c.in_err-brush_as.ensures.step h);
+    })
+
+pub returns : goal.returns
+returns g c =
+    let t = g.C.Certificate.table c.args.checked.now in
+    let b = c.args.belief.now in
+    record {
+      step = λ h. steps_next g.W.Wire.went g.W.Wire.failures g.met.W.Wire.lawful c.args.wire.now c.brush_as.new.wire c.stamp.new.wire _ c.stamp.result (IsPiece t) (brush_limit t) (stamp_limit t) (ink_limit t) (IsLost t)
+          (Agrees t h b) (Agrees t h c.brush_as.new.belief) (Agrees t (put_at c.args.row c.args.col c.args.ink h) c.stamp.new.belief) (omega arith) (c.in_ok-brush_as.ensures.step h) (c.stamp.ensures.step h);
+    }

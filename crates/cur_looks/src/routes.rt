@@ -1,0 +1,260 @@
+//! The way to a place, chosen by its bytes: by a line, over the cells between, printed once more, or by a line to a stop
+//! and then so.
+ghost use Rattle.std.specs.Prelude.{◌≡◌, ◌+◌, ◌<◌, ◌≤◌, ℕ, true, length, Option, Some, None, IfSome};
+ghost use Rattle.cur_looks.specs.Certified.{text_of};
+ghost use Rattle.cur_looks.specs.Gaps.{IsAlike, IsGap};
+ghost use Rattle.cur_looks.specs.Beliefs.{Place};
+ghost use Rattle.cur_looks.specs.Moves.{Moves};
+ghost use Rattle.cur_looks.specs.Routes.{IsLeg, IsRoute, leg_bytes};
+
+use crate::beliefs::{Belief, Place};
+use crate::certificates::Certificate;
+use crate::inks::{Ink, View, same_brush};
+use crate::moves::shortest;
+use crate::steps::is_active;
+use ti_rows::Row;
+
+/// The last part of a way.
+#[derive(Clone, Copy)]
+pub enum Leg {
+    /// By a row's line.
+    By(Row),
+    /// Over the cells of the line from that column on, printed once more.
+    Over(usize),
+}
+
+/// A place on the way, and the row whose line leads there.
+#[derive(Clone, Copy)]
+pub struct Stop {
+    pub line: Row,
+    pub place: Place,
+}
+
+/// A way to a place, and how many bytes it takes.
+#[derive(Clone, Copy)]
+pub struct Route {
+    pub stop: Option<Stop>,
+    pub leg: Leg,
+    pub bytes: usize,
+}
+
+/// Whether a character is printed like this now.
+fn is_alike(belief: &Belief, ink: Ink) -> bool
+    ensures { result ≡ true → IsAlike belief.now ink }
+{
+    same_brush(belief.brush, ink.brush) && is_active(belief.graphic, ink.graphic)
+}
+
+/// Whether so many cells of a line from a column on are printed like this now.
+fn are_alike<N: View>(belief: &Belief, shown: &N, row: usize, from: usize, count: usize) -> bool
+    requires { from + count ≤ 1000 }
+    ensures { result ≡ true → (k : ℕ) → k < count → IsAlike belief.now (N.cells shown.now row (from + k)) }
+{
+    for n in 0..count {
+        if !is_alike(belief, shown.at(row, from + n)) {
+            return false;
+        }
+    }
+    true
+}
+
+/// How many bytes a row's line has.
+fn line_length<C: Certificate>(checked: &C, line: Row) -> usize
+    ensures { result ≡ length (text_of (C.table checked.now) line) }
+{
+    match checked.line(line) {
+        Some(bytes) => bytes.len(),
+        None => 0,
+    }
+}
+
+/// Where the cursor stands in a line, if the cells from there to a column are fewer than the bytes of the
+/// move and are printed like this now.
+fn gap_start<C: Certificate, N: View>(
+    checked: &C,
+    belief: &Belief,
+    shown: &N,
+    row: usize,
+    col: usize,
+    bytes: usize,
+) -> Option<usize>
+    requires col { col < (C.table checked.now).cols }
+    requires bytes { bytes ≤ (C.table checked.now).longest.cup }
+    ensures gap { IfSome result (λ from. IsGap (C.table checked.now) belief.now (N.cells shown.now) row from col) }
+{
+    let _ = checked.rows();
+    let _ = checked.cols();
+    let Some(at) = belief.place else {
+        return None;
+    };
+    if at.row != row || col <= at.col {
+        return None;
+    }
+    let count = col - at.col;
+    if count < bytes && are_alike(belief, shown, row, at.col, count) {
+        Some(at.col)
+    } else {
+        None
+    }
+}
+
+/// A leg to a place from where the cursor is believed to be.
+fn leg_to<C: Certificate, N: View>(
+    checked: &C,
+    belief: &Belief,
+    shown: &N,
+    row: usize,
+    col: usize,
+) -> Leg
+    requires row { row < (C.table checked.now).rows }
+    requires col { col < (C.table checked.now).cols }
+    ensures leg { IsLeg (C.table checked.now) belief.now (N.cells shown.now) row col result }
+{
+    let _ = checked.rows();
+    let _ = checked.cols();
+    let line = shortest(checked, belief.place, row as u16, col as u16);
+    let bytes = line_length(checked, line);
+    match gap_start(checked, belief, shown, row, col, bytes) {
+        Some(from) => Leg::Over(from),
+        None => Leg::By(line),
+    }
+}
+
+/// How many bytes a leg takes.
+fn leg_length<C: Certificate>(checked: &C, leg: Leg, col: usize) -> usize
+    requires { col < (C.table checked.now).cols }
+    ensures { result ≡ leg_bytes (C.table checked.now) leg col }
+{
+    match leg {
+        Leg::By(line) => line_length(checked, line),
+        Leg::Over(from) => col.saturating_sub(from),
+    }
+}
+
+/// A way without a stop.
+fn direct<C: Certificate, N: View>(
+    checked: &C,
+    belief: &Belief,
+    shown: &N,
+    row: usize,
+    col: usize,
+) -> Route
+    requires row { row < (C.table checked.now).rows }
+    requires col { col < (C.table checked.now).cols }
+    ensures route { IsRoute (C.table checked.now) belief.now (N.cells shown.now) row col result }
+{
+    let leg = leg_to(checked, belief, shown, row, col);
+    let bytes = leg_length(checked, leg, col);
+    Route {
+        stop: None,
+        leg,
+        bytes,
+    }
+}
+
+/// The way with a stop to which that line leads, if it is the shorter one.
+fn with_stop<C: Certificate, N: View>(
+    checked: &C,
+    belief: &Belief,
+    shown: &N,
+    row: usize,
+    col: usize,
+    best: Route,
+    stop: Stop,
+) -> Route
+    requires row { row < (C.table checked.now).rows }
+    requires col { col < (C.table checked.now).cols }
+    requires best { IsRoute (C.table checked.now) belief.now (N.cells shown.now) row col best }
+    requires moves { Moves (C.table checked.now).cols belief.now.place stop.place.row stop.place.col stop.line }
+    ensures route { IsRoute (C.table checked.now) belief.now (N.cells shown.now) row col result }
+{
+    if stop.place.row >= checked.rows() || stop.place.col >= checked.cols() {
+        return best;
+    }
+    let Some(line) = checked.line(stop.line) else {
+        return best;
+    };
+    if line.len() + 1 >= best.bytes {
+        return best;
+    }
+    let there = Belief {
+        place: Some(stop.place),
+        ..*belief
+    };
+    let leg = leg_to(checked, &there, shown, row, col);
+    let left = leg_length(checked, leg, col);
+    if left < best.bytes - line.len() {
+        Route {
+            stop: Some(stop),
+            leg,
+            bytes: line.len() + left,
+        }
+    } else {
+        best
+    }
+}
+
+/// The corner, by `home`.
+fn corner() -> Stop
+    ensures moves { (cols : ℕ) (from : Option Place) → Moves cols from result.place.row result.place.col result.line }
+{
+    Stop {
+        line: Row::Home,
+        place: Place { row: 0, col: 0 },
+    }
+}
+
+/// The start of the cursor's line, by `cr`.
+fn line_start(at: Place) -> Stop
+    ensures moves { (cols : ℕ) → Moves cols (Some at) result.place.row result.place.col result.line }
+{
+    Stop {
+        line: Row::Cr,
+        place: Place {
+            row: at.row,
+            col: 0,
+        },
+    }
+}
+
+/// Another line in the cursor's column.
+fn same_column<C: Certificate>(checked: &C, at: Place, row: usize) -> Stop
+    requires row { row < (C.table checked.now).rows }
+    requires col { at.col < (C.table checked.now).cols }
+    ensures moves { Moves (C.table checked.now).cols (Some at) result.place.row result.place.col result.line }
+{
+    let _ = checked.rows();
+    let _ = checked.cols();
+    Stop {
+        line: shortest(checked, Some(at), row as u16, at.col as u16),
+        place: Place { row, col: at.col },
+    }
+}
+
+/// A way of few bytes to a place: without a stop, or with one in the corner, at the start of the cursor's line, or
+/// in the line of the place.
+pub(crate) fn route_to<C: Certificate, N: View>(
+    checked: &C,
+    belief: &Belief,
+    shown: &N,
+    row: usize,
+    col: usize,
+) -> Route
+    requires row { row < (C.table checked.now).rows }
+    requires col { col < (C.table checked.now).cols }
+    ensures route { IsRoute (C.table checked.now) belief.now (N.cells shown.now) row col result }
+{
+    let _ = checked.rows();
+    let cols = checked.cols();
+    let best = direct(checked, belief, shown, row, col);
+    let best = with_stop(checked, belief, shown, row, col, best, corner());
+    let Some(at) = belief.place else {
+        return best;
+    };
+    let best = with_stop(checked, belief, shown, row, col, best, line_start(at));
+    if at.col >= cols {
+        return best;
+    }
+    let stop = same_column(checked, at, row);
+    with_stop(checked, belief, shown, row, col, best, stop)
+}

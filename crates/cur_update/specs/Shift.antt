@@ -1,0 +1,12 @@
+-- (Serves the code alone.) From the screen that was shown last to the one to be shown.
+use Rattle.std.specs.Prelude.{ℕ, ◌≡◌, ◌<◌, Bool, true, Option}
+use Rattle.cur_drawing.specs.Cells.{pair_count}
+use Rattle.cur_windows.specs.VirtualScreen.{Screen, colors_at}
+use Rattle.cur_looks.specs.Certified.{Table}
+use Rattle.cur_looks.specs.declared.inks.Ink.{Ink}
+use Rattle.cur_update.specs.Inks.{ink_at}
+
+pub record IsShift (t : Table) (partners : ℕ → Option ℕ) (v w : Screen) (same_pairs : Bool) (old new : ℕ → ℕ → Ink) : Type 0 where
+  pub before : old ≡ ink_at t partners v
+  pub after : new ≡ ink_at t partners w
+  pub pairs : same_pairs ≡ true → (p : ℕ) → p < pair_count → colors_at v p ≡ colors_at w p

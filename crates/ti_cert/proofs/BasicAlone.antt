@@ -1,0 +1,146 @@
+-- A text that is accepted with just the lines of a basic entry is its basic text.
+use Rattle.std.proofs.Common.{◌≡◌, ℕ, List, [], ◌∷◌, map, reverse, Option, Some, None, Result, Ok, inl, inr, refl, sym, ap, subst, ◌∙◌}
+use Rattle.std.proofs.lemmas.Bool.{and_parts}
+use Rattle.std.proofs.lemmas.List.{reverse-reverse}
+use Rattle.std.proofs.lemmas.Option.{same_Some}
+use Rattle.vt_term.specs.Size.{IsSize}
+use Rattle.vt_term.specs.Text.{Splits}
+use Rattle.vt_term.proofs.Splitting.{one_splitting}
+use Rattle.vt_effects.specs.declared.effects.Effect.{Effect}
+use Rattle.vt_effects.specs.Record.{record_of}
+use Rattle.ti_caps.specs.Entry.{Content}
+use Rattle.ti_charsets.specs.Charsets.{IsAmong}
+use Rattle.ti_rows.specs.declared.rows.Row.{Row}
+use Rattle.ti_rows.specs.declared.rows.Row.TheVariants.{Home, El}
+use Rattle.ti_rows.specs.Asked.{start_of}
+use Rattle.ti_lines.specs.declared.lines.RowLine.{RowLine}
+use Rattle.ti_lines.specs.Texts.{texts_of, ended}
+use Rattle.ti_sends.specs.Sends.{Sends}
+use Rattle.ti_sends.specs.Entries.{has_string, string_of}
+use Rattle.ti_cert.specs.Order.{Precedes, HasLine}
+use Rattle.ti_cert.specs.Certificates.{HasEffect}
+use Rattle.ti_cert.specs.Texts.{StandInOrder, IsCertificate}
+use Rattle.ti_cert.specs.Basic.{basic_bytes, basic_effect, basic_line, basic_rows, basic_text, IsBasic, AreSent, BasicAlone}
+use Rattle.ti_cert.proofs.Singleness.{never_itself, never_back}
+use Rattle.ti_cert.proofs.Spelling.{that_of_certificate}
+use Rattle.ti_cert.proofs.Keeping.{among_front, among_behind}
+use Rattle.std.proofs.lemmas.Grind.{reverse_onto}
+use Rattle.ti_cert.proofs.BasicOrder.{Rises, kind_of, in_range, rows_rise}
+use Rattle.ti_cert.proofs.BasicLines.{HasTokens, tokens_of, has_tokens}
+use Rattle.ti_cert.proofs.BasicAgreeing.{checked_kind, among_checked, some_string}
+
+-- ---- lists that rise
+
+tails_same : (rows cols : ℕ) (x : Row) (xs ys : List Row) → ((z : Row) → IsAmong xs z → Precedes rows cols x z) → ((z : Row) → IsAmong (x ∷ xs) z → IsAmong (x ∷ ys) z) → (z : Row) → IsAmong xs z → IsAmong ys z
+tails_same rows cols x xs ys above over z a = by_part (over z (inr a))
+  where
+    by_part : IsAmong (x ∷ ys) z → IsAmong ys z
+    by_part (inl e) = absurd (never_itself rows cols x (subst (λ (r : Row). Precedes rows cols x r) e (above z a)))
+    by_part (inr b) = b
+
+first_same : (rows cols : ℕ) (x y : Row) (xs ys : List Row) → Rises rows cols (x ∷ xs) → Rises rows cols (y ∷ ys) → IsAmong (y ∷ ys) x → IsAmong (x ∷ xs) y → x ≡ y
+first_same rows cols x y xs ys p q (inl e) b = e
+first_same rows cols x y xs ys p q (inr a) (inl e) = sym e
+first_same rows cols x y xs ys p q (inr a) (inr b) = absurd (never_back rows cols x y (p.0 y b) (q.0 x a))
+
+same_rows : (rows cols : ℕ) (xs ys : List Row) → Rises rows cols xs → Rises rows cols ys → ((z : Row) → IsAmong xs z → IsAmong ys z) → ((z : Row) → IsAmong ys z → IsAmong xs z) → xs ≡ ys
+same_rows rows cols [] [] p q over back = refl
+same_rows rows cols [] (y ∷ ys) p q over back = absurd (back y (inl refl))
+same_rows rows cols (x ∷ xs) [] p q over back = absurd (over x (inl refl))
+same_rows rows cols (x ∷ xs) (y ∷ ys) p q over back =
+    let e : x ≡ y = first_same rows cols x y xs ys p q (over x (inl refl)) (back y (inl refl)) in
+    let over_x : (z : Row) → IsAmong (x ∷ xs) z → IsAmong (x ∷ ys) z = λ z a. subst (λ (r : Row). IsAmong (r ∷ ys) z) (sym e) (over z a) in
+    let back_x : (z : Row) → IsAmong (x ∷ ys) z → IsAmong (x ∷ xs) z = λ z a. back z (subst (λ (r : Row). IsAmong (r ∷ ys) z) e a) in
+    let above_y : (z : Row) → IsAmong ys z → Precedes rows cols x z = λ z a. subst (λ (r : Row). Precedes rows cols r z) (sym e) (q.0 z a) in
+    ap (λ (r : Row). r ∷ xs) e ∙ ap (λ (l : List Row). y ∷ l) (same_rows rows cols xs ys p.1 q.1 (tails_same rows cols x xs ys p.0 over_x) (tails_same rows cols x ys xs above_y back_x))
+
+-- ---- the rows of lines that stand in order
+
+abbrev rows_in : List RowLine → List Row
+rows_in lines = map (λ line. line.row) lines
+
+among_rows : (lines : List RowLine) (row : Row) → IsAmong (rows_in lines) row → HasLine lines row
+among_rows [] row a = absurd a
+among_rows (line ∷ lines) row (inl e) = record { line = line; among = inl refl; of_row = sym e }
+among_rows (line ∷ lines) row (inr a) = let h = among_rows lines row a in record { line = h.line; among = inr h.among; of_row = h.of_row }
+
+row_among : (lines : List RowLine) (line : RowLine) → IsAmong lines line → IsAmong (rows_in lines) line.row
+row_among [] line a = absurd a
+row_among (first ∷ lines) line (inl e) = inl (ap (λ (l : RowLine). l.row) e)
+row_among (first ∷ lines) line (inr a) = inr (row_among lines line a)
+
+stands_after : (rows cols : ℕ) (before lines : List RowLine) (line : RowLine) → StandInOrder rows cols before lines → IsAmong before line → (row : Row) → IsAmong (rows_in lines) row → Precedes rows cols line.row row
+stands_after rows cols before [] line s a row b = absurd b
+stands_after rows cols before (next ∷ lines) line s a row (inl e) = subst (λ (r : Row). Precedes rows cols line.row r) (sym e) (s.0.place.behind line a)
+stands_after rows cols before (next ∷ lines) line s a row (inr b) = stands_after rows cols (next ∷ before) lines line s.1 (inr a) row b
+
+in_order : (rows cols : ℕ) (before lines : List RowLine) → StandInOrder rows cols before lines → Rises rows cols (rows_in lines)
+in_order rows cols before [] s = tt
+in_order rows cols before (line ∷ lines) s = (λ row a. stands_after rows cols (line ∷ before) lines line s.1 (inl refl) row a, in_order rows cols (line ∷ before) lines s.1)
+
+has_its_effect : (rows cols : ℕ) (before lines : List RowLine) (line : RowLine) → StandInOrder rows cols before lines → IsAmong lines line → HasEffect rows cols line line.effect
+has_its_effect rows cols before [] line s a = absurd a
+has_its_effect rows cols before (first ∷ lines) line s (inl e) = subst (λ (l : RowLine). HasEffect rows cols l l.effect) (sym e) s.0.has
+has_its_effect rows cols before (first ∷ lines) line s (inr a) = has_its_effect rows cols (first ∷ before) lines line s.1 a
+
+-- ---- each line is the basic one
+
+line_is : (line : RowLine) (bytes : List ℕ) (effect : Effect) → line.bytes ≡ bytes → line.effect ≡ effect → line ≡ record { row = line.row; bytes = bytes; effect = effect }
+line_is line bytes effect b e = ap (λ (x : List ℕ). record { row = line.row; bytes = x; effect = line.effect }) b ∙ ap (λ (x : Effect). record { row = line.row; bytes = bytes; effect = x }) e
+
+effect_is : (rows cols : ℕ) (line : RowLine) → line.bytes ≡ basic_bytes line.row → HasTokens rows cols line.row → HasEffect rows cols line line.effect → line.effect ≡ basic_effect line.row
+effect_is rows cols line b t h =
+    let same = one_splitting (basic_bytes line.row) h.tokens (tokens_of line.row) [] [] (subst (λ (x : List ℕ). Splits x h.tokens []) b h.splits) t.splits in
+    same_Some line.effect (basic_effect line.row) (sym h.recorded ∙ (ap (λ (ts : List (List ℕ)). record_of rows cols (start_of rows cols line.row) ts) (sym same.0) ∙ t.recorded))
+
+all_lines : (lines : List RowLine) → ((line : RowLine) → IsAmong lines line → line ≡ basic_line line.row) → lines ≡ map basic_line (rows_in lines)
+all_lines [] h = refl
+all_lines (line ∷ lines) h = ap (λ (l : RowLine). l ∷ lines) (h line (inl refl)) ∙ ap (λ (ls : List RowLine). basic_line line.row ∷ ls) (all_lines lines (λ l a. h l (inr a)))
+
+same_ok : {E : Type 0} (a b : List ℕ) (r : Result (List ℕ) E) → r ≡ Ok a → r ≡ Ok b → a ≡ b
+same_ok a b r p q = cc
+
+same_sent : (string : List ℕ) (row : Row) (a b : List ℕ) → Sends string row a → Sends string row b → a ≡ b
+same_sent string row a b p q = same_ok a b _ p.sends q.sends
+
+reversed_has : (xs : List RowLine) (x : RowLine) → IsAmong xs x → IsAmong (reverse xs) x
+reversed_has [] x a = absurd a
+reversed_has (y ∷ xs) x (inl e) = subst (λ (l : List RowLine). IsAmong l x) (sym (reverse_onto xs y [])) (among_behind (reverse xs) (y ∷ []) x (inl e))
+reversed_has (y ∷ xs) x (inr a) = subst (λ (l : List RowLine). IsAmong l x) (sym (reverse_onto xs y [])) (among_front (reverse xs) (y ∷ []) x (reversed_has xs x a))
+
+reversed_only : (xs : List RowLine) (x : RowLine) → IsAmong (reverse xs) x → IsAmong xs x
+reversed_only xs x a = subst (λ (l : List RowLine). IsAmong l x) (reverse-reverse xs) (reversed_has (reverse xs) x a)
+
+pub alone : BasicAlone
+unfolding basic_text
+alone entry rows cols text lines size b is sent = sym certificate.spelled.spelled ∙ ap (λ (ls : List RowLine). ended (texts_of (record { rows = rows; cols = cols; acsc = None; lines = ls }))) all
+  where
+    certificate : IsCertificate rows cols text None (reverse lines)
+    certificate = that_of_certificate rows cols text None lines is
+
+    own : (line : RowLine) → IsAmong lines line → IsAmong (basic_rows rows cols (has_string entry Home) (has_string entry El)) line.row
+    own line a = among_checked entry rows cols line.row b (sent.range line a) (sent.checked line a)
+
+    bytes_are : (line : RowLine) → IsAmong lines line → line.bytes ≡ basic_bytes line.row
+    bytes_are line a =
+        let s = some_string (string_of entry line.row) (and_parts (has_string entry line.row) _ (sent.checked line a)).0 in
+        same_sent s.0 line.row line.bytes (basic_bytes line.row) (sent.sends line a s.0 s.1) (b.sends line.row (sent.range line a) (sent.checked line a) s.0 s.1)
+
+    is_basic_line : (line : RowLine) → IsAmong lines line → line ≡ basic_line line.row
+    is_basic_line line a =
+        let t = has_tokens rows cols (has_string entry Home) (has_string entry El) line.row size (kind_of rows cols (has_string entry Home) (has_string entry El) line.row (own line a)) in
+        line_is line (basic_bytes line.row) (basic_effect line.row) (bytes_are line a) (effect_is rows cols line (bytes_are line a) t (has_its_effect rows cols [] (reverse lines) line certificate.stands (reversed_has lines line a)))
+
+    over : (row : Row) → IsAmong (rows_in (reverse lines)) row → IsAmong (basic_rows rows cols (has_string entry Home) (has_string entry El)) row
+    over row a = let h = among_rows (reverse lines) row a in subst (λ (r : Row). IsAmong (basic_rows rows cols (has_string entry Home) (has_string entry El)) r) h.of_row (own h.line (reversed_only lines h.line h.among))
+
+    back : (row : Row) → IsAmong (basic_rows rows cols (has_string entry Home) (has_string entry El)) row → IsAmong (rows_in (reverse lines)) row
+    back row a =
+        let k = kind_of rows cols (has_string entry Home) (has_string entry El) row a in
+        let h = sent.all row (in_range rows cols (has_string entry Home) (has_string entry El) row k).0 (checked_kind entry rows cols row b k) in
+        subst (λ (r : Row). IsAmong (rows_in (reverse lines)) r) h.of_row (row_among (reverse lines) h.line (reversed_has lines h.line h.among))
+
+    all : reverse lines ≡ map basic_line (basic_rows rows cols (has_string entry Home) (has_string entry El))
+    all = all_lines (reverse lines) (λ line a. is_basic_line line (reversed_only lines line a))
+        ∙ ap (λ (rs : List Row). map basic_line rs) (same_rows rows cols (rows_in (reverse lines)) (basic_rows rows cols (has_string entry Home) (has_string entry El)) (in_order rows cols [] (reverse lines) certificate.stands)
+        (rows_rise rows cols (has_string entry Home) (has_string entry El)) over back)

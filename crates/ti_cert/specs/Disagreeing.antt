@@ -1,0 +1,66 @@
+-- When a certificate isn't that of an entry.
+use Rattle.std.specs.Prelude.{ℕ, ◌≡◌, List, []}
+use Rattle.ti_caps.specs.Entry as caps
+use Rattle.ti_caps.specs.Entry.{string_at}
+use Rattle.ti_rows.specs.declared.rows.Row.{Row}
+use Rattle.ti_rows.specs.Lists.{IsInRange}
+use Rattle.ti_rows.specs.Names.{cap_of}
+use Rattle.ti_rows.specs.Params.{params}
+use Rattle.ti_sends.specs.Entries.{acsc, LineAgrees, EntryAgrees}
+use Rattle.ti_conforms.specs.Conforms.{IsFit}
+use Rattle.ti_cert.specs.Strings.{string_in}
+use Rattle.ti_cert.specs.Table.{Content}
+use Rattle.ti_cert.specs.Texts.{IsTableOf}
+use Rattle.ti_cert.specs.Unfit.{IsUnfitBy}
+use Rattle.ti_cert.specs.declared.faults.AgreeFault.{AgreeFault}
+use Rattle.ti_cert.specs.declared.faults.AgreeFault.TheVariants.{Disagree, NoMemory}
+use Rattle.ti_cert.specs.declared.faults.VerifyFault.{VerifyFault}
+use Rattle.ti_cert.specs.declared.faults.VerifyFault.TheVariants.{Cert, Agree}
+
+-- The line of this capability and these parameters, which the size allows, isn't just what the entry sends: it has other
+-- bytes, or isn't there, or is there though the capability isn't checked.
+pub record HasOtherLine (table : Content) (entry : caps.Content) (cap : ℕ) (numbers : List ℕ) : Type 0 where
+  pub row : Row
+  pub cap_is : cap ≡ cap_of row
+  pub params_are : numbers ≡ params row
+  pub range : IsInRange table.known.strings.rows table.known.strings.cols row
+  pub differs : LineAgrees entry (string_in table.known.strings row) row → ⊥
+
+-- Or the capability is why no certificate is for the entry, or its pairs of alternate characters are others: then there are
+-- no parameters.
+pub data IsDisagreement (table : Content) (entry : caps.Content) (cap : ℕ) (numbers : List ℕ) : Type 0 where
+  RuledOut : IsUnfitBy entry cap → numbers ≡ [] → IsDisagreement table entry cap numbers
+  OtherPairs : cap ≡ acsc → (table.acsc ≡ string_at entry acsc → ⊥) → numbers ≡ [] → IsDisagreement table entry cap numbers
+  OtherLine : HasOtherLine table entry cap numbers → IsDisagreement table entry cap numbers
+
+-- running out of memory claims nothing
+abbrev pub IsDisagreeing : Content → caps.Content → AgreeFault → Type 0
+IsDisagreeing table entry (Disagree cap numbers) = IsDisagreement table entry cap numbers.items
+IsDisagreeing table entry NoMemory = Unit {0}
+
+-- the table of a text disagrees so
+pub record TextDisagrees (rows cols : ℕ) (text : List ℕ) (entry : caps.Content) (fault : AgreeFault) : Type 0 where
+  pub table : Content
+  pub rows_are : table.known.strings.rows ≡ rows
+  pub cols_are : table.known.strings.cols ≡ cols
+  pub made : IsTableOf rows cols text table
+  pub disagrees : IsDisagreeing table entry fault
+
+-- of a refusal to verify, where the certificate itself has no fault
+abbrev pub IsAgreeRefused : ℕ → ℕ → List ℕ → caps.Content → VerifyFault → Type 0
+IsAgreeRefused rows cols text entry (Cert fault) = Unit {0}
+IsAgreeRefused rows cols text entry (Agree fault) = TextDisagrees rows cols text entry fault
+
+-- (Serves the code alone.) A disagreement about a capability as a whole, and at a row.
+abbrev pub IsAtCap : ℕ → AgreeFault → Type 0
+IsAtCap named (Disagree cap numbers) = (cap ≡ named) × (numbers.items ≡ [])
+IsAtCap named NoMemory = ⊥
+
+abbrev pub IsAtRow : Row → AgreeFault → Type 0
+IsAtRow row (Disagree cap numbers) = (cap ≡ cap_of row) × (numbers.items ≡ params row)
+IsAtRow row NoMemory = ⊥
+
+-- Where one is so, the certificate isn't that of the entry.
+abbrev pub DisagreementExcludesYes : Type 0
+DisagreementExcludesYes = (table : Content) (entry : caps.Content) (cap : ℕ) (numbers : List ℕ) → IsDisagreement table entry cap numbers → IsFit entry → table.acsc ≡ string_at entry acsc
+    → EntryAgrees table.known.strings.rows table.known.strings.cols entry (λ row. string_in table.known.strings row) → ⊥
