@@ -144,6 +144,19 @@ FILES = {
 }
 
 CUP = "\\E[%i%p1%d;%p2%dH"
+HOMES = "\\E[H" * 1000
+
+
+def longest(front, rows, cols):
+    """The place whose line of `cup`, where this is sent before the place, would make the certificate of `mini` too long."""
+    length = len(f"ticert 2 {rows} {cols}\n") + len(CERTIFICATE.splitlines(keepends=True)[1])
+    for row, col in ((row, col) for row in range(rows) for col in range(cols)):
+        sent = front + f"\x1b[{row + 1};{col + 1}H".encode()
+        length += len(f"cup {row} {col} {sent.hex()} row={row} col={col} nopend\n")
+        if length + len("end\n") > 67108864:
+            return f"cup {row} {col}"
+    return "none"
+
 
 # fields of an entry, the entry that they are added to, the size, and why `check` refuses it; none: it gets its certificate
 CHECKED = [
@@ -205,6 +218,9 @@ CHECKED = [
     # two faults: that of the first line is told
     ("bel=^N, el=%+,", "mini", "2", "2", "bel: WrongEffect"),
     ("sgr0=^O\\E[m, vpa=%+,", "mini", "2", "2", "vpa 0: Underflow"),
+    # longer than a certificate may be, by lines of 6 KB and more
+    (f"cup={HOMES}{CUP},", "mini", "200", "500", longest(b"\x1b[H" * 1000, 200, 500) + ": TooLong"),
+    (f"cup={HOMES}{CUP}, sgr0=%+,", "mini", "200", "50", "sgr0: Underflow"),
 ]
 
 # entries of the system's own database, and why each has its certificate at 24 by 80, worked out by hand from what infocmp prints of it.

@@ -9,3 +9,4 @@ pub mod Smallness
 pub mod Verifying
 pub mod Moving
 pub mod Gaps
+pub mod Blanking

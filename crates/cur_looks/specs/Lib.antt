@@ -5,4 +5,5 @@ pub mod Beliefs
 pub mod Singles
 pub mod Moves
 pub mod Gaps
+pub mod Erasures
 pub mod Routes

@@ -12,8 +12,9 @@ use crate::beliefs::{Belief, Place};
 use crate::certificates::Certificate;
 use crate::inks::{Brush, Ink, View, same_attributes};
 use crate::reaching::reach;
+use crate::routes::is_alike;
 use crate::steps::{
-    attributes_as, background_as, colors_off, erase_tail, foreground_as, print_at, set_as,
+    attributes_as, background_as, colors_off, erase_tail, foreground_as, print_at, set_as, stands,
 };
 use cur_wires::{Wire, WireFault};
 use ti_rows::Attributes;
@@ -81,7 +82,7 @@ fn is_recolored(now: Brush, wanted: Brush) -> bool
 }
 
 /// The brush becomes this one.
-fn brush_as<C: Certificate, W: Wire>(
+pub(crate) fn brush_as<C: Certificate, W: Wire>(
     checked: &C,
     belief: &mut Belief,
     wire: &mut W,
@@ -101,7 +102,7 @@ fn brush_as<C: Certificate, W: Wire>(
 }
 
 /// The cursor is in a place, and the brush is this one.
-fn poise<C: Certificate, N: View, W: Wire>(
+pub(crate) fn poise<C: Certificate, N: View, W: Wire>(
     checked: &C,
     belief: &mut Belief,
     wire: &mut W,
@@ -171,6 +172,9 @@ fn approach<C: Certificate, N: View, W: Wire>(
         (IsLost (C.table checked.now)) (Agrees (C.table checked.now) g belief.old) (Agrees (C.table checked.now) g belief.new) }
 {
     let _ = checked.rows();
+    if stands(belief.place, row, col) {
+        return Ok(());
+    }
     if wraps_to(belief.place, checked.cols(), row, col) {
         return Ok(());
     }
@@ -193,6 +197,9 @@ fn ink_in<C: Certificate, W: Wire>(
     ensures step { (g : ℕ → ℕ → Ink) → Steps W.went W.failures wire.old wire.new result (IsPiece (C.table checked.now)) (ink_limit (C.table checked.now))
         (IsLost (C.table checked.now)) (Agrees (C.table checked.now) g belief.old) (Agrees (C.table checked.now) (put_at row col ink g) belief.new) }
 {
+    if is_alike(belief, ink) {
+        return print_at(checked, belief, wire, row, col, ink);
+    }
     brush_as(checked, belief, wire, ink.brush)?;
     stamp(checked, belief, wire, row, col, ink)
 }

@@ -23,6 +23,7 @@ pub struct Ink {
 
 /// A screen by its places.
 pub trait View {
+    ghost use Rattle.cur_looks.specs.Inks.{same};
     ghost use Rattle.cur_looks.specs.declared.inks.Ink.{Ink};
 
     ghost cells: { Self → ℕ → ℕ → Ink };
@@ -30,6 +31,13 @@ pub trait View {
     /// What is in a place; elsewhere something blank.
     fn at(&self, row: usize, col: usize) -> Ink
         ensures value { result ≡ cells self.now row col };
+
+    /// Whether what is in a place is printed like this.
+    fn shows(&self, row: usize, col: usize, ink: Ink) -> bool
+        ensures value { result ≡ same (cells self.now row col) ink }
+    {
+        is_same(self.at(row, col), ink)
+    }
 }
 
 /// A blank screen.

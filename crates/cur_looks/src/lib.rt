@@ -5,6 +5,7 @@
 mod beliefs;
 mod cells;
 mod certificates;
+mod erasing;
 mod inks;
 mod lines;
 mod modes;
@@ -18,7 +19,8 @@ mod verified;
 pub use beliefs::{Belief, Mode, Place};
 pub use cells::{blank_tail, put_cell};
 pub use certificates::Certificate;
+pub use erasing::{Erasure, erase_at, erase_from, erasing_line};
 pub use inks::{Blank, Brush, Ink, View, is_same};
 pub use modes::show_as;
-pub use reaching::reach;
+pub use reaching::{line_bytes, reach};
 pub use ti_rows::{Attributes, Looks, Marks, Row};

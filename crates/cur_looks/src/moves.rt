@@ -1,5 +1,6 @@
 //! The row by which the cursor moves: of those that lead to a place, one with the shortest line.
-ghost use Rattle.std.specs.Prelude.{ℕ, ◌<◌, ◌≤◌, Option, Some};
+ghost use Rattle.std.specs.Prelude.{ℕ, ◌≡◌, ◌<◌, ◌≤◌, length, Option, Some, IfSome};
+ghost use Rattle.cur_looks.specs.Certified.{text_of};
 ghost use Rattle.cur_looks.specs.Beliefs.{Place};
 ghost use Rattle.cur_looks.specs.Moves.{Moves, IsWay};
 
@@ -7,11 +8,19 @@ use crate::beliefs::Place;
 use crate::certificates::Certificate;
 use ti_rows::Row;
 
+/// A row, and how many bytes its line has.
+#[derive(Clone, Copy)]
+pub(crate) struct Way {
+    pub line: Row,
+    pub bytes: usize,
+}
+
 /// A row with the shortest line that leads from what is known of the cursor's place to this one.
-pub(crate) fn shortest<C: Certificate>(checked: &C, from: Option<Place>, row: u16, col: u16) -> Row
+pub(crate) fn shortest<C: Certificate>(checked: &C, from: Option<Place>, row: u16, col: u16) -> Way
     requires row { row < (C.table checked.now).rows }
     requires col { col < (C.table checked.now).cols }
-    ensures way { IsWay (C.table checked.now) from row col result }
+    ensures way { IsWay (C.table checked.now) from row col result.line }
+    ensures bytes { result.bytes ≡ length (text_of (C.table checked.now) result.line) }
 {
     let best = shorter(checked, straight(checked, row, col), by_corner(row, col));
     let Some(at) = from else {
@@ -26,107 +35,123 @@ pub(crate) fn shortest<C: Certificate>(checked: &C, from: Option<Place>, row: u1
 }
 
 /// `cup`.
-fn straight<C: Certificate>(checked: &C, row: u16, col: u16) -> Row
+fn straight<C: Certificate>(checked: &C, row: u16, col: u16) -> Way
     requires row { row < (C.table checked.now).rows }
     requires col { col < (C.table checked.now).cols }
-    ensures way { (from : Option Place) → IsWay (C.table checked.now) from row col result }
+    ensures way { (from : Option Place) → IsWay (C.table checked.now) from row col result.line }
+    ensures bytes { result.bytes ≡ length (text_of (C.table checked.now) result.line) }
 {
     let _ = checked.rows();
-    Row::Cup(row, col)
+    let line = Row::Cup(row, col);
+    Way {
+        line,
+        bytes: line_length(checked, line),
+    }
+}
+
+/// How many bytes a row's line has.
+fn line_length<C: Certificate>(checked: &C, line: Row) -> usize
+    ensures { result ≡ length (text_of (C.table checked.now) line) }
+{
+    match checked.line(line) {
+        Some(bytes) => bytes.len(),
+        None => 0,
+    }
 }
 
 /// The other row if its line is there and is the shorter one.
-fn shorter<C: Certificate>(checked: &C, best: Row, other: Row) -> Row
-    ensures way { (from : Option Place) (row col : ℕ) → IsWay (C.table checked.now) from row col best → Moves (C.table checked.now).cols from row col other
-        → IsWay (C.table checked.now) from row col result }
+fn shorter<C: Certificate>(checked: &C, best: Way, other: Option<Row>) -> Way
+    requires bytes { best.bytes ≡ length (text_of (C.table checked.now) best.line) }
+    ensures way { (from : Option Place) (row col : ℕ) → IsWay (C.table checked.now) from row col best.line → IfSome other (λ line. Moves (C.table checked.now).cols from row col line)
+        → IsWay (C.table checked.now) from row col result.line }
+    ensures bytes { result.bytes ≡ length (text_of (C.table checked.now) result.line) }
 {
-    let Some(known) = checked.line(best) else {
+    let Some(line) = other else {
         return best;
     };
-    let Some(line) = checked.line(other) else {
-        return best;
-    };
-    if line.len() < known.len() {
-        other
-    } else {
-        best
+    match checked.line(line) {
+        Some(bytes) if bytes.len() < best.bytes => Way {
+            line,
+            bytes: bytes.len(),
+        },
+        _ => best,
     }
 }
 
 /// `home` to the corner.
-fn by_corner(row: u16, col: u16) -> Row
-    ensures moves { (cols : ℕ) (from : Option Place) → Moves cols from row col result }
+fn by_corner(row: u16, col: u16) -> Option<Row>
+    ensures moves { (cols : ℕ) (from : Option Place) → IfSome result (λ line. Moves cols from row col line) }
 {
     if row == 0 && col == 0 {
-        Row::Home
+        Some(Row::Home)
     } else {
-        Row::Cup(row, col)
+        None
     }
 }
 
 /// `cr` to the first column of the cursor's line.
-fn by_line_start(at: Place, row: u16, col: u16) -> Row
-    ensures moves { (cols : ℕ) → Moves cols (Some at) row col result }
+fn by_line_start(at: Place, row: u16, col: u16) -> Option<Row>
+    ensures moves { (cols : ℕ) → IfSome result (λ line. Moves cols (Some at) row col line) }
 {
     if at.row == row as usize && col == 0 {
-        Row::Cr
+        Some(Row::Cr)
     } else {
-        Row::Cup(row, col)
+        None
     }
 }
 
 /// A move by one, to a neighbour, where no wrap is pending.
-fn by_one(at: Place, row: u16, col: u16, cols: usize) -> Row
-    ensures moves { Moves cols (Some at) row col result }
+fn by_one(at: Place, row: u16, col: u16, cols: usize) -> Option<Row>
+    ensures moves { IfSome result (λ line. Moves cols (Some at) row col line) }
 {
     let to = Place {
         row: row as usize,
         col: col as usize,
     };
     if at.row == to.row && at.col == to.col + 1 && at.col < cols {
-        Row::Cub1
+        Some(Row::Cub1)
     } else if at.row == to.row && to.col > 0 && at.col == to.col - 1 {
-        Row::Cuf1
+        Some(Row::Cuf1)
     } else if at.col == to.col && at.row == to.row + 1 {
-        Row::Cuu1
+        Some(Row::Cuu1)
     } else if at.col == to.col && to.row > 0 && at.row == to.row - 1 {
-        Row::Cud1
+        Some(Row::Cud1)
     } else {
-        Row::Cup(row, col)
+        None
     }
 }
 
 /// A move by a count, in the cursor's line or column, where no wrap is pending.
-fn by_count(at: Place, row: u16, col: u16, cols: usize) -> Row
+fn by_count(at: Place, row: u16, col: u16, cols: usize) -> Option<Row>
     requires cols { cols ≤ 1000 }
-    ensures moves { Moves cols (Some at) row col result }
+    ensures moves { IfSome result (λ line. Moves cols (Some at) row col line) }
 {
     let to = Place {
         row: row as usize,
         col: col as usize,
     };
     if at.row == to.row && at.col < to.col {
-        Row::Cuf((to.col - at.col) as u16)
+        Some(Row::Cuf((to.col - at.col) as u16))
     } else if at.row == to.row && at.col < cols {
-        Row::Cub((at.col - to.col) as u16)
+        Some(Row::Cub((at.col - to.col) as u16))
     } else if at.col == to.col && at.row < to.row {
-        Row::Cud((to.row - at.row) as u16)
+        Some(Row::Cud((to.row - at.row) as u16))
     } else if at.col == to.col && at.row < 65_536 {
-        Row::Cuu((at.row - to.row) as u16)
+        Some(Row::Cuu((at.row - to.row) as u16))
     } else {
-        Row::Cup(row, col)
+        None
     }
 }
 
 /// `hpa` to a column of the cursor's line, `vpa` to a row of its column.
-fn by_name(at: Place, row: u16, col: u16) -> Row
-    ensures moves { (cols : ℕ) → Moves cols (Some at) row col result }
+fn by_name(at: Place, row: u16, col: u16) -> Option<Row>
+    ensures moves { (cols : ℕ) → IfSome result (λ line. Moves cols (Some at) row col line) }
 {
     if at.row == row as usize {
-        Row::Hpa(col)
+        Some(Row::Hpa(col))
     } else if at.col == col as usize {
-        Row::Vpa(row)
+        Some(Row::Vpa(row))
     } else {
-        Row::Cup(row, col)
+        None
     }
 }

@@ -1,5 +1,5 @@
 //! The way to a place, gone: by a line, over cells printed once more, or by a line to a stop and then so.
-ghost use Rattle.std.specs.Prelude.{◌≡◌, ◌+◌, ◌*◌, ◌<◌, ℕ, length, Some, OnOk};
+ghost use Rattle.std.specs.Prelude.{◌≡◌, ◌+◌, ◌*◌, ◌<◌, ◌≤◌, ℕ, length, Some, OnOk};
 ghost use Rattle.cur_steps.specs.Steps.{Steps};
 ghost use Rattle.cur_looks.specs.Certified.{IsPiece, IsLost, text_of};
 ghost use Rattle.cur_looks.specs.Inks.{CanShow};
@@ -12,6 +12,7 @@ use crate::beliefs::{Belief, Place};
 use crate::certificates::Certificate;
 use crate::inks::View;
 use crate::lines::send_line;
+use crate::moves::shortest;
 use crate::routes::{Leg, Route, Stop, route_to};
 use crate::steps::{print_at, stands};
 use cur_wires::{Wire, WireFault};
@@ -142,4 +143,39 @@ pub fn reach<C: Certificate, N: View, W: Wire>(
     }
     let route = route_to(checked, belief, shown, row, col);
     follow(checked, belief, wire, shown, row, col, route)
+}
+
+/// The cursor goes to a place by a line, whatever is shown.
+pub(crate) fn reach_by_line<C: Certificate, W: Wire>(
+    checked: &C,
+    belief: &mut Belief,
+    wire: &mut W,
+    row: usize,
+    col: usize,
+) -> Result<(), WireFault>
+    requires row { row < (C.table checked.now).rows }
+    requires col { col < (C.table checked.now).cols }
+    ensures belief { OnOk result (belief.new ≡ record belief.old { place = Some (record { row = row; col = col }) }) }
+    ensures step { (g : ℕ → ℕ → Ink) → Steps W.went W.failures wire.old wire.new result (IsPiece (C.table checked.now)) (C.table checked.now).longest.cup
+        (IsLost (C.table checked.now)) (Agrees (C.table checked.now) g belief.old) (Agrees (C.table checked.now) g belief.new) }
+{
+    let _ = checked.rows();
+    let _ = checked.cols();
+    if stands(belief.place, row, col) {
+        return Ok(());
+    }
+    let way = shortest(checked, belief.place, row as u16, col as u16);
+    belief.place = Some(Place { row, col });
+    send_line(checked, way.line, checked.line(way.line).unwrap(), wire)
+}
+
+/// How many bytes a line takes that leads from what is known of the cursor's place to another.
+pub fn line_bytes<C: Certificate>(checked: &C, from: Option<Place>, row: usize, col: usize) -> usize
+    requires row { row < (C.table checked.now).rows }
+    requires col { col < (C.table checked.now).cols }
+    ensures short { result ≤ (C.table checked.now).longest.cup }
+{
+    let _ = checked.rows();
+    let _ = checked.cols();
+    shortest(checked, from, row as u16, col as u16).bytes
 }

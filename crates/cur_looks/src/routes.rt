@@ -1,7 +1,6 @@
 //! The way to a place, chosen by its bytes: by a line, over the cells between, printed once more, or by a line to a stop
 //! and then so.
-ghost use Rattle.std.specs.Prelude.{◌≡◌, ◌+◌, ◌<◌, ◌≤◌, ℕ, true, length, Option, Some, None, IfSome};
-ghost use Rattle.cur_looks.specs.Certified.{text_of};
+ghost use Rattle.std.specs.Prelude.{◌≡◌, ◌+◌, ◌<◌, ◌≤◌, ℕ, true, Option, Some, None, IfSome};
 ghost use Rattle.cur_looks.specs.Gaps.{IsAlike, IsGap};
 ghost use Rattle.cur_looks.specs.Beliefs.{Place};
 ghost use Rattle.cur_looks.specs.Moves.{Moves};
@@ -38,8 +37,15 @@ pub struct Route {
     pub bytes: usize,
 }
 
+/// A leg, and how many bytes it takes.
+#[derive(Clone, Copy)]
+struct Measured {
+    leg: Leg,
+    bytes: usize,
+}
+
 /// Whether a character is printed like this now.
-fn is_alike(belief: &Belief, ink: Ink) -> bool
+pub(crate) fn is_alike(belief: &Belief, ink: Ink) -> bool
     ensures { result ≡ true → IsAlike belief.now ink }
 {
     same_brush(belief.brush, ink.brush) && is_active(belief.graphic, ink.graphic)
@@ -56,16 +62,6 @@ fn are_alike<N: View>(belief: &Belief, shown: &N, row: usize, from: usize, count
         }
     }
     true
-}
-
-/// How many bytes a row's line has.
-fn line_length<C: Certificate>(checked: &C, line: Row) -> usize
-    ensures { result ≡ length (text_of (C.table checked.now) line) }
-{
-    match checked.line(line) {
-        Some(bytes) => bytes.len(),
-        None => 0,
-    }
 }
 
 /// Where the cursor stands in a line, if the cells from there to a column are fewer than the bytes of the
@@ -105,29 +101,24 @@ fn leg_to<C: Certificate, N: View>(
     shown: &N,
     row: usize,
     col: usize,
-) -> Leg
+) -> Measured
     requires row { row < (C.table checked.now).rows }
     requires col { col < (C.table checked.now).cols }
-    ensures leg { IsLeg (C.table checked.now) belief.now (N.cells shown.now) row col result }
+    ensures leg { IsLeg (C.table checked.now) belief.now (N.cells shown.now) row col result.leg }
+    ensures bytes { result.bytes ≡ leg_bytes (C.table checked.now) result.leg col }
 {
     let _ = checked.rows();
     let _ = checked.cols();
-    let line = shortest(checked, belief.place, row as u16, col as u16);
-    let bytes = line_length(checked, line);
-    match gap_start(checked, belief, shown, row, col, bytes) {
-        Some(from) => Leg::Over(from),
-        None => Leg::By(line),
-    }
-}
-
-/// How many bytes a leg takes.
-fn leg_length<C: Certificate>(checked: &C, leg: Leg, col: usize) -> usize
-    requires { col < (C.table checked.now).cols }
-    ensures { result ≡ leg_bytes (C.table checked.now) leg col }
-{
-    match leg {
-        Leg::By(line) => line_length(checked, line),
-        Leg::Over(from) => col.saturating_sub(from),
+    let way = shortest(checked, belief.place, row as u16, col as u16);
+    match gap_start(checked, belief, shown, row, col, way.bytes) {
+        Some(from) => Measured {
+            leg: Leg::Over(from),
+            bytes: col.saturating_sub(from),
+        },
+        None => Measured {
+            leg: Leg::By(way.line),
+            bytes: way.bytes,
+        },
     }
 }
 
@@ -143,12 +134,11 @@ fn direct<C: Certificate, N: View>(
     requires col { col < (C.table checked.now).cols }
     ensures route { IsRoute (C.table checked.now) belief.now (N.cells shown.now) row col result }
 {
-    let leg = leg_to(checked, belief, shown, row, col);
-    let bytes = leg_length(checked, leg, col);
+    let whole = leg_to(checked, belief, shown, row, col);
     Route {
         stop: None,
-        leg,
-        bytes,
+        leg: whole.leg,
+        bytes: whole.bytes,
     }
 }
 
@@ -181,13 +171,12 @@ fn with_stop<C: Certificate, N: View>(
         place: Some(stop.place),
         ..*belief
     };
-    let leg = leg_to(checked, &there, shown, row, col);
-    let left = leg_length(checked, leg, col);
-    if left < best.bytes - line.len() {
+    let left = leg_to(checked, &there, shown, row, col);
+    if left.bytes < best.bytes - line.len() {
         Route {
             stop: Some(stop),
-            leg,
-            bytes: line.len() + left,
+            leg: left.leg,
+            bytes: line.len() + left.bytes,
         }
     } else {
         best
@@ -226,13 +215,13 @@ fn same_column<C: Certificate>(checked: &C, at: Place, row: usize) -> Stop
     let _ = checked.rows();
     let _ = checked.cols();
     Stop {
-        line: shortest(checked, Some(at), row as u16, at.col as u16),
+        line: shortest(checked, Some(at), row as u16, at.col as u16).line,
         place: Place { row, col: at.col },
     }
 }
 
 /// A way of few bytes to a place: without a stop, or with one in the corner, at the start of the cursor's line, or
-/// in the line of the place.
+/// in the line of the place. A stop from which `cup` alone leads on is left out.
 pub(crate) fn route_to<C: Certificate, N: View>(
     checked: &C,
     belief: &Belief,
@@ -244,15 +233,74 @@ pub(crate) fn route_to<C: Certificate, N: View>(
     requires col { col < (C.table checked.now).cols }
     ensures route { IsRoute (C.table checked.now) belief.now (N.cells shown.now) row col result }
 {
-    let _ = checked.rows();
-    let cols = checked.cols();
     let best = direct(checked, belief, shown, row, col);
-    let best = with_stop(checked, belief, shown, row, col, best, corner());
+    let best = by_corner(checked, belief, shown, row, col, best);
     let Some(at) = belief.place else {
         return best;
     };
-    let best = with_stop(checked, belief, shown, row, col, best, line_start(at));
-    if at.col >= cols {
+    let best = by_line_start(checked, belief, shown, row, col, best, at);
+    by_column(checked, belief, shown, row, col, best, at)
+}
+
+/// The way by the corner, if it is the shorter one: to a place of the first line or the first column.
+fn by_corner<C: Certificate, N: View>(
+    checked: &C,
+    belief: &Belief,
+    shown: &N,
+    row: usize,
+    col: usize,
+    best: Route,
+) -> Route
+    requires row { row < (C.table checked.now).rows }
+    requires col { col < (C.table checked.now).cols }
+    requires best { IsRoute (C.table checked.now) belief.now (N.cells shown.now) row col best }
+    ensures route { IsRoute (C.table checked.now) belief.now (N.cells shown.now) row col result }
+{
+    if row > 0 && col > 0 {
+        return best;
+    }
+    with_stop(checked, belief, shown, row, col, best, corner())
+}
+
+/// The way by the start of the cursor's line, if it is the shorter one: to a place of that line or of the first column.
+fn by_line_start<C: Certificate, N: View>(
+    checked: &C,
+    belief: &Belief,
+    shown: &N,
+    row: usize,
+    col: usize,
+    best: Route,
+    at: Place,
+) -> Route
+    requires row { row < (C.table checked.now).rows }
+    requires col { col < (C.table checked.now).cols }
+    requires best { IsRoute (C.table checked.now) belief.now (N.cells shown.now) row col best }
+    requires at { belief.now.place ≡ Some at }
+    ensures route { IsRoute (C.table checked.now) belief.now (N.cells shown.now) row col result }
+{
+    if at.col == 0 || at.row != row && col > 0 {
+        return best;
+    }
+    with_stop(checked, belief, shown, row, col, best, line_start(at))
+}
+
+/// The way by the cursor's column, if it is the shorter one: to a place of another line.
+fn by_column<C: Certificate, N: View>(
+    checked: &C,
+    belief: &Belief,
+    shown: &N,
+    row: usize,
+    col: usize,
+    best: Route,
+    at: Place,
+) -> Route
+    requires row { row < (C.table checked.now).rows }
+    requires col { col < (C.table checked.now).cols }
+    requires best { IsRoute (C.table checked.now) belief.now (N.cells shown.now) row col best }
+    requires at { belief.now.place ≡ Some at }
+    ensures route { IsRoute (C.table checked.now) belief.now (N.cells shown.now) row col result }
+{
+    if at.row == row || at.col >= checked.cols() {
         return best;
     }
     let stop = same_column(checked, at, row);

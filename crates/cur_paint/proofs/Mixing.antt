@@ -4,7 +4,10 @@ use Rattle.std.proofs.lemmas.Bool.Decides.{nat_tests}
 use Rattle.std.proofs.lemmas.Bool.{cases_lt}
 use Rattle.cur_looks.specs.Inks.{same, mixed, put_at, tail_blank, blank_ink}
 use Rattle.cur_looks.specs.Gaps.{BeginsAs}
+use Rattle.cur_looks.specs.Erasures.{erased}
+use Rattle.cur_looks.specs.declared.erasing.Erasure.TheVariants.{Head, Part, Rest}
 use Rattle.cur_paint.specs.Differ.{differs, span, all_differ}
+use Rattle.cur_paint.specs.Blanks.{IsBlankFrom}
 use Rattle.cur_looks.specs.Certified.{Table}
 use Rattle.cur_looks.specs.Beliefs.{Agrees}
 use Rattle.cur_looks.specs.declared.beliefs.Belief.{Belief}
@@ -139,3 +142,27 @@ tail_done t old new r c b e s h = agrees_as t (tail_blank r c (mixed old new r c
 
 pub some_times : (n l : ℕ) → 0 < n → l ≤ n * l
 some_times n l lt = grind arith
+
+-- a run of blanks that was erased
+pub mixed_run : (old new : ℕ → ℕ → Ink) (r c n i j : ℕ) → ((k : ℕ) → c ≤ k → k < c + n → new r k ≡ blank_ink) → erased (Part n) r c (mixed old new r c) i j ≡ mixed old new r (c + n) i j
+mixed_run old new r c n i j h = grind (arith, nat_tests, h j)
+
+-- the front of a line, that was new as far as a column, erased as far as another one
+pub mixed_head : (old new : ℕ → ℕ → Ink) (r c n i j : ℕ) → 0 < n → ((k : ℕ) → 0 ≤ k → k < c + n → new r k ≡ blank_ink) → erased Head r (c + n - 1) (mixed old new r c) i j ≡ mixed old new r (c + n) i j
+mixed_head old new r c n i j some h = grind (arith, nat_tests, h j, some)
+
+pub run_done : (t : Table) (old new : ℕ → ℕ → Ink) (r c n : ℕ) (b : Belief) → 0 < n → ((k : ℕ) → c ≤ k → k < c + n → new r k ≡ blank_ink) → (s : State)
+    → Agrees t (erased (Part n) r c (mixed old new r c)) b s → Agrees t (mixed old new r (c + n)) b s
+run_done t old new r c n b some e s h = agrees_as t (erased (Part n) r c (mixed old new r c)) (mixed old new r (c + n)) b (λ i j li lj. mixed_run old new r c n i j e) s h
+
+pub head_done : (t : Table) (old new : ℕ → ℕ → Ink) (r c n : ℕ) (b : Belief) → 0 < n → ((k : ℕ) → 0 ≤ k → k < c + n → new r k ≡ blank_ink) → (s : State)
+    → Agrees t (erased Head r (c + n - 1) (mixed old new r c)) b s → Agrees t (mixed old new r (c + n)) b s
+head_done t old new r c n b some e s h = agrees_as t (erased Head r (c + n - 1) (mixed old new r c)) (mixed old new r (c + n)) b (λ i j li lj. mixed_head old new r c n i j some e) s h
+
+-- the rest of a screen, erased from a place on
+pub mixed_bottom : (old new : ℕ → ℕ → Ink) (r c i j : ℕ) → (i ≡ r → c ≤ j → new i j ≡ blank_ink) → (r < i → new i j ≡ blank_ink) → erased Rest r c (mixed old new r c) i j ≡ new i j
+mixed_bottom old new r c i j h k = grind (arith, nat_tests, h, k)
+
+pub rest_done : (t : Table) (old new : ℕ → ℕ → Ink) (r c : ℕ) (b : Belief) → IsBlankFrom new t.rows t.cols r c → (s : State) → Agrees t (erased Rest r c (mixed old new r c)) b s → Agrees t new b s
+rest_done t old new r c b e s h = agrees_as t (erased Rest r c (mixed old new r c)) new b
+    (λ i j li lj. mixed_bottom old new r c i j (λ same le. (let P : ℕ → Type 0 = λ n. new n j ≡ blank_ink in subst P (sym same) (e.line j le lj))) (λ lt. e.lines i j lt li lj)) s h

@@ -1,4 +1,5 @@
 pub mod Differ
+pub mod Blanks
 pub mod Limits
 pub mod Cleared
 pub mod Update

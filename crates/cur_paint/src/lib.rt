@@ -6,6 +6,7 @@ mod changes;
 mod endings;
 mod laws;
 mod painting;
+mod parts;
 mod rows;
 mod updates;
 

@@ -1,14 +1,19 @@
 //! What differs between two screens, mended cell by cell and line by line.
 ghost use Rattle.std.specs.Prelude.{◌≡◌, ◌+◌, ◌-◌, ◌*◌, ◌<◌, ◌≤◌, ℕ, true, Some, OnOk, IfSome};
 ghost use Rattle.cur_steps.specs.Steps.{Steps};
-ghost use Rattle.ti_rows.specs.declared.rows.Row.TheVariants.{El};
+ghost use Rattle.ti_rows.specs.declared.rows.Row.TheVariants.{El, Ed};
 ghost use Rattle.cur_looks.specs.Certified.{IsPiece, IsLost, cell_limit};
 ghost use Rattle.cur_looks.specs.Inks.{CanShow, mixed, blank_ink};
 ghost use Rattle.cur_looks.specs.Beliefs.{Agrees};
-ghost use Rattle.cur_paint.specs.Differ.{differs, span, all_differ};
+ghost use Rattle.cur_paint.specs.Blanks.{IsBlankFrom};
+ghost use Rattle.cur_paint.specs.Differ.{differs, span, all_differ, IsSameOutside};
 
 use crate::changes::{Changes, Columns};
-use cur_looks::{Belief, Certificate, Ink, Row, View, blank_tail, is_same, put_cell};
+use crate::parts::{are_blank, mend_cells};
+use cur_looks::{
+    Belief, Certificate, Erasure, Ink, Row, View, blank_tail, erase_from, erasing_line, is_same,
+    put_cell,
+};
 use cur_wires::{Wire, WireFault};
 
 /// One cell, where it differs.
@@ -30,14 +35,14 @@ fn mend_cell<C: Certificate, O: View, N: View, W: Wire>(
 {
     let _ = checked.rows();
     let cell = new.at(row, col);
-    if is_same(old.at(row, col), cell) {
+    if old.shows(row, col, cell) {
         return Ok(());
     }
     put_cell(checked, belief, wire, new, row, col, cell)
 }
 
 /// So many cells of a line from a column on.
-fn mend_span<C: Certificate, O: View, N: View, W: Wire>(
+pub(crate) fn mend_span<C: Certificate, O: View, N: View, W: Wire>(
     checked: &C,
     belief: &mut Belief,
     wire: &mut W,
@@ -62,7 +67,13 @@ fn mend_span<C: Certificate, O: View, N: View, W: Wire>(
 }
 
 /// Whether any of these cells differs.
-fn differs_in<O: View, N: View>(old: &O, new: &N, row: usize, from: usize, count: usize) -> bool
+pub(crate) fn differs_in<O: View, N: View>(
+    old: &O,
+    new: &N,
+    row: usize,
+    from: usize,
+    count: usize,
+) -> bool
     requires { from + count ≤ 1000 }
     ensures { result ≡ true → 0 < span (O.cells old.now) (N.cells new.now) row from count }
 {
@@ -196,7 +207,7 @@ fn mend_columns<C: Certificate, O: View, N: View, W: Wire>(
         (IsLost (C.table checked.now)) (Agrees (C.table checked.now) (mixed (O.cells old.now) (N.cells new.now) row from) belief.old) (Agrees (C.table checked.now) (mixed (O.cells old.now) (N.cells new.now) row (C.table checked.now).cols) belief.new) }
 {
     let _ = checked.rows();
-    mend_span(checked, belief, wire, old, new, row, from, rest.from - from)?;
+    mend_cells(checked, belief, wire, old, new, row, from, rest.from - from)?;
     mend_rest(checked, belief, wire, old, new, row, rest)
 }
 
@@ -208,32 +219,121 @@ fn lesser(a: usize, b: usize) -> usize
     a.min(b)
 }
 
-/// One line.
-fn mend_row<C: Certificate, O: View, N: View, D: Changes, W: Wire>(
+/// One line, whose columns may differ, and are blank from one on.
+fn mend_row<C: Certificate, O: View, N: View, W: Wire>(
     checked: &C,
     belief: &mut Belief,
     wire: &mut W,
     old: &O,
     new: &N,
-    changes: &D,
     row: usize,
+    columns: Columns,
+    tail: usize,
 ) -> Result<(), WireFault>
     requires drawable { CanShow (C.table checked.now) (N.cells new.now) }
     requires row { row < (C.table checked.now).rows }
-    requires changes { D.between changes.now (O.cells old.now) (N.cells new.now) }
+    requires order { columns.from ≤ columns.end }
+    requires within { columns.end ≤ (C.table checked.now).cols }
+    requires tail { tail ≤ columns.end }
+    requires blank { tail < columns.end → (k : ℕ) → tail ≤ k → k < (C.table checked.now).cols → N.cells new.now row k ≡ blank_ink }
+    requires same { IsSameOutside (O.cells old.now) (N.cells new.now) row columns.from columns.end (C.table checked.now).cols }
     ensures idle { OnOk result (span (O.cells old.now) (N.cells new.now) row 0 (C.table checked.now).cols ≡ 0 → belief.new ≡ belief.old) }
     ensures step { Steps W.went W.failures wire.old wire.new result (IsPiece (C.table checked.now)) (span (O.cells old.now) (N.cells new.now) row 0 (C.table checked.now).cols * cell_limit (C.table checked.now))
         (IsLost (C.table checked.now)) (Agrees (C.table checked.now) (mixed (O.cells old.now) (N.cells new.now) row 0) belief.old) (Agrees (C.table checked.now) (mixed (O.cells old.now) (N.cells new.now) (row + 1) 0) belief.new) }
 {
-    let _ = checked.rows();
-    let columns = changes.columns(row, checked.cols());
-    let tail = tail_from(new, row, columns, checked.cols());
     let from = lesser(tail, columns.from);
     let rest = Columns {
         from: tail,
         end: columns.end,
     };
     mend_columns(checked, belief, wire, old, new, row, from, rest)
+}
+
+/// All from a line's column on is erased, and what comes before it in the line mended first.
+fn mend_bottom<C: Certificate, O: View, N: View, W: Wire>(
+    checked: &C,
+    belief: &mut Belief,
+    wire: &mut W,
+    old: &O,
+    new: &N,
+    row: usize,
+    from: usize,
+    col: usize,
+    line: &[u8],
+) -> Result<(), WireFault>
+    requires drawable { CanShow (C.table checked.now) (N.cells new.now) }
+    requires row { row < (C.table checked.now).rows }
+    requires start { from ≤ col }
+    requires col { col < (C.table checked.now).cols }
+    requires line { (C.table checked.now).line_of Ed ≡ Some line.now }
+    requires before { (k : ℕ) → k < from → O.cells old.now row k ≡ N.cells new.now row k }
+    requires differs { 0 < span (O.cells old.now) (N.cells new.now) row col ((C.table checked.now).cols - col) }
+    requires blank { IsBlankFrom (N.cells new.now) (C.table checked.now).rows (C.table checked.now).cols row col }
+    ensures step { Steps W.went W.failures wire.old wire.new result (IsPiece (C.table checked.now)) (span (O.cells old.now) (N.cells new.now) row 0 (C.table checked.now).cols * cell_limit (C.table checked.now))
+        (IsLost (C.table checked.now)) (Agrees (C.table checked.now) (mixed (O.cells old.now) (N.cells new.now) row 0) belief.old) (Agrees (C.table checked.now) (N.cells new.now) belief.new) }
+{
+    mend_cells(checked, belief, wire, old, new, row, from, col - from)?;
+    erase_from(checked, belief, wire, new, row, col, Erasure::Rest, line)
+}
+
+/// The first of some lines that isn't blank, or else the last one's successor.
+fn first_solid<N: View>(new: &N, from: usize, rows: usize, cols: usize) -> usize
+    ensures blank { (i j : ℕ) → from ≤ i → i < result → j < cols → N.cells new.now i j ≡ blank_ink }
+    ensures within { from ≤ rows → result ≤ rows }
+{
+    for row in from..rows {
+        if !are_blank(new, row, 0, cols) {
+            return row;
+        }
+    }
+    rows.max(from)
+}
+
+/// A line's column from which on the screen is blank, or past the line where it isn't worth knowing; and a line below that
+/// isn't blank, if there is one.
+#[derive(Clone, Copy)]
+struct Bottom {
+    col: usize,
+    solid: usize,
+}
+
+/// Where the screen is blank from a line's end on, and both that end and the next line may differ.
+fn bottom_from<C: Certificate, O: View, N: View, D: Changes>(
+    checked: &C,
+    old: &O,
+    new: &N,
+    changes: &D,
+    row: usize,
+    columns: Columns,
+    tail: usize,
+    solid: usize,
+) -> Bottom
+    requires row { row < (C.table checked.now).rows }
+    requires within { columns.end ≤ (C.table checked.now).cols }
+    requires blank { tail < columns.end → (k : ℕ) → tail ≤ k → k < (C.table checked.now).cols → N.cells new.now row k ≡ blank_ink }
+    ensures differs { result.col < (C.table checked.now).cols → 0 < span (O.cells old.now) (N.cells new.now) row result.col ((C.table checked.now).cols - result.col) }
+    ensures blank { result.col < (C.table checked.now).cols → IsBlankFrom (N.cells new.now) (C.table checked.now).rows (C.table checked.now).cols row result.col }
+    ensures tail { result.col < (C.table checked.now).cols → result.col ≡ tail }
+{
+    let rows = checked.rows();
+    let cols = checked.cols();
+    if tail >= columns.end || row < solid || !may_differ(changes, row + 1, rows, cols) {
+        return Bottom { col: cols, solid };
+    }
+    let solid = first_solid(new, row + 1, rows, cols);
+    if solid < rows || !differs_in(old, new, row, tail, cols - tail) {
+        return Bottom { col: cols, solid };
+    }
+    Bottom { col: tail, solid }
+}
+
+/// Whether a line is on the screen and may differ.
+fn may_differ<D: Changes>(changes: &D, row: usize, rows: usize, cols: usize) -> bool {
+    if row >= rows {
+        return false;
+    }
+    let columns = changes.columns(row, cols);
+    columns.from < columns.end
 }
 
 /// All lines.
@@ -251,8 +351,20 @@ pub(crate) fn mend_rows<C: Certificate, O: View, N: View, D: Changes, W: Wire>(
     ensures step { Steps W.went W.failures wire.old wire.new result (IsPiece (C.table checked.now)) (all_differ (O.cells old.now) (N.cells new.now) (C.table checked.now).cols (C.table checked.now).rows * cell_limit (C.table checked.now))
         (IsLost (C.table checked.now)) (Agrees (C.table checked.now) (O.cells old.now) belief.old) (Agrees (C.table checked.now) (N.cells new.now) belief.new) }
 {
+    let rest = erasing_line(checked, Erasure::Rest);
+    let mut solid = if rest.is_some() { 0 } else { checked.rows() };
     for row in 0..checked.rows() {
-        mend_row(checked, belief, wire, old, new, changes, row)?;
+        let columns = changes.columns(row, checked.cols());
+        let tail = tail_from(new, row, columns, checked.cols());
+        let bottom = bottom_from(checked, old, new, changes, row, columns, tail, solid);
+        solid = bottom.solid;
+        match rest {
+            Some(line) if bottom.col < checked.cols() => {
+                let from = lesser(tail, columns.from);
+                return mend_bottom(checked, belief, wire, old, new, row, from, bottom.col, line);
+            }
+            _ => mend_row(checked, belief, wire, old, new, row, columns, tail)?,
+        }
     }
     Ok(())
 }

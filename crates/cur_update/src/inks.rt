@@ -2,11 +2,12 @@
 ghost use Rattle.std.specs.Prelude.{◌≡◌};
 ghost use Rattle.ti_rows.specs.declared.rows.Row.TheVariants.{Smacs, Op};
 ghost use Rattle.cur_looks.specs.Certified.{has};
+ghost use Rattle.cur_looks.specs.Inks.{same};
 ghost use Rattle.cur_update.specs.Inks as spec;
 
 use crate::alternates::Alternates;
 use cur_drawing::{Attrs, Cell};
-use cur_looks::{Attributes, Brush, Certificate, Ink, Row};
+use cur_looks::{Attributes, Brush, Certificate, Ink, Row, is_same};
 use ti_looks::{Character, shown};
 use vt_term::{Color, color_of as color};
 
@@ -86,4 +87,19 @@ pub(crate) fn ink_of<C: Certificate + Alternates>(
             background: color_of(checked, colors.1),
         },
     }
+}
+
+/// Whether a cell is printed like this, with the colours of its pair.
+pub(crate) fn shows_ink<C: Certificate + Alternates>(
+    checked: &C,
+    colors: (Option<u8>, Option<u8>),
+    cell: Cell,
+    ink: Ink,
+) -> bool
+    ensures { result ≡ same (spec.ink_of (C.table checked.now) (C.partners checked.now) (record { foreground = colors.0; background = colors.1 }) cell) ink }
+{
+    if character_of(checked, cell).byte != ink.byte {
+        return false;
+    }
+    is_same(ink_of(checked, colors, cell), ink)
 }

@@ -4,8 +4,8 @@ ghost use Rattle.cur_drawing.specs.Cells.{IsCell};
 ghost use Rattle.cur_update.specs.Inks.{content_at, ink_at};
 
 use crate::alternates::Alternates;
-use crate::inks::ink_of;
-use cur_looks::{Certificate, Ink, View};
+use crate::inks::{ink_of, shows_ink};
+use cur_looks::{Certificate, Ink, View, is_same};
 use cur_windows::Virtual;
 
 /// A virtual screen with the certificate that says how its cells are printed.
@@ -29,6 +29,15 @@ impl<'a, C: Certificate + Alternates> View for PrintedScreen<'a, C> {
         }
         let cell = self.screen.row(row as u16)[col];
         ink_of(self.checked, self.screen.pair(cell.pair()), cell)
+    }
+
+    fn shows(&self, row: usize, col: usize, ink: Ink) -> bool {
+        let (rows, cols) = self.screen.size();
+        if row >= rows as usize || col >= cols as usize {
+            return is_same(Ink::blank(), ink);
+        }
+        let cell = self.screen.row(row as u16)[col];
+        shows_ink(self.checked, self.screen.pair(cell.pair()), cell, ink)
     }
 }
 

@@ -5,8 +5,6 @@ mod counted;
 mod cuts;
 mod fuses;
 mod tapes;
-#[cfg(test)]
-mod tests;
 mod wires;
 
 pub use counted::Counted;

@@ -10,7 +10,7 @@ use Rattle.vt_term.specs.Text.{Splits, IsStuck, IsUnfinished}
 use Rattle.vt_term.proofs.Splitting.{one_splitting, splits_front}
 use Rattle.vt_effects.specs.declared.effects.Effect.{Effect}
 use Rattle.vt_effects.specs.declared.starts.Start.{Start}
-use Rattle.vt_effects.specs.Record.{record_of}
+use Rattle.vt_effects.specs.Record.{IsRecordOf, record_of}
 use Rattle.ti_charsets.specs.Charsets.{IsAmong}
 use Rattle.ti_charsets.specs.declared.closing.Charsets.{Charsets}
 use Rattle.ti_rows.specs.declared.rows.Looks.{Looks}
@@ -381,9 +381,9 @@ last_more rows cols lines line i = record {
 -- a line that is right, and what is known with it
 pub row_stands : (p : Progress) (line : RowLine) (tokens : List (List ℕ)) (effect : Effect) (looks : Looks) (new : Known) → fault_in_place p line.row ≡ None → Splits line.bytes tokens []
     → HasRecord p.known.strings.rows p.known.strings.cols looks line.row tokens effect → effect ≡ line.effect → looks ≡ looks_with p.known line.row effect
-    → Adds p.known.strings new.strings line.row line.bytes → new.looks ≡ looks → (Holds p.known → Holds new) → (last : Option Row) → last ≡ Some line.row
-    → AnswersRow p line (Ok (record { size = p.size; known = new; acsc = p.acsc; place = record { last = last }; awaited = lines_awaited.Rows }))
-row_stands p line tokens effect looks new none splits has same looks_are adds new_looks holds last last_is = λ pairs lines st pa. record {
+    → Adds p.known.strings new.strings line.row line.bytes → new.looks ≡ looks → (Holds p.known → Holds new) → (last : Option Row) → last ≡ Some line.row → (read : List ℕ)
+    → AnswersRow p line (Ok (record { size = p.size; known = new; acsc = p.acsc; place = record { last = last }; awaited = lines_awaited.Rows; scanner = read }))
+row_stands p line tokens effect looks new none splits has same looks_are adds new_looks holds last last_is read = λ pairs lines st pa. record {
   after = Listing pairs (line ∷ lines);
   judges = RowStands (in_place p lines line.row st none) (record { tokens = tokens; splits = splits; recorded = recorded_as p lines line tokens (Some line.effect) st (has.recorded ∙ ap (λ (e : Effect). Some e) same) })
       (asked_as lines st) refl;
@@ -416,17 +416,21 @@ in_place_at p row q is h = subst (λ (x : Progress). fault_in_place x row ≡ No
 pub row_cut_at : (p : Progress) (line : RowLine) (kind : CertFaultKind) (q : Progress) (bytes : List ℕ) → q ≡ p → bytes ≡ line.bytes → fault_in_place q line.row ≡ None → IsTokenFault bytes kind → OrNoMemory kind (AnswersRow p line)
 row_cut_at p line kind q bytes is same h f = row_cut p line kind (in_place_at p line.row q is h) (subst (λ (b : List ℕ). IsTokenFault b kind) same f)
 
-pub row_misshows_at : (p : Progress) (line : RowLine) (kind : CertFaultKind) (q : Progress) (bytes : List ℕ) (tokens us : List (List ℕ)) → q ≡ p → bytes ≡ line.bytes → us ≡ tokens → fault_in_place q line.row ≡ None
-    → Splits bytes tokens [] → Misshows p.known line.row line.effect us kind → AnswersRow p line (Err kind)
-row_misshows_at p line kind q bytes tokens us is same et h splits m = row_misshows p line tokens kind (in_place_at p line.row q is h) (subst (λ (b : List ℕ). Splits b tokens []) same splits)
-    (subst (λ (ts : List (List ℕ)). Misshows p.known line.row line.effect ts kind) et m)
+pub row_misshows_at : (p : Progress) (line : RowLine) (kind : CertFaultKind) (q : Progress) (k : Known) (bytes : List ℕ) (tokens : List (List ℕ)) → q ≡ p → k ≡ p.known → bytes ≡ line.bytes → fault_in_place q line.row ≡ None
+    → Splits bytes tokens [] → Misshows k line.row line.effect tokens kind → AnswersRow p line (Err kind)
+row_misshows_at p line kind q k bytes tokens is ek same h splits m = row_misshows p line tokens kind (in_place_at p line.row q is h) (subst (λ (b : List ℕ). Splits b tokens []) same splits)
+    (subst (λ (x : Known). Misshows x line.row line.effect tokens kind) ek m)
 
-pub row_stands_at : (p : Progress) (line : RowLine) (q : Progress) (bytes : List ℕ) (tokens us : List (List ℕ)) (effect : Effect) (looks : Looks) (new : Known) → q ≡ p → bytes ≡ line.bytes → us ≡ tokens → fault_in_place q line.row ≡ None
-    → Splits bytes tokens [] → HasRecord p.known.strings.rows p.known.strings.cols looks line.row us effect → effect ≡ line.effect → looks ≡ looks_with p.known line.row effect
-    → Adds p.known.strings new.strings line.row line.bytes → new.looks ≡ looks → (Holds p.known → Holds new) → (last : Option Row) → last ≡ Some line.row
-    → AnswersRow p line (Ok (record { size = p.size; known = new; acsc = p.acsc; place = record { last = last }; awaited = lines_awaited.Rows }))
-row_stands_at p line q bytes tokens us effect looks new is same et h splits has stated looks_are adds new_looks holds last last_is = row_stands p line tokens effect looks new (in_place_at p line.row q is h)
-    (subst (λ (b : List ℕ). Splits b tokens []) same splits) (subst (λ (ts : List (List ℕ)). HasRecord p.known.strings.rows p.known.strings.cols looks line.row ts effect) et has) stated looks_are adds new_looks holds last last_is
+pub row_stands_at : (p : Progress) (line : RowLine) (q : Progress) (k : Known) (bytes : List ℕ) (tokens : List (List ℕ)) (effect : Effect) (looks : Looks) (new : Known) → q ≡ p → k ≡ p.known → bytes ≡ line.bytes → fault_in_place q line.row ≡ None
+    → Splits bytes tokens [] → HasRecord k.strings.rows k.strings.cols looks line.row tokens effect → effect ≡ line.effect → looks ≡ looks_with k line.row effect
+    → Adds k.strings new.strings line.row bytes → new.looks ≡ looks → (Holds k → Holds new) → (last : Option Row) → last ≡ Some line.row → (read : List ℕ)
+    → AnswersRow p line (Ok (record { size = q.size; known = new; acsc = q.acsc; place = record { last = last }; awaited = lines_awaited.Rows; scanner = read }))
+row_stands_at p line q k bytes tokens effect looks new is ek same h splits has stated looks_are adds new_looks holds last last_is read = subst (λ (x : Progress). AnswersRow p line (Ok (record { size = x.size; known = new; acsc = x.acsc; place = record { last = last }; awaited = lines_awaited.Rows; scanner = read }))) (sym is)
+    (row_stands p line tokens effect looks new (in_place_at p line.row q is h)
+    (subst (λ (b : List ℕ). Splits b tokens []) same splits) (subst (λ (x : Known). HasRecord x.strings.rows x.strings.cols looks line.row tokens effect) ek has) stated
+    (subst (λ (x : Known). looks ≡ looks_with x line.row effect) ek looks_are)
+    (subst (λ (b : List ℕ). Adds p.known.strings new.strings line.row b) same (subst (λ (x : Known). Adds x.strings new.strings line.row bytes) ek adds)) new_looks
+    (subst (λ (x : Known). Holds x → Holds new) ek holds) last last_is read)
 
 -- the beginning and the end
 
@@ -450,3 +454,7 @@ stands_at p (lines_awaited.Ended settled) pairs lines t = (t.0, t.1)
 stands_at p lines_awaited.First pairs lines t = absurd t
 stands_at p lines_awaited.Acsc pairs lines t = absurd t
 stands_at p lines_awaited.Rows pairs lines t = absurd t
+
+-- the record of a line's bytes, where the size is known by other names
+pub recorded_for : (rows cols r q : ℕ) (row : Row) (bytes : List ℕ) (found : Option Effect) → IsRecordOf r q (start_of r q row) bytes found → r ≡ rows → q ≡ cols → IsRecordOf rows cols (start_of rows cols row) bytes found
+recorded_for rows cols r q row bytes found h er eq = subst (λ (n : ℕ). IsRecordOf n cols (start_of n cols row) bytes found) er (subst (λ (n : ℕ). IsRecordOf r n (start_of r n row) bytes found) eq h)

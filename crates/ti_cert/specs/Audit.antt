@@ -1,5 +1,5 @@
 -- (Serves the code alone.) What is known of the lines that were judged so far.
-use Rattle.std.specs.Prelude.{ℕ, ◌≡◌, Bool, true, false, if◌then◌else◌, List, [], ◌∷◌, ◌++◌, Some}
+use Rattle.std.specs.Prelude.{ℕ, ◌≡◌, Bool, true, false, if◌then◌else◌, List, [], ◌∷◌, ◌++◌, Option, Some}
 use Rattle.vt_term.specs.Text.{Splits}
 use Rattle.vt_effects.specs.declared.effects.Effect.{Effect}
 use Rattle.vt_effects.specs.declared.effects.Sets.{Sets}
@@ -30,6 +30,16 @@ looks_with k row e = if has_group k.strings (rival row) then k.looks else learne
 pub record HasRecord (rows cols : ℕ) (looks : Looks) (row : Row) (tokens : List (List ℕ)) (effect : Effect) : Type 0 where
   pub recorded : record_of rows cols (start_of rows cols row) tokens ≡ Some effect
   pub asked_for : effect ≡ asked looks row effect
+
+-- what was found of these tokens, from the row's start
+abbrev pub IsRecord : Known → Row → List (List ℕ) → Option Effect → Type 0
+IsRecord k row tokens found = found ≡ record_of k.strings.rows k.strings.cols (start_of k.strings.rows k.strings.cols row) tokens
+
+-- the bytes are whole tokens of such a record
+pub record TellsRecord (rows cols : ℕ) (looks : Looks) (row : Row) (bytes : List ℕ) (effect : Effect) : Type 0 where
+  pub tokens : List (List ℕ)
+  pub whole : Splits bytes tokens []
+  pub has : HasRecord rows cols looks row tokens effect
 
 -- what is kept of a line: its tokens are among all of them, and its change is among the changes
 pub record IsKept (k : Known) (all : List (List ℕ)) (row : Row) (bytes : List ℕ) : Type 0 where

@@ -17,13 +17,13 @@ use crate::faults::{CertFault, CertFaultKind};
 use crate::known::Known;
 use crate::places::Place;
 use crate::table::Table;
-use crate::tokenizing::whole_tokens;
+use crate::tokenizing::row_effect;
 use std::alloc::{AllocError, Global};
 use ti_caps::Bytes;
 use ti_charsets::Charsets;
 use ti_lines::{RowLine, is_end_line, read_acsc_line, read_row_line, read_size_line};
 use ti_reader::{Judge, Reader, judge_lines};
-use vt_term::Size;
+use vt_term::{Scanner, Size};
 
 /// The most bytes that a certificate has.
 const LIMIT: u32 = 67_108_864;
@@ -63,6 +63,8 @@ struct Progress {
     acsc: Option<Bytes>,
     place: Place,
     awaited: Awaited,
+    /// Reads the bytes of lines.
+    scanner: Scanner,
 }
 
 /// Whether this is the first line of a certificate for this size.
@@ -98,6 +100,7 @@ impl Progress {
             acsc: None,
             place: Place::new(),
             awaited: Awaited::First,
+            scanner: Scanner::new(alloc)?,
         })
     }
 
@@ -141,22 +144,23 @@ impl Progress {
             return self.judge_end(alloc);
         }
         match read_row_line(alloc, text)? {
-            Some(line) => self.judge_row(alloc, line),
+            Some(line) => self.judge_row(line),
             None => Err(misplaced(alloc, text)),
         }
     }
 
     #[tactic(auto, using(crate::proofs::Auditing::row_misplaced, crate::proofs::Auditing::row_cut, crate::proofs::Auditing::row_misshows, crate::proofs::Auditing::row_stands))]
-    fn judge_row(&mut self, alloc: Global, line: RowLine) -> Result<(), CertFaultKind>
+    fn judge_row(&mut self, line: RowLine) -> Result<(), CertFaultKind>
         ensures ok { OnOk result (spec.AnswersRow self.old line (Ok self.new)) }
         ensures err { IfErr result (λ kind. spec.OrNoMemory kind (spec.AnswersRow self.old line)) }
     {
         let row = line.row;
         self.place.check(row, &self.known.strings)?;
-        let tokens = whole_tokens(alloc, line.bytes.as_slice())?;
-        let (effect, looks) = self.known.judge_effect(row, &line.effect, &tokens)?;
+        let bytes = line.bytes.as_slice();
+        let found = row_effect(&mut self.scanner, bytes, row, self.known.strings.size())?;
+        let (effect, looks) = self.known.judge_effect(row, &line.effect, found)?;
         self.known
-            .add(row, line.bytes.as_slice(), &tokens, &effect, looks)?;
+            .add(&mut self.scanner, row, bytes, &effect, looks)?;
         self.place = Place::after(row);
         self.awaited = Awaited::Rows;
         Ok(())

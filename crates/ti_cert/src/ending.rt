@@ -13,11 +13,12 @@ ghost use Rattle.ti_rows.specs.declared.rows.Row.TheVariants as rows;
 use crate::faults::CertFaultKind;
 use crate::known::Known;
 use crate::strings::Strings;
-use crate::tokenizing::whole_tokens;
+use crate::tokenizing::row_effect;
 use std::alloc::Global;
 use ti_charsets::{Charsets, Reach};
 use ti_rows::Row;
-use vt_effects::{Sets, Switch, effect_of};
+use vt_effects::{Sets, Switch};
+use vt_term::Scanner;
 
 /// Nothing changes.
 const KEPT: Sets = Sets {
@@ -37,16 +38,18 @@ struct Resync {
 
 /// What the row's string does to the charsets, `None` where there is no such string.
 #[tactic(auto, using(crate::proofs::Auditing::not_split))]
-fn change_of(alloc: Global, strings: &Strings, row: Row) -> Result<Option<Sets>, CertFaultKind>
+fn change_of(
+    scanner: &mut Scanner,
+    strings: &Strings,
+    row: Row,
+) -> Result<Option<Sets>, CertFaultKind>
     ensures change { IfOk result (λ change. spec.Changes strings.now row change) }
     ensures fails { IfErr result (LacksRecord strings.now) }
 {
     match strings.get(row) {
         None => Ok(None),
         Some(bytes) => {
-            let tokens = whole_tokens(alloc, bytes)?;
-            let size = strings.size();
-            match effect_of(&tokens, size, &row.start(size)) {
+            match row_effect(scanner, bytes, row, strings.size())? {
                 Some(effect) => Ok(Some(effect.charset)),
                 None => Err(CertFaultKind::NotTame),
             }
@@ -54,7 +57,7 @@ fn change_of(alloc: Global, strings: &Strings, row: Row) -> Result<Option<Sets>,
     }
 }
 
-fn resync_of(alloc: Global, strings: &Strings) -> Result<Resync, CertFaultKind>
+fn resync_of(scanner: &mut Scanner, strings: &Strings) -> Result<Resync, CertFaultKind>
     ensures fails { IfErr result (LacksRecord strings.now) }
     ensures smcup { IfOk result (λ r. spec.Changes strings.now rows.Smcup r.smcup) }
     ensures enacs { IfOk result (λ r. spec.Changes strings.now rows.Enacs r.enacs) }
@@ -62,10 +65,10 @@ fn resync_of(alloc: Global, strings: &Strings) -> Result<Resync, CertFaultKind>
     ensures rmacs { IfOk result (λ r. spec.Changes strings.now rows.Rmacs r.rmacs) }
 {
     Ok(Resync {
-        smcup: change_of(alloc, strings, Row::Smcup)?,
-        enacs: change_of(alloc, strings, Row::Enacs)?,
-        sgr0: change_of(alloc, strings, Row::Sgr0)?,
-        rmacs: change_of(alloc, strings, Row::Rmacs)?,
+        smcup: change_of(scanner, strings, Row::Smcup)?,
+        enacs: change_of(scanner, strings, Row::Enacs)?,
+        sgr0: change_of(scanner, strings, Row::Sgr0)?,
+        rmacs: change_of(scanner, strings, Row::Rmacs)?,
     })
 }
 
@@ -184,10 +187,11 @@ pub(crate) fn conclude(
 {
     let strings = &known.strings;
     check_needed(strings)?;
-    let resync = resync_of(alloc, strings)?;
+    let mut scanner = Scanner::new(alloc)?;
+    let resync = resync_of(&mut scanner, strings)?;
     let first = first_settled(&resync, known.reach);
     let settled = settled_from(first, &known.changes);
-    let smacs = change_of(alloc, strings, Row::Smacs)?;
+    let smacs = change_of(&mut scanner, strings, Row::Smacs)?;
     let has_sets = all_there(has_acsc, smacs, resync.rmacs);
     check_together(&settled, &first, smacs, resync.rmacs, has_sets, strings)?;
     Ok(settled)

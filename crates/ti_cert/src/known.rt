@@ -1,24 +1,24 @@
 //! What the lines of a certificate have told so far.
 
-ghost use Rattle.std.specs.Prelude.{◌≡◌, [], length, replicate, IfOk, IfErr, OnOk, IsTrue, true};
-ghost use Rattle.vt_term.specs.Text.{Splits};
+ghost use Rattle.std.specs.Prelude.{◌≡◌, [], length, replicate, IfOk, IfErr, OnOk, IsTrue, true, List, ℕ};
 ghost use Rattle.ti_rows.specs.Lists.{rank};
 ghost use Rattle.ti_rows.specs.Names.{order};
 ghost use Rattle.ti_checked.specs.Table.{keeps_settled};
 ghost use Rattle.ti_cert.specs.Strings.{Adds, allows, group_at};
 ghost use Rattle.ti_cert.specs.Singles.{no_looks};
 ghost use Rattle.ti_cert.specs.Certificates as certificates;
-ghost use Rattle.ti_cert.specs.Good.{Misshows};
+ghost use Rattle.ti_cert.specs.Good.{IsTokenFault, Misshows};
 ghost use Rattle.ti_cert.specs.Audit as spec;
 
 use crate::faults::CertFaultKind;
 use crate::strings::Strings;
+use crate::tokenizing::not_whole;
 use std::alloc::{AllocError, Global};
 use std::marker::Model;
 use ti_charsets::Reach;
 use ti_rows::{Attributes, Looks, NO_ATTRIBUTES, NO_MARKS, Row};
-use vt_effects::{Effect, Sets, effect_of};
-use vt_term::{Size, Token};
+use vt_effects::{Effect, Sets};
+use vt_term::{Scanner, Size};
 
 /// The strings so far, how attributes look, and what tokens and strings do to the charsets.
 #[derive(Drop)]
@@ -147,20 +147,19 @@ impl Known {
         }
     }
 
-    /// The effect of a line's tokens, which is the one that stands in the line and the one that is asked for.
+    /// The effect of a line, which is the one that stands in the line and the one that is asked for.
     pub fn judge_effect(
         &self,
         row: Row,
         stated: &Effect,
-        tokens: &[Token],
+        found: Option<Effect>,
     ) -> Result<(Effect, Looks), CertFaultKind>
         ensures looks { IfOk result (λ r. r.1 ≡ spec.looks_with self.now row r.0) }
-        ensures record { IfOk result (λ r. spec.HasRecord self.now.strings.rows self.now.strings.cols r.1 row tokens.now r.0) }
+        ensures record { IfOk result (λ r. (tokens : List (List ℕ)) → spec.IsRecord self.now row tokens found → spec.HasRecord self.now.strings.rows self.now.strings.cols r.1 row tokens r.0) }
         ensures stated { IfOk result (λ r. r.0 ≡ stated.now) }
-        ensures fails { IfErr result (Misshows self.now row stated.now tokens.now) }
+        ensures fails { IfErr result (λ kind. (tokens : List (List ℕ)) → spec.IsRecord self.now row tokens found → Misshows self.now row stated.now tokens kind) }
     {
-        let size = self.strings.size();
-        let Some(effect) = effect_of(tokens, size, &row.start(size)) else {
+        let Some(effect) = found else {
             return Err(CertFaultKind::NotTame);
         };
         if !effect.equals(stated) {
@@ -177,25 +176,29 @@ impl Known {
     /// Adds a line that was judged.
     pub fn add(
         &mut self,
+        scanner: &mut Scanner,
         row: Row,
         bytes: &[u8],
-        tokens: &[Token],
         effect: &Effect,
         looks: Looks,
-    ) -> Result<(), AllocError>
+    ) -> Result<(), CertFaultKind>
         requires range { allows self.old.strings.rows self.old.strings.cols row ≡ true }
         requires place { rank self.old.strings.rows self.old.strings.cols row ≡ length (group_at self.old.strings (order row)) }
-        requires whole { Splits bytes.now tokens.now [] }
         requires looks { looks ≡ spec.looks_with self.old row effect.now }
-        requires record { spec.HasRecord self.old.strings.rows self.old.strings.cols looks row tokens.now effect.now }
+        requires record { spec.TellsRecord self.old.strings.rows self.old.strings.cols looks row bytes.now effect.now }
         ensures holds { OnOk result (spec.Holds self.old → spec.Holds self.new) }
         ensures strings { OnOk result (Adds self.old.strings self.new.strings row bytes.now) }
         ensures looks { OnOk result (self.new.looks ≡ looks) }
+        ensures fails { IfErr result (IsTokenFault bytes.now) }
     {
         self.strings.push(row, bytes)?;
         push_change(&mut self.changes, row, effect.charset)?;
-        self.reach.learn_all(tokens);
-        self.looks = looks;
-        Ok(())
+        match self.reach.learn_text(scanner, bytes) {
+            Ok(()) => {
+                self.looks = looks;
+                Ok(())
+            }
+            Err(fault) => Err(not_whole(fault)),
+        }
     }
 }

@@ -1,24 +1,38 @@
-//! The tokens of a line's bytes.
+//! The effect of a line's bytes.
 
-ghost use Rattle.std.specs.Prelude.{[], IfOk, IfErr};
-ghost use Rattle.vt_term.specs.Text.{Splits};
+ghost use Rattle.std.specs.Prelude.{IfOk, IfErr, List, ℕ};
+ghost use Rattle.vt_effects.specs.Record.{IsRecordOf};
+ghost use Rattle.vt_term.specs.Scanned.{HasFault};
+ghost use Rattle.ti_rows.specs.Asked.{start_of};
 ghost use Rattle.ti_cert.specs.Good.{IsTokenFault};
 
 use crate::faults::CertFaultKind;
-use std::alloc::Global;
-use vt_term::{Token, TokenFaultKind, tokens};
+use ti_rows::Row;
+use vt_effects::{Effect, effect_of_text};
+use vt_term::{Scanner, Size, TextFault, TextFaultKind};
 
-/// The tokens of bytes that are whole control functions. The errors are `NotWhole` and `NoMemory`.
-pub(crate) fn whole_tokens(alloc: Global, bytes: &[u8]) -> Result<Vec<Token>, CertFaultKind>
-    ensures whole { IfOk result (λ tokens. Splits bytes.now tokens.items []) }
+/// The fault of a line whose bytes are no whole control functions.
+pub(crate) fn not_whole(fault: TextFault) -> CertFaultKind
+    ensures { (bytes : List ℕ) → HasFault bytes fault → IsTokenFault bytes result }
+{
+    match fault.kind {
+        TextFaultKind::Unfinished => CertFaultKind::NotWhole,
+        TextFaultKind::Stuck => CertFaultKind::NotWhole,
+    }
+}
+
+/// The effect of bytes from the row's start, if they have one. The error is `NotWhole`.
+pub(crate) fn row_effect(
+    scanner: &mut Scanner,
+    bytes: &[u8],
+    row: Row,
+    size: Size,
+) -> Result<Option<Effect>, CertFaultKind>
+    ensures record { IfOk result (IsRecordOf size.rows size.cols (start_of size.rows size.cols row) bytes.now) }
     ensures fails { IfErr result (IsTokenFault bytes.now) }
 {
-    match tokens(alloc, bytes) {
-        Ok(tokens) => Ok(tokens),
-        Err(fault) => match fault.kind {
-            TokenFaultKind::NoMemory => Err(CertFaultKind::NoMemory),
-            TokenFaultKind::Unfinished => Err(CertFaultKind::NotWhole),
-            TokenFaultKind::Stuck => Err(CertFaultKind::NotWhole),
-        },
+    match effect_of_text(scanner, bytes, size, &row.start(size)) {
+        Ok(effect) => Ok(effect),
+        Err(fault) => Err(not_whole(fault)),
     }
 }

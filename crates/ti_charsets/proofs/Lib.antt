@@ -1,2 +1,3 @@
 pub mod Reaching
 pub mod Settling
+pub mod Texts

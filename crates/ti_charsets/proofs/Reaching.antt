@@ -1,7 +1,7 @@
 -- Charsets that tokens reach.
 use Rattle.std.proofs.Math.Seq.{drop-cons}
 use Rattle.std.proofs.Common.{◌≡◌, ◌⊎◌, ◌&&◌, ◌<◌, ◌+◌, suc, drop, length, get_or, arith, inl, inr, ℕ, Bool, true, false, if◌then◌else◌, List, [], ◌∷◌, ◌++◌, refl, sym, ap, ◌∙◌}
-use Rattle.vt_term.specs.Function.{Function, function_of, CodeElement, G0, G1, ShiftOut, ShiftIn, Designate}
+use Rattle.vt_term.specs.Function.{Function, function_of, G0, G1, ShiftOut, ShiftIn, Designate}
 use Rattle.vt_term.specs.Screen.{Charset}
 use Rattle.ti_charsets.specs.declared.reach.Reach.{Reach}
 use Rattle.ti_charsets.specs.Charsets.{reset_charset, charset_after, IsAmong, Reached, AtReset, AfterToken, makes_g0_graphic, makes_g1_graphic, shifts_out, some_make, reach_of, within, can_have, joined}
@@ -11,7 +11,7 @@ or_step true m b = refl
 or_step false true b = refl
 or_step false false b = refl
 
-same_reach : {a b c x y z : Bool} → a ≡ x → b ≡ y → c ≡ z → ◌≡◌ {A = Reach} (record { g0_graphic = a; g1_graphic = b; shifted_out = c }) (record { g0_graphic = x; g1_graphic = y; shifted_out = z })
+pub same_reach : {a b c x y z : Bool} → a ≡ x → b ≡ y → c ≡ z → ◌≡◌ {A = Reach} (record { g0_graphic = a; g1_graphic = b; shifted_out = c }) (record { g0_graphic = x; g1_graphic = y; shifted_out = z })
 same_reach p q r = cc
 
 pub joined_step : (r : Reach) (t : List ℕ) (ts : List (List ℕ)) → joined (joined r (reach_of (t ∷ []))) (reach_of ts) ≡ joined r (reach_of (t ∷ ts))

@@ -1,7 +1,7 @@
 -- Which character sets a terminal can have after strings that are sent whole or in part (VT100 user guide, "Select
 -- character set"; ECMA-48 8.3.76 and 8.3.126, LS0 and LS1: SI and SO).
 use Rattle.std.specs.Prelude.{ℕ, ◌≡◌, ◌⊎◌, ◌&&◌, Bool, true, false, if◌then◌else◌, List, [], ◌∷◌}
-use Rattle.vt_term.specs.Function.{Function, function_of, CodeElement, G0, G1, ShiftOut, ShiftIn, Designate}
+use Rattle.vt_term.specs.Function.{Function, function_of, G0, G1, ShiftOut, Designate}
 use Rattle.vt_term.specs.Screen.{Charset}
 pub use Rattle.vt_term.specs.Charsets.{charset_after}
 use Rattle.ti_charsets.specs.declared.reach.Reach.{Reach}

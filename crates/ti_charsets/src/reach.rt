@@ -1,9 +1,11 @@
 //! The charsets that a terminal can have where strings are cut off anywhere.
 
-ghost use Rattle.std.specs.Prelude.{◌≡◌, if◌then◌else◌, true, false, ◌++◌, [], ◌∷◌, ℕ, List};
+ghost use Rattle.std.specs.Prelude.{◌≡◌, if◌then◌else◌, true, false, ◌++◌, [], ◌∷◌, ℕ, List, IfErr, OnOk};
+ghost use Rattle.vt_term.specs.Scanned.{HasFault};
+ghost use Rattle.vt_term.specs.Text.{Splits};
 ghost use Rattle.ti_charsets.specs.Charsets.{can_have, joined, makes_g0_graphic, makes_g1_graphic, reach_of, shifts_out};
 
-use vt_term::{Charset, CodeElement, Function, Token};
+use vt_term::{Charset, CodeElement, Function, Scanner, TextFault, Token};
 
 /// Which marks of the character sets tokens can turn on. A charset is reached by tokens exactly if
 /// they turn on each of its marks that is on, since every mark is off in the reset state.
@@ -73,6 +75,36 @@ impl Reach {
     {
         for token in tokens {
             self.learn(token);
+        }
+    }
+
+    /// The same of the token that was read last.
+    fn learn_read(&mut self, scanner: &Scanner)
+        ensures { self.new ≡ joined self.old (reach_of (scanner.now ∷ [])) }
+    {
+        self.g0_graphic = either(self.g0_graphic, makes_g0_graphic(scanner.function()));
+        self.g1_graphic = either(self.g1_graphic, makes_g1_graphic(scanner.function()));
+        self.shifted_out = either(self.shifted_out, shifts_out(scanner.function()));
+    }
+
+    /// Adds the marks that the tokens of a text turn on, which the scanner reads in place.
+    ///
+    /// # Errors
+    /// The first fault of the text; the marks of the tokens before it are added.
+    pub fn learn_text(&mut self, scanner: &mut Scanner, text: &[u8]) -> Result<(), TextFault>
+        ensures learned { OnOk result ((tokens : List (List ℕ)) → Splits text.now tokens [] → self.new ≡ joined self.old (reach_of tokens)) }
+        ensures fault { IfErr result (HasFault text.now) }
+    {
+        let mut at = 0;
+        loop {
+            match scanner.next(text, at) {
+                Ok(Some(end)) => {
+                    self.learn_read(scanner);
+                    at = end;
+                }
+                Ok(None) => return Ok(()),
+                Err(fault) => return Err(fault),
+            }
         }
     }
 }

@@ -12,7 +12,7 @@ use Rattle.ti_checker.specs.No.{IsFaulty, IsSo}
 use Rattle.ti_checker.specs.Notes.{SendsNoTokens, RowNotes, RowsNotes, IsUnsentAt, IsFirstUnsent, AddsNotesAt}
 use Rattle.ti_checker.specs.declared.noting.CheckNote.{CheckNote}
 use Rattle.ti_checker.specs.declared.causes.Cause.{Cause}
-use Rattle.ti_checker.specs.declared.causes.Cause.TheVariants.{FlagOut, Absent, AcsByte, Parm, StaticRead, Unfinished, Stuck, NotTame, BadLook, WrongEffect, NotShown, NoResync, NoMemory}
+use Rattle.ti_checker.specs.declared.causes.Cause.TheVariants.{FlagOut, Absent, AcsByte, Parm, StaticRead, Unfinished, Stuck, NotTame, BadLook, WrongEffect, NotShown, TooLong, NoResync, NoMemory}
 use Rattle.ti_checker.specs.declared.causes.No.{No}
 
 -- ---- rows
@@ -77,6 +77,7 @@ faulty rows cols string row NotTame h = absurd h
 faulty rows cols string row BadLook h = absurd h
 faulty rows cols string row (WrongEffect p) h = absurd h
 faulty rows cols string row NotShown h = absurd h
+faulty rows cols string row TooLong h = absurd h
 
 pub so_unsent : (entry : Content) (rows cols place : ℕ) (refusal : No) → IsSize rows cols → IsUnsentAt entry place refusal → IsSo entry rows cols refusal
 so_unsent entry rows cols place refusal size u = so_of entry rows cols u.string u.row refusal u.checked u.there (record {

@@ -1,5 +1,5 @@
 -- The certificate of a basic entry is its basic text.
-use Rattle.std.proofs.Common.{◌≡◌, ℕ, List, Option, Ok, sym, subst, ◌∙◌}
+use Rattle.std.proofs.Common.{ℕ, List, Option, Ok, sym, subst, ◌∙◌}
 use Rattle.std.proofs.lemmas.Option.{same_Some}
 use Rattle.ti_sends.specs.Sends.{Sends}
 use Rattle.ti_cert.specs.Certificates.{Ended, IsAnswer}

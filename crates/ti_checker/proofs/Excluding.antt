@@ -26,10 +26,12 @@ use Rattle.ti_conforms.specs.Conforms.{Conforms, IsFit}
 use Rattle.ti_cert.proofs.Disagreeing.{flag_not_out, none_lacking, none_misfit}
 use Rattle.ti_checker.proofs.Together.{none_open}
 use Rattle.ti_checker.proofs.Sent.{none_graphic, none_misswitching}
+use Rattle.ti_checker.proofs.Passing.{none_certified}
+use Rattle.ti_checker.specs.Certificate.{IsCertificateOf}
 use Rattle.ti_checker.specs.First.{SendsRight}
-use Rattle.ti_checker.specs.No.{IsUnfitBy, SendsSome, IsFaulty, HasFaulty, IsSo, IsSoBy, ClaimsNothing}
+use Rattle.ti_checker.specs.No.{IsUnfitBy, SendsSome, IsFaulty, HasFaulty, HasTooLong, IsSo, IsSoBy, ClaimsNothing}
 use Rattle.ti_checker.specs.declared.causes.Cause.{Cause}
-use Rattle.ti_checker.specs.declared.causes.Cause.TheVariants.{FlagOut, Absent, AcsByte, Parm, StaticRead, Unfinished, Stuck, NotTame, BadLook, WrongEffect, NotShown, NoResync, NoMemory}
+use Rattle.ti_checker.specs.declared.causes.Cause.TheVariants.{FlagOut, Absent, AcsByte, Parm, StaticRead, Unfinished, Stuck, NotTame, BadLook, WrongEffect, NotShown, TooLong, NoResync, NoMemory}
 use Rattle.ti_checker.specs.declared.causes.No.{No}
 
 -- ---- what a string sends
@@ -72,7 +74,7 @@ not_broken rows cols looks row bytes p r b =
 sent_is : (rows cols : ℕ) (string : List ℕ) (row : Row) (Holds : List ℕ → Type 0) → (r : SendsRight rows cols string row) → SendsSome string row Holds → Holds r.bytes
 sent_is rows cols string row Holds r s = subst Holds (same_bytes string row s.bytes r.bytes s.sends r.sends) s.holds
 
-none_faulty : (rows cols : ℕ) (string : List ℕ) (row : Row) (cause : Cause) → SendsRight rows cols string row → IsFaulty rows cols string row cause → ClaimsNothing cause
+pub none_faulty : (rows cols : ℕ) (string : List ℕ) (row : Row) (cause : Cause) → SendsRight rows cols string row → IsFaulty rows cols string row cause → ClaimsNothing cause
 none_faulty rows cols string row (Parm fault) r h = no_fault string row r.bytes fault r.sends h
 none_faulty rows cols string row StaticRead r h = r.sends.sets_first h.end h.runs h.reads
 none_faulty rows cols string row Unfinished r h =
@@ -87,11 +89,12 @@ none_faulty rows cols string row NotTame r h = tt
 none_faulty rows cols string row NotShown r h = tt
 none_faulty rows cols string row NoMemory r h = tt
 none_faulty rows cols string row NoResync r h = absurd h
+none_faulty rows cols string row TooLong r h = absurd h
 none_faulty rows cols string row FlagOut r h = absurd h
 none_faulty rows cols string row Absent r h = absurd h
 none_faulty rows cols string row AcsByte r h = absurd h
 
-none_unfit : (entry : Content) (cap : ℕ) (cause : Cause) → IsFit entry → IsUnfitBy entry cap cause → ClaimsNothing cause
+pub none_unfit : (entry : Content) (cap : ℕ) (cause : Cause) → IsFit entry → IsUnfitBy entry cap cause → ClaimsNothing cause
 none_unfit entry cap FlagOut fit h = flag_not_out entry cap fit h
 none_unfit entry cap Absent fit h = none_lacking entry h.row fit h.lacking.required h.lacking.absent
 none_unfit entry cap AcsByte fit h = none_misfit entry fit h.1
@@ -102,6 +105,7 @@ none_unfit entry cap Stuck fit h = absurd h
 none_unfit entry cap BadLook fit h = absurd h
 none_unfit entry cap (WrongEffect p) fit h = absurd h
 none_unfit entry cap NoResync fit h = absurd h
+none_unfit entry cap TooLong fit h = absurd h
 none_unfit entry cap NotTame fit h = tt
 none_unfit entry cap NotShown fit h = tt
 none_unfit entry cap NoMemory fit h = tt
@@ -109,22 +113,26 @@ none_unfit entry cap NoMemory fit h = tt
 row_faulty : (entry : Content) (rows cols : ℕ) (refusal : No) → Conforms entry rows cols → HasFaulty entry rows cols refusal → ClaimsNothing refusal.cause
 row_faulty entry rows cols refusal c h = none_faulty rows cols h.string h.row refusal.cause (sent_right entry rows cols c h.row h.range h.checked h.string h.there) h.faulty
 
-by_cause : (entry : Content) (rows cols : ℕ) (refusal : No) (cause : Cause) → refusal.cause ≡ cause → Conforms entry rows cols → IsSoBy entry rows cols refusal cause → ClaimsNothing refusal.cause
-by_cause entry rows cols refusal FlagOut e c h = none_unfit entry refusal.cap refusal.cause c.fit h
-by_cause entry rows cols refusal Absent e c h = none_unfit entry refusal.cap refusal.cause c.fit h
-by_cause entry rows cols refusal AcsByte e c h = none_unfit entry refusal.cap refusal.cause c.fit h
-by_cause entry rows cols refusal NotTame e c h = subst ClaimsNothing (sym e) tt
-by_cause entry rows cols refusal NotShown e c h = subst ClaimsNothing (sym e) tt
-by_cause entry rows cols refusal NoMemory e c h = subst ClaimsNothing (sym e) tt
-by_cause entry rows cols refusal NoResync e c h = absurd (none_open entry rows cols c h.1)
-by_cause entry rows cols refusal (Parm fault) e c h = row_faulty entry rows cols refusal c h
-by_cause entry rows cols refusal StaticRead e c h = row_faulty entry rows cols refusal c h
-by_cause entry rows cols refusal Unfinished e c h = row_faulty entry rows cols refusal c h
-by_cause entry rows cols refusal Stuck e c h = row_faulty entry rows cols refusal c h
-by_cause entry rows cols refusal BadLook e c (inl h) = row_faulty entry rows cols refusal c h
-by_cause entry rows cols refusal BadLook e c (inr h) = absurd (none_graphic entry rows cols c h.1)
-by_cause entry rows cols refusal (WrongEffect p) e c (inl h) = row_faulty entry rows cols refusal c h
-by_cause entry rows cols refusal (WrongEffect p) e c (inr h) = absurd (none_misswitching entry rows cols c h.row p h.switches)
+by_cause : (entry : Content) (rows cols : ℕ) (refusal : No) (cause : Cause) → (refusal.cause ≡ TooLong → ⊥) → refusal.cause ≡ cause → Conforms entry rows cols → IsSoBy entry rows cols refusal cause → ClaimsNothing refusal.cause
+by_cause entry rows cols refusal FlagOut not_long e c h = none_unfit entry refusal.cap refusal.cause c.fit h
+by_cause entry rows cols refusal Absent not_long e c h = none_unfit entry refusal.cap refusal.cause c.fit h
+by_cause entry rows cols refusal AcsByte not_long e c h = none_unfit entry refusal.cap refusal.cause c.fit h
+by_cause entry rows cols refusal NotTame not_long e c h = subst ClaimsNothing (sym e) tt
+by_cause entry rows cols refusal NotShown not_long e c h = subst ClaimsNothing (sym e) tt
+by_cause entry rows cols refusal NoMemory not_long e c h = subst ClaimsNothing (sym e) tt
+by_cause entry rows cols refusal NoResync not_long e c h = absurd (none_open entry rows cols c h.1)
+by_cause entry rows cols refusal TooLong not_long e c h = absurd (not_long e)
+by_cause entry rows cols refusal (Parm fault) not_long e c h = row_faulty entry rows cols refusal c h
+by_cause entry rows cols refusal StaticRead not_long e c h = row_faulty entry rows cols refusal c h
+by_cause entry rows cols refusal Unfinished not_long e c h = row_faulty entry rows cols refusal c h
+by_cause entry rows cols refusal Stuck not_long e c h = row_faulty entry rows cols refusal c h
+by_cause entry rows cols refusal BadLook not_long e c (inl h) = row_faulty entry rows cols refusal c h
+by_cause entry rows cols refusal BadLook not_long e c (inr h) = absurd (none_graphic entry rows cols c h.1)
+by_cause entry rows cols refusal (WrongEffect p) not_long e c (inl h) = row_faulty entry rows cols refusal c h
+by_cause entry rows cols refusal (WrongEffect p) not_long e c (inr h) = absurd (none_misswitching entry rows cols c h.row p h.switches)
 
-pub no_excludes_yes : (entry : Content) (rows cols : ℕ) (refusal : No) → IsSo entry rows cols refusal → Conforms entry rows cols → ClaimsNothing refusal.cause
-no_excludes_yes entry rows cols refusal h c = by_cause entry rows cols refusal refusal.cause refl c h
+pub no_excludes_yes : (entry : Content) (rows cols : ℕ) (refusal : No) → IsSo entry rows cols refusal → (refusal.cause ≡ TooLong → ⊥) → Conforms entry rows cols → ClaimsNothing refusal.cause
+no_excludes_yes entry rows cols refusal h not_long c = by_cause entry rows cols refusal refusal.cause not_long refl c h
+
+pub too_long_excludes : (entry : Content) (rows cols : ℕ) (refusal : No) (text : List ℕ) → IsSo entry rows cols refusal → refusal.cause ≡ TooLong → IsCertificateOf entry rows cols text → ⊥
+too_long_excludes entry rows cols refusal text h e c = let l : HasTooLong entry rows cols refusal = subst (λ (cause : Cause). IsSoBy entry rows cols refusal cause) e h in none_certified entry rows cols l.row text l.passes c

@@ -1,4 +1,7 @@
 pub mod Walking
+pub mod Ordering
+pub mod Passing
+pub mod Beginning
 pub mod Earliest
 pub mod Together
 pub mod Settled
@@ -11,3 +14,4 @@ pub mod Sent
 pub mod Excluding
 pub mod Certifying
 pub mod BasicCertificates
+pub mod BasicDrafts

@@ -6,7 +6,7 @@ use Rattle.ti_sends.specs.Sends.{Sends}
 use Rattle.ti_probes.proofs.Showing.{shown_breaks}
 use Rattle.ti_checker.specs.No.{IsFaulty, IsMisjudged}
 use Rattle.ti_checker.specs.declared.causes.Cause.{Cause}
-use Rattle.ti_checker.specs.declared.causes.Cause.TheVariants.{FlagOut, Absent, AcsByte, Parm, StaticRead, Unfinished, Stuck, NotTame, BadLook, WrongEffect, NotShown, NoResync, NoMemory}
+use Rattle.ti_checker.specs.declared.causes.Cause.TheVariants.{FlagOut, Absent, AcsByte, Parm, StaticRead, Unfinished, Stuck, NotTame, BadLook, WrongEffect, NotShown, TooLong, NoResync, NoMemory}
 
 pub misjudged : (rows cols : ℕ) (string : List ℕ) (row : Row) (bytes : List ℕ) (tokens : List (List ℕ)) (cause : Cause) → Sends string row bytes → Splits bytes tokens []
     → IsMisjudged rows cols row tokens cause → IsFaulty rows cols string row cause
@@ -16,6 +16,7 @@ misjudged rows cols string row bytes tokens AcsByte sends split m = absurd m.mis
 misjudged rows cols string row bytes tokens (Parm fault) sends split m = absurd m.misfit
 misjudged rows cols string row bytes tokens StaticRead sends split m = absurd m.misfit
 misjudged rows cols string row bytes tokens NoResync sends split m = absurd m.misfit
+misjudged rows cols string row bytes tokens TooLong sends split m = absurd m.misfit
 misjudged rows cols string row bytes tokens Unfinished sends split m = absurd m.misfit
 misjudged rows cols string row bytes tokens Stuck sends split m = absurd m.misfit
 misjudged rows cols string row bytes tokens NotTame sends split m = record { bytes = bytes; sends = sends; holds = record { tokens = tokens; whole = split; unrecorded = m } }

@@ -10,7 +10,7 @@ use Rattle.ti_sends.specs.declared.entries.Group.TheVariants.{Colors, Single, Se
 use Rattle.ti_sends.specs.Entries.{group_of, string_of, has_string, meets, is_checked}
 use Rattle.ti_checker.specs.No.{HasFaulty, IsFaulty, IsFaultyOf, IsSo, IsSoBy}
 use Rattle.ti_checker.specs.declared.causes.Cause.{Cause}
-use Rattle.ti_checker.specs.declared.causes.Cause.TheVariants.{FlagOut, Absent, AcsByte, Parm, StaticRead, Unfinished, Stuck, NotTame, BadLook, WrongEffect, NotShown, NoResync, NoMemory}
+use Rattle.ti_checker.specs.declared.causes.Cause.TheVariants.{FlagOut, Absent, AcsByte, Parm, StaticRead, Unfinished, Stuck, NotTame, BadLook, WrongEffect, NotShown, TooLong, NoResync, NoMemory}
 use Rattle.ti_checker.specs.declared.causes.No.{No}
 
 group_at : ℕ → Group
@@ -70,6 +70,7 @@ by_cause entry rows cols string row refusal FlagOut f h = absurd f
 by_cause entry rows cols string row refusal Absent f h = absurd f
 by_cause entry rows cols string row refusal AcsByte f h = absurd f
 by_cause entry rows cols string row refusal NoResync f h = absurd f
+by_cause entry rows cols string row refusal TooLong f h = absurd f
 by_cause entry rows cols string row refusal NotTame f h = h
 by_cause entry rows cols string row refusal NotShown f h = inl h
 by_cause entry rows cols string row refusal NoMemory f h = tt

@@ -1,11 +1,11 @@
 -- Which of several noes is told: the first, in the order of a certificate's lines.
-use Rattle.std.specs.Prelude.{ℕ, ◌≡◌, ◌<◌, ◌⊎◌, true, List, Some}
+use Rattle.std.specs.Prelude.{ℕ, ◌≡◌, ◌⊎◌, true, List, Some}
 use Rattle.ti_caps.specs.Entry.{Content}
 use Rattle.ti_rows.specs.declared.rows.Looks.{Looks}
 use Rattle.ti_rows.specs.declared.rows.Row.{Row}
-use Rattle.ti_rows.specs.Names.{cap_of, order}
+use Rattle.ti_rows.specs.Names.{cap_of}
 use Rattle.ti_rows.specs.Params.{params}
-use Rattle.ti_rows.specs.Lists.{IsInRange, rank}
+use Rattle.ti_rows.specs.Lists.{IsInRange}
 use Rattle.ti_rows.specs.Right.{IsRight}
 use Rattle.ti_sends.specs.Sends.{Sends}
 use Rattle.ti_sends.specs.Entries.{is_checked, string_of}
@@ -13,6 +13,7 @@ use Rattle.ti_cert.specs.Order.{Precedes}
 use Rattle.ti_checker.specs.declared.causes.Cause.{Cause}
 use Rattle.ti_checker.specs.declared.causes.Cause.TheVariants.{FlagOut, Absent, AcsByte, BadLook, WrongEffect, NotShown, NoResync, NoMemory}
 use Rattle.ti_checker.specs.declared.causes.No.{No}
+use Rattle.ti_checker.specs.Limit.{IsWritten, StaysWithin}
 
 -- ---- a row without fault
 
@@ -40,7 +41,7 @@ IsOfRow AcsByte = ⊥
 IsOfRow NoResync = ⊥
 IsOfRow _ = Unit {0}
 
--- the no is about a row, and all that come before it stand
+-- the no is about a row, and all that come before it stand, their lines not too long for a certificate
 pub record IsFirstRow (entry : Content) (rows cols : ℕ) (refusal : No) : Type 0 where
   pub row : Row
   pub cap_is : refusal.cap ≡ cap_of row
@@ -48,6 +49,7 @@ pub record IsFirstRow (entry : Content) (rows cols : ℕ) (refusal : No) : Type 
   pub range : IsInRange rows cols row
   pub of_row : IsOfRow refusal.cause
   pub earlier : (other : Row) → IsInRange rows cols other → Precedes rows cols other row → RowStands entry rows cols other
+  pub within : StaysWithin entry rows cols row
 
 -- What the entry has to have or may not have is told before any row, what is wrong with rows before what is wrong with
 -- all of them together. Running out of memory has no place.
@@ -65,34 +67,8 @@ IsFirstBy entry rows cols refusal _ = IsFirstRow entry rows cols refusal
 abbrev pub IsFirstTold : Content → ℕ → ℕ → No → Type 0
 IsFirstTold entry rows cols refusal = IsFirstBy entry rows cols refusal refusal.cause
 
--- ---- (Serves the code alone.) The rows of one capability.
+-- ---- (Serves the code alone.) The rows of which this holds stand, and their lines are the text so far.
 
--- those of a string for the capability at a place that have this place among its lists
-abbrev pub RightAt : ℕ → ℕ → List ℕ → ℕ → ℕ → Type 0
-RightAt rows cols string n k = (row : Row) → order row ≡ n → IsInRange rows cols row → rank rows cols row ≡ k → SendsRight rows cols string row
-
-abbrev pub AllRight : ℕ → ℕ → List ℕ → ℕ → Type 0
-AllRight rows cols string n = (row : Row) → order row ≡ n → IsInRange rows cols row → SendsRight rows cols string row
-
--- the no is about such a row, and those before it are right
-pub record IsFirstOf (rows cols : ℕ) (string : List ℕ) (n : ℕ) (refusal : No) : Type 0 where
-  pub row : Row
-  pub cap_is : refusal.cap ≡ cap_of row
-  pub params_are : refusal.params.items ≡ params row
-  pub range : IsInRange rows cols row
-  pub of_row : IsOfRow refusal.cause
-  pub ordered : order row ≡ n
-  pub earlier : (k : ℕ) → k < rank rows cols row → RightAt rows cols string n k
-
--- the same of the entry's string, where the capability is checked
-abbrev pub CapStands : Content → ℕ → ℕ → ℕ → Type 0
-CapStands entry rows cols n = (row : Row) → order row ≡ n → IsInRange rows cols row → RowStands entry rows cols row
-
-pub record IsFirstInCap (entry : Content) (rows cols n : ℕ) (refusal : No) : Type 0 where
-  pub row : Row
-  pub cap_is : refusal.cap ≡ cap_of row
-  pub params_are : refusal.params.items ≡ params row
-  pub range : IsInRange rows cols row
-  pub of_row : IsOfRow refusal.cause
-  pub ordered : order row ≡ n
-  pub earlier : (other : Row) → order other ≡ n → IsInRange rows cols other → rank rows cols other < rank rows cols row → RowStands entry rows cols other
+pub record IsDrafted (entry : Content) (rows cols : ℕ) (Holds : Row → Type 0) (text : List ℕ) : Type 0 where
+  pub stand : (row : Row) → IsInRange rows cols row → Holds row → RowStands entry rows cols row
+  pub written : IsWritten entry rows cols Holds text

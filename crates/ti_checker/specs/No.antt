@@ -22,10 +22,15 @@ use Rattle.ti_conforms.specs.Conforms.{IsFit, xmc, hc, gn, os}
 use Rattle.ti_probes.specs.declared.probes.Probe.{Probe}
 use Rattle.ti_probes.specs.Breaking.{Breaks, IsShown}
 use Rattle.ti_cert.specs.Unfit.{HasMisfit, LacksCap, is_flag_out}
+use Rattle.ti_cert.specs.declared.faults.AgreeFault.TheVariants as agreeing
+use Rattle.ti_cert.specs.declared.faults.CertFaultKind.TheVariants as kinds_of_cert
+use Rattle.ti_cert.specs.declared.faults.VerifyFault.{VerifyFault}
+use Rattle.ti_cert.specs.declared.faults.VerifyFault.TheVariants.{Cert, Agree}
 use Rattle.ti_checker.specs.declared.causes.Cause.{Cause}
-use Rattle.ti_checker.specs.declared.causes.Cause.TheVariants.{FlagOut, Absent, AcsByte, Parm, StaticRead, Unfinished, Stuck, NotTame, BadLook, WrongEffect, NotShown, NoResync, NoMemory}
+use Rattle.ti_checker.specs.declared.causes.Cause.TheVariants.{FlagOut, Absent, AcsByte, Parm, StaticRead, Unfinished, Stuck, NotTame, BadLook, WrongEffect, NotShown, TooLong, NoResync, NoMemory}
 use Rattle.ti_checker.specs.declared.causes.No.{No}
 use Rattle.ti_checker.specs.First.{EachStands, IsFirstTold}
+use Rattle.ti_checker.specs.Limit.{Overflows, PassesLimit}
 use Rattle.ti_checker.specs.Resync.{StaysOpen}
 use Rattle.ti_checker.specs.Switching.{OfSent, Misswitches, StaysGraphic}
 
@@ -132,6 +137,15 @@ pub record HasFaulty (entry : Content) (rows cols : ℕ) (refusal : No) : Type 0
   pub there : string_of entry row ≡ Some string
   pub faulty : IsFaulty rows cols string row refusal.cause
 
+-- the certificate's lines up to that of a checked row, and `end`, are longer than a certificate may be
+pub record HasTooLong (entry : Content) (rows cols : ℕ) (refusal : No) : Type 0 where
+  pub row : Row
+  pub cap_is : refusal.cap ≡ cap_of row
+  pub params_are : refusal.params.items ≡ params row
+  pub range : IsInRange rows cols row
+  pub checked : is_checked entry row ≡ true
+  pub passes : PassesLimit entry rows cols row
+
 -- ---- a no
 
 -- `smacs` or `rmacs` ends with the other set active from a start with a settled charset
@@ -152,6 +166,7 @@ IsSoBy entry rows cols refusal BadLook = HasFaulty entry rows cols refusal ⊎ (
 IsSoBy entry rows cols refusal (WrongEffect p) = HasFaulty entry rows cols refusal ⊎ HasMisswitch entry rows cols refusal p
 IsSoBy entry rows cols refusal NotShown = HasFaulty entry rows cols refusal ⊎ EachStands entry rows cols
 IsSoBy entry rows cols refusal NoResync = (refusal.cap ≡ cap_of Clear) × StaysOpen entry rows cols
+IsSoBy entry rows cols refusal TooLong = HasTooLong entry rows cols refusal
 IsSoBy entry rows cols refusal NoMemory = Unit {0}
 IsSoBy entry rows cols refusal _ = HasFaulty entry rows cols refusal
 
@@ -167,6 +182,15 @@ pub record IsFaultyOf (rows cols : ℕ) (string : List ℕ) (first : Row) (refus
   pub same_order : order row ≡ order first
   pub faulty : IsFaulty rows cols string row refusal.cause
 
+-- (Serves the code alone.) The same of a row that is refused, by its string and the text before it, and by its entry.
+abbrev pub IsRowRefused : ℕ → ℕ → List ℕ → Row → List ℕ → Cause → Type 0
+IsRowRefused rows cols string row text TooLong = Overflows rows cols string row text
+IsRowRefused rows cols string row text cause = IsFaulty rows cols string row cause
+
+abbrev pub IsRowFault : Content → ℕ → ℕ → No → Cause → Type 0
+IsRowFault entry rows cols refusal TooLong = HasTooLong entry rows cols refusal
+IsRowFault entry rows cols refusal _ = HasFaulty entry rows cols refusal
+
 -- a string with one of these may be right
 abbrev pub ClaimsNothing : Cause → Type 0
 ClaimsNothing NotTame = Unit {0}
@@ -180,6 +204,13 @@ IsTogether entry rows cols NotShown = Unit {0}
 IsTogether entry rows cols NoMemory = Unit {0}
 IsTogether entry rows cols NoResync = StaysOpen entry rows cols
 IsTogether entry rows cols _ = ⊥
+
+-- ---- memory
+
+-- memory ran out
+abbrev pub IsOutOfMemory : VerifyFault → Type 0
+IsOutOfMemory (Cert fault) = fault.kind ≡ kinds_of_cert.NoMemory
+IsOutOfMemory (Agree fault) = fault ≡ agreeing.NoMemory
 
 -- ---- the order of causes
 

@@ -38,6 +38,8 @@ pub enum Cause {
     /// The effect isn't the one that is asked for, or something of all strings together can't be shown.
     /// They may be right.
     NotShown,
+    /// With this line and the last one, `end`, a certificate would be longer than any may be.
+    TooLong,
     /// What leads out of an unknown state (`smcup`, `enacs`, `sgr0`, `rmacs`, `csr` and `clear`, one after
     /// another) doesn't begin with ESC, so that a sequence which was cut off swallows some of it.
     NoResync,
@@ -67,6 +69,7 @@ impl fmt::Display for Cause {
             Cause::BadLook => write!(f, "BadLook"),
             Cause::WrongEffect(_) => write!(f, "WrongEffect"),
             Cause::NotShown => write!(f, "NotShown"),
+            Cause::TooLong => write!(f, "TooLong"),
             Cause::NoResync => write!(f, "NoResync"),
             Cause::NoMemory => write!(f, "NoMemory"),
         }

@@ -22,6 +22,7 @@ use vt_term::Size;
 fn judge_text(alloc: Global, entry: &Entry, size: Size, text: &[u8]) -> Result<(), VerifyFault>
     ensures conforms { OnOk result (Conforms entry.now size.rows size.cols) }
     ensures certificate { OnOk result (IsCertificateOf entry.now size.rows size.cols text.now) }
+    ensures basic { IsBasic entry.now size.rows size.cols → text.now ≡ basic_text_of entry.now size.rows size.cols → IfErr result spec.IsOutOfMemory }
 {
     let table = match audit(alloc, text, size) {
         Ok(table) => table,
@@ -37,7 +38,8 @@ fn judge_text(alloc: Global, entry: &Entry, size: Size, text: &[u8]) -> Result<(
 fn unverified(alloc: Global, entry: &Entry, size: Size, fault: VerifyFault) -> No
     requires fit { IsFit entry.now }
     requires stands { EachStands entry.now size.rows size.cols }
-    ensures { spec.IsOfAll entry.now size.rows size.cols result }
+    ensures of_all { spec.IsOfAll entry.now size.rows size.cols result }
+    ensures memory { spec.IsOutOfMemory fault → result.cause ≡ Cause.NoMemory }
 {
     match fault {
         VerifyFault::Cert(fault) => match fault.kind {
@@ -69,14 +71,16 @@ fn clashing(alloc: Global, entry: &Entry, size: Size) -> No
 fn no_together(alloc: Global, entry: &Entry, size: Size, kind: CertFaultKind) -> No
     requires fit { IsFit entry.now }
     requires stands { EachStands entry.now size.rows size.cols }
-    ensures { spec.IsOfAll entry.now size.rows size.cols result }
+    ensures of_all { spec.IsOfAll entry.now size.rows size.cols result }
+    ensures memory { kind ≡ CertFaultKind.NoMemory → result.cause ≡ Cause.NoMemory }
 {
     No::of(Row::Clear.cap(), cause_together(alloc, entry, size, kind))
 }
 
 /// The cause that a fault of the whole certificate is.
 fn cause_together(alloc: Global, entry: &Entry, size: Size, kind: CertFaultKind) -> Cause
-    ensures { spec.IsTogether entry.now size.rows size.cols result }
+    ensures together { spec.IsTogether entry.now size.rows size.cols result }
+    ensures memory { kind ≡ CertFaultKind.NoMemory → result ≡ Cause.NoMemory }
 {
     match kind {
         CertFaultKind::NoMemory => Cause::NoMemory,
@@ -90,11 +94,13 @@ fn cause_together(alloc: Global, entry: &Entry, size: Size, kind: CertFaultKind)
 ///
 /// # Errors
 /// The first capability and parameters for which there is none, in the order of a certificate's lines,
-/// with the cause. Every cause but `NotTame`, `NotShown` and `NoMemory` states a fault of the entry.
+/// with the cause. Every cause but `NotTame`, `NotShown` and `NoMemory` states a fault of the entry, and
+/// `TooLong` that its certificate would pass the limit.
 pub fn check(alloc: Global, entry: &Entry, size: Size) -> Result<Vec<u8>, No>
     ensures conforms { IfOk result (λ text. Conforms entry.now size.rows size.cols) }
     ensures certificate { IfOk result (λ text. IsCertificateOf entry.now size.rows size.cols text.items) }
     ensures basic { IsBasic entry.now size.rows size.cols → IfOk result (λ text. text.items ≡ basic_text_of entry.now size.rows size.cols) }
+    ensures basic_refused { IsBasic entry.now size.rows size.cols → IfErr result (λ refusal. refusal.cause ≡ Cause.NoMemory) }
     ensures refused { IfErr result (λ refusal. spec.IsSo entry.now size.rows size.cols refusal) }
     ensures order { IfErr result (λ refusal. spec.IsFirstCause entry.now refusal.cause) }
     ensures first { IfErr result (IsFirstTold entry.now size.rows size.cols) }

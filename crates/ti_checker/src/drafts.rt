@@ -1,12 +1,19 @@
 //! The text of a certificate, line by line.
 
-ghost use Rattle.std.specs.Prelude.{◌≡◌, ◌++◌, ◌∷◌, [], IfErr, IfOk, OnOk, Some, true};
+ghost use Rattle.std.specs.Prelude.{◌≡◌, ◌<◌, ◌≤◌, ◌+◌, ◌++◌, ◌∷◌, [], length, IfErr, IfNone, IfOk, IfSome, OnOk, Some, false, true};
+ghost use Rattle.ti_caps.specs.Entry.{string_at};
+ghost use Rattle.ti_cert.specs.Basic.{IsBasic, basic_text_of};
+ghost use Rattle.ti_cert.specs.Certificates.{limit};
 ghost use Rattle.ti_checker.specs.First as told;
+ghost use Rattle.ti_checker.specs.Limit.{AddsLine, most};
 ghost use Rattle.ti_checker.specs.No as spec;
+ghost use Rattle.ti_lines.specs.Heads.{acsc_text, end_text, size_text};
 ghost use Rattle.ti_lines.specs.Lines.{line_text};
+ghost use Rattle.ti_lines.specs.Texts.{acsc_lines, ended};
 ghost use Rattle.ti_rows.specs.Lists.{IsFirst, IsInRange};
 ghost use Rattle.ti_rows.specs.Names.{order};
 ghost use Rattle.ti_sends.specs.Entries as entries;
+ghost use Rattle.ti_sends.specs.Entries.{string_of};
 
 use crate::causes::{Cause, No};
 use crate::fitness::acsc;
@@ -31,33 +38,54 @@ struct Draft {
     words: Vec<u8>,
 }
 
-/// The lines before those of the capabilities.
-fn push_head(
-    alloc: Global,
-    entry: &Entry,
-    size: Size,
-    text: &mut Vec<u8>,
-) -> Result<(), AllocError> {
+/// The most bytes of a certificate before its last line.
+const MOST: usize = 67_108_860;
+
+/// Adds the first line.
+fn push_size(alloc: Global, size: Size, text: &mut Vec<u8>) -> Result<(), AllocError>
+    ensures { OnOk result (text.new.items ≡ text.old.items ++ (size_text size.rows size.cols ++ 10 ∷ [])) }
+{
     let rows = size.rows;
     let cols = size.cols;
     let first = format!(in alloc; "ticert 2 {rows} {cols}\n")?;
-    text.extend_from_slice(first.as_bytes())?;
-    if let Some(pairs) = entry.get_string(acsc()) {
-        text.extend_from_slice(b"acsc ")?;
-        push_hex(pairs, text)?;
-        text.push(b'\n')?;
-    }
+    text.extend_from_slice(first.as_bytes())
+}
+
+/// Adds the line of alternate characters.
+fn push_pairs(pairs: &[u8], text: &mut Vec<u8>) -> Result<(), AllocError>
+    ensures { OnOk result (text.new.items ≡ text.old.items ++ (acsc_text pairs.now ++ 10 ∷ [])) }
+{
+    text.extend_from_slice(b"acsc ")?;
+    push_hex(pairs, text)?;
+    text.push(b'\n')?;
     Ok(())
 }
 
+/// Adds the lines before those of the capabilities.
+fn push_head(alloc: Global, entry: &Entry, size: Size, text: &mut Vec<u8>) -> Result<(), AllocError>
+    ensures { OnOk result (text.new.items ≡ text.old.items ++ ended (size_text size.rows size.cols ∷ acsc_lines (string_at entry.now entries.acsc))) }
+{
+    push_size(alloc, size, text)?;
+    match entry.get_string(acsc()) {
+        Some(pairs) => push_pairs(pairs, text),
+        None => Ok(()),
+    }
+}
+
 impl Draft {
-    fn new(alloc: Global) -> Draft {
-        Draft {
-            text: Vec::new(alloc),
+    /// The lines before those of the capabilities.
+    fn new(alloc: Global, entry: &Entry, size: Size) -> Result<Draft, AllocError>
+        ensures { IfOk result (λ draft. told.IsDrafted entry.now size.rows size.cols (λ row. order row < 0) draft.text.items) }
+    {
+        let _ = entry.names();
+        let mut text = Vec::new(alloc);
+        push_head(alloc, entry, size, &mut text)?;
+        Ok(Draft {
+            text,
             looks: NO_LOOKS,
             bytes: Vec::new(alloc),
             words: Vec::new(alloc),
-        }
+        })
     }
 
     /// Adds the line of a row whose bytes were judged.
@@ -74,6 +102,18 @@ impl Draft {
         self.text.push(b'\n')?;
         Ok(())
     }
+
+    /// Refuses a text that leaves no room for the last line.
+    fn check_length(&self) -> Result<(), Cause>
+        ensures short { OnOk result (length self.now.text.items ≤ most) }
+        ensures long { IfErr result (λ cause. (cause ≡ Cause.TooLong) × (most < length self.now.text.items)) }
+    {
+        if self.text.len() <= MOST {
+            Ok(())
+        } else {
+            Err(Cause::TooLong)
+        }
+    }
 }
 
 /// Adds the line of a row.
@@ -86,28 +126,47 @@ fn push_row(
 ) -> Result<(), Cause>
     requires { IsInRange size.rows size.cols row }
     ensures right { OnOk result (told.SendsRight size.rows size.cols string.now row) }
-    ensures faulty { IfErr result (λ cause. spec.IsFaulty size.rows size.cols string.now row cause) }
+    ensures adds { OnOk result (AddsLine size.rows size.cols string.now row draft.old.text.items draft.new.text.items) }
+    ensures short { OnOk result (length draft.new.text.items ≤ most) }
+    ensures refused { IfErr result (λ cause. spec.IsRowRefused size.rows size.cols string.now row draft.old.text.items cause) }
 {
     let effect = judge_row(alloc, string, row, size, &mut draft.looks, &mut draft.bytes)?;
     match draft.push_line(row, &effect) {
-        Ok(()) => Ok(()),
+        Ok(()) => draft.check_length(),
         Err(_) => Err(Cause::NoMemory),
     }
 }
 
-/// Adds the lines of a capability, whose first parameter list is `first`.
-fn push_rows(
+/// The entry's string for a row, where the entry has it and it is checked.
+fn checked_string(entry: &Entry, row: Row) -> Option<&[u8]>
+    ensures checked { IfSome result (λ string. entries.is_checked entry.now row ≡ true) }
+    ensures there { IfSome result (λ string. string_of entry.now row ≡ Some string.now) }
+    ensures none { IfNone result (entries.is_checked entry.now row ≡ false) }
+{
+    if is_checked(entry, row) {
+        entry.get_string(row.cap())
+    } else {
+        None
+    }
+}
+
+/// Adds the lines of a capability where the entry has it and it is checked.
+fn push_cap(
     alloc: Global,
-    string: &[u8],
+    entry: &Entry,
     first: Row,
     size: Size,
     draft: &mut Draft,
 ) -> Result<(), No>
-    requires { IsFirst size.rows size.cols first }
-    ensures right { OnOk result (told.AllRight size.rows size.cols string.now (order first)) }
-    ensures faulty { IfErr result (λ refusal. spec.IsFaultyOf size.rows size.cols string.now first refusal) }
-    ensures first { IfErr result (λ refusal. told.IsFirstOf size.rows size.cols string.now (order first) refusal) }
+    requires first { IsFirst size.rows size.cols first }
+    requires drafted { told.IsDrafted entry.now size.rows size.cols (λ row. order row < order first) draft.old.text.items }
+    ensures drafted { OnOk result (told.IsDrafted entry.now size.rows size.cols (λ row. order row < order first + 1) draft.new.text.items) }
+    ensures fault { IfErr result (λ refusal. spec.IsRowFault entry.now size.rows size.cols refusal refusal.cause) }
+    ensures first { IfErr result (told.IsFirstRow entry.now size.rows size.cols) }
 {
+    let Some(string) = checked_string(entry, first) else {
+        return Ok(());
+    };
     let mut row = first;
     loop {
         match push_row(alloc, string, row, size, draft) {
@@ -121,58 +180,66 @@ fn push_rows(
     }
 }
 
-/// Adds the lines of a capability where the entry has it and it is checked.
-fn push_cap(
+/// Adds the lines of the capability at this place in the order of names.
+fn push_at(
     alloc: Global,
     entry: &Entry,
-    first: Row,
+    place: usize,
     size: Size,
     draft: &mut Draft,
 ) -> Result<(), No>
-    requires { IsFirst size.rows size.cols first }
-    ensures stands { OnOk result (told.CapStands entry.now size.rows size.cols (order first)) }
-    ensures so { IfErr result (λ refusal. spec.IsSo entry.now size.rows size.cols refusal) }
-    ensures first { IfErr result (λ refusal. told.IsFirstInCap entry.now size.rows size.cols (order first) refusal) }
+    requires place { place < 42 }
+    requires drafted { told.IsDrafted entry.now size.rows size.cols (λ row. order row < place) draft.old.text.items }
+    ensures drafted { OnOk result (told.IsDrafted entry.now size.rows size.cols (λ row. order row < place + 1) draft.new.text.items) }
+    ensures fault { IfErr result (λ refusal. spec.IsRowFault entry.now size.rows size.cols refusal refusal.cause) }
+    ensures first { IfErr result (told.IsFirstRow entry.now size.rows size.cols) }
 {
-    if !is_checked(entry, first) {
-        return Ok(());
-    }
-    match entry.get_string(first.cap()) {
-        Some(string) => push_rows(alloc, string, first, size, draft),
+    match Row::first(place) {
+        Some(first) => push_cap(alloc, entry, first, size, draft),
         None => Ok(()),
     }
 }
 
 /// Adds the lines of all checked capabilities of the entry.
 fn push_caps(alloc: Global, entry: &Entry, size: Size, draft: &mut Draft) -> Result<(), No>
-    ensures stands { OnOk result (told.EachStands entry.now size.rows size.cols) }
-    ensures so { IfErr result (λ refusal. spec.IsSo entry.now size.rows size.cols refusal) }
-    ensures first { IfErr result (λ refusal. told.IsFirstRow entry.now size.rows size.cols refusal) }
+    requires { told.IsDrafted entry.now size.rows size.cols (λ row. order row < 0) draft.old.text.items }
+    ensures drafted { OnOk result (told.IsDrafted entry.now size.rows size.cols (λ row. order row < 42) draft.new.text.items) }
+    ensures fault { IfErr result (λ refusal. spec.IsRowFault entry.now size.rows size.cols refusal refusal.cause) }
+    ensures first { IfErr result (told.IsFirstRow entry.now size.rows size.cols) }
 {
-    for order in 0..42 {
-        if let Some(first) = Row::first(order) {
-            push_cap(alloc, entry, first, size, draft)?;
-        }
+    for place in 0..42 {
+        push_at(alloc, entry, place, size, draft)?;
     }
     Ok(())
+}
+
+/// The whole text, with the last line.
+fn finished(draft: Draft) -> Result<Vec<u8>, AllocError>
+    ensures { IfOk result (λ text. text.items ≡ draft.text.items ++ (end_text ++ 10 ∷ [])) }
+{
+    let mut text = draft.text;
+    text.extend_from_slice(b"end\n")?;
+    text.shrink_to_fit();
+    Ok(text)
 }
 
 /// The certificate's text of the entry's lines, each of which was judged.
 pub(crate) fn draft_of(alloc: Global, entry: &Entry, size: Size) -> Result<Vec<u8>, No>
     ensures stands { IfOk result (λ _. told.EachStands entry.now size.rows size.cols) }
+    ensures within { IfOk result (λ text. length text.items ≤ limit) }
+    ensures basic_text { IsBasic entry.now size.rows size.cols → IfOk result (λ text. text.items ≡ basic_text_of entry.now size.rows size.cols) }
+    ensures basic { IsBasic entry.now size.rows size.cols → IfErr result (λ refusal. refusal.cause ≡ Cause.NoMemory) }
     ensures so { IfErr result (λ refusal. spec.IsSo entry.now size.rows size.cols refusal) }
     ensures first { IfErr result (told.IsFirstTold entry.now size.rows size.cols) }
 {
-    let mut draft = Draft::new(alloc);
-    if push_head(alloc, entry, size, &mut draft.text).is_err() {
+    let Ok(mut draft) = Draft::new(alloc, entry, size) else {
         return Err(no_memory());
-    }
+    };
     push_caps(alloc, entry, size, &mut draft)?;
-    if draft.text.extend_from_slice(b"end\n").is_err() {
-        return Err(no_memory());
+    match finished(draft) {
+        Ok(text) => Ok(text),
+        Err(_) => Err(no_memory()),
     }
-    draft.text.shrink_to_fit();
-    Ok(draft.text)
 }
 
 fn no_memory() -> No

@@ -2,6 +2,7 @@
 
 ghost use Rattle.std.specs.Prelude.{◌≡◌, ℕ, List, [], IfErr, IfOk, Some, true};
 ghost use Rattle.ti_checker.specs.First.{SendsRight};
+ghost use Rattle.ti_checker.specs.Limit.{IsLineFor};
 ghost use Rattle.ti_checker.specs.No as spec;
 ghost use Rattle.ti_rows.specs.Asked.{start_of};
 ghost use Rattle.ti_rows.specs.Lists.{IsInRange};
@@ -109,6 +110,7 @@ pub(crate) fn tokens_of(alloc: Global, bytes: &[u8]) -> Result<Vec<Token>, Cause
 fn judged(row: Row, tokens: &[Token], size: Size, looks: &mut Looks) -> Result<Effect, Cause>
     requires { IsInRange size.rows size.cols row }
     ensures right { IfOk result (λ _. (bytes : List ℕ) → Splits bytes tokens.now [] → IsRight size.rows size.cols looks.new row bytes) }
+    ensures recorded { IfOk result (λ effect. record_of size.rows size.cols (start_of size.rows size.cols row) tokens.now ≡ Some effect) }
     ensures misjudged { IfErr result (λ cause. spec.IsMisjudged size.rows size.cols row tokens.now cause) }
 {
     match effect_of(tokens, size, &row.start(size)) {
@@ -135,6 +137,7 @@ pub(crate) fn judge_row(
 ) -> Result<Effect, Cause>
     requires { IsInRange size.rows size.cols row }
     ensures right { IfOk result (λ _. SendsRight size.rows size.cols string.now row) }
+    ensures line { IfOk result (λ effect. IsLineFor size.rows size.cols string.now (record { row = row; bytes = bytes.new.items; effect = effect })) }
     ensures faulty { IfErr result (λ cause. spec.IsFaulty size.rows size.cols string.now row cause) }
 {
     sent_into(alloc, string, row, bytes)?;

@@ -4,10 +4,11 @@
 ghost use Rattle.std.specs.Option.{unwrap_or};
 ghost use Rattle.std.specs.Prelude.{◌≡◌, ◌≢◌, ℕ, Bool, List, Option, true, false};
 ghost use Rattle.ti_caps.specs.Entry.{Content};
-ghost use Rattle.ti_checker.specs.Certificate.{BasicCertificate};
+ghost use Rattle.ti_checker.specs.Certificate.{BasicCertificate, IsCertificateOf};
 ghost use Rattle.ti_checker.specs.Ignored.{is_unknown_mode, is_unknown_rendition, is_whole_sequence};
 ghost use Rattle.ti_checker.specs.No.{ClaimsNothing, IsSo};
 ghost use Rattle.ti_checker.specs.Notes.{EntryNotes};
+ghost use Rattle.ti_checker.specs.declared.causes.Cause.TheVariants.{TooLong};
 ghost use Rattle.ti_checker.specs.declared.causes.No.{No};
 ghost use Rattle.ti_checker.specs.declared.noting.CheckNote.{CheckNote};
 ghost use Rattle.ti_conforms.specs.Conforms.{Conforms};
@@ -44,9 +45,11 @@ pub fn one_list_of_notes()
 {}
 
 /// An entry of which a no is so doesn't conform, unless the no claims nothing: its cause is
-/// `NotTame`, `NotShown` or `NoMemory`.
+/// `NotTame`, `NotShown` or `NoMemory`. `TooLong` says nothing of what the entry's strings do, but that
+/// there is no certificate of it.
 pub fn no_excludes_yes()
-    ensures { (entry : Content) (rows cols : ℕ) (refusal : No) → IsSo entry rows cols refusal → Conforms entry rows cols → ClaimsNothing refusal.cause }
+    ensures conforms { (entry : Content) (rows cols : ℕ) (refusal : No) → IsSo entry rows cols refusal → refusal.cause ≢ TooLong → Conforms entry rows cols → ClaimsNothing refusal.cause }
+    ensures too_long { (entry : Content) (rows cols : ℕ) (refusal : No) (text : List ℕ) → IsSo entry rows cols refusal → refusal.cause ≡ TooLong → IsCertificateOf entry rows cols text → ⊥ }
 {}
 
 /// The certificate of a basic entry is its basic text.

@@ -1,7 +1,7 @@
 //! The text of a line about a checked capability.
-ghost use Rattle.std.specs.Prelude.{◌≡◌, ◌<◌, ◌++◌, ◌∷◌, [], slice_index, OnOk};
+ghost use Rattle.std.specs.Prelude.{◌≡◌, ◌++◌, ◌∷◌, [], OnOk};
 ghost use Rattle.std.specs.Fmt.{decimal};
-ghost use Rattle.hex.specs.Hex.{encode_lower, lower_digits};
+ghost use Rattle.hex.specs.Hex.{encode_lower};
 ghost use Rattle.ti_lines.specs.Hex.{hex_text};
 ghost use Rattle.ti_lines.specs.Lines as spec;
 
@@ -69,19 +69,11 @@ fn push_digits(bytes: &[u8], text: &mut Vec<u8>) -> Result<(), AllocError>
     Ok(())
 }
 
-/// The two digits of a byte.
-#[tactic(auto, unfolding(hex::specs::Hex::encode_with))]
+/// Appends the two digits of a byte.
 fn push_byte(byte: u8, text: &mut Vec<u8>) -> Result<(), AllocError>
     ensures { OnOk result (text.new.items ≡ text.old.items ++ encode_lower (byte ∷ [])) }
 {
-    text.push(digit(byte / 16))?;
-    text.push(digit(byte % 16))?;
-    Ok(())
-}
-
-fn digit(value: u8) -> u8
-    requires { value < 16 }
-    ensures { result ≡ slice_index lower_digits value }
-{
-    b"0123456789abcdef"[value as usize]
+    let mut digits = [0; 2];
+    hex::encode_to_slice([byte], &mut digits).unwrap();
+    text.extend_from_slice(&digits)
 }

@@ -6,8 +6,6 @@ mod judging;
 mod laws;
 mod lines;
 mod readers;
-#[cfg(test)]
-mod tests;
 
 pub use drips::Drip;
 pub use judging::{Judge, LineFault, judge_lines};

@@ -7,7 +7,7 @@ use ti_checker::Cause;
 use ti_parm::ParmFault;
 
 /// The answers in the order in which they are counted: a yes, the causes of a no, and what can't be had.
-const NAMES: [&str; 19] = [
+const NAMES: [&str; 20] = [
     "yes",
     "FlagOut",
     "Absent",
@@ -25,6 +25,7 @@ const NAMES: [&str; 19] = [
     "BadLook",
     "WrongEffect",
     "NotShown",
+    "TooLong",
     "NoResync",
     "refused",
 ];
@@ -32,13 +33,13 @@ const NAMES: [&str; 19] = [
 /// Counts of answers, each of which stops at the greatest number.
 #[derive(Clone, Copy)]
 pub struct Tally {
-    counts: [u64; 19],
+    counts: [u64; 20],
 }
 
 impl Tally {
     /// Nothing counted yet.
     pub fn new() -> Tally {
-        Tally { counts: [0; 19] }
+        Tally { counts: [0; 20] }
     }
 
     /// One more yes.
@@ -53,11 +54,11 @@ impl Tally {
 
     /// One more that can't be had.
     pub fn add_refused(&mut self) {
-        self.add(18);
+        self.add(19);
     }
 
     fn add(&mut self, place: usize)
-        requires { place < 19 }
+        requires { place < 20 }
     {
         self.counts[place] = self.counts[place].saturating_add(1);
     }
@@ -92,7 +93,7 @@ fn push_count(
 
 /// The place of a cause's count.
 fn place_of(cause: Cause) -> usize
-    ensures { result < 19 }
+    ensures { result < 20 }
 {
     match cause {
         Cause::FlagOut => 1,
@@ -106,13 +107,14 @@ fn place_of(cause: Cause) -> usize
         Cause::BadLook => 14,
         Cause::WrongEffect(_) => 15,
         Cause::NotShown => 16,
-        Cause::NoResync => 17,
-        Cause::NoMemory => 18,
+        Cause::TooLong => 17,
+        Cause::NoResync => 18,
+        Cause::NoMemory => 19,
     }
 }
 
 fn place_of_parm(fault: ParmFault) -> usize
-    ensures { result < 19 }
+    ensures { result < 20 }
 {
     match fault {
         ParmFault::Underflow => 4,
@@ -121,6 +123,6 @@ fn place_of_parm(fault: ParmFault) -> usize
         ParmFault::Overflow => 7,
         ParmFault::BadChar => 8,
         ParmFault::WrongKind => 9,
-        ParmFault::NoMemory => 18,
+        ParmFault::NoMemory => 19,
     }
 }

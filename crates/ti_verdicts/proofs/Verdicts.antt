@@ -33,5 +33,6 @@ no_told text causes.NotTame failure m h = h
 no_told text causes.BadLook failure m h = h
 no_told text (causes.WrongEffect probe) failure m h = h
 no_told text causes.NotShown failure m h = h
+no_told text causes.TooLong failure m h = h
 no_told text causes.NoResync failure m h = h
 no_told text causes.NoMemory failure m h = absurd (m refl)

@@ -92,6 +92,7 @@ cause_name causes.NotTame = codes "NotTame"
 cause_name causes.BadLook = codes "BadLook"
 cause_name (causes.WrongEffect probe) = codes "WrongEffect"
 cause_name causes.NotShown = codes "NotShown"
+cause_name causes.TooLong = codes "TooLong"
 cause_name causes.NoResync = codes "NoResync"
 cause_name causes.NoMemory = codes "NoMemory"
 

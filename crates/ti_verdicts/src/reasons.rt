@@ -215,6 +215,10 @@ fn explain_sent(
             remarks.add_words(NOT_TAME);
             Ok(())
         }
+        Cause::TooLong => {
+            remarks.add_words(TOO_LONG);
+            Ok(())
+        }
         Cause::NoResync => {
             remarks.add_words(NO_RESYNC);
             Ok(())
@@ -228,6 +232,9 @@ const NOT_TAME: &[u8] =
 
 const NOT_SHOWN: &[u8] =
     b"the string may be right: its effect is not the one that is wanted, but it goes wrong from none of the states that were tried";
+
+const TOO_LONG: &[u8] =
+    b"the strings up to this one may be right: a certificate has a line for each list of parameters, with what is sent in hexadecimal, and it may have 67108864 bytes; with this line and the last it would be longer, so a shorter string or a smaller size of the screen is needed";
 
 const NO_RESYNC: &[u8] =
     b"smcup, enacs, sgr0, rmacs, csr of the whole screen and clear, sent one after another, are to lead a terminal out of any state, so they have to begin with ESC: a sequence that was cut off would take any other first byte as part of it";

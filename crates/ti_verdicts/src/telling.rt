@@ -82,6 +82,7 @@ fn cause_name(cause: Cause) -> &'static [u8]
         Cause::BadLook => b"BadLook",
         Cause::WrongEffect(_) => b"WrongEffect",
         Cause::NotShown => b"NotShown",
+        Cause::TooLong => b"TooLong",
         Cause::NoResync => b"NoResync",
         Cause::NoMemory => b"NoMemory",
     }

@@ -10,3 +10,4 @@ pub mod Joining
 pub mod Basics
 pub mod Settling
 pub mod Saying
+pub mod Texts

@@ -1,8 +1,9 @@
 -- Which effect a string has from every state of a start, token by token. A token that has no one effect from all of
 -- them has no record, and then the string has none.
-use Rattle.std.specs.Prelude.{ℕ, ◌+◌, ◌-◌, ◌*◌, ◌/◌, ◌==◌, ◌&&◌, nat_le, nat_lt, min, Bool, true, false, List, [], ◌∷◌, if◌then◌else◌, Option, None, Some}
+use Rattle.std.specs.Prelude.{ℕ, ◌≡◌, ◌+◌, ◌-◌, ◌*◌, ◌/◌, ◌==◌, ◌&&◌, nat_le, nat_lt, min, Bool, true, false, List, [], ◌∷◌, if◌then◌else◌, Option, None, Some}
 use Rattle.std.specs.Option.{unwrap_or, option_and_then}
 use Rattle.vt_term.specs.Color.{Color}
+use Rattle.vt_term.specs.Text.{Splits}
 use Rattle.vt_term.specs.Rendering.{RenditionChange, change_of}
 use Rattle.vt_term.specs.Rendering as changes
 use Rattle.vt_term.specs.Function.{CodeElement, G0, G1, ModeKind, Standard, Private, EraseExtent, ToEnd, FromStart, function_of, Function, Print, LineFeed, CarriageReturn, Backspace, Tab, ShiftOut, ShiftIn, ReverseIndex, NextLine, CursorUp, CursorDown, CursorForward, CursorBack, CursorColumn, CursorRow, CursorPosition, EraseLine, EraseDisplay, EraseCells, InsertCells, DeleteCells, InsertLines, DeleteLines, ScrollUp, ScrollDown, Designate, SelectRendition, Modes, Ignored}
@@ -296,3 +297,9 @@ all_extended rows cols start (token ∷ tokens) e = option_and_then (all_extende
 -- the effect of these tokens from every state of the start, if it has a record
 abbrev pub record_of : ℕ → ℕ → Start → List (List ℕ) → Option Effect
 record_of rows cols start tokens = all_extended rows cols start tokens unchanged
+
+-- the record of this text's tokens, or that they have none
+pub record IsRecordOf (rows cols : ℕ) (start : Start) (text : List ℕ) (found : Option Effect) : Type 0 where
+  pub tokens : List (List ℕ)
+  pub splits : Splits text tokens []
+  pub is : found ≡ record_of rows cols start tokens

@@ -21,3 +21,7 @@ StepsAs rows cols start tokens e = (s : Screen) → Allows rows cols start s →
 -- and so does every text that falls into these tokens, with nothing open before it
 abbrev pub RunsAs : ℕ → ℕ → Start → List (List ℕ) → Effect → Type 0
 RunsAs rows cols start tokens e = (s : State) (text : List ℕ) → s.rest ≡ [] → Allows rows cols start s.screen → Splits text tokens [] → Runs s text (record { screen = applied e s.screen; rest = [] })
+
+-- and so does this text
+abbrev pub RunsTextAs : ℕ → ℕ → Start → List ℕ → Effect → Type 0
+RunsTextAs rows cols start text e = (s : State) → s.rest ≡ [] → Allows rows cols start s.screen → Runs s text (record { screen = applied e s.screen; rest = [] })

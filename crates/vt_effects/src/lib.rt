@@ -15,5 +15,5 @@ mod starts;
 pub use applying::apply;
 pub use composing::compose;
 pub use effects::{Effect, Erasure, Ink, Move, Region, Rendering, Scroll, Sets, Switch};
-pub use records::effect_of;
+pub use records::{effect_of, effect_of_text};
 pub use starts::{Margins, Start};

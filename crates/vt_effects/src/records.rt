@@ -1,13 +1,14 @@
 //! The effect of tokens from every state that a start allows.
-ghost use Rattle.vt_effects.specs.Sound.{StepsAs, RunsAs};
-ghost use Rattle.std.specs.Prelude.{◌≡◌, IfSome, ◌<◌, ◌≤◌, ◌-◌, min};
+ghost use Rattle.vt_effects.specs.Sound.{StepsAs, RunsAs, RunsTextAs};
+ghost use Rattle.std.specs.Prelude.{◌≡◌, IfErr, IfOk, IfSome, option_and_then, ◌<◌, ◌≤◌, ◌-◌, min};
+ghost use Rattle.vt_term.specs.Scanned.{HasFault};
 ghost use Rattle.vt_effects.specs.Record as spec;
 
 use crate::effects::{Effect, Erasure, Ink, Move, Region, Scroll, Sets, Switch};
 use crate::moves::{and_back, and_forward, back_by, forward_by};
 use crate::renditions::all_renderings;
 use crate::starts::{Margins, Start};
-use vt_term::{CodeElement, EraseExtent, Function, ModeKind, Size, Token};
+use vt_term::{CodeElement, EraseExtent, Function, ModeKind, Scanner, Size, TextFault, Token};
 
 /// The effect of these tokens from every state that the start allows. `None` where a token has no
 /// one effect from all of them that a record can tell. From each of those states, whatever its
@@ -23,6 +24,47 @@ pub fn effect_of(tokens: &[Token], size: Size, start: &Start) -> Option<Effect>
         effect = extended(effect, token.function(), size, start)?;
     }
     Some(effect)
+}
+
+/// The effect of a text from every state that the start allows, as `effect_of` tells it of the text's
+/// tokens. The scanner reads them in place, so that no memory is asked for.
+///
+/// # Errors
+/// The first fault of the text, also where its tokens before that have no effect.
+pub fn effect_of_text(
+    scanner: &mut Scanner,
+    text: &[u8],
+    size: Size,
+    start: &Start,
+) -> Result<Option<Effect>, TextFault>
+    ensures record { IfOk result (spec.IsRecordOf size.rows size.cols start.now text.now) }
+    ensures runs { IfOk result (λ found. IfSome found (RunsTextAs size.rows size.cols start.now text.now)) }
+    ensures fault { IfErr result (HasFault text.now) }
+{
+    let mut effect = Some(Effect::unchanged());
+    let mut at = 0;
+    loop {
+        match scanner.next(text, at) {
+            Ok(Some(end)) => {
+                effect = further(effect, scanner.function(), size, start);
+                at = end;
+            }
+            Ok(None) => return Ok(effect),
+            Err(fault) => return Err(fault),
+        }
+    }
+}
+
+/// An effect if there is one, and then what a token asks for.
+fn further(
+    effect: Option<Effect>,
+    function: Function<'_>,
+    size: Size,
+    start: &Start,
+) -> Option<Effect>
+    ensures { result ≡ option_and_then (spec.extended size.rows size.cols start.now function.entry) effect }
+{
+    extended(effect?, function, size, start)
 }
 
 /// An effect, and then what a token asks for.

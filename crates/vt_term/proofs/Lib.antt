@@ -5,9 +5,9 @@ pub mod Reading
 pub mod Sequences
 pub mod Transitions
 pub mod Splitting
-pub mod Scanning
 pub mod Dropping
 pub mod Running
 pub mod Moving
 pub mod Charsets
 pub mod AtOnce
+pub mod Beginning

@@ -139,14 +139,7 @@ fits_nothing text ts r b s none k =
     let g : GoesOn ts k.tokens r (b ∷ []) k.rest = goes_on text ts k.tokens r (b ∷ []) k.rest s k.splits in
     none (record { tokens = g.later; rest = k.rest; splits = g.splits })
 
--- a byte that opens or goes on, one that ends a token, and one that cuts off what is open
-pub splits_open_byte : (text : List ℕ) (ts : List (List ℕ)) (r : List ℕ) (b : ℕ) → Splits text ts r → IsOpen (r ++ b ∷ []) → Splits (text ++ b ∷ []) ts (r ++ b ∷ [])
-splits_open_byte text ts r b s o =
-    subst (λ (l : List (List ℕ)). Splits (text ++ b ∷ []) l (r ++ b ∷ [])) (append-nil ts) (splits_append text ts [] r (b ∷ []) (r ++ b ∷ []) s (refl, o))
-
-pub splits_end_byte : (text : List ℕ) (ts : List (List ℕ)) (r : List ℕ) (b : ℕ) → Splits text ts r → IsWhole (r ++ b ∷ []) → Splits (text ++ b ∷ []) (ts ++ (r ++ b ∷ []) ∷ []) []
-splits_end_byte text ts r b s h = splits_append text ts ((r ++ b ∷ []) ∷ []) r (b ∷ []) [] s ([], sym (append-nil (r ++ b ∷ [])), inl h, (refl, empty_open))
-
+-- what is open is cut off
 pub restarts : (r : List ℕ) (b : ℕ) → IsOpen r → 0 < length r → b ≡ 27 → Splits (r ++ b ∷ []) (r ∷ []) (b ∷ [])
 restarts r b o some e = (b ∷ [], refl, inr (record { some = some; fits = o; cut = inl e }), (refl, escape_open b e))
 
@@ -156,9 +149,3 @@ cut_whole (inr e) = inl (inr (inl (omega (arith, e), λ n. omega (arith, e, n)))
 
 pub cancels : (r : List ℕ) (b : ℕ) → IsOpen r → 0 < length r → (b ≡ 24) ⊎ (b ≡ 26) → Splits (r ++ b ∷ []) (r ∷ (b ∷ []) ∷ []) []
 cancels r b o some e = (b ∷ [], refl, inr (record { some = some; fits = o; cut = inr e }), ([], refl, inl (cut_whole e), (refl, empty_open)))
-
-pub splits_restart_byte : (text : List ℕ) (ts : List (List ℕ)) (r : List ℕ) (b : ℕ) → Splits text ts r → 0 < length r → b ≡ 27 → Splits (text ++ b ∷ []) (ts ++ r ∷ []) (b ∷ [])
-splits_restart_byte text ts r b s some e = splits_append text ts (r ∷ []) r (b ∷ []) (b ∷ []) s (restarts r b (splits_open text ts r s) some e)
-
-pub splits_cancel_byte : (text : List ℕ) (ts : List (List ℕ)) (r : List ℕ) (b : ℕ) → Splits text ts r → 0 < length r → (b ≡ 24) ⊎ (b ≡ 26) → Splits (text ++ b ∷ []) (ts ++ r ∷ (b ∷ []) ∷ []) []
-splits_cancel_byte text ts r b s some e = splits_append text ts (r ∷ (b ∷ []) ∷ []) r (b ∷ []) [] s (cancels r b (splits_open text ts r s) some e)

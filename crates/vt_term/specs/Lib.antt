@@ -15,3 +15,4 @@ pub mod Moving
 pub mod Charsets
 pub mod Fronts
 pub mod Rendering
+pub mod Scanned

@@ -6,11 +6,13 @@ mod functions;
 pub mod laws;
 mod open_bytes;
 mod parser;
+mod scanners;
 mod settings;
 mod terminals;
 mod tokenizing;
 mod whole_sequences;
 
+pub use scanners::{Scanner, TextFault, TextFaultKind};
 pub use terminals::{Stuck, Terminal};
 pub use tokenizing::{Token, TokenFault, TokenFaultKind, place_after, tokens};
 pub use vt_screen::{

@@ -1,12 +1,14 @@
 //! Splitting a text into its tokens.
 
-ghost use Rattle.std.specs.Prelude.{◌≡◌, ◌+◌, ◌<◌, ◌≤◌, [], ◌∷◌, ◌++◌, length, IfOk, IfErr, OnOk, IfSome, ℕ, List};
-ghost use Rattle.vt_term.specs.Text.{IsOpen, IsWhole, Splits};
+ghost use Rattle.std.specs.Prelude.{◌≡◌, [], ◌∷◌, ◌++◌, IfOk, IfErr, OnOk, IfSome, ℕ, List};
+ghost use Rattle.vt_term.specs.Scanned.{HasFault};
+ghost use Rattle.vt_term.specs.Text.{Splits};
 ghost use Rattle.vt_term.specs.Function.{function_of};
 ghost use Rattle.vt_term.specs.Run.{place_of, LeadsTo, Reaches};
 ghost use Rattle.vt_term.specs.Fault.{TellsFault};
 
-use crate::parser::{Parser, ParserState, Transition, ended};
+use crate::parser::{ParserState, ended};
+use crate::scanners::{Scanner, TextFault, TextFaultKind};
 use std::alloc::{AllocError, Global};
 use std::error::Error;
 use std::fmt;
@@ -34,29 +36,16 @@ impl Model for Token {
 }
 
 impl Token {
-    /// The token that its last byte ends.
-    fn ended(alloc: Global, parser: &Parser, bytes: &[u8]) -> Result<Token, AllocError>
-        requires whole { IsWhole bytes.now }
-        requires read { (last : ℕ) × (bytes.now ≡ parser.now ++ last ∷ []) }
+    /// The token that was read last, which has these bytes.
+    fn read(alloc: Global, scanner: &Scanner, bytes: &[u8]) -> Result<Token, AllocError>
+        requires { scanner.now ≡ bytes.now }
         ensures { IfOk result (λ token. token ≡ bytes.now) }
     {
-        let (stage, numbers) = parser.parts();
+        let (stage, numbers) = scanner.parts();
         Ok(Token {
             bytes: Vec::from_slice(alloc, bytes)?,
-            stage: Some(stage),
+            stage,
             numbers: Vec::from_slice(alloc, numbers)?,
-        })
-    }
-
-    /// A sequence that was cut off.
-    fn dropped(alloc: Global, bytes: &[u8]) -> Result<Token, AllocError>
-        requires { IsOpen bytes.now }
-        ensures { IfOk result (λ token. token ≡ bytes.now) }
-    {
-        Ok(Token {
-            bytes: Vec::from_slice(alloc, bytes)?,
-            stage: None,
-            numbers: Vec::new(alloc),
         })
     }
 
@@ -142,75 +131,50 @@ impl fmt::Display for TokenFault {
 
 impl Error for TokenFault {}
 
+/// The same fault, where memory could be refused too.
+fn told(fault: TextFault) -> TokenFault
+    ensures { (text : List ℕ) → HasFault text fault → TellsFault text result }
+{
+    TokenFault {
+        at: fault.at,
+        kind: match fault.kind {
+            TextFaultKind::Unfinished => TokenFaultKind::Unfinished,
+            TextFaultKind::Stuck => TokenFaultKind::Stuck,
+        },
+    }
+}
+
 /// The tokens of a whole text.
 pub fn tokens(alloc: Global, bytes: &[u8]) -> Result<Vec<Token>, TokenFault>
     ensures whole { IfOk result (λ ts. Splits bytes.now ts.items []) }
     ensures fault { IfErr result (λ e. TellsFault bytes.now e) }
 {
-    let mut parser = Parser::new(alloc).map_err(|_| REFUSED)?;
+    let mut scanner = Scanner::new(alloc).map_err(|_| REFUSED)?;
     let mut found = Vec::new(alloc);
     let mut start = 0;
-    for (at, byte) in bytes.iter().enumerate() {
-        match parser.transition(*byte) {
-            Transition::Opens => parser.open(*byte),
-            Transition::Ends => {
-                push_ended(alloc, &mut found, &parser, &bytes[start..at + 1])?;
-                parser.clear();
-                start = at + 1;
+    loop {
+        match scanner.next(bytes, start) {
+            Ok(Some(end)) => {
+                push_read(alloc, &mut found, &scanner, &bytes[start..end])?;
+                start = end;
             }
-            Transition::Restarts => {
-                push_dropped(alloc, &mut found, &bytes[start..at])?;
-                parser.clear();
-                parser.open(*byte);
-                start = at;
-            }
-            Transition::Cancels => {
-                push_dropped(alloc, &mut found, &bytes[start..at])?;
-                parser.clear();
-                push_ended(alloc, &mut found, &parser, &bytes[at..at + 1])?;
-                start = at + 1;
-            }
-            Transition::Fails => return Err(stuck(at)),
+            Ok(None) => return Ok(found),
+            Err(fault) => return Err(told(fault)),
         }
     }
-    if start < bytes.len() {
-        return Err(TokenFault {
-            at: start,
-            kind: TokenFaultKind::Unfinished,
-        });
-    }
-    Ok(found)
 }
 
-fn stuck(at: usize) -> TokenFault
-    ensures { result ≡ record { at = at; kind = TokenFaultKind.Stuck } }
-{
-    TokenFault {
-        at,
-        kind: TokenFaultKind::Stuck,
-    }
-}
-
-fn push_ended(
+/// Adds the token that was read last, which has these bytes.
+fn push_read(
     alloc: Global,
     found: &mut Vec<Token>,
-    parser: &Parser,
+    scanner: &Scanner,
     bytes: &[u8],
 ) -> Result<(), TokenFault>
-    requires whole { IsWhole bytes.now }
-    requires read { (last : ℕ) × (bytes.now ≡ parser.now ++ last ∷ []) }
+    requires { scanner.now ≡ bytes.now }
     ensures ok { OnOk result (found.new.items ≡ found.old.items ++ bytes.now ∷ []) }
     ensures fault { IfErr result (λ e. e.kind ≡ TokenFaultKind.NoMemory) }
 {
-    let token = Token::ended(alloc, parser, bytes).map_err(|_| REFUSED)?;
-    found.push(token).map_err(|_| REFUSED)
-}
-
-fn push_dropped(alloc: Global, found: &mut Vec<Token>, bytes: &[u8]) -> Result<(), TokenFault>
-    requires { IsOpen bytes.now }
-    ensures ok { OnOk result (found.new.items ≡ found.old.items ++ bytes.now ∷ []) }
-    ensures fault { IfErr result (λ e. e.kind ≡ TokenFaultKind.NoMemory) }
-{
-    let token = Token::dropped(alloc, bytes).map_err(|_| REFUSED)?;
+    let token = Token::read(alloc, scanner, bytes).map_err(|_| REFUSED)?;
     found.push(token).map_err(|_| REFUSED)
 }

@@ -18,3 +18,9 @@ returns-clause-step g c h k =
     let b = c.args.belief.now in
     steps_wider g.W.Wire.went g.W.Wire.failures c.args.wire.now c.reach.new.wire c.reach.result (IsPiece t) (moves b.place c.args.row c.args.col * t.longest.cup) t.longest.cup (IsLost t) (Agrees t h b) (Agrees t h c.reach.new.belief) (Agrees t h b) (Agrees t h c.reach.new.belief)
     (at_most _ t.longest.cup (moves_few b.place c.args.row c.args.col)) (λ s x. x) (λ s x. x) (c.reach.ensures.step h k)
+
+pub returns-then-stands-clause-step : goal.returns-then-stands-clause-step
+returns-then-stands-clause-step g c h k =
+    let t = g.C.Certificate.table c.args.checked.now in
+    let b = c.args.belief.now in
+    steps_none g.W.Wire.went g.W.Wire.failures g.met.W.Wire.lawful c.args.wire.now tt (IsPiece t) _ (IsLost t) (Agrees t h b) (λ s x. x.ready.rest) (agrees_lost t c.rows.ensures.checked h b)

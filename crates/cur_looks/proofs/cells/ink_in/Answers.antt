@@ -1,6 +1,6 @@
 use Rattle.std.proofs.Common.{arith}
 use Rattle.std.proofs.lemmas.Result.{err_from_is_err_and}
-use Rattle.cur_steps.proofs.Stopping.{steps_fail, steps_next}
+use Rattle.cur_steps.proofs.Stopping.{steps_fail, steps_next, steps_wider}
 use Rattle.cur_looks.specs.Certified.{IsPiece, IsLost}
 use Rattle.cur_looks.specs.Inks.{put_at}
 use Rattle.cur_looks.specs.Beliefs.{Agrees, brush_limit, stamp_limit, ink_limit}
@@ -23,4 +23,14 @@ returns g c =
     record {
       step = λ h. steps_next g.W.Wire.went g.W.Wire.failures g.met.W.Wire.lawful c.args.wire.now c.brush_as.new.wire c.stamp.new.wire _ c.stamp.result (IsPiece t) (brush_limit t) (stamp_limit t) (ink_limit t) (IsLost t)
           (Agrees t h b) (Agrees t h c.brush_as.new.belief) (Agrees t (put_at c.args.row c.args.col c.args.ink h) c.stamp.new.belief) (omega arith) (c.in_ok-brush_as.ensures.step h) (c.stamp.ensures.step h);
+    }
+
+pub returns-then-is_alike : goal.returns-then-is_alike
+returns-then-is_alike g c =
+    let t = g.C.Certificate.table c.args.checked.now in
+    let b = c.args.belief.now in
+    let z = c.print_at.new in
+    record {
+      step = λ h. steps_wider g.W.Wire.went g.W.Wire.failures c.args.wire.now z.wire c.print_at.result (IsPiece t) 1 (ink_limit t) (IsLost t) (Agrees t h b) (Agrees t (put_at c.args.row c.args.col c.args.ink h) z.belief) (Agrees t h b) (Agrees t (put_at c.args.row c.args.col c.args.ink h) z.belief)
+          (omega arith) (λ s x. x) (λ s x. x) (c.print_at.ensures.step h);
     }

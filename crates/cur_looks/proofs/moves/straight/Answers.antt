@@ -1,7 +1,5 @@
 use Rattle.cur_looks.proofs.Moving.{straight_way}
 use Rattle.cur_looks.proofs.moves.straight.Goals as goal
 
-pub returns : goal.returns
-returns g c = record {
-  way = λ from. straight_way (g.C.Certificate.table c.args.checked.now) c.rows.ensures.checked from c.args.row c.args.col c.requires.row c.requires.col;
-}
+pub returns-clause-way : goal.returns-clause-way
+returns-clause-way g c = λ from. straight_way (g.C.Certificate.table c.args.checked.now) c.rows.ensures.checked from c.args.row c.args.col c.requires.row c.requires.col

@@ -1,25 +1,43 @@
-use Rattle.std.proofs.Common.{ℕ, sym, ap, ◌∙◌}
-use Rattle.ti_caps.specs.Entry.{string_at}
-use Rattle.ti_sends.proofs.Matching.{on_ok, on_err}
-use Rattle.ti_checker.proofs.Earliest.{cap_stands, cap_unchecked, cap_absent, first_in_cap}
-use Rattle.ti_checker.proofs.Walking.{so_if_err}
+use Rattle.std.proofs.Common.{refl, sym, subst, ◌∙◌}
+use Rattle.ti_rows.specs.Names.{order}
+use Rattle.ti_rows.proofs.Listing.{next_follows}
+use Rattle.ti_sends.proofs.Walking.{nearer}
+use Rattle.ti_checker.specs.No.{IsRowRefused}
+use Rattle.ti_checker.specs.declared.causes.Cause.{Cause}
+use Rattle.ti_checker.proofs.Earliest.{one_more, before_next, after_last, unchecked_cap, first_row, row_fault}
+use Rattle.ti_checker.proofs.Walking.{same_checked, same_string}
 use Rattle.ti_checker.proofs.drafts.push_cap.Goals as goal
 
-pub returns-then-not-is_checked-clause-stands : goal.returns-then-not-is_checked-clause-stands
-returns-then-not-is_checked-clause-stands c = cap_unchecked c.args.entry.now c.args.size.rows c.args.size.cols c.args.first (sym c.is_checked.ensures ∙ c.if-not-is_checked.true)
+pub returns-in_default-clause-drafted : goal.returns-in_default-clause-drafted
+returns-in_default-clause-drafted c = unchecked_cap c.args.entry.now c.args.size.rows c.args.size.cols (order c.args.first) c.args.first c.args.draft.now.text.items refl
+    c.in_default.ensures.none c.requires.drafted
 
-pub returns-in-Some-clause-stands : goal.returns-in-Some-clause-stands
-returns-in-Some-clause-stands c = on_ok c.push_rows.result
-    (cap_stands c.args.entry.now c.args.size.rows c.args.size.cols c.args.first c.in-Some.string.now (sym (c.in-Some.ensures ∙ ap (λ (n : ℕ). string_at c.args.entry.now n) c.cap.ensures)))
-    c.push_rows.ensures.right
+pub returns-in-Err-clause-fault : goal.returns-in-Err-clause-fault
+returns-in-Err-clause-fault c = row_fault c.args.entry.now c.args.size.rows c.args.size.cols c.in-Some.string.now c.loop-cause.row c.loop-cause.draft.text.items c.at.result c.loop-cause.invariant.range (same_checked c.args.entry.now c.loop-cause.row c.args.first c.loop-cause.invariant.same ∙ c.in-Some.ensures.checked)
+    (same_string c.args.entry.now c.loop-cause.row c.args.first c.loop-cause.invariant.same ∙ c.in-Some.ensures.there) c.at.ensures.cap c.at.ensures.params (subst (λ (cause : Cause). IsRowRefused c.args.size.rows c.args.size.cols c.in-Some.string.now c.loop-cause.row c.loop-cause.draft.text.items cause) (sym c.at.ensures.cause) c.in-Err.ensures.refused)
+    c.loop-cause.invariant.drafted
 
-pub returns-in-Some-clause-so : goal.returns-in-Some-clause-so
-returns-in-Some-clause-so c = so_if_err c.push_rows.result c.args.entry.now c.args.size.rows c.args.size.cols c.in-Some.string.now c.args.first (sym c.is_checked.ensures ∙ c.if-not-is_checked.false) (sym (c.in-Some.ensures ∙ ap (λ (n : ℕ). string_at c.args.entry.now n) c.cap.ensures)) c.push_rows.ensures.faulty
+pub returns-in-Err-clause-first : goal.returns-in-Err-clause-first
+returns-in-Err-clause-first c = first_row c.args.entry.now c.args.size.rows c.args.size.cols c.in-Some.string.now c.loop-cause.row c.loop-cause.draft.text.items c.at.result c.loop-cause.invariant.range c.at.ensures.cap c.at.ensures.params
+    (subst (λ (cause : Cause). IsRowRefused c.args.size.rows c.args.size.cols c.in-Some.string.now c.loop-cause.row c.loop-cause.draft.text.items cause) (sym c.at.ensures.cause) c.in-Err.ensures.refused) c.loop-cause.invariant.drafted
 
-pub returns-in-Some-clause-first : goal.returns-in-Some-clause-first
-returns-in-Some-clause-first c = on_err c.push_rows.result
-    (λ refusal. first_in_cap c.args.entry.now c.args.size.rows c.args.size.cols c.args.first c.in-Some.string.now refusal (sym (c.in-Some.ensures ∙ ap (λ (n : ℕ). string_at c.args.entry.now n) c.cap.ensures)))
-    c.push_rows.ensures.first
+pub loop-cause-smaller : goal.loop-cause-smaller
+loop-cause-smaller c =
+    let f = next_follows c.args.size.rows c.args.size.cols c.loop-cause.row c.in-Some-next.next c.args.size.limits c.loop-cause.invariant.range (sym c.in-Some-next.ensures) in
+    nearer c.args.size.rows c.args.size.cols c.loop-cause.row c.in-Some-next.next c.args.size.limits f f.range
 
-pub returns-in-None-clause-stands : goal.returns-in-None-clause-stands
-returns-in-None-clause-stands c = cap_absent c.args.entry.now c.args.size.rows c.args.size.cols c.args.first (sym (c.in-None.ensures ∙ ap (λ (n : ℕ). string_at c.args.entry.now n) c.cap.ensures))
+pub loop-cause-preserved : goal.loop-cause-preserved
+loop-cause-preserved c =
+    let f = next_follows c.args.size.rows c.args.size.cols c.loop-cause.row c.in-Some-next.next c.args.size.limits c.loop-cause.invariant.range (sym c.in-Some-next.ensures) in
+    record {
+      range = f.range;
+      same = f.same_order ∙ c.loop-cause.invariant.same;
+      drafted = before_next c.args.entry.now c.args.size.rows c.args.size.cols c.loop-cause.row c.in-Some-next.next c.push_row.new.draft.text.items c.loop-cause.invariant.range f
+          (one_more c.args.entry.now c.args.size.rows c.args.size.cols c.in-Some.string.now c.loop-cause.row c.loop-cause.draft.text.items c.push_row.new.draft.text.items c.loop-cause.invariant.range (same_checked c.args.entry.now c.loop-cause.row c.args.first c.loop-cause.invariant.same ∙ c.in-Some.ensures.checked)
+          (same_string c.args.entry.now c.loop-cause.row c.args.first c.loop-cause.invariant.same ∙ c.in-Some.ensures.there) c.in-Ok.ensures.right c.in-Ok.ensures.adds c.in-Ok.ensures.short c.loop-cause.invariant.drafted);
+    }
+
+pub returns-in-None-clause-drafted : goal.returns-in-None-clause-drafted
+returns-in-None-clause-drafted c = after_last c.args.entry.now c.args.size.rows c.args.size.cols (order c.args.first) c.loop-cause.row c.push_row.new.draft.text.items c.args.size.limits c.loop-cause.invariant.range c.loop-cause.invariant.same (sym c.in-None.ensures)
+    (one_more c.args.entry.now c.args.size.rows c.args.size.cols c.in-Some.string.now c.loop-cause.row c.loop-cause.draft.text.items c.push_row.new.draft.text.items c.loop-cause.invariant.range (same_checked c.args.entry.now c.loop-cause.row c.args.first c.loop-cause.invariant.same ∙ c.in-Some.ensures.checked)
+    (same_string c.args.entry.now c.loop-cause.row c.args.first c.loop-cause.invariant.same ∙ c.in-Some.ensures.there) c.in-Ok.ensures.right c.in-Ok.ensures.adds c.in-Ok.ensures.short c.loop-cause.invariant.drafted)

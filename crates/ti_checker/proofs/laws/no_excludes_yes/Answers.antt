@@ -1,5 +1,5 @@
-use Rattle.ti_checker.proofs.Excluding.{no_excludes_yes}
+use Rattle.ti_checker.proofs.Excluding.{no_excludes_yes, too_long_excludes}
 use Rattle.ti_checker.proofs.laws.no_excludes_yes.Goals as goal
 
 pub returns : goal.returns
-returns c = no_excludes_yes
+returns c = record { conforms = no_excludes_yes; too_long = too_long_excludes }

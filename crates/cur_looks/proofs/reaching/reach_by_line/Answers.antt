@@ -1,0 +1,20 @@
+use Rattle.cur_steps.proofs.Stopping.{steps_none}
+use Rattle.cur_looks.specs.Certified.{IsPiece, IsLost}
+use Rattle.cur_looks.specs.Beliefs.{Agrees}
+use Rattle.cur_looks.proofs.Doing.{agrees_lost}
+use Rattle.cur_looks.proofs.Moving.{turned}
+use Rattle.cur_looks.proofs.reaching.reach_by_line.Goals as goal
+
+pub returns-then-stands-clause-step : goal.returns-then-stands-clause-step
+returns-then-stands-clause-step g c h =
+    let t = g.C.Certificate.table c.args.checked.now in
+    let b = c.args.belief.now in
+    steps_none g.W.Wire.went g.W.Wire.failures g.met.W.Wire.lawful c.args.wire.now tt (IsPiece t) _ (IsLost t) (Agrees t h b) (λ s x. x.ready.rest) (agrees_lost t c.rows.ensures.checked h b)
+
+pub returns-clause-step : goal.returns-clause-step
+returns-clause-step g c h =
+    let t = g.C.Certificate.table c.args.checked.now in
+    let b = c.args.belief.now in
+    let line = c.shortest-way.result.line in
+    let way = c.shortest-way.ensures.way in
+    c.send_line.ensures.exact t.longest.cup h h b _ way.short (turned t h b c.args.row c.args.col c.requires.row c.requires.col line way.moves)

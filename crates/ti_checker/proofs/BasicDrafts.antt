@@ -1,0 +1,227 @@
+-- The lines of a basic entry are its basic text, and no row of it is refused unless memory runs out.
+use Rattle.std.proofs.Common.{◌≡◌, ◌<◌, ℕ, true, List, [], ◌∷◌, ◌++◌, map, reverse, Option, None, Some, Ok, inl, inr, refl, sym, ap, subst, ◌∙◌}
+use Rattle.std.proofs.lemmas.Bool.{and_parts}
+use Rattle.std.proofs.lemmas.List.{reverse-reverse}
+use Rattle.std.proofs.lemmas.Option.{same_Some, none-some}
+use Rattle.vt_term.specs.Size.{IsSize}
+use Rattle.vt_term.specs.Text.{Splits}
+use Rattle.vt_term.proofs.Splitting.{one_splitting}
+use Rattle.vt_effects.specs.declared.effects.Effect.{Effect}
+use Rattle.vt_effects.specs.Record.{record_of}
+use Rattle.ti_caps.specs.Entry.{Content}
+use Rattle.ti_charsets.specs.Charsets.{IsAmong}
+use Rattle.ti_rows.specs.declared.rows.Looks.{Looks}
+use Rattle.ti_rows.specs.declared.rows.Row.{Row}
+use Rattle.ti_rows.specs.declared.rows.Row.TheVariants.{Home, El}
+use Rattle.ti_rows.specs.Asked.{start_of, asked}
+use Rattle.ti_rows.specs.Lists.{IsInRange}
+use Rattle.ti_rows.specs.Names.{order}
+use Rattle.ti_rows.proofs.Naming.{orders_small}
+use Rattle.ti_rows.proofs.Righting.{recorded_is_right}
+use Rattle.ti_lines.specs.declared.lines.RowLine.{RowLine}
+use Rattle.ti_lines.specs.Texts.{texts_of, ended}
+use Rattle.ti_sends.specs.Entries.{has_string, is_checked, string_of}
+use Rattle.ti_conforms.specs.Conforms.{IsFit}
+use Rattle.ti_cert.specs.Basic.{basic_bytes, basic_effect, basic_line, basic_rows, basic_text, basic_text_of, IsBasic}
+use Rattle.ti_cert.specs.Certificates.{Ended, IsAnswer}
+use Rattle.ti_cert.specs.Order.{Precedes}
+use Rattle.ti_cert.specs.Singles.{no_looks}
+use Rattle.ti_cert.proofs.BasicAgreeing.{among_checked, checked_kind, some_string}
+use Rattle.ti_cert.proofs.BasicLines.{HasTokens, tokens_of, has_tokens, has_effect}
+use Rattle.ti_cert.proofs.BasicOrder.{Rises, Kind, IsClear, IsCup, IsEl, IsHome, IsSgr0, kind_of, in_range, rows_rise}
+use Rattle.ti_cert.proofs.BasicTexts.{basic_accepted}
+use Rattle.ti_checker.specs.Certificate.{IsCertificateOf}
+use Rattle.ti_checker.specs.First.{SendsRight, IsDrafted}
+use Rattle.ti_checker.specs.Limit.{IsLineOf, InOrder, AreLines, text_with}
+use Rattle.ti_checker.specs.No.{SendsSome, HasFaulty, IsFaulty, IsRowFault, HasUnasked, IsUntamed, IsUnfitBy, ClaimsNothing}
+use Rattle.ti_checker.specs.declared.causes.Cause.{Cause}
+use Rattle.ti_checker.specs.declared.causes.Cause.TheVariants.{FlagOut, Absent, AcsByte, Parm, StaticRead, Unfinished, Stuck, NotTame, BadLook, WrongEffect, NotShown, TooLong, NoResync, NoMemory}
+use Rattle.ti_checker.specs.declared.causes.No.{No}
+use Rattle.ti_checker.proofs.Excluding.{none_faulty, none_unfit}
+use Rattle.ti_checker.proofs.Ordering.{same_lines, reversed_has}
+use Rattle.ti_checker.proofs.Passing.{line_once, same_bytes, last, text_is, none_certified}
+
+abbrev rows_of : Content → ℕ → ℕ → List Row
+rows_of entry rows cols = basic_rows rows cols (has_string entry Home) (has_string entry El)
+
+abbrev IsKind : Content → ℕ → ℕ → Row → Type 0
+IsKind entry rows cols row = Kind rows cols (has_string entry Home) (has_string entry El) row
+
+-- ---- the basic lines are those of the entry
+
+checked_row : (entry : Content) (rows cols : ℕ) (row : Row) → IsBasic entry rows cols → IsInRange rows cols row → is_checked entry row ≡ true → IsKind entry rows cols row
+checked_row entry rows cols row b range checked = kind_of rows cols (has_string entry Home) (has_string entry El) row (among_checked entry rows cols row b range checked)
+
+its_tokens : (entry : Content) (rows cols : ℕ) (row : Row) → IsSize rows cols → IsKind entry rows cols row → HasTokens rows cols row
+its_tokens entry rows cols row size k = has_tokens rows cols (has_string entry Home) (has_string entry El) row size k
+
+basic_is : (entry : Content) (rows cols : ℕ) (row : Row) → IsSize rows cols → IsBasic entry rows cols → IsInRange rows cols row → is_checked entry row ≡ true → IsLineOf entry rows cols (basic_line row)
+basic_is entry rows cols row size b range checked =
+    let s = some_string (string_of entry row) (and_parts (has_string entry row) _ checked).0 in
+    record {
+      sent = record { range = range; checked = checked; sends = record { string = s.0; there = s.1; sends = b.sends row range checked s.0 s.1 } };
+      has = has_effect rows cols row (its_tokens entry rows cols row size (checked_row entry rows cols row b range checked));
+    }
+
+among_lines : (rows : List Row) (row : Row) → IsAmong rows row → IsAmong (map basic_line rows) (basic_line row)
+among_lines [] row a = absurd a
+among_lines (first ∷ rows) row (inl e) = inl (ap basic_line e)
+among_lines (first ∷ rows) row (inr a) = inr (among_lines rows row a)
+
+record IsBasicLine (rows : List Row) (line : RowLine) : Type 0 where
+  row : Row
+  among : IsAmong rows row
+  is : line ≡ basic_line row
+
+line_among : (rows : List Row) (line : RowLine) → IsAmong (map basic_line rows) line → IsBasicLine rows line
+line_among [] line a = absurd a
+line_among (first ∷ rows) line (inl e) = record { row = first; among = inl refl; is = e }
+line_among (first ∷ rows) line (inr a) = let h = line_among rows line a in record { row = h.row; among = inr h.among; is = h.is }
+
+in_order_of : (rows cols : ℕ) (list : List Row) → Rises rows cols list → InOrder rows cols (map basic_line list)
+in_order_of rows cols [] h = tt
+in_order_of rows cols (row ∷ list) h = (
+  λ other a. let k = line_among list other a in subst (λ (l : RowLine). Precedes rows cols row l.row) (sym k.is) (h.0 k.row k.among),
+  in_order_of rows cols list h.1,
+)
+
+record IsOwn (entry : Content) (rows cols : ℕ) (line : RowLine) : Type 0 where
+  row : Row
+  range : IsInRange rows cols row
+  checked : is_checked entry row ≡ true
+  is : line ≡ basic_line row
+
+own_line : (entry : Content) (rows cols : ℕ) (line : RowLine) → IsBasic entry rows cols → IsAmong (map basic_line (rows_of entry rows cols)) line → IsOwn entry rows cols line
+own_line entry rows cols line b a =
+    let h = line_among (rows_of entry rows cols) line a in
+    let k = kind_of rows cols (has_string entry Home) (has_string entry El) h.row h.among in
+    record { row = h.row; range = (in_range rows cols (has_string entry Home) (has_string entry El) h.row k).0; checked = checked_kind entry rows cols h.row b k; is = h.is }
+
+-- ---- all lines of the entry
+
+pub lines_are : (entry : Content) (rows cols : ℕ) (lines : List RowLine) → IsSize rows cols → IsBasic entry rows cols → AreLines entry rows cols (λ row. order row < 42) lines → lines ≡ map basic_line (rows_of entry rows cols)
+lines_are entry rows cols lines size b are =
+    same_lines rows cols lines (map basic_line (rows_of entry rows cols)) are.ordered (in_order_of rows cols (rows_of entry rows cols) (rows_rise rows cols (has_string entry Home) (has_string entry El))) over back
+  where
+    is_basic_line : (line : RowLine) → IsAmong lines line → line ≡ basic_line line.row
+    is_basic_line line a = let k = are.each line a in line_once entry rows cols line (basic_line line.row) k (basic_is entry rows cols line.row size b k.sent.range k.sent.checked) refl
+
+    over : (line : RowLine) → IsAmong lines line → IsAmong (map basic_line (rows_of entry rows cols)) line
+    over line a =
+        let k = are.each line a in
+        subst (λ (l : RowLine). IsAmong (map basic_line (rows_of entry rows cols)) l) (sym (is_basic_line line a))
+        (among_lines (rows_of entry rows cols) line.row (among_checked entry rows cols line.row b k.sent.range k.sent.checked))
+
+    back : (line : RowLine) → IsAmong (map basic_line (rows_of entry rows cols)) line → IsAmong lines line
+    back line a =
+        let o = own_line entry rows cols line b a in
+        let h = are.all o.row o.range o.checked (orders_small o.row) in
+        let same : h.line ≡ line = is_basic_line h.line h.among ∙ (ap basic_line h.of_row ∙ sym o.is) in
+        subst (λ (l : RowLine). IsAmong lines l) same h.among
+
+pub text_is_basic : (entry : Content) (rows cols : ℕ) (lines : List RowLine) → IsSize rows cols → IsBasic entry rows cols → AreLines entry rows cols (λ row. order row < 42) lines → text_with entry rows cols lines ≡ basic_text_of entry rows cols
+unfolding basic_text
+text_is_basic entry rows cols lines size b are =
+    ap (λ (pairs : Option (List ℕ)). ended (texts_of (record { rows = rows; cols = cols; acsc = pairs; lines = lines }))) b.no_pairs
+    ∙ ap (λ (ls : List RowLine). ended (texts_of (record { rows = rows; cols = cols; acsc = None; lines = ls }))) (lines_are entry rows cols lines size b are)
+
+pub draft_is_basic : (entry : Content) (rows cols : ℕ) (text : List ℕ) → IsSize rows cols → IsBasic entry rows cols → IsDrafted entry rows cols (λ row. order row < 42) text → text ++ last ≡ basic_text_of entry rows cols
+draft_is_basic entry rows cols text size b d =
+    ap (λ (x : List ℕ). x ++ last) d.written.text_is ∙ (sym (text_is entry rows cols d.written.lines) ∙ text_is_basic entry rows cols d.written.lines size b d.written.are)
+
+-- ---- the basic text is its certificate
+
+reversed_only : (xs : List RowLine) (x : RowLine) → IsAmong (reverse xs) x → IsAmong xs x
+reversed_only xs x a = subst (λ (l : List RowLine). IsAmong l x) (reverse-reverse xs) (reversed_has (reverse xs) x a)
+
+pub is_certificate : (entry : Content) (rows cols : ℕ) → IsSize rows cols → IsBasic entry rows cols → IsCertificateOf entry rows cols (basic_text_of entry rows cols)
+is_certificate entry rows cols size b = record {
+  lines = reverse (map basic_line (rows_of entry rows cols));
+  says = subst (λ (pairs : Option (List ℕ)). IsAnswer rows cols (basic_text_of entry rows cols) (Ok (Ended pairs (reverse (map basic_line (rows_of entry rows cols)))))) (sym b.no_pairs)
+      (basic_accepted rows cols (has_string entry Home) (has_string entry El) size);
+  sends = λ line a.
+      let o = own_line entry rows cols line b (reversed_only (map basic_line (rows_of entry rows cols)) line a) in
+      (subst (λ (l : RowLine). IsLineOf entry rows cols l) (sym o.is) (basic_is entry rows cols o.row size b o.range o.checked)).sent;
+  complete = λ row range checked. record {
+    line = basic_line row;
+    among = reversed_has (map basic_line (rows_of entry rows cols)) (basic_line row) (among_lines (rows_of entry rows cols) row (among_checked entry rows cols row b range checked));
+    of_row = refl;
+  };
+}
+
+-- ---- no row is refused
+
+is_asked : (entry : Content) (rows cols : ℕ) (looks : Looks) (row : Row) → IsKind entry rows cols row → basic_effect row ≡ asked looks row (basic_effect row)
+is_asked entry rows cols looks row (IsClear e) = subst (λ (r : Row). basic_effect r ≡ asked looks r (basic_effect r)) (sym e) refl
+is_asked entry rows cols looks row (IsCup r c e h k) = subst (λ (r : Row). basic_effect r ≡ asked looks r (basic_effect r)) (sym e) refl
+is_asked entry rows cols looks row (IsHome there e) = subst (λ (r : Row). basic_effect r ≡ asked looks r (basic_effect r)) (sym e) refl
+is_asked entry rows cols looks row (IsEl there e) = subst (λ (r : Row). basic_effect r ≡ asked looks r (basic_effect r)) (sym e) refl
+is_asked entry rows cols looks row (IsSgr0 e) = subst (λ (r : Row). basic_effect r ≡ asked looks r (basic_effect r)) (sym e) refl
+
+sends_right : (entry : Content) (rows cols : ℕ) (row : Row) (string : List ℕ) → IsSize rows cols → IsBasic entry rows cols → IsInRange rows cols row → is_checked entry row ≡ true → string_of entry row ≡ Some string → SendsRight rows cols string row
+sends_right entry rows cols row string size b range checked there =
+    let k = checked_row entry rows cols row b range checked in
+    let t = its_tokens entry rows cols row size k in
+    record {
+      bytes = basic_bytes row;
+      sends = b.sends row range checked string there;
+      looks = no_looks;
+      right = recorded_is_right rows cols no_looks row (basic_bytes row) (tokens_of row) (basic_effect row) t.splits t.recorded (is_asked entry rows cols no_looks row k);
+    }
+
+same_record : (rows cols : ℕ) (row : Row) (tokens : List (List ℕ)) (o : Option Effect) → HasTokens rows cols row → Splits (basic_bytes row) tokens [] → record_of rows cols (start_of rows cols row) tokens ≡ o → o ≡ Some (basic_effect row)
+same_record rows cols row tokens o t whole e =
+    let same = one_splitting (basic_bytes row) tokens (tokens_of row) [] [] whole t.splits in
+    sym e ∙ (ap (λ (ts : List (List ℕ)). record_of rows cols (start_of rows cols row) ts) (sym same.0) ∙ t.recorded)
+
+not_untamed : (rows cols : ℕ) (row : Row) → HasTokens rows cols row → IsUntamed rows cols row (basic_bytes row) → ⊥
+not_untamed rows cols row t u = none-some (basic_effect row) (same_record rows cols row u.tokens None t u.whole u.unrecorded)
+
+not_unasked : (entry : Content) (rows cols : ℕ) (row : Row) → IsKind entry rows cols row → HasTokens rows cols row → HasUnasked rows cols row (basic_bytes row) → ⊥
+not_unasked entry rows cols row k t u =
+    let e : u.effect ≡ basic_effect row = same_Some u.effect (basic_effect row) (same_record rows cols row u.tokens (Some u.effect) t u.whole u.recorded) in
+    u.unasked.unasked (subst (λ (x : Effect). x ≡ asked u.unasked.looks row x) (sym e) (is_asked entry rows cols u.unasked.looks row k))
+
+sends_basic : (entry : Content) (rows cols : ℕ) (row : Row) (string : List ℕ) (Holds : List ℕ → Type 0) → IsBasic entry rows cols → IsInRange rows cols row → is_checked entry row ≡ true → string_of entry row ≡ Some string
+    → SendsSome string row Holds → Holds (basic_bytes row)
+sends_basic entry rows cols row string Holds b range checked there s = subst Holds (same_bytes string row s.bytes (basic_bytes row) s.sends (b.sends row range checked string there)) s.holds
+
+faulty_as : (entry : Content) (rows cols : ℕ) (refusal : No) (cause : Cause) (h : HasFaulty entry rows cols refusal) → refusal.cause ≡ cause → IsFaulty rows cols h.string h.row cause
+faulty_as entry rows cols refusal cause h e = subst (λ (c : Cause). IsFaulty rows cols h.string h.row c) e h.faulty
+
+its_right : (entry : Content) (rows cols : ℕ) (refusal : No) → IsSize rows cols → IsBasic entry rows cols → (h : HasFaulty entry rows cols refusal) → SendsRight rows cols h.string h.row
+its_right entry rows cols refusal size b h = sends_right entry rows cols h.row h.string size b h.range h.checked h.there
+
+its_claim : (entry : Content) (rows cols : ℕ) (refusal : No) (cause : Cause) → IsSize rows cols → IsBasic entry rows cols → HasFaulty entry rows cols refusal → refusal.cause ≡ cause → ClaimsNothing cause
+its_claim entry rows cols refusal cause size b h e = none_faulty rows cols h.string h.row cause (its_right entry rows cols refusal size b h) (faulty_as entry rows cols refusal cause h e)
+
+by_cause : (entry : Content) (rows cols : ℕ) (refusal : No) (cause : Cause) → IsSize rows cols → IsBasic entry rows cols → refusal.cause ≡ cause → IsRowFault entry rows cols refusal cause → cause ≡ NoMemory
+by_cause entry rows cols refusal NoMemory size b e h = refl
+by_cause entry rows cols refusal TooLong size b e h = absurd (none_certified entry rows cols h.row (basic_text_of entry rows cols) h.passes (is_certificate entry rows cols size b))
+by_cause entry rows cols refusal NotTame size b e h =
+    let k = checked_row entry rows cols h.row b h.range h.checked in
+    absurd (not_untamed rows cols h.row (its_tokens entry rows cols h.row size k)
+    (sends_basic entry rows cols h.row h.string (λ bytes. IsUntamed rows cols h.row bytes) b h.range h.checked h.there (faulty_as entry rows cols refusal NotTame h e)))
+by_cause entry rows cols refusal NotShown size b e h =
+    let k = checked_row entry rows cols h.row b h.range h.checked in
+    absurd (not_unasked entry rows cols h.row k (its_tokens entry rows cols h.row size k)
+    (sends_basic entry rows cols h.row h.string (λ bytes. HasUnasked rows cols h.row bytes) b h.range h.checked h.there (faulty_as entry rows cols refusal NotShown h e)))
+by_cause entry rows cols refusal FlagOut size b e h = absurd (its_claim entry rows cols refusal FlagOut size b h e)
+by_cause entry rows cols refusal Absent size b e h = absurd (its_claim entry rows cols refusal Absent size b h e)
+by_cause entry rows cols refusal AcsByte size b e h = absurd (its_claim entry rows cols refusal AcsByte size b h e)
+by_cause entry rows cols refusal (Parm fault) size b e h = absurd (its_claim entry rows cols refusal (Parm fault) size b h e)
+by_cause entry rows cols refusal StaticRead size b e h = absurd (its_claim entry rows cols refusal StaticRead size b h e)
+by_cause entry rows cols refusal Unfinished size b e h = absurd (its_claim entry rows cols refusal Unfinished size b h e)
+by_cause entry rows cols refusal Stuck size b e h = absurd (its_claim entry rows cols refusal Stuck size b h e)
+by_cause entry rows cols refusal BadLook size b e h = absurd (its_claim entry rows cols refusal BadLook size b h e)
+by_cause entry rows cols refusal (WrongEffect p) size b e h = absurd (its_claim entry rows cols refusal (WrongEffect p) size b h e)
+by_cause entry rows cols refusal NoResync size b e h = absurd (its_claim entry rows cols refusal NoResync size b h e)
+
+pub only_memory : (entry : Content) (rows cols : ℕ) (refusal : No) → IsSize rows cols → IsBasic entry rows cols → IsRowFault entry rows cols refusal refusal.cause → refusal.cause ≡ NoMemory
+only_memory entry rows cols refusal size b h = by_cause entry rows cols refusal refusal.cause size b refl h
+
+pub not_unfit : (entry : Content) (cap : ℕ) (cause : Cause) → IsFit entry → IsUnfitBy entry cap cause → ⊥
+not_unfit entry cap FlagOut fit h = none_unfit entry cap FlagOut fit h
+not_unfit entry cap Absent fit h = none_unfit entry cap Absent fit h
+not_unfit entry cap AcsByte fit h = none_unfit entry cap AcsByte fit h
+not_unfit entry cap _ fit h = h
