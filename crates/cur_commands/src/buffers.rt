@@ -45,21 +45,6 @@ impl Buffer {
         ensures count { result ≡ min (length piece.now) (65536 - length self.old) }
         ensures value { self.new ≡ self.old ++ take result piece.now }
     {
-        match piece {
-            // most pieces are one character
-            [byte] if self.bytes.len() < CAPACITY => {
-                self.bytes.push(*byte).unwrap();
-                1
-            }
-            _ => self.hold_front(piece),
-        }
-    }
-
-    /// The same for a piece of any length.
-    fn hold_front(&mut self, piece: &[u8]) -> usize
-        ensures count { result ≡ min (length piece.now) (65536 - length self.old) }
-        ensures value { self.new ≡ self.old ++ take result piece.now }
-    {
         let held = piece.len().min(CAPACITY - self.bytes.len());
         self.bytes.extend_from_slice(&piece[..held]).unwrap();
         held
