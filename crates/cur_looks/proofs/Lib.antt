@@ -10,3 +10,5 @@ pub mod Verifying
 pub mod Moving
 pub mod Gaps
 pub mod Blanking
+pub mod Fewest
+pub mod Typing

@@ -14,7 +14,7 @@ use Rattle.grids.specs.Grids.{is_in, one}
 use Rattle.vt_term.proofs.Sequences.{empty_open}
 use Rattle.vt_term.proofs.Running.{text_runs, run_keeps}
 use Rattle.cur_wires.specs.Wire.{Sends}
-use Rattle.cur_steps.specs.Leads.{Ends}
+use Rattle.cur_steps.specs.Leads.{Ends, Leads}
 use Rattle.cur_steps.specs.Steps.{Steps}
 use Rattle.cur_steps.proofs.Completing.{stays, ends_as}
 use Rattle.cur_steps.proofs.Stopping.{leads_line, steps_sent}
@@ -171,6 +171,16 @@ front_lost t s x [] back e h r k = stays s (IsLost t) r h
 front_lost t s x (y ∷ []) back e h r k = let same : x ≡ y = cc in subst (λ (n : ℕ). Ends s (n ∷ []) (IsLost t)) same k
 front_lost t s x (y ∷ z ∷ zs) back e h r k = absurd (cc)
 
+-- a character as a piece that leads on
+pub print_leads : (t : Table) → IsChecked t → (g : ℕ → ℕ → Ink) (b : Belief) (r c : ℕ) (x : Ink) → r < t.rows → c < t.cols → IsPrinted x.byte → IsPoised t.cols b r c x
+    → Leads (IsPiece t) 1 (IsLost t) (Agrees t g b) (x.byte ∷ []) (Agrees t (put_at r c x g) (standing b r (c + 1)))
+print_leads t checked g b r c x lr lc printed poised =
+    let B : State → Type 0 = Agrees t (put_at r c x g) (standing b r (c + 1)) in
+    let lost : (s : State) → B s → IsLost t s = agrees_lost t checked (put_at r c x g) (standing b r (c + 1)) in
+    leads_line (IsPiece t) 1 (IsLost t) (Agrees t g b) B (x.byte ∷ []) (Character x.byte printed refl) (omega arith)
+    (typed_agrees t g b r c x lr lc printed poised)
+    (λ s h front back e. front_lost t s x.byte front back e (agrees_lost t checked g b s h) h.ready.rest (ends_as s (x.byte ∷ []) B (IsLost t) lost (typed_agrees t g b r c x lr lc printed poised s h)))
+
 -- a character is sent
 pub print_steps : {W T E : Type 0} (went : W → W → List ℕ → Type 0) (failures : W → ℕ) (a z : W) (answer : Result T E) (t : Table) → IsChecked t → (g : ℕ → ℕ → Ink) (b : Belief) (r c : ℕ) (x : Ink)
     → r < t.rows → c < t.cols → IsPrinted x.byte → IsPoised t.cols b r c x → Sends went failures a z (x.byte ∷ []) answer
@@ -178,8 +188,4 @@ pub print_steps : {W T E : Type 0} (went : W → W → List ℕ → Type 0) (fai
 print_steps went failures a z answer t checked g b r c x lr lc printed poised sends =
     let B : State → Type 0 = Agrees t (put_at r c x g) (standing b r (c + 1)) in
     let lost : (s : State) → B s → IsLost t s = agrees_lost t checked (put_at r c x g) (standing b r (c + 1)) in
-    steps_sent went failures a z answer (IsPiece t) 1 (IsLost t) (Agrees t g b) B (x.byte ∷ [])
-    (leads_line (IsPiece t) 1 (IsLost t) (Agrees t g b) B (x.byte ∷ []) (Character x.byte printed refl) (omega arith)
-    (typed_agrees t g b r c x lr lc printed poised)
-    (λ s h front back e. front_lost t s x.byte front back e (agrees_lost t checked g b s h) h.ready.rest (ends_as s (x.byte ∷ []) B (IsLost t) lost (typed_agrees t g b r c x lr lc printed poised s h))))
-    lost sends
+    steps_sent went failures a z answer (IsPiece t) 1 (IsLost t) (Agrees t g b) B (x.byte ∷ []) (print_leads t checked g b r c x lr lc printed poised) lost sends

@@ -1,5 +1,5 @@
 //! Erasures but for that of a line's end, each from a place and in the plain brush.
-ghost use Rattle.std.specs.Prelude.{◌≡◌, ◌<◌, ℕ, Some, OnOk, IfSome};
+ghost use Rattle.std.specs.Prelude.{◌≡◌, ◌<◌, ℕ, Some, None, OnOk, IfSome};
 ghost use Rattle.cur_steps.specs.Steps.{Steps};
 ghost use Rattle.cur_looks.specs.Certified.{IsPiece, IsLost, cell_limit};
 ghost use Rattle.cur_looks.specs.Inks.{CanShow, plain_brush};
@@ -42,6 +42,7 @@ fn row_of_erasure(erasure: Erasure) -> Row
 /// The line that erases it, if there is one.
 pub fn erasing_line<C: Certificate>(checked: &C, erasure: Erasure) -> Option<&[u8]>
     ensures value { IfSome result (λ b. (C.table checked.now).line_of (erasure_row erasure) ≡ Some b.now) }
+    ensures none { result ≡ None → (C.table checked.now).line_of (erasure_row erasure) ≡ None }
 {
     checked.line(row_of_erasure(erasure))
 }

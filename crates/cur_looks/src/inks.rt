@@ -1,5 +1,5 @@
 //! What is put into a place of the screen.
-ghost use Rattle.std.specs.Prelude.{◌≡◌, ℕ};
+ghost use Rattle.std.specs.Prelude.{◌≡◌, ℕ, IfSome};
 ghost use Rattle.cur_looks.specs.Inks as spec;
 
 use ti_rows::Attributes;
@@ -37,6 +37,13 @@ pub trait View {
         ensures value { result ≡ same (cells self.now row col) ink }
     {
         is_same(self.at(row, col), ink)
+    }
+
+    /// The character in a place, if it's known to be printed in the set and the brush of another place of the line.
+    fn byte_like(&self, _row: usize, _col: usize, _like: usize) -> Option<u8>
+        ensures value { IfSome result (λ b. cells self.now _row _col ≡ record (cells self.now _row _like) { byte = b }) }
+    {
+        None
     }
 }
 

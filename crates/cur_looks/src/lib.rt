@@ -14,6 +14,7 @@ mod reaching;
 mod routes;
 mod singles;
 mod steps;
+mod texts;
 mod verified;
 
 pub use beliefs::{Belief, Mode, Place};
@@ -23,4 +24,5 @@ pub use erasing::{Erasure, erase_at, erase_from, erasing_line};
 pub use inks::{Blank, Brush, Ink, View, is_same};
 pub use modes::show_as;
 pub use reaching::{line_bytes, reach};
+pub use texts::{goes_on, print_text};
 pub use ti_rows::{Attributes, Looks, Marks, Row};

@@ -2,7 +2,9 @@
 ghost use Rattle.std.specs.Prelude.{ℕ, ◌≡◌, ◌<◌, ◌≤◌, length, Option, Some, IfSome};
 ghost use Rattle.cur_looks.specs.Certified.{text_of};
 ghost use Rattle.cur_looks.specs.Beliefs.{Place};
-ghost use Rattle.cur_looks.specs.Moves.{Moves, IsWay};
+ghost use Rattle.cur_looks.specs.Moves.{Moves, IsAtMost, IsWay};
+ghost use Rattle.ti_rows.specs.declared.rows.Row.{Row};
+ghost use Rattle.ti_rows.specs.declared.rows.Row.TheVariants.{Cup, Home, Cr, Hpa, Vpa, Cub1, Cuf1, Cuu1, Cud1, Cub, Cuf, Cuu, Cud};
 
 use crate::beliefs::Place;
 use crate::certificates::Certificate;
@@ -21,6 +23,7 @@ pub(crate) fn shortest<C: Certificate>(checked: &C, from: Option<Place>, row: u1
     requires col { col < (C.table checked.now).cols }
     ensures way { IsWay (C.table checked.now) from row col result.line }
     ensures bytes { result.bytes ≡ length (text_of (C.table checked.now) result.line) }
+    ensures least { (line : Row) → Moves (C.table checked.now).cols from row col line → IsAtMost (C.table checked.now) result.bytes line }
 {
     let best = shorter(checked, straight(checked, row, col), by_corner(row, col));
     let Some(at) = from else {
@@ -31,13 +34,15 @@ pub(crate) fn shortest<C: Certificate>(checked: &C, from: Option<Place>, row: u1
     let best = shorter(checked, best, by_line_start(at, row, col));
     let best = shorter(checked, best, by_one(at, row, col, cols));
     let best = shorter(checked, best, by_count(at, row, col, cols));
-    shorter(checked, best, by_name(at, row, col))
+    let best = shorter(checked, best, by_column_name(at, row, col));
+    shorter(checked, best, by_row_name(at, row, col))
 }
 
 /// `cup`.
 fn straight<C: Certificate>(checked: &C, row: u16, col: u16) -> Way
     requires row { row < (C.table checked.now).rows }
     requires col { col < (C.table checked.now).cols }
+    ensures line { result.line ≡ Cup row col }
     ensures way { (from : Option Place) → IsWay (C.table checked.now) from row col result.line }
     ensures bytes { result.bytes ≡ length (text_of (C.table checked.now) result.line) }
 {
@@ -65,6 +70,8 @@ fn shorter<C: Certificate>(checked: &C, best: Way, other: Option<Row>) -> Way
     ensures way { (from : Option Place) (row col : ℕ) → IsWay (C.table checked.now) from row col best.line → IfSome other (λ line. Moves (C.table checked.now).cols from row col line)
         → IsWay (C.table checked.now) from row col result.line }
     ensures bytes { result.bytes ≡ length (text_of (C.table checked.now) result.line) }
+    ensures first { result.bytes ≤ best.bytes }
+    ensures second { IfSome other (λ line. IsAtMost (C.table checked.now) result.bytes line) }
 {
     let Some(line) = other else {
         return best;
@@ -81,6 +88,7 @@ fn shorter<C: Certificate>(checked: &C, best: Way, other: Option<Row>) -> Way
 /// `home` to the corner.
 fn by_corner(row: u16, col: u16) -> Option<Row>
     ensures moves { (cols : ℕ) (from : Option Place) → IfSome result (λ line. Moves cols from row col line) }
+    ensures found { (cols : ℕ) (from : Option Place) → Moves cols from row col Home → result ≡ Some Home }
 {
     if row == 0 && col == 0 {
         Some(Row::Home)
@@ -92,6 +100,7 @@ fn by_corner(row: u16, col: u16) -> Option<Row>
 /// `cr` to the first column of the cursor's line.
 fn by_line_start(at: Place, row: u16, col: u16) -> Option<Row>
     ensures moves { (cols : ℕ) → IfSome result (λ line. Moves cols (Some at) row col line) }
+    ensures found { (cols : ℕ) → Moves cols (Some at) row col Cr → result ≡ Some Cr }
 {
     if at.row == row as usize && col == 0 {
         Some(Row::Cr)
@@ -103,6 +112,10 @@ fn by_line_start(at: Place, row: u16, col: u16) -> Option<Row>
 /// A move by one, to a neighbour, where no wrap is pending.
 fn by_one(at: Place, row: u16, col: u16, cols: usize) -> Option<Row>
     ensures moves { IfSome result (λ line. Moves cols (Some at) row col line) }
+    ensures left { Moves cols (Some at) row col Cub1 → result ≡ Some Cub1 }
+    ensures right { Moves cols (Some at) row col Cuf1 → result ≡ Some Cuf1 }
+    ensures up { Moves cols (Some at) row col Cuu1 → result ≡ Some Cuu1 }
+    ensures down { Moves cols (Some at) row col Cud1 → result ≡ Some Cud1 }
 {
     let to = Place {
         row: row as usize,
@@ -125,6 +138,10 @@ fn by_one(at: Place, row: u16, col: u16, cols: usize) -> Option<Row>
 fn by_count(at: Place, row: u16, col: u16, cols: usize) -> Option<Row>
     requires cols { cols ≤ 1000 }
     ensures moves { IfSome result (λ line. Moves cols (Some at) row col line) }
+    ensures left { (n : ℕ) → Moves cols (Some at) row col (Cub n) → result ≡ Some (Cub n) }
+    ensures right { (n : ℕ) → Moves cols (Some at) row col (Cuf n) → result ≡ Some (Cuf n) }
+    ensures up { (n : ℕ) → Moves cols (Some at) row col (Cuu n) → result ≡ Some (Cuu n) }
+    ensures down { (n : ℕ) → Moves cols (Some at) row col (Cud n) → result ≡ Some (Cud n) }
 {
     let to = Place {
         row: row as usize,
@@ -132,24 +149,35 @@ fn by_count(at: Place, row: u16, col: u16, cols: usize) -> Option<Row>
     };
     if at.row == to.row && at.col < to.col {
         Some(Row::Cuf((to.col - at.col) as u16))
-    } else if at.row == to.row && at.col < cols {
+    } else if at.row == to.row && to.col < at.col && at.col < cols {
         Some(Row::Cub((at.col - to.col) as u16))
     } else if at.col == to.col && at.row < to.row {
         Some(Row::Cud((to.row - at.row) as u16))
-    } else if at.col == to.col && at.row < 65_536 {
+    } else if at.col == to.col && to.row < at.row && at.row - to.row < 65_536 {
         Some(Row::Cuu((at.row - to.row) as u16))
     } else {
         None
     }
 }
 
-/// `hpa` to a column of the cursor's line, `vpa` to a row of its column.
-fn by_name(at: Place, row: u16, col: u16) -> Option<Row>
+/// `hpa` to a column of the cursor's line.
+fn by_column_name(at: Place, row: u16, col: u16) -> Option<Row>
     ensures moves { (cols : ℕ) → IfSome result (λ line. Moves cols (Some at) row col line) }
+    ensures found { (cols n : ℕ) → Moves cols (Some at) row col (Hpa n) → result ≡ Some (Hpa n) }
 {
     if at.row == row as usize {
         Some(Row::Hpa(col))
-    } else if at.col == col as usize {
+    } else {
+        None
+    }
+}
+
+/// `vpa` to a row of the cursor's column.
+fn by_row_name(at: Place, row: u16, col: u16) -> Option<Row>
+    ensures moves { (cols : ℕ) → IfSome result (λ line. Moves cols (Some at) row col line) }
+    ensures found { (cols n : ℕ) → Moves cols (Some at) row col (Vpa n) → result ≡ Some (Vpa n) }
+{
+    if at.col == col as usize {
         Some(Row::Vpa(row))
     } else {
         None

@@ -5,6 +5,7 @@ ghost use Rattle.cur_looks.specs.Certified.{IsPiece, IsLost, text_of};
 ghost use Rattle.cur_looks.specs.Inks.{CanShow};
 ghost use Rattle.cur_looks.specs.Beliefs.{Agrees, Belief, moves};
 ghost use Rattle.cur_looks.specs.Gaps.{IsAlike, BeginsAs};
+ghost use Rattle.cur_looks.specs.Moves.{IsFewest};
 ghost use Rattle.cur_looks.specs.Routes.{IsLeg, IsStop, IsRoute, leg_bytes, at_stop};
 ghost use Rattle.cur_looks.specs.declared.inks.Ink.{Ink};
 
@@ -169,10 +170,11 @@ pub(crate) fn reach_by_line<C: Certificate, W: Wire>(
     send_line(checked, way.line, checked.line(way.line).unwrap(), wire)
 }
 
-/// How many bytes a line takes that leads from what is known of the cursor's place to another.
+/// How many bytes a shortest line has that leads from what is known of the cursor's place to another.
 pub fn line_bytes<C: Certificate>(checked: &C, from: Option<Place>, row: usize, col: usize) -> usize
     requires row { row < (C.table checked.now).rows }
     requires col { col < (C.table checked.now).cols }
+    ensures fewest { IsFewest (C.table checked.now) from row col result }
     ensures short { result ≤ (C.table checked.now).longest.cup }
 {
     let _ = checked.rows();

@@ -1,5 +1,5 @@
 -- The bound in the words of the promise.
-use Rattle.std.proofs.Common.{◌≡◌, ℕ, ◌+◌, ◌*◌, ◌≤◌, ◌==◌, ◌&&◌, Bool, true, false, zero, suc, length, if◌then◌else◌, Option, Some, None, refl, sym, ap, subst, ◌∙◌, arith}
+use Rattle.std.proofs.Common.{◌≡◌, ℕ, ◌+◌, ◌*◌, ◌<◌, ◌≤◌, ◌==◌, ◌&&◌, Bool, true, false, zero, suc, length, if◌then◌else◌, Option, Some, None, refl, sym, ap, subst, ◌∙◌, arith}
 use Rattle.std.proofs.lemmas.Bool.Decides.{nat_tests}
 use Rattle.cur_looks.specs.Certified.{Table, cell_limit}
 use Rattle.cur_looks.specs.Inks.{same}
@@ -107,3 +107,27 @@ fresh_enough t n old new b cursor mode le =
     let d = all_differ old new t.cols t.rows in
     let a : (d + 1) * cell_limit t ≤ (t.rows * t.cols + 1) * cell_limit t = times_grows (d + 1) (t.rows * t.cols + 1) (cell_limit t) (omega (arith, all_few old new t.cols t.rows)) in
     omega (arith, a, le, most t old new b cursor mode)
+
+no_less : (n l : ℕ) → 1 ≤ l → n ≤ n * l
+no_less n l le = let h : 1 * n ≤ l * n = times_grows 1 l n le in let c : l * n ≡ n * l = grind arith in omega (arith, h, c)
+
+one_more : (d l : ℕ) (settled : Bool) → 0 < d → d * l + l ≤ d * l + (if (d == 0) && settled then 0 else 1) * l
+one_more zero l settled lt = absurd (omega (arith, lt))
+one_more (suc d) l settled lt =
+    let f : (suc d == 0) ≡ false = grind (arith, nat_tests) in
+    let P : Bool → Type 0 = λ x. suc d * l + l ≤ suc d * l + (if x && settled then 0 else 1) * l in
+    subst P (sym f) (omega arith)
+
+-- some bytes, and then what fewer cells take by more than so many
+pub fewer_enough : (t : Table) (n : ℕ) (blank old new : ℕ → ℕ → Ink) (b d : Belief) (cursor : Option Place) (mode : Mode) → n + all_differ blank new t.cols t.rows < all_differ old new t.cols t.rows
+    → n + paint_limit t blank new d cursor mode ≤ paint_limit t old new b cursor mode
+fewer_enough t n blank old new b d cursor mode lt =
+    let x = all_differ blank new t.cols t.rows in
+    let y = all_differ old new t.cols t.rows in
+    let l = cell_limit t in
+    let a : (n + x) * l ≤ y * l = times_grows (n + x) y l (omega (arith, lt)) in
+    let e : (n + x) * l ≡ n * l + x * l = grind arith in
+    let k : n ≤ n * l = no_less n l (omega arith) in
+    let c : (x + 1) * l ≡ x * l + l = grind arith in
+    let m : y * l + l ≤ paint_limit t old new b cursor mode = one_more y l (is_settled b cursor mode) (omega (arith, lt)) in
+    omega (arith, a, e, k, c, m, most t blank new d cursor mode)

@@ -3,12 +3,12 @@ use Rattle.std.proofs.Common.{◌≡◌, ℕ, ◌+◌, ◌-◌, ◌*◌, ◌<◌
 use Rattle.std.proofs.lemmas.Bool.Decides.{nat_tests}
 use Rattle.std.proofs.lemmas.Bool.{cases_lt}
 use Rattle.cur_looks.specs.Inks.{same, mixed, put_at, tail_blank, blank_ink}
-use Rattle.cur_looks.specs.Gaps.{BeginsAs}
+use Rattle.cur_looks.specs.Gaps.{BeginsAs, IsAlike}
 use Rattle.cur_looks.specs.Erasures.{erased}
 use Rattle.cur_looks.specs.declared.erasing.Erasure.TheVariants.{Head, Part, Rest}
 use Rattle.cur_paint.specs.Differ.{differs, span, all_differ}
 use Rattle.cur_paint.specs.Blanks.{IsBlankFrom}
-use Rattle.cur_looks.specs.Certified.{Table}
+use Rattle.cur_looks.specs.Certified.{Table, cell_limit}
 use Rattle.cur_looks.specs.Beliefs.{Agrees}
 use Rattle.cur_looks.specs.declared.beliefs.Belief.{Belief}
 use Rattle.vt_term.specs.Screen.{State}
@@ -62,6 +62,13 @@ told_different old new r c a b p q e =
 
 pub span_more : (old new : ℕ → ℕ → Ink) (i from n : ℕ) → span old new i from (n + 1) ≡ span old new i from n + differs old new i (from + n)
 span_more old new i from n = let same : suc n ≡ n + 1 = omega arith in let P : ℕ → Type 0 = λ m. span old new i from m ≡ span old new i from n + differs old new i (from + n) in subst P same refl
+
+-- what was counted in a line from its start on, and one place more
+pub span_next : (old new : ℕ → ℕ → Ink) (i n count one : ℕ) → count ≡ span old new i 0 n → one ≡ differs old new i n → count + one ≡ span old new i 0 (n + 1)
+span_next old new i n count one e f =
+    let there : 0 + n ≡ n = omega arith in
+    let d : differs old new i (0 + n) ≡ differs old new i n = ap (λ (m : ℕ). differs old new i m) there in
+    omega (arith, e, f, d, span_more old new i 0 n)
 
 pub span_grows : (old new : ℕ → ℕ → Ink) (i from n m : ℕ) → n ≤ m → span old new i from n ≤ span old new i from m
 span_grows old new i from n zero le = let P : ℕ → Type 0 = λ k. span old new i from k ≤ 0 in let same : 0 ≡ n = omega arith in subst P same (omega arith)
@@ -166,3 +173,31 @@ mixed_bottom old new r c i j h k = grind (arith, nat_tests, h, k)
 pub rest_done : (t : Table) (old new : ℕ → ℕ → Ink) (r c : ℕ) (b : Belief) → IsBlankFrom new t.rows t.cols r c → (s : State) → Agrees t (erased Rest r c (mixed old new r c)) b s → Agrees t new b s
 rest_done t old new r c b e s h = agrees_as t (erased Rest r c (mixed old new r c)) new b
     (λ i j li lj. mixed_bottom old new r c i j (λ same le. (let P : ℕ → Type 0 = λ n. new n j ≡ blank_ink in subst P (sym same) (e.line j le lj))) (λ lt. e.lines i j lt li lj)) s h
+
+-- a cell, and those after it
+pub span_first : (old new : ℕ → ℕ → Ink) (i from n : ℕ) → differs old new i from + span old new i (from + 1) n ≡ span old new i from (1 + n)
+span_first old new i from n =
+    let more : span old new i from 1 ≡ span old new i from 0 + differs old new i (from + 0) = span_more old new i from 0 in
+    let none : span old new i from 0 ≡ 0 = refl in
+    let place : from + 0 ≡ from = omega arith in
+    let here : differs old new i (from + 0) ≡ differs old new i from = ap (λ (j : ℕ). differs old new i j) place in
+    omega (arith, more, none, here, span_join old new i from 1 n)
+
+-- cells that all differ
+pub span_full : (old new : ℕ → ℕ → Ink) (i from n : ℕ) → ((k : ℕ) → k < n → differs old new i (from + k) ≡ 1) → span old new i from n ≡ n
+span_full old new i from zero h = refl
+span_full old new i from (suc n) h = omega (arith, span_full old new i from n (λ k lt. h k (omega (arith, lt))), h n (omega arith))
+
+-- a cell takes a byte at least
+pub some_each : (t : Table) (a n : ℕ) → a ≡ n → n ≤ a * cell_limit t
+some_each t a n e = let P : ℕ → Type 0 = λ m. n ≤ m * cell_limit t in subst P (sym e) (grows n (cell_limit t) (omega arith))
+  where
+    grows : (n l : ℕ) → 1 ≤ l → n ≤ n * l
+    grows n l le = grind arith
+
+-- as another cell, but for the character
+pub like_alike : (b : Belief) (x y first : Ink) (n : ℕ) → IsAlike b first → first ≡ y → x ≡ record y { byte = n } → IsAlike b x
+like_alike b x y first n h e f =
+    let k : IsAlike b y = subst (λ (z : Ink). IsAlike b z) e h in
+    let m : IsAlike b (record y { byte = n }) = record { brush = k.brush; set = k.set } in
+    subst (λ (z : Ink). IsAlike b z) (sym f) m

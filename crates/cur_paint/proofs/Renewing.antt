@@ -29,26 +29,26 @@ use Rattle.cur_paint.specs.declared.updates.Status.TheVariants.{Fresh, Known, Lo
 use Rattle.cur_paint.proofs.Reaching.{blank_agrees, line_leads}
 
 -- the first bytes were cut short
-pub anew_failed : {W T E : Type 0} (went : W → W → List ℕ → Type 0) (failures : W → ℕ) (a z : W) (v : E) (t : Table) (A B C : State → Type 0) (first : List ℕ) → ((s : State) → B s → IsLost t s) → length first ≤ fresh_limit t
-    → Leads (IsPiece t) (length first) (IsLost t) A first B → StopsIn went failures a z first → Anew {T = T} {E = E} went failures a z (Err v) t A C first
-anew_failed went failures a z v t A B C first lost le h stops = record {
+pub anew_failed : {W T E : Type 0} (went : W → W → List ℕ → Type 0) (failures : W → ℕ) (a z : W) (v : E) (t : Table) (limit : ℕ) (A B C : State → Type 0) (first : List ℕ) → ((s : State) → B s → IsLost t s) → length first ≤ limit
+    → Leads (IsPiece t) (length first) (IsLost t) A first B → StopsIn went failures a z first → Anew {T = T} {E = E} went failures a z (Err v) t limit A C first
+anew_failed went failures a z v t limit A B C first lost le h stops = record {
   step = record {
     bytes = first;
-    leads = leads_wider (IsPiece t) (length first) (fresh_limit t) (IsLost t) A B A (IsLost t) first le (λ s x. x) lost h;
+    leads = leads_wider (IsPiece t) (length first) limit (IsLost t) A B A (IsLost t) first le (λ s x. x) lost h;
     sends = stops;
   };
   begins = record { more = []; begins = sym (append-nil first) };
 }
 
 -- they went out, and all was painted
-pub anew_then : {W T E : Type 0} (went : W → W → List ℕ → Type 0) (failures : W → ℕ) → IsWire went failures → (a m z : W) (answer : Result T E) (t : Table) (A B C : State → Type 0) (first : List ℕ) (k : ℕ) → length first + k ≤ fresh_limit t
-    → Leads (IsPiece t) (length first) (IsLost t) A first B → went a m first → Steps went failures m z answer (IsPiece t) k (IsLost t) B C → Anew went failures a z answer t A C first
-anew_then went failures laws a m z answer t A B C first k le h sent steps =
+pub anew_then : {W T E : Type 0} (went : W → W → List ℕ → Type 0) (failures : W → ℕ) → IsWire went failures → (a m z : W) (answer : Result T E) (t : Table) (limit : ℕ) (A B C : State → Type 0) (first : List ℕ) (k : ℕ) → length first + k ≤ limit
+    → Leads (IsPiece t) (length first) (IsLost t) A first B → went a m first → Steps went failures m z answer (IsPiece t) k (IsLost t) B C → Anew went failures a z answer t limit A C first
+anew_then went failures laws a m z answer t limit A B C first k le h sent steps =
     let D : State → Type 0 = then_kind answer C (IsLost t) in
     record {
       step = record {
         bytes = first ++ steps.bytes;
-        leads = leads_wider (IsPiece t) (length first + k) (fresh_limit t) (IsLost t) A D A D (first ++ steps.bytes) le (λ s x. x) (λ s x. x)
+        leads = leads_wider (IsPiece t) (length first + k) limit (IsLost t) A D A D (first ++ steps.bytes) le (λ s x. x) (λ s x. x)
             (leads_then (IsPiece t) (length first) k (IsLost t) A B D first steps.bytes h steps.leads);
         sends = sends_then went failures laws a m z first steps.bytes answer sent steps.sends;
       };
@@ -89,7 +89,7 @@ pub clear_leads : (t : Table) → IsChecked t → (line : List ℕ) → t.line_o
 clear_leads t checked line is g b = line_leads t checked Clear line is (length line) (omega arith) g (cleared b.brush.background) b (record b { place = Some (record { row = 0; col = 0 }) }) (all_cleared t g b)
 
 pub draws_fresh : {W T E : Type 0} (went : W → W → List ℕ → Type 0) (failures : W → ℕ) (a z : W) (answer : Result T E) (t : Table) (shown g : ℕ → ℕ → Ink) (w : Wanted) (status : Status) (b after : Belief) → status ≡ Fresh
-    → Anew went failures a z answer t (IsLeft t (Some Normal)) (Agrees t g after) t.resync → OnOk answer (IsPlaced w.cursor after.place) → OnOk answer (after.mode ≡ Some w.mode) → Draws went failures a z answer t shown g w status b after
+    → Anew went failures a z answer t (fresh_limit t) (IsLeft t (Some Normal)) (Agrees t g after) t.resync → OnOk answer (IsPlaced w.cursor after.place) → OnOk answer (after.mode ≡ Some w.mode) → Draws went failures a z answer t shown g w status b after
 draws_fresh went failures a z answer t shown g w status b after e h there mode =
     let D : State → Type 0 = then_kind answer (Agrees t g after) (IsLost t) in
     let P : Status → Type 0 = λ x. Draws went failures a z answer t shown g w x b after in
@@ -101,7 +101,7 @@ draws_fresh went failures a z answer t shown g w status b after e h there mode =
     })
 
 pub draws_lost : {W T E : Type 0} (went : W → W → List ℕ → Type 0) (failures : W → ℕ) (a z : W) (answer : Result T E) (t : Table) (shown g : ℕ → ℕ → Ink) (w : Wanted) (status : Status) (b after : Belief) → status ≡ Lost
-    → Anew went failures a z answer t (IsLeft t None) (Agrees t g after) t.resync → OnOk answer (IsPlaced w.cursor after.place) → OnOk answer (after.mode ≡ Some w.mode) → Draws went failures a z answer t shown g w status b after
+    → Anew went failures a z answer t (fresh_limit t) (IsLeft t None) (Agrees t g after) t.resync → OnOk answer (IsPlaced w.cursor after.place) → OnOk answer (after.mode ≡ Some w.mode) → Draws went failures a z answer t shown g w status b after
 draws_lost went failures a z answer t shown g w status b after e h there mode =
     let D : State → Type 0 = then_kind answer (Agrees t g after) (IsLost t) in
     let P : Status → Type 0 = λ x. Draws went failures a z answer t shown g w x b after in
@@ -124,9 +124,15 @@ draws_known went failures a z answer t shown g w status b after e f h there mode
     subst P (sym e) (subst Q (sym (as_wanted w false f)) (record { step = h; begins = tt; there = there; mode = mode }))
 
 pub draws_clear : {W T E : Type 0} (went : W → W → List ℕ → Type 0) (failures : W → ℕ) (a z : W) (answer : Result T E) (t : Table) (shown g : ℕ → ℕ → Ink) (w : Wanted) (status : Status) (b after : Belief) → status ≡ Known → w.clear ≡ true
-    → (line : List ℕ) → t.line_of Clear ≡ Some line → Anew went failures a z answer t (Agrees t shown b) (Agrees t g after) line
+    → (line : List ℕ) → t.line_of Clear ≡ Some line → (n : ℕ) → n ≤ fresh_limit t → Anew went failures a z answer t n (Agrees t shown b) (Agrees t g after) line
     → OnOk answer (IsPlaced w.cursor after.place) → OnOk answer (after.mode ≡ Some w.mode) → Draws went failures a z answer t shown g w status b after
-draws_clear went failures a z answer t shown g w status b after e f line is h there mode =
+draws_clear went failures a z answer t shown g w status b after e f line is n le h there mode =
     let P : Status → Type 0 = λ x. Draws went failures a z answer t shown g w x b after in
     let Q : Wanted → Type 0 = λ x. Draws went failures a z answer t shown g x Known b after in
-    subst P (sym e) (subst Q (sym (as_wanted w true f)) (record { step = h.step; begins = record { line = line; is = is; begins = h.begins }; there = there; mode = mode }))
+    let D : State → Type 0 = then_kind answer (Agrees t g after) (IsLost t) in
+    subst P (sym e) (subst Q (sym (as_wanted w true f)) (record {
+      step = record { bytes = h.step.bytes; leads = leads_wider (IsPiece t) n (fresh_limit t) (IsLost t) (Agrees t shown b) D (Agrees t shown b) D h.step.bytes le (λ s x. x) (λ s x. x) h.step.leads; sends = h.step.sends };
+      begins = record { line = line; is = is; begins = h.begins };
+      there = there;
+      mode = mode;
+    }))

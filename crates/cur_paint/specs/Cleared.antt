@@ -21,3 +21,7 @@ at_start mode = record { place = Some (record { row = 0; col = 0 }); brush = pla
 pub record IsLeft (t : Table) (mode : Option Mode) (s : State) : Type 0 where
   pub lost : IsLost t s
   pub seen : IsSeen mode s.screen.visible
+
+-- after `clear`: all that was believed, but for the cursor's place
+abbrev pub at_corner : Belief → Belief
+at_corner b = record b { place = Some (record { row = 0; col = 0 }) }

@@ -21,3 +21,8 @@ all_differ old new cols (suc n) = all_differ old new cols n + span old new n 0 c
 pub record IsSameOutside (old new : ℕ → ℕ → Ink) (i from end cols : ℕ) : Type 0 where
   pub before : (j : ℕ) → j < from → old i j ≡ new i j
   pub after : (j : ℕ) → end ≤ j → j < cols → old i j ≡ new i j
+
+-- (Serves the code alone.) a place that differs, and has that character in the set and the brush of another place of its line
+pub record IsLike (old new : ℕ → ℕ → Ink) (i like j byte : ℕ) : Type 0 where
+  pub cell : new i j ≡ record (new i like) { byte = byte }
+  pub changed : differs old new i j ≡ 1

@@ -77,9 +77,9 @@ pub record Draws {W T E : Type 0} (went : W → W → List ℕ → Type 0) (fail
   pub there : OnOk answer (IsPlaced w.cursor after.place)
   pub mode : OnOk answer (after.mode ≡ Some w.mode)
 
--- the same from one kind of states, with what it begins with
-pub record Anew {W T E : Type 0} (went : W → W → List ℕ → Type 0) (failures : W → ℕ) (old new : W) (answer : Result T E) (t : Table) (before after : State → Type 0) (first : List ℕ) : Type 0 where
-  pub step : Steps went failures old new answer (IsPiece t) (fresh_limit t) (IsLost t) before after
+-- the same from one kind of states, with the most that goes out and what it begins with
+pub record Anew {W T E : Type 0} (went : W → W → List ℕ → Type 0) (failures : W → ℕ) (old new : W) (answer : Result T E) (t : Table) (limit : ℕ) (before after : State → Type 0) (first : List ℕ) : Type 0 where
+  pub step : Steps went failures old new answer (IsPiece t) limit (IsLost t) before after
   pub begins : BeginsWith first step.bytes
 
 -- A refresh that was done: every state that fits before, run over what went out, shows the screen and fits after. The bytes are lawful

@@ -3,6 +3,7 @@
 
 mod bells;
 mod changes;
+mod clearing;
 mod endings;
 mod laws;
 mod painting;

@@ -8,8 +8,7 @@ ghost use Rattle.cur_paint.specs.Differ.{span};
 
 use crate::rows::{differs_in, mend_span};
 use cur_looks::{
-    Belief, Certificate, Erasure, Ink, Place, View, erase_at, erase_from, erasing_line, is_same,
-    line_bytes,
+    Belief, Certificate, Erasure, Ink, Place, View, erase_at, erase_from, erasing_line, line_bytes,
 };
 use cur_wires::{Wire, WireFault};
 
@@ -68,11 +67,10 @@ fn run_at<O: View, N: View>(old: &O, new: &N, row: usize, from: usize, count: us
         differing: 0,
     };
     while run.len < count {
-        let cell = new.at(row, from + run.len);
-        if !is_same(cell, Ink::blank()) {
+        if !new.shows(row, from + run.len, Ink::blank()) {
             return run;
         }
-        if is_same(old.at(row, from + run.len), cell) {
+        if old.shows(row, from + run.len, Ink::blank()) {
             run.len += 1;
         } else {
             run = with_different(run);
@@ -111,7 +109,7 @@ pub(crate) fn are_blank<N: View>(new: &N, row: usize, from: usize, end: usize) -
     ensures { result ≡ true → (k : ℕ) → from ≤ k → k < end → N.cells new.now row k ≡ blank_ink }
 {
     for col in from..end {
-        if !is_same(new.at(row, col), Ink::blank()) {
+        if !new.shows(row, col, Ink::blank()) {
             return false;
         }
     }

@@ -1,20 +1,24 @@
 //! What differs between two screens, mended cell by cell and line by line.
-ghost use Rattle.std.specs.Prelude.{◌≡◌, ◌+◌, ◌-◌, ◌*◌, ◌<◌, ◌≤◌, ℕ, true, Some, OnOk, IfSome};
+ghost use Rattle.std.specs.Prelude.{◌≡◌, ◌+◌, ◌-◌, ◌*◌, ◌<◌, ◌≤◌, ℕ, true, Some, OnOk, IfSome, length, slice_index_or};
 ghost use Rattle.cur_steps.specs.Steps.{Steps};
 ghost use Rattle.ti_rows.specs.declared.rows.Row.TheVariants.{El, Ed};
 ghost use Rattle.cur_looks.specs.Certified.{IsPiece, IsLost, cell_limit};
 ghost use Rattle.cur_looks.specs.Inks.{CanShow, mixed, blank_ink};
 ghost use Rattle.cur_looks.specs.Beliefs.{Agrees};
+ghost use Rattle.cur_looks.specs.Gaps.{IsAlike};
 ghost use Rattle.cur_paint.specs.Blanks.{IsBlankFrom};
-ghost use Rattle.cur_paint.specs.Differ.{differs, span, all_differ, IsSameOutside};
+ghost use Rattle.cur_paint.specs.Differ.{differs, span, all_differ, IsSameOutside, IsLike};
 
 use crate::changes::{Changes, Columns};
 use crate::parts::{are_blank, mend_cells};
 use cur_looks::{
-    Belief, Certificate, Erasure, Ink, Row, View, blank_tail, erase_from, erasing_line, is_same,
-    put_cell,
+    Belief, Certificate, Erasure, Ink, Row, View, blank_tail, erase_from, erasing_line, goes_on,
+    print_text, put_cell,
 };
 use cur_wires::{Wire, WireFault};
+
+/// So many characters at most go out in one piece after the first one.
+const TEXT: usize = 64;
 
 /// One cell, where it differs.
 fn mend_cell<C: Certificate, O: View, N: View, W: Wire>(
@@ -41,8 +45,8 @@ fn mend_cell<C: Certificate, O: View, N: View, W: Wire>(
     put_cell(checked, belief, wire, new, row, col, cell)
 }
 
-/// So many cells of a line from a column on.
-pub(crate) fn mend_span<C: Certificate, O: View, N: View, W: Wire>(
+/// So many cells of a line from a column on, one by one.
+fn mend_each<C: Certificate, O: View, N: View, W: Wire>(
     checked: &C,
     belief: &mut Belief,
     wire: &mut W,
@@ -66,6 +70,133 @@ pub(crate) fn mend_span<C: Certificate, O: View, N: View, W: Wire>(
     Ok(())
 }
 
+/// How many cells of a line from a column on differ, and are known to be printed in the set and the brush of another place of
+/// the line; no more than the text has room for. It gets their characters.
+fn like_cells<O: View, N: View>(
+    old: &O,
+    new: &N,
+    row: usize,
+    from: usize,
+    count: usize,
+    like: usize,
+    text: &mut [u8],
+) -> usize
+    requires { from + count ≤ 1000 }
+    ensures within { result ≤ count }
+    ensures room { result ≤ length text.new }
+    ensures cells { (k : ℕ) → k < result → IsLike (O.cells old.now) (N.cells new.now) row like (from + k) (slice_index_or text.new k 0) }
+{
+    let first = new.at(row, like);
+    let mut n = 0;
+    while n < count && n < text.len() {
+        let Some(byte) = new.byte_like(row, from + n, like) else {
+            return n;
+        };
+        if old.shows(row, from + n, Ink { byte, ..first }) {
+            return n;
+        }
+        text[n] = byte;
+        n += 1;
+    }
+    n
+}
+
+/// A cell where it differs, and so many after it, which all do: these in one piece where the terminal is known to print them so.
+fn mend_text<C: Certificate, O: View, N: View, W: Wire>(
+    checked: &C,
+    belief: &mut Belief,
+    wire: &mut W,
+    old: &O,
+    new: &N,
+    row: usize,
+    from: usize,
+    text: &[u8],
+    more: usize,
+) -> Result<(), WireFault>
+    requires drawable { CanShow (C.table checked.now) (N.cells new.now) }
+    requires row { row < (C.table checked.now).rows }
+    requires col { from + 1 + more ≤ (C.table checked.now).cols }
+    requires long { more ≤ length text.now }
+    requires cells { (k : ℕ) → k < more → IsLike (O.cells old.now) (N.cells new.now) row from (from + 1 + k) (slice_index_or text.now k 0) }
+    ensures idle { OnOk result (span (O.cells old.now) (N.cells new.now) row from (1 + more) ≡ 0 → belief.new ≡ belief.old) }
+    ensures step { Steps W.went W.failures wire.old wire.new result (IsPiece (C.table checked.now)) (span (O.cells old.now) (N.cells new.now) row from (1 + more) * cell_limit (C.table checked.now))
+        (IsLost (C.table checked.now)) (Agrees (C.table checked.now) (mixed (O.cells old.now) (N.cells new.now) row from) belief.old) (Agrees (C.table checked.now) (mixed (O.cells old.now) (N.cells new.now) row (from + (1 + more))) belief.new) }
+{
+    mend_cell(checked, belief, wire, old, new, row, from)?;
+    mend_more(checked, belief, wire, old, new, row, from, text, more)
+}
+
+/// Whether there are some characters, and the first of them is known to go to a place and to be printed like this.
+fn is_led_on(belief: &Belief, row: usize, col: usize, ink: Ink, count: usize) -> bool
+    ensures some { result ≡ true → 0 < count }
+    ensures place { result ≡ true → belief.now.place ≡ Some (record { row = row; col = col }) }
+    ensures alike { result ≡ true → IsAlike belief.now ink }
+{
+    count > 0 && goes_on(belief, row, col, ink)
+}
+
+/// The cells after one, in one piece or one by one.
+fn mend_more<C: Certificate, O: View, N: View, W: Wire>(
+    checked: &C,
+    belief: &mut Belief,
+    wire: &mut W,
+    old: &O,
+    new: &N,
+    row: usize,
+    from: usize,
+    text: &[u8],
+    more: usize,
+) -> Result<(), WireFault>
+    requires drawable { CanShow (C.table checked.now) (N.cells new.now) }
+    requires row { row < (C.table checked.now).rows }
+    requires col { from + 1 + more ≤ (C.table checked.now).cols }
+    requires long { more ≤ length text.now }
+    requires cells { (k : ℕ) → k < more → IsLike (O.cells old.now) (N.cells new.now) row from (from + 1 + k) (slice_index_or text.now k 0) }
+    ensures idle { OnOk result (span (O.cells old.now) (N.cells new.now) row (from + 1) more ≡ 0 → belief.new ≡ belief.old) }
+    ensures step { Steps W.went W.failures wire.old wire.new result (IsPiece (C.table checked.now)) (span (O.cells old.now) (N.cells new.now) row (from + 1) more * cell_limit (C.table checked.now))
+        (IsLost (C.table checked.now)) (Agrees (C.table checked.now) (mixed (O.cells old.now) (N.cells new.now) row (from + 1)) belief.old) (Agrees (C.table checked.now) (mixed (O.cells old.now) (N.cells new.now) row (from + 1 + more)) belief.new) }
+{
+    let _ = checked.rows();
+    let _ = checked.cols();
+    let first = new.at(row, from);
+    if is_led_on(belief, row, from + 1, first, more) {
+        return print_text(checked, belief, wire, new, row, from + 1, text, more);
+    }
+    mend_each(checked, belief, wire, old, new, row, from + 1, more)
+}
+
+/// So many cells of a line from a column on, those that are printed alike in one piece.
+pub(crate) fn mend_span<C: Certificate, O: View, N: View, W: Wire>(
+    checked: &C,
+    belief: &mut Belief,
+    wire: &mut W,
+    old: &O,
+    new: &N,
+    row: usize,
+    from: usize,
+    count: usize,
+) -> Result<(), WireFault>
+    requires drawable { CanShow (C.table checked.now) (N.cells new.now) }
+    requires row { row < (C.table checked.now).rows }
+    requires col { from + count ≤ (C.table checked.now).cols }
+    ensures idle { OnOk result (span (O.cells old.now) (N.cells new.now) row from count ≡ 0 → belief.new ≡ belief.old) }
+    ensures step { Steps W.went W.failures wire.old wire.new result (IsPiece (C.table checked.now)) (span (O.cells old.now) (N.cells new.now) row from count * cell_limit (C.table checked.now))
+        (IsLost (C.table checked.now)) (Agrees (C.table checked.now) (mixed (O.cells old.now) (N.cells new.now) row from) belief.old) (Agrees (C.table checked.now) (mixed (O.cells old.now) (N.cells new.now) row (from + count)) belief.new) }
+{
+    let _ = checked.rows();
+    let _ = checked.cols();
+    let mut text = [0; TEXT];
+    let mut done = 0;
+    while done < count {
+        let first = from + done;
+        let left = count - done - 1;
+        let more = like_cells(old, new, row, first + 1, left, first, &mut text);
+        mend_text(checked, belief, wire, old, new, row, first, &text, more)?;
+        done += 1 + more;
+    }
+    Ok(())
+}
+
 /// Whether any of these cells differs.
 pub(crate) fn differs_in<O: View, N: View>(
     old: &O,
@@ -78,7 +209,7 @@ pub(crate) fn differs_in<O: View, N: View>(
     ensures { result ≡ true → 0 < span (O.cells old.now) (N.cells new.now) row from count }
 {
     for n in 0..count {
-        if !is_same(old.at(row, from + n), new.at(row, from + n)) {
+        if !old.shows(row, from + n, new.at(row, from + n)) {
             return true;
         }
     }
@@ -92,7 +223,7 @@ fn blank_from<N: View>(new: &N, row: usize, cols: usize) -> usize
 {
     let mut col = cols;
     while col > 0 {
-        if !is_same(new.at(row, col - 1), Ink::blank()) {
+        if !new.shows(row, col - 1, Ink::blank()) {
             return col;
         }
         col -= 1;
@@ -107,7 +238,7 @@ fn tail_from<N: View>(new: &N, row: usize, columns: Columns, cols: usize) -> usi
     ensures within { result ≤ columns.end }
     ensures blank { result < columns.end → (k : ℕ) → result ≤ k → k < cols → N.cells new.now row k ≡ blank_ink }
 {
-    if columns.from == columns.end || !is_same(new.at(row, columns.end - 1), Ink::blank()) {
+    if columns.from == columns.end || !new.shows(row, columns.end - 1, Ink::blank()) {
         return columns.end;
     }
     let tail = blank_from(new, row, cols);
@@ -297,7 +428,60 @@ struct Bottom {
     solid: usize,
 }
 
-/// Where the screen is blank from a line's end on, and both that end and the next line may differ.
+/// How many bytes the end of a line that becomes blank takes.
+fn tail_bytes<C: Certificate>(checked: &C, count: usize) -> usize {
+    match short_tail(checked, count) {
+        Some(tail) => tail.len(),
+        None => count,
+    }
+}
+
+/// Whether it takes at least so many bytes to make lines blank one by one, those that differ from one on.
+fn lines_take<C: Certificate, O: View, N: View>(
+    checked: &C,
+    old: &O,
+    new: &N,
+    from: usize,
+    bytes: usize,
+) -> bool {
+    let rows = checked.rows();
+    let cols = checked.cols();
+    let line = tail_bytes(checked, cols).saturating_add(1);
+    let mut left = bytes;
+    for row in from..rows {
+        if differs_in(old, new, row, 0, cols) {
+            left = left.saturating_sub(line);
+        }
+        if left == 0 {
+            return true;
+        }
+    }
+    false
+}
+
+/// Whether erasing all from a place on takes no more bytes than line by line.
+fn rest_is_short<C: Certificate, O: View, N: View>(
+    checked: &C,
+    old: &O,
+    new: &N,
+    row: usize,
+    tail: usize,
+) -> bool
+    requires row { row < (C.table checked.now).rows }
+    requires tail { tail ≤ (C.table checked.now).cols }
+{
+    let _ = checked.rows();
+    let end = tail_bytes(checked, checked.cols() - tail);
+    match erasing_line(checked, Erasure::Rest) {
+        Some(rest) => {
+            rest.len() <= end || lines_take(checked, old, new, row + 1, rest.len() - end)
+        }
+        None => false,
+    }
+}
+
+/// Where the screen is blank from a line's end on, both that end and the next line may differ, and erasing all at once takes
+/// no more bytes.
 fn bottom_from<C: Certificate, O: View, N: View, D: Changes>(
     checked: &C,
     old: &O,
@@ -324,11 +508,14 @@ fn bottom_from<C: Certificate, O: View, N: View, D: Changes>(
     if solid < rows || !differs_in(old, new, row, tail, cols - tail) {
         return Bottom { col: cols, solid };
     }
+    if !rest_is_short(checked, old, new, row, tail) {
+        return Bottom { col: cols, solid };
+    }
     Bottom { col: tail, solid }
 }
 
 /// Whether a line is on the screen and may differ.
-fn may_differ<D: Changes>(changes: &D, row: usize, rows: usize, cols: usize) -> bool {
+pub(crate) fn may_differ<D: Changes>(changes: &D, row: usize, rows: usize, cols: usize) -> bool {
     if row >= rows {
         return false;
     }

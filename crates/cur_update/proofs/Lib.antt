@@ -1,2 +1,3 @@
 pub mod Inking
 pub mod Counting
+pub mod Liking

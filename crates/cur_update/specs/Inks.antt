@@ -1,6 +1,6 @@
 -- How a cell of the virtual screen is printed on a terminal (X/Open Curses Issue 7, "Attributes", "Color Manipulation";
 -- terminfo(5), "Line Graphics").
-use Rattle.std.specs.Prelude.{ℕ, ◌==◌, ◌&&◌, nat_lt, Bool, Option, Some, None, if◌then◌else◌, bit_and, slice_index_or}
+use Rattle.std.specs.Prelude.{ℕ, ◌≡◌, ◌==◌, ◌&&◌, nat_lt, Bool, false, Option, Some, None, if◌then◌else◌, bit_and, slice_index_or}
 use Rattle.vt_term.specs.Color.{Color, color}
 use Rattle.ti_rows.specs.declared.rows.Attributes.{Attributes}
 use Rattle.ti_rows.specs.declared.rows.Row.TheVariants.{Op, Smacs}
@@ -55,3 +55,10 @@ content_at v i j = slice_index_or (line_at v.grid i) j space
 -- the virtual screen as it is printed, and blanks around it
 abbrev pub ink_at : Table → (ℕ → Option ℕ) → Screen → ℕ → ℕ → Ink
 ink_at t partners v i j = if nat_lt i v.rows && nat_lt j v.cols then ink_of t partners (colors_at v (content_at v i j).pair) (content_at v i j) else blank_ink
+
+-- (Serves the code alone.) a cell of the plain set with this character, and the attributes and the pair of another one
+pub record IsPlainLike (c d : Content) (byte : ℕ) : Type 0 where
+  pub byte_is : byte ≡ c.byte
+  pub attrs : c.attrs ≡ d.attrs
+  pub pair : c.pair ≡ d.pair
+  pub plain : has_bit c.attrs 128 ≡ false

@@ -48,12 +48,15 @@ fn changed_columns(old: &[Cell], new: &[Cell]) -> Columns
     ensures before { AreEqualIn old.now new.now 0 result.from }
     ensures after { AreEqualIn old.now new.now result.end (length new.now) }
 {
-    match (first_diff(old, new), last_diff(old, new)) {
-        (Some(first), Some(last)) => Columns {
+    let Some(first) = first_diff(old, new) else {
+        return Columns { from: 0, end: 0 };
+    };
+    match last_diff(old, new) {
+        Some(last) => Columns {
             from: first,
             end: last + 1,
         },
-        _ => Columns { from: 0, end: 0 },
+        None => Columns { from: 0, end: 0 },
     }
 }
 

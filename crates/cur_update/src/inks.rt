@@ -1,5 +1,6 @@
 //! How cells of the virtual screen are printed.
-ghost use Rattle.std.specs.Prelude.{◌≡◌};
+ghost use Rattle.std.specs.Prelude.{◌≡◌, ◌<◌, IfSome, length, slice_index_or};
+ghost use Rattle.cur_drawing.specs.Cells.{space};
 ghost use Rattle.ti_rows.specs.declared.rows.Row.TheVariants.{Smacs, Op};
 ghost use Rattle.cur_looks.specs.Certified.{has};
 ghost use Rattle.cur_looks.specs.Inks.{same};
@@ -102,4 +103,22 @@ pub(crate) fn shows_ink<C: Certificate + Alternates>(
         return false;
     }
     is_same(ink_of(checked, colors, cell), ink)
+}
+
+/// The character of a cell of the plain set, if another cell has its attributes and its pair.
+pub(crate) fn plain_byte(cells: &[Cell], at: usize, like: usize) -> Option<u8>
+    requires at { at < length cells.now }
+    requires like { like < length cells.now }
+    ensures { IfSome result (spec.IsPlainLike (slice_index_or cells.now at space) (slice_index_or cells.now like space)) }
+{
+    let cell = cells[at];
+    let other = cells[like];
+    if cell.attrs().has(Attrs::ALTCHARSET) || cell.pair() != other.pair() {
+        return None;
+    }
+    if cell.attrs() == other.attrs() {
+        Some(cell.byte())
+    } else {
+        None
+    }
 }

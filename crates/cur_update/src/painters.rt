@@ -61,8 +61,8 @@ impl<'a, C: Certificate + Alternates> Painter<'a, C> {
     }
 
     /// Makes the terminal show the virtual screen, which is of the terminal's size, and then has a copy of
-    /// it. Only lines that aren't as in the copy are looked at, if no pair's colours changed. On
-    /// `WireFault` a front of lawful bytes went out, and the session is lost.
+    /// it. Only lines that aren't as in the copy are looked at, unless a pair's colours changed or much of
+    /// the screen becomes blank. On `WireFault` a front of lawful bytes went out, and the session is lost.
     pub fn update<W: Wire>(&mut self, screen: &Virtual, wire: &mut W) -> Result<(), WireFault>
         requires rows { (screen.now).rows ≡ (C.table self.old.checked).rows }
         requires cols { (screen.now).cols ≡ (C.table self.old.checked).cols }

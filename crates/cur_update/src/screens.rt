@@ -4,7 +4,7 @@ ghost use Rattle.cur_drawing.specs.Cells.{IsCell};
 ghost use Rattle.cur_update.specs.Inks.{content_at, ink_at};
 
 use crate::alternates::Alternates;
-use crate::inks::{ink_of, shows_ink};
+use crate::inks::{ink_of, plain_byte, shows_ink};
 use cur_looks::{Certificate, Ink, View, is_same};
 use cur_windows::Virtual;
 
@@ -38,6 +38,15 @@ impl<'a, C: Certificate + Alternates> View for PrintedScreen<'a, C> {
         }
         let cell = self.screen.row(row as u16)[col];
         shows_ink(self.checked, self.screen.pair(cell.pair()), cell, ink)
+    }
+
+    fn byte_like(&self, row: usize, col: usize, like: usize) -> Option<u8> {
+        let (rows, cols) = self.screen.size();
+        if row >= rows as usize || col >= cols as usize || like >= cols as usize {
+            return None;
+        }
+        let cells = self.screen.row(row as u16);
+        plain_byte(cells, col, like)
     }
 }
 

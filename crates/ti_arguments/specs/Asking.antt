@@ -11,6 +11,7 @@ use Rattle.ti_arguments.specs.Line.{line}
 use Rattle.ti_arguments.specs.declared.parsing.Answer.{Answer}
 use Rattle.ti_arguments.specs.declared.parsing.Answer.TheVariants as answers
 use Rattle.ti_arguments.specs.declared.request.Request.{Request}
+use Rattle.ti_arguments.specs.declared.request.Scripted.{Scripted}
 use Rattle.ti_arguments.specs.declared.request.Request.TheVariants.{Expand, Feed, Tic, Check, Verify, Play, Show, Survey, Print, Common, Neither}
 
 -- the word that stands for an argument, if it has one
@@ -30,6 +31,12 @@ abbrev pub IsInfocmp : Text → List Row → Bool → Bool → List Text → Typ
 IsInfocmp name rows common neither entries =
     (name ≡ codes "infocmp") × (is_on (codes "c") rows ≡ common) × (is_on (codes "n") rows ≡ neither) × (words_of (codes "ENTRY") rows ≡ entries)
 
+-- the words of a run of a script
+abbrev pub Plays : List Row → Scripted → Type 0
+Plays rows words =
+    (words.entry.now ≡ word_of (codes "ENTRY") rows) × (words.rows.now ≡ word_of (codes "ROWS") rows) × (words.cols.now ≡ word_of (codes "COLS") rows)
+    × (words.certificate.now ≡ word_of (codes "CERT") rows) × (words.script.now ≡ word_of (codes "SCRIPT") rows)
+
 -- the request of a command of this name with these words for its arguments
 abbrev pub AsksFor : Text → List Row → Request → Type 0
 AsksFor name rows (Expand cup string height width params) =
@@ -44,12 +51,8 @@ AsksFor name rows (Check entry height width out) =
 AsksFor name rows (Verify entry height width certificate) =
     (name ≡ codes "verify") × (entry.now ≡ word_of (codes "ENTRY") rows) × (height.now ≡ word_of (codes "ROWS") rows) × (width.now ≡ word_of (codes "COLS") rows)
     × (certificate.now ≡ word_of (codes "CERT") rows)
-AsksFor name rows (Play entry height width certificate script) =
-    (name ≡ codes "play") × (entry.now ≡ word_of (codes "ENTRY") rows) × (height.now ≡ word_of (codes "ROWS") rows) × (width.now ≡ word_of (codes "COLS") rows)
-    × (certificate.now ≡ word_of (codes "CERT") rows) × (script.now ≡ word_of (codes "SCRIPT") rows)
-AsksFor name rows (Show entry height width certificate script) =
-    (name ≡ codes "show") × (entry.now ≡ word_of (codes "ENTRY") rows) × (height.now ≡ word_of (codes "ROWS") rows) × (width.now ≡ word_of (codes "COLS") rows)
-    × (certificate.now ≡ word_of (codes "CERT") rows) × (script.now ≡ word_of (codes "SCRIPT") rows)
+AsksFor name rows (Play words) = (name ≡ codes "play") × Plays rows words
+AsksFor name rows (Show words) = (name ≡ codes "show") × Plays rows words
 AsksFor name rows (Survey height width files) =
     (name ≡ codes "survey") × (height.now ≡ word_of (codes "ROWS") rows) × (width.now ≡ word_of (codes "COLS") rows) × (map (λ f. f.now) files.items ≡ words_of (codes "FILE") rows)
 AsksFor name rows (Print entry) = IsInfocmp name rows false false (entry.now ∷ [])

@@ -4,10 +4,10 @@ ghost use Rattle.std.specs.Prelude.{◌≡◌, IfOk, codes, map, option_map};
 ghost use Rattle.std.specs.String.{string_bytes};
 ghost use Rattle.clap.specs.Walk.{first_of, rows_of};
 ghost use Rattle.clap.specs.Words.{found_of, kind_of, subcommand_rows_of};
-ghost use Rattle.ti_arguments.specs.Asking.{Asks, AsksFor, IsAnswer, IsTold, is_on, word_of, words_of};
+ghost use Rattle.ti_arguments.specs.Asking.{Asks, AsksFor, IsAnswer, IsTold, Plays, is_on, word_of, words_of};
 
 use crate::commands::command_line;
-use crate::request::Request;
+use crate::request::{Request, Scripted};
 use clap::ArgMatches;
 use clap::error::{Error, ErrorKind};
 use std::alloc::{AllocError, Global};
@@ -74,8 +74,8 @@ fn request_of<'a>(alloc: Global, matches: &ArgMatches<'a>) -> Result<Request<'a>
         Some(("infocmp", words)) => infocmp_request(alloc, words),
         Some(("check", words)) => Ok(check_request(words)),
         Some(("verify", words)) => Ok(verify_request(words)),
-        Some(("play", words)) => Ok(play_request(words)),
-        Some(("show", words)) => Ok(show_request(words)),
+        Some(("play", words)) => Ok(Request::Play(scripted(words))),
+        Some(("show", words)) => Ok(Request::Show(scripted(words))),
         Some(("survey", words)) => Ok(survey_request(alloc, words)?),
         _ => Err(LineFault::Usage(String::new(alloc))),
     }
@@ -136,22 +136,11 @@ fn verify_request<'a>(words: &ArgMatches<'a>) -> Request<'a>
     }
 }
 
-fn play_request<'a>(words: &ArgMatches<'a>) -> Request<'a>
-    ensures { AsksFor (codes "play") (rows_of (found_of words.now)) result }
+/// The words of `play` and `show`.
+fn scripted<'a>(words: &ArgMatches<'a>) -> Scripted<'a>
+    ensures { Plays (rows_of (found_of words.now)) result }
 {
-    Request::Play {
-        entry: word(words, "ENTRY"),
-        rows: word(words, "ROWS"),
-        cols: word(words, "COLS"),
-        certificate: word(words, "CERT"),
-        script: word(words, "SCRIPT"),
-    }
-}
-
-fn show_request<'a>(words: &ArgMatches<'a>) -> Request<'a>
-    ensures { AsksFor (codes "show") (rows_of (found_of words.now)) result }
-{
-    Request::Show {
+    Scripted {
         entry: word(words, "ENTRY"),
         rows: word(words, "ROWS"),
         cols: word(words, "COLS"),
@@ -164,11 +153,11 @@ fn show_request<'a>(words: &ArgMatches<'a>) -> Request<'a>
 fn survey_request<'a>(alloc: Global, words: &ArgMatches<'a>) -> Result<Request<'a>, AllocError>
     ensures { IfOk result (λ request. AsksFor (codes "survey") (rows_of (found_of words.now)) request) }
 {
-    let files = words.get_strs("FILE").unwrap_or(&[]);
+    let paths = words.get_strs("FILE").unwrap_or(&[]);
     Ok(Request::Survey {
         rows: word(words, "ROWS"),
         cols: word(words, "COLS"),
-        files: Vec::from_slice(alloc, files)?,
+        paths: Vec::from_slice(alloc, paths)?,
     })
 }
 

@@ -1,5 +1,20 @@
 //! What a command line can ask for: one variant for each command, with its words.
 
+/// The words of a command that plays a script.
+#[derive(Debug, Drop)]
+pub struct Scripted<'a> {
+    /// The entry.
+    pub entry: &'a str,
+    /// The terminal's rows.
+    pub rows: &'a str,
+    /// The terminal's columns.
+    pub cols: &'a str,
+    /// The path of the certificate.
+    pub certificate: &'a str,
+    /// The path of the script.
+    pub script: &'a str,
+}
+
 /// A command and its words. What a word means (a number, a path, an entry) is the command's own matter.
 #[derive(Debug, Drop)]
 pub enum Request<'a> {
@@ -55,31 +70,9 @@ pub enum Request<'a> {
         certificate: &'a str,
     },
     /// `play ENTRY ROWS COLS CERT SCRIPT`: play a script of curses calls.
-    Play {
-        /// The entry.
-        entry: &'a str,
-        /// The terminal's rows.
-        rows: &'a str,
-        /// The terminal's columns.
-        cols: &'a str,
-        /// The path of the certificate.
-        certificate: &'a str,
-        /// The path of the script.
-        script: &'a str,
-    },
+    Play(Scripted<'a>),
     /// `show ENTRY ROWS COLS CERT SCRIPT`: show the screen that a script of curses calls leaves.
-    Show {
-        /// The entry.
-        entry: &'a str,
-        /// The terminal's rows.
-        rows: &'a str,
-        /// The terminal's columns.
-        cols: &'a str,
-        /// The path of the certificate.
-        certificate: &'a str,
-        /// The path of the script.
-        script: &'a str,
-    },
+    Show(Scripted<'a>),
     /// `survey ROWS COLS FILE..`: check all entries of some files.
     Survey {
         /// The terminal's rows.
@@ -87,7 +80,7 @@ pub enum Request<'a> {
         /// The terminal's columns.
         cols: &'a str,
         /// The paths of the files.
-        files: Vec<&'a str>,
+        paths: Vec<&'a str>,
     },
     /// `infocmp ENTRY`: print an entry.
     Print {

@@ -176,12 +176,21 @@ later_last p text answer e h = λ pairs lines st pa. becomes_by p answer (Judges
 pub last_refused : (p : Progress) (text : List ℕ) (kind : CertFaultKind) → is_end text ≡ true → OrNoMemory kind (AnswersLast p) → OrNoMemory kind (AnswersLater p text)
 last_refused p text kind e h = or_by kind (AnswersLast p) (AnswersLater p text) (λ r a. later_last p text r e a) h
 
-pub later_row : (p : Progress) (text : List ℕ) (line : RowLine) (answer : Result Progress CertFaultKind) → is_end text ≡ false → IsTextOf text line → AnswersRow p line answer → AnswersLater p text answer
-later_row p text line answer e is h = λ pairs lines st pa. becomes_by p answer (JudgesRow p.size.rows p.size.cols lines line (Listing pairs (line ∷ lines))) (JudgesLater p.size.rows p.size.cols pairs lines text)
-    (λ r j. IsRow e line is j) (h pairs lines st pa)
+-- where a line's bytes are read counts for nothing
+reroomed : (p : Progress) (room : List ℕ) (lines : List RowLine) → Stands p lines → Stands (record p { room = room }) lines
+reroomed p room lines st = record { rows = st.rows; cols = st.cols; holds = st.holds; lists = st.lists; place = st.place }
 
-pub row_refused : (p : Progress) (text : List ℕ) (line : RowLine) (kind : CertFaultKind) → is_end text ≡ false → IsTextOf text line → OrNoMemory kind (AnswersRow p line) → OrNoMemory kind (AnswersLater p text)
-row_refused p text line kind e is h = or_by kind (AnswersRow p line) (AnswersLater p text) (λ r a. later_row p text line r e is a) h
+pub later_row : (p : Progress) (room text : List ℕ) (line : RowLine) (answer : Result Progress CertFaultKind) → is_end text ≡ false → IsTextOf text line → AnswersRow (record p { room = room }) line answer → AnswersLater p text answer
+later_row p room text line answer e is h = λ pairs lines st pa. becomes_by p answer (JudgesRow p.size.rows p.size.cols lines line (Listing pairs (line ∷ lines))) (JudgesLater p.size.rows p.size.cols pairs lines text)
+    (λ r j. IsRow e line is j) (onto pairs lines answer (h pairs lines (reroomed p room lines st) pa))
+  where
+    onto : (pairs : Option (List ℕ)) (lines : List RowLine) (a : Result Progress CertFaultKind) → Becomes (record p { room = room }) a (JudgesRow p.size.rows p.size.cols lines line (Listing pairs (line ∷ lines)))
+        → Becomes p a (JudgesRow p.size.rows p.size.cols lines line (Listing pairs (line ∷ lines)))
+    onto pairs lines (Ok q) s = s
+    onto pairs lines (Err kind) j = j
+
+pub row_refused : (p : Progress) (room text : List ℕ) (line : RowLine) (kind : CertFaultKind) → is_end text ≡ false → IsTextOf text line → OrNoMemory kind (AnswersRow (record p { room = room }) line) → OrNoMemory kind (AnswersLater p text)
+row_refused p room text line kind e is h = or_by kind (AnswersRow (record p { room = room }) line) (AnswersLater p text) (λ r a. later_row p room text line r e is a) h
 
 pub later_none : (p : Progress) (text : List ℕ) (kind : CertFaultKind) → is_end text ≡ false → ((line : RowLine) → IsTextOf text line → ⊥) → IsMisplacedBy text kind → OrNoMemory kind (AnswersLater p text)
 later_none p text kind e none (HasPairs bytes is k) = inl (λ pairs lines st pa. IsMisplaced e none bytes is (ap (λ (x : CertFaultKind). refusal x) k))
@@ -381,9 +390,9 @@ last_more rows cols lines line i = record {
 -- a line that is right, and what is known with it
 pub row_stands : (p : Progress) (line : RowLine) (tokens : List (List ℕ)) (effect : Effect) (looks : Looks) (new : Known) → fault_in_place p line.row ≡ None → Splits line.bytes tokens []
     → HasRecord p.known.strings.rows p.known.strings.cols looks line.row tokens effect → effect ≡ line.effect → looks ≡ looks_with p.known line.row effect
-    → Adds p.known.strings new.strings line.row line.bytes → new.looks ≡ looks → (Holds p.known → Holds new) → (last : Option Row) → last ≡ Some line.row → (read : List ℕ)
-    → AnswersRow p line (Ok (record { size = p.size; known = new; acsc = p.acsc; place = record { last = last }; awaited = lines_awaited.Rows; scanner = read }))
-row_stands p line tokens effect looks new none splits has same looks_are adds new_looks holds last last_is read = λ pairs lines st pa. record {
+    → Adds p.known.strings new.strings line.row line.bytes → new.looks ≡ looks → (Holds p.known → Holds new) → (last : Option Row) → last ≡ Some line.row → (read room : List ℕ)
+    → AnswersRow p line (Ok (record { size = p.size; known = new; acsc = p.acsc; place = record { last = last }; awaited = lines_awaited.Rows; scanner = read; room = room }))
+row_stands p line tokens effect looks new none splits has same looks_are adds new_looks holds last last_is read room = λ pairs lines st pa. record {
   after = Listing pairs (line ∷ lines);
   judges = RowStands (in_place p lines line.row st none) (record { tokens = tokens; splits = splits; recorded = recorded_as p lines line tokens (Some line.effect) st (has.recorded ∙ ap (λ (e : Effect). Some e) same) })
       (asked_as lines st) refl;
@@ -423,14 +432,14 @@ row_misshows_at p line kind q k bytes tokens is ek same h splits m = row_misshow
 
 pub row_stands_at : (p : Progress) (line : RowLine) (q : Progress) (k : Known) (bytes : List ℕ) (tokens : List (List ℕ)) (effect : Effect) (looks : Looks) (new : Known) → q ≡ p → k ≡ p.known → bytes ≡ line.bytes → fault_in_place q line.row ≡ None
     → Splits bytes tokens [] → HasRecord k.strings.rows k.strings.cols looks line.row tokens effect → effect ≡ line.effect → looks ≡ looks_with k line.row effect
-    → Adds k.strings new.strings line.row bytes → new.looks ≡ looks → (Holds k → Holds new) → (last : Option Row) → last ≡ Some line.row → (read : List ℕ)
-    → AnswersRow p line (Ok (record { size = q.size; known = new; acsc = q.acsc; place = record { last = last }; awaited = lines_awaited.Rows; scanner = read }))
-row_stands_at p line q k bytes tokens effect looks new is ek same h splits has stated looks_are adds new_looks holds last last_is read = subst (λ (x : Progress). AnswersRow p line (Ok (record { size = x.size; known = new; acsc = x.acsc; place = record { last = last }; awaited = lines_awaited.Rows; scanner = read }))) (sym is)
+    → Adds k.strings new.strings line.row bytes → new.looks ≡ looks → (Holds k → Holds new) → (last : Option Row) → last ≡ Some line.row → (read room : List ℕ)
+    → AnswersRow p line (Ok (record { size = q.size; known = new; acsc = q.acsc; place = record { last = last }; awaited = lines_awaited.Rows; scanner = read; room = room }))
+row_stands_at p line q k bytes tokens effect looks new is ek same h splits has stated looks_are adds new_looks holds last last_is read room = subst (λ (x : Progress). AnswersRow p line (Ok (record { size = x.size; known = new; acsc = x.acsc; place = record { last = last }; awaited = lines_awaited.Rows; scanner = read; room = room }))) (sym is)
     (row_stands p line tokens effect looks new (in_place_at p line.row q is h)
     (subst (λ (b : List ℕ). Splits b tokens []) same splits) (subst (λ (x : Known). HasRecord x.strings.rows x.strings.cols looks line.row tokens effect) ek has) stated
     (subst (λ (x : Known). looks ≡ looks_with x line.row effect) ek looks_are)
     (subst (λ (b : List ℕ). Adds p.known.strings new.strings line.row b) same (subst (λ (x : Known). Adds x.strings new.strings line.row bytes) ek adds)) new_looks
-    (subst (λ (x : Known). Holds x → Holds new) ek holds) last last_is read)
+    (subst (λ (x : Known). Holds x → Holds new) ek holds) last last_is read room)
 
 -- the beginning and the end
 

@@ -1,14 +1,12 @@
 -- A text that is accepted with just the lines of a basic entry is its basic text.
-use Rattle.std.proofs.Common.{◌≡◌, ℕ, List, [], ◌∷◌, map, reverse, Option, Some, None, Result, Ok, inl, inr, refl, sym, ap, subst, ◌∙◌}
+use Rattle.std.proofs.Common.{◌≡◌, ℕ, List, [], ◌∷◌, map, reverse, None, Result, Ok, inl, inr, refl, sym, ap, subst, ◌∙◌}
 use Rattle.std.proofs.lemmas.Bool.{and_parts}
 use Rattle.std.proofs.lemmas.List.{reverse-reverse}
 use Rattle.std.proofs.lemmas.Option.{same_Some}
-use Rattle.vt_term.specs.Size.{IsSize}
 use Rattle.vt_term.specs.Text.{Splits}
 use Rattle.vt_term.proofs.Splitting.{one_splitting}
 use Rattle.vt_effects.specs.declared.effects.Effect.{Effect}
 use Rattle.vt_effects.specs.Record.{record_of}
-use Rattle.ti_caps.specs.Entry.{Content}
 use Rattle.ti_charsets.specs.Charsets.{IsAmong}
 use Rattle.ti_rows.specs.declared.rows.Row.{Row}
 use Rattle.ti_rows.specs.declared.rows.Row.TheVariants.{Home, El}
@@ -20,7 +18,7 @@ use Rattle.ti_sends.specs.Entries.{has_string, string_of}
 use Rattle.ti_cert.specs.Order.{Precedes, HasLine}
 use Rattle.ti_cert.specs.Certificates.{HasEffect}
 use Rattle.ti_cert.specs.Texts.{StandInOrder, IsCertificate}
-use Rattle.ti_cert.specs.Basic.{basic_bytes, basic_effect, basic_line, basic_rows, basic_text, IsBasic, AreSent, BasicAlone}
+use Rattle.ti_cert.specs.Basic.{basic_bytes, basic_effect, basic_line, basic_rows, basic_text, BasicAlone}
 use Rattle.ti_cert.proofs.Singleness.{never_itself, never_back}
 use Rattle.ti_cert.proofs.Spelling.{that_of_certificate}
 use Rattle.ti_cert.proofs.Keeping.{among_front, among_behind}

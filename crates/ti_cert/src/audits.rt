@@ -19,6 +19,7 @@ use crate::places::Place;
 use crate::table::Table;
 use crate::tokenizing::row_effect;
 use std::alloc::{AllocError, Global};
+use std::mem;
 use ti_caps::Bytes;
 use ti_charsets::Charsets;
 use ti_lines::{RowLine, is_end_line, read_acsc_line, read_row_line, read_size_line};
@@ -65,6 +66,8 @@ struct Progress {
     awaited: Awaited,
     /// Reads the bytes of lines.
     scanner: Scanner,
+    /// The bytes of the line before, whose memory those of the next take.
+    room: Bytes,
 }
 
 /// Whether this is the first line of a certificate for this size.
@@ -101,6 +104,7 @@ impl Progress {
             place: Place::new(),
             awaited: Awaited::First,
             scanner: Scanner::new(alloc)?,
+            room: Bytes::from_vec(Vec::new(alloc)),
         })
     }
 
@@ -143,7 +147,8 @@ impl Progress {
         if is_end_line(text) {
             return self.judge_end(alloc);
         }
-        match read_row_line(alloc, text)? {
+        let room = mem::replace(&mut self.room, Bytes::from_vec(Vec::new(alloc)));
+        match read_row_line(text, room.into_vec())? {
             Some(line) => self.judge_row(line),
             None => Err(misplaced(alloc, text)),
         }
@@ -163,6 +168,7 @@ impl Progress {
             .add(&mut self.scanner, row, bytes, &effect, looks)?;
         self.place = Place::after(row);
         self.awaited = Awaited::Rows;
+        self.room = line.bytes;
         Ok(())
     }
 

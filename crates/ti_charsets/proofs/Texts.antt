@@ -38,3 +38,7 @@ pub learned_all : (before : Reach) (text : List ℕ) (at : ℕ) (now : Reach) �
 learned_all before text at now r e tokens s =
     let same = one_splitting text r.tokens tokens [] [] (begins_all text r.tokens at r.begins e) s in
     r.is ∙ ap (λ (ts : List (List ℕ)). joined before (reach_of ts)) (sym same.0)
+
+-- a text that was read to its end is whole
+pub learned_whole : (before : Reach) (text : List ℕ) (at : ℕ) (now : Reach) → IsLearned before text at now → at ≡ length text → (tokens : List (List ℕ)) × Splits text tokens []
+learned_whole before text at now r e = (r.tokens, begins_all text r.tokens at r.begins e)

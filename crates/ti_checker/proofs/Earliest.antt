@@ -20,7 +20,7 @@ use Rattle.ti_cert.specs.Order.{Precedes, HasLine}
 use Rattle.ti_cert.proofs.BasicOrder.{among_either}
 use Rattle.ti_cert.proofs.Keeping.{among_front, among_behind}
 use Rattle.ti_checker.specs.No.{IsFaulty, HasFaulty, IsRowRefused, IsRowFault, IsSo, IsSoBy}
-use Rattle.ti_checker.specs.First.{SendsRight, RowStands, EachStands, IsOfRow, IsFirstRow, IsFirstBy, IsFirstTold, IsDrafted}
+use Rattle.ti_checker.specs.First.{SendsRight, RowStands, IsOfRow, IsFirstRow, IsFirstBy, IsFirstTold, IsDrafted}
 use Rattle.ti_checker.specs.Limit.{IsLineOf, AreLines, IsUpTo, PassesLimit, StaysWithin, IsLineFor, AddsLine, Overflows, front_with, most}
 use Rattle.ti_checker.specs.declared.causes.Cause.{Cause}
 use Rattle.ti_checker.specs.declared.causes.Cause.TheVariants.{FlagOut, Absent, AcsByte, Parm, StaticRead, Unfinished, Stuck, NotTame, BadLook, WrongEffect, NotShown, TooLong, NoResync, NoMemory}
@@ -97,7 +97,7 @@ one_more entry rows cols string row old new range checked there right adds short
 
 -- ---- the same rows, told in another way
 
-drafted_as : (entry : Content) (rows cols : ℕ) (P Q : Row → Type 0) (text : List ℕ) → ((row : Row) → IsInRange rows cols row → P row → Q row) → ((row : Row) → IsInRange rows cols row → is_checked entry row ≡ true → Q row → P row)
+pub drafted_as : (entry : Content) (rows cols : ℕ) (P Q : Row → Type 0) (text : List ℕ) → ((row : Row) → IsInRange rows cols row → P row → Q row) → ((row : Row) → IsInRange rows cols row → is_checked entry row ≡ true → Q row → P row)
     → IsDrafted entry rows cols P text → IsDrafted entry rows cols Q text
 drafted_as entry rows cols P Q text over back d = record {
   stand = λ row range q checked string there. d.stand row range (back row range checked q) checked string there;
@@ -293,6 +293,3 @@ first_told entry rows cols refusal f = told_by entry rows cols refusal refusal.c
 
 pub all_caps : (entry : Content) (rows cols n : ℕ) (text : List ℕ) → 42 ≤ n → IsDrafted entry rows cols (λ row. order row < n) text → IsDrafted entry rows cols (λ row. order row < 42) text
 all_caps entry rows cols n text all d = drafted_as entry rows cols (λ row. order row < n) (λ row. order row < 42) text (λ row range lt. orders_small row) (λ row range checked lt. omega (arith, lt, all)) d
-
-pub each_stands : (entry : Content) (rows cols : ℕ) (text : List ℕ) → IsDrafted entry rows cols (λ row. order row < 42) text → EachStands entry rows cols
-each_stands entry rows cols text d row range = d.stand row range (orders_small row)

@@ -3,6 +3,7 @@ pub mod Ordering
 pub mod Passing
 pub mod Beginning
 pub mod Earliest
+pub mod Fitting
 pub mod Together
 pub mod Settled
 pub mod Misjudging
@@ -11,6 +12,7 @@ pub mod Changing
 pub mod Adding
 pub mod Once
 pub mod Sent
+pub mod Quiet
 pub mod Excluding
 pub mod Certifying
 pub mod BasicCertificates

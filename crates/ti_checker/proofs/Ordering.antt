@@ -17,7 +17,7 @@ use Rattle.ti_checker.specs.Limit.{InOrder}
 abbrev IsBefore : ℕ → ℕ → RowLine → List RowLine → Type 0
 IsBefore rows cols x xs = (other : RowLine) → IsAmong xs other → Precedes rows cols x.row other.row
 
-abbrev IsWithin : List RowLine → List RowLine → Type 0
+abbrev pub IsWithin : List RowLine → List RowLine → Type 0
 IsWithin xs ys = (z : RowLine) → IsAmong xs z → IsAmong ys z
 
 -- without the first of both

@@ -87,7 +87,7 @@ text_is entry rows cols lines =
 pub text_length : (entry : Content) (rows cols : ℕ) (lines : List RowLine) → length (text_with entry rows cols lines) ≡ length (front_with entry rows cols lines) + 4
 text_length entry rows cols lines = ap (λ (l : List ℕ). length l) (text_is entry rows cols lines) ∙ length-append (front_with entry rows cols lines) last
 
-length_by_lines : (entry : Content) (rows cols : ℕ) (lines : List RowLine) → length (text_with entry rows cols lines) ≡ length (ended (heads entry rows cols)) + size_of lines + 4
+pub length_by_lines : (entry : Content) (rows cols : ℕ) (lines : List RowLine) → length (text_with entry rows cols lines) ≡ length (ended (heads entry rows cols)) + size_of lines + 4
 length_by_lines entry rows cols lines =
     text_length entry rows cols lines
     ∙ ap (λ (n : ℕ). n + 4) (ap (λ (l : List ℕ). length l) (front_is entry rows cols lines) ∙ length-append (ended (heads entry rows cols)) (ended (map line_text lines)))

@@ -1,5 +1,5 @@
 -- The table of what an entry sends, beside that of an entry that conforms; and noes of all strings together.
-use Rattle.std.proofs.Common.{◌≡◌, inl, inr, ◌&&◌, ℕ, ◌-◌, Bool, true, false, List, [], Option, None, Some, if◌then◌else◌, refl, sym, ap, subst, ◌∙◌, arith}
+use Rattle.std.proofs.Common.{◌≡◌, inl, inr, ◌&&◌, ℕ, ◌-◌, Bool, true, false, List, [], Option, None, Some, if◌then◌else◌, refl, sym, ap, subst, ◌∙◌}
 use Rattle.std.specs.Prelude.{Result, Ok, Err, is_some}
 use Rattle.std.proofs.lemmas.Bool.{false≢true, and_parts, cases_Bool}
 use Rattle.std.proofs.lemmas.Option.{none-some}
@@ -8,7 +8,7 @@ use Rattle.vt_term.specs.Screen.{State, Charset}
 use Rattle.vt_term.proofs.Running.{runs_once}
 use Rattle.ti_caps.specs.Entry.{Content}
 use Rattle.ti_rows.specs.declared.rows.Row.{Row}
-use Rattle.ti_rows.specs.declared.rows.Row.TheVariants.{Clear, Csr, Smcup, Enacs, Sgr0, Rmacs}
+use Rattle.ti_rows.specs.declared.rows.Row.TheVariants.{Clear, Csr, Smcup, Enacs, Sgr0, Smacs, Rmacs}
 use Rattle.ti_rows.specs.Lists.{IsInRange}
 use Rattle.ti_rows.specs.Names.{cap_of}
 use Rattle.ti_rows.specs.Params.{params}
@@ -25,12 +25,14 @@ use Rattle.ti_cert.specs.Strings.{allows}
 use Rattle.ti_cert.proofs.Ranges.{in_range, is_allowed}
 use Rattle.ti_probes.specs.Probe.{screen_of}
 use Rattle.ti_probes.specs.declared.probes.Probe.{Probe}
-use Rattle.ti_checker.specs.First.{EachStands, SendsRight, IsFirstBy}
+use Rattle.ti_checker.specs.First.{EachStands, EachWritten, SendsRight, IsFirstSwitch, IsFirstBy}
+use Rattle.ti_checker.specs.Last.{OfAllSent, SwitchesRight, SwitchRight}
 use Rattle.ti_checker.specs.No.{IsSoBy, IsFirstCause, IsOfAll}
 use Rattle.ti_checker.specs.Switching.{HasSent, OfSent, Misswitches, StaysGraphic, switching, AlwaysMisswitches, AlwaysGraphic}
 use Rattle.ti_checker.specs.declared.causes.Cause.{Cause}
 use Rattle.ti_checker.specs.declared.causes.Cause.TheVariants.{BadLook, WrongEffect}
 use Rattle.ti_checker.specs.declared.causes.No.{No}
+use Rattle.ti_checker.proofs.Together.{whole_screen}
 
 -- ---- two tables that agree with an entry
 
@@ -44,9 +46,6 @@ same_line entry row a b f g = elim (cases_Bool (is_checked entry row)) [
       s.sends.line_has ∙ (ap (λ (x : List ℕ). Some x) is ∙ sym t.sends.line_has))
   | inr unchecked ↦ f.unchecked unchecked ∙ sym (g.unchecked unchecked)
 ]
-
-whole_screen : (rows cols : ℕ) → IsSize rows cols → IsInRange rows cols (Csr 0 (rows - 1))
-whole_screen rows cols size = (omega (arith, size.0), omega (arith, size.0))
 
 same_resync : (a b : Table) → part a Smcup ≡ part b Smcup → part a Enacs ≡ part b Enacs → part a Sgr0 ≡ part b Sgr0 → part a Rmacs ≡ part b Rmacs → part a (widening a) ≡ part b (widening b) → part a Clear ≡ part b Clear
     → resync a ≡ resync b
@@ -165,22 +164,27 @@ of_sent entry rows cols Is size stands always =
 
 -- ---- noes of all strings together
 
-pub misswitch_so : (entry : Content) (rows cols : ℕ) (refusal : No) (graphic : Bool) (row : Row) (p : Probe) → IsSize rows cols → IsFit entry → EachStands entry rows cols → row ≡ switching graphic → refusal.cap ≡ cap_of row → refusal.params.items ≡ params row
-    → refusal.cause ≡ WrongEffect p → AlwaysMisswitches entry rows cols graphic p → IsOfAll entry rows cols refusal
-misswitch_so entry rows cols refusal graphic row p size fit stands is cap given cause always = record {
+is_first_switch : (entry : Content) (rows cols : ℕ) (refusal : No) (graphic : Bool) (row : Row) → EachWritten entry rows cols → row ≡ switching graphic → refusal.cap ≡ cap_of row
+    → (graphic ≡ false → OfAllSent entry rows cols (SwitchesRight Smacs)) → IsFirstSwitch entry rows cols refusal
+is_first_switch entry rows cols refusal true row written is cap earlier = record { each = written; earlier = inl (cap ∙ ap (λ (r : Row). cap_of r) is) }
+is_first_switch entry rows cols refusal false row written is cap earlier = record { each = written; earlier = inr (earlier refl) }
+
+pub misswitch_so : (entry : Content) (rows cols : ℕ) (refusal : No) (graphic : Bool) (row : Row) (p : Probe) → IsSize rows cols → IsFit entry → EachWritten entry rows cols → row ≡ switching graphic → refusal.cap ≡ cap_of row → refusal.params.items ≡ params row
+    → refusal.cause ≡ WrongEffect p → AlwaysMisswitches entry rows cols graphic p → (graphic ≡ false → OfAllSent entry rows cols (SwitchesRight Smacs)) → IsOfAll entry rows cols refusal
+misswitch_so entry rows cols refusal graphic row p size fit written is cap given cause always earlier = record {
   so = subst (λ (c : Cause). IsSoBy entry rows cols refusal c) (sym cause) (inr (record {
     row = row;
     cap_is = cap;
     params_are = given;
-    switches = subst (λ (r : Row). OfSent entry rows cols (λ t. Misswitches rows cols r p t)) (sym is) (of_sent entry rows cols (λ t. Misswitches rows cols (switching graphic) p t) size stands always);
+    switches = subst (λ (r : Row). OfSent entry rows cols (λ t. Misswitches rows cols r p t)) (sym is) (of_sent entry rows cols (λ t. Misswitches rows cols (switching graphic) p t) size written.stands always);
   }));
   order = subst (λ (c : Cause). IsFirstCause entry c) (sym cause) fit;
-  first = subst (λ (c : Cause). IsFirstBy entry rows cols refusal c) (sym cause) (inr stands);
+  first = subst (λ (c : Cause). IsFirstBy entry rows cols refusal c) (sym cause) (inr (is_first_switch entry rows cols refusal graphic row written is cap earlier));
 }
 
-pub graphic_so : (entry : Content) (rows cols : ℕ) (refusal : No) → IsSize rows cols → IsFit entry → EachStands entry rows cols → refusal.cap ≡ acsc → refusal.cause ≡ BadLook → AlwaysGraphic entry rows cols → IsOfAll entry rows cols refusal
-graphic_so entry rows cols refusal size fit stands cap cause always = record {
-  so = subst (λ (c : Cause). IsSoBy entry rows cols refusal c) (sym cause) (inr (cap, of_sent entry rows cols (λ t. StaysGraphic entry t) size stands always));
+pub graphic_so : (entry : Content) (rows cols : ℕ) (refusal : No) → IsSize rows cols → IsFit entry → EachWritten entry rows cols → SwitchRight entry rows cols → refusal.cap ≡ acsc → refusal.cause ≡ BadLook → AlwaysGraphic entry rows cols → IsOfAll entry rows cols refusal
+graphic_so entry rows cols refusal size fit written switches cap cause always = record {
+  so = subst (λ (c : Cause). IsSoBy entry rows cols refusal c) (sym cause) (inr (cap, of_sent entry rows cols (λ t. StaysGraphic entry t) size written.stands always));
   order = subst (λ (c : Cause). IsFirstCause entry c) (sym cause) fit;
-  first = subst (λ (c : Cause). IsFirstBy entry rows cols refusal c) (sym cause) (inr stands);
+  first = subst (λ (c : Cause). IsFirstBy entry rows cols refusal c) (sym cause) (inr (written, switches));
 }

@@ -1,6 +1,7 @@
 pub mod Certificate
 pub mod First
 pub mod Ignored
+pub mod Last
 pub mod Limit
 pub mod No
 pub mod Notes

@@ -51,6 +51,12 @@ pub record StaysWithin (entry : Content) (rows cols : ℕ) (row : Row) : Type 0 
   pub are : AreLines entry rows cols (λ other. Precedes rows cols other row) lines
   pub short : length (text_with entry rows cols lines) ≤ limit
 
+-- the lines of all checked rows are not too long with `end`
+pub record FitsLimit (entry : Content) (rows cols : ℕ) : Type 0 where
+  pub lines : List RowLine
+  pub are : AreLines entry rows cols (λ row. Unit {0}) lines
+  pub short : length (text_with entry rows cols lines) ≤ limit
+
 -- ---- (Serves the code alone.) The text that is written so far.
 
 -- the most bytes before `end`

@@ -198,13 +198,6 @@ ClaimsNothing NotShown = Unit {0}
 ClaimsNothing NoMemory = Unit {0}
 ClaimsNothing _ = ⊥
 
--- what may be wrong with all strings together, where each is right by itself
-abbrev pub IsTogether : Content → ℕ → ℕ → Cause → Type 0
-IsTogether entry rows cols NotShown = Unit {0}
-IsTogether entry rows cols NoMemory = Unit {0}
-IsTogether entry rows cols NoResync = StaysOpen entry rows cols
-IsTogether entry rows cols _ = ⊥
-
 -- ---- memory
 
 -- memory ran out

@@ -1,6 +1,6 @@
 -- Which character set the strings of an entry leave active, all of them together (terminfo(5), "Line Graphics"; VT100
 -- user guide, "Select character set").
-use Rattle.std.specs.Prelude.{ℕ, ◌≡◌, Bool, true, false, not, List, [], Some}
+use Rattle.std.specs.Prelude.{ℕ, ◌<◌, ◌≡◌, ◌⊎◌, Bool, true, false, not, List, [], Some}
 use Rattle.vt_term.specs.Size.{IsSize}
 use Rattle.vt_term.specs.Screen.{Screen, Charset, is_graphic}
 use Rattle.vt_term.specs.Run.{Runs}
@@ -14,10 +14,11 @@ use Rattle.ti_charsets.specs.Charsets.{IsAmong, charset_over, can_have, reach_of
 use Rattle.ti_charsets.specs.Closing as closing
 use Rattle.ti_rows.specs.declared.rows.Row.{Row}
 use Rattle.ti_rows.specs.declared.rows.Row.TheVariants.{Smacs, Rmacs}
-use Rattle.ti_rows.specs.Lists.{IsInRange}
+use Rattle.ti_rows.specs.Lists.{IsInRange, rank}
+use Rattle.ti_rows.specs.Names.{order}
 use Rattle.ti_rows.specs.Starts.{Starts}
 use Rattle.ti_sends.specs.Sends.{Sends}
-use Rattle.ti_sends.specs.Entries.{is_checked, EntryAgrees}
+use Rattle.ti_sends.specs.Entries.{is_checked, string_of, EntryAgrees}
 use Rattle.ti_checked.specs.Table.{Table, part, resync, keeps_settled, Activates}
 use Rattle.ti_checked.specs.Sets.{CanSettle, LeadsBy, Occurs}
 use Rattle.ti_probes.specs.Probe.{screen_of}
@@ -77,6 +78,13 @@ pub record IsChange (string : List ℕ) (row : Row) (tokens : List (List ℕ)) (
   pub whole : Splits bytes tokens []
   pub leads : (c : Charset) → charset_over tokens c ≡ designated change c
 
+-- so does the entry's string for a checked row
+pub record IsChangeOf (entry : Content) (row : Row) (tokens : List (List ℕ)) (change : Sets) : Type 0 where
+  pub checked : is_checked entry row ≡ true
+  pub string : List ℕ
+  pub there : string_of entry row ≡ Some string
+  pub is : IsChange string row tokens change
+
 -- bytes change charsets so
 abbrev pub LeadsAs : List ℕ → (Charset → Charset) → Type 0
 LeadsAs bytes f = (c : Charset) → LeadsBy bytes c (f c)
@@ -89,12 +97,26 @@ pub record IsOfLine (t : Table) (change : Sets) : Type 0 where
   pub keeps : keeps_settled row ≡ true
   pub leads : LeadsAs bytes (λ c. designated change c)
 
--- what was seen of an entry's strings: marks that tokens turn on, and changes
-pub record IsSeen (entry : Content) (rows cols : ℕ) (reach : Reach) (changes : List Sets) : Type 0 where
+-- rows of capabilities before the one at this place, and rows of that one before this rank
+abbrev pub IsBefore : ℕ → ℕ → ℕ → ℕ → Row → Type 0
+IsBefore rows cols n k row = (order row < n) ⊎ ((order row ≡ n) × (rank rows cols row < k))
+
+-- what the row's string does is among these
+pub record IsCounted (entry : Content) (all : List (List ℕ)) (changes : List Sets) (row : Row) : Type 0 where
+  pub tokens : List (List ℕ)
+  pub change : Sets
+  pub of_row : IsChangeOf entry row tokens change
+  pub reached : (token : List ℕ) → IsAmong tokens token → IsAmong all token
+  pub settled : keeps_settled row ≡ true → IsAmong changes change
+
+-- what was seen of an entry's strings: marks that tokens turn on, and changes, which are those of strings, and of all strings
+-- for rows so far
+pub record IsSeen (entry : Content) (rows cols : ℕ) (reach : Reach) (changes : List Sets) (n k : ℕ) : Type 0 where
   pub tokens : List (List ℕ)
   pub reach_is : reach ≡ reach_of tokens
   pub occurs : (t : Table) → HasSent entry rows cols t → (token : List ℕ) → IsAmong tokens token → Occurs t token
   pub told : (t : Table) → HasSent entry rows cols t → (change : Sets) → IsAmong changes change → IsOfLine t change
+  pub counted : (row : Row) → IsInRange rows cols row → is_checked entry row ≡ true → IsBefore rows cols n k row → IsCounted entry tokens changes row
 
 -- the row's bytes, nothing where it has none, change charsets so
 abbrev pub PartLeads : Content → ℕ → ℕ → Row → Sets → Type 0
@@ -105,6 +127,14 @@ pub record IsLeft (entry : Content) (rows cols : ℕ) (reach : Reach) (d : Chars
   pub before : Charset
   pub there : can_have reach before ≡ true
   pub leads : (t : Table) → HasSent entry rows cols t → LeadsBy (resync t) before d
+
+-- the charsets that what leads out of an unknown state leaves of those that can be had are all among these
+abbrev pub HasLeft : Content → ℕ → ℕ → Reach → Charsets → Type 0
+HasLeft entry rows cols reach first = (t : Table) → HasSent entry rows cols t → (c d : Charset) → can_have reach c ≡ true → LeadsBy (resync t) c d → closing.has first d ≡ true
+
+-- the charsets that can be settled are all among these
+abbrev pub HasSettled : Content → ℕ → ℕ → Charsets → Type 0
+HasSettled entry rows cols settled = (t : Table) → HasSent entry rows cols t → (c : Charset) → CanSettle t c → closing.has settled c ≡ true
 
 -- a start with a charset of these, from which the change activates the other set
 pub record IsMisled (settled : Charsets) (change : Sets) (graphic : Bool) (rows cols : ℕ) (p : Probe) : Type 0 where

@@ -35,8 +35,8 @@ pub enum Cause {
     BadLook,
     /// From this start the terminal ends elsewhere than it should.
     WrongEffect(Probe),
-    /// The effect isn't the one that is asked for, or something of all strings together can't be shown.
-    /// They may be right.
+    /// The effect isn't the one that is asked for, or a certificate can't be had though all strings
+    /// together are right. They may be right.
     NotShown,
     /// With this line and the last one, `end`, a certificate would be longer than any may be.
     TooLong,
@@ -82,6 +82,19 @@ pub struct No {
     pub cap: Cap,
     pub params: Params,
     pub cause: Cause,
+}
+
+impl From<AllocError> for No {
+    ghost use Rattle.std.specs.Prelude.{◌≡◌};
+    ghost use Rattle.ti_checker.specs.declared.causes.Cause.{Cause};
+
+    ghost from_gives = { λ _ refusal. refusal.cause ≡ Cause.NoMemory };
+
+    fn from(_: AllocError) -> No
+        ensures { result.cause ≡ Cause.NoMemory }
+    {
+        No::of(Row::Clear.cap(), Cause::NoMemory)
+    }
 }
 
 impl No {

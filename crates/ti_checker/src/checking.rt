@@ -1,17 +1,18 @@
 //! An entry checked for a size.
 
-ghost use Rattle.std.specs.Prelude.{◌≡◌, IfErr, IfOk, OnOk};
+ghost use Rattle.std.specs.Prelude.{◌≡◌, IfErr, IfOk, OnOk, true};
 ghost use Rattle.ti_cert.specs.Basic.{IsBasic, basic_text_of};
 ghost use Rattle.ti_checker.specs.Certificate.{IsCertificateOf};
-ghost use Rattle.ti_checker.specs.First.{EachStands, IsFirstTold};
+ghost use Rattle.ti_checker.specs.First.{EachWritten, IsFirstTold};
+ghost use Rattle.ti_checker.specs.Last.{GoTogether};
 ghost use Rattle.ti_checker.specs.No as spec;
 ghost use Rattle.ti_conforms.specs.Conforms.{Conforms, IsFit};
 
 use crate::causes::{Cause, No};
 use crate::drafts::draft_of;
 use crate::fitness::check_fitness;
-use crate::resync::stays_open;
-use crate::switching::clash_of;
+use crate::resync::check_resync;
+use crate::switching::check_charsets;
 use std::alloc::Global;
 use ti_caps::Entry;
 use ti_cert::{AgreeFault, CertFaultKind, VerifyFault, agrees, audit};
@@ -34,58 +35,52 @@ fn judge_text(alloc: Global, entry: &Entry, size: Size, text: &[u8]) -> Result<(
     }
 }
 
-/// Why an entry isn't verified of which each string is right by itself.
-fn unverified(alloc: Global, entry: &Entry, size: Size, fault: VerifyFault) -> No
+/// Judges all strings together, of which each is right by itself.
+fn judge_together(alloc: Global, entry: &Entry, size: Size) -> Result<(), No>
     requires fit { IsFit entry.now }
-    requires stands { EachStands entry.now size.rows size.cols }
-    ensures of_all { spec.IsOfAll entry.now size.rows size.cols result }
-    ensures memory { spec.IsOutOfMemory fault → result.cause ≡ Cause.NoMemory }
+    requires written { EachWritten entry.now size.rows size.cols }
+    ensures right { OnOk result (GoTogether entry.now size.rows size.cols) }
+    ensures refused { IfErr result (spec.IsOfAll entry.now size.rows size.cols) }
 {
-    match fault {
-        VerifyFault::Cert(fault) => match fault.kind {
-            CertFaultKind::NotShown | CertFaultKind::BadLook => clashing(alloc, entry, size),
-            kind => no_together(alloc, entry, size, kind),
-        },
-        VerifyFault::Agree(AgreeFault::NoMemory) => {
-            no_together(alloc, entry, size, CertFaultKind::NoMemory)
-        }
-        VerifyFault::Agree(_) => no_together(alloc, entry, size, CertFaultKind::NotShown),
-    }
+    check_charsets(alloc, entry, size)?;
+    check_resync(alloc, entry, size)
 }
 
-/// What is wrong with the character sets that all strings together leave.
-fn clashing(alloc: Global, entry: &Entry, size: Size) -> No
+/// What is wrong with all strings together, of which each is right by itself.
+#[tactic(auto, using(crate::proofs::Together::unnamed))]
+fn no_together(alloc: Global, entry: &Entry, size: Size) -> No
     requires fit { IsFit entry.now }
-    requires stands { EachStands entry.now size.rows size.cols }
+    requires written { EachWritten entry.now size.rows size.cols }
     ensures { spec.IsOfAll entry.now size.rows size.cols result }
 {
-    match clash_of(alloc, entry, size) {
-        Ok(Some(no)) => no,
-        Err(Cause::NoMemory) => no_together(alloc, entry, size, CertFaultKind::NoMemory),
-        _ => no_together(alloc, entry, size, CertFaultKind::NotShown),
+    match judge_together(alloc, entry, size) {
+        Ok(()) => No::of(Row::Clear.cap(), Cause::NotShown),
+        Err(no) => no,
     }
 }
 
-/// The no of `clear` for a fault of the whole certificate.
-#[tactic(auto, using(crate::proofs::Together::of_all))]
-fn no_together(alloc: Global, entry: &Entry, size: Size, kind: CertFaultKind) -> No
-    requires fit { IsFit entry.now }
-    requires stands { EachStands entry.now size.rows size.cols }
-    ensures of_all { spec.IsOfAll entry.now size.rows size.cols result }
-    ensures memory { kind ≡ CertFaultKind.NoMemory → result.cause ≡ Cause.NoMemory }
+/// Whether memory ran out.
+fn ran_out(fault: &VerifyFault) -> bool
+    ensures { spec.IsOutOfMemory fault.now → result ≡ true }
 {
-    No::of(Row::Clear.cap(), cause_together(alloc, entry, size, kind))
+    match fault {
+        VerifyFault::Cert(fault) => matches!(fault.kind, CertFaultKind::NoMemory),
+        VerifyFault::Agree(fault) => matches!(fault, AgreeFault::NoMemory),
+    }
 }
 
-/// The cause that a fault of the whole certificate is.
-fn cause_together(alloc: Global, entry: &Entry, size: Size, kind: CertFaultKind) -> Cause
-    ensures together { spec.IsTogether entry.now size.rows size.cols result }
-    ensures memory { kind ≡ CertFaultKind.NoMemory → result ≡ Cause.NoMemory }
+/// Why an entry isn't verified of which each string is right by itself.
+#[tactic(auto, using(crate::proofs::Together::memory_no))]
+fn unverified(alloc: Global, entry: &Entry, size: Size, fault: &VerifyFault) -> No
+    requires fit { IsFit entry.now }
+    requires written { EachWritten entry.now size.rows size.cols }
+    ensures of_all { spec.IsOfAll entry.now size.rows size.cols result }
+    ensures memory { spec.IsOutOfMemory fault.now → result.cause ≡ Cause.NoMemory }
 {
-    match kind {
-        CertFaultKind::NoMemory => Cause::NoMemory,
-        CertFaultKind::NoResync if stays_open(alloc, entry, size) => Cause::NoResync,
-        _ => Cause::NotShown,
+    if ran_out(fault) {
+        No::of(Row::Clear.cap(), Cause::NoMemory)
+    } else {
+        no_together(alloc, entry, size)
     }
 }
 
@@ -109,6 +104,6 @@ pub fn check(alloc: Global, entry: &Entry, size: Size) -> Result<Vec<u8>, No>
     let text = draft_of(alloc, entry, size)?;
     match judge_text(alloc, entry, size, &text) {
         Ok(()) => Ok(text),
-        Err(fault) => Err(unverified(alloc, entry, size, fault)),
+        Err(fault) => Err(unverified(alloc, entry, size, &fault)),
     }
 }

@@ -24,7 +24,7 @@ use ti_lines::{push_hex, push_row_line};
 use ti_rows::{Looks, Row};
 use ti_sends::is_checked;
 use vt_effects::Effect;
-use vt_term::Size;
+use vt_term::{Scanner, Size};
 
 /// A certificate's text so far, and what its lines are made in.
 #[derive(Drop)]
@@ -36,6 +36,8 @@ struct Draft {
     bytes: Vec<u8>,
     /// The words of its effect.
     words: Vec<u8>,
+    /// Reads what it sends.
+    scanner: Scanner,
 }
 
 /// The most bytes of a certificate before its last line.
@@ -85,6 +87,7 @@ impl Draft {
             looks: NO_LOOKS,
             bytes: Vec::new(alloc),
             words: Vec::new(alloc),
+            scanner: Scanner::new(alloc)?,
         })
     }
 
@@ -130,7 +133,15 @@ fn push_row(
     ensures short { OnOk result (length draft.new.text.items ≤ most) }
     ensures refused { IfErr result (λ cause. spec.IsRowRefused size.rows size.cols string.now row draft.old.text.items cause) }
 {
-    let effect = judge_row(alloc, string, row, size, &mut draft.looks, &mut draft.bytes)?;
+    let effect = judge_row(
+        alloc,
+        string,
+        row,
+        size,
+        &mut draft.scanner,
+        &mut draft.looks,
+        &mut draft.bytes,
+    )?;
     match draft.push_line(row, &effect) {
         Ok(()) => draft.check_length(),
         Err(_) => Err(Cause::NoMemory),
@@ -225,7 +236,7 @@ fn finished(draft: Draft) -> Result<Vec<u8>, AllocError>
 
 /// The certificate's text of the entry's lines, each of which was judged.
 pub(crate) fn draft_of(alloc: Global, entry: &Entry, size: Size) -> Result<Vec<u8>, No>
-    ensures stands { IfOk result (λ _. told.EachStands entry.now size.rows size.cols) }
+    ensures written { IfOk result (λ _. told.EachWritten entry.now size.rows size.cols) }
     ensures within { IfOk result (λ text. length text.items ≤ limit) }
     ensures basic_text { IsBasic entry.now size.rows size.cols → IfOk result (λ text. text.items ≡ basic_text_of entry.now size.rows size.cols) }
     ensures basic { IsBasic entry.now size.rows size.cols → IfErr result (λ refusal. refusal.cause ≡ Cause.NoMemory) }

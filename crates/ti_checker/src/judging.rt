@@ -7,7 +7,8 @@ ghost use Rattle.ti_checker.specs.No as spec;
 ghost use Rattle.ti_rows.specs.Asked.{start_of};
 ghost use Rattle.ti_rows.specs.Lists.{IsInRange};
 ghost use Rattle.ti_rows.specs.Right.{IsRight};
-ghost use Rattle.vt_effects.specs.Record.{record_of};
+ghost use Rattle.vt_effects.specs.Record.{IsRecordOf, record_of};
+ghost use Rattle.vt_term.specs.Scanned.{HasFault};
 ghost use Rattle.vt_term.specs.Text.{Splits};
 
 use crate::causes::Cause;
@@ -15,8 +16,8 @@ use crate::sending::sent_into;
 use std::alloc::Global;
 use ti_probes::probe_for;
 use ti_rows::{Attributes, Looks, Marks, Row};
-use vt_effects::{Effect, effect_of};
-use vt_term::{Size, Token, TokenFault, TokenFaultKind, tokens};
+use vt_effects::{Effect, effect_of_text};
+use vt_term::{Scanner, Size, TextFault, TextFaultKind, Token, TokenFault, TokenFaultKind, tokens};
 
 /// No mark.
 const NO_MARKS: Marks = Marks {
@@ -106,23 +107,49 @@ pub(crate) fn tokens_of(alloc: Global, bytes: &[u8]) -> Result<Vec<Token>, Cause
     }
 }
 
-/// The effect of tokens, which has to be the one that is asked for. Looks that the row tells are added.
-fn judged(row: Row, tokens: &[Token], size: Size, looks: &mut Looks) -> Result<Effect, Cause>
-    requires { IsInRange size.rows size.cols row }
-    ensures right { IfOk result (λ _. (bytes : List ℕ) → Splits bytes tokens.now [] → IsRight size.rows size.cols looks.new row bytes) }
-    ensures recorded { IfOk result (λ effect. record_of size.rows size.cols (start_of size.rows size.cols row) tokens.now ≡ Some effect) }
-    ensures misjudged { IfErr result (λ cause. spec.IsMisjudged size.rows size.cols row tokens.now cause) }
+/// The fault of a text that is no whole control functions.
+fn not_whole(fault: TextFault) -> Cause
+    ensures { (bytes : List ℕ) → HasFault bytes fault → spec.IsNotWhole bytes result }
 {
-    match effect_of(tokens, size, &row.start(size)) {
-        None => Err(Cause::NotTame),
-        Some(effect) => {
-            *looks = looks.learned(row, &effect);
-            if row.asks_for(*looks, &effect) {
-                Ok(effect)
-            } else {
-                Err(misfit(row, &effect, size))
-            }
-        }
+    match fault.kind {
+        TextFaultKind::Unfinished => Cause::Unfinished,
+        TextFaultKind::Stuck => Cause::Stuck,
+    }
+}
+
+/// The effect of bytes from the row's start, if they have one.
+fn row_effect(
+    scanner: &mut Scanner,
+    bytes: &[u8],
+    row: Row,
+    size: Size,
+) -> Result<Option<Effect>, Cause>
+    ensures record { IfOk result (IsRecordOf size.rows size.cols (start_of size.rows size.cols row) bytes.now) }
+    ensures fault { IfErr result (spec.IsNotWhole bytes.now) }
+{
+    match effect_of_text(scanner, bytes, size, &row.start(size)) {
+        Ok(effect) => Ok(effect),
+        Err(fault) => Err(not_whole(fault)),
+    }
+}
+
+/// The effect of bytes, if they have one, which has to be the one that is asked for. Looks that the
+/// row tells are added.
+#[tactic(auto, using(crate::proofs::Misjudging::misfit_misjudged))]
+fn judged(row: Row, found: Option<Effect>, size: Size, looks: &mut Looks) -> Result<Effect, Cause>
+    requires { IsInRange size.rows size.cols row }
+    ensures right { IfOk result (λ _. (bytes : List ℕ) → IsRecordOf size.rows size.cols (start_of size.rows size.cols row) bytes found → IsRight size.rows size.cols looks.new row bytes) }
+    ensures found { IfOk result (λ effect. found ≡ Some effect) }
+    ensures misjudged { IfErr result (λ cause. (tokens : List (List ℕ)) → found ≡ record_of size.rows size.cols (start_of size.rows size.cols row) tokens → spec.IsMisjudged size.rows size.cols row tokens cause) }
+{
+    let Some(effect) = found else {
+        return Err(Cause::NotTame);
+    };
+    *looks = looks.learned(row, &effect);
+    if row.asks_for(*looks, &effect) {
+        Ok(effect)
+    } else {
+        Err(misfit(row, &effect, size))
     }
 }
 
@@ -132,6 +159,7 @@ pub(crate) fn judge_row(
     string: &[u8],
     row: Row,
     size: Size,
+    scanner: &mut Scanner,
     looks: &mut Looks,
     bytes: &mut Vec<u8>,
 ) -> Result<Effect, Cause>
@@ -141,6 +169,6 @@ pub(crate) fn judge_row(
     ensures faulty { IfErr result (λ cause. spec.IsFaulty size.rows size.cols string.now row cause) }
 {
     sent_into(alloc, string, row, bytes)?;
-    let tokens = tokens_of(alloc, bytes)?;
-    judged(row, &tokens, size, looks)
+    let found = row_effect(scanner, bytes, row, size)?;
+    judged(row, found, size, looks)
 }

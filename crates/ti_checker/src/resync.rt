@@ -1,9 +1,14 @@
 //! What leads a terminal out of an unknown state.
 
-ghost use Rattle.std.specs.Prelude.{◌≡◌, ◌∷◌, ℕ, List, IfOk, false, true};
+ghost use Rattle.std.specs.Prelude.{◌≡◌, ◌∷◌, ℕ, List, IfErr, IfOk, OnOk, false, true};
+ghost use Rattle.ti_checker.specs.First.{EachWritten};
+ghost use Rattle.ti_checker.specs.Last as last;
+ghost use Rattle.ti_checker.specs.No.{IsOfAll};
 ghost use Rattle.ti_checker.specs.Resync as spec;
+ghost use Rattle.ti_conforms.specs.Conforms.{IsFit};
+ghost use Rattle.ti_rows.specs.Lists.{IsInRange};
 
-use crate::causes::Cause;
+use crate::causes::{Cause, No};
 use crate::sending::sent;
 use std::alloc::Global;
 use ti_caps::Entry;
@@ -12,28 +17,39 @@ use ti_sends::is_checked;
 use vt_term::Size;
 
 /// What the entry sends for the row, nothing where it isn't checked.
-fn sent_for(alloc: Global, entry: &Entry, row: Row) -> Result<Vec<u8>, Cause>
-    ensures { IfOk result (λ bytes. spec.IsPart entry.now row bytes.items) }
+fn sent_for(alloc: Global, entry: &Entry, row: Row, size: Size) -> Result<Vec<u8>, No>
+    requires fit { IsFit entry.now }
+    requires written { EachWritten entry.now size.rows size.cols }
+    requires range { IsInRange size.rows size.cols row }
+    ensures part { IfOk result (λ bytes. spec.IsPart entry.now row bytes.items) }
+    ensures refused { IfErr result (IsOfAll entry.now size.rows size.cols) }
 {
     if !is_checked(entry, row) {
         return Ok(Vec::new(alloc));
     }
     match entry.get_string(row.cap()) {
-        Some(string) => sent(alloc, string, row),
+        Some(string) => match sent(alloc, string, row) {
+            Ok(bytes) => Ok(bytes),
+            Err(cause) => Err(No::at(row, cause)),
+        },
         None => Ok(Vec::new(alloc)),
     }
 }
 
 /// What the entry sends to lead a terminal out of an unknown state.
-fn resync_of(alloc: Global, entry: &Entry, size: Size) -> Result<Vec<u8>, Cause>
-    ensures { IfOk result (λ text. spec.SendsResync entry.now size.rows text.items) }
+#[tactic(auto, using(crate::proofs::Together::memory_no))]
+fn resync_of(alloc: Global, entry: &Entry, size: Size) -> Result<Vec<u8>, No>
+    requires fit { IsFit entry.now }
+    requires written { EachWritten entry.now size.rows size.cols }
+    ensures sends { IfOk result (λ text. spec.SendsResync entry.now size.rows text.items) }
+    ensures refused { IfErr result (IsOfAll entry.now size.rows size.cols) }
 {
-    let enacs = sent_for(alloc, entry, Row::Enacs)?;
-    let sgr0 = sent_for(alloc, entry, Row::Sgr0)?;
-    let rmacs = sent_for(alloc, entry, Row::Rmacs)?;
-    let csr = sent_for(alloc, entry, Row::Csr(0, (size.rows - 1) as u16))?;
-    let clear = sent_for(alloc, entry, Row::Clear)?;
-    let mut text = sent_for(alloc, entry, Row::Smcup)?;
+    let enacs = sent_for(alloc, entry, Row::Enacs, size)?;
+    let sgr0 = sent_for(alloc, entry, Row::Sgr0, size)?;
+    let rmacs = sent_for(alloc, entry, Row::Rmacs, size)?;
+    let csr = sent_for(alloc, entry, Row::Csr(0, (size.rows - 1) as u16), size)?;
+    let clear = sent_for(alloc, entry, Row::Clear, size)?;
+    let mut text = sent_for(alloc, entry, Row::Smcup, size)?;
     text.extend_from_slice(&enacs)?;
     text.extend_from_slice(&sgr0)?;
     text.extend_from_slice(&rmacs)?;
@@ -43,17 +59,24 @@ fn resync_of(alloc: Global, entry: &Entry, size: Size) -> Result<Vec<u8>, Cause>
 }
 
 fn begins_with_escape(text: &[u8]) -> bool
-    ensures { result ≡ false → (rest : List ℕ) → text.now ≡ 27 ∷ rest → ⊥ }
+    ensures yes { result ≡ true → (rest : List ℕ) × (text.now ≡ 27 ∷ rest) }
+    ensures no { result ≡ false → (rest : List ℕ) → text.now ≡ 27 ∷ rest → ⊥ }
 {
     matches!(text, [27, ..])
 }
 
-/// Whether what the entry sends to lead a terminal out of an unknown state doesn't begin with ESC.
-pub(crate) fn stays_open(alloc: Global, entry: &Entry, size: Size) -> bool
-    ensures { result ≡ true → spec.StaysOpen entry.now size.rows size.cols }
+/// That what the entry sends to lead a terminal out of an unknown state begins with ESC.
+pub(crate) fn check_resync(alloc: Global, entry: &Entry, size: Size) -> Result<(), No>
+    requires fit { IsFit entry.now }
+    requires written { EachWritten entry.now size.rows size.cols }
+    requires settles { last.SettleRight entry.now size.rows size.cols }
+    ensures right { OnOk result (last.GoTogether entry.now size.rows size.cols) }
+    ensures refused { IfErr result (IsOfAll entry.now size.rows size.cols) }
 {
-    match resync_of(alloc, entry, size) {
-        Ok(text) => !begins_with_escape(&text),
-        Err(_) => false,
+    let text = resync_of(alloc, entry, size)?;
+    if begins_with_escape(&text) {
+        Ok(())
+    } else {
+        Err(No::of(Row::Clear.cap(), Cause::NoResync))
     }
 }

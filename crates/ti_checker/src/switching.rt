@@ -1,17 +1,23 @@
 //! Which character set the strings of an entry leave active, all of them together.
 
-ghost use Rattle.std.specs.Prelude.{◌≡◌, [], IfOk, IfSome, OnOk, Some, true};
+ghost use Rattle.std.specs.Prelude.{◌≡◌, ◌+◌, [], IfErr, IfNone, IfOk, IfSome, OnOk, false, true};
 ghost use Rattle.ti_cert.specs.Audit.{with_change};
 ghost use Rattle.ti_charsets.specs.Charsets.{joined, reach_of};
 ghost use Rattle.ti_charsets.specs.Closing as closing;
 ghost use Rattle.ti_checked.specs.Table as checked;
-ghost use Rattle.ti_checker.specs.First.{EachStands};
-ghost use Rattle.ti_checker.specs.No.{IsOfAll};
+ghost use Rattle.ti_checker.specs.First.{EachWritten};
+ghost use Rattle.ti_checker.specs.Last as last;
+ghost use Rattle.ti_checker.specs.No.{IsFaulty, IsOfAll};
 ghost use Rattle.ti_checker.specs.Switching as spec;
 ghost use Rattle.ti_conforms.specs.Conforms.{IsFit};
-ghost use Rattle.ti_rows.specs.Lists.{IsFirst, IsInRange};
+ghost use Rattle.ti_probes.specs.Probe.{screen_of};
+ghost use Rattle.ti_rows.specs.Lists.{IsFirst, IsInRange, rank};
+ghost use Rattle.ti_rows.specs.Names.{order};
+ghost use Rattle.ti_rows.specs.Starts.{IsFree};
+ghost use Rattle.ti_rows.specs.declared.rows.Row.TheVariants as rows;
 ghost use Rattle.ti_sends.specs.Entries as entries;
-ghost use Rattle.vt_term.specs.Screen.{Charset};
+ghost use Rattle.vt_effects.specs.Effect.{designated};
+ghost use Rattle.vt_term.specs.Screen.{Charset, is_graphic};
 
 use crate::causes::{Cause, No};
 use crate::fitness::acsc;
@@ -55,7 +61,8 @@ fn change_by(
     row: Row,
     size: Size,
 ) -> Result<(Vec<Token>, Sets), Cause>
-    ensures { IfOk result (λ change. spec.IsChange string.now row change.0.items change.1) }
+    ensures change { IfOk result (λ change. spec.IsChange string.now row change.0.items change.1) }
+    ensures faulty { IfErr result (λ cause. IsFaulty size.rows size.cols string.now row cause) }
 {
     let bytes = sent(alloc, string, row)?;
     let tokens = tokens_of(alloc, &bytes)?;
@@ -65,19 +72,42 @@ fn change_by(
     }
 }
 
-/// What the entry's string for the row does to the charsets, nothing where the row isn't checked.
-fn change_of(alloc: Global, entry: &Entry, row: Row, size: Size) -> Result<Sets, Cause>
-    requires { IsInRange size.rows size.cols row }
-    ensures { IfOk result (λ change. spec.PartLeads entry.now size.rows size.cols row change) }
+/// The same of the entry's string, `None` where the row isn't checked.
+fn change_at(
+    alloc: Global,
+    entry: &Entry,
+    row: Row,
+    size: Size,
+) -> Result<Option<(Vec<Token>, Sets)>, No>
+    requires fit { IsFit entry.now }
+    requires written { EachWritten entry.now size.rows size.cols }
+    requires range { IsInRange size.rows size.cols row }
+    ensures some { IfOk result (λ found. IfSome found (λ change. spec.IsChangeOf entry.now row change.0.items change.1)) }
+    ensures none { IfOk result (λ found. IfNone found (entries.is_checked entry.now row ≡ false)) }
+    ensures refused { IfErr result (IsOfAll entry.now size.rows size.cols) }
 {
     if !is_checked(entry, row) {
-        return Ok(KEPT);
+        return Ok(None);
     }
     match entry.get_string(row.cap()) {
-        Some(string) => {
-            let (_, change) = change_by(alloc, string, row, size)?;
-            Ok(change)
-        }
+        Some(string) => match change_by(alloc, string, row, size) {
+            Ok(change) => Ok(Some(change)),
+            Err(cause) => Err(No::at(row, cause)),
+        },
+        None => Ok(None),
+    }
+}
+
+/// What the entry's string for the row does to the charsets, nothing where the row isn't checked.
+fn change_of(alloc: Global, entry: &Entry, row: Row, size: Size) -> Result<Sets, No>
+    requires fit { IsFit entry.now }
+    requires written { EachWritten entry.now size.rows size.cols }
+    requires range { IsInRange size.rows size.cols row }
+    ensures leads { IfOk result (λ change. spec.PartLeads entry.now size.rows size.cols row change) }
+    ensures refused { IfErr result (IsOfAll entry.now size.rows size.cols) }
+{
+    match change_at(alloc, entry, row, size)? {
+        Some((_, change)) => Ok(change),
         None => Ok(KEPT),
     }
 }
@@ -105,88 +135,62 @@ impl Seen {
         Ok(())
     }
 
-    /// Adds what the entry's string does for a row.
-    fn learn(
-        &mut self,
-        alloc: Global,
-        entry: &Entry,
-        string: &[u8],
-        row: Row,
-        size: Size,
-    ) -> Result<(), Cause>
+    /// Adds what the entry's string does for a row, where the row is checked.
+    fn learn(&mut self, alloc: Global, entry: &Entry, row: Row, size: Size) -> Result<(), No>
+        requires fit { IsFit entry.now }
+        requires written { EachWritten entry.now size.rows size.cols }
         requires range { IsInRange size.rows size.cols row }
-        requires checked { entries.is_checked entry.now row ≡ true }
-        requires there { entries.string_of entry.now row ≡ Some string.now }
-        ensures { OnOk result (spec.IsSeen entry.now size.rows size.cols self.old.reach self.old.changes.items → spec.IsSeen entry.now size.rows size.cols self.new.reach self.new.changes.items) }
+        ensures seen { OnOk result (spec.IsSeen entry.now size.rows size.cols self.old.reach self.old.changes.items (order row) (rank size.rows size.cols row) → spec.IsSeen entry.now size.rows size.cols self.new.reach self.new.changes.items (order row) (rank size.rows size.cols row + 1)) }
+        ensures refused { IfErr result (IsOfAll entry.now size.rows size.cols) }
     {
-        let (tokens, change) = change_by(alloc, string, row, size)?;
-        match self.add(row, &tokens, change) {
-            Ok(()) => Ok(()),
-            Err(_) => Err(Cause::NoMemory),
+        if let Some((tokens, change)) = change_at(alloc, entry, row, size)? {
+            self.add(row, &tokens, change)?;
         }
+        Ok(())
     }
 
-    /// Adds what the entry's string does for all rows of its capability.
-    fn learn_rows(
-        &mut self,
-        alloc: Global,
-        entry: &Entry,
-        string: &[u8],
-        first: Row,
-        size: Size,
-    ) -> Result<(), Cause>
+    /// The same of all rows of a capability.
+    fn learn_rows(&mut self, alloc: Global, entry: &Entry, first: Row, size: Size) -> Result<(), No>
+        requires fit { IsFit entry.now }
+        requires written { EachWritten entry.now size.rows size.cols }
         requires first { IsFirst size.rows size.cols first }
-        requires checked { entries.is_checked entry.now first ≡ true }
-        requires there { entries.string_of entry.now first ≡ Some string.now }
-        ensures { OnOk result (spec.IsSeen entry.now size.rows size.cols self.old.reach self.old.changes.items → spec.IsSeen entry.now size.rows size.cols self.new.reach self.new.changes.items) }
+        ensures seen { OnOk result (spec.IsSeen entry.now size.rows size.cols self.old.reach self.old.changes.items (order first) 0 → spec.IsSeen entry.now size.rows size.cols self.new.reach self.new.changes.items (order first + 1) 0) }
+        ensures refused { IfErr result (IsOfAll entry.now size.rows size.cols) }
     {
         let mut row = first;
         loop {
-            self.learn(alloc, entry, string, row, size)?;
+            self.learn(alloc, entry, row, size)?;
             match row.next(size) {
                 Some(next) => row = next,
                 None => return Ok(()),
             }
         }
     }
-
-    /// The same of a capability, where the entry has it and it is checked.
-    fn learn_cap(
-        &mut self,
-        alloc: Global,
-        entry: &Entry,
-        first: Row,
-        size: Size,
-    ) -> Result<(), Cause>
-        requires { IsFirst size.rows size.cols first }
-        ensures { OnOk result (spec.IsSeen entry.now size.rows size.cols self.old.reach self.old.changes.items → spec.IsSeen entry.now size.rows size.cols self.new.reach self.new.changes.items) }
-    {
-        if !is_checked(entry, first) {
-            return Ok(());
-        }
-        match entry.get_string(first.cap()) {
-            Some(string) => self.learn_rows(alloc, entry, string, first, size),
-            None => Ok(()),
-        }
-    }
 }
 
 /// What all checked strings of the entry do to the charsets.
-fn seen_of(alloc: Global, entry: &Entry, size: Size) -> Result<Seen, Cause>
-    ensures { IfOk result (λ seen. spec.IsSeen entry.now size.rows size.cols seen.reach seen.changes.items) }
+fn seen_of(alloc: Global, entry: &Entry, size: Size) -> Result<Seen, No>
+    requires fit { IsFit entry.now }
+    requires written { EachWritten entry.now size.rows size.cols }
+    ensures seen { IfOk result (λ seen. spec.IsSeen entry.now size.rows size.cols seen.reach seen.changes.items 42 0) }
+    ensures refused { IfErr result (IsOfAll entry.now size.rows size.cols) }
 {
     let mut seen = Seen::new(alloc);
     for order in 0..42 {
         if let Some(first) = Row::first(order) {
-            seen.learn_cap(alloc, entry, first, size)?;
+            seen.learn_rows(alloc, entry, first, size)?;
         }
     }
     Ok(seen)
 }
 
 /// What the strings that lead out of an unknown state leave of the charsets that can be had.
-fn first_settled(alloc: Global, entry: &Entry, size: Size, reach: Reach) -> Result<Charsets, Cause>
-    ensures { IfOk result (λ first. (d : Charset) → closing.has first d ≡ true → spec.IsLeft entry.now size.rows size.cols reach d) }
+fn first_settled(alloc: Global, entry: &Entry, size: Size, reach: Reach) -> Result<Charsets, No>
+    requires fit { IsFit entry.now }
+    requires written { EachWritten entry.now size.rows size.cols }
+    ensures sound { IfOk result (λ first. (d : Charset) → closing.has first d ≡ true → spec.IsLeft entry.now size.rows size.cols reach d) }
+    ensures complete { IfOk result (spec.HasLeft entry.now size.rows size.cols reach) }
+    ensures refused { IfErr result (IsOfAll entry.now size.rows size.cols) }
 {
     let bottom = (size.rows - 1) as u16;
     let smcup = change_of(alloc, entry, Row::Smcup, size)?;
@@ -199,9 +203,13 @@ fn first_settled(alloc: Global, entry: &Entry, size: Size, reach: Reach) -> Resu
     Ok(Charsets::left_by(&changes, reach))
 }
 
-/// Charsets that can be settled.
-fn settled_of(alloc: Global, entry: &Entry, size: Size) -> Result<Charsets, Cause>
-    ensures { IfOk result (λ settled. (c : Charset) → closing.has settled c ≡ true → spec.AlwaysSettles entry.now size.rows size.cols c) }
+/// The charsets that can be settled.
+fn settled_of(alloc: Global, entry: &Entry, size: Size) -> Result<Charsets, No>
+    requires fit { IsFit entry.now }
+    requires written { EachWritten entry.now size.rows size.cols }
+    ensures sound { IfOk result (λ settled. (c : Charset) → closing.has settled c ≡ true → spec.AlwaysSettles entry.now size.rows size.cols c) }
+    ensures complete { IfOk result (spec.HasSettled entry.now size.rows size.cols) }
+    ensures refused { IfErr result (IsOfAll entry.now size.rows size.cols) }
 {
     let seen = seen_of(alloc, entry, size)?;
     let mut settled = first_settled(alloc, entry, size, seen.reach)?;
@@ -216,12 +224,12 @@ fn switching(graphic: bool) -> Row
     if graphic { Row::Smacs } else { Row::Rmacs }
 }
 
-/// A start with one of these charsets, from which the change activates the other set.
-fn probe_of(settled: &Charsets, change: Sets, graphic: bool, size: Size) -> Option<Probe>
-    ensures { IfSome result (spec.IsMisled settled.now change graphic size.rows size.cols) }
+/// A start of `smacs` and `rmacs` with this charset.
+fn probe_with(charset: Charset, size: Size) -> Probe
+    ensures charset { result.charset ≡ charset }
+    ensures free { IsFree size.rows size.cols (screen_of size.rows size.cols result) }
 {
-    let charset = settled.misled(change, graphic)?;
-    let probe = Probe {
+    Probe {
         row: 0,
         col: 0,
         pending: false,
@@ -233,12 +241,16 @@ fn probe_of(settled: &Charsets, change: Sets, graphic: bool, size: Size) -> Opti
         background: None,
         visible: true,
         fill: b'x',
-    };
-    if probe.is_start_of(switching(graphic), size) {
-        Some(probe)
-    } else {
-        None
     }
+}
+
+/// A start with one of these charsets, from which the change activates the other set.
+fn probe_of(settled: &Charsets, change: Sets, graphic: bool, size: Size) -> Option<Probe>
+    ensures some { IfSome result (spec.IsMisled settled.now change graphic size.rows size.cols) }
+    ensures none { IfNone result ((c : Charset) → closing.has settled.now c ≡ true → is_graphic (designated change c) ≡ graphic) }
+{
+    let charset = settled.misled(change, graphic)?;
+    Some(probe_with(charset, size))
 }
 
 /// A start with a settled charset from which `smacs` or `rmacs` ends with the other set active.
@@ -248,71 +260,73 @@ fn misswitched(
     size: Size,
     settled: &Charsets,
     graphic: bool,
-) -> Result<Option<Probe>, Cause>
-    requires { (c : Charset) → closing.has settled.now c ≡ true → spec.AlwaysSettles entry.now size.rows size.cols c }
-    ensures { IfOk result (λ found. IfSome found (spec.AlwaysMisswitches entry.now size.rows size.cols graphic)) }
+) -> Result<Option<Probe>, No>
+    requires fit { IsFit entry.now }
+    requires written { EachWritten entry.now size.rows size.cols }
+    requires sound { (c : Charset) → closing.has settled.now c ≡ true → spec.AlwaysSettles entry.now size.rows size.cols c }
+    requires complete { spec.HasSettled entry.now size.rows size.cols settled.now }
+    ensures some { IfOk result (λ found. IfSome found (spec.AlwaysMisswitches entry.now size.rows size.cols graphic)) }
+    ensures none { IfOk result (λ found. IfNone found (last.OfAllSent entry.now size.rows size.cols (last.SwitchesRight (spec.switching graphic)))) }
+    ensures refused { IfErr result (IsOfAll entry.now size.rows size.cols) }
 {
-    let row = switching(graphic);
-    if !is_checked(entry, row) {
-        return Ok(None);
-    }
-    match entry.get_string(row.cap()) {
-        Some(string) => {
-            let (_, change) = change_by(alloc, string, row, size)?;
-            Ok(probe_of(settled, change, graphic, size))
-        }
+    match change_at(alloc, entry, switching(graphic), size)? {
+        Some((_, change)) => Ok(probe_of(settled, change, graphic, size)),
         None => Ok(None),
     }
 }
 
-/// The no of `smacs` or `rmacs` where it ends with the other set active.
-fn switching_no(
+/// That from each settled charset `smacs` or `rmacs` ends with its set active, `smacs` being looked at
+/// before.
+fn check_switch(
     alloc: Global,
     entry: &Entry,
     size: Size,
     settled: &Charsets,
     graphic: bool,
-) -> Result<Option<No>, Cause>
+) -> Result<(), No>
     requires fit { IsFit entry.now }
-    requires stands { EachStands entry.now size.rows size.cols }
-    requires settled { (c : Charset) → closing.has settled.now c ≡ true → spec.AlwaysSettles entry.now size.rows size.cols c }
-    ensures { IfOk result (λ found. IfSome found (IsOfAll entry.now size.rows size.cols)) }
+    requires written { EachWritten entry.now size.rows size.cols }
+    requires sound { (c : Charset) → closing.has settled.now c ≡ true → spec.AlwaysSettles entry.now size.rows size.cols c }
+    requires complete { spec.HasSettled entry.now size.rows size.cols settled.now }
+    requires earlier { graphic ≡ false → last.OfAllSent entry.now size.rows size.cols (last.SwitchesRight rows.Smacs) }
+    ensures right { OnOk result (last.OfAllSent entry.now size.rows size.cols (last.SwitchesRight (spec.switching graphic))) }
+    ensures refused { IfErr result (IsOfAll entry.now size.rows size.cols) }
 {
     match misswitched(alloc, entry, size, settled, graphic)? {
-        Some(probe) => Ok(Some(No::at(switching(graphic), Cause::WrongEffect(probe)))),
-        None => Ok(None),
+        Some(probe) => Err(No::at(switching(graphic), Cause::WrongEffect(probe))),
+        None => Ok(()),
     }
 }
 
-/// The no of `acsc` where the graphic set can stay active, and letters of line graphics can't be sent.
-fn graphic_no(entry: &Entry, size: Size, settled: &Charsets) -> Option<No>
+/// That the graphic set can't stay active where letters of line graphics can't be sent.
+fn check_plain(entry: &Entry, size: Size, settled: &Charsets) -> Result<(), No>
     requires fit { IsFit entry.now }
-    requires stands { EachStands entry.now size.rows size.cols }
-    requires settled { (c : Charset) → closing.has settled.now c ≡ true → spec.AlwaysSettles entry.now size.rows size.cols c }
-    ensures { IfSome result (IsOfAll entry.now size.rows size.cols) }
+    requires written { EachWritten entry.now size.rows size.cols }
+    requires sound { (c : Charset) → closing.has settled.now c ≡ true → spec.AlwaysSettles entry.now size.rows size.cols c }
+    requires complete { spec.HasSettled entry.now size.rows size.cols settled.now }
+    requires switches { last.SwitchRight entry.now size.rows size.cols }
+    ensures right { OnOk result (last.SettleRight entry.now size.rows size.cols) }
+    ensures refused { IfErr result (IsOfAll entry.now size.rows size.cols) }
 {
     if is_checked(entry, Row::Smacs) {
-        return None;
+        return Ok(());
     }
     match settled.misled(KEPT, false) {
-        Some(_) => Some(No::of(acsc(), Cause::BadLook)),
-        None => None,
+        Some(_) => Err(No::of(acsc(), Cause::BadLook)),
+        None => Ok(()),
     }
 }
 
-/// What is wrong with the character sets that all strings together leave: the first of `smacs`, `rmacs`
-/// and `acsc` with which something is.
-pub(crate) fn clash_of(alloc: Global, entry: &Entry, size: Size) -> Result<Option<No>, Cause>
+/// Judges the character sets that all strings together leave: `smacs`, then `rmacs`, and then those that
+/// stay where letters of line graphics can't be sent.
+pub(crate) fn check_charsets(alloc: Global, entry: &Entry, size: Size) -> Result<(), No>
     requires fit { IsFit entry.now }
-    requires stands { EachStands entry.now size.rows size.cols }
-    ensures { IfOk result (λ found. IfSome found (IsOfAll entry.now size.rows size.cols)) }
+    requires written { EachWritten entry.now size.rows size.cols }
+    ensures right { OnOk result (last.SettleRight entry.now size.rows size.cols) }
+    ensures refused { IfErr result (IsOfAll entry.now size.rows size.cols) }
 {
     let settled = settled_of(alloc, entry, size)?;
-    if let Some(no) = switching_no(alloc, entry, size, &settled, true)? {
-        return Ok(Some(no));
-    }
-    if let Some(no) = switching_no(alloc, entry, size, &settled, false)? {
-        return Ok(Some(no));
-    }
-    Ok(graphic_no(entry, size, &settled))
+    check_switch(alloc, entry, size, &settled, true)?;
+    check_switch(alloc, entry, size, &settled, false)?;
+    check_plain(entry, size, &settled)
 }

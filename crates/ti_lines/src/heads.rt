@@ -46,7 +46,7 @@ fn acsc_in(alloc: Global, text: &[u8]) -> Result<Option<Vec<u8>>, AllocError>
 {
     match behind_word(b"acsc", text) {
         None => Ok(None),
-        Some(rest) => hex_at(alloc, rest),
+        Some(rest) => hex_at(rest, Vec::new(alloc)),
     }
 }
 

@@ -1,32 +1,45 @@
 //! Bytes as hexadecimal words.
-ghost use Rattle.std.specs.Prelude.{◌≡◌, ◌&&◌, nat_le, IfOk, option_map};
+ghost use Rattle.std.specs.Prelude.{◌≡◌, ◌/◌, ◌&&◌, if◌then◌else◌, Some, None, length, nat_le, IfOk, option_map};
 ghost use Rattle.hex.specs.Hex.{decode_of};
 ghost use Rattle.ti_lines.specs.Hex as spec;
 
-use hex::FromHexError;
-use std::alloc::{AllocError, Global};
+use std::alloc::AllocError;
 
 /// The bytes of a word of lower case hexadecimal digits, or none for a dash. `None` for any other word.
-pub(crate) fn hex_at(alloc: Global, text: &[u8]) -> Result<Option<Vec<u8>>, AllocError>
+/// They are put into `room`, in place of what it held.
+pub(crate) fn hex_at(text: &[u8], room: Vec<u8>) -> Result<Option<Vec<u8>>, AllocError>
     ensures { IfOk result (λ found. option_map (λ bytes. bytes.items) found ≡ spec.hex_in text.now) }
 {
     if text == b"-".as_slice() {
-        Ok(Some(Vec::new(alloc)))
+        let mut bytes = room;
+        bytes.clear();
+        Ok(Some(bytes))
     } else if has_lower_digits(text) {
-        decoded(alloc, text)
+        decoded(text, room)
     } else {
         Ok(None)
     }
 }
 
-fn decoded(alloc: Global, text: &[u8]) -> Result<Option<Vec<u8>>, AllocError>
+fn decoded(text: &[u8], room: Vec<u8>) -> Result<Option<Vec<u8>>, AllocError>
     ensures { IfOk result (λ found. option_map (λ bytes. bytes.items) found ≡ spec.decoded (decode_of text.now)) }
 {
-    match hex::decode(alloc, text) {
-        Ok(bytes) => Ok(Some(bytes)),
-        Err(FromHexError::OutOfMemory) => Err(AllocError),
-        Err(_) => Ok(None),
+    let mut bytes = room;
+    bytes.clear();
+    bytes.resize(text.len() / 2, 0)?;
+    if decode_into(text, bytes.as_mut_slice()) {
+        Ok(Some(bytes))
+    } else {
+        Ok(None)
     }
+}
+
+/// Decodes a word into room for half as many bytes as it has digits, unless it has other letters.
+fn decode_into(text: &[u8], bytes: &mut [u8]) -> bool
+    requires { length bytes.old ≡ length text.now / 2 }
+    ensures { (if result then Some bytes.new else None) ≡ spec.decoded (decode_of text.now) }
+{
+    hex::decode_to_slice(text, bytes).is_ok()
 }
 
 fn has_lower_digits(text: &[u8]) -> bool

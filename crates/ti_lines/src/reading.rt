@@ -6,7 +6,7 @@ ghost use Rattle.ti_lines.specs.Lines as spec;
 use crate::cuts::cut;
 use crate::hexes::hex_at;
 use crate::lines::RowLine;
-use std::alloc::{AllocError, Global};
+use std::alloc::AllocError;
 use ti_caps::Bytes;
 use ti_rows::{Params, Row};
 use vt_notation::{number_at, read};
@@ -14,9 +14,10 @@ use vt_notation::{number_at, read};
 /// The line about a checked capability that has this text, without its LF. `None` if there is none:
 /// for another name than that of a checked capability, another number of parameters than it has,
 /// numbers with leading zeros or above 65535, hexadecimal digits in upper case, and an effect that
-/// isn't in its one form. Whether a size allows the parameters is another question. An `AllocError`
-/// comes if there is no memory for the bytes.
-pub fn read_row_line(alloc: Global, text: &[u8]) -> Result<Option<RowLine>, AllocError>
+/// isn't in its one form. Whether a size allows the parameters is another question. The line's bytes
+/// are put into `room`, in place of what it held; an `AllocError` comes if there is no memory where it
+/// has to grow.
+pub fn read_row_line(text: &[u8], room: Vec<u8>) -> Result<Option<RowLine>, AllocError>
     ensures found { IfOk result (λ found. IfSome found (λ line. spec.IsTextOf text.now line)) }
     ensures each { IfOk result (λ found. (line : declared.RowLine) → spec.IsTextOf text.now line → found ≡ Some line) }
 {
@@ -24,18 +25,18 @@ pub fn read_row_line(alloc: Global, text: &[u8]) -> Result<Option<RowLine>, Allo
         None => Ok(None),
         Some((name, rest)) => match Row::named(name) {
             None => Ok(None),
-            Some(first) => line_of(alloc, first, rest),
+            Some(first) => line_of(first, rest, room),
         },
     }
 }
 
 /// The line of a capability whose parameters, bytes and effect are this text.
-fn line_of(alloc: Global, first: Row, text: &[u8]) -> Result<Option<RowLine>, AllocError>
+fn line_of(first: Row, text: &[u8], room: Vec<u8>) -> Result<Option<RowLine>, AllocError>
     ensures { IfOk result (λ found. found ≡ spec.line_of first text.now) }
 {
     match row_before(first, text) {
         None => Ok(None),
-        Some((row, rest)) => line_behind(alloc, row, rest),
+        Some((row, rest)) => line_behind(row, rest, room),
     }
 }
 
@@ -65,14 +66,14 @@ fn numbers_before<'a>(count: usize, text: &'a [u8], numbers: &mut Params) -> Opt
 }
 
 /// The bytes and the effect after a row.
-fn line_behind(alloc: Global, row: Row, text: &[u8]) -> Result<Option<RowLine>, AllocError>
+fn line_behind(row: Row, text: &[u8], room: Vec<u8>) -> Result<Option<RowLine>, AllocError>
     ensures { IfOk result (λ found. found ≡ spec.line_behind row text.now) }
 {
     match cut(b' ', text) {
         None => Ok(None),
         Some((word, rest)) => match read(rest) {
             None => Ok(None),
-            Some(effect) => match hex_at(alloc, word)? {
+            Some(effect) => match hex_at(word, room)? {
                 None => Ok(None),
                 Some(bytes) => Ok(Some(RowLine {
                     row,

@@ -245,7 +245,7 @@ const STAYS_GRAPHIC: &[u8] =
 const LED_THERE: &[u8] = b"the entry's other strings lead to these character sets";
 
 const NOT_TOGETHER: &[u8] =
-    b"each string is right by itself; it is not shown that smacs and rmacs switch the sets in every state that the other strings leave, or that smcup, enacs, sgr0, rmacs, csr and clear, sent one after another, lead from any state to a blank screen";
+    b"each string is right by itself, and nothing is wrong with all of them together: smacs and rmacs switch the sets in every state that the other strings leave, and what leads out of an unknown state begins with ESC; but no certificate could be made of them";
 
 /// Whether it is the string that could not be shown right, or the strings of the entry together.
 fn explain_unshown(

@@ -6,7 +6,7 @@ use crate::progress::ProgressLine;
 use cur_commands::{Playing, play_script, show_script};
 use std::alloc::Global;
 use std::io::{IsTerminal, Write};
-use ti_arguments::{Answer, LineFault, Request, parse_line};
+use ti_arguments::{Answer, LineFault, Request, Scripted, parse_line};
 use ti_commands::{
     Comparison, Expansion, Failure, Files, Output, Remarks, Reply, Written, compare_entries,
     compile_entry, expand_string, feed_file, print_entry, report, write_reply, write_text,
@@ -94,39 +94,13 @@ fn reply_to<F: Files, O: Output, E: Write + IsTerminal>(
             cols,
             certificate,
         } => verify(alloc, entry, rows, cols, certificate, files, remarks),
-        Request::Play {
-            entry,
-            rows,
-            cols,
-            certificate,
-            script,
-        } => {
-            let words = script_words(entry, rows, cols, certificate, script);
-            play_script(alloc, &words, files, out, remarks)?;
+        Request::Play(words) => {
+            play_script(alloc, &playing(words), files, out, remarks)?;
             Ok(Reply::of_text(alloc, Vec::new(alloc)))
         }
-        Request::Show {
-            entry,
-            rows,
-            cols,
-            certificate,
-            script,
-        } => {
-            let words = script_words(entry, rows, cols, certificate, script);
-            show_script(alloc, &words, files, remarks)
-        }
-        Request::Survey {
-            rows,
-            cols,
-            files: paths,
-        } => {
-            let words = Survey {
-                rows,
-                cols,
-                files: paths.as_slice(),
-            };
-            let line = ProgressLine::new(alloc, err);
-            survey_files(alloc, &Checker, &words, files, line, remarks)
+        Request::Show(words) => show_script(alloc, &playing(words), files, remarks),
+        Request::Survey { rows, cols, paths } => {
+            survey(alloc, rows, cols, paths.as_slice(), files, err, remarks)
         }
         Request::Print { entry } => print_entry(alloc, entry, files, remarks),
         Request::Common { first, second } => {
@@ -138,19 +112,13 @@ fn reply_to<F: Files, O: Output, E: Write + IsTerminal>(
     }
 }
 
-fn script_words<'a>(
-    entry: &'a str,
-    rows: &'a str,
-    cols: &'a str,
-    certificate: &'a str,
-    script: &'a str,
-) -> Playing<'a> {
+fn playing<'a>(words: &Scripted<'a>) -> Playing<'a> {
     Playing {
-        entry,
-        rows,
-        cols,
-        certificate,
-        script,
+        entry: words.entry,
+        rows: words.rows,
+        cols: words.cols,
+        certificate: words.certificate,
+        script: words.script,
     }
 }
 
@@ -207,4 +175,22 @@ fn verify<F: Files>(
         certificate,
     };
     verify_certificate(alloc, &words, files, remarks)
+}
+
+fn survey<F: Files, E: Write + IsTerminal>(
+    alloc: Global,
+    rows: &str,
+    cols: &str,
+    paths: &[&str],
+    files: &mut F,
+    err: &mut E,
+    remarks: &mut Remarks,
+) -> Result<Reply, Failure> {
+    let words = Survey {
+        rows,
+        cols,
+        files: paths,
+    };
+    let line = ProgressLine::new(alloc, err);
+    survey_files(alloc, &Checker, &words, files, line, remarks)
 }

@@ -1,4 +1,4 @@
-use Rattle.std.proofs.Common.{◌≡◌, ◌≤◌, ℕ, List, Option, Some, Err, length, subst, arith}
+use Rattle.std.proofs.Common.{◌≡◌, ◌+◌, ℕ, List, Option, Some, Err, length, subst, arith}
 use Rattle.std.proofs.lemmas.Result.{err_from_is_err_and}
 use Rattle.cur_wires.specs.declared.wires.WireFault.{WireFault}
 use Rattle.ti_rows.specs.declared.rows.Row.TheVariants.{Clear}
@@ -6,10 +6,9 @@ use Rattle.cur_looks.specs.declared.beliefs.Belief.{Belief}
 use Rattle.cur_looks.specs.Beliefs.{Agrees}
 use Rattle.cur_looks.proofs.Doing.{agrees_lost}
 use Rattle.cur_looks.proofs.Telling.{line_is}
-use Rattle.cur_paint.specs.Cleared.{cleared}
+use Rattle.cur_paint.specs.Cleared.{at_corner, cleared}
 use Rattle.cur_paint.specs.Limits.{paint_limit}
 use Rattle.cur_paint.specs.Update.{Anew}
-use Rattle.cur_paint.proofs.Bounding.{fresh_enough}
 use Rattle.cur_paint.proofs.Renewing.{anew_failed, anew_then, clear_leads}
 use Rattle.cur_paint.proofs.updates.clear_first.Goals as goal
 
@@ -21,27 +20,26 @@ returns-in_err-send_all-clause-step g c line is shown =
     let e = err_from_is_err_and c.from_residual.result c.from_residual.ensures.1 in
     let t = g.C.Certificate.table c.args.checked.now in
     let b : Belief = c.args.belief.now in
-    let d : Belief = record b { place = Some (record { row = 0; col = 0 }) } in
+    let d : Belief = at_corner b in
     let new = g.N.View.cells c.args.new.now in
     let sent : List ℕ = c.unwrap.result.now in
     let its : t.line_of Clear ≡ Some sent = line_is t Clear c.line.result c.unwrap.result c.unwrap.ensures c.line.ensures.value in
-    let short : length sent ≤ length t.resync = (c.rows.ensures.checked.lines Clear sent its).short in
-    let P : List ℕ → Type 0 = λ l. Anew {T = Unit {0}} {E = WireFault} g.W.Wire.went g.W.Wire.failures c.args.wire.now c.send_all.new.wire (Err e.0) t (Agrees t shown b) (Agrees t new d) l in
+    let limit : ℕ = paint_limit t (cleared b.brush.background) new d c.args.wanted.cursor c.args.wanted.mode in
+    let P : List ℕ → Type 0 = λ l. Anew {T = Unit {0}} {E = WireFault} g.W.Wire.went g.W.Wire.failures c.args.wire.now c.send_all.new.wire (Err e.0) t (length l + limit) (Agrees t shown b) (Agrees t new d) l in
     rw e.1 (subst P (one_line (t.line_of Clear) sent line its is)
-    (anew_failed g.W.Wire.went g.W.Wire.failures c.args.wire.now c.send_all.new.wire _ t (Agrees t shown b) (Agrees t (cleared b.brush.background) d) (Agrees t new d) sent (agrees_lost t c.rows.ensures.checked (cleared b.brush.background) d) (omega (arith, short))
+    (anew_failed g.W.Wire.went g.W.Wire.failures c.args.wire.now c.send_all.new.wire _ t (length sent + limit) (Agrees t shown b) (Agrees t (cleared b.brush.background) d) (Agrees t new d) sent (agrees_lost t c.rows.ensures.checked (cleared b.brush.background) d) (omega arith)
     (clear_leads t c.rows.ensures.checked sent its shown b) c.in_err-send_all.ensures.sends))
 
 pub returns-clause-step : goal.returns-clause-step
 returns-clause-step g c line is shown =
     let t = g.C.Certificate.table c.args.checked.now in
     let b : Belief = c.args.belief.now in
-    let d : Belief = record b { place = Some (record { row = 0; col = 0 }) } in
+    let d : Belief = at_corner b in
     let new = g.N.View.cells c.args.new.now in
-    let w = c.args.wanted in
     let sent : List ℕ = c.unwrap.result.now in
     let its : t.line_of Clear ≡ Some sent = line_is t Clear c.line.result c.unwrap.result c.unwrap.ensures c.line.ensures.value in
-    let short : length sent ≤ length t.resync = (c.rows.ensures.checked.lines Clear sent its).short in
-    let P : List ℕ → Type 0 = λ l. Anew g.W.Wire.went g.W.Wire.failures c.args.wire.now c.paint.new.wire c.paint.result t (Agrees t shown b) (Agrees t new c.paint.new.belief) l in
+    let limit : ℕ = paint_limit t (cleared b.brush.background) new d c.args.wanted.cursor c.args.wanted.mode in
+    let P : List ℕ → Type 0 = λ l. Anew g.W.Wire.went g.W.Wire.failures c.args.wire.now c.paint.new.wire c.paint.result t (length l + limit) (Agrees t shown b) (Agrees t new c.paint.new.belief) l in
     subst P (one_line (t.line_of Clear) sent line its is)
-    (anew_then g.W.Wire.went g.W.Wire.failures g.met.W.Wire.lawful c.args.wire.now c.send_all.new.wire c.paint.new.wire c.paint.result t (Agrees t shown b) (Agrees t (cleared b.brush.background) d) (Agrees t new c.paint.new.belief) sent
-    (paint_limit t (cleared b.brush.background) new d w.cursor w.mode) (fresh_enough t (length sent) (cleared b.brush.background) new d w.cursor w.mode short) (clear_leads t c.rows.ensures.checked sent its shown b) c.in_ok-send_all.ensures.sends c.paint.ensures.step)
+    (anew_then g.W.Wire.went g.W.Wire.failures g.met.W.Wire.lawful c.args.wire.now c.send_all.new.wire c.paint.new.wire c.paint.result t (length sent + limit) (Agrees t shown b) (Agrees t (cleared b.brush.background) d) (Agrees t new c.paint.new.belief) sent
+    limit (omega arith) (clear_leads t c.rows.ensures.checked sent its shown b) c.in_ok-send_all.ensures.sends c.paint.ensures.step)

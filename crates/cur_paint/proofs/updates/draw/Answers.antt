@@ -1,3 +1,7 @@
+use Rattle.std.proofs.Common.{◌+◌, ◌≤◌, length}
+use Rattle.cur_paint.specs.Cleared.{at_corner, cleared}
+use Rattle.cur_paint.specs.Limits.{paint_limit}
+use Rattle.cur_paint.proofs.Bounding.{fresh_enough}
 use Rattle.ti_rows.specs.declared.rows.Row.TheVariants.{Clear}
 use Rattle.cur_paint.proofs.Reaching.{IsThere, there}
 use Rattle.cur_paint.proofs.Renewing.{draws_fresh, draws_lost, draws_known, draws_clear}
@@ -9,9 +13,13 @@ returns-in-Known-true g c =
     let old = g.O.View.cells c.args.old.now in
     let new = g.N.View.cells c.args.new.now in
     let k : IsThere (t.line_of Clear) = there (t.line_of Clear) c.rows.ensures.checked.clears in
+    let b = c.args.belief.now in
+    let w = c.args.wanted in
+    let short : length k.bytes ≤ length t.resync = (c.rows.ensures.checked.lines Clear k.bytes k.is).short in
+    let shown = cleared b.brush.background in
     record {
       draws = draws_clear g.W.Wire.went g.W.Wire.failures c.args.wire.now c.clear_first.new.wire c.clear_first.result t old new c.args.wanted c.args.status c.args.belief.now c.clear_first.new.belief
-          c.in-Known-true.is-0 c.in-Known-true.is-1 k.bytes k.is (c.clear_first.ensures.step k.bytes k.is old) c.clear_first.ensures.there c.clear_first.ensures.mode;
+          c.in-Known-true.is-0 c.in-Known-true.is-1 k.bytes k.is (length k.bytes + paint_limit t shown new (at_corner b) w.cursor w.mode) (fresh_enough t (length k.bytes) shown new (at_corner b) w.cursor w.mode short) (c.clear_first.ensures.step k.bytes k.is old) c.clear_first.ensures.there c.clear_first.ensures.mode;
     }
 
 pub returns-in-Known-false : goal.returns-in-Known-false
@@ -20,8 +28,8 @@ returns-in-Known-false g c =
     let old = g.O.View.cells c.args.old.now in
     let new = g.N.View.cells c.args.new.now in
     record {
-      draws = draws_known g.W.Wire.went g.W.Wire.failures c.args.wire.now c.paint.new.wire c.paint.result t old new c.args.wanted c.args.status c.args.belief.now c.paint.new.belief
-          c.in-Known-false.is-0 c.in-Known-false.is-1 c.paint.ensures.step c.paint.ensures.there c.paint.ensures.mode;
+      draws = draws_known g.W.Wire.went g.W.Wire.failures c.args.wire.now c.mend.new.wire c.mend.result t old new c.args.wanted c.args.status c.args.belief.now c.mend.new.belief
+          c.in-Known-false.is-0 c.in-Known-false.is-1 c.mend.ensures.step c.mend.ensures.there c.mend.ensures.mode;
     }
 
 pub returns-in-Fresh-default : goal.returns-in-Fresh-default

@@ -2,11 +2,11 @@ use Rattle.std.proofs.Common.{◌≡◌, ◌∙◌, sym, subst}
 use Rattle.std.proofs.lemmas.Result.{err_from_is_err_and}
 use Rattle.ti_checker.specs.declared.causes.Cause.TheVariants.{NoMemory}
 use Rattle.ti_checker.proofs.BasicDrafts.{draft_is_basic, only_memory}
-use Rattle.ti_checker.proofs.Earliest.{each_stands}
+use Rattle.ti_checker.proofs.Fitting.{each_written}
 use Rattle.ti_checker.proofs.drafts.draft_of.Goals as goal
 
-pub returns-in-Ok-finished-clause-stands : goal.returns-in-Ok-finished-clause-stands
-returns-in-Ok-finished-clause-stands c = each_stands c.args.entry.now c.args.size.rows c.args.size.cols c.push_caps.new.draft.text.items c.in_ok-push_caps.ensures.drafted
+pub returns-in-Ok-finished-clause-written : goal.returns-in-Ok-finished-clause-written
+returns-in-Ok-finished-clause-written c = each_written c.args.entry.now c.args.size.rows c.args.size.cols c.push_caps.new.draft.text.items c.in_ok-push_caps.ensures.drafted
 
 pub returns-in-Ok-finished-clause-basic_text : goal.returns-in-Ok-finished-clause-basic_text
 returns-in-Ok-finished-clause-basic_text c = λ basic. c.in-Ok-finished.ensures ∙ draft_is_basic c.args.entry.now c.args.size.rows c.args.size.cols c.push_caps.new.draft.text.items c.args.size.limits basic c.in_ok-push_caps.ensures.drafted

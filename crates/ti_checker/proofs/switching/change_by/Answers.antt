@@ -3,8 +3,8 @@ use Rattle.vt_term.specs.Text.{Splits}
 use Rattle.ti_cert.proofs.Judging.{recorded_at, record_sets}
 use Rattle.ti_checker.proofs.switching.change_by.Goals as goal
 
-pub returns-in-Some : goal.returns-in-Some
-returns-in-Some c = record {
+pub returns-in-Some-clause-change : goal.returns-in-Some-clause-change
+returns-in-Some-clause-change c = record {
   bytes = c.in_ok-bytes.bytes.items;
   sends = c.in_ok-bytes.ensures.sends;
   whole = subst (λ (bytes : List ℕ). Splits bytes c.in_ok-tokens.tokens.items []) c.deref.ensures.value c.in_ok-tokens.ensures.whole;

@@ -1,15 +1,12 @@
-use Rattle.std.proofs.Common.{ℕ, refl, sym, ap, ◌∙◌}
-use Rattle.ti_caps.specs.Entry.{string_at}
-use Rattle.ti_checker.proofs.Settled.{unchecked_leads, checked_leads, absent_string}
+use Rattle.std.proofs.Common.{refl}
+use Rattle.ti_checker.specs.Switching.{IsChangeOf}
+use Rattle.ti_checker.proofs.Settled.{unchecked_leads, checked_leads, found_some, found_none}
 use Rattle.ti_checker.proofs.switching.change_of.Goals as goal
+use Rattle.ti_checker.proofs.switching.change_of.Goals.{in-Some, in-None}
 
-pub returns-then-not-is_checked : goal.returns-then-not-is_checked
-returns-then-not-is_checked c = unchecked_leads c.args.entry.now c.args.size.rows c.args.size.cols c.args.row _ c.requires (sym c.is_checked.ensures ∙ c.if-not-is_checked.true) refl
-
-pub returns-in_ok-change-in-Some : goal.returns-in_ok-change-in-Some
-returns-in_ok-change-in-Some c = checked_leads c.args.entry.now c.args.size.rows c.args.size.cols c.args.row c.in-Some.string.now c.in_ok-change-in-Some.field-0-0.items c.in_ok-change-in-Some.change c.requires
-    (sym c.is_checked.ensures ∙ c.if-not-is_checked.false) (sym (c.in-Some.ensures ∙ ap (λ (n : ℕ). string_at c.args.entry.now n) c.cap.ensures)) c.in_ok-change-in-Some.ensures
-
-pub returns-in-None : goal.returns-in-None
-returns-in-None c = unchecked_leads c.args.entry.now c.args.size.rows c.args.size.cols c.args.row _ c.requires
-    (absent_string c.args.entry.now c.args.row (sym (c.in-None.ensures ∙ ap (λ (n : ℕ). string_at c.args.entry.now n) c.cap.ensures))) refl
+pub returns-clause-leads : goal.returns-clause-leads
+returns-clause-leads c = elim c.match-branch-2.branch [
+  | in-Some w ↦ rw w.result-is (checked_leads c.args.entry.now c.args.size.rows c.args.size.cols c.args.row _ w.in-Some.change c.requires.range
+      (found_some c.in_ok-change.field-0 _ (λ change. IsChangeOf c.args.entry.now c.args.row change.0.items change.1) w.in-Some.is c.in_ok-change.ensures.some))
+  | in-None w ↦ rw w.result-is (unchecked_leads c.args.entry.now c.args.size.rows c.args.size.cols c.args.row _ c.requires.range (found_none c.in_ok-change.field-0 w.in-None.is c.in_ok-change.ensures.none) refl)
+]

@@ -14,12 +14,12 @@ returns-then-is_end_line-clause-err c = IfErr-weaker c.judge_end.result (λ kind
     (λ kind h. last_refused c.args.self.now c.args.text.now kind (sym c.is_end_line.ensures ∙ c.if-is_end_line.true) h) c.judge_end.ensures.err
 
 pub returns-in-Some-clause-ok : goal.returns-in-Some-clause-ok
-returns-in-Some-clause-ok c = on_ok_weaker c.judge_row.result (λ h. later_row c.args.self.now c.args.text.now c.in-Some.line (Ok c.judge_row.new.self) (sym c.is_end_line.ensures ∙ c.if-is_end_line.false)
+returns-in-Some-clause-ok c = on_ok_weaker c.judge_row.result (λ h. later_row c.args.self.now c.replace-room.new.dest c.args.text.now c.in-Some.line (Ok c.judge_row.new.self) (sym c.is_end_line.ensures ∙ c.if-is_end_line.false)
     (subst (λ o. IfSome o (λ line. IsTextOf c.args.text.now line)) c.in-Some.is c.in_ok-line.ensures.found) h) c.judge_row.ensures.ok
 
 pub returns-in-Some-clause-err : goal.returns-in-Some-clause-err
-returns-in-Some-clause-err c = IfErr-weaker c.judge_row.result (λ kind. OrNoMemory kind (AnswersRow c.args.self.now c.in-Some.line)) (λ kind. OrNoMemory kind (AnswersLater c.args.self.now c.args.text.now))
-    (λ kind h. row_refused c.args.self.now c.args.text.now c.in-Some.line kind (sym c.is_end_line.ensures ∙ c.if-is_end_line.false)
+returns-in-Some-clause-err c = IfErr-weaker c.judge_row.result (λ kind. OrNoMemory kind (AnswersRow (record c.args.self.now { room = c.replace-room.new.dest }) c.in-Some.line)) (λ kind. OrNoMemory kind (AnswersLater c.args.self.now c.args.text.now))
+    (λ kind h. row_refused c.args.self.now c.replace-room.new.dest c.args.text.now c.in-Some.line kind (sym c.is_end_line.ensures ∙ c.if-is_end_line.false)
     (subst (λ o. IfSome o (λ line. IsTextOf c.args.text.now line)) c.in-Some.is c.in_ok-line.ensures.found) h) c.judge_row.ensures.err
 
 pub returns-in-None-clause-err : goal.returns-in-None-clause-err

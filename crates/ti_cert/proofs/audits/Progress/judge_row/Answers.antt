@@ -1,8 +1,5 @@
-use Rattle.std.proofs.Common.{List, ℕ, inl, refl, sym, subst, ◌∙◌, ap}
+use Rattle.std.proofs.Common.{inl, ap}
 use Rattle.std.proofs.lemmas.Result.{err_from_is_err_and}
-use Rattle.vt_effects.specs.Record.{IsRecordOf}
-use Rattle.ti_rows.specs.Asked.{start_of}
-use Rattle.ti_cert.specs.Strings.{Adds}
 use Rattle.ti_cert.specs.declared.audits.Progress.{Progress}
 use Rattle.ti_cert.proofs.Auditing.{recorded_for, row_misplaced_at, row_cut_at, row_misshows_at, row_stands_at}
 use Rattle.ti_cert.proofs.audits.Progress.judge_row.Goals as goal
@@ -39,4 +36,4 @@ returns-clause-ok c =
     let r = recorded_for _ _ _ _ c.args.line.row _ _ c.in_ok-found.ensures.record c.size.ensures.rows c.size.ensures.cols in
     row_stands_at c.args.self.now c.args.line _ _ c.as_slice-bytes.result.now r.tokens c.in_ok-effect.effect c.in_ok-effect.looks c.add.new.self c.self.view_is (ap (λ (x : Progress). x.known) c.self.view_is) c.as_slice-bytes.ensures
     c.in_ok-check.ensures.passes r.splits (c.in_ok-effect.ensures.record r.tokens r.is) c.in_ok-effect.ensures.stated c.in_ok-effect.ensures.looks
-    c.in_ok-add.ensures.strings c.in_ok-add.ensures.looks c.in_ok-add.ensures.holds c.after-self.result.last c.after-self.ensures c.add.new.scanner
+    c.in_ok-add.ensures.strings c.in_ok-add.ensures.looks c.in_ok-add.ensures.holds c.after-self.result.last c.after-self.ensures c.add.new.scanner c.args.line.bytes

@@ -1,5 +1,5 @@
 use Rattle.vt_term.specs.Scanned.{IsTokenAt}
-use Rattle.ti_charsets.proofs.Texts.{learned_none, learned_more, learned_all}
+use Rattle.ti_charsets.proofs.Texts.{learned_none, learned_more, learned_all, learned_whole}
 use Rattle.ti_charsets.proofs.reach.Reach.learn_text.Goals as goal
 
 pub loop-end-init : goal.loop-end-init
@@ -12,3 +12,6 @@ loop-end-preserved c =
 
 pub returns-in-Ok-None-clause-learned : goal.returns-in-Ok-None-clause-learned
 returns-in-Ok-None-clause-learned c = learned_all c.args.self.now c.args.text.now c.loop-end.at c.loop-end.self c.loop-end.invariant (c.in-Ok-None.ensures.end c.in-Ok-None.field-0-is)
+
+pub returns-in-Ok-None-clause-whole : goal.returns-in-Ok-None-clause-whole
+returns-in-Ok-None-clause-whole c = learned_whole c.args.self.now c.args.text.now c.loop-end.at c.loop-end.self c.loop-end.invariant (c.in-Ok-None.ensures.end c.in-Ok-None.field-0-is)

@@ -1,6 +1,10 @@
-use Rattle.std.proofs.Common.{sym, ◌∙◌}
+use Rattle.std.proofs.Common.{ℕ, ◌+◌, sym, subst, ◌∙◌}
+use Rattle.ti_rows.specs.Lists.{rank}
+use Rattle.ti_rows.specs.Names.{order}
 use Rattle.ti_rows.proofs.Listing.{next_follows}
 use Rattle.ti_sends.proofs.Walking.{nearer}
+use Rattle.ti_checker.specs.Switching.{IsSeen}
+use Rattle.ti_checker.proofs.Settled.{seen_cap}
 use Rattle.ti_checker.proofs.switching.Seen.learn_rows.Goals as goal
 
 pub loop-next-smaller : goal.loop-next-smaller
@@ -14,5 +18,14 @@ loop-next-preserved c =
     record {
       range = f.range;
       same = f.same_order ∙ c.loop-next.invariant.same;
-      seen = λ s. c.in_ok-learn.ensures (c.loop-next.invariant.seen s);
+      seen = λ s.
+          subst (λ (n : ℕ). IsSeen c.args.entry.now c.args.size.rows c.args.size.cols c.learn.new.self.reach c.learn.new.self.changes.items n (rank c.args.size.rows c.args.size.cols c.in-Some.next)) (sym f.same_order)
+          (subst (λ (k : ℕ). IsSeen c.args.entry.now c.args.size.rows c.args.size.cols c.learn.new.self.reach c.learn.new.self.changes.items (order c.loop-next.row) k) (sym f.rank_next)
+          (c.in_ok-learn.ensures.seen (c.loop-next.invariant.seen s)));
     }
+
+pub returns-in-None-clause-seen : goal.returns-in-None-clause-seen
+returns-in-None-clause-seen c = λ s.
+    subst (λ (n : ℕ). IsSeen c.args.entry.now c.args.size.rows c.args.size.cols c.learn.new.self.reach c.learn.new.self.changes.items (n + 1) 0) c.loop-next.invariant.same
+    (seen_cap c.args.entry.now c.args.size.rows c.args.size.cols c.loop-next.row c.learn.new.self.reach c.learn.new.self.changes.items c.args.size.limits c.loop-next.invariant.range (sym c.in-None.ensures)
+    (c.in_ok-learn.ensures.seen (c.loop-next.invariant.seen s)))

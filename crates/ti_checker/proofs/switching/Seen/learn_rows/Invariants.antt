@@ -8,7 +8,7 @@ abbrev pub invariant-loop-next : goal.invariant-loop-next
 invariant-loop-next l = record {
   range : IsInRange l.size.rows l.size.cols l.row;
   same : order l.row ≡ order l.fn.first;
-  seen : IsSeen l.entry l.size.rows l.size.cols l.fn.self.reach l.fn.self.changes.items → IsSeen l.entry l.size.rows l.size.cols l.self.reach l.self.changes.items;
+  seen : IsSeen l.entry l.size.rows l.size.cols l.fn.self.reach l.fn.self.changes.items (order l.fn.first) 0 → IsSeen l.entry l.size.rows l.size.cols l.self.reach l.self.changes.items (order l.row) (rank l.size.rows l.size.cols l.row);
 }
 
 abbrev pub decreases-loop-next : goal.decreases-loop-next

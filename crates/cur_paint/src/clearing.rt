@@ -1,0 +1,205 @@
+//! Whether all is cleared before a known screen is painted.
+ghost use Rattle.std.specs.Prelude.{◌≡◌, ◌+◌, ◌*◌, ◌<◌, ◌≤◌, true};
+ghost use Rattle.cur_paint.specs.Differ.{differs, span, all_differ};
+
+use crate::changes::Changes;
+use crate::parts::are_blank;
+use crate::rows::may_differ;
+use cur_looks::{Certificate, Row, View};
+
+/// What a move and a look take at least once more in a line of which cells are printed again.
+const AGAIN: usize = 8;
+
+/// Whether a place differs: 0 or 1.
+fn differing<O: View, N: View>(old: &O, new: &N, row: usize, col: usize) -> usize
+    ensures value { result ≡ differs (O.cells old.now) (N.cells new.now) row col }
+    ensures few { result ≤ 1 }
+{
+    if old.shows(row, col, new.at(row, col)) {
+        0
+    } else {
+        1
+    }
+}
+
+/// In how many of its first cells a line differs.
+fn count_line<O: View, N: View>(old: &O, new: &N, row: usize, cols: usize) -> usize
+    requires { cols ≤ 1000 }
+    ensures value { result ≡ span (O.cells old.now) (N.cells new.now) row 0 cols }
+    ensures few { result ≤ cols }
+{
+    let mut count = 0;
+    for col in 0..cols {
+        count += differing(old, new, row, col);
+    }
+    count
+}
+
+/// In how many cells the first lines differ.
+fn count_lines<O: View, N: View>(old: &O, new: &N, rows: usize, cols: usize) -> usize
+    requires rows { rows ≤ 1000 }
+    requires cols { cols ≤ 1000 }
+    ensures value { result ≡ all_differ (O.cells old.now) (N.cells new.now) cols rows }
+    ensures few { result ≤ rows * 1000 }
+{
+    let mut count = 0;
+    for row in 0..rows {
+        count += count_line(old, new, row, cols);
+    }
+    count
+}
+
+/// Whether fewer cells differ from one screen than from another, by more than so many.
+pub(crate) fn leaves_fewer<B: View, O: View, N: View>(
+    blank: &B,
+    old: &O,
+    new: &N,
+    rows: usize,
+    cols: usize,
+    by: usize,
+) -> bool
+    requires rows { rows ≤ 1000 }
+    requires cols { cols ≤ 1000 }
+    ensures { result ≡ true → by + all_differ (B.cells blank.now) (N.cells new.now) cols rows < all_differ (O.cells old.now) (N.cells new.now) cols rows }
+{
+    let left = count_lines(blank, new, rows, cols);
+    let all = count_lines(old, new, rows, cols);
+    left < all && by < all - left
+}
+
+/// A line of two screens: whether it is blank on the new one, how many cells of its end become so, and how many others
+/// stay what they were.
+#[derive(Clone, Copy)]
+struct Tally {
+    is_blank: bool,
+    blanked: usize,
+    kept: usize,
+}
+
+/// The tally with one more cell.
+fn with_cell(tally: Tally, is_blank: bool, stays: bool) -> Tally {
+    match (is_blank, stays) {
+        (true, true) => tally,
+        (true, false) => Tally {
+            blanked: tally.blanked.saturating_add(1),
+            ..tally
+        },
+        (false, _) => Tally {
+            is_blank: false,
+            blanked: 0,
+            kept: tally.kept.saturating_add(stays as usize),
+        },
+    }
+}
+
+/// The tally of a line.
+fn tally_of<B: View, O: View, N: View>(
+    blank: &B,
+    old: &O,
+    new: &N,
+    row: usize,
+    cols: usize,
+) -> Tally {
+    let mut tally = Tally {
+        is_blank: true,
+        blanked: 0,
+        kept: 0,
+    };
+    for col in 0..cols {
+        let cell = new.at(row, col);
+        let is_blank = blank.shows(row, col, cell);
+        tally = with_cell(tally, is_blank, old.shows(row, col, cell));
+    }
+    tally
+}
+
+/// Bytes that clearing saves above the last line that isn't blank, and below it, and bytes that it takes to print again
+/// what stays.
+#[derive(Clone, Copy)]
+struct Balance {
+    above: usize,
+    below: usize,
+    again: usize,
+}
+
+/// The balance with one more line, whose end can be erased by so many bytes.
+fn with_line(balance: Balance, tally: Tally, erasing: usize) -> Balance {
+    let saved = balance.below.saturating_add(tally.blanked.min(erasing));
+    if tally.is_blank {
+        return Balance {
+            below: saved,
+            ..balance
+        };
+    }
+    let again = if tally.kept == 0 {
+        0
+    } else {
+        tally.kept.saturating_add(AGAIN)
+    };
+    Balance {
+        above: balance.above.saturating_add(saved),
+        below: 0,
+        again: balance.again.saturating_add(again),
+    }
+}
+
+/// How many bytes a row's line has, and at most so many.
+fn bytes_within<C: Certificate>(checked: &C, row: Row, most: usize) -> usize {
+    match checked.line(row) {
+        Some(line) => line.len().min(most),
+        None => most,
+    }
+}
+
+/// Whether clearing by so many bytes is likely to take fewer than erasing line by line.
+pub(crate) fn saves<C: Certificate, B: View, O: View, N: View>(
+    checked: &C,
+    blank: &B,
+    old: &O,
+    new: &N,
+    clear: usize,
+) -> bool {
+    let cols = checked.cols();
+    let erasing = bytes_within(checked, Row::El, cols);
+    let most = checked.rows().saturating_mul(erasing);
+    let mut balance = Balance {
+        above: 0,
+        below: 0,
+        again: clear,
+    };
+    for row in 0..checked.rows() {
+        balance = with_line(balance, tally_of(blank, old, new, row, cols), erasing);
+        if balance.again >= most {
+            return false;
+        }
+    }
+    let below = bytes_within(checked, Row::Ed, balance.below);
+    balance.again < balance.above.saturating_add(below)
+}
+
+/// Whether a line becomes blank, as far as a cheap look shows.
+fn may_become_blank<N: View, D: Changes>(
+    new: &N,
+    changes: &D,
+    row: usize,
+    rows: usize,
+    cols: usize,
+) -> bool {
+    are_blank(new, row, 0, cols) && may_differ(changes, row, rows, cols)
+}
+
+/// Whether two of three lines become blank, so that it is worth a look at all of them.
+pub(crate) fn may_become_blanks<N: View, D: Changes>(
+    new: &N,
+    changes: &D,
+    rows: usize,
+    cols: usize,
+) -> bool {
+    let middle = may_become_blank(new, changes, rows / 2, rows, cols);
+    let upper = may_become_blank(new, changes, rows / 4, rows, cols);
+    match (middle, upper) {
+        (true, true) => true,
+        (false, false) => false,
+        _ => may_become_blank(new, changes, rows / 2 + rows / 4, rows, cols),
+    }
+}
