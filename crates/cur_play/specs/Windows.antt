@@ -97,6 +97,15 @@ abbrev pub skips : LayCall → Bool
 skips Overlay = true
 skips Overwrite = false
 
+-- the calls that draw lines, or copy from one window to another
+abbrev pub shaping : State → Call → Option DeskStep
+shaping d (Line k n p x) = Some (line_step k d n p x)
+shaping d (DrawBorder n b) = Some (on_grid d n (call.bordered b))
+shaping d (DrawBox n v h) = Some (on_grid d n (call.bordered (call.box_of v h)))
+shaping d (Lay k s t) = Some (copy.common_part (skips k) d s t)
+shaping d (Copywin s t from_row from_col row col last_row last_col skip) = Some (copy.copywin d s t from_row from_col row col last_row last_col skip)
+shaping d _ = None
+
 -- the calls that change windows, or delete one
 abbrev pub changing : State → Call → Option DeskStep
 changing d (Plain k n) = Some (plain_step k d n)
@@ -106,9 +115,4 @@ changing d (Flag k n on) = Some (flag_step k d n on)
 changing d (Attributes k n a) = Some (attributes_step k d n a)
 changing d (Cell k n p) = Some (cell_step k d n p)
 changing d (Addstr n text) = Some (on_window d n (call.added_all text))
-changing d (Line k n p x) = Some (line_step k d n p x)
-changing d (DrawBorder n b) = Some (on_grid d n (call.bordered b))
-changing d (DrawBox n v h) = Some (on_grid d n (call.bordered (call.box_of v h)))
-changing d (Lay k s t) = Some (copy.common_part (skips k) d s t)
-changing d (Copywin s t from_row from_col row col last_row last_col skip) = Some (copy.copywin d s t from_row from_col row col last_row last_col skip)
-changing d _ = None
+changing d other = shaping d other

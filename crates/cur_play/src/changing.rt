@@ -36,6 +36,15 @@ pub(crate) fn change(desk: &mut Desk, call: &Call<'_>) -> Option<Result<(), Refu
         } => Some(attributes(desk, *call, *window, *attrs)),
         Call::Cell { call, window, put } => Some(cell(desk, *call, *window, *put)),
         Call::Addstr { window, text } => Some(desk.addstr(*window, text.as_slice())),
+        _ => shape(desk, call),
+    }
+}
+
+/// Draws lines, or copies from one window to another; `None` for any other call.
+fn shape(desk: &mut Desk, call: &Call<'_>) -> Option<Result<(), Refusal>>
+    ensures { Does desk.old desk.new result (spec.shaping desk.old call.now) }
+{
+    match call {
         Call::Line {
             call,
             window,

@@ -39,10 +39,10 @@ parting name =
 -- places
 abbrev pub placing : List ℕ → Option Shape
 placing name =
-    if bytes_eq name (codes "mvwin") then Some (Numbers Mvwin)
-    else (if bytes_eq name (codes "move") then Some (Numbers Move)
-    else (if bytes_eq name (codes "setscrreg") then Some (Numbers Setscrreg)
+    if bytes_eq name (codes "move") then Some (Numbers Move)
     else (if bytes_eq name (codes "scroll") then Some (Number Scroll)
+    else (if bytes_eq name (codes "mvwin") then Some (Numbers Mvwin)
+    else (if bytes_eq name (codes "setscrreg") then Some (Numbers Setscrreg)
     else None)))
 
 -- two windows
@@ -57,8 +57,8 @@ laying name =
 abbrev pub writing : List ℕ → Option Shape
 writing name =
     if bytes_eq name (codes "addch") then Some (Cell Addch)
-    else (if bytes_eq name (codes "insch") then Some (Cell Insch)
     else (if bytes_eq name (codes "addstr") then Some Addstr
+    else (if bytes_eq name (codes "insch") then Some (Cell Insch)
     else None))
 
 -- lines
@@ -143,21 +143,21 @@ sending name =
     else (if bytes_eq name (codes "beep") then Some Beep
     else None))
 
--- windows as a whole
-abbrev pub desk : List ℕ → Option Shape
-desk name = or_else (making name) (or_else (parting name) (or_else (placing name) (laying name)))
-
--- what is written and erased
+-- what is written, where, and erased: the names that scripts have most
 abbrev pub text : List ℕ → Option Shape
-text name = or_else (writing name) (or_else (drawing name) (or_else (deleting name) (erasing name)))
+text name = or_else (writing name) (or_else (placing name) (or_else (deleting name) (erasing name)))
 
 -- what a window has
 abbrev pub style : List ℕ → Option Shape
-style name = or_else (setting name) (or_else (attributing name) (or_else (optioning name) (colouring name)))
+style name = or_else (attributing name) (or_else (setting name) (or_else (optioning name) (colouring name)))
+
+-- windows as a whole, and lines in them
+abbrev pub desk : List ℕ → Option Shape
+desk name = or_else (making name) (or_else (parting name) (or_else (laying name) (drawing name)))
 
 -- what acts on the screen
 abbrev pub screen : List ℕ → Option Shape
 screen name = or_else (touching name) (or_else (showing name) (sending name))
 
 abbrev pub named : List ℕ → Option Shape
-named name = or_else (desk name) (or_else (text name) (or_else (style name) (screen name)))
+named name = or_else (text name) (or_else (style name) (or_else (screen name) (desk name)))

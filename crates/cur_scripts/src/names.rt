@@ -12,19 +12,19 @@ use cur_calls::{
 pub(crate) fn named(name: &[u8]) -> Option<Shape>
     ensures { result ≡ spec.named name.now }
 {
-    if let Some(shape) = desk(name) {
-        return Some(shape);
-    }
     if let Some(shape) = text(name) {
         return Some(shape);
     }
     if let Some(shape) = style(name) {
         return Some(shape);
     }
-    screen(name)
+    if let Some(shape) = screen(name) {
+        return Some(shape);
+    }
+    desk(name)
 }
 
-// Windows as a whole.
+// Windows as a whole, and lines in them.
 fn desk(name: &[u8]) -> Option<Shape>
     ensures { result ≡ spec.desk name.now }
 {
@@ -34,20 +34,20 @@ fn desk(name: &[u8]) -> Option<Shape>
     if let Some(shape) = parting(name) {
         return Some(shape);
     }
-    if let Some(shape) = placing(name) {
+    if let Some(shape) = laying(name) {
         return Some(shape);
     }
-    laying(name)
+    drawing(name)
 }
 
-// What is written and erased.
+// What is written, where, and erased: the names that scripts have most.
 fn text(name: &[u8]) -> Option<Shape>
     ensures { result ≡ spec.text name.now }
 {
     if let Some(shape) = writing(name) {
         return Some(shape);
     }
-    if let Some(shape) = drawing(name) {
+    if let Some(shape) = placing(name) {
         return Some(shape);
     }
     if let Some(shape) = deleting(name) {
@@ -60,10 +60,10 @@ fn text(name: &[u8]) -> Option<Shape>
 fn style(name: &[u8]) -> Option<Shape>
     ensures { result ≡ spec.style name.now }
 {
-    if let Some(shape) = setting(name) {
+    if let Some(shape) = attributing(name) {
         return Some(shape);
     }
-    if let Some(shape) = attributing(name) {
+    if let Some(shape) = setting(name) {
         return Some(shape);
     }
     if let Some(shape) = optioning(name) {
@@ -121,14 +121,14 @@ fn parting(name: &[u8]) -> Option<Shape>
 fn placing(name: &[u8]) -> Option<Shape>
     ensures { result ≡ spec.placing name.now }
 {
-    if name == b"mvwin".as_slice() {
-        Some(Shape::Numbers(NumbersCall::Mvwin))
-    } else if name == b"move".as_slice() {
+    if name == b"move".as_slice() {
         Some(Shape::Numbers(NumbersCall::Move))
-    } else if name == b"setscrreg".as_slice() {
-        Some(Shape::Numbers(NumbersCall::Setscrreg))
     } else if name == b"scroll".as_slice() {
         Some(Shape::Number(NumberCall::Scroll))
+    } else if name == b"mvwin".as_slice() {
+        Some(Shape::Numbers(NumbersCall::Mvwin))
+    } else if name == b"setscrreg".as_slice() {
+        Some(Shape::Numbers(NumbersCall::Setscrreg))
     } else {
         None
     }
@@ -155,10 +155,10 @@ fn writing(name: &[u8]) -> Option<Shape>
 {
     if name == b"addch".as_slice() {
         Some(Shape::Cell(CellCall::Addch))
-    } else if name == b"insch".as_slice() {
-        Some(Shape::Cell(CellCall::Insch))
     } else if name == b"addstr".as_slice() {
         Some(Shape::Addstr)
+    } else if name == b"insch".as_slice() {
+        Some(Shape::Cell(CellCall::Insch))
     } else {
         None
     }

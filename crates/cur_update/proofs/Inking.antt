@@ -11,7 +11,8 @@ use Rattle.cur_windows.specs.declared.virtual_screen.Colors.{Colors}
 use Rattle.cur_looks.specs.Certified.{Table, has}
 use Rattle.cur_looks.specs.Inks.{IsInk, CanShow, blank_ink}
 use Rattle.cur_looks.specs.declared.inks.Ink.{Ink}
-use Rattle.cur_update.specs.Inks.{has_bit, color_of, partner_in, character_of, ink_of, ink_at, content_at}
+use Rattle.cur_update.specs.declared.inks.Means.{Means}
+use Rattle.cur_update.specs.Inks.{has_bit, color_of, partner_in, character_of, means_of, ink_of, ink_at, ink_at_with, content_at}
 
 both : (a b : Bool) → (a && b) ≡ true → (a ≡ true) × (b ≡ true)
 both true b h = (refl, h)
@@ -86,3 +87,7 @@ can_show t partners v cells i j = decide (nat_lt i v.rows && nat_lt j v.cols) re
         let q = both (nat_lt i v.rows) (nat_lt j v.cols) e in
         can_ink t partners (colors_at v (content_at v i j).pair) (content_at v i j) (cells i j (ltb-true i v.rows q.0) (ltb-true j v.cols q.1)).printed
     decide false e = blank_can t
+
+-- what a screen is printed as, with what the certificate's entry has
+pub as_table : (m : Means) (t : Table) (partners : ℕ → Option ℕ) (v : Screen) → m ≡ means_of t → ink_at_with m partners v ≡ ink_at t partners v
+as_table m t partners v e = ap (λ (x : Means). ink_at_with x partners v) e

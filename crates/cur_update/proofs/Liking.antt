@@ -1,41 +1,40 @@
 -- Cells of a line that are printed alike.
 use Rattle.std.proofs.Common.{◌≡◌, ℕ, ◌<◌, ◌==◌, ◌&&◌, Bool, true, false, nat_lt, cond, if◌then◌else◌, Option, Some, None, IfSome, refl, sym, ap, subst, ◌∙◌, arith}
 use Rattle.std.proofs.lemmas.Bool.Decides.{nat_tests}
-use Rattle.ti_rows.specs.declared.rows.Row.TheVariants.{Op, Smacs}
 use Rattle.ti_looks.specs.Alternates.{Character, shown, in_plain_set}
 use Rattle.cur_drawing.specs.Cells.{Content}
 use Rattle.cur_windows.specs.VirtualScreen.{Screen, colors_at}
 use Rattle.cur_windows.specs.declared.virtual_screen.Colors.{Colors}
-use Rattle.cur_looks.specs.Certified.{Table, has}
 use Rattle.cur_looks.specs.Inks.{blank_ink}
 use Rattle.cur_looks.specs.declared.inks.Ink.{Ink}
-use Rattle.cur_update.specs.Inks.{has_bit, attributes_of, color_of, brush_of, partner_in, ink_of, ink_at, content_at, IsPlainLike}
+use Rattle.cur_update.specs.declared.inks.Means.{Means}
+use Rattle.cur_update.specs.Inks.{has_bit, attributes_of, color_of, brush_of, partner_in, ink_with, ink_at_with, content_at, IsPlainLike}
 
 below : (m n : ℕ) → m < n → nat_lt m n ≡ true
 below m n lt = grind (arith, nat_tests)
 
-module _ (t : Table) (partners : ℕ → Option ℕ) (v : Screen) where
+module _ (m : Means) (partners : ℕ → Option ℕ) (v : Screen) where
   plain_ink : ℕ → ℕ → ℕ → Ink
-  plain_ink byte attrs pair = record { byte = byte; graphic = false; brush = brush_of (has t Op) (colors_at v pair) (record { byte = byte; attrs = attrs; pair = pair }) }
+  plain_ink byte attrs pair = record { byte = byte; graphic = false; brush = brush_of m.colored (colors_at v pair) (record { byte = byte; attrs = attrs; pair = pair }) }
 
-  plainly : (p : Colors) (c : Content) → has_bit c.attrs 128 ≡ false → ink_of t partners p c ≡ record { byte = c.byte; graphic = false; brush = brush_of (has t Op) p c }
-  plainly p c e = ap (λ (f : Bool). (let x : Character = (if f then shown (partner_in (has t Smacs) (partners c.byte)) c.byte else in_plain_set c.byte) in record { byte = x.byte; graphic = x.graphic; brush = brush_of (has t Op) p c })) e
+  plainly : (p : Colors) (c : Content) → has_bit c.attrs 128 ≡ false → ink_with m partners p c ≡ record { byte = c.byte; graphic = false; brush = brush_of m.colored p c }
+  plainly p c e = ap (λ (f : Bool). (let x : Character = (if f then shown (partner_in m.graphic (partners c.byte)) c.byte else in_plain_set c.byte) in record { byte = x.byte; graphic = x.graphic; brush = brush_of m.colored p c })) e
 
-  inside : (i j : ℕ) → i < v.rows → j < v.cols → ink_at t partners v i j ≡ ink_of t partners (colors_at v (content_at v i j).pair) (content_at v i j)
+  inside : (i j : ℕ) → i < v.rows → j < v.cols → ink_at_with m partners v i j ≡ ink_with m partners (colors_at v (content_at v i j).pair) (content_at v i j)
   inside i j li lj =
-      let here : Ink = ink_of t partners (colors_at v (content_at v i j).pair) (content_at v i j) in
+      let here : Ink = ink_with m partners (colors_at v (content_at v i j).pair) (content_at v i j) in
       ap (λ (f : Bool). if f && nat_lt j v.cols then here else blank_ink) (below i v.rows li) ∙ ap (λ (f : Bool). if f then here else blank_ink) (below j v.cols lj)
 
   pub like_ink : (i j k : ℕ) (o : Option ℕ) → i < v.rows → j < v.cols → k < v.cols → IfSome o (IsPlainLike (content_at v i j) (content_at v i k))
-      → IfSome o (λ b. ink_at t partners v i j ≡ record (ink_at t partners v i k) { byte = b })
+      → IfSome o (λ b. ink_at_with m partners v i j ≡ record (ink_at_with m partners v i k) { byte = b })
   unfolding plain_ink
   like_ink i j k None li lj lk h = tt
   like_ink i j k (Some b) li lj lk h =
       let c : Content = content_at v i j in
       let d : Content = content_at v i k in
       let plain : has_bit d.attrs 128 ≡ false = subst (λ (n : ℕ). has_bit n 128 ≡ false) h.attrs h.plain in
-      let one : ink_at t partners v i j ≡ plain_ink c.byte c.attrs c.pair = inside i j li lj ∙ plainly (colors_at v c.pair) c h.plain in
-      let other : ink_at t partners v i k ≡ plain_ink d.byte d.attrs d.pair = inside i k li lk ∙ plainly (colors_at v d.pair) d plain in
+      let one : ink_at_with m partners v i j ≡ plain_ink c.byte c.attrs c.pair = inside i j li lj ∙ plainly (colors_at v c.pair) c h.plain in
+      let other : ink_at_with m partners v i k ≡ plain_ink d.byte d.attrs d.pair = inside i k li lk ∙ plainly (colors_at v d.pair) d plain in
       let same : plain_ink c.byte c.attrs c.pair ≡ record (plain_ink d.byte d.attrs d.pair) { byte = b } =
       ap (λ (n : ℕ). plain_ink n c.attrs c.pair) (sym h.byte_is) ∙ ap (λ (n : ℕ). plain_ink b n c.pair) h.attrs ∙ ap (λ (n : ℕ). plain_ink b d.attrs n) h.pair in
       one ∙ same ∙ ap (λ (x : Ink). record x { byte = b }) (sym other)

@@ -1,6 +1,6 @@
 -- How a cell of the virtual screen is printed on a terminal (X/Open Curses Issue 7, "Attributes", "Color Manipulation";
 -- terminfo(5), "Line Graphics").
-use Rattle.std.specs.Prelude.{ℕ, ◌≡◌, ◌==◌, ◌&&◌, nat_lt, Bool, false, Option, Some, None, if◌then◌else◌, bit_and, slice_index_or}
+use Rattle.std.specs.Prelude.{ℕ, ◌≡◌, ◌==◌, ◌&&◌, nat_lt, not, Bool, false, Option, Some, None, if◌then◌else◌, bit_and, slice_index_or}
 use Rattle.vt_term.specs.Color.{Color, color}
 use Rattle.ti_rows.specs.declared.rows.Attributes.{Attributes}
 use Rattle.ti_rows.specs.declared.rows.Row.TheVariants.{Op, Smacs}
@@ -13,6 +13,7 @@ use Rattle.cur_looks.specs.Certified.{Table, has}
 use Rattle.cur_looks.specs.Inks.{blank_ink}
 use Rattle.cur_looks.specs.declared.inks.Brush.{Brush}
 use Rattle.cur_looks.specs.declared.inks.Ink.{Ink}
+use Rattle.cur_update.specs.declared.inks.Means.{Means}
 
 -- one of the bits is in the set
 abbrev pub has_bit : ℕ → ℕ → Bool
@@ -45,16 +46,29 @@ partner_in graphic partner = if graphic then printed_only partner else None
 abbrev pub character_of : Bool → (ℕ → Option ℕ) → Content → Character
 character_of graphic partners c = if has_bit c.attrs 128 then shown (partner_in graphic (partners c.byte)) c.byte else in_plain_set c.byte
 
+abbrev pub means_of : Table → Means
+means_of t = record { graphic = has t Smacs; colored = has t Op }
+
+abbrev pub ink_with : Means → (ℕ → Option ℕ) → Colors → Content → Ink
+ink_with m partners p c = let x = character_of m.graphic partners c in
+    record { byte = x.byte; graphic = x.graphic; brush = brush_of m.colored p c }
+
 abbrev pub ink_of : Table → (ℕ → Option ℕ) → Colors → Content → Ink
-ink_of t partners p c = let x = character_of (has t Smacs) partners c in
-    record { byte = x.byte; graphic = x.graphic; brush = brush_of (has t Op) p c }
+ink_of t partners p c = ink_with (means_of t) partners p c
 
 abbrev pub content_at : Screen → ℕ → ℕ → Content
 content_at v i j = slice_index_or (line_at v.grid i) j space
 
 -- the virtual screen as it is printed, and blanks around it
+abbrev pub ink_at_with : Means → (ℕ → Option ℕ) → Screen → ℕ → ℕ → Ink
+ink_at_with m partners v i j = if nat_lt i v.rows && nat_lt j v.cols then ink_with m partners (colors_at v (content_at v i j).pair) (content_at v i j) else blank_ink
+
 abbrev pub ink_at : Table → (ℕ → Option ℕ) → Screen → ℕ → ℕ → Ink
-ink_at t partners v i j = if nat_lt i v.rows && nat_lt j v.cols then ink_of t partners (colors_at v (content_at v i j).pair) (content_at v i j) else blank_ink
+ink_at t partners v i j = ink_at_with (means_of t) partners v i j
+
+-- (Serves the code alone.) a cell of the plain set with another character
+abbrev pub is_other : Content → ℕ → Bool
+is_other c byte = not (has_bit c.attrs 128) && not (c.byte == byte)
 
 -- (Serves the code alone.) a cell of the plain set with this character, and the attributes and the pair of another one
 pub record IsPlainLike (c d : Content) (byte : ℕ) : Type 0 where

@@ -19,6 +19,25 @@ pub(crate) fn has_line<C: Certificate>(checked: &C, row: Row) -> bool
     checked.line(row).is_some()
 }
 
+/// What an entry has for printing cells.
+#[derive(Clone, Copy)]
+pub(crate) struct Means {
+    /// The strings for the graphic set.
+    pub graphic: bool,
+    /// The strings for colours.
+    pub colored: bool,
+}
+
+/// What the entry has for printing cells.
+pub(crate) fn means_of<C: Certificate>(checked: &C) -> Means
+    ensures { result ≡ spec.means_of (C.table checked.now) }
+{
+    Means {
+        graphic: has_line(checked, Row::Smacs),
+        colored: has_line(checked, Row::Op),
+    }
+}
+
 /// The attributes of a cell, without the alternate set.
 fn attributes_of(attrs: Attrs) -> Attributes
     ensures { result ≡ spec.attributes_of attrs.0 }
@@ -35,11 +54,11 @@ fn attributes_of(attrs: Attrs) -> Attributes
 }
 
 /// The colour of a number, where the entry has colours.
-fn color_of<C: Certificate>(checked: &C, number: Option<u8>) -> Option<Color>
-    ensures { result ≡ spec.color_of (has (C.table checked.now) Op) number }
+fn color_of(colored: bool, number: Option<u8>) -> Option<Color>
+    ensures { result ≡ spec.color_of colored number }
 {
     match number {
-        Some(number) if has_line(checked, Row::Op) => Some(color(number as u16)),
+        Some(number) if colored => Some(color(number as u16)),
         _ => None,
     }
 }
@@ -55,13 +74,14 @@ fn partner_in(graphic: bool, partner: Option<u8>) -> Option<u8>
 }
 
 /// The character that a cell shows.
-fn character_of<C: Certificate + Alternates>(checked: &C, cell: Cell) -> Character
-    ensures byte { result.byte ≡ (spec.character_of (has (C.table checked.now) Smacs) (C.partners checked.now) cell).byte }
-    ensures graphic { result.graphic ≡ (spec.character_of (has (C.table checked.now) Smacs) (C.partners checked.now) cell).graphic }
+#[inline(always)]
+fn character_of<C: Alternates>(checked: &C, graphic: bool, cell: Cell) -> Character
+    ensures byte { result.byte ≡ (spec.character_of graphic (C.partners checked.now) cell).byte }
+    ensures graphic { result.graphic ≡ (spec.character_of graphic (C.partners checked.now) cell).graphic }
 {
     let letter = cell.byte();
     if cell.attrs().has(Attrs::ALTCHARSET) {
-        let partner = partner_in(has_line(checked, Row::Smacs), checked.partner(letter));
+        let partner = partner_in(graphic, checked.partner(letter));
         return shown(partner, letter);
     }
     Character {
@@ -71,38 +91,49 @@ fn character_of<C: Certificate + Alternates>(checked: &C, cell: Cell) -> Charact
 }
 
 /// How a cell is printed, with the colours of its pair.
-pub(crate) fn ink_of<C: Certificate + Alternates>(
+pub(crate) fn ink_of<C: Alternates>(
     checked: &C,
+    means: Means,
     colors: (Option<u8>, Option<u8>),
     cell: Cell,
 ) -> Ink
-    ensures { result ≡ spec.ink_of (C.table checked.now) (C.partners checked.now) (record { foreground = colors.0; background = colors.1 }) cell }
+    ensures { result ≡ spec.ink_with means (C.partners checked.now) (record { foreground = colors.0; background = colors.1 }) cell }
 {
-    let character = character_of(checked, cell);
+    let character = character_of(checked, means.graphic, cell);
     Ink {
         byte: character.byte,
         graphic: character.graphic,
         brush: Brush {
             attributes: attributes_of(cell.attrs()),
-            foreground: color_of(checked, colors.0),
-            background: color_of(checked, colors.1),
+            foreground: color_of(means.colored, colors.0),
+            background: color_of(means.colored, colors.1),
         },
     }
 }
 
 /// Whether a cell is printed like this, with the colours of its pair.
-pub(crate) fn shows_ink<C: Certificate + Alternates>(
+#[inline(never)]
+pub(crate) fn shows_ink<C: Alternates>(
     checked: &C,
+    means: Means,
     colors: (Option<u8>, Option<u8>),
     cell: Cell,
     ink: Ink,
 ) -> bool
-    ensures { result ≡ same (spec.ink_of (C.table checked.now) (C.partners checked.now) (record { foreground = colors.0; background = colors.1 }) cell) ink }
+    ensures { result ≡ same (spec.ink_with means (C.partners checked.now) (record { foreground = colors.0; background = colors.1 }) cell) ink }
 {
-    if character_of(checked, cell).byte != ink.byte {
+    if character_of(checked, means.graphic, cell).byte != ink.byte {
         return false;
     }
-    is_same(ink_of(checked, colors, cell), ink)
+    is_same(ink_of(checked, means, colors, cell), ink)
+}
+
+/// Whether a cell is one of the plain set with another character.
+#[inline(always)]
+pub(crate) fn is_other(cell: Cell, byte: u8) -> bool
+    ensures { result ≡ spec.is_other cell byte }
+{
+    !cell.attrs().has(Attrs::ALTCHARSET) && cell.byte() != byte
 }
 
 /// The character of a cell of the plain set, if another cell has its attributes and its pair.

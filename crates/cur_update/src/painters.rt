@@ -12,7 +12,7 @@ ghost use Rattle.cur_update.specs.Beep.{Rings};
 use crate::alternates::Alternates;
 use crate::bells::{Unsent, ring};
 use crate::changes::{Shift, same_pairs};
-use crate::inks::has_line;
+use crate::inks::{has_line, means_of};
 use crate::screens::{PrintedScreen, all_cells};
 use cur_drawing::{Refusal, place_below};
 use cur_looks::{Certificate, Mode, Place, Row};
@@ -170,11 +170,17 @@ fn refresh<C: Certificate + Alternates, W: Wire>(
         checked,
         same_pairs,
     };
+    let means = means_of(checked);
     let old = PrintedScreen {
         screen: &*shown,
         checked,
+        means,
     };
-    let new = PrintedScreen { screen, checked };
+    let new = PrintedScreen {
+        screen,
+        checked,
+        means,
+    };
     cur_paint::update(checked, session, wire, &old, &new, &shift, wanted)?;
     shown.copy_from(screen);
     Ok(())

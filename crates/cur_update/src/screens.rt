@@ -1,11 +1,11 @@
 //! The virtual screen as a painter sees it.
 ghost use Rattle.std.specs.Prelude.{◌≡◌, ◌<◌, ℕ};
 ghost use Rattle.cur_drawing.specs.Cells.{IsCell};
-ghost use Rattle.cur_update.specs.Inks.{content_at, ink_at};
+ghost use Rattle.cur_update.specs.Inks.{content_at, ink_at_with};
 
 use crate::alternates::Alternates;
-use crate::inks::{ink_of, plain_byte, shows_ink};
-use cur_looks::{Certificate, Ink, View, is_same};
+use crate::inks::{Means, ink_of, is_other, plain_byte, shows_ink};
+use cur_looks::{Ink, View, is_same};
 use cur_windows::Virtual;
 
 /// A virtual screen with the certificate that says how its cells are printed.
@@ -13,22 +13,28 @@ use cur_windows::Virtual;
 pub(crate) struct PrintedScreen<'a, C> {
     pub screen: &'a Virtual,
     pub checked: &'a C,
+    pub means: Means,
 }
 
-impl<'a, C: Certificate + Alternates> View for PrintedScreen<'a, C> {
-    ghost use Rattle.cur_update.specs.Inks.{ink_at};
+impl<'a, C: Alternates> View for PrintedScreen<'a, C> {
+    ghost use Rattle.cur_update.specs.Inks.{ink_at_with};
 
-    ghost cells = { λ s. ink_at (C.table s.checked.now) (C.partners s.checked.now) s.screen.now };
+    ghost cells = { λ s. ink_at_with s.means (C.partners s.checked.now) s.screen.now };
 
     fn at(&self, row: usize, col: usize) -> Ink
-        ensures value { result ≡ ink_at (C.table self.now.checked.now) (C.partners self.now.checked.now) self.now.screen.now row col }
+        ensures value { result ≡ ink_at_with self.now.means (C.partners self.now.checked.now) self.now.screen.now row col }
     {
         let (rows, cols) = self.screen.size();
         if row >= rows as usize || col >= cols as usize {
             return Ink::blank();
         }
         let cell = self.screen.row(row as u16)[col];
-        ink_of(self.checked, self.screen.pair(cell.pair()), cell)
+        ink_of(
+            self.checked,
+            self.means,
+            self.screen.pair(cell.pair()),
+            cell,
+        )
     }
 
     fn shows(&self, row: usize, col: usize, ink: Ink) -> bool {
@@ -37,7 +43,16 @@ impl<'a, C: Certificate + Alternates> View for PrintedScreen<'a, C> {
             return is_same(Ink::blank(), ink);
         }
         let cell = self.screen.row(row as u16)[col];
-        shows_ink(self.checked, self.screen.pair(cell.pair()), cell, ink)
+        if is_other(cell, ink.byte) {
+            return false;
+        }
+        shows_ink(
+            self.checked,
+            self.means,
+            self.screen.pair(cell.pair()),
+            cell,
+            ink,
+        )
     }
 
     fn byte_like(&self, row: usize, col: usize, like: usize) -> Option<u8> {

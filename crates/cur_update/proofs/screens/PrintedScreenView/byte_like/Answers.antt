@@ -11,6 +11,6 @@ returns g c =
     let cols = ap (λ (p : ℕ × ℕ). p.1) c.size-rows.ensures in
     let P : List Content → Type 0 = λ l. IfSome o (IsPlainLike (slice_index_or l c.args.col space) (slice_index_or l c.args.like space)) in
     record {
-      value = like_ink (g.C.Certificate.table c.args.self.now.checked.now) (g.C.Alternates.partners c.args.self.now.checked.now) c.args.self.now.screen.now c.args.row c.args.col c.args.like o
+      value = like_ink c.args.self.now.means (g.C.Alternates.partners c.args.self.now.checked.now) c.args.self.now.screen.now c.args.row c.args.col c.args.like o
           (omega (arith, rows)) (omega (arith, cols)) (omega (arith, cols)) (subst P c.row-cells.ensures.value c.plain_byte.ensures);
     }
