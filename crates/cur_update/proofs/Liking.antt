@@ -1,5 +1,5 @@
 -- Cells of a line that are printed alike.
-use Rattle.std.proofs.Common.{◌≡◌, ℕ, ◌<◌, ◌==◌, ◌&&◌, Bool, true, false, nat_lt, cond, if◌then◌else◌, Option, Some, None, IfSome, refl, sym, ap, subst, ◌∙◌, arith}
+use Rattle.std.proofs.Common.{◌≡◌, ℕ, ◌<◌, ◌&&◌, Bool, true, false, nat_lt, if◌then◌else◌, Option, Some, None, IfSome, sym, ap, subst, ◌∙◌, arith}
 use Rattle.std.proofs.lemmas.Bool.Decides.{nat_tests}
 use Rattle.ti_looks.specs.Alternates.{Character, shown, in_plain_set}
 use Rattle.cur_drawing.specs.Cells.{Content}
@@ -8,7 +8,7 @@ use Rattle.cur_windows.specs.declared.virtual_screen.Colors.{Colors}
 use Rattle.cur_looks.specs.Inks.{blank_ink}
 use Rattle.cur_looks.specs.declared.inks.Ink.{Ink}
 use Rattle.cur_update.specs.declared.inks.Means.{Means}
-use Rattle.cur_update.specs.Inks.{has_bit, attributes_of, color_of, brush_of, partner_in, ink_with, ink_at_with, content_at, IsPlainLike}
+use Rattle.cur_update.specs.Inks.{has_bit, brush_of, partner_in, ink_with, ink_at_with, content_at, IsPlainLike}
 
 below : (m n : ℕ) → m < n → nat_lt m n ≡ true
 below m n lt = grind (arith, nat_tests)

@@ -43,6 +43,9 @@ struct Draft {
 /// The most bytes of a certificate before its last line.
 const MOST: usize = 67_108_860;
 
+/// Room for the certificate of a common screen, so that it isn't copied as it grows.
+const ROOM: usize = 163_840;
+
 /// Adds the first line.
 fn push_size(alloc: Global, size: Size, text: &mut Vec<u8>) -> Result<(), AllocError>
     ensures { OnOk result (text.new.items ≡ text.old.items ++ (size_text size.rows size.cols ++ 10 ∷ [])) }
@@ -80,7 +83,7 @@ impl Draft {
         ensures { IfOk result (λ draft. told.IsDrafted entry.now size.rows size.cols (λ row. order row < 0) draft.text.items) }
     {
         let _ = entry.names();
-        let mut text = Vec::new(alloc);
+        let mut text = Vec::with_capacity(alloc, ROOM)?;
         push_head(alloc, entry, size, &mut text)?;
         Ok(Draft {
             text,
