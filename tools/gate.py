@@ -14,8 +14,8 @@ from concurrent.futures import ThreadPoolExecutor
 
 from crates import TOP, listed
 
-# measured on four processors
-MINUTES = "82"
+# as CI took, with its scripts
+MINUTES = "115"
 # the scripts that run the program, which `rt ci` leaves built
 OF_PROGRAM = {"compiled.sh", "examples.sh", "expansions.sh", "hello.sh", "infocmp.sh", "screens.sh", "scripts.sh", "tour.sh"}
 
