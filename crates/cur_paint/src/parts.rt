@@ -185,7 +185,12 @@ fn next_part<C: Certificate, O: View, N: View>(
 {
     let _ = checked.rows();
     let mut n = 0;
-    while n < count {
+    while n + FEWEST < count {
+        // a run of so many blanks that begins before this cell has it too
+        if !new.shows(row, from + n + FEWEST, Ink::blank()) {
+            n += FEWEST + 1;
+            continue;
+        }
         let run = run_at(old, new, row, from + n, count - n);
         if let Some(erasure) = erasure_of(checked, new, row, from + n, run) {
             return cut(n, run, erasure);

@@ -20,7 +20,7 @@ use cur_wires::{Wire, WireFault};
 /// So many characters at most go out in one piece after the first one.
 const TEXT: usize = 64;
 
-/// One cell, where it differs.
+/// One cell, which is to be this, where it differs.
 fn mend_cell<C: Certificate, O: View, N: View, W: Wire>(
     checked: &C,
     belief: &mut Belief,
@@ -29,20 +29,21 @@ fn mend_cell<C: Certificate, O: View, N: View, W: Wire>(
     new: &N,
     row: usize,
     col: usize,
+    ink: Ink,
 ) -> Result<(), WireFault>
     requires drawable { CanShow (C.table checked.now) (N.cells new.now) }
     requires row { row < (C.table checked.now).rows }
     requires col { col < (C.table checked.now).cols }
+    requires ink { ink ≡ N.cells new.now row col }
     ensures idle { OnOk result (differs (O.cells old.now) (N.cells new.now) row col ≡ 0 → belief.new ≡ belief.old) }
     ensures step { Steps W.went W.failures wire.old wire.new result (IsPiece (C.table checked.now)) (differs (O.cells old.now) (N.cells new.now) row col * cell_limit (C.table checked.now))
         (IsLost (C.table checked.now)) (Agrees (C.table checked.now) (mixed (O.cells old.now) (N.cells new.now) row col) belief.old) (Agrees (C.table checked.now) (mixed (O.cells old.now) (N.cells new.now) row (col + 1)) belief.new) }
 {
     let _ = checked.rows();
-    let cell = new.at(row, col);
-    if old.shows(row, col, cell) {
+    if old.shows(row, col, ink) {
         return Ok(());
     }
-    put_cell(checked, belief, wire, new, row, col, cell)
+    put_cell(checked, belief, wire, new, row, col, ink)
 }
 
 /// So many cells of a line from a column on, one by one.
@@ -65,7 +66,8 @@ fn mend_each<C: Certificate, O: View, N: View, W: Wire>(
 {
     let _ = checked.rows();
     for n in 0..count {
-        mend_cell(checked, belief, wire, old, new, row, from + n)?;
+        let ink = new.at(row, from + n);
+        mend_cell(checked, belief, wire, old, new, row, from + n, ink)?;
     }
     Ok(())
 }
@@ -79,26 +81,49 @@ fn like_cells<O: View, N: View>(
     from: usize,
     count: usize,
     like: usize,
+    ink: Ink,
     text: &mut [u8],
 ) -> usize
-    requires { from + count ≤ 1000 }
+    requires within { from + count ≤ 1000 }
+    requires ink { ink ≡ N.cells new.now row like }
     ensures within { result ≤ count }
     ensures room { result ≤ length text.new }
     ensures cells { (k : ℕ) → k < result → IsLike (O.cells old.now) (N.cells new.now) row like (from + k) (slice_index_or text.new k 0) }
 {
-    let first = new.at(row, like);
     let mut n = 0;
     while n < count && n < text.len() {
         let Some(byte) = new.byte_like(row, from + n, like) else {
             return n;
         };
-        if old.shows(row, from + n, Ink { byte, ..first }) {
+        if old.shows(row, from + n, Ink { byte, ..ink }) {
             return n;
         }
         text[n] = byte;
         n += 1;
     }
     n
+}
+
+/// The same of the cells after one; none where that one doesn't differ, since nothing leads to the next one then.
+fn text_after<O: View, N: View>(
+    old: &O,
+    new: &N,
+    row: usize,
+    col: usize,
+    count: usize,
+    ink: Ink,
+    text: &mut [u8],
+) -> usize
+    requires within { col + 1 + count ≤ 1000 }
+    requires ink { ink ≡ N.cells new.now row col }
+    ensures within { result ≤ count }
+    ensures room { result ≤ length text.new }
+    ensures cells { (k : ℕ) → k < result → IsLike (O.cells old.now) (N.cells new.now) row col (col + 1 + k) (slice_index_or text.new k 0) }
+{
+    if old.shows(row, col, ink) {
+        return 0;
+    }
+    like_cells(old, new, row, col + 1, count, col, ink, text)
 }
 
 /// A cell where it differs, and so many after it, which all do: these in one piece where the terminal is known to print them so.
@@ -110,20 +135,22 @@ fn mend_text<C: Certificate, O: View, N: View, W: Wire>(
     new: &N,
     row: usize,
     from: usize,
+    ink: Ink,
     text: &[u8],
     more: usize,
 ) -> Result<(), WireFault>
     requires drawable { CanShow (C.table checked.now) (N.cells new.now) }
     requires row { row < (C.table checked.now).rows }
     requires col { from + 1 + more ≤ (C.table checked.now).cols }
+    requires ink { ink ≡ N.cells new.now row from }
     requires long { more ≤ length text.now }
     requires cells { (k : ℕ) → k < more → IsLike (O.cells old.now) (N.cells new.now) row from (from + 1 + k) (slice_index_or text.now k 0) }
     ensures idle { OnOk result (span (O.cells old.now) (N.cells new.now) row from (1 + more) ≡ 0 → belief.new ≡ belief.old) }
     ensures step { Steps W.went W.failures wire.old wire.new result (IsPiece (C.table checked.now)) (span (O.cells old.now) (N.cells new.now) row from (1 + more) * cell_limit (C.table checked.now))
         (IsLost (C.table checked.now)) (Agrees (C.table checked.now) (mixed (O.cells old.now) (N.cells new.now) row from) belief.old) (Agrees (C.table checked.now) (mixed (O.cells old.now) (N.cells new.now) row (from + (1 + more))) belief.new) }
 {
-    mend_cell(checked, belief, wire, old, new, row, from)?;
-    mend_more(checked, belief, wire, old, new, row, from, text, more)
+    mend_cell(checked, belief, wire, old, new, row, from, ink)?;
+    mend_more(checked, belief, wire, old, new, row, from, ink, text, more)
 }
 
 /// Whether there are some characters, and the first of them is known to go to a place and to be printed like this.
@@ -144,12 +171,14 @@ fn mend_more<C: Certificate, O: View, N: View, W: Wire>(
     new: &N,
     row: usize,
     from: usize,
+    ink: Ink,
     text: &[u8],
     more: usize,
 ) -> Result<(), WireFault>
     requires drawable { CanShow (C.table checked.now) (N.cells new.now) }
     requires row { row < (C.table checked.now).rows }
     requires col { from + 1 + more ≤ (C.table checked.now).cols }
+    requires ink { ink ≡ N.cells new.now row from }
     requires long { more ≤ length text.now }
     requires cells { (k : ℕ) → k < more → IsLike (O.cells old.now) (N.cells new.now) row from (from + 1 + k) (slice_index_or text.now k 0) }
     ensures idle { OnOk result (span (O.cells old.now) (N.cells new.now) row (from + 1) more ≡ 0 → belief.new ≡ belief.old) }
@@ -158,8 +187,7 @@ fn mend_more<C: Certificate, O: View, N: View, W: Wire>(
 {
     let _ = checked.rows();
     let _ = checked.cols();
-    let first = new.at(row, from);
-    if is_led_on(belief, row, from + 1, first, more) {
+    if is_led_on(belief, row, from + 1, ink, more) {
         return print_text(checked, belief, wire, new, row, from + 1, text, more);
     }
     mend_each(checked, belief, wire, old, new, row, from + 1, more)
@@ -189,9 +217,9 @@ pub(crate) fn mend_span<C: Certificate, O: View, N: View, W: Wire>(
     let mut done = 0;
     while done < count {
         let first = from + done;
-        let left = count - done - 1;
-        let more = like_cells(old, new, row, first + 1, left, first, &mut text);
-        mend_text(checked, belief, wire, old, new, row, first, &text, more)?;
+        let ink = new.at(row, first);
+        let more = text_after(old, new, row, first, count - done - 1, ink, &mut text);
+        mend_text(checked, belief, wire, old, new, row, first, ink, &text, more)?;
         done += 1 + more;
     }
     Ok(())

@@ -1,3 +1,4 @@
 pub mod Inking
 pub mod Counting
 pub mod Liking
+pub mod Plainly

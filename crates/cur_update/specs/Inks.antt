@@ -56,6 +56,10 @@ ink_with m partners p c = let x = character_of m.graphic partners c in
 abbrev pub ink_of : Table → (ℕ → Option ℕ) → Colors → Content → Ink
 ink_of t partners p c = ink_with (means_of t) partners p c
 
+-- (Serves the code alone.) a character of no attributes and default colours
+abbrev pub plain_ink : ℕ → Ink
+plain_ink byte = record blank_ink { byte = byte }
+
 abbrev pub content_at : Screen → ℕ → ℕ → Content
 content_at v i j = slice_index_or (line_at v.grid i) j space
 

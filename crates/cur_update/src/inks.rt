@@ -1,10 +1,11 @@
 //! How cells of the virtual screen are printed.
-ghost use Rattle.std.specs.Prelude.{◌≡◌, ◌<◌, IfSome, length, slice_index_or};
+ghost use Rattle.std.specs.Prelude.{◌≡◌, ◌<◌, ℕ, Option, IfSome, length, slice_index_or, true};
 ghost use Rattle.cur_drawing.specs.Cells.{space};
 ghost use Rattle.ti_rows.specs.declared.rows.Row.TheVariants.{Smacs, Op};
 ghost use Rattle.cur_looks.specs.Certified.{has};
 ghost use Rattle.cur_looks.specs.Inks.{same};
 ghost use Rattle.cur_update.specs.Inks as spec;
+ghost use Rattle.cur_update.specs.declared.inks.Means.{Means};
 
 use crate::alternates::Alternates;
 use cur_drawing::{Attrs, Cell};
@@ -90,6 +91,27 @@ fn character_of<C: Alternates>(checked: &C, graphic: bool, cell: Cell) -> Charac
     }
 }
 
+/// Whether a cell has no attributes and default colours.
+#[inline(always)]
+#[tactic(auto, using(crate::proofs::Plainly::plain_is))]
+fn is_plain(cell: Cell, colors: (Option<u8>, Option<u8>)) -> bool
+    ensures { result ≡ true → (means : Means) (partners : ℕ → Option ℕ)
+        → spec.ink_with means partners (record { foreground = colors.0; background = colors.1 }) cell ≡ spec.plain_ink cell.byte }
+{
+    cell.attrs() == Attrs::none() && colors.0.is_none() && colors.1.is_none()
+}
+
+/// A character of no attributes and default colours.
+#[inline(always)]
+fn plain_ink(byte: u8) -> Ink
+    ensures { result ≡ spec.plain_ink byte }
+{
+    Ink {
+        byte,
+        ..Ink::blank()
+    }
+}
+
 /// How a cell is printed, with the colours of its pair.
 pub(crate) fn ink_of<C: Alternates>(
     checked: &C,
@@ -99,6 +121,9 @@ pub(crate) fn ink_of<C: Alternates>(
 ) -> Ink
     ensures { result ≡ spec.ink_with means (C.partners checked.now) (record { foreground = colors.0; background = colors.1 }) cell }
 {
+    if is_plain(cell, colors) {
+        return plain_ink(cell.byte());
+    }
     let character = character_of(checked, means.graphic, cell);
     Ink {
         byte: character.byte,
@@ -122,6 +147,9 @@ pub(crate) fn shows_ink<C: Alternates>(
 ) -> bool
     ensures { result ≡ same (spec.ink_with means (C.partners checked.now) (record { foreground = colors.0; background = colors.1 }) cell) ink }
 {
+    if is_plain(cell, colors) {
+        return is_same(plain_ink(cell.byte()), ink);
+    }
     if character_of(checked, means.graphic, cell).byte != ink.byte {
         return false;
     }

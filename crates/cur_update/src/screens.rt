@@ -37,6 +37,7 @@ impl<'a, C: Alternates> View for PrintedScreen<'a, C> {
         )
     }
 
+    #[inline(always)]
     fn shows(&self, row: usize, col: usize, ink: Ink) -> bool {
         let (rows, cols) = self.screen.size();
         if row >= rows as usize || col >= cols as usize {
@@ -55,6 +56,7 @@ impl<'a, C: Alternates> View for PrintedScreen<'a, C> {
         )
     }
 
+    #[inline(always)]
     fn byte_like(&self, row: usize, col: usize, like: usize) -> Option<u8> {
         let (rows, cols) = self.screen.size();
         if row >= rows as usize || col >= cols as usize || like >= cols as usize {

@@ -17,7 +17,7 @@ returns-then-shows-clause-step g c =
     let new = g.N.View.cells c.args.new.now in
     let row = c.args.row in
     let col = c.args.col in
-    let e = told_same old new row col (old row col) c.at-cell.result refl c.at-cell.ensures.value c.if-shows.ensures.value in
+    let e = told_same old new row col (old row col) c.args.ink refl c.requires.ink c.if-shows.ensures.value in
     steps_nothing g.W.Wire.went g.W.Wire.failures g.met.W.Wire.lawful c.args.wire.now tt (IsPiece t) _ (IsLost t) (Agrees t (mixed old new row col) b) (Agrees t (mixed old new row (col + 1)) b)
     (λ s x. x.ready.rest) (agrees_as t (mixed old new row col) (mixed old new row (col + 1)) b (λ i j li lj. mixed_same old new row col i j e)) (agrees_lost t c.rows.ensures.checked (mixed old new row col) b)
 
@@ -29,10 +29,10 @@ returns-clause-step g c =
     let new = g.N.View.cells c.args.new.now in
     let row = c.args.row in
     let col = c.args.col in
-    let e = told_different old new row col (old row col) c.at-cell.result refl c.at-cell.ensures.value c.if-shows.ensures.value in
+    let e = told_different old new row col (old row col) c.args.ink refl c.requires.ink c.if-shows.ensures.value in
     steps_wider g.W.Wire.went g.W.Wire.failures c.args.wire.now c.put_cell.new.wire c.put_cell.result (IsPiece t) (cell_limit t) (differs old new row col * cell_limit t) (IsLost t)
-    (Agrees t (mixed old new row col) b) (Agrees t (put_at row col c.at-cell.result (mixed old new row col)) c.put_cell.new.belief)
+    (Agrees t (mixed old new row col) b) (Agrees t (put_at row col c.args.ink (mixed old new row col)) c.put_cell.new.belief)
     (Agrees t (mixed old new row col) b) (Agrees t (mixed old new row (col + 1)) c.put_cell.new.belief)
     (once _ (cell_limit t) e) (λ s x. x)
-    (agrees_as t (put_at row col c.at-cell.result (mixed old new row col)) (mixed old new row (col + 1)) c.put_cell.new.belief (λ i j li lj. put_new old new row col c.at-cell.result c.at-cell.ensures.value i j))
+    (agrees_as t (put_at row col c.args.ink (mixed old new row col)) (mixed old new row (col + 1)) c.put_cell.new.belief (λ i j li lj. put_new old new row col c.args.ink c.requires.ink i j))
     (c.put_cell.ensures.step (mixed old new row col) (mixed_before old new row col))

@@ -18,7 +18,7 @@ full old new row like from n text h = span_full old new row from n (λ k lt. (h 
 pub print_text-requires-clause-alike : goal.print_text-requires-clause-alike
 print_text-requires-clause-alike g c k lt =
     let new = g.N.View.cells c.args.new.now in
-    like_alike c.args.belief.now (new c.args.row (c.args.from + 1 + k)) (new c.args.row c.args.from) c.at-first.result _ (c.if-is_led_on.ensures.alike refl) c.at-first.ensures.value (c.requires.cells k lt).cell
+    like_alike c.args.belief.now (new c.args.row (c.args.from + 1 + k)) (new c.args.row c.args.from) c.args.ink _ (c.if-is_led_on.ensures.alike refl) c.requires.ink (c.requires.cells k lt).cell
 
 pub print_text-requires-clause-bytes : goal.print_text-requires-clause-bytes
 print_text-requires-clause-bytes g c k lt = ap (λ (x : Ink). x.byte) (c.requires.cells k lt).cell

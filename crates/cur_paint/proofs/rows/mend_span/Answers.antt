@@ -31,10 +31,10 @@ loop-done-preserved g c =
     let row = c.args.row in
     let from = c.args.from in
     let done = c.loop-done.done in
-    let n = 1 + c.like_cells-more.result in
+    let n = 1 + c.text_after-more.result in
     let more : span old new row from done + span old new row (from + done) n ≡ span old new row from (done + n) = span_join old new row from done n in
     record {
-      within = omega (arith, c.like_cells-more.ensures.within, c.loop-done-test.true, c.loop-done.invariant.within);
+      within = omega (arith, c.text_after-more.ensures.within, c.loop-done-test.true, c.loop-done.invariant.within);
       idle = λ e. c.in_ok-mend_text.ensures.idle (omega (arith, e, more)) ∙ c.loop-done.invariant.idle (omega (arith, e, more));
       step = steps_wider g.W.Wire.went g.W.Wire.failures c.args.wire.now c.mend_text.new.wire _ (IsPiece t) (span old new row from (done + n) * cell_limit t) (span old new row from (done + n) * cell_limit t) (IsLost t)
           (Agrees t (mixed old new row from) b) (Agrees t (mixed old new row (from + done + n)) c.mend_text.new.belief)
@@ -55,10 +55,10 @@ returns-in_err-mend_text-clause-step g c =
     let row = c.args.row in
     let from = c.args.from in
     let done = c.loop-done.done in
-    let n = 1 + c.like_cells-more.result in
+    let n = 1 + c.text_after-more.result in
     rw e.1 (steps_fail g.W.Wire.went g.W.Wire.failures c.args.wire.now c.mend_text.new.wire _ _ (IsPiece t) (span old new row from (done + n) * cell_limit t) (span old new row from c.args.count * cell_limit t) (IsLost t)
     (Agrees t (mixed old new row from) b) (Agrees t (mixed old new row (from + done + n)) c.mend_text.new.belief) (Agrees t (mixed old new row (from + c.args.count)) c.mend_text.new.belief)
-    (times_grows _ _ (cell_limit t) (span_grows old new row from (done + n) c.args.count (omega (arith, c.like_cells-more.ensures.within, c.loop-done-test.true, c.loop-done.invariant.within))))
+    (times_grows _ _ (cell_limit t) (span_grows old new row from (done + n) c.args.count (omega (arith, c.text_after-more.ensures.within, c.loop-done-test.true, c.loop-done.invariant.within))))
     (steps_next g.W.Wire.went g.W.Wire.failures g.met.W.Wire.lawful c.args.wire.now c.loop-done.wire c.mend_text.new.wire _ _ (IsPiece t)
     (span old new row from done * cell_limit t) (span old new row (from + done) n * cell_limit t) (span old new row from (done + n) * cell_limit t) (IsLost t)
     (Agrees t (mixed old new row from) b) (Agrees t (mixed old new row (from + done)) c.loop-done.belief) (Agrees t (mixed old new row (from + done + n)) c.mend_text.new.belief)
