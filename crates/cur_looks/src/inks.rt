@@ -23,7 +23,7 @@ pub struct Ink {
 
 /// A screen by its places.
 pub trait View {
-    ghost use Rattle.cur_looks.specs.Inks.{same};
+    ghost use Rattle.cur_looks.specs.Inks.{same, blank_ink};
     ghost use Rattle.cur_looks.specs.declared.inks.Ink.{Ink};
 
     ghost cells: { Self → ℕ → ℕ → Ink };
@@ -37,6 +37,13 @@ pub trait View {
         ensures value { result ≡ same (cells self.now row col) ink }
     {
         is_same(self.at(row, col), ink)
+    }
+
+    /// Whether a place is blank.
+    fn is_blank(&self, row: usize, col: usize) -> bool
+        ensures value { result ≡ same (cells self.now row col) blank_ink }
+    {
+        self.shows(row, col, Ink::blank())
     }
 
     /// The character in a place, if it's known to be printed in the set and the brush of another place of the line.

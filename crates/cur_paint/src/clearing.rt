@@ -185,7 +185,7 @@ fn may_become_blank<N: View, D: Changes>(
     rows: usize,
     cols: usize,
 ) -> bool {
-    are_blank(new, row, 0, cols) && may_differ(changes, row, rows, cols)
+    may_differ(changes, row, rows, cols) && are_blank(new, row, 0, cols)
 }
 
 /// Whether two of three lines become blank, so that it is worth a look at all of them.

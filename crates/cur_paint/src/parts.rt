@@ -8,7 +8,7 @@ ghost use Rattle.cur_paint.specs.Differ.{span};
 
 use crate::rows::{differs_in, mend_span};
 use cur_looks::{
-    Belief, Certificate, Erasure, Ink, Place, View, erase_at, erase_from, erasing_line, line_bytes,
+    Belief, Certificate, Erasure, Place, View, erase_at, erase_from, erasing_line, line_bytes,
 };
 use cur_wires::{Wire, WireFault};
 
@@ -67,10 +67,10 @@ fn run_at<O: View, N: View>(old: &O, new: &N, row: usize, from: usize, count: us
         differing: 0,
     };
     while run.len < count {
-        if !new.shows(row, from + run.len, Ink::blank()) {
+        if !new.is_blank(row, from + run.len) {
             return run;
         }
-        if old.shows(row, from + run.len, Ink::blank()) {
+        if old.is_blank(row, from + run.len) {
             run.len += 1;
         } else {
             run = with_different(run);
@@ -109,7 +109,7 @@ pub(crate) fn are_blank<N: View>(new: &N, row: usize, from: usize, end: usize) -
     ensures { result ≡ true → (k : ℕ) → from ≤ k → k < end → N.cells new.now row k ≡ blank_ink }
 {
     for col in from..end {
-        if !new.shows(row, col, Ink::blank()) {
+        if !new.is_blank(row, col) {
             return false;
         }
     }
@@ -187,7 +187,7 @@ fn next_part<C: Certificate, O: View, N: View>(
     let mut n = 0;
     while n + FEWEST < count {
         // a run of so many blanks that begins before this cell has it too
-        if !new.shows(row, from + n + FEWEST, Ink::blank()) {
+        if !new.is_blank(row, from + n + FEWEST) {
             n += FEWEST + 1;
             continue;
         }

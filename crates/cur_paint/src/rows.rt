@@ -43,6 +43,28 @@ fn mend_cell<C: Certificate, O: View, N: View, W: Wire>(
     if old.shows(row, col, ink) {
         return Ok(());
     }
+    put_changed(checked, belief, wire, old, new, row, col, ink)
+}
+
+/// One cell, which is to be this and differs.
+fn put_changed<C: Certificate, O: View, N: View, W: Wire>(
+    checked: &C,
+    belief: &mut Belief,
+    wire: &mut W,
+    old: &O,
+    new: &N,
+    row: usize,
+    col: usize,
+    ink: Ink,
+) -> Result<(), WireFault>
+    requires drawable { CanShow (C.table checked.now) (N.cells new.now) }
+    requires row { row < (C.table checked.now).rows }
+    requires col { col < (C.table checked.now).cols }
+    requires ink { ink ≡ N.cells new.now row col }
+    requires changed { differs (O.cells old.now) (N.cells new.now) row col ≡ 1 }
+    ensures step { Steps W.went W.failures wire.old wire.new result (IsPiece (C.table checked.now)) (differs (O.cells old.now) (N.cells new.now) row col * cell_limit (C.table checked.now))
+        (IsLost (C.table checked.now)) (Agrees (C.table checked.now) (mixed (O.cells old.now) (N.cells new.now) row col) belief.old) (Agrees (C.table checked.now) (mixed (O.cells old.now) (N.cells new.now) row (col + 1)) belief.new) }
+{
     put_cell(checked, belief, wire, new, row, col, ink)
 }
 
@@ -104,29 +126,7 @@ fn like_cells<O: View, N: View>(
     n
 }
 
-/// The same of the cells after one; none where that one doesn't differ, since nothing leads to the next one then.
-fn text_after<O: View, N: View>(
-    old: &O,
-    new: &N,
-    row: usize,
-    col: usize,
-    count: usize,
-    ink: Ink,
-    text: &mut [u8],
-) -> usize
-    requires within { col + 1 + count ≤ 1000 }
-    requires ink { ink ≡ N.cells new.now row col }
-    ensures within { result ≤ count }
-    ensures room { result ≤ length text.new }
-    ensures cells { (k : ℕ) → k < result → IsLike (O.cells old.now) (N.cells new.now) row col (col + 1 + k) (slice_index_or text.new k 0) }
-{
-    if old.shows(row, col, ink) {
-        return 0;
-    }
-    like_cells(old, new, row, col + 1, count, col, ink, text)
-}
-
-/// A cell where it differs, and so many after it, which all do: these in one piece where the terminal is known to print them so.
+/// A cell that differs, and so many after it, which all do: these in one piece where the terminal is known to print them so.
 fn mend_text<C: Certificate, O: View, N: View, W: Wire>(
     checked: &C,
     belief: &mut Belief,
@@ -143,13 +143,13 @@ fn mend_text<C: Certificate, O: View, N: View, W: Wire>(
     requires row { row < (C.table checked.now).rows }
     requires col { from + 1 + more ≤ (C.table checked.now).cols }
     requires ink { ink ≡ N.cells new.now row from }
+    requires changed { differs (O.cells old.now) (N.cells new.now) row from ≡ 1 }
     requires long { more ≤ length text.now }
     requires cells { (k : ℕ) → k < more → IsLike (O.cells old.now) (N.cells new.now) row from (from + 1 + k) (slice_index_or text.now k 0) }
-    ensures idle { OnOk result (span (O.cells old.now) (N.cells new.now) row from (1 + more) ≡ 0 → belief.new ≡ belief.old) }
     ensures step { Steps W.went W.failures wire.old wire.new result (IsPiece (C.table checked.now)) (span (O.cells old.now) (N.cells new.now) row from (1 + more) * cell_limit (C.table checked.now))
         (IsLost (C.table checked.now)) (Agrees (C.table checked.now) (mixed (O.cells old.now) (N.cells new.now) row from) belief.old) (Agrees (C.table checked.now) (mixed (O.cells old.now) (N.cells new.now) row (from + (1 + more))) belief.new) }
 {
-    mend_cell(checked, belief, wire, old, new, row, from, ink)?;
+    put_changed(checked, belief, wire, old, new, row, from, ink)?;
     mend_more(checked, belief, wire, old, new, row, from, ink, text, more)
 }
 
@@ -218,7 +218,12 @@ pub(crate) fn mend_span<C: Certificate, O: View, N: View, W: Wire>(
     while done < count {
         let first = from + done;
         let ink = new.at(row, first);
-        let more = text_after(old, new, row, first, count - done - 1, ink, &mut text);
+        if old.shows(row, first, ink) {
+            done += 1;
+            continue;
+        }
+        let left = count - done - 1;
+        let more = like_cells(old, new, row, first + 1, left, first, ink, &mut text);
         mend_text(checked, belief, wire, old, new, row, first, ink, &text, more)?;
         done += 1 + more;
     }
@@ -251,7 +256,7 @@ fn blank_from<N: View>(new: &N, row: usize, cols: usize) -> usize
 {
     let mut col = cols;
     while col > 0 {
-        if !new.shows(row, col - 1, Ink::blank()) {
+        if !new.is_blank(row, col - 1) {
             return col;
         }
         col -= 1;
@@ -266,7 +271,7 @@ fn tail_from<N: View>(new: &N, row: usize, columns: Columns, cols: usize) -> usi
     ensures within { result ≤ columns.end }
     ensures blank { result < columns.end → (k : ℕ) → result ≤ k → k < cols → N.cells new.now row k ≡ blank_ink }
 {
-    if columns.from == columns.end || !new.shows(row, columns.end - 1, Ink::blank()) {
+    if columns.from == columns.end || !new.is_blank(row, columns.end - 1) {
         return columns.end;
     }
     let tail = blank_from(new, row, cols);

@@ -3,7 +3,7 @@ ghost use Rattle.std.specs.Prelude.{◌≡◌, ◌<◌, ℕ, Option, IfSome, len
 ghost use Rattle.cur_drawing.specs.Cells.{space};
 ghost use Rattle.ti_rows.specs.declared.rows.Row.TheVariants.{Smacs, Op};
 ghost use Rattle.cur_looks.specs.Certified.{has};
-ghost use Rattle.cur_looks.specs.Inks.{same};
+ghost use Rattle.cur_looks.specs.Inks.{same, blank_ink};
 ghost use Rattle.cur_update.specs.Inks as spec;
 ghost use Rattle.cur_update.specs.declared.inks.Means.{Means};
 
@@ -154,6 +154,23 @@ pub(crate) fn shows_ink<C: Alternates>(
         return false;
     }
     is_same(ink_of(checked, means, colors, cell), ink)
+}
+
+/// Whether a cell is printed as a blank, with the colours of its pair.
+#[inline(always)]
+#[tactic(auto, using(crate::proofs::Plainly::space_told))]
+pub(crate) fn is_blank_ink<C: Alternates>(
+    checked: &C,
+    means: Means,
+    colors: (Option<u8>, Option<u8>),
+    cell: Cell,
+) -> bool
+    ensures { result ≡ same (spec.ink_with means (C.partners checked.now) (record { foreground = colors.0; background = colors.1 }) cell) blank_ink }
+{
+    if is_plain(cell, colors) {
+        return cell.byte() == b' ';
+    }
+    shows_ink(checked, means, colors, cell, Ink::blank())
 }
 
 /// Whether a cell is one of the plain set with another character.

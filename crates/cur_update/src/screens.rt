@@ -4,7 +4,7 @@ ghost use Rattle.cur_drawing.specs.Cells.{IsCell};
 ghost use Rattle.cur_update.specs.Inks.{content_at, ink_at_with};
 
 use crate::alternates::Alternates;
-use crate::inks::{Means, ink_of, is_other, plain_byte, shows_ink};
+use crate::inks::{Means, ink_of, is_blank_ink, is_other, plain_byte, shows_ink};
 use cur_looks::{Ink, View, is_same};
 use cur_windows::Virtual;
 
@@ -53,6 +53,23 @@ impl<'a, C: Alternates> View for PrintedScreen<'a, C> {
             self.screen.pair(cell.pair()),
             cell,
             ink,
+        )
+    }
+
+    fn is_blank(&self, row: usize, col: usize) -> bool {
+        let (rows, cols) = self.screen.size();
+        if row >= rows as usize || col >= cols as usize {
+            return true;
+        }
+        let cell = self.screen.row(row as u16)[col];
+        if is_other(cell, b' ') {
+            return false;
+        }
+        is_blank_ink(
+            self.checked,
+            self.means,
+            self.screen.pair(cell.pair()),
+            cell,
         )
     }
 
