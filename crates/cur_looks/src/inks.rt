@@ -47,9 +47,10 @@ pub trait View {
     }
 
     /// The character in a place, if it's known to be printed in the set and the brush of another place of the line.
-    fn byte_like(&self, _row: usize, _col: usize, _like: usize) -> Option<u8>
-        ensures value { IfSome result (λ b. cells self.now _row _col ≡ record (cells self.now _row _like) { byte = b }) }
+    fn byte_like(&self, row: usize, col: usize, like: usize) -> Option<u8>
+        ensures value { IfSome result (λ b. cells self.now row col ≡ record (cells self.now row like) { byte = b }) }
     {
+        let _ = (row, col, like);
         None
     }
 }
