@@ -112,6 +112,17 @@ fn plain_ink(byte: u8) -> Ink
     }
 }
 
+/// The attributes of a cell, and the colours of its pair where the entry has colours.
+fn brush_of(colored: bool, colors: (Option<u8>, Option<u8>), cell: Cell) -> Brush
+    ensures { result ≡ spec.brush_of colored (record { foreground = colors.0; background = colors.1 }) cell }
+{
+    Brush {
+        attributes: attributes_of(cell.attrs()),
+        foreground: color_of(colored, colors.0),
+        background: color_of(colored, colors.1),
+    }
+}
+
 /// How a cell is printed, with the colours of its pair.
 pub(crate) fn ink_of<C: Alternates>(
     checked: &C,
@@ -128,11 +139,7 @@ pub(crate) fn ink_of<C: Alternates>(
     Ink {
         byte: character.byte,
         graphic: character.graphic,
-        brush: Brush {
-            attributes: attributes_of(cell.attrs()),
-            foreground: color_of(means.colored, colors.0),
-            background: color_of(means.colored, colors.1),
-        },
+        brush: brush_of(means.colored, colors, cell),
     }
 }
 
@@ -150,10 +157,16 @@ pub(crate) fn shows_ink<C: Alternates>(
     if is_plain(cell, colors) {
         return is_same(plain_ink(cell.byte()), ink);
     }
-    if character_of(checked, means.graphic, cell).byte != ink.byte {
+    let character = character_of(checked, means.graphic, cell);
+    if character.byte != ink.byte {
         return false;
     }
-    is_same(ink_of(checked, means, colors, cell), ink)
+    let cell_ink = Ink {
+        byte: character.byte,
+        graphic: character.graphic,
+        brush: brush_of(means.colored, colors, cell),
+    };
+    is_same(cell_ink, ink)
 }
 
 /// Whether a cell is printed as a blank, with the colours of its pair.
