@@ -224,7 +224,9 @@ pub(crate) fn mend_span<C: Certificate, O: View, N: View, W: Wire>(
         }
         let left = count - done - 1;
         let more = like_cells(old, new, row, first + 1, left, first, ink, &mut text);
-        mend_text(checked, belief, wire, old, new, row, first, ink, &text, more)?;
+        mend_text(
+            checked, belief, wire, old, new, row, first, ink, &text, more,
+        )?;
         done += 1 + more;
     }
     Ok(())

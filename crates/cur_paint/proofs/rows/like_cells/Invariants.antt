@@ -1,4 +1,4 @@
-use Rattle.std.proofs.Common.{◌≡◌, ◌≤◌, ◌<◌, ◌+◌, ◌-◌, ℕ, length, slice_index_or}
+use Rattle.std.proofs.Common.{◌≤◌, ◌<◌, ◌+◌, ◌-◌, ℕ, length, slice_index_or}
 use Rattle.cur_paint.specs.Differ.{IsLike}
 use Rattle.cur_paint.proofs.rows.like_cells.Given as goal
 

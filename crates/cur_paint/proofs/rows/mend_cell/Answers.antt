@@ -1,4 +1,4 @@
-use Rattle.std.proofs.Common.{◌+◌, ◌*◌, refl}
+use Rattle.std.proofs.Common.{◌+◌, refl}
 use Rattle.cur_looks.specs.Inks.{mixed}
 use Rattle.cur_looks.specs.Certified.{IsPiece, IsLost}
 use Rattle.cur_looks.specs.Beliefs.{Agrees}
