@@ -228,7 +228,7 @@ blank_agrees t mode seen so s h = record {
   seen = subst (λ (b : Bool). IsSeen mode b) (sym h.visible) so;
 }
 
--- [Cut anywhere]: the completion of what was cut short
+-- what was cut short anywhere can be completed
 pub anywhere_shows : (t : Table) → IsChecked t → (new : ℕ → ℕ → Ink) → CanShow t new → (w : Wanted) → IsWithin t w.cursor → CanHide t w.mode → Reaches (IsPiece t) (IsLost t) (Shows t new w)
 anywhere_shows t checked new fit w within can =
     let blank : ℕ → ℕ → Ink = λ i j. blank_ink in

@@ -29,7 +29,7 @@ cursor_limit t b cursor mode = changes b.mode mode * modes_limit t + last_move b
 abbrev pub is_settled : Belief → Option Place → Mode → Bool
 is_settled b cursor mode = (last_move b.place cursor == 0) && (changes b.mode mode == 0)
 
--- [Bounded]: (Differ + 1) * M, and nothing where nothing differs, the mode is the shown one and the cursor is right
+-- a cell's limit for each place that differs and once more, and nothing where nothing differs, the mode is the shown one and the cursor is right
 abbrev pub paint_limit : Table → (ℕ → ℕ → Ink) → (ℕ → ℕ → Ink) → Belief → Option Place → Mode → ℕ
 paint_limit t old new b cursor mode =
     let d = all_differ old new t.cols t.rows in

@@ -186,7 +186,7 @@ fn next_part<C: Certificate, O: View, N: View>(
     let _ = checked.rows();
     let mut n = 0;
     while n + FEWEST < count {
-        // a run of so many blanks that begins before this cell has it too
+        // only a run of more cells than that pays, and one that begins before this cell contains it
         if !new.is_blank(row, from + n + FEWEST) {
             n += FEWEST + 1;
             continue;

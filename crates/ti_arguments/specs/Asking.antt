@@ -11,7 +11,7 @@ use Rattle.ti_arguments.specs.Line.{line}
 use Rattle.ti_arguments.specs.declared.parsing.Answer.{Answer}
 use Rattle.ti_arguments.specs.declared.parsing.Answer.TheVariants as answers
 use Rattle.ti_arguments.specs.declared.request.Request.{Request}
-use Rattle.ti_arguments.specs.declared.request.Scripted.{Scripted}
+use Rattle.ti_arguments.specs.declared.request.ScriptWords.{ScriptWords}
 use Rattle.ti_arguments.specs.declared.request.Request.TheVariants.{Expand, Feed, Tic, Check, Verify, Play, Show, Survey, Print, Common, Neither}
 
 -- the word that stands for an argument, if it has one
@@ -32,29 +32,29 @@ IsInfocmp name rows common neither entries =
     (name ≡ codes "infocmp") × (is_on (codes "c") rows ≡ common) × (is_on (codes "n") rows ≡ neither) × (words_of (codes "ENTRY") rows ≡ entries)
 
 -- the words of a run of a script
-abbrev pub Plays : List Row → Scripted → Type 0
+abbrev pub Plays : List Row → ScriptWords → Type 0
 Plays rows words =
     (words.entry.now ≡ word_of (codes "ENTRY") rows) × (words.rows.now ≡ word_of (codes "ROWS") rows) × (words.cols.now ≡ word_of (codes "COLS") rows)
     × (words.certificate.now ≡ word_of (codes "CERT") rows) × (words.script.now ≡ word_of (codes "SCRIPT") rows)
 
 -- the request of a command of this name with these words for its arguments
 abbrev pub AsksFor : Text → List Row → Request → Type 0
-AsksFor name rows (Expand cup string height width params) =
-    (name ≡ codes "expand") × (cup ≡ is_on (codes "cup") rows) × (string.now ≡ word_of (codes "STRING") rows)
-    × (height.now ≡ word_of (codes "ROWS") rows) × (width.now ≡ word_of (codes "COLS") rows) × (map (λ p. p.now) params.items ≡ words_of (codes "PARAM") rows)
+AsksFor name rows (Expand words) =
+    (name ≡ codes "expand") × (words.cup ≡ is_on (codes "cup") rows) × (words.string.now ≡ word_of (codes "STRING") rows)
+    × (words.rows.now ≡ word_of (codes "ROWS") rows) × (words.cols.now ≡ word_of (codes "COLS") rows) × (map (λ p. p.now) words.params.items ≡ words_of (codes "PARAM") rows)
 AsksFor name rows (Feed height width file) =
     (name ≡ codes "feed") × (height.now ≡ word_of (codes "ROWS") rows) × (width.now ≡ word_of (codes "COLS") rows) × (file.now ≡ word_of (codes "FILE") rows)
 AsksFor name rows (Tic entry out) = (name ≡ codes "tic") × (entry.now ≡ word_of (codes "ENTRY") rows) × (option_map (λ o. o.now) out ≡ first_of (codes "out") rows)
-AsksFor name rows (Check entry height width out) =
-    (name ≡ codes "check") × (entry.now ≡ word_of (codes "ENTRY") rows) × (height.now ≡ word_of (codes "ROWS") rows) × (width.now ≡ word_of (codes "COLS") rows)
-    × (option_map (λ o. o.now) out ≡ first_of (codes "out") rows)
-AsksFor name rows (Verify entry height width certificate) =
-    (name ≡ codes "verify") × (entry.now ≡ word_of (codes "ENTRY") rows) × (height.now ≡ word_of (codes "ROWS") rows) × (width.now ≡ word_of (codes "COLS") rows)
-    × (certificate.now ≡ word_of (codes "CERT") rows)
+AsksFor name rows (Check words) =
+    (name ≡ codes "check") × (words.entry.now ≡ word_of (codes "ENTRY") rows) × (words.rows.now ≡ word_of (codes "ROWS") rows) × (words.cols.now ≡ word_of (codes "COLS") rows)
+    × (option_map (λ o. o.now) words.out ≡ first_of (codes "out") rows)
+AsksFor name rows (Verify words) =
+    (name ≡ codes "verify") × (words.entry.now ≡ word_of (codes "ENTRY") rows) × (words.rows.now ≡ word_of (codes "ROWS") rows) × (words.cols.now ≡ word_of (codes "COLS") rows)
+    × (words.certificate.now ≡ word_of (codes "CERT") rows)
 AsksFor name rows (Play words) = (name ≡ codes "play") × Plays rows words
 AsksFor name rows (Show words) = (name ≡ codes "show") × Plays rows words
-AsksFor name rows (Survey height width files) =
-    (name ≡ codes "survey") × (height.now ≡ word_of (codes "ROWS") rows) × (width.now ≡ word_of (codes "COLS") rows) × (map (λ f. f.now) files.items ≡ words_of (codes "FILE") rows)
+AsksFor name rows (Survey words) =
+    (name ≡ codes "survey") × (words.rows.now ≡ word_of (codes "ROWS") rows) × (words.cols.now ≡ word_of (codes "COLS") rows) × (map (λ f. f.now) words.paths.items ≡ words_of (codes "FILE") rows)
 AsksFor name rows (Print entry) = IsInfocmp name rows false false (entry.now ∷ [])
 AsksFor name rows (Common first second) = IsInfocmp name rows true false (first.now ∷ second.now ∷ [])
 AsksFor name rows (Neither first second) = IsInfocmp name rows false true (first.now ∷ second.now ∷ [])

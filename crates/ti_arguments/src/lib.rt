@@ -7,4 +7,4 @@ mod parsing;
 mod request;
 
 pub use parsing::{Answer, LineFault, parse_line};
-pub use request::{Request, Scripted};
+pub use request::{CheckWords, ExpandWords, Request, ScriptWords, SurveyWords, VerifyWords};

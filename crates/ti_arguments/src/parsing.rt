@@ -7,7 +7,7 @@ ghost use Rattle.clap.specs.Words.{found_of, kind_of, subcommand_rows_of};
 ghost use Rattle.ti_arguments.specs.Asking.{Asks, AsksFor, IsAnswer, IsTold, Plays, is_on, word_of, words_of};
 
 use crate::commands::command_line;
-use crate::request::{Request, Scripted};
+use crate::request::{CheckWords, ExpandWords, Request, ScriptWords, SurveyWords, VerifyWords};
 use clap::ArgMatches;
 use clap::error::{Error, ErrorKind};
 use std::alloc::{AllocError, Global};
@@ -86,13 +86,13 @@ fn expand_request<'a>(alloc: Global, words: &ArgMatches<'a>) -> Result<Request<'
     ensures { IfOk result (λ request. AsksFor (codes "expand") (rows_of (found_of words.now)) request) }
 {
     let params = words.get_strs("PARAM").unwrap_or(&[]);
-    Ok(Request::Expand {
+    Ok(Request::Expand(ExpandWords {
         cup: is_on(words, "cup"),
         string: word(words, "STRING"),
         rows: word(words, "ROWS"),
         cols: word(words, "COLS"),
         params: Vec::from_slice(alloc, params)?,
-    })
+    }))
 }
 
 fn feed_request<'a>(words: &ArgMatches<'a>) -> Request<'a>
@@ -117,30 +117,30 @@ fn tic_request<'a>(words: &ArgMatches<'a>) -> Request<'a>
 fn check_request<'a>(words: &ArgMatches<'a>) -> Request<'a>
     ensures { AsksFor (codes "check") (rows_of (found_of words.now)) result }
 {
-    Request::Check {
+    Request::Check(CheckWords {
         entry: word(words, "ENTRY"),
         rows: word(words, "ROWS"),
         cols: word(words, "COLS"),
         out: first_word(words, "out"),
-    }
+    })
 }
 
 fn verify_request<'a>(words: &ArgMatches<'a>) -> Request<'a>
     ensures { AsksFor (codes "verify") (rows_of (found_of words.now)) result }
 {
-    Request::Verify {
+    Request::Verify(VerifyWords {
         entry: word(words, "ENTRY"),
         rows: word(words, "ROWS"),
         cols: word(words, "COLS"),
         certificate: word(words, "CERT"),
-    }
+    })
 }
 
 /// The words of `play` and `show`.
-fn scripted<'a>(words: &ArgMatches<'a>) -> Scripted<'a>
+fn scripted<'a>(words: &ArgMatches<'a>) -> ScriptWords<'a>
     ensures { Plays (rows_of (found_of words.now)) result }
 {
-    Scripted {
+    ScriptWords {
         entry: word(words, "ENTRY"),
         rows: word(words, "ROWS"),
         cols: word(words, "COLS"),
@@ -154,11 +154,11 @@ fn survey_request<'a>(alloc: Global, words: &ArgMatches<'a>) -> Result<Request<'
     ensures { IfOk result (λ request. AsksFor (codes "survey") (rows_of (found_of words.now)) request) }
 {
     let paths = words.get_strs("FILE").unwrap_or(&[]);
-    Ok(Request::Survey {
+    Ok(Request::Survey(SurveyWords {
         rows: word(words, "ROWS"),
         cols: word(words, "COLS"),
         paths: Vec::from_slice(alloc, paths)?,
-    })
+    }))
 }
 
 /// One entry is printed, two are compared.

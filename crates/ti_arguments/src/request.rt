@@ -1,8 +1,49 @@
 //! What a command line can ask for: one variant for each command, with its words.
 
+/// The words of `expand`.
+#[derive(Debug, Drop)]
+pub struct ExpandWords<'a> {
+    /// Whether `--cup` is given.
+    pub cup: bool,
+    /// The parameter string, in the escapes of terminfo source.
+    pub string: &'a str,
+    /// The terminal's rows.
+    pub rows: &'a str,
+    /// The terminal's columns.
+    pub cols: &'a str,
+    /// The string's parameters.
+    pub params: Vec<&'a str>,
+}
+
+/// The words of `check`.
+#[derive(Debug, Drop)]
+pub struct CheckWords<'a> {
+    /// The entry.
+    pub entry: &'a str,
+    /// The terminal's rows.
+    pub rows: &'a str,
+    /// The terminal's columns.
+    pub cols: &'a str,
+    /// The path of the certificate, if it isn't for standard output.
+    pub out: Option<&'a str>,
+}
+
+/// The words of `verify`.
+#[derive(Debug, Drop)]
+pub struct VerifyWords<'a> {
+    /// The entry.
+    pub entry: &'a str,
+    /// The terminal's rows.
+    pub rows: &'a str,
+    /// The terminal's columns.
+    pub cols: &'a str,
+    /// The path of the certificate.
+    pub certificate: &'a str,
+}
+
 /// The words of a command that plays a script.
 #[derive(Debug, Drop)]
-pub struct Scripted<'a> {
+pub struct ScriptWords<'a> {
     /// The entry.
     pub entry: &'a str,
     /// The terminal's rows.
@@ -15,22 +56,22 @@ pub struct Scripted<'a> {
     pub script: &'a str,
 }
 
+/// The words of `survey`.
+#[derive(Debug, Drop)]
+pub struct SurveyWords<'a> {
+    /// The terminal's rows.
+    pub rows: &'a str,
+    /// The terminal's columns.
+    pub cols: &'a str,
+    /// The paths of the files.
+    pub paths: Vec<&'a str>,
+}
+
 /// A command and its words. What a word means (a number, a path, an entry) is the command's own matter.
 #[derive(Debug, Drop)]
 pub enum Request<'a> {
     /// `expand [--cup] STRING ROWS COLS [PARAM..]`: expand a parameter string.
-    Expand {
-        /// Whether `--cup` is given.
-        cup: bool,
-        /// The parameter string, in the escapes of terminfo source.
-        string: &'a str,
-        /// The terminal's rows.
-        rows: &'a str,
-        /// The terminal's columns.
-        cols: &'a str,
-        /// The string's parameters.
-        params: Vec<&'a str>,
-    },
+    Expand(ExpandWords<'a>),
     /// `feed ROWS COLS FILE`: feed a file to a terminal.
     Feed {
         /// The terminal's rows.
@@ -48,40 +89,15 @@ pub enum Request<'a> {
         out: Option<&'a str>,
     },
     /// `check ENTRY ROWS COLS [--out FILE]`: write the certificate of an entry.
-    Check {
-        /// The entry.
-        entry: &'a str,
-        /// The terminal's rows.
-        rows: &'a str,
-        /// The terminal's columns.
-        cols: &'a str,
-        /// The path of the certificate, if it isn't for standard output.
-        out: Option<&'a str>,
-    },
+    Check(CheckWords<'a>),
     /// `verify ENTRY ROWS COLS CERT`: verify the certificate of an entry.
-    Verify {
-        /// The entry.
-        entry: &'a str,
-        /// The terminal's rows.
-        rows: &'a str,
-        /// The terminal's columns.
-        cols: &'a str,
-        /// The path of the certificate.
-        certificate: &'a str,
-    },
+    Verify(VerifyWords<'a>),
     /// `play ENTRY ROWS COLS CERT SCRIPT`: play a script of curses calls.
-    Play(Scripted<'a>),
+    Play(ScriptWords<'a>),
     /// `show ENTRY ROWS COLS CERT SCRIPT`: show the screen that a script of curses calls leaves.
-    Show(Scripted<'a>),
+    Show(ScriptWords<'a>),
     /// `survey ROWS COLS FILE..`: check all entries of some files.
-    Survey {
-        /// The terminal's rows.
-        rows: &'a str,
-        /// The terminal's columns.
-        cols: &'a str,
-        /// The paths of the files.
-        paths: Vec<&'a str>,
-    },
+    Survey(SurveyWords<'a>),
     /// `infocmp ENTRY`: print an entry.
     Print {
         /// The entry.

@@ -6,7 +6,10 @@ use crate::progress::ProgressLine;
 use cur_commands::{Playing, play_script, show_script};
 use std::alloc::Global;
 use std::io::{IsTerminal, Write};
-use ti_arguments::{Answer, LineFault, Request, Scripted, parse_line};
+use ti_arguments::{
+    Answer, CheckWords, ExpandWords, LineFault, Request, ScriptWords, SurveyWords, VerifyWords,
+    parse_line,
+};
 use ti_commands::{
     Comparison, Expansion, Failure, Files, Output, Remarks, Reply, Written, compare_entries,
     compile_entry, expand_string, feed_file, print_entry, report, write_reply, write_text,
@@ -73,35 +76,17 @@ fn reply_to<F: Files, O: Output, E: Write + IsTerminal>(
     remarks: &mut Remarks,
 ) -> Result<Reply, Failure> {
     match request {
-        Request::Expand {
-            cup,
-            string,
-            rows,
-            cols,
-            params,
-        } => expand(alloc, *cup, string, rows, cols, params.as_slice(), remarks),
+        Request::Expand(words) => expand(alloc, words, remarks),
         Request::Feed { rows, cols, file } => feed_file(alloc, rows, cols, file, files, remarks),
         Request::Tic { entry, out } => compile_entry(alloc, entry, *out, files, remarks),
-        Request::Check {
-            entry,
-            rows,
-            cols,
-            out,
-        } => check(alloc, entry, rows, cols, *out, files, remarks),
-        Request::Verify {
-            entry,
-            rows,
-            cols,
-            certificate,
-        } => verify(alloc, entry, rows, cols, certificate, files, remarks),
+        Request::Check(words) => check(alloc, words, files, remarks),
+        Request::Verify(words) => verify(alloc, words, files, remarks),
         Request::Play(words) => {
             play_script(alloc, &playing(words), files, out, remarks)?;
             Ok(Reply::of_text(alloc, Vec::new(alloc)))
         }
         Request::Show(words) => show_script(alloc, &playing(words), files, remarks),
-        Request::Survey { rows, cols, paths } => {
-            survey(alloc, rows, cols, paths.as_slice(), files, err, remarks)
-        }
+        Request::Survey(words) => survey(alloc, words, files, err, remarks),
         Request::Print { entry } => print_entry(alloc, entry, files, remarks),
         Request::Common { first, second } => {
             compare_entries(alloc, first, second, Comparison::Common, files, remarks)
@@ -112,7 +97,7 @@ fn reply_to<F: Files, O: Output, E: Write + IsTerminal>(
     }
 }
 
-fn playing<'a>(words: &Scripted<'a>) -> Playing<'a> {
+fn playing<'a>(words: &ScriptWords<'a>) -> Playing<'a> {
     Playing {
         entry: words.entry,
         rows: words.rows,
@@ -124,73 +109,61 @@ fn playing<'a>(words: &Scripted<'a>) -> Playing<'a> {
 
 fn expand(
     alloc: Global,
-    judges_cup: bool,
-    string: &str,
-    rows: &str,
-    cols: &str,
-    params: &[&str],
+    words: &ExpandWords<'_>,
     remarks: &mut Remarks,
 ) -> Result<Reply, Failure> {
-    let words = Expansion {
-        string,
-        rows,
-        cols,
-        params,
-        judges_cup,
+    let expansion = Expansion {
+        string: words.string,
+        rows: words.rows,
+        cols: words.cols,
+        params: words.params.as_slice(),
+        judges_cup: words.cup,
     };
-    expand_string(alloc, &words, remarks)
+    expand_string(alloc, &expansion, remarks)
 }
 
 fn check<F: Files>(
     alloc: Global,
-    entry: &str,
-    rows: &str,
-    cols: &str,
-    out: Option<&str>,
+    words: &CheckWords<'_>,
     files: &mut F,
     remarks: &mut Remarks,
 ) -> Result<Reply, Failure> {
-    let words = Inspection {
-        entry,
-        rows,
-        cols,
-        out,
+    let inspection = Inspection {
+        entry: words.entry,
+        rows: words.rows,
+        cols: words.cols,
+        out: words.out,
     };
-    check_entry(alloc, &Checker, &words, files, remarks)
+    check_entry(alloc, &Checker, &inspection, files, remarks)
 }
 
 fn verify<F: Files>(
     alloc: Global,
-    entry: &str,
-    rows: &str,
-    cols: &str,
-    certificate: &str,
+    words: &VerifyWords<'_>,
     files: &mut F,
     remarks: &mut Remarks,
 ) -> Result<Reply, Failure> {
-    let words = Verification {
-        entry,
-        rows,
-        cols,
-        certificate,
+    let verification = Verification {
+        entry: words.entry,
+        rows: words.rows,
+        cols: words.cols,
+        certificate: words.certificate,
     };
-    verify_certificate(alloc, &words, files, remarks)
+    verify_certificate(alloc, &verification, files, remarks)
 }
 
 fn survey<F: Files, E: Write + IsTerminal>(
     alloc: Global,
-    rows: &str,
-    cols: &str,
-    paths: &[&str],
+    words: &SurveyWords<'_>,
     files: &mut F,
     err: &mut E,
     remarks: &mut Remarks,
 ) -> Result<Reply, Failure> {
-    let words = Survey {
-        rows,
-        cols,
-        files: paths,
+    let survey = Survey {
+        rows: words.rows,
+        cols: words.cols,
+        files: words.paths.as_slice(),
     };
     let line = ProgressLine::new(alloc, err);
-    survey_files(alloc, &Checker, &words, files, line, remarks)
+    survey_files(alloc, &Checker, &survey, files, line, remarks)
 }
