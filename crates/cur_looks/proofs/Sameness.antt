@@ -1,11 +1,11 @@
 -- What is the same by the tests is the same.
-use Rattle.std.proofs.Common.{◌≡◌, ℕ, ◌==◌, ◌&&◌, Bool, true, false, Option, Some, None, refl, sym, ap, ◌∙◌, arith}
+use Rattle.std.proofs.Common.{◌≡◌, ℕ, ◌==◌, ◌&&◌, Bool, true, false, Option, Some, None, IfSome, if◌then◌else◌, refl, sym, ap, subst, ◌∙◌, arith}
 use Rattle.std.proofs.lemmas.Bool.Decides.{nat_tests}
 use Rattle.vt_term.specs.Color.{Color, color_number, Black, Red, Green, Yellow, Blue, Magenta, Cyan, White, color}
 use Rattle.ti_rows.specs.declared.rows.Attributes.{Attributes}
 use Rattle.cur_looks.specs.declared.inks.Brush.{Brush}
 use Rattle.cur_looks.specs.declared.inks.Ink.{Ink}
-use Rattle.cur_looks.specs.Inks.{alike, same_few, same_others, same_attributes, same_color, same_brush, same}
+use Rattle.cur_looks.specs.Inks.{alike, same_few, same_others, same_attributes, same_color, same_brush, same, byte_as}
 
 alike_equal : (a b : Bool) → alike a b ≡ true → a ≡ b
 alike_equal true true h = refl
@@ -68,3 +68,55 @@ same_equal a b h =
     ap (λ (x : ℕ). record a { byte = x }) (equal_numbers a.byte b.byte p.0)
     ∙ ap (λ (x : Bool). record b { graphic = x; brush = a.brush }) (alike_equal a.graphic b.graphic q.0)
     ∙ ap (λ (x : Brush). record b { brush = x }) (brush_equal a.brush b.brush q.1)
+
+when_byte : (t : Bool) (x y : Ink) (b : ℕ) → (t ≡ true → (x.graphic ≡ y.graphic) × (x.brush ≡ y.brush)) → (if t then Some x.byte else None) ≡ Some b → x ≡ record y { byte = b }
+when_byte true x y b f e =
+    let byte : x.byte ≡ b = cc in
+    ap (λ (n : ℕ). record x { byte = n }) byte ∙ ap (λ (g : Bool). record x { byte = b; graphic = g }) (f refl).0 ∙ ap (λ (h : Brush). record y { byte = b; brush = h }) (f refl).1
+when_byte false x y b f e = absurd (cc)
+
+byte_as_is : (x y : Ink) (b : ℕ) → byte_as x y ≡ Some b → x ≡ record y { byte = b }
+byte_as_is x y b e =
+    when_byte (alike x.graphic y.graphic && same_brush x.brush y.brush) x y b
+    (λ t. (let p = both (alike x.graphic y.graphic) (same_brush x.brush y.brush) t in (alike_equal x.graphic y.graphic p.0, brush_equal x.brush y.brush p.1))) e
+
+pub byte_as_some : (x y : Ink) → IfSome (byte_as x y) (λ b. x ≡ record y { byte = b })
+byte_as_some x y = one (byte_as x y) refl
+  where
+    one : (o : Option ℕ) → byte_as x y ≡ o → IfSome o (λ b. x ≡ record y { byte = b })
+    one None e = tt
+    one (Some b) e = byte_as_is x y b e
+
+alike_self : (b : Bool) → alike b b ≡ true
+alike_self true = refl
+alike_self false = refl
+
+and_true : (a b : Bool) → a ≡ true → b ≡ true → (a && b) ≡ true
+and_true true true p q = refl
+and_true true false p q = q
+and_true false b p q = p
+
+number_self : (n : ℕ) → (n == n) ≡ true
+number_self n = grind (arith, nat_tests)
+
+color_self : (a : Option Color) → same_color a a ≡ true
+color_self None = refl
+color_self (Some c) = number_self (color_number c)
+
+attributes_self : (a : Attributes) → same_attributes a a ≡ true
+attributes_self a =
+    let s = alike_self in
+    and_true _ _ (and_true _ _ (s a.standout) (and_true _ _ (s a.underline) (s a.reverse)))
+    (and_true _ _ (s a.blink) (and_true _ _ (s a.dim) (and_true _ _ (s a.bold) (s a.invisible))))
+
+pub brush_self : (a : Brush) → same_brush a a ≡ true
+brush_self a = and_true _ _ (attributes_self a.attributes) (and_true _ _ (color_self a.foreground) (color_self a.background))
+
+-- a brush that is the same is told so
+pub brush_known : (a b : Brush) → a ≡ b → same_brush a b ≡ true
+brush_known a b e = subst (λ (x : Brush). same_brush a x ≡ true) e (brush_self a)
+
+pub byte_as_known : (x y : Ink) (b : ℕ) → x ≡ record y { byte = b } → byte_as x y ≡ Some b
+byte_as_known x y b e =
+    let same : (alike y.graphic y.graphic && same_brush y.brush y.brush) ≡ true = and_true _ _ (alike_self y.graphic) (brush_self y.brush) in
+    subst (λ (z : Ink). byte_as z y ≡ Some b) (sym e) (ap (λ (t : Bool). if t then Some b else None) same)

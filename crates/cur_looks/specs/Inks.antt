@@ -51,6 +51,10 @@ same_brush a b = same_attributes a.attributes b.attributes && (same_color a.fore
 abbrev pub same : Ink → Ink → Bool
 same a b = (a.byte == b.byte) && (alike a.graphic b.graphic && same_brush a.brush b.brush)
 
+-- the character, where it is printed in the set and the brush of another one
+abbrev pub byte_as : Ink → Ink → Option ℕ
+byte_as x y = if alike x.graphic y.graphic && same_brush x.brush y.brush then Some x.byte else None
+
 -- colours only where there are lines for them
 pub record IsColored (t : Table) (b : Brush) : Type 0 where
   pub foreground : has t Op ≡ false → b.foreground ≡ None

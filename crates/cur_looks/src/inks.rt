@@ -23,7 +23,7 @@ pub struct Ink {
 
 /// A screen by its places.
 pub trait View {
-    ghost use Rattle.cur_looks.specs.Inks.{same, blank_ink};
+    ghost use Rattle.cur_looks.specs.Inks.{byte_as, same, blank_ink};
     ghost use Rattle.cur_looks.specs.declared.inks.Ink.{Ink};
 
     ghost cells: { Self → ℕ → ℕ → Ink };
@@ -46,12 +46,11 @@ pub trait View {
         self.shows(row, col, Ink::blank())
     }
 
-    /// The character in a place, if it's known to be printed in the set and the brush of another place of the line.
+    /// The character in a place, if it is printed in the set and the brush of another place of the line.
     fn byte_like(&self, row: usize, col: usize, like: usize) -> Option<u8>
-        ensures value { IfSome result (λ b. cells self.now row col ≡ record (cells self.now row like) { byte = b }) }
+        ensures value { result ≡ byte_as (cells self.now row col) (cells self.now row like) }
     {
-        let _ = (row, col, like);
-        None
+        byte_as(self.at(row, col), self.at(row, like))
     }
 }
 
@@ -109,6 +108,14 @@ pub fn is_same(a: Ink, b: Ink) -> bool
     ensures value { result ≡ spec.same a b }
 {
     a.byte == b.byte && a.graphic == b.graphic && same_brush(a.brush, b.brush)
+}
+
+/// The character, if it is printed in the set and the brush of another one.
+pub fn byte_as(ink: Ink, like: Ink) -> Option<u8>
+    ensures value { result ≡ spec.byte_as ink like }
+{
+    let is_like = ink.graphic == like.graphic && same_brush(ink.brush, like.brush);
+    is_like.then_some(ink.byte)
 }
 
 /// Whether two brushes are the same.

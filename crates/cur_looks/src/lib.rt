@@ -21,7 +21,7 @@ pub use beliefs::{Belief, Mode, Place};
 pub use cells::{blank_tail, put_cell};
 pub use certificates::Certificate;
 pub use erasing::{Erasure, erase_at, erase_from, erasing_line};
-pub use inks::{Blank, Brush, Ink, View, is_same};
+pub use inks::{Blank, Brush, Ink, View, byte_as, is_same};
 pub use modes::show_as;
 pub use reaching::{line_bytes, reach};
 pub use texts::{goes_on, print_text};

@@ -46,7 +46,8 @@ struct Measured {
 
 /// Whether a character is printed like this now.
 pub(crate) fn is_alike(belief: &Belief, ink: Ink) -> bool
-    ensures { result ≡ true → IsAlike belief.now ink }
+    ensures alike { result ≡ true → IsAlike belief.now ink }
+    ensures known { IsAlike belief.now ink → result ≡ true }
 {
     same_brush(belief.brush, ink.brush) && is_active(belief.graphic, ink.graphic)
 }

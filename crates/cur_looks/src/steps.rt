@@ -23,11 +23,9 @@ use vt_term::Color;
 pub(crate) fn stands(place: Option<Place>, row: usize, col: usize) -> bool
     ensures here { result ≡ true → place ≡ Some (record { row = row; col = col }) }
     ensures counted { result ≡ false → moves place row col ≡ 1 }
+    ensures known { place ≡ Some (record { row = row; col = col }) → result ≡ true }
 {
-    match place {
-        Some(p) => p.row == row && p.col == col,
-        None => false,
-    }
+    matches!(place, Some(p) if p.row == row && p.col == col)
 }
 
 /// The colours become the default ones.
@@ -196,12 +194,10 @@ fn row_of_set(graphic: bool) -> Row
 
 /// Whether a set is known to be the active one.
 pub(crate) fn is_active(now: Option<bool>, graphic: bool) -> bool
-    ensures { result ≡ true → now ≡ Some graphic }
+    ensures active { result ≡ true → now ≡ Some graphic }
+    ensures known { now ≡ Some graphic → result ≡ true }
 {
-    match now {
-        Some(active) => active == graphic,
-        None => false,
-    }
+    matches!(now, Some(active) if active == graphic)
 }
 
 /// A character in a place to which the next one is known to go, printed in the brush and the set that are known.

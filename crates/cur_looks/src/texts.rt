@@ -18,6 +18,7 @@ use cur_wires::{Wire, WireFault, send_all};
 pub fn goes_on(belief: &Belief, row: usize, col: usize, ink: Ink) -> bool
     ensures place { result ≡ true → belief.now.place ≡ Some (record { row = row; col = col }) }
     ensures alike { result ≡ true → IsAlike belief.now ink }
+    ensures known { belief.now.place ≡ Some (record { row = row; col = col }) → IsAlike belief.now ink → result ≡ true }
 {
     stands(belief.place, row, col) && is_alike(belief, ink)
 }

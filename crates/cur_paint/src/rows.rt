@@ -94,8 +94,15 @@ fn mend_each<C: Certificate, O: View, N: View, W: Wire>(
     Ok(())
 }
 
-/// How many cells of a line from a column on differ, and are known to be printed in the set and the brush of another place of
-/// the line; no more than the text has room for. It gets their characters.
+/// The character in a place, if it is printed in the set and the brush of another place of the line.
+fn like_byte<N: View>(new: &N, row: usize, col: usize, like: usize) -> Option<u8>
+    ensures value { IfSome result (λ b. N.cells new.now row col ≡ record (N.cells new.now row like) { byte = b }) }
+{
+    new.byte_like(row, col, like)
+}
+
+/// How many cells of a line from a column on differ, and are printed in the set and the brush of another place of the line; no
+/// more than the text has room for. It gets their characters.
 fn like_cells<O: View, N: View>(
     old: &O,
     new: &N,
@@ -114,7 +121,7 @@ fn like_cells<O: View, N: View>(
 {
     let mut n = 0;
     while n < count && n < text.len() {
-        let Some(byte) = new.byte_like(row, from + n, like) else {
+        let Some(byte) = like_byte(new, row, from + n, like) else {
             return n;
         };
         if old.shows(row, from + n, Ink { byte, ..ink }) {

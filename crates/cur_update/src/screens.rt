@@ -5,7 +5,7 @@ ghost use Rattle.cur_update.specs.Inks.{content_at, ink_at_with};
 
 use crate::alternates::Alternates;
 use crate::inks::{Means, ink_of, is_blank_ink, is_other, plain_byte, shows_ink};
-use cur_looks::{Ink, View, is_same};
+use cur_looks::{Ink, View, byte_as, is_same};
 use cur_windows::Virtual;
 
 /// A virtual screen with the certificate that says how its cells are printed.
@@ -76,11 +76,13 @@ impl<'a, C: Alternates> View for PrintedScreen<'a, C> {
     #[inline(always)]
     fn byte_like(&self, row: usize, col: usize, like: usize) -> Option<u8> {
         let (rows, cols) = self.screen.size();
-        if row >= rows as usize || col >= cols as usize || like >= cols as usize {
-            return None;
+        if row < rows as usize && col < cols as usize && like < cols as usize {
+            let cells = self.screen.row(row as u16);
+            if let Some(byte) = plain_byte(cells, col, like) {
+                return Some(byte);
+            }
         }
-        let cells = self.screen.row(row as u16);
-        plain_byte(cells, col, like)
+        byte_as(self.at(row, col), self.at(row, like))
     }
 }
 
