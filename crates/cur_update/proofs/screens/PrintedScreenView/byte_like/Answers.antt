@@ -1,4 +1,4 @@
-use Rattle.std.proofs.Common.{ℕ, List, Option, Some, IfSome, ap, subst, slice_index_or, arith}
+use Rattle.std.proofs.Common.{ℕ, List, ap, subst, slice_index_or, arith}
 use Rattle.cur_drawing.specs.Cells.{Content, space}
 use Rattle.cur_update.specs.Inks.{IsPlainLike}
 use Rattle.cur_update.proofs.Liking.{like_ink}
