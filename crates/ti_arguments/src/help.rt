@@ -11,7 +11,7 @@ or FILE, a compiled terminfo file. A word that begins with `-` and is not an opt
 
 Exit status:
   0  done
-  1  refused: standard error has a line `refused: KIND`, and one more line that explains it
+  1  refused: standard error has a line `refused: KIND`, and then what explains it
   2  usage error
   3  a file could not be read or written (`file: PATH`), or standard output could not be written (`output`)
   4  out of memory (`no memory`)
@@ -218,7 +218,8 @@ pub const PLAY_MORE: &str = "\
 SCRIPT lists calls of curses, one a line, as in `newwin 1 5 20 2 2` or `addstr 1 hello`; docs/TOUR.md has examples. It is
 played on a terminal of this size, which the entry drives as the certificate CERT shows. The output is the bytes that
 the calls send; what a refresh sends is written before the next call, in one piece where it is no more than 65536
-bytes. A call that curses refuses does nothing, and the calls after it are played; `ticurses show` lists such calls.
+bytes. A call that curses refuses does nothing, except that what a text wrote before its refusal stays. The calls after
+it are played; `ticurses show` lists those that were refused.
 
 Exit status: 0 done; 1 refused, with a line `refused: KIND` on standard error; 2 usage error; 3 a file could not
 be read or the script has more than 1048576 bytes, or, told after the last call, standard output could not be
@@ -244,15 +245,15 @@ curses refused, calls being counted from 1 and NAME being the reason, and then t
 NAME is one of:
   NoWindow     the number is not that of a window
   NumberUsed   the number is that of a window already
-  Full         window numbers are 0 to 63
+  Full         window numbers are 0 to 63, in any call
   OutOfWindow  the place or the part is not in the window
   OutOfScreen  the place or the part is not on the screen
   HasChildren  the window has subwindows
   IsSub        the window is a subwindow
   IsScreen     window 0 stays
-  PadKind      the call is not for a pad, or for nothing else
-  NoScroll     the text goes on behind the last line, and the window may not scroll
-  BadRegion    a size, a range or a mode that there is not
+  PadKind      the call takes no pad, or it takes only pads
+  NoScroll     the text goes past the last line, and the window may not scroll
+  BadRegion    a size, a range or a mode that does not exist
   BadCell      the byte cannot stand in a cell
   BadPair      pairs are 0 to 63, pair 0 cannot be changed, and colors are 0 to 7
   NoCap        the entry lacks the strings for it
@@ -274,8 +275,8 @@ Each FILE is a source file, of which all entries are checked in their order, or 
   NAME yes                   there is a certificate
   NAME no CAP P..: CAUSE     there is none; `ticurses check --help` explains each CAUSE
   NAME refused: KIND         the entry can't be had; `ticurses tic --help` explains each KIND
-A file without entries has one line, `FILE refused: KIND`. The last line is the number of entries, and then how many
-got each answer.
+A FILE with a fault of its own has one line, `FILE refused: KIND`; a source without entries has none. The last line is
+the number of the lines before it, and then how many got each answer.
 
 A FILE has at most 16777216 bytes. One that can't be read has no line, and the others are checked all the same.
 
