@@ -107,11 +107,7 @@ fn playing<'a>(words: &ScriptWords<'a>) -> Playing<'a> {
     }
 }
 
-fn expand(
-    alloc: Global,
-    words: &ExpandWords<'_>,
-    remarks: &mut Remarks,
-) -> Result<Reply, Failure> {
+fn expand(alloc: Global, words: &ExpandWords<'_>, remarks: &mut Remarks) -> Result<Reply, Failure> {
     let expansion = Expansion {
         string: words.string,
         rows: words.rows,
