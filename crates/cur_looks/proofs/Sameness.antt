@@ -109,10 +109,10 @@ attributes_self a =
     and_true _ _ (and_true _ _ (s a.standout) (and_true _ _ (s a.underline) (s a.reverse)))
     (and_true _ _ (s a.blink) (and_true _ _ (s a.dim) (and_true _ _ (s a.bold) (s a.invisible))))
 
-pub brush_self : (a : Brush) → same_brush a a ≡ true
+brush_self : (a : Brush) → same_brush a a ≡ true
 brush_self a = and_true _ _ (attributes_self a.attributes) (and_true _ _ (color_self a.foreground) (color_self a.background))
 
--- a brush that is the same is told so
+-- equal brushes are found to be the same
 pub brush_known : (a b : Brush) → a ≡ b → same_brush a b ≡ true
 brush_known a b e = subst (λ (x : Brush). same_brush a x ≡ true) e (brush_self a)
 
