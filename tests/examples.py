@@ -608,16 +608,27 @@ def judge_kept(work):
 
 
 def judge_progress(work):
-    """On a terminal `survey` tells what it is at, a file and then its entry, and takes that away."""
+    """On a terminal `survey` prints where it is, a file and then its entry, and erases that in the end."""
     with open(f"{work}/mini", "wb") as file:
         file.write(MINI)
     leader, follower = pty.openpty()
     words = ["survey", "24", "80", "mini"]
     ran = subprocess.run([f"{PROGRAM}/out/ticurses", *words], cwd=work, env={}, stdout=subprocess.PIPE, stderr=follower)
-    shown = os.read(leader, 4096)
+    os.close(follower)
+    shown = read_terminal(leader)
     judge(words, Told(ran.returncode, ran.stdout, b""), 0, "mini yes\ntotal 1, yes 1\n", "")
     if shown != b"\r0 of 1: mini\r0 of 1: mini\r            \r":
         sys.exit(f"examples: survey on a terminal showed {shown}")
+
+
+def read_terminal(leader):
+    """All that was written to a terminal that nobody has open any longer; it may come in several pieces."""
+    shown = b""
+    with contextlib.suppress(OSError):
+        while piece := os.read(leader, 4096):
+            shown += piece
+    os.close(leader)
+    return shown
 
 
 def judge_neither(told):

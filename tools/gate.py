@@ -14,8 +14,6 @@ from concurrent.futures import ThreadPoolExecutor
 
 from crates import TOP, listed
 
-# as CI took, with its scripts
-MINUTES = "115"
 # the scripts that run the program, which `rt ci` leaves built
 OF_PROGRAM = {"compiled.sh", "examples.sh", "expansions.sh", "hello.sh", "infocmp.sh", "screens.sh", "scripts.sh", "tour.sh"}
 
@@ -106,7 +104,7 @@ class Crates:
 
 def main():
     os.chdir(TOP)
-    say(f"the whole takes about {MINUTES} minutes on four processors")
+    say("docs/PROVING.md says how long the whole takes")
     names = sorted(it for it in os.listdir("tests") if it.endswith(".sh"))
     if not OF_PROGRAM <= set(names):
         sys.exit(f"test: tests/ lacks {', '.join(sorted(OF_PROGRAM - set(names)))}")

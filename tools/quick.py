@@ -1,0 +1,119 @@
+#!/usr/bin/env python3
+"""Builds the program without proving it, as `rt try` makes it, and keeps the executable for all further runs.
+
+`rt try` keeps none. So it runs the program on a FIFO as its file: once somebody reads from the FIFO, the program is
+whole and started, and can be copied. The copy gets its name only when it is whole, so that a build which is
+interrupted leaves nothing that a further run would take for the program. The status is 0, 125 if there is no program,
+127 without the toolchain, 130 if interrupted."""
+
+import contextlib
+import errno
+import fcntl
+import glob
+import os
+import shutil
+import signal
+import subprocess
+import sys
+import tempfile
+import time
+
+from crates import TOP
+from sources import PROGRAM, UNPROVED, is_newer
+
+FOLDER = f"{TOP}/crates/{PROGRAM}"
+LOG = f"{FOLDER}/out/unproved.log"
+# how often it is looked whether the program has started, and how often progress is reported, in seconds
+LOOKS, REPORTS = 0.1, 10
+
+
+def say(text):
+    print(f"ticurses: {text}", file=sys.stderr, flush=True)
+
+
+def is_read(fifo):
+    """A descriptor to write to the FIFO, once somebody reads from it; until then None."""
+    try:
+        return os.open(fifo, os.O_WRONLY | os.O_NONBLOCK)
+    except OSError as error:
+        if error.errno != errno.ENXIO:
+            raise
+        return None
+
+
+def wait_for_reader(run, fifo):
+    """Waits until the program reads from the FIFO. Returns the descriptor, or None if the run has ended before."""
+    began, reported = time.monotonic(), 0
+    while run.poll() is None:
+        descriptor = is_read(fifo)
+        if descriptor is not None:
+            return descriptor
+        seconds = time.monotonic() - began
+        if seconds >= reported + REPORTS:
+            reported = seconds
+            say(f"building without proof, {seconds:.0f} seconds so far")
+        time.sleep(LOOKS)
+    return None
+
+
+def keep(room, began):
+    """Copies the program that runs below the room. It is as old as the beginning of its build."""
+    made = glob.glob(f"{glob.escape(room)}/**/program", recursive=True)
+    if len(made) != 1:
+        return False
+    shutil.copyfile(made[0], f"{room}/kept")
+    os.chmod(f"{room}/kept", 0o755)
+    os.utime(f"{room}/kept", (began, began))
+    os.replace(f"{room}/kept", UNPROVED)
+    return True
+
+
+def build(room):
+    """Builds the program in the room. Returns whether it is kept."""
+    began, fifo = time.time(), f"{room}/fifo"
+    os.mkfifo(fifo)
+    words = ["rt", "try", "--steps", "1", "--seconds", "600", "--", "feed", "2", "2", fifo]
+    how = {"cwd": FOLDER, "env": {**os.environ, "TMPDIR": room}, "stdin": subprocess.DEVNULL, "start_new_session": True}
+    with open(LOG, "wb") as log:
+        run = subprocess.Popen(words, stdout=log, stderr=log, **how)
+    try:
+        descriptor = wait_for_reader(run, fifo)
+        if descriptor is None:
+            return False
+        is_kept = keep(room, began)
+        os.close(descriptor)
+        return is_kept
+    finally:
+        # nothing more is wanted of it
+        with contextlib.suppress(ProcessLookupError):
+            os.killpg(run.pid, signal.SIGTERM)
+        run.wait()
+
+
+def main():
+    if not shutil.which("rt"):
+        say("the program is not built, and the Rattle toolchain, which builds it, is missing")
+        say("its command rt is expected on the PATH")
+        return 127
+    signal.signal(signal.SIGTERM, signal.default_int_handler)
+    os.makedirs(f"{FOLDER}/out", exist_ok=True)
+    try:
+        with open(f"{FOLDER}/out/unproved.lock", "w", encoding="utf-8") as lock:
+            # a second first run waits, and then finds the program built
+            fcntl.flock(lock, fcntl.LOCK_EX)
+            if is_newer(UNPROVED):
+                return 0
+            say("building the program without proof, which takes a minute or two")
+            with tempfile.TemporaryDirectory(prefix="quick-", dir=f"{FOLDER}/out") as room:
+                if build(room):
+                    return 0
+    except KeyboardInterrupt:
+        say("stopped; nothing is built")
+        return 130
+    say("the toolchain made no program (rt try, in crates/ticurses)")
+    say(f"what it said is expected in {LOG}")
+    return 125
+
+
+if __name__ == "__main__":
+    sys.exit(main())
