@@ -16,7 +16,7 @@ if ! cc -O2 -o "$work/spent" spent.c 2>"$work/log"; then
     exit 1
 fi
 # builds it where it has to be, and leaves that out of the time
-../ticurses --version >/dev/null
+../build
 ours=../crates/ticurses/out/ticurses
 peer=$(command -v tic || :)
 [ -n "$peer" ] || echo "check: tic is left out, since it is missing"

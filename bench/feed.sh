@@ -27,7 +27,7 @@ if ! (cd "$crate" && cargo build --release --offline) >"$work/log" 2>&1; then
     echo "feed: the vt100 crate is left out, since it or cargo is missing"
 fi
 # builds it where it has to be, and leaves that out of the time
-../ticurses --version >/dev/null
+../build
 ours=../crates/ticurses/out/ticurses
 
 # seconds PROGRAM..: the processor time of one run

@@ -16,7 +16,7 @@ TERMINFO=$work/terminfo
 export TERMINFO
 tic -x -o "$TERMINFO" samples.ti 2>"$work/log"
 # builds it where it has to be, and leaves that out of the time
-../ticurses --version >/dev/null
+../build
 ours=../crates/ticurses/out/ticurses
 : >"$work/empty"
 

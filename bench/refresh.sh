@@ -15,7 +15,7 @@ fi
 sed 's/^\tsetaf=/\tcolors#8, pairs#64,\n&/' samples.ti >"$work/source"
 tic -x -o "$work/terminfo" "$work/source" 2>"$work/log"
 # builds it where it has to be
-../ticurses --version >/dev/null
+../build
 ours=../crates/ticurses/out/ticurses
 
 # count ENTRY ROWS COLS: `ours peer`, the bytes of the scene in $work/script

@@ -80,11 +80,11 @@ name=$(last "$work/source")
 entries=$(grep -c '^[^ 	#]' "$work/source")
 echo "text: $(wc -c <"$work/source") bytes, $entries entries, made of $(wc -l <"$work/names") of the system's; printed: $name"
 
-./ticurses infocmp "$work/source:$name" >"$work/printed"
+crates/ticurses/out/ticurses infocmp "$work/source:$name" >"$work/printed"
 echo "printed: $(wc -l <"$work/printed") lines"
 
-start=$(least ./ticurses --version)
-ours=$(least ./ticurses infocmp "$work/source:$name")
+start=$(least crates/ticurses/out/ticurses --version)
+ours=$(least crates/ticurses/out/ticurses infocmp "$work/source:$name")
 one=$(least tic -I -1 -x -e "$name" "$work/source")
 resolved=$(least tic -I -1 -x -r -e "$name" "$work/source")
 check=$(least tic -c -x "$work/source")
@@ -99,6 +99,6 @@ echo "ncurses, the whole text compiled, tic -o: $compile ms; ratio $(ratio "$our
 for size in 1000000 4000000 16000000; do
     make "$size" >"$work/long"
     size=$(wc -c <"$work/long")
-    took=$(least ./ticurses infocmp "$work/long:$(last "$work/long")")
+    took=$(least crates/ticurses/out/ticurses infocmp "$work/long:$(last "$work/long")")
     echo "$size bytes: $took ms, $(echo "$took $start $size" | awk '{ printf "%.2f", ($1 - $2) * 1000000 / $3 }') ns a byte beyond the start"
 done

@@ -5,7 +5,7 @@ set -eu
 cd -- "$(dirname -- "$0")"
 work=$(mktemp -d)
 trap 'rm -rf "$work"' EXIT
-../ticurses --version >/dev/null
+../build
 ours=../crates/ticurses/out/ticurses
 
 # seconds WORD..: the processor time of one run

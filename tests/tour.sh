@@ -2,4 +2,5 @@
 # The commands of docs/TOUR.md print what stands there. They are the indented lines that begin with `$`.
 set -eu
 cd -- "$(dirname -- "$0")"
+../build
 exec python3 -B tour.py

@@ -43,7 +43,7 @@ def run_cases(crate, cases, data=None):
 
 def run_built(cases, data):
     """Runs ticurses, which is built where it has to be, once for all scripts. A word `{}` is the path of the case's file."""
-    subprocess.run([f"{TOP}/ticurses", "--version"], stdout=subprocess.DEVNULL, check=True)
+    subprocess.run([f"{TOP}/build"], check=True)
     return [run_in_room(case, data or {}) for case in cases]
 
 

@@ -1,2 +1,9 @@
--- The definitions of calls as values.
+-- The definitions of calls and of the scripts that spell them.
+pub mod Arguments
+pub mod Cells
+pub mod Cutting
 pub mod Names
+pub mod Numbers
+pub mod Table
+pub mod Texts
+pub mod Words

@@ -83,7 +83,7 @@ pub enum Call<'a> {
         window: usize,
         text: Text<'a>,
     },
-    /// `hline`, `vline`: at most so many cells.
+    /// `hline`, `vline`: at most `count` cells.
     Line {
         call: LineCall,
         window: usize,

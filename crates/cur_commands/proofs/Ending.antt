@@ -6,7 +6,7 @@ use Rattle.std.specs.Io.KnownBytes.{Appends}
 use Rattle.ti_commands.specs.Feeding.{IsStuckFailure, ShowsAfter}
 use Rattle.ti_commands.specs.declared.failure.Failure.TheVariants.{Refused, RefusedUnwritten, Usage, File, Output, NoMemory}
 use Rattle.ti_commands.specs.declared.failure.Refusal.TheVariants as refusals
-use Rattle.cur_looks.specs.Certified.{Table}
+use Rattle.ti_conforms.specs.Certified.{Table}
 use Rattle.cur_play.specs.Log.{Ran}
 use Rattle.cur_play.specs.declared.runs.Entry.{Entry}
 use Rattle.cur_commands.specs.Showing.{IsUnshown, RanWhole, ShowsRun, refusals_text}
@@ -15,13 +15,13 @@ use Rattle.ti_cert.specs.Table.{Content as Strings}
 use Rattle.ti_commands.specs.Holding.{Held}
 use Rattle.ti_commands.specs.declared.failure.Failure.{Failure}
 use Rattle.cur_calls.specs.declared.calls.Call.{Call}
-use Rattle.cur_scripts.specs.Texts.{script_of}
+use Rattle.cur_calls.specs.Texts.{script_of}
 use Rattle.cur_commands.specs.Commands.{FailsAtScript, IsReady}
 use Rattle.cur_commands.specs.Preparing.{Prepared}
 use Rattle.cur_commands.specs.Scripts.{IsScriptFailure}
-use Rattle.cur_commands.specs.declared.preparing.Playing.{Playing}
+use Rattle.ti_requests.specs.declared.request.ScriptWords.{ScriptWords}
 
-pub script_refused : (held : Held) (words : Playing) (height width : ℕ) (checked : Strings) (text slice : List ℕ) (e : Failure) → Prepared held words height width checked text → slice ≡ text → IsScriptFailure slice e → FailsAtScript held words e
+pub script_refused : (held : Held) (words : ScriptWords) (height width : ℕ) (checked : Strings) (text slice : List ℕ) (e : Failure) → Prepared held words height width checked text → slice ≡ text → IsScriptFailure slice e → FailsAtScript held words e
 script_refused held words height width checked text slice e prepared same h = record {
   height = height;
   width = width;
@@ -31,7 +31,7 @@ script_refused held words height width checked text slice e prepared same h = re
   refused = subst (λ (l : List ℕ). IsScriptFailure l e) same h;
 }
 
-pub ready_for : (held : Held) (words : Playing) (height width : ℕ) (checked : Strings) (text slice : List ℕ) (calls lent : List Call) → Prepared held words height width checked text → slice ≡ text → script_of slice ≡ Ok calls → lent ≡ calls
+pub ready_for : (held : Held) (words : ScriptWords) (height width : ℕ) (checked : Strings) (text slice : List ℕ) (calls lent : List Call) → Prepared held words height width checked text → slice ≡ text → script_of slice ≡ Ok calls → lent ≡ calls
     → IsReady held words height width checked lent
 ready_for held words height width checked text slice calls lent prepared same reads lends = record {
   text = text;

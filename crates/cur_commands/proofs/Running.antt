@@ -9,7 +9,7 @@ use Rattle.std.proofs.lemmas.List.{append-nil}
 use Rattle.cur_calls.specs.declared.calls.Call.{Call}
 use Rattle.cur_drawing.specs.declared.refusals.Refusal.{Refusal}
 use Rattle.ti_rows.specs.declared.rows.Row.TheVariants.{Bel}
-use Rattle.cur_looks.specs.Certified.{Table, has}
+use Rattle.ti_conforms.specs.Certified.{Table, has}
 use Rattle.cur_update.specs.Painters.{Painted}
 use Rattle.cur_windows.specs.VirtualScreen.{Screen}
 use Rattle.cur_wires.specs.Wire.{IsWire, Rose}

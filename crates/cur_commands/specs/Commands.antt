@@ -7,25 +7,25 @@ use Rattle.ti_commands.specs.Holding.{Held}
 use Rattle.ti_commands.specs.Replying.{IsText}
 use Rattle.ti_commands.specs.declared.failure.Failure.{Failure}
 use Rattle.ti_commands.specs.declared.failure.Reply.{Reply}
-use Rattle.cur_looks.specs.Certified.{Table}
+use Rattle.ti_conforms.specs.Certified.{Table}
 use Rattle.cur_calls.specs.declared.calls.Call.{Call}
-use Rattle.cur_scripts.specs.Texts.{script_of}
+use Rattle.cur_calls.specs.Texts.{script_of}
 use Rattle.cur_play.specs.Log.{Ran}
 use Rattle.cur_play.specs.declared.runs.Entry.{Entry}
 use Rattle.cur_commands.specs.Preparing.{FailsToPrepare, Prepared}
 use Rattle.cur_commands.specs.Scripts.{IsScriptFailure}
 use Rattle.cur_commands.specs.Showing.{IsUnshown, ShowsRun}
 use Rattle.cur_commands.specs.Through.{AreThrough, IsUnplayed}
-use Rattle.cur_commands.specs.declared.preparing.Playing.{Playing}
+use Rattle.ti_requests.specs.declared.request.ScriptWords.{ScriptWords}
 
 -- the words give a size, an entry that conforms at it and has these strings, and these calls
-pub record IsReady (held : Held) (words : Playing) (height width : ℕ) (checked : Strings) (calls : List Call) : Type 0 where
+pub record IsReady (held : Held) (words : ScriptWords) (height width : ℕ) (checked : Strings) (calls : List Call) : Type 0 where
   pub text : List ℕ
   pub prepared : Prepared held words height width checked text
   pub reads : script_of text ≡ Ok calls
 
 -- The output got what a run of the script's calls sends, and no call was cut short.
-pub record IsPlayed (table : Strings → Table) (partners : Strings → ℕ → Option ℕ) (held : Held) (words : Playing) (old new : Option (List ℕ)) : Type 0 where
+pub record IsPlayed (table : Strings → Table) (partners : Strings → ℕ → Option ℕ) (held : Held) (words : ScriptWords) (old new : Option (List ℕ)) : Type 0 where
   pub height : ℕ
   pub width : ℕ
   pub checked : Strings
@@ -36,7 +36,7 @@ pub record IsPlayed (table : Strings → Table) (partners : Strings → ℕ → 
   pub through : AreThrough log
 
 -- the reply tells of a run of the script's calls and of the screen that it leaves
-pub record IsShown (table : Strings → Table) (partners : Strings → ℕ → Option ℕ) (held : Held) (words : Playing) (reply : Reply) : Type 0 where
+pub record IsShown (table : Strings → Table) (partners : Strings → ℕ → Option ℕ) (held : Held) (words : ScriptWords) (reply : Reply) : Type 0 where
   pub height : ℕ
   pub width : ℕ
   pub checked : Strings
@@ -47,7 +47,7 @@ pub record IsShown (table : Strings → Table) (partners : Strings → ℕ → O
   pub says : IsText text reply
 
 -- the script's text is none, where all that comes before it is right
-pub record FailsAtScript (held : Held) (words : Playing) (failure : Failure) : Type 0 where
+pub record FailsAtScript (held : Held) (words : ScriptWords) (failure : Failure) : Type 0 where
   pub height : ℕ
   pub width : ℕ
   pub checked : Strings
@@ -56,7 +56,7 @@ pub record FailsAtScript (held : Held) (words : Playing) (failure : Failure) : T
   pub refused : IsScriptFailure text failure
 
 -- all is right, and the run has no end: there is no memory, or the output has failed
-pub record FailsInRun {O : Type 0} (held : Held) (words : Playing) (has_failed : O → Bool) (old new : O) (failure : Failure) : Type 0 where
+pub record FailsInRun {O : Type 0} (held : Held) (words : ScriptWords) (has_failed : O → Bool) (old new : O) (failure : Failure) : Type 0 where
   pub height : ℕ
   pub width : ℕ
   pub checked : Strings
@@ -65,7 +65,7 @@ pub record FailsInRun {O : Type 0} (held : Held) (words : Playing) (has_failed :
   pub unplayed : IsUnplayed has_failed old new failure
 
 -- the same of a run on the terminal
-pub record FailsOnTerminal (table : Strings → Table) (partners : Strings → ℕ → Option ℕ) (held : Held) (words : Playing) (failure : Failure) : Type 0 where
+pub record FailsOnTerminal (table : Strings → Table) (partners : Strings → ℕ → Option ℕ) (held : Held) (words : ScriptWords) (failure : Failure) : Type 0 where
   pub height : ℕ
   pub width : ℕ
   pub checked : Strings
@@ -74,8 +74,8 @@ pub record FailsOnTerminal (table : Strings → Table) (partners : Strings → �
   pub unshown : IsUnshown (table checked) (partners checked) height width calls failure
 
 -- the words come first, then the files in their order, then the run
-abbrev pub FailsToPlay : {O : Type 0} → Held → Playing → (O → Bool) → O → O → Failure → Type 0
+abbrev pub FailsToPlay : {O : Type 0} → Held → ScriptWords → (O → Bool) → O → O → Failure → Type 0
 FailsToPlay held words has_failed old new failure = FailsToPrepare held words failure ⊎ FailsAtScript held words failure ⊎ FailsInRun held words has_failed old new failure
 
-abbrev pub FailsToShow : (Strings → Table) → (Strings → ℕ → Option ℕ) → Held → Playing → Failure → Type 0
+abbrev pub FailsToShow : (Strings → Table) → (Strings → ℕ → Option ℕ) → Held → ScriptWords → Failure → Type 0
 FailsToShow table partners held words failure = FailsToPrepare held words failure ⊎ FailsAtScript held words failure ⊎ FailsOnTerminal table partners held words failure

@@ -9,15 +9,15 @@ use Rattle.ti_commands.specs.Replying.{GivesEntry}
 use Rattle.ti_commands.specs.Sizes.{SizeGiven}
 use Rattle.ti_commands.specs.declared.failure.Failure.{Failure}
 use Rattle.ti_verdicts.specs.Verifying.{FailsToVerify, GivesConforming, HandsOut}
-use Rattle.ti_verdicts.specs.declared.verifying.Verification.{Verification}
-use Rattle.cur_commands.specs.declared.preparing.Playing.{Playing}
+use Rattle.ti_requests.specs.declared.request.VerifyWords.{VerifyWords}
+use Rattle.ti_requests.specs.declared.request.ScriptWords.{ScriptWords}
 
 -- the words of `verify` among them
-abbrev pub verification_of : Playing → Verification
-verification_of words = record { entry = words.entry; rows = words.rows; cols = words.cols; certificate = words.certificate }
+abbrev pub verify_words_of : ScriptWords → VerifyWords
+verify_words_of words = record { entry = words.entry; rows = words.rows; cols = words.cols; certificate = words.certificate }
 
 -- the words give this size, an entry that conforms at it and has these strings, and the text of a script
-pub record Prepared (held : Held) (words : Playing) (height width : ℕ) (checked : Strings) (text : List ℕ) : Type 0 where
+pub record Prepared (held : Held) (words : ScriptWords) (height width : ℕ) (checked : Strings) (text : List ℕ) : Type 0 where
   pub given : SizeGiven words.rows.now words.cols.now height width
   pub entry : Content
   pub gives : GivesEntry held words.entry.now entry
@@ -27,9 +27,9 @@ pub record Prepared (held : Held) (words : Playing) (height width : ℕ) (checke
   pub short : length text ≤ 1048576
 
 -- the script's file can't be had, where all that comes before it is right
-pub record FailsAtFile (held : Held) (words : Playing) (failure : Failure) : Type 0 where
-  pub conforming : GivesConforming held (verification_of words)
+pub record FailsAtFile (held : Held) (words : ScriptWords) (failure : Failure) : Type 0 where
+  pub conforming : GivesConforming held (verify_words_of words)
   pub file : IsFileFailure words.script.now failure
 
-abbrev pub FailsToPrepare : Held → Playing → Failure → Type 0
-FailsToPrepare held words failure = FailsToVerify held (verification_of words) failure ⊎ FailsAtFile held words failure
+abbrev pub FailsToPrepare : Held → ScriptWords → Failure → Type 0
+FailsToPrepare held words failure = FailsToVerify held (verify_words_of words) failure ⊎ FailsAtFile held words failure

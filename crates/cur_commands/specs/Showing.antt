@@ -10,7 +10,7 @@ use Rattle.ti_commands.specs.declared.failure.Failure.TheVariants.{Refused, NoMe
 use Rattle.ti_commands.specs.declared.failure.Refusal.TheVariants.{Stuck}
 use Rattle.cur_drawing.specs.declared.refusals.Refusal.{Refusal}
 use Rattle.cur_drawing.specs.declared.refusals.Refusal.TheVariants as refusals
-use Rattle.cur_looks.specs.Certified.{Table}
+use Rattle.ti_conforms.specs.Certified.{Table}
 use Rattle.cur_calls.specs.declared.calls.Call.{Call}
 use Rattle.cur_play.specs.Log.{Ran}
 use Rattle.cur_play.specs.declared.answers.Answer.{Answer}

@@ -3,24 +3,24 @@ ghost use Rattle.std.specs.Prelude.{◌≡◌, ◌⊎◌, IfErr, IfOk, OnOk};
 ghost use Rattle.cur_commands.specs.Commands.{FailsToPlay, FailsToShow, IsPlayed, IsShown};
 
 use crate::playing::play_calls;
-use crate::preparing::{Playing, prepare};
+use crate::preparing::prepare;
 use crate::reading::calls_of;
 use crate::showing::show_calls;
-use cur_looks::Certificate;
-use cur_update::Alternates;
 use std::alloc::Global;
 use ti_cert::Checked;
 use ti_commands::{Failure, Files, Output, Remarks, Reply};
+use ti_conforms::Certificate;
+use ti_requests::ScriptWords;
 
 /// Plays the script on a terminal that the entry drives, and writes what its calls send.
 pub fn play_script<F: Files, O: Output>(
     alloc: Global,
-    words: &Playing<'_>,
+    words: &ScriptWords<'_>,
     files: &mut F,
     out: &mut O,
     remarks: &mut Remarks,
 ) -> Result<(), Failure>
-    ensures played { OnOk result (IsPlayed ⟦<Checked as Certificate>⟧.table ⟦<Checked as Alternates>⟧.partners (F.holds files.old) words.now (O.contents out.old) (O.contents out.new)) }
+    ensures played { OnOk result (IsPlayed ⟦<Checked as Certificate>⟧.table ⟦<Checked as Certificate>⟧.partners (F.holds files.old) words.now (O.contents out.old) (O.contents out.new)) }
     ensures failure { IfErr result (λ e. FailsToPlay (F.holds files.old) words.now O.has_failed out.old out.new e) }
     ensures unwritten { IfErr result (λ e. (e ≡ Failure.Output) ⊎ (out.new ≡ out.old)) }
     ensures kept { F.holds files.new ≡ F.holds files.old }
@@ -34,12 +34,12 @@ pub fn play_script<F: Files, O: Output>(
 /// Plays the script on the specified terminal, and replies which calls were refused and what its screen shows.
 pub fn show_script<F: Files>(
     alloc: Global,
-    words: &Playing<'_>,
+    words: &ScriptWords<'_>,
     files: &mut F,
     remarks: &mut Remarks,
 ) -> Result<Reply, Failure>
-    ensures reply { IfOk result (λ reply. IsShown ⟦<Checked as Certificate>⟧.table ⟦<Checked as Alternates>⟧.partners (F.holds files.old) words.now reply) }
-    ensures failure { IfErr result (λ e. FailsToShow ⟦<Checked as Certificate>⟧.table ⟦<Checked as Alternates>⟧.partners (F.holds files.old) words.now e) }
+    ensures reply { IfOk result (λ reply. IsShown ⟦<Checked as Certificate>⟧.table ⟦<Checked as Certificate>⟧.partners (F.holds files.old) words.now reply) }
+    ensures failure { IfErr result (λ e. FailsToShow ⟦<Checked as Certificate>⟧.table ⟦<Checked as Certificate>⟧.partners (F.holds files.old) words.now e) }
     ensures kept { F.holds files.new ≡ F.holds files.old }
 {
     let ready = prepare(alloc, words, files, remarks)?;

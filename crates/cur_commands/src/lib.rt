@@ -14,5 +14,4 @@ mod taken;
 
 pub use commands::{play_script, show_script};
 pub use playing::play_calls;
-pub use preparing::Playing;
 pub use showing::show_calls;

@@ -3,7 +3,7 @@ ghost use Rattle.std.specs.Prelude.{[]};
 
 use cur_wires::Wire;
 
-/// A wire that may hold back what it took, until it is told to pass it on.
+/// A wire that may hold back what it took, until `pass_on` is called.
 pub trait Paced: Wire {
     /// Passes on what is held back. Where that fails, the wire's count of failures rises.
     fn pass_on(&mut self)

@@ -11,12 +11,11 @@ use crate::buffers::Buffer;
 use crate::held::Held;
 use crate::paced::Paced;
 use cur_calls::Call;
-use cur_looks::Certificate;
 use cur_play::{Entry, Log, Session};
-use cur_update::Alternates;
 use cur_wires::Counted;
 use std::alloc::Global;
 use ti_commands::{Failure, Output, Unwritten};
+use ti_conforms::Certificate;
 
 /// Plays calls, one after another, in a session of their own, and writes what they send: what a call has sent is
 /// passed on before the next call, in one piece where it is no more than 65536 bytes.
@@ -24,7 +23,7 @@ use ti_commands::{Failure, Output, Unwritten};
 /// # Errors
 /// `NoMemory` where there is none for the session or the log; then nothing was written. `Output` after the run where
 /// the output has failed.
-pub fn play_calls<C: Certificate + Alternates, O: Output>(
+pub fn play_calls<C: Certificate, O: Output>(
     alloc: Global,
     checked: &C,
     calls: &[Call<'_>],
@@ -44,7 +43,7 @@ pub fn play_calls<C: Certificate + Alternates, O: Output>(
 }
 
 /// Plays the calls on an output, by way of an empty buffer.
-fn play_over<C: Certificate + Alternates, O: Output>(
+fn play_over<C: Certificate, O: Output>(
     session: Session<'_, C>,
     calls: &[Call<'_>],
     log: Vec<Entry>,
@@ -70,7 +69,7 @@ fn play_over<C: Certificate + Alternates, O: Output>(
 }
 
 /// Plays the calls on an output, of which nothing is held back before or after.
-fn play_held<C: Certificate + Alternates, O: Output>(
+fn play_held<C: Certificate, O: Output>(
     session: Session<'_, C>,
     calls: &[Call<'_>],
     log: Vec<Entry>,
@@ -96,7 +95,7 @@ fn play_held<C: Certificate + Alternates, O: Output>(
 }
 
 /// Plays the calls on a wire.
-fn play_on<C: Certificate + Alternates, W: Paced>(
+fn play_on<C: Certificate, W: Paced>(
     session: Session<'_, C>,
     calls: &[Call<'_>],
     log: Vec<Entry>,
@@ -114,7 +113,7 @@ fn play_on<C: Certificate + Alternates, W: Paced>(
 }
 
 /// Plays the calls, with an entry for each. What each has sent is passed on before the next one.
-fn play_all<C: Certificate + Alternates, W: Paced>(
+fn play_all<C: Certificate, W: Paced>(
     session: Session<'_, C>,
     calls: &[Call<'_>],
     log: Vec<Entry>,

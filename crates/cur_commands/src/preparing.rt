@@ -2,27 +2,13 @@
 ghost use Rattle.std.specs.Prelude.{◌≡◌, IfErr, IfOk};
 ghost use Rattle.cur_commands.specs.Preparing.{FailsToPrepare, Prepared};
 
-use cur_scripts::LONGEST;
+use cur_calls::LONGEST;
 use std::alloc::Global;
 use ti_cert::Checked;
 use ti_commands::{Failure, Files, Remarks, entry_of, read_whole, size_words};
+use ti_requests::ScriptWords;
 use ti_verdicts::checked_at;
 use vt_term::Size;
-
-/// The words of `play` and `show`.
-#[derive(Clone, Copy)]
-pub struct Playing<'a> {
-    /// The entry.
-    pub entry: &'a str,
-    /// The terminal's rows, a decimal number.
-    pub rows: &'a str,
-    /// The terminal's columns, a decimal number.
-    pub cols: &'a str,
-    /// The path of the certificate.
-    pub certificate: &'a str,
-    /// The path of the script.
-    pub script: &'a str,
-}
 
 /// A size, the strings of an entry that was verified for it, and the text of a script.
 #[derive(Drop)]
@@ -35,7 +21,7 @@ pub struct Ready {
 /// What the words give: the size comes first, then the entry, then the certificate, then the script's text.
 pub fn prepare<F: Files>(
     alloc: Global,
-    words: &Playing<'_>,
+    words: &ScriptWords<'_>,
     files: &mut F,
     remarks: &mut Remarks,
 ) -> Result<Ready, Failure>

@@ -46,7 +46,7 @@ fn refusal_line(alloc: Global, number: usize, refusal: Refusal) -> Result<Vec<u8
     Ok(line)
 }
 
-/// The name of a refusal, as it is told.
+/// The name of a refusal, as `play` and `show` print it.
 fn refusal_name(refusal: Refusal) -> &'static [u8]
     ensures { result.now ≡ spec.refusal_name refusal }
 {

@@ -10,18 +10,17 @@ use crate::playing::play_calls;
 use crate::refusals::refusal_lines;
 use crate::taken::Taken;
 use cur_calls::Call;
-use cur_looks::Certificate;
 use cur_play::Log;
-use cur_update::Alternates;
 use std::alloc::{AllocError, Global};
 use ti_commands::{Failure, Refusal};
+use ti_conforms::Certificate;
 use vt_term::{Size, Terminal};
 
 /// Plays calls on a terminal in its reset state: a line for each call that was refused, and then the terminal's screen.
 ///
 /// # Errors
 /// `NoMemory`; `Stuck` where the terminal doesn't take what was sent.
-pub fn show_calls<C: Certificate + Alternates>(
+pub fn show_calls<C: Certificate>(
     alloc: Global,
     size: Size,
     checked: &C,
@@ -39,7 +38,7 @@ pub fn show_calls<C: Certificate + Alternates>(
 }
 
 /// Plays calls, and keeps what they send.
-fn play_in_memory<C: Certificate + Alternates>(
+fn play_in_memory<C: Certificate>(
     alloc: Global,
     checked: &C,
     calls: &[Call<'_>],

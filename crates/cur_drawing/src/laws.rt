@@ -32,13 +32,13 @@ pub fn erasing_stays_inside()
     ensures scroll { (n : ℤ) → IsLocal (calls.scroll_by n) }
 {}
 
-/// A scroll up gives each place of the region what was so many lines below, or the background; all other places keep
-/// what they had.
+/// A scroll up by `n` lines gives each place of the region what was `n` lines below it, or the background; all other
+/// places keep what they had.
 pub fn scroll_up_by_place()
     ensures { (g : Grid) (w : Window) (n y x : ℕ) → calls.IsCanvas g w → y < w.area.rows → x < w.area.cols → cell_of w (calls.scrolled (pos n) w g) y x ≡ went_up w n g y x }
 {}
 
-/// A scroll down gives it what was so many lines above.
+/// A scroll down by `n` lines gives each place of the region what was `n` lines above it, or the background.
 pub fn scroll_down_by_place()
     ensures { (g : Grid) (w : Window) (n y x : ℕ) → calls.IsCanvas g w → y < w.area.rows → x < w.area.cols → cell_of w (calls.scrolled (negsuc n) w g) y x ≡ went_down w (n + 1) g y x }
 {}

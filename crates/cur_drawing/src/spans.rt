@@ -12,8 +12,7 @@ pub struct Span {
     pub size: u16,
 }
 
-/// The lines or columns from a place on: so many, or all up to the limit where the number is 0. None where they aren't
-/// all below the limit.
+/// The `size` lines or columns from `at` on, or all below `limit` if `size` is 0. `None` if they aren't all below it.
 fn span_within(size: i32, at: i64, limit: u16) -> Option<Span>
     ensures value { result ≡ span_within size at limit }
     ensures within { IfSome result (λ s. (0 < s.size) × (s.at + s.size ≤ limit)) }
@@ -50,7 +49,7 @@ pub fn rectangle(rows: Option<Span>, cols: Option<Span>, outside: Refusal) -> Re
     })
 }
 
-/// The place of so many lines or columns, if they are all below the limit.
+/// The place `at` of `size` lines or columns, if they are all below `limit`.
 pub fn start_within(at: i32, size: u16, limit: u16) -> Option<u16>
     ensures value { result ≡ start_within at size limit }
     ensures number { IfSome result (λ place. at ≡ pos place) }

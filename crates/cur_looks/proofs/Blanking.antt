@@ -8,7 +8,7 @@ use Rattle.ti_rows.specs.Starts.{IsCalm, Starts}
 use Rattle.ti_rows.specs.Wants.{Wants, Blanks}
 use Rattle.cur_looks.specs.declared.inks.Brush.{Brush}
 use Rattle.cur_looks.specs.declared.inks.Ink.{Ink}
-use Rattle.cur_looks.specs.Certified.{Table, limit_of}
+use Rattle.ti_conforms.specs.Certified.{Table, limit_of}
 use Rattle.cur_looks.specs.Inks.{rendition_of, blank_ink, plain_brush}
 use Rattle.cur_looks.specs.Beliefs.{Agrees, Belief, Place, Turns, IsHere}
 use Rattle.cur_looks.specs.Erasures.{Erasure, Head, Part, Rest, erasure_row, is_erased, erased}

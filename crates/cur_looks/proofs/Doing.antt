@@ -2,13 +2,13 @@
 use Rattle.std.proofs.Common.{◌≡◌, ℕ, ◌≤◌, List, length, Some, Result, arith}
 use Rattle.vt_term.specs.Screen.{State}
 use Rattle.cur_wires.specs.Wire.{Sends}
-use Rattle.cur_steps.specs.Lines.{Closed}
-use Rattle.cur_steps.specs.Steps.{Steps}
-use Rattle.cur_steps.proofs.Stopping.{steps_line}
-use Rattle.cur_steps.proofs.Completing.{ends_sized}
+use Rattle.vt_term.specs.Ends.{Closed}
+use Rattle.cur_wires.specs.Steps.{Steps}
+use Rattle.cur_wires.proofs.Stopping.{steps_line}
+use Rattle.cur_wires.proofs.Completing.{ends_sized}
 use Rattle.ti_rows.specs.declared.rows.Row.{Row}
 use Rattle.ti_rows.specs.Starts.{Starts}
-use Rattle.cur_looks.specs.Certified.{Table, IsLost, IsReady, IsChecked, IsLine, IsPiece, Line, Ended, limit_of}
+use Rattle.ti_conforms.specs.Certified.{Table, IsLost, IsReady, IsChecked, IsLine, IsPiece, Line, Ended, limit_of}
 use Rattle.cur_looks.specs.Beliefs.{Agrees, Belief, Turns}
 use Rattle.cur_looks.specs.declared.inks.Ink.{Ink}
 

@@ -3,7 +3,7 @@ use Rattle.std.proofs.Common.{◌≡◌, ℕ, ◌≤◌, length, Option, Some, N
 use Rattle.std.specs.Prelude.{IfSome}
 use Rattle.ti_rows.specs.declared.rows.Row.{Row}
 use Rattle.ti_rows.specs.declared.rows.Row.TheVariants.{Cup, Home, Cr, Hpa, Vpa, Cub1, Cuf1, Cuu1, Cud1, Cub, Cuf, Cuu, Cud}
-use Rattle.cur_looks.specs.Certified.{Table, text_of}
+use Rattle.ti_conforms.specs.Certified.{Table, text_of}
 use Rattle.cur_looks.specs.Beliefs.{Place}
 use Rattle.cur_looks.specs.Moves.{Moves, MovesFrom, IsAtMost}
 

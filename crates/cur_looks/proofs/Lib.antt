@@ -4,9 +4,6 @@ pub mod Telling
 pub mod Printing
 pub mod Sameness
 pub mod Singling
-pub mod Lengths
-pub mod Smallness
-pub mod Verifying
 pub mod Moving
 pub mod Gaps
 pub mod Blanking

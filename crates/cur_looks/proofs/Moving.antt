@@ -4,7 +4,7 @@ use Rattle.vt_term.specs.Screen.{Screen, State, IsOfSize}
 use Rattle.ti_rows.specs.declared.rows.Row.{Row}
 use Rattle.ti_rows.specs.declared.rows.Row.TheVariants.{Cup, Home, Cr, Hpa, Vpa, Cub1, Cuf1, Cuu1, Cud1, Cub, Cuf, Cuu, Cud}
 use Rattle.ti_rows.specs.Starts.{IsCalm}
-use Rattle.cur_looks.specs.Certified.{Table, IsChecked, or_nothing, limit_of}
+use Rattle.ti_conforms.specs.Certified.{Table, IsChecked, or_nothing, limit_of}
 use Rattle.cur_looks.specs.Beliefs.{Agrees, Belief, Place, Turns, IsHere}
 use Rattle.cur_looks.specs.Moves.{Moves, MovesFrom, IsWay}
 use Rattle.cur_looks.specs.declared.inks.Ink.{Ink}

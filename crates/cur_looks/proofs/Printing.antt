@@ -14,13 +14,14 @@ use Rattle.grids.specs.Grids.{is_in, one}
 use Rattle.vt_term.proofs.Sequences.{empty_open}
 use Rattle.vt_term.proofs.Running.{text_runs, run_keeps}
 use Rattle.cur_wires.specs.Wire.{Sends}
-use Rattle.cur_steps.specs.Leads.{Ends, Leads}
-use Rattle.cur_steps.specs.Steps.{Steps}
-use Rattle.cur_steps.proofs.Completing.{stays, ends_as}
-use Rattle.cur_steps.proofs.Stopping.{leads_line, steps_sent}
+use Rattle.cur_wires.specs.Leads.{Leads}
+use Rattle.vt_term.specs.Ends.{Ends}
+use Rattle.cur_wires.specs.Steps.{Steps}
+use Rattle.cur_wires.proofs.Completing.{stays, ends_as}
+use Rattle.cur_wires.proofs.Stopping.{leads_line, steps_sent}
 use Rattle.cur_looks.specs.declared.inks.Brush.{Brush}
 use Rattle.cur_looks.specs.declared.inks.Ink.{Ink}
-use Rattle.cur_looks.specs.Certified.{Table, IsLost, IsChecked, IsPiece, Character}
+use Rattle.ti_conforms.specs.Certified.{Table, IsLost, IsChecked, IsPiece, Character}
 use Rattle.cur_looks.specs.Inks.{rendition_of, look_of, put_at}
 use Rattle.cur_looks.specs.Beliefs.{Agrees, Belief, Place, IsHere, IsNext, IsSo}
 use Rattle.cur_looks.proofs.Doing.{agrees_lost}

@@ -15,7 +15,7 @@ use Rattle.ti_rows.specs.Starts.{Starts}
 use Rattle.ti_rows.specs.Wants.{Wants, Renders, adding}
 use Rattle.cur_looks.specs.declared.inks.Brush.{Brush}
 use Rattle.cur_looks.specs.declared.inks.Ink.{Ink}
-use Rattle.cur_looks.specs.Certified.{Table, HasSingles, IsReady, has, limit_of, text_of, lengths, settles, singles}
+use Rattle.ti_conforms.specs.Certified.{Table, HasSingles, IsReady, has, limit_of, text_of, lengths, settles, singles}
 use Rattle.cur_looks.specs.Inks.{rendition_of, plain_brush, no_attributes}
 use Rattle.cur_looks.specs.Beliefs.{Agrees, Belief, Turns}
 use Rattle.cur_looks.specs.Singles.{has_single, turned_on, with_single, with_singles}

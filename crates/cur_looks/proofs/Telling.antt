@@ -1,7 +1,7 @@
 -- Lines after options, and limits.
 use Rattle.std.proofs.Common.{◌≡◌, ℕ, ◌*◌, ◌≤◌, ◌==◌, ◌&&◌, Bool, true, false, zero, suc, if◌then◌else◌, List, Option, Some, None, Bor, IfSome, is_some, subst, sym, ap, arith}
 use Rattle.ti_rows.specs.declared.rows.Row.{Row}
-use Rattle.cur_looks.specs.Certified.{Table, has}
+use Rattle.ti_conforms.specs.Certified.{Table, has}
 use Rattle.cur_looks.specs.Beliefs.{Place, moves, Mode, same_mode, changes}
 
 pub line_is : (t : Table) (row : Row) (o : Option (Bor (List ℕ))) (b : Bor (List ℕ)) → o ≡ Some b → IfSome o (λ b. t.line_of row ≡ Some b.now) → t.line_of row ≡ Some b.now

@@ -14,7 +14,7 @@ use Rattle.ti_rows.specs.declared.rows.Row.TheVariants.{Cup, Sgr, Setaf, Setab, 
 use Rattle.ti_rows.specs.Starts.{IsAny, IsFree}
 use Rattle.ti_rows.specs.Wants.{marked, Renders, Appears}
 use Rattle.ti_rows.specs.Looks.{shown}
-use Rattle.cur_looks.specs.Certified.{Table, IsReady, IsChecked, has, limit_of}
+use Rattle.ti_conforms.specs.Certified.{Table, IsReady, IsChecked, has, limit_of}
 use Rattle.cur_looks.specs.Inks.{rendition_of, look_of, IsColored, tail_blank, blank_ink, plain_brush}
 use Rattle.cur_looks.specs.Beliefs.{Agrees, Belief, Place, Turns, IsHere, set_row, Mode, Hidden, Normal, Prominent, IsSeen, is_shown}
 

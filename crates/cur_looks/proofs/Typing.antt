@@ -6,12 +6,13 @@ use Rattle.vt_term.specs.Text.{IsOpen}
 use Rattle.vt_term.proofs.Sequences.{empty_open}
 use Rattle.vt_term.proofs.Running.{runs_nothing}
 use Rattle.cur_wires.specs.Wire.{Sends}
-use Rattle.cur_steps.specs.Leads.{Ends, Leads}
-use Rattle.cur_steps.specs.Steps.{Steps}
-use Rattle.cur_steps.proofs.Leading.{leads_then, leads_wider}
-use Rattle.cur_steps.proofs.Stopping.{steps_sent}
+use Rattle.cur_wires.specs.Leads.{Leads}
+use Rattle.vt_term.specs.Ends.{Ends}
+use Rattle.cur_wires.specs.Steps.{Steps}
+use Rattle.cur_wires.proofs.Leading.{leads_then, leads_wider}
+use Rattle.cur_wires.proofs.Stopping.{steps_sent}
 use Rattle.cur_looks.specs.declared.inks.Ink.{Ink}
-use Rattle.cur_looks.specs.Certified.{Table, IsLost, IsChecked, IsPiece}
+use Rattle.ti_conforms.specs.Certified.{Table, IsLost, IsChecked, IsPiece}
 use Rattle.cur_looks.specs.Inks.{CanShow, put_at, mixed}
 use Rattle.cur_looks.specs.Beliefs.{Agrees, Belief, Place, IsHere}
 use Rattle.cur_looks.specs.Gaps.{IsAlike}

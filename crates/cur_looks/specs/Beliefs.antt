@@ -5,7 +5,7 @@ use Rattle.vt_term.specs.Screen.{State, IsOfSize, is_graphic}
 use Rattle.ti_rows.specs.declared.rows.Row.{Row}
 use Rattle.ti_rows.specs.declared.rows.Row.TheVariants.{Smacs, Rmacs, Civis, Cnorm}
 use Rattle.ti_rows.specs.Starts.{Starts}
-use Rattle.cur_looks.specs.Certified.{Table, IsReady, Ended, has}
+use Rattle.ti_conforms.specs.Certified.{Table, IsReady, Ended, has}
 use Rattle.cur_looks.specs.Inks.{rendition_of, look_of, IsColored}
 use Rattle.cur_looks.specs.declared.inks.Ink.{Ink}
 pub use Rattle.cur_looks.specs.declared.beliefs.Place.{Place}

@@ -1,6 +1,6 @@
 -- (Serves the code alone.) Cells of a line that the cursor passes over by printing them once more.
 use Rattle.std.specs.Prelude.{ℕ, ◌+◌, ◌<◌, ◌≤◌, ◌≡◌, Some}
-use Rattle.cur_looks.specs.Certified.{Table}
+use Rattle.ti_conforms.specs.Certified.{Table}
 use Rattle.cur_looks.specs.Beliefs.{Belief}
 use Rattle.cur_looks.specs.declared.inks.Ink.{Ink}
 

@@ -10,7 +10,7 @@ use Rattle.ti_rows.specs.declared.rows.Row.TheVariants.{Op, Smacs}
 use Rattle.ti_rows.specs.Wants.{marked}
 use Rattle.ti_rows.specs.Looks.{shown}
 pub use Rattle.ti_rows.specs.Names.{no_attributes}
-use Rattle.cur_looks.specs.Certified.{Table, has}
+use Rattle.ti_conforms.specs.Certified.{Table, has}
 
 -- the union of the attributes' marks, and the colours
 abbrev pub rendition_of : Looks → Brush → Rendition

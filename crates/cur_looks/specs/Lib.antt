@@ -1,5 +1,3 @@
-pub mod Certified
-pub mod Contents
 pub mod Inks
 pub mod Beliefs
 pub mod Singles

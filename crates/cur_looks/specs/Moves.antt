@@ -2,7 +2,7 @@
 use Rattle.std.specs.Prelude.{ℕ, ◌+◌, ◌^◌, ◌<◌, ◌≤◌, ◌≡◌, true, length, Option, Some, None}
 use Rattle.ti_rows.specs.declared.rows.Row.{Row}
 use Rattle.ti_rows.specs.declared.rows.Row.TheVariants.{Cup, Home, Cr, Hpa, Vpa, Cub1, Cuf1, Cuu1, Cud1, Cub, Cuf, Cuu, Cud}
-use Rattle.cur_looks.specs.Certified.{Table, has, text_of}
+use Rattle.ti_conforms.specs.Certified.{Table, has, text_of}
 use Rattle.cur_looks.specs.Beliefs.{Place}
 
 -- how far a row's line moves that moves by a count

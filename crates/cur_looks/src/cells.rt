@@ -1,15 +1,14 @@
 //! A cell, and the end of a line, each in as few of the single steps as its look needs.
 ghost use Rattle.std.specs.Prelude.{◌≡◌, ◌<◌, ℕ, true, Some, None, OnOk, IfOk};
-ghost use Rattle.cur_steps.specs.Steps.{Steps};
+ghost use Rattle.cur_wires.specs.Steps.{Steps};
 ghost use Rattle.ti_rows.specs.declared.rows.Row.TheVariants.{El};
-ghost use Rattle.cur_looks.specs.Certified.{IsPiece, IsLost, cell_limit};
+ghost use Rattle.ti_conforms.specs.Certified.{IsPiece, IsLost, cell_limit};
 ghost use Rattle.cur_looks.specs.Inks.{CanShow, IsInk, IsColored, put_at, tail_blank, plain_brush};
 ghost use Rattle.cur_looks.specs.Beliefs.{Agrees, Belief, IsNext, plain_limit, colors_limit, brush_limit, ready_limit, stamp_limit, ink_limit};
 ghost use Rattle.cur_looks.specs.Gaps.{BeginsAs};
 ghost use Rattle.cur_looks.specs.declared.inks.Ink.{Ink};
 
 use crate::beliefs::{Belief, Place};
-use crate::certificates::Certificate;
 use crate::inks::{Brush, Ink, View, same_attributes};
 use crate::reaching::reach;
 use crate::routes::is_alike;
@@ -17,6 +16,7 @@ use crate::steps::{
     attributes_as, background_as, colors_off, erase_tail, foreground_as, print_at, set_as, stands,
 };
 use cur_wires::{Wire, WireFault};
+use ti_conforms::Certificate;
 use ti_rows::Attributes;
 use vt_term::Color;
 

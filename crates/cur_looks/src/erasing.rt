@@ -1,7 +1,7 @@
 //! Erasures but for that of a line's end, each from a place and in the plain brush.
 ghost use Rattle.std.specs.Prelude.{◌≡◌, ◌<◌, ℕ, Some, None, OnOk, IfSome};
-ghost use Rattle.cur_steps.specs.Steps.{Steps};
-ghost use Rattle.cur_looks.specs.Certified.{IsPiece, IsLost, cell_limit};
+ghost use Rattle.cur_wires.specs.Steps.{Steps};
+ghost use Rattle.ti_conforms.specs.Certified.{IsPiece, IsLost, cell_limit};
 ghost use Rattle.cur_looks.specs.Inks.{CanShow, plain_brush};
 ghost use Rattle.cur_looks.specs.Beliefs.{Agrees, Belief, ready_limit};
 ghost use Rattle.cur_looks.specs.Gaps.{BeginsAs};
@@ -10,11 +10,11 @@ ghost use Rattle.cur_looks.specs.declared.inks.Ink.{Ink};
 
 use crate::beliefs::Belief;
 use crate::cells::{brush_as, poise};
-use crate::certificates::Certificate;
 use crate::inks::{Brush, View};
 use crate::lines::send_line;
 use crate::reaching::reach_by_line;
 use cur_wires::{Wire, WireFault};
+use ti_conforms::Certificate;
 use ti_rows::Row;
 
 /// What is erased.
@@ -22,7 +22,7 @@ use ti_rows::Row;
 pub enum Erasure {
     /// The cursor's line as far as the cursor, its place included.
     Head,
-    /// So many cells of the cursor's line from the cursor on.
+    /// This many cells of the cursor's line, from the cursor on.
     Part(u16),
     /// The cursor's line from the cursor on, and all lines below.
     Rest,

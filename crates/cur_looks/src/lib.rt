@@ -4,7 +4,6 @@
 
 mod beliefs;
 mod cells;
-mod certificates;
 mod erasing;
 mod inks;
 mod lines;
@@ -15,11 +14,9 @@ mod routes;
 mod singles;
 mod steps;
 mod texts;
-mod verified;
 
 pub use beliefs::{Belief, Mode, Place};
 pub use cells::{blank_tail, put_cell};
-pub use certificates::Certificate;
 pub use erasing::{Erasure, erase_at, erase_from, erasing_line};
 pub use inks::{Blank, Brush, Ink, View, byte_as, is_same};
 pub use modes::show_as;

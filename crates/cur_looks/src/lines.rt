@@ -1,12 +1,12 @@
 //! The sending of one line.
 ghost use Rattle.std.specs.Prelude.{◌≡◌, ◌≤◌, ℕ, length, Some};
-ghost use Rattle.cur_steps.specs.Steps.{Steps};
-ghost use Rattle.cur_looks.specs.Certified.{IsPiece, IsLost, limit_of, text_of};
+ghost use Rattle.cur_wires.specs.Steps.{Steps};
+ghost use Rattle.ti_conforms.specs.Certified.{IsPiece, IsLost, limit_of, text_of};
 ghost use Rattle.cur_looks.specs.Beliefs.{Agrees, Belief, Turns};
 ghost use Rattle.cur_looks.specs.declared.inks.Ink.{Ink};
 
-use crate::certificates::Certificate;
 use cur_wires::{Wire, WireFault, send_all};
+use ti_conforms::Certificate;
 use ti_rows::Row;
 
 /// A row's line goes out. It leads from whatever belief the row starts from to what the row makes of it.

@@ -1,15 +1,15 @@
 //! How the cursor is shown.
 ghost use Rattle.std.specs.Prelude.{◌≡◌, ◌*◌, ℕ, true, false, Some, OnOk};
-ghost use Rattle.cur_steps.specs.Steps.{Steps};
+ghost use Rattle.cur_wires.specs.Steps.{Steps};
 ghost use Rattle.ti_rows.specs.declared.rows.Row.TheVariants.{Civis, Cnorm};
-ghost use Rattle.cur_looks.specs.Certified.{IsPiece, IsLost, has};
+ghost use Rattle.ti_conforms.specs.Certified.{IsPiece, IsLost, has};
 ghost use Rattle.cur_looks.specs.Beliefs.{Agrees, Belief, CanHide, Hidden, Normal, Prominent, changes, modes_limit};
 ghost use Rattle.cur_looks.specs.declared.inks.Ink.{Ink};
 
 use crate::beliefs::{Belief, Mode};
-use crate::certificates::Certificate;
 use crate::lines::send_line;
 use cur_wires::{Wire, WireFault};
+use ti_conforms::Certificate;
 use ti_rows::Row;
 
 /// The cursor disappears.

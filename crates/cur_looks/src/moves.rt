@@ -1,13 +1,13 @@
 //! The row by which the cursor moves: of those that lead to a place, one with the shortest line.
 ghost use Rattle.std.specs.Prelude.{ℕ, ◌≡◌, ◌<◌, ◌≤◌, length, Option, Some, IfSome};
-ghost use Rattle.cur_looks.specs.Certified.{text_of};
+ghost use Rattle.ti_conforms.specs.Certified.{text_of};
 ghost use Rattle.cur_looks.specs.Beliefs.{Place};
 ghost use Rattle.cur_looks.specs.Moves.{Moves, IsAtMost, IsWay};
 ghost use Rattle.ti_rows.specs.declared.rows.Row.{Row};
 ghost use Rattle.ti_rows.specs.declared.rows.Row.TheVariants.{Cup, Home, Cr, Hpa, Vpa, Cub1, Cuf1, Cuu1, Cud1, Cub, Cuf, Cuu, Cud};
 
 use crate::beliefs::Place;
-use crate::certificates::Certificate;
+use ti_conforms::Certificate;
 use ti_rows::Row;
 
 /// A row, and how many bytes its line has.

@@ -1,7 +1,7 @@
 //! The way to a place, gone: by a line, over cells printed once more, or by a line to a stop and then so.
 ghost use Rattle.std.specs.Prelude.{◌≡◌, ◌+◌, ◌*◌, ◌<◌, ◌≤◌, ℕ, length, Some, OnOk};
-ghost use Rattle.cur_steps.specs.Steps.{Steps};
-ghost use Rattle.cur_looks.specs.Certified.{IsPiece, IsLost, text_of};
+ghost use Rattle.cur_wires.specs.Steps.{Steps};
+ghost use Rattle.ti_conforms.specs.Certified.{IsPiece, IsLost, text_of};
 ghost use Rattle.cur_looks.specs.Inks.{CanShow};
 ghost use Rattle.cur_looks.specs.Beliefs.{Agrees, Belief, moves};
 ghost use Rattle.cur_looks.specs.Gaps.{IsAlike, BeginsAs};
@@ -10,15 +10,15 @@ ghost use Rattle.cur_looks.specs.Routes.{IsLeg, IsStop, IsRoute, leg_bytes, at_s
 ghost use Rattle.cur_looks.specs.declared.inks.Ink.{Ink};
 
 use crate::beliefs::{Belief, Place};
-use crate::certificates::Certificate;
 use crate::inks::View;
 use crate::lines::send_line;
 use crate::moves::shortest;
 use crate::routes::{Leg, Route, Stop, route_to};
 use crate::steps::{print_at, stands};
 use cur_wires::{Wire, WireFault};
+use ti_conforms::Certificate;
 
-/// So many cells of a line, printed once more from where the cursor is known to be.
+/// Prints once more the `count` cells of the line `row` from the column `from` on, where the cursor is known to be.
 fn reprint<C: Certificate, N: View, W: Wire>(
     checked: &C,
     belief: &mut Belief,

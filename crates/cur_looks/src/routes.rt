@@ -7,10 +7,10 @@ ghost use Rattle.cur_looks.specs.Moves.{Moves};
 ghost use Rattle.cur_looks.specs.Routes.{IsLeg, IsRoute, leg_bytes};
 
 use crate::beliefs::{Belief, Place};
-use crate::certificates::Certificate;
 use crate::inks::{Ink, View, same_brush};
 use crate::moves::shortest;
 use crate::steps::is_active;
+use ti_conforms::Certificate;
 use ti_rows::Row;
 
 /// The last part of a way.
@@ -52,7 +52,8 @@ pub(crate) fn is_alike(belief: &Belief, ink: Ink) -> bool
     same_brush(belief.brush, ink.brush) && is_active(belief.graphic, ink.graphic)
 }
 
-/// Whether so many cells of a line from a column on are printed like this now.
+/// Whether the `count` cells of the line `row` from the column `from` on are printed in the brush and the set that are
+/// known.
 fn are_alike<N: View>(belief: &Belief, shown: &N, row: usize, from: usize, count: usize) -> bool
     requires { from + count ≤ 1000 }
     ensures { result ≡ true → (k : ℕ) → k < count → IsAlike belief.now (N.cells shown.now row (from + k)) }

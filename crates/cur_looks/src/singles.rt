@@ -1,8 +1,8 @@
 //! Attributes by strings of their own, for entries without `sgr`.
 ghost use Rattle.std.specs.Prelude.{◌≡◌, ◌<◌, ℕ, false, Option, Some, None, OnOk, length};
-ghost use Rattle.cur_steps.specs.Steps.{Steps};
+ghost use Rattle.cur_wires.specs.Steps.{Steps};
 ghost use Rattle.ti_rows.specs.declared.rows.Row.TheVariants.{Sgr, Sgr0};
-ghost use Rattle.cur_looks.specs.Certified.{IsPiece, IsLost, has, text_of, lengths};
+ghost use Rattle.ti_conforms.specs.Certified.{IsPiece, IsLost, has, text_of, lengths};
 ghost use Rattle.cur_looks.specs.Inks.{no_attributes, plain_brush};
 ghost use Rattle.cur_looks.specs.Beliefs.{Agrees, Belief};
 ghost use Rattle.cur_looks.specs.Singles as spec;
@@ -10,10 +10,10 @@ ghost use Rattle.cur_looks.specs.declared.inks.Brush.{Brush};
 ghost use Rattle.cur_looks.specs.declared.inks.Ink.{Ink};
 
 use crate::beliefs::Belief;
-use crate::certificates::Certificate;
 use crate::inks::Brush;
 use crate::lines::send_line;
 use cur_wires::{Wire, WireFault};
+use ti_conforms::Certificate;
 use ti_rows::{Attributes, Row};
 
 /// Whether the attribute of a row's string is among these.

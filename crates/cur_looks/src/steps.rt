@@ -2,20 +2,20 @@
 ghost use Rattle.std.specs.Prelude.{◌≡◌, ◌+◌, ◌<◌, ℕ, Bool, true, false, Option, Some, None, OnOk};
 ghost use Rattle.vt_term.specs.Color.{Color};
 ghost use Rattle.vt_term.specs.Look.{IsPrinted};
-ghost use Rattle.cur_steps.specs.Steps.{Steps};
+ghost use Rattle.cur_wires.specs.Steps.{Steps};
 ghost use Rattle.ti_rows.specs.declared.rows.Row.TheVariants.{Op, El, Sgr, Smacs};
-ghost use Rattle.cur_looks.specs.Certified.{IsPiece, IsLost, has};
+ghost use Rattle.ti_conforms.specs.Certified.{IsPiece, IsLost, has};
 ghost use Rattle.cur_looks.specs.Inks.{put_at, tail_blank, plain_brush};
 ghost use Rattle.cur_looks.specs.Beliefs.{Agrees, Belief, moves, IsNext, set_row};
 ghost use Rattle.cur_looks.specs.declared.inks.Brush.{Brush};
 ghost use Rattle.cur_looks.specs.declared.inks.Ink.{Ink};
 
 use crate::beliefs::{Belief, Place};
-use crate::certificates::Certificate;
 use crate::inks::{Brush, Ink, same_attributes, same_color};
 use crate::lines::send_line;
 use crate::singles::attributes_singly;
 use cur_wires::{Wire, WireFault, send_all};
+use ti_conforms::Certificate;
 use ti_rows::{Attributes, Row};
 use vt_term::Color;
 

@@ -1,18 +1,18 @@
 //! Characters of a line that go out in one piece.
 ghost use Rattle.std.specs.Prelude.{◌≡◌, ◌+◌, ◌<◌, ◌≤◌, ℕ, true, Some, length, slice_index_or};
-ghost use Rattle.cur_steps.specs.Steps.{Steps};
-ghost use Rattle.cur_looks.specs.Certified.{IsPiece, IsLost};
+ghost use Rattle.cur_wires.specs.Steps.{Steps};
+ghost use Rattle.ti_conforms.specs.Certified.{IsPiece, IsLost};
 ghost use Rattle.cur_looks.specs.Inks.{CanShow, mixed};
 ghost use Rattle.cur_looks.specs.Beliefs.{Agrees};
 ghost use Rattle.cur_looks.specs.Gaps.{IsAlike};
 ghost use Rattle.cur_looks.specs.declared.inks.Ink.{Ink};
 
 use crate::beliefs::{Belief, Place};
-use crate::certificates::Certificate;
 use crate::inks::{Ink, View};
 use crate::routes::is_alike;
 use crate::steps::stands;
 use cur_wires::{Wire, WireFault, send_all};
+use ti_conforms::Certificate;
 
 /// Whether the next character is known to go to a place and to be printed like this.
 pub fn goes_on(belief: &Belief, row: usize, col: usize, ink: Ink) -> bool

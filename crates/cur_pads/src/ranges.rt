@@ -34,7 +34,7 @@ pub(crate) fn between(first: u32, last: i32, limit: u16) -> Option<Span>
     })
 }
 
-/// So many lines or columns from the first one on, if they are all below the limit.
+/// The `count` lines or columns from `first` on, if they are all below `limit`.
 pub(crate) fn from(first: u32, count: u16, limit: u16) -> Option<Span>
     requires { first < 2147483648 }
     ensures value { result ≡ from first count limit }

@@ -1,7 +1,7 @@
 -- The bound in the words of the promise.
 use Rattle.std.proofs.Common.{◌≡◌, ℕ, ◌+◌, ◌*◌, ◌<◌, ◌≤◌, ◌==◌, ◌&&◌, Bool, true, false, zero, suc, length, if◌then◌else◌, Option, Some, None, refl, sym, ap, subst, ◌∙◌, arith}
 use Rattle.std.proofs.lemmas.Bool.Decides.{nat_tests}
-use Rattle.cur_looks.specs.Certified.{Table, cell_limit}
+use Rattle.ti_conforms.specs.Certified.{Table, cell_limit}
 use Rattle.cur_looks.specs.Inks.{same}
 use Rattle.cur_looks.specs.Beliefs.{moves, changes, modes_limit, same_mode}
 use Rattle.cur_looks.specs.declared.beliefs.Belief.{Belief}

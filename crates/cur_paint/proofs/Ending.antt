@@ -4,17 +4,18 @@ use Rattle.std.proofs.lemmas.List.{append-nil}
 use Rattle.vt_term.specs.Screen.{State, IsOfSize}
 use Rattle.vt_term.specs.Look.{plain}
 use Rattle.vt_term.proofs.Running.{runs_once}
-use Rattle.cur_steps.specs.Leads.{Ends, Leads}
-use Rattle.cur_steps.specs.Lines.{Closed}
-use Rattle.cur_steps.proofs.Leading.{leads_then, leads_wider}
-use Rattle.cur_steps.proofs.Stopping.{leads_line}
-use Rattle.cur_steps.proofs.Completing.{stays, ends_sized}
+use Rattle.cur_wires.specs.Leads.{Leads}
+use Rattle.vt_term.specs.Ends.{Ends}
+use Rattle.vt_term.specs.Ends.{Closed}
+use Rattle.cur_wires.proofs.Leading.{leads_then, leads_wider}
+use Rattle.cur_wires.proofs.Stopping.{leads_line}
+use Rattle.cur_wires.proofs.Completing.{stays, ends_sized}
 use Rattle.ti_rows.specs.declared.rows.Row.{Row}
 use Rattle.ti_rows.specs.declared.rows.Row.TheVariants.{Cup, Sgr0, Rmacs, Cnorm, Rmcup}
 use Rattle.ti_rows.specs.Starts.{Starts}
 use Rattle.cur_looks.specs.declared.beliefs.Belief.{Belief}
 use Rattle.cur_looks.specs.declared.inks.Ink.{Ink}
-use Rattle.cur_looks.specs.Certified.{Table, IsLost, IsReady, IsChecked, IsLine, IsPiece, Line, Ended, or_nothing, text_of}
+use Rattle.ti_conforms.specs.Certified.{Table, IsLost, IsReady, IsChecked, IsLine, IsPiece, Line, Ended, or_nothing, text_of}
 use Rattle.cur_looks.proofs.Doing.{ready_lost}
 use Rattle.cur_looks.proofs.Turning.{any_of, free_of, by_screen}
 use Rattle.cur_paint.specs.Cleared.{IsLeft}

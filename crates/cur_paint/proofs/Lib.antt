@@ -1,4 +1,5 @@
 pub mod Mixing
+pub mod Spanning
 pub mod Bounding
 pub mod Reaching
 pub mod Renewing

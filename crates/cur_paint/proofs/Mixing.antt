@@ -8,7 +8,7 @@ use Rattle.cur_looks.specs.Erasures.{erased}
 use Rattle.cur_looks.specs.declared.erasing.Erasure.TheVariants.{Head, Part, Rest}
 use Rattle.cur_paint.specs.Differ.{differs, span, all_differ}
 use Rattle.cur_paint.specs.Blanks.{IsBlankFrom}
-use Rattle.cur_looks.specs.Certified.{Table, cell_limit}
+use Rattle.ti_conforms.specs.Certified.{Table, cell_limit}
 use Rattle.cur_looks.specs.Beliefs.{Agrees}
 use Rattle.cur_looks.specs.declared.beliefs.Belief.{Belief}
 use Rattle.vt_term.specs.Screen.{State}
@@ -52,11 +52,11 @@ mixed_start old new i j = grind (arith, nat_tests)
 pub put_new : (old new : ℕ → ℕ → Ink) (r c : ℕ) (x : Ink) → x ≡ new r c → (i j : ℕ) → put_at r c x (mixed old new r c) i j ≡ mixed old new r (c + 1) i j
 put_new old new r c x e i j = ap (λ (y : Ink). put_at r c y (mixed old new r c) i j) e ∙ mixed_put old new r c i j
 
-pub told_same : (old new : ℕ → ℕ → Ink) (r c : ℕ) (a b : Ink) → a ≡ old r c → b ≡ new r c → true ≡ same a b → old r c ≡ new r c
-told_same old new r c a b p q e = sym p ∙ same_equal a b (sym e) ∙ q
+pub found_same : (old new : ℕ → ℕ → Ink) (r c : ℕ) (a b : Ink) → a ≡ old r c → b ≡ new r c → true ≡ same a b → old r c ≡ new r c
+found_same old new r c a b p q e = sym p ∙ same_equal a b (sym e) ∙ q
 
-pub told_different : (old new : ℕ → ℕ → Ink) (r c : ℕ) (a b : Ink) → a ≡ old r c → b ≡ new r c → false ≡ same a b → differs old new r c ≡ 1
-told_different old new r c a b p q e =
+pub found_different : (old new : ℕ → ℕ → Ink) (r c : ℕ) (a b : Ink) → a ≡ old r c → b ≡ new r c → false ≡ same a b → differs old new r c ≡ 1
+found_different old new r c a b p q e =
     let f : same (old r c) (new r c) ≡ false = ap (λ (x : Ink). same x (new r c)) (sym p) ∙ ap (λ (x : Ink). same a x) (sym q) ∙ sym e in
     ap (λ (x : Bool). if x then 0 else 1) f
 
@@ -195,9 +195,8 @@ some_each t a n e = let P : ℕ → Type 0 = λ m. n ≤ m * cell_limit t in sub
     grows : (n l : ℕ) → 1 ≤ l → n ≤ n * l
     grows n l le = grind arith
 
--- as another cell, but for the character
-pub like_alike : (b : Belief) (x y first : Ink) (n : ℕ) → IsAlike b first → first ≡ y → x ≡ record y { byte = n } → IsAlike b x
-like_alike b x y first n h e f =
-    let k : IsAlike b y = subst (λ (z : Ink). IsAlike b z) e h in
+-- as an ink, but for the character
+pub like_alike : (b : Belief) (x y : Ink) (n : ℕ) → IsAlike b y → x ≡ record y { byte = n } → IsAlike b x
+like_alike b x y n k f =
     let m : IsAlike b (record y { byte = n }) = record { brush = k.brush; set = k.set } in
     subst (λ (z : Ink). IsAlike b z) (sym f) m

@@ -2,10 +2,12 @@
 use Rattle.std.proofs.Common.{◌≡◌, ℕ, ◌+◌, ◌<◌, ◌≤◌, Bool, true, false, zero, suc, List, [], ◌∷◌, length, Option, Some, None, is_some, refl, sym, ap, subst, ◌∙◌, inl, arith}
 use Rattle.vt_term.specs.Color.{Color}
 use Rattle.vt_term.specs.Screen.{State}
-use Rattle.cur_steps.specs.Leads.{Ends, Leads}
-use Rattle.cur_steps.specs.Lines.{Closed, Reaches}
-use Rattle.cur_steps.proofs.Stopping.{leads_line}
-use Rattle.cur_steps.proofs.Completing.{ends_as, ends_sized, reaches_then, reaches_piece, reaches_as, reaches_self}
+use Rattle.cur_wires.specs.Leads.{Leads}
+use Rattle.vt_term.specs.Ends.{Ends}
+use Rattle.cur_wires.specs.Leads.{Reaches}
+use Rattle.vt_term.specs.Ends.{Closed}
+use Rattle.cur_wires.proofs.Stopping.{leads_line}
+use Rattle.cur_wires.proofs.Completing.{ends_as, ends_sized, reaches_then, reaches_piece, reaches_as, reaches_self}
 use Rattle.ti_rows.specs.declared.rows.Row.{Row}
 use Rattle.ti_rows.specs.declared.rows.Row.TheVariants.{Cup, Sgr, Sgr0, Setaf, Setab, Op, Civis, Cnorm, Cvvis}
 use Rattle.ti_rows.specs.declared.rows.Attributes.{Attributes}
@@ -15,7 +17,7 @@ use Rattle.cur_looks.specs.declared.beliefs.Mode.{Mode}
 use Rattle.cur_looks.specs.declared.beliefs.Mode.TheVariants.{Hidden, Normal, Prominent}
 use Rattle.cur_looks.specs.declared.inks.Brush.{Brush}
 use Rattle.cur_looks.specs.declared.inks.Ink.{Ink}
-use Rattle.cur_looks.specs.Certified.{Table, IsLost, IsBlank, IsLine, IsChecked, IsPiece, Line, Character, Ended, has, HasSingles, singles}
+use Rattle.ti_conforms.specs.Certified.{Table, IsLost, IsBlank, IsLine, IsChecked, IsPiece, Line, Character, Ended, has, HasSingles, singles}
 use Rattle.cur_looks.specs.Singles.{has_single, turned_on, with_single, with_singles}
 use Rattle.cur_looks.specs.Inks.{CanShow, IsInk, IsColored, mixed, put_at, blank_ink, plain_brush, no_attributes, rendition_of}
 use Rattle.cur_looks.specs.Beliefs.{Agrees, Turns, IsHere, IsSeen, is_shown, set_row, CanHide}

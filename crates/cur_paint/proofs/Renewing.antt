@@ -6,15 +6,15 @@ use Rattle.vt_term.specs.Look.{Rendition, blank}
 use Rattle.vt_term.specs.Grid.{drawn}
 use Rattle.vt_term.specs.Screen.{State}
 use Rattle.cur_wires.specs.Wire.{IsWire, StopsIn}
-use Rattle.cur_steps.specs.Leads.{Leads}
-use Rattle.cur_steps.specs.Steps.{Steps, then_kind}
-use Rattle.cur_steps.proofs.Leading.{leads_then, leads_wider}
-use Rattle.cur_steps.proofs.Painting.{sends_then}
-use Rattle.cur_steps.proofs.Completing.{ends_as}
+use Rattle.cur_wires.specs.Leads.{Leads}
+use Rattle.cur_wires.specs.Steps.{Steps, then_kind}
+use Rattle.cur_wires.proofs.Leading.{leads_then, leads_wider}
+use Rattle.cur_wires.proofs.Painting.{sends_then}
+use Rattle.cur_wires.proofs.Completing.{ends_as}
 use Rattle.ti_rows.specs.declared.rows.Row.TheVariants.{Clear}
 use Rattle.cur_looks.specs.declared.beliefs.Belief.{Belief}
 use Rattle.cur_looks.specs.declared.inks.Ink.{Ink}
-use Rattle.cur_looks.specs.Certified.{Table, IsLost, IsBlank, IsChecked, IsPiece}
+use Rattle.ti_conforms.specs.Certified.{Table, IsLost, IsBlank, IsChecked, IsPiece}
 use Rattle.cur_looks.specs.Inks.{blank_ink}
 use Rattle.cur_looks.specs.Beliefs.{Agrees, Turns}
 use Rattle.cur_looks.specs.declared.beliefs.Mode.{Mode}

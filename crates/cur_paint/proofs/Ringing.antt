@@ -1,13 +1,13 @@
 -- What the bell's string does to a state that fits.
 use Rattle.std.proofs.Common.{◌≡◌, ℕ, List, ◌++◌, Some, refl}
 use Rattle.vt_term.specs.Screen.{State}
-use Rattle.cur_steps.specs.Leads.{Ends}
-use Rattle.cur_steps.specs.Lines.{Closed}
-use Rattle.cur_steps.proofs.Completing.{ends_sized}
+use Rattle.vt_term.specs.Ends.{Ends}
+use Rattle.vt_term.specs.Ends.{Closed}
+use Rattle.cur_wires.proofs.Completing.{ends_sized}
 use Rattle.ti_rows.specs.declared.rows.Row.TheVariants.{Bel}
 use Rattle.cur_looks.specs.declared.beliefs.Belief.{Belief}
 use Rattle.cur_looks.specs.declared.inks.Ink.{Ink}
-use Rattle.cur_looks.specs.Certified.{Table, IsLost, IsChecked, IsLine, Ended}
+use Rattle.ti_conforms.specs.Certified.{Table, IsLost, IsChecked, IsLine, Ended}
 use Rattle.cur_looks.specs.Beliefs.{Agrees, Turns}
 use Rattle.cur_looks.proofs.Doing.{agrees_lost}
 use Rattle.cur_looks.proofs.Turning.{free_of, by_screen}

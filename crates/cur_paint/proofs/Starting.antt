@@ -7,7 +7,7 @@ use Rattle.vt_term.specs.Size.{IsSize}
 use Rattle.vt_term.specs.Grid.{look_at, uniform}
 use Rattle.vt_term.specs.Screen.{IsScreen, reset, reset_screen}
 use Rattle.vt_term.proofs.Sequences.{empty_open}
-use Rattle.cur_looks.specs.Certified.{Table, IsChecked, IsWhole}
+use Rattle.ti_conforms.specs.Certified.{Table, IsChecked, IsWhole}
 use Rattle.cur_paint.specs.Update.{IsFresh}
 
 same_cell : (n j : ℕ) → slice_index_or (replicate n space) j space ≡ space

@@ -3,12 +3,12 @@ use Rattle.std.proofs.Common.{◌≡◌, ℕ, Bool, true, false, List, ◌++◌,
 use Rattle.std.specs.List.{AllByRecursion, concat}
 use Rattle.vt_term.specs.Screen.{State}
 use Rattle.cur_wires.specs.Wire.{StopsIn}
-use Rattle.cur_steps.specs.Leads.{Ends}
-use Rattle.cur_steps.specs.Lines.{Reaches}
-use Rattle.cur_steps.proofs.Leading.{concat-append, all_append, ends_then}
+use Rattle.vt_term.specs.Ends.{Ends}
+use Rattle.cur_wires.specs.Leads.{Reaches}
+use Rattle.cur_wires.proofs.Leading.{concat-append, all_append, ends_then}
 use Rattle.cur_looks.specs.declared.beliefs.Belief.{Belief}
 use Rattle.cur_looks.specs.declared.inks.Ink.{Ink}
-use Rattle.cur_looks.specs.Certified.{Table, IsLost, IsChecked, IsPiece}
+use Rattle.ti_conforms.specs.Certified.{Table, IsLost, IsChecked, IsPiece}
 use Rattle.cur_looks.specs.Inks.{CanShow}
 use Rattle.cur_looks.specs.Beliefs.{CanHide}
 use Rattle.cur_paint.specs.Limits.{IsWithin}

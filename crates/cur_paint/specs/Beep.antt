@@ -1,10 +1,10 @@
 -- What ringing the bell promises.
 use Rattle.std.specs.Prelude.{ℕ, ◌≡◌, true, false, List, ◌++◌, Some, Result, Ok, Err}
 use Rattle.vt_term.specs.Screen.{State}
-use Rattle.cur_steps.specs.Leads.{Ends}
+use Rattle.vt_term.specs.Ends.{Ends}
 use Rattle.cur_wires.specs.Wire.{Rose}
 use Rattle.ti_rows.specs.declared.rows.Row.TheVariants.{Bel}
-use Rattle.cur_looks.specs.Certified.{Table, IsLost, has}
+use Rattle.ti_conforms.specs.Certified.{Table, IsLost, has}
 use Rattle.cur_looks.specs.declared.inks.Ink.{Ink}
 use Rattle.cur_paint.specs.Update.{Fits}
 use Rattle.cur_paint.specs.declared.bells.Unsent.{Unsent}

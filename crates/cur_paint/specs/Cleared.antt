@@ -2,7 +2,7 @@
 use Rattle.std.specs.Prelude.{ℕ, false, Option, Some}
 use Rattle.vt_term.specs.Color.{Color}
 use Rattle.vt_term.specs.Screen.{State}
-use Rattle.cur_looks.specs.Certified.{Table, IsLost}
+use Rattle.ti_conforms.specs.Certified.{Table, IsLost}
 use Rattle.cur_looks.specs.Inks.{blank_ink, plain_brush}
 use Rattle.cur_looks.specs.Beliefs.{IsSeen}
 use Rattle.cur_looks.specs.declared.beliefs.Mode.{Mode}

@@ -7,12 +7,12 @@ use Rattle.cur_looks.specs.declared.inks.Ink.{Ink}
 abbrev pub differs : (ℕ → ℕ → Ink) → (ℕ → ℕ → Ink) → ℕ → ℕ → ℕ
 differs old new i j = if same (old i j) (new i j) then 0 else 1
 
--- in so many places of a line from a column on
+-- in the first n places of a line from a column on
 abbrev pub span : (ℕ → ℕ → Ink) → (ℕ → ℕ → Ink) → ℕ → ℕ → ℕ → ℕ
 span old new i from zero = 0
 span old new i from (suc n) = span old new i from n + differs old new i (from + n)
 
--- in so many lines
+-- in the first n lines
 abbrev pub all_differ : (ℕ → ℕ → Ink) → (ℕ → ℕ → Ink) → ℕ → ℕ → ℕ
 all_differ old new cols zero = 0
 all_differ old new cols (suc n) = all_differ old new cols n + span old new n 0 cols
@@ -22,7 +22,7 @@ pub record IsSameOutside (old new : ℕ → ℕ → Ink) (i from end cols : ℕ)
   pub before : (j : ℕ) → j < from → old i j ≡ new i j
   pub after : (j : ℕ) → end ≤ j → j < cols → old i j ≡ new i j
 
--- (Serves the code alone.) a place that differs, and has that character in the set and the brush of another place of its line
-pub record IsLike (old new : ℕ → ℕ → Ink) (i like j byte : ℕ) : Type 0 where
-  pub cell : new i j ≡ record (new i like) { byte = byte }
+-- (Serves the code alone.) a place that differs, and is to have that character in the set and the brush of an ink
+pub record IsLike (old new : ℕ → ℕ → Ink) (i j : ℕ) (ink : Ink) (byte : ℕ) : Type 0 where
+  pub cell : new i j ≡ record ink { byte = byte }
   pub changed : differs old new i j ≡ 1

@@ -1,10 +1,10 @@
 -- What is sent at the end of a program's screen, and what that promises (X/Open Curses, endwin).
 use Rattle.std.specs.Prelude.{ℕ, ◌-◌, ◌≡◌, List, [], ◌++◌, Result, Ok, Err}
 use Rattle.vt_term.specs.Screen.{State}
-use Rattle.cur_steps.specs.Leads.{Ends}
+use Rattle.vt_term.specs.Ends.{Ends}
 use Rattle.cur_wires.specs.Wire.{Rose}
 use Rattle.ti_rows.specs.declared.rows.Row.TheVariants.{Cup, Sgr0, Rmacs, Cnorm, Rmcup}
-use Rattle.cur_looks.specs.Certified.{Table, IsLost, text_of}
+use Rattle.ti_conforms.specs.Certified.{Table, IsLost, text_of}
 use Rattle.cur_looks.specs.declared.inks.Ink.{Ink}
 use Rattle.cur_paint.specs.Update.{Fits, IsFresh}
 use Rattle.cur_paint.specs.declared.updates.Session.{Session}

@@ -1,6 +1,6 @@
 -- (Serves the code alone.) Where the cursor is wanted, and the most that is sent.
 use Rattle.std.specs.Prelude.{ℕ, ◌+◌, ◌*◌, ◌<◌, ◌≡◌, ◌==◌, ◌&&◌, Bool, Option, Some, None, length, if◌then◌else◌}
-use Rattle.cur_looks.specs.Certified.{Table, cell_limit}
+use Rattle.ti_conforms.specs.Certified.{Table, cell_limit}
 use Rattle.cur_looks.specs.Beliefs.{moves, changes, modes_limit}
 use Rattle.cur_looks.specs.declared.beliefs.Belief.{Belief}
 use Rattle.cur_looks.specs.declared.beliefs.Place.{Place}

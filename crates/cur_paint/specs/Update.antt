@@ -3,11 +3,11 @@ use Rattle.std.specs.Prelude.{ℕ, ◌<◌, ◌≤◌, ◌≡◌, Bool, true, fa
 use Rattle.std.specs.List.{AllByRecursion, concat}
 use Rattle.vt_term.specs.Grid.{look_at}
 use Rattle.vt_term.specs.Screen.{State}
-use Rattle.cur_steps.specs.Leads.{Ends}
-use Rattle.cur_steps.specs.Steps.{Steps}
+use Rattle.vt_term.specs.Ends.{Ends}
+use Rattle.cur_wires.specs.Steps.{Steps}
 use Rattle.cur_wires.specs.Wire.{Rose}
 use Rattle.ti_rows.specs.declared.rows.Row.TheVariants.{Clear}
-use Rattle.cur_looks.specs.Certified.{Table, IsLost, IsWhole, IsPiece}
+use Rattle.ti_conforms.specs.Certified.{Table, IsLost, IsWhole, IsPiece}
 use Rattle.cur_looks.specs.Inks.{look_of}
 use Rattle.cur_looks.specs.Beliefs.{Agrees, is_shown}
 use Rattle.cur_looks.specs.declared.beliefs.Belief.{Belief}

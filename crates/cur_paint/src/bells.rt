@@ -4,8 +4,9 @@ ghost use Rattle.cur_paint.specs.declared.updates.Status.TheVariants.{Lost};
 ghost use Rattle.cur_paint.specs.Beep.{Beeps};
 
 use crate::updates::{Session, Status};
-use cur_looks::{Certificate, Row};
+use cur_looks::Row;
 use cur_wires::{Wire, WireFault, send_all};
+use ti_conforms::Certificate;
 
 /// Why nothing, or not all, was sent.
 #[derive(Clone, Copy)]
@@ -27,6 +28,7 @@ pub fn beep<C: Certificate, W: Wire>(
 ) -> Result<(), Unsent>
     ensures beeps { Beeps W.went W.failures wire.old wire.new result (C.table checked.now) session.old session.new }
 {
+    // only this call's contract says that the certificate is verified
     let _ = checked.rows();
     let Some(line) = checked.line(Row::Bel) else {
         return Err(Unsent::NoCap);

@@ -16,11 +16,12 @@ pub trait Changes {
 
     ghost between: { Self → (ℕ → ℕ → Ink) → (ℕ → ℕ → Ink) → Type 0 };
 
-    /// The columns of a line that may differ, on screens of so many columns.
+    /// The columns of the line `row` that may differ, on screens of `cols` columns.
     fn columns(&self, row: usize, cols: usize) -> Columns
         ensures order { result.from ≤ result.end }
         ensures within { result.end ≤ cols }
-        ensures same { (old new : ℕ → ℕ → Ink) → between self.now old new → IsSameOutside old new row result.from result.end cols };
+        ensures same { (old new : ℕ → ℕ → Ink) → between self.now old new
+            → IsSameOutside old new row result.from result.end cols };
 }
 
 /// Any column may differ.

@@ -5,12 +5,13 @@ ghost use Rattle.cur_paint.specs.Differ.{differs, span, all_differ};
 use crate::changes::Changes;
 use crate::parts::are_blank;
 use crate::rows::may_differ;
-use cur_looks::{Certificate, Row, View};
+use cur_looks::{Row, View};
+use ti_conforms::Certificate;
 
 /// What a move and a look take at least once more in a line of which cells are printed again.
 const AGAIN: usize = 8;
 
-/// Whether a place differs: 0 or 1.
+/// 1 if the place in line `row` and column `col` differs, else 0.
 fn differing<O: View, N: View>(old: &O, new: &N, row: usize, col: usize) -> usize
     ensures value { result ≡ differs (O.cells old.now) (N.cells new.now) row col }
     ensures few { result ≤ 1 }
@@ -22,7 +23,7 @@ fn differing<O: View, N: View>(old: &O, new: &N, row: usize, col: usize) -> usiz
     }
 }
 
-/// In how many of its first cells a line differs.
+/// In how many of its first `cols` cells the line `row` differs.
 fn count_line<O: View, N: View>(old: &O, new: &N, row: usize, cols: usize) -> usize
     requires { cols ≤ 1000 }
     ensures value { result ≡ span (O.cells old.now) (N.cells new.now) row 0 cols }
@@ -35,7 +36,7 @@ fn count_line<O: View, N: View>(old: &O, new: &N, row: usize, cols: usize) -> us
     count
 }
 
-/// In how many cells the first lines differ.
+/// In how many of their first `cols` cells the first `rows` lines differ.
 fn count_lines<O: View, N: View>(old: &O, new: &N, rows: usize, cols: usize) -> usize
     requires rows { rows ≤ 1000 }
     requires cols { cols ≤ 1000 }
@@ -49,7 +50,7 @@ fn count_lines<O: View, N: View>(old: &O, new: &N, rows: usize, cols: usize) -> 
     count
 }
 
-/// Whether fewer cells differ from one screen than from another, by more than so many.
+/// Whether fewer cells of `new` differ from `blank` than from `old`, by more than `by`.
 pub(crate) fn leaves_fewer<B: View, O: View, N: View>(
     blank: &B,
     old: &O,
@@ -60,7 +61,8 @@ pub(crate) fn leaves_fewer<B: View, O: View, N: View>(
 ) -> bool
     requires rows { rows ≤ 1000 }
     requires cols { cols ≤ 1000 }
-    ensures { result ≡ true → by + all_differ (B.cells blank.now) (N.cells new.now) cols rows < all_differ (O.cells old.now) (N.cells new.now) cols rows }
+    ensures { result ≡ true → by + all_differ (B.cells blank.now) (N.cells new.now) cols rows
+        < all_differ (O.cells old.now) (N.cells new.now) cols rows }
 {
     let left = count_lines(blank, new, rows, cols);
     let all = count_lines(old, new, rows, cols);
@@ -76,7 +78,7 @@ struct Tally {
     kept: usize,
 }
 
-/// The tally with one more cell.
+/// The `tally` with one more cell, which is blank if `is_blank`, and as it was if `stays`.
 fn with_cell(tally: Tally, is_blank: bool, stays: bool) -> Tally {
     match (is_blank, stays) {
         (true, true) => tally,
@@ -92,7 +94,7 @@ fn with_cell(tally: Tally, is_blank: bool, stays: bool) -> Tally {
     }
 }
 
-/// The tally of a line.
+/// The tally of the line `row`.
 fn tally_of<B: View, O: View, N: View>(
     blank: &B,
     old: &O,
@@ -122,7 +124,7 @@ struct Balance {
     again: usize,
 }
 
-/// The balance with one more line, whose end can be erased by so many bytes.
+/// The `balance` with one more line, whose tally is `tally` and whose end takes `erasing` bytes to erase.
 fn with_line(balance: Balance, tally: Tally, erasing: usize) -> Balance {
     let saved = balance.below.saturating_add(tally.blanked.min(erasing));
     if tally.is_blank {
@@ -143,7 +145,7 @@ fn with_line(balance: Balance, tally: Tally, erasing: usize) -> Balance {
     }
 }
 
-/// How many bytes a row's line has, and at most so many.
+/// How many bytes the string for `row` has, and at most `most`.
 fn bytes_within<C: Certificate>(checked: &C, row: Row, most: usize) -> usize {
     match checked.line(row) {
         Some(line) => line.len().min(most),
@@ -151,7 +153,7 @@ fn bytes_within<C: Certificate>(checked: &C, row: Row, most: usize) -> usize {
     }
 }
 
-/// Whether clearing by so many bytes is likely to take fewer than erasing line by line.
+/// Whether clearing, by `clear` bytes, is likely to take fewer bytes than erasing line by line.
 pub(crate) fn saves<C: Certificate, B: View, O: View, N: View>(
     checked: &C,
     blank: &B,
@@ -177,7 +179,7 @@ pub(crate) fn saves<C: Certificate, B: View, O: View, N: View>(
     balance.again < balance.above.saturating_add(below)
 }
 
-/// Whether a line becomes blank, as far as a cheap look shows.
+/// Whether the line `row` becomes blank, as far as a cheap look shows.
 fn may_become_blank<N: View, D: Changes>(
     new: &N,
     changes: &D,

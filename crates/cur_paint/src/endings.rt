@@ -1,15 +1,16 @@
 //! The end of a program's screen.
 ghost use Rattle.std.specs.Prelude.{◌≡◌};
 ghost use Rattle.cur_wires.specs.Wire.{Sends};
-ghost use Rattle.cur_looks.specs.Certified.{text_of};
+ghost use Rattle.ti_conforms.specs.Certified.{text_of};
 ghost use Rattle.cur_paint.specs.declared.updates.Status.TheVariants.{Lost};
 ghost use Rattle.cur_paint.specs.Finish.{Finishes, end_text, finish_text, from_cnorm_text, from_cup_text, from_rmacs_text};
 
 use crate::updates::{Session, Status};
-use cur_looks::{Certificate, Row};
+use cur_looks::Row;
 use cur_wires::{Wire, WireFault, send_all};
+use ti_conforms::Certificate;
 
-/// A row's line, if there is one.
+/// Sends the string for `row`, if there is one.
 fn send_row<C: Certificate, W: Wire>(checked: &C, row: Row, wire: &mut W) -> Result<(), WireFault>
     ensures sends { Sends W.went W.failures wire.old wire.new (text_of (C.table checked.now) row) result }
 {
@@ -19,7 +20,7 @@ fn send_row<C: Certificate, W: Wire>(checked: &C, row: Row, wire: &mut W) -> Res
     }
 }
 
-/// The cursor becomes visible, and the screen from before comes back.
+/// Makes the cursor visible, and brings back the screen from before.
 fn send_from_cnorm<C: Certificate, W: Wire>(checked: &C, wire: &mut W) -> Result<(), WireFault>
     ensures sends { Sends W.went W.failures wire.old wire.new (from_cnorm_text (C.table checked.now)) result }
 {
@@ -27,7 +28,7 @@ fn send_from_cnorm<C: Certificate, W: Wire>(checked: &C, wire: &mut W) -> Result
     send_row(checked, Row::Rmcup, wire)
 }
 
-/// The same, after the cursor went to the last line.
+/// Moves the cursor to the last line, and goes on as `send_from_cnorm` does.
 fn send_from_cup<C: Certificate, W: Wire>(checked: &C, wire: &mut W) -> Result<(), WireFault>
     ensures sends { Sends W.went W.failures wire.old wire.new (from_cup_text (C.table checked.now)) result }
 {
@@ -36,7 +37,7 @@ fn send_from_cup<C: Certificate, W: Wire>(checked: &C, wire: &mut W) -> Result<(
     send_from_cnorm(checked, wire)
 }
 
-/// The same, after the plain set became the active one.
+/// Makes the plain set the active one, and goes on as `send_from_cup` does.
 fn send_from_rmacs<C: Certificate, W: Wire>(checked: &C, wire: &mut W) -> Result<(), WireFault>
     ensures sends { Sends W.went W.failures wire.old wire.new (from_rmacs_text (C.table checked.now)) result }
 {
@@ -44,7 +45,7 @@ fn send_from_rmacs<C: Certificate, W: Wire>(checked: &C, wire: &mut W) -> Result
     send_from_cup(checked, wire)
 }
 
-/// The same, after all attributes went off.
+/// Turns all attributes off, and goes on as `send_from_rmacs` does.
 fn send_end<C: Certificate, W: Wire>(checked: &C, wire: &mut W) -> Result<(), WireFault>
     ensures sends { Sends W.went W.failures wire.old wire.new (end_text (C.table checked.now)) result }
 {
@@ -52,7 +53,7 @@ fn send_end<C: Certificate, W: Wire>(checked: &C, wire: &mut W) -> Result<(), Wi
     send_from_rmacs(checked, wire)
 }
 
-/// The same, after the resynchronization.
+/// Resynchronizes, and goes on as `send_end` does.
 fn send_anew<C: Certificate, W: Wire>(checked: &C, wire: &mut W) -> Result<(), WireFault>
     ensures sends { Sends W.went W.failures wire.old wire.new (finish_text (C.table checked.now) Lost) result }
 {
@@ -60,7 +61,7 @@ fn send_anew<C: Certificate, W: Wire>(checked: &C, wire: &mut W) -> Result<(), W
     send_end(checked, wire)
 }
 
-/// What a session of this status ends with.
+/// Sends what a session of the status `status` ends with.
 fn send_finish<C: Certificate, W: Wire>(
     checked: &C,
     status: Status,
@@ -83,8 +84,10 @@ pub fn finish<C: Certificate, W: Wire>(
     session: &mut Session,
     wire: &mut W,
 ) -> Result<(), WireFault>
-    ensures finishes { Finishes W.went W.failures wire.old wire.new result (C.table checked.now) session.old session.new }
+    ensures finishes { Finishes W.went W.failures wire.old wire.new result (C.table checked.now)
+        session.old session.new }
 {
+    // only this call's contract says that the certificate is verified
     let _ = checked.rows();
     let status = session.status;
     session.status = Status::Lost;

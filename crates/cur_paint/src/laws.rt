@@ -1,6 +1,6 @@
 //! Laws of the bound, and of where a session begins.
 ghost use Rattle.std.specs.Prelude.{◌≡◌, ◌≤◌, ◌+◌, ◌*◌, ℕ, Option, Some};
-ghost use Rattle.cur_looks.specs.Certified.{IsChecked, Table, cell_limit};
+ghost use Rattle.ti_conforms.specs.Certified.{IsChecked, Table, cell_limit};
 ghost use Rattle.cur_looks.specs.declared.beliefs.Belief.{Belief};
 ghost use Rattle.cur_looks.specs.declared.beliefs.Place.{Place};
 ghost use Rattle.cur_looks.specs.declared.beliefs.Mode.{Mode};
@@ -10,12 +10,15 @@ ghost use Rattle.cur_paint.specs.Limits.{IsPlaced, paint_limit};
 ghost use Rattle.cur_paint.specs.Update.{IsFresh};
 ghost use Rattle.vt_term.specs.Screen.{reset};
 
-/// What a refresh of a known terminal sends at most: so many times the bytes of a cell as cells differ, and
-/// once more for the cursor. Nothing where no cell differs, the mode is the shown one, and the cursor is where
+/// What a refresh of a known terminal sends at most: the bytes of a cell for each cell that differs, and once
+/// more for the cursor. Nothing where no cell differs, the mode is the shown one, and the cursor is where
 /// it is wanted.
 pub fn bounded()
-    ensures most { (t : Table) (old new : ℕ → ℕ → Ink) (b : Belief) (cursor : Option Place) (mode : Mode) → paint_limit t old new b cursor mode ≤ (all_differ old new t.cols t.rows + 1) * cell_limit t }
-    ensures none { (t : Table) (old new : ℕ → ℕ → Ink) (b : Belief) (cursor : Option Place) (mode : Mode) → all_differ old new t.cols t.rows ≡ 0 → IsPlaced cursor b.place → b.mode ≡ Some mode → paint_limit t old new b cursor mode ≡ 0 }
+    ensures most { (t : Table) (old new : ℕ → ℕ → Ink) (b : Belief) (cursor : Option Place) (mode : Mode)
+        → paint_limit t old new b cursor mode ≤ (all_differ old new t.cols t.rows + 1) * cell_limit t }
+    ensures none { (t : Table) (old new : ℕ → ℕ → Ink) (b : Belief) (cursor : Option Place) (mode : Mode)
+        → all_differ old new t.cols t.rows ≡ 0 → IsPlaced cursor b.place → b.mode ≡ Some mode
+        → paint_limit t old new b cursor mode ≡ 0 }
 {}
 
 /// A terminal in its reset state is one of those in which a session begins.

@@ -9,6 +9,8 @@ mod laws;
 mod painting;
 mod parts;
 mod rows;
+mod screens;
+mod spans;
 mod updates;
 
 pub use bells::{Unsent, beep};

@@ -1,80 +1,82 @@
 //! What differs, then the cursor's mode and place.
-ghost use Rattle.std.specs.Prelude.{◌≡◌, ◌*◌, ◌<◌, ℕ, Some, OnOk};
-ghost use Rattle.cur_steps.specs.Steps.{Steps};
-ghost use Rattle.cur_looks.specs.Certified.{IsPiece, IsLost};
-ghost use Rattle.cur_looks.specs.Inks.{CanShow};
-ghost use Rattle.cur_looks.specs.Beliefs.{Agrees, CanHide};
-ghost use Rattle.cur_looks.specs.declared.inks.Ink.{Ink};
-ghost use Rattle.cur_paint.specs.Limits.{IsWithin, IsPlaced, last_move, cursor_limit, paint_limit};
+ghost use Rattle.std.specs.Prelude.{◌≡◌, ◌*◌, Some, OnOk};
+ghost use Rattle.cur_looks.specs.Beliefs.{CanHide};
+ghost use Rattle.cur_paint.specs.Limits.{IsWithin, IsPlaced, last_move, cursor_limit};
+ghost use Rattle.cur_paint.specs.Scenes.{IsPaintable, Paints, Sends, scene};
 
 use crate::changes::Changes;
-use crate::rows::mend_rows;
-use cur_looks::{Belief, Certificate, Mode, Place, View, reach, show_as};
+use crate::rows::mend_screen;
+use crate::screens::Screens;
+use crate::updates::Wanted;
+use cur_looks::{Belief, Place, View, reach, show_as};
 use cur_wires::{Wire, WireFault};
+use ti_conforms::Certificate;
 
-/// The cursor's last move, if a place is wanted.
-fn place_cursor<C: Certificate, N: View, W: Wire>(
-    checked: &C,
+/// Moves the cursor to the place `cursor`, if there is one.
+fn place_cursor<C: Certificate, O: View, N: View, W: Wire>(
+    screens: &Screens<'_, C, O, N>,
     belief: &mut Belief,
     wire: &mut W,
-    new: &N,
     cursor: Option<Place>,
 ) -> Result<(), WireFault>
-    requires drawable { CanShow (C.table checked.now) (N.cells new.now) }
-    requires cursor { IsWithin (C.table checked.now) cursor }
+    requires scene { IsPaintable (scene C.table O.cells N.cells screens.now) }
+    requires cursor { IsWithin (C.table screens.now.checked.now) cursor }
     ensures there { OnOk result (IsPlaced cursor belief.new.place) }
     ensures mode { OnOk result (belief.new.mode ≡ belief.old.mode) }
-    ensures step { Steps W.went W.failures wire.old wire.new result (IsPiece (C.table checked.now)) (last_move belief.old.place cursor * (C.table checked.now).longest.cup)
-        (IsLost (C.table checked.now)) (Agrees (C.table checked.now) (N.cells new.now) belief.old) (Agrees (C.table checked.now) (N.cells new.now) belief.new) }
+    ensures step { Sends W.went W.failures wire.old wire.new result (C.table screens.now.checked.now)
+        (last_move belief.old.place cursor * (C.table screens.now.checked.now).longest.cup)
+        (N.cells screens.now.new.now) (N.cells screens.now.new.now) belief.old belief.new }
 {
-    let _ = checked.rows();
     match cursor {
-        Some(place) => reach(checked, belief, wire, new, place.row, place.col),
+        Some(place) => reach(
+            screens.checked,
+            belief,
+            wire,
+            screens.new,
+            place.row,
+            place.col,
+        ),
         None => Ok(()),
     }
 }
 
-/// The cursor's mode, and its place.
-fn set_cursor<C: Certificate, N: View, W: Wire>(
-    checked: &C,
+/// Gives the cursor its mode, and moves it to its place, both as `wanted` says.
+fn set_cursor<C: Certificate, O: View, N: View, W: Wire>(
+    screens: &Screens<'_, C, O, N>,
     belief: &mut Belief,
     wire: &mut W,
-    new: &N,
-    cursor: Option<Place>,
-    mode: Mode,
+    wanted: Wanted,
 ) -> Result<(), WireFault>
-    requires drawable { CanShow (C.table checked.now) (N.cells new.now) }
-    requires cursor { IsWithin (C.table checked.now) cursor }
-    requires lines { CanHide (C.table checked.now) mode }
-    ensures there { OnOk result (IsPlaced cursor belief.new.place) }
-    ensures mode { OnOk result (belief.new.mode ≡ Some mode) }
-    ensures step { Steps W.went W.failures wire.old wire.new result (IsPiece (C.table checked.now)) (cursor_limit (C.table checked.now) belief.old cursor mode)
-        (IsLost (C.table checked.now)) (Agrees (C.table checked.now) (N.cells new.now) belief.old) (Agrees (C.table checked.now) (N.cells new.now) belief.new) }
+    requires scene { IsPaintable (scene C.table O.cells N.cells screens.now) }
+    requires cursor { IsWithin (C.table screens.now.checked.now) wanted.cursor }
+    requires lines { CanHide (C.table screens.now.checked.now) wanted.mode }
+    ensures there { OnOk result (IsPlaced wanted.cursor belief.new.place) }
+    ensures mode { OnOk result (belief.new.mode ≡ Some wanted.mode) }
+    ensures step { Sends W.went W.failures wire.old wire.new result (C.table screens.now.checked.now)
+        (cursor_limit (C.table screens.now.checked.now) belief.old wanted.cursor wanted.mode)
+        (N.cells screens.now.new.now) (N.cells screens.now.new.now) belief.old belief.new }
 {
-    show_as(checked, belief, wire, mode)?;
-    place_cursor(checked, belief, wire, new, cursor)
+    show_as(screens.checked, belief, wire, wanted.mode)?;
+    place_cursor(screens, belief, wire, wanted.cursor)
 }
 
-/// All that differs, and then the cursor.
+/// Mends all that differs, in the columns that may by `changes`, and then sets the cursor as `wanted` says.
 pub(crate) fn paint<C: Certificate, O: View, N: View, D: Changes, W: Wire>(
-    checked: &C,
+    screens: &Screens<'_, C, O, N>,
     belief: &mut Belief,
     wire: &mut W,
-    old: &O,
-    new: &N,
     changes: &D,
-    cursor: Option<Place>,
-    mode: Mode,
+    wanted: Wanted,
 ) -> Result<(), WireFault>
-    requires drawable { CanShow (C.table checked.now) (N.cells new.now) }
-    requires changes { D.between changes.now (O.cells old.now) (N.cells new.now) }
-    requires cursor { IsWithin (C.table checked.now) cursor }
-    requires lines { CanHide (C.table checked.now) mode }
-    ensures there { OnOk result (IsPlaced cursor belief.new.place) }
-    ensures mode { OnOk result (belief.new.mode ≡ Some mode) }
-    ensures step { Steps W.went W.failures wire.old wire.new result (IsPiece (C.table checked.now)) (paint_limit (C.table checked.now) (O.cells old.now) (N.cells new.now) belief.old cursor mode)
-        (IsLost (C.table checked.now)) (Agrees (C.table checked.now) (O.cells old.now) belief.old) (Agrees (C.table checked.now) (N.cells new.now) belief.new) }
+    requires scene { IsPaintable (scene C.table O.cells N.cells screens.now) }
+    requires changes { D.between changes.now (O.cells screens.now.old.now) (N.cells screens.now.new.now) }
+    requires cursor { IsWithin (C.table screens.now.checked.now) wanted.cursor }
+    requires lines { CanHide (C.table screens.now.checked.now) wanted.mode }
+    ensures there { OnOk result (IsPlaced wanted.cursor belief.new.place) }
+    ensures mode { OnOk result (belief.new.mode ≡ Some wanted.mode) }
+    ensures step { Paints W.went W.failures wire.old wire.new result (scene C.table O.cells N.cells screens.now)
+        wanted.cursor wanted.mode belief.old belief.new }
 {
-    mend_rows(checked, belief, wire, old, new, changes)?;
-    set_cursor(checked, belief, wire, new, cursor, mode)
+    mend_screen(screens, belief, wire, changes)?;
+    set_cursor(screens, belief, wire, wanted)
 }

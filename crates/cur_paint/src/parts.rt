@@ -1,18 +1,17 @@
 //! Parts of a line: runs of blanks that are erased, and the cells between them.
-ghost use Rattle.std.specs.Prelude.{◌≡◌, ◌+◌, ◌*◌, ◌<◌, ◌≤◌, ℕ, true, OnOk, IfSome};
-ghost use Rattle.cur_steps.specs.Steps.{Steps};
-ghost use Rattle.cur_looks.specs.Certified.{IsPiece, IsLost, cell_limit};
-ghost use Rattle.cur_looks.specs.Inks.{CanShow, mixed, blank_ink};
-ghost use Rattle.cur_looks.specs.Beliefs.{Agrees};
+ghost use Rattle.std.specs.Prelude.{◌≡◌, ◌+◌, ◌<◌, ◌≤◌, ℕ, true, IfSome};
+ghost use Rattle.ti_conforms.specs.Certified.{IsChecked};
+ghost use Rattle.cur_looks.specs.Inks.{blank_ink};
 ghost use Rattle.cur_paint.specs.Differ.{span};
+ghost use Rattle.cur_paint.specs.Scenes.{IsIdle, IsOn, IsPaintable, MendsCells, changed, scene};
 
-use crate::rows::{differs_in, mend_span};
-use cur_looks::{
-    Belief, Certificate, Erasure, Place, View, erase_at, erase_from, erasing_line, line_bytes,
-};
+use crate::screens::{Cells, Screens};
+use crate::spans::{differs_in, mend_span};
+use cur_looks::{Belief, Erasure, Place, View, erase_at, erase_from, erasing_line, line_bytes};
 use cur_wires::{Wire, WireFault};
+use ti_conforms::Certificate;
 
-/// An erasure and the move after it take at least so many bytes.
+/// How many bytes an erasure and the move after it take at least.
 const FEWEST: usize = 5;
 
 /// Blank cells of a line: how many there are, and those from the first to the last one that differs.
@@ -24,14 +23,14 @@ struct Run {
     differing: usize,
 }
 
-/// So many cells of a line, and how they are erased; else they are printed.
+/// How many cells of a line go together, and how they are erased; else they are printed.
 #[derive(Clone, Copy)]
 struct Part {
     count: usize,
     erasure: Option<Erasure>,
 }
 
-/// A run, and its next cell, which differs.
+/// The run `run`, and its next cell, which differs.
 fn with_different(run: Run) -> Run
     requires start { run.start ≤ run.len }
     requires len { run.len ≤ 1000 }
@@ -53,12 +52,12 @@ fn with_different(run: Run) -> Run
     }
 }
 
-/// The blank cells of a line from a column on, of so many.
-fn run_at<O: View, N: View>(old: &O, new: &N, row: usize, from: usize, count: usize) -> Run
-    requires { from + count ≤ 1000 }
+/// The run of blanks with which the `cells` begin.
+fn run_at<O: View, N: View>(old: &O, new: &N, cells: Cells) -> Run
+    requires { cells.from + cells.count ≤ 1000 }
     ensures order { result.start ≤ result.end }
     ensures within { result.end ≤ result.len }
-    ensures len { result.len ≤ count }
+    ensures len { result.len ≤ cells.count }
 {
     let mut run = Run {
         len: 0,
@@ -66,11 +65,12 @@ fn run_at<O: View, N: View>(old: &O, new: &N, row: usize, from: usize, count: us
         end: 0,
         differing: 0,
     };
-    while run.len < count {
-        if !new.is_blank(row, from + run.len) {
+    while run.len < cells.count {
+        let col = cells.from + run.len;
+        if !new.is_blank(cells.row, col) {
             return run;
         }
-        if old.is_blank(row, from + run.len) {
+        if old.is_blank(cells.row, col) {
             run.len += 1;
         } else {
             run = with_different(run);
@@ -79,7 +79,8 @@ fn run_at<O: View, N: View>(old: &O, new: &N, row: usize, from: usize, count: us
     run
 }
 
-/// Whether so many bytes are more than an erasure takes, and a move from there to a column after it.
+/// Whether `bytes` is more than the bytes of the erasure `erasure` in line `row` and column `from` and of a move from
+/// there to the column `to`.
 fn pays<C: Certificate>(
     checked: &C,
     erasure: Erasure,
@@ -88,11 +89,11 @@ fn pays<C: Certificate>(
     to: usize,
     bytes: usize,
 ) -> bool
+    requires checked { IsChecked (C.table checked.now) }
     requires row { row < (C.table checked.now).rows }
     requires from { from < (C.table checked.now).cols }
     requires to { to ≤ (C.table checked.now).cols }
 {
-    let _ = checked.rows();
     let last = checked.cols() - 1;
     match erasing_line(checked, erasure) {
         Some(line) => {
@@ -104,7 +105,7 @@ fn pays<C: Certificate>(
     }
 }
 
-/// Whether the cells of a line from a column to another are blank.
+/// Whether the line `row` is blank from the column `from` to the one before `end`.
 pub(crate) fn are_blank<N: View>(new: &N, row: usize, from: usize, end: usize) -> bool
     ensures { result ≡ true → (k : ℕ) → from ≤ k → k < end → N.cells new.now row k ≡ blank_ink }
 {
@@ -116,7 +117,8 @@ pub(crate) fn are_blank<N: View>(new: &N, row: usize, from: usize, end: usize) -
     true
 }
 
-/// How a run of blanks that begins at a column is erased, if that takes fewer bytes than printing it.
+/// How the run `run`, which begins in line `row` and column `from`, is erased, if that takes fewer bytes than printing
+/// it.
 fn erasure_of<C: Certificate, N: View>(
     checked: &C,
     new: &N,
@@ -124,13 +126,12 @@ fn erasure_of<C: Certificate, N: View>(
     from: usize,
     run: Run,
 ) -> Option<Erasure>
+    requires checked { IsChecked (C.table checked.now) }
     requires row { row < (C.table checked.now).rows }
     requires order { run.start ≤ run.end }
     requires end { from + run.end ≤ (C.table checked.now).cols }
     ensures some { IfSome result (λ e. run.start < run.end) }
 {
-    let _ = checked.rows();
-    let _ = checked.cols();
     if run.differing <= FEWEST || run.start == run.end {
         return None;
     }
@@ -148,7 +149,8 @@ fn erasure_of<C: Certificate, N: View>(
     None
 }
 
-/// The first of two parts: what comes before a run, or the run itself.
+/// The first of two parts: the `before` cells ahead of the run `run` and those of it that stay blank, or else the run
+/// itself, which is erased by `erasure`.
 fn cut(before: usize, run: Run, erasure: Erasure) -> Part
     requires order { run.start < run.end }
     requires few { before + run.end ≤ 1000 }
@@ -168,171 +170,140 @@ fn cut(before: usize, run: Run, erasure: Erasure) -> Part
     }
 }
 
-/// The next part of so many cells of a line from a column on.
-fn next_part<C: Certificate, O: View, N: View>(
-    checked: &C,
-    old: &O,
-    new: &N,
-    row: usize,
-    from: usize,
-    count: usize,
-) -> Part
-    requires row { row < (C.table checked.now).rows }
-    requires some { 0 < count }
-    requires within { from + count ≤ (C.table checked.now).cols }
+/// The part with which the `cells` begin.
+fn next_part<C: Certificate, O: View, N: View>(screens: &Screens<'_, C, O, N>, cells: Cells) -> Part
+    requires scene { IsPaintable (scene C.table O.cells N.cells screens.now) }
+    requires cells { IsOn (C.table screens.now.checked.now) cells }
+    requires some { 0 < cells.count }
     ensures some { 0 < result.count }
-    ensures within { result.count ≤ count }
+    ensures within { result.count ≤ cells.count }
 {
-    let _ = checked.rows();
     let mut n = 0;
-    while n + FEWEST < count {
+    while n + FEWEST < cells.count {
+        let from = cells.from + n;
         // only a run of more cells than that pays, and one that begins before this cell contains it
-        if !new.is_blank(row, from + n + FEWEST) {
+        if !screens.new.is_blank(cells.row, from + FEWEST) {
             n += FEWEST + 1;
             continue;
         }
-        let run = run_at(old, new, row, from + n, count - n);
-        if let Some(erasure) = erasure_of(checked, new, row, from + n, run) {
+        let rest = Cells {
+            row: cells.row,
+            from,
+            count: cells.count - n,
+        };
+        let run = run_at(screens.old, screens.new, rest);
+        if let Some(erasure) = erasure_of(screens.checked, screens.new, cells.row, from, run) {
             return cut(n, run, erasure);
         }
         n += run.len.max(1);
     }
     Part {
-        count,
+        count: cells.count,
         erasure: None,
     }
 }
 
-/// Whether cells of a line are blank from one column on, and some of the last ones differ.
-fn is_run<O: View, N: View>(
-    old: &O,
-    new: &N,
-    row: usize,
-    first: usize,
-    from: usize,
-    count: usize,
-) -> bool
-    requires { from + count ≤ 1000 }
-    ensures some { result ≡ true → 0 < count }
-    ensures differs { result ≡ true → 0 < span (O.cells old.now) (N.cells new.now) row from count }
-    ensures blank { result ≡ true → (k : ℕ) → first ≤ k → k < from + count → N.cells new.now row k ≡ blank_ink }
+/// Whether some of the `cells` differ, and their line is blank from the column `first` to the last of them.
+fn is_run<O: View, N: View>(old: &O, new: &N, first: usize, cells: Cells) -> bool
+    requires { cells.from + cells.count ≤ 1000 }
+    ensures some { result ≡ true → 0 < cells.count }
+    ensures differs { result ≡ true
+        → 0 < span (O.cells old.now) (N.cells new.now) cells.row cells.from cells.count }
+    ensures blank { result ≡ true → (k : ℕ) → first ≤ k → k < cells.from + cells.count
+        → N.cells new.now cells.row k ≡ blank_ink }
 {
-    count > 0 && differs_in(old, new, row, from, count) && are_blank(new, row, first, from + count)
+    cells.count > 0
+        && differs_in(old, new, cells)
+        && are_blank(new, cells.row, first, cells.from + cells.count)
 }
 
-/// So many cells of a line from a column on, erased if they are blank and some differ.
+/// Erases the `cells` if they are blank and some differ, else mends them one after another.
 fn mend_run<C: Certificate, O: View, N: View, W: Wire>(
-    checked: &C,
+    screens: &Screens<'_, C, O, N>,
     belief: &mut Belief,
     wire: &mut W,
-    old: &O,
-    new: &N,
-    row: usize,
-    from: usize,
-    count: usize,
+    cells: Cells,
 ) -> Result<(), WireFault>
-    requires drawable { CanShow (C.table checked.now) (N.cells new.now) }
-    requires row { row < (C.table checked.now).rows }
-    requires col { from + count ≤ (C.table checked.now).cols }
-    ensures idle { OnOk result (span (O.cells old.now) (N.cells new.now) row from count ≡ 0 → belief.new ≡ belief.old) }
-    ensures step { Steps W.went W.failures wire.old wire.new result (IsPiece (C.table checked.now)) (span (O.cells old.now) (N.cells new.now) row from count * cell_limit (C.table checked.now))
-        (IsLost (C.table checked.now)) (Agrees (C.table checked.now) (mixed (O.cells old.now) (N.cells new.now) row from) belief.old) (Agrees (C.table checked.now) (mixed (O.cells old.now) (N.cells new.now) row (from + count)) belief.new) }
+    requires scene { IsPaintable (scene C.table O.cells N.cells screens.now) }
+    requires cells { IsOn (C.table screens.now.checked.now) cells }
+    ensures idle { IsIdle result (changed (scene C.table O.cells N.cells screens.now) cells) belief.old belief.new }
+    ensures step { MendsCells W.went W.failures wire.old wire.new result (scene C.table O.cells N.cells screens.now)
+        cells belief.old belief.new }
 {
-    let _ = checked.rows();
-    let _ = checked.cols();
-    if !is_run(old, new, row, from, from, count) {
-        return mend_span(checked, belief, wire, old, new, row, from, count);
+    if !is_run(screens.old, screens.new, cells.from, cells) {
+        return mend_span(screens, belief, wire, cells);
     }
-    let part = Erasure::Part(count as u16);
-    match erasing_line(checked, part) {
-        Some(line) => erase_from(checked, belief, wire, new, row, from, part, line),
-        None => mend_span(checked, belief, wire, old, new, row, from, count),
-    }
-}
-
-/// The same, erased with the front of the line if all of that is blank.
-fn mend_head<C: Certificate, O: View, N: View, W: Wire>(
-    checked: &C,
-    belief: &mut Belief,
-    wire: &mut W,
-    old: &O,
-    new: &N,
-    row: usize,
-    from: usize,
-    count: usize,
-) -> Result<(), WireFault>
-    requires drawable { CanShow (C.table checked.now) (N.cells new.now) }
-    requires row { row < (C.table checked.now).rows }
-    requires col { from + count ≤ (C.table checked.now).cols }
-    ensures idle { OnOk result (span (O.cells old.now) (N.cells new.now) row from count ≡ 0 → belief.new ≡ belief.old) }
-    ensures step { Steps W.went W.failures wire.old wire.new result (IsPiece (C.table checked.now)) (span (O.cells old.now) (N.cells new.now) row from count * cell_limit (C.table checked.now))
-        (IsLost (C.table checked.now)) (Agrees (C.table checked.now) (mixed (O.cells old.now) (N.cells new.now) row from) belief.old) (Agrees (C.table checked.now) (mixed (O.cells old.now) (N.cells new.now) row (from + count)) belief.new) }
-{
-    let _ = checked.rows();
-    let _ = checked.cols();
-    if !is_run(old, new, row, 0, from, count) {
-        return mend_span(checked, belief, wire, old, new, row, from, count);
-    }
-    match erasing_line(checked, Erasure::Head) {
+    let part = Erasure::Part(cells.count as u16);
+    match erasing_line(screens.checked, part) {
         Some(line) => {
-            let last = from + count - 1;
-            erase_at(checked, belief, wire, row, last, Erasure::Head, line)
+            erase_from(
+                screens.checked,
+                belief,
+                wire,
+                screens.new,
+                cells.row,
+                cells.from,
+                part,
+                line,
+            )
         }
-        None => mend_span(checked, belief, wire, old, new, row, from, count),
+        None => mend_span(screens, belief, wire, cells),
     }
 }
 
-/// A part of a line from a column on.
+/// Erases the `cells` with the front of their line if all of that is blank and some of them differ, else mends them one
+/// after another.
+fn mend_head<C: Certificate, O: View, N: View, W: Wire>(
+    screens: &Screens<'_, C, O, N>,
+    belief: &mut Belief,
+    wire: &mut W,
+    cells: Cells,
+) -> Result<(), WireFault>
+    requires scene { IsPaintable (scene C.table O.cells N.cells screens.now) }
+    requires cells { IsOn (C.table screens.now.checked.now) cells }
+    ensures idle { IsIdle result (changed (scene C.table O.cells N.cells screens.now) cells) belief.old belief.new }
+    ensures step { MendsCells W.went W.failures wire.old wire.new result (scene C.table O.cells N.cells screens.now)
+        cells belief.old belief.new }
+{
+    if !is_run(screens.old, screens.new, 0, cells) {
+        return mend_span(screens, belief, wire, cells);
+    }
+    match erasing_line(screens.checked, Erasure::Head) {
+        Some(line) => {
+            let last = cells.from + cells.count - 1;
+            erase_at(
+                screens.checked,
+                belief,
+                wire,
+                cells.row,
+                last,
+                Erasure::Head,
+                line,
+            )
+        }
+        None => mend_span(screens, belief, wire, cells),
+    }
+}
+
+/// Mends the `cells`, by `erasure` where there is one.
 fn mend_part<C: Certificate, O: View, N: View, W: Wire>(
-    checked: &C,
+    screens: &Screens<'_, C, O, N>,
     belief: &mut Belief,
     wire: &mut W,
-    old: &O,
-    new: &N,
-    row: usize,
-    from: usize,
-    part: Part,
+    cells: Cells,
+    erasure: Option<Erasure>,
 ) -> Result<(), WireFault>
-    requires drawable { CanShow (C.table checked.now) (N.cells new.now) }
-    requires row { row < (C.table checked.now).rows }
-    requires col { from + part.count ≤ (C.table checked.now).cols }
-    ensures idle { OnOk result (span (O.cells old.now) (N.cells new.now) row from part.count ≡ 0 → belief.new ≡ belief.old) }
-    ensures step { Steps W.went W.failures wire.old wire.new result (IsPiece (C.table checked.now)) (span (O.cells old.now) (N.cells new.now) row from part.count * cell_limit (C.table checked.now))
-        (IsLost (C.table checked.now)) (Agrees (C.table checked.now) (mixed (O.cells old.now) (N.cells new.now) row from) belief.old) (Agrees (C.table checked.now) (mixed (O.cells old.now) (N.cells new.now) row (from + part.count)) belief.new) }
+    requires scene { IsPaintable (scene C.table O.cells N.cells screens.now) }
+    requires cells { IsOn (C.table screens.now.checked.now) cells }
+    ensures idle { IsIdle result (changed (scene C.table O.cells N.cells screens.now) cells) belief.old belief.new }
+    ensures step { MendsCells W.went W.failures wire.old wire.new result (scene C.table O.cells N.cells screens.now)
+        cells belief.old belief.new }
 {
-    match part.erasure {
-        Some(Erasure::Head) => mend_head(checked, belief, wire, old, new, row, from, part.count),
-        Some(_) => mend_run(checked, belief, wire, old, new, row, from, part.count),
-        None => mend_span(checked, belief, wire, old, new, row, from, part.count),
+    match erasure {
+        Some(Erasure::Head) => mend_head(screens, belief, wire, cells),
+        Some(_) => mend_run(screens, belief, wire, cells),
+        None => mend_span(screens, belief, wire, cells),
     }
-}
-
-/// So many cells of a line from a column on, part by part.
-fn mend_parts<C: Certificate, O: View, N: View, W: Wire>(
-    checked: &C,
-    belief: &mut Belief,
-    wire: &mut W,
-    old: &O,
-    new: &N,
-    row: usize,
-    from: usize,
-    count: usize,
-) -> Result<(), WireFault>
-    requires drawable { CanShow (C.table checked.now) (N.cells new.now) }
-    requires row { row < (C.table checked.now).rows }
-    requires col { from + count ≤ (C.table checked.now).cols }
-    ensures idle { OnOk result (span (O.cells old.now) (N.cells new.now) row from count ≡ 0 → belief.new ≡ belief.old) }
-    ensures step { Steps W.went W.failures wire.old wire.new result (IsPiece (C.table checked.now)) (span (O.cells old.now) (N.cells new.now) row from count * cell_limit (C.table checked.now))
-        (IsLost (C.table checked.now)) (Agrees (C.table checked.now) (mixed (O.cells old.now) (N.cells new.now) row from) belief.old) (Agrees (C.table checked.now) (mixed (O.cells old.now) (N.cells new.now) row (from + count)) belief.new) }
-{
-    let _ = checked.rows();
-    let mut done = 0;
-    while done < count {
-        let part = next_part(checked, old, new, row, from + done, count - done);
-        mend_part(checked, belief, wire, old, new, row, from + done, part)?;
-        done += part.count;
-    }
-    Ok(())
 }
 
 /// Whether there are lines that erase runs.
@@ -341,27 +312,36 @@ fn erases_runs<C: Certificate>(checked: &C) -> bool {
         || erasing_line(checked, Erasure::Head).is_some()
 }
 
-/// So many cells of a line from a column on, with runs of blanks erased where that takes fewer bytes.
-pub(crate) fn mend_cells<C: Certificate, O: View, N: View, W: Wire>(
-    checked: &C,
+/// Mends the `cells`, with runs of blanks erased where that takes fewer bytes.
+pub(crate) fn mend_parts<C: Certificate, O: View, N: View, W: Wire>(
+    screens: &Screens<'_, C, O, N>,
     belief: &mut Belief,
     wire: &mut W,
-    old: &O,
-    new: &N,
-    row: usize,
-    from: usize,
-    count: usize,
+    cells: Cells,
 ) -> Result<(), WireFault>
-    requires drawable { CanShow (C.table checked.now) (N.cells new.now) }
-    requires row { row < (C.table checked.now).rows }
-    requires col { from + count ≤ (C.table checked.now).cols }
-    ensures idle { OnOk result (span (O.cells old.now) (N.cells new.now) row from count ≡ 0 → belief.new ≡ belief.old) }
-    ensures step { Steps W.went W.failures wire.old wire.new result (IsPiece (C.table checked.now)) (span (O.cells old.now) (N.cells new.now) row from count * cell_limit (C.table checked.now))
-        (IsLost (C.table checked.now)) (Agrees (C.table checked.now) (mixed (O.cells old.now) (N.cells new.now) row from) belief.old) (Agrees (C.table checked.now) (mixed (O.cells old.now) (N.cells new.now) row (from + count)) belief.new) }
+    requires scene { IsPaintable (scene C.table O.cells N.cells screens.now) }
+    requires cells { IsOn (C.table screens.now.checked.now) cells }
+    ensures idle { IsIdle result (changed (scene C.table O.cells N.cells screens.now) cells) belief.old belief.new }
+    ensures step { MendsCells W.went W.failures wire.old wire.new result (scene C.table O.cells N.cells screens.now)
+        cells belief.old belief.new }
 {
-    if count > FEWEST && erases_runs(checked) {
-        mend_parts(checked, belief, wire, old, new, row, from, count)
-    } else {
-        mend_span(checked, belief, wire, old, new, row, from, count)
+    if cells.count <= FEWEST || !erases_runs(screens.checked) {
+        return mend_span(screens, belief, wire, cells);
     }
+    let mut done = 0;
+    while done < cells.count {
+        let rest = Cells {
+            row: cells.row,
+            from: cells.from + done,
+            count: cells.count - done,
+        };
+        let part = next_part(screens, rest);
+        let first = Cells {
+            count: part.count,
+            ..rest
+        };
+        mend_part(screens, belief, wire, first, part.erasure)?;
+        done += part.count;
+    }
+    Ok(())
 }

@@ -1,8 +1,6 @@
 //! A refresh: what differs where the terminal is known, and all anew where it isn't.
 ghost use Rattle.std.specs.Prelude.{◌≡◌, ◌+◌, ◌<◌, ℕ, List, length, true, Some, None, OnOk};
-ghost use Rattle.cur_steps.specs.Steps.{Steps};
 ghost use Rattle.ti_rows.specs.declared.rows.Row.TheVariants.{Clear};
-ghost use Rattle.cur_looks.specs.Certified.{IsPiece, IsLost};
 ghost use Rattle.cur_looks.specs.Inks.{CanShow};
 ghost use Rattle.cur_looks.specs.Beliefs.{Agrees, CanHide};
 ghost use Rattle.cur_looks.specs.declared.inks.Ink.{Ink};
@@ -10,13 +8,16 @@ ghost use Rattle.cur_paint.specs.Limits.{IsWithin, IsPlaced, fresh_limit, paint_
 ghost use Rattle.cur_paint.specs.declared.updates.Status.TheVariants.{Fresh};
 ghost use Rattle.cur_paint.specs.Cleared.{IsLeft, at_corner, at_start, cleared};
 ghost use Rattle.cur_paint.specs.Differ.{all_differ};
+ghost use Rattle.cur_paint.specs.Scenes.{IsPaintable, Paints, all_changed, scene};
 ghost use Rattle.cur_paint.specs.Update.{Anew, Draws, Refreshes};
 
 use crate::changes::{Changes, Whole};
 use crate::clearing::{leaves_fewer, may_become_blanks, saves};
 use crate::painting::paint;
-use cur_looks::{Belief, Blank, Brush, Certificate, Ink, Mode, Place, Row, View};
+use crate::screens::Screens;
+use cur_looks::{Belief, Blank, Brush, Ink, Mode, Place, Row, View};
 use cur_wires::{Wire, WireFault, send_all};
+use ti_conforms::Certificate;
 use vt_term::Color;
 
 /// What is known of the terminal as a whole.
@@ -90,153 +91,134 @@ impl View for Cleared {
     }
 }
 
-/// From any lost state in which the cursor is shown in this mode, if it is known: all anew.
-fn repaint<C: Certificate, N: View, W: Wire>(
-    checked: &C,
+/// From any lost state in which the cursor is shown in the mode `shown_as`, if that is known: paints all anew.
+fn repaint<C: Certificate, O: View, N: View, W: Wire>(
+    screens: &Screens<'_, C, O, N>,
     belief: &mut Belief,
     wire: &mut W,
     shown_as: Option<Mode>,
-    new: &N,
     wanted: Wanted,
 ) -> Result<(), WireFault>
-    requires drawable { CanShow (C.table checked.now) (N.cells new.now) }
-    requires cursor { IsWithin (C.table checked.now) wanted.cursor }
-    requires lines { CanHide (C.table checked.now) wanted.mode }
+    requires scene { IsPaintable (scene C.table O.cells N.cells screens.now) }
+    requires cursor { IsWithin (C.table screens.now.checked.now) wanted.cursor }
+    requires lines { CanHide (C.table screens.now.checked.now) wanted.mode }
     ensures there { OnOk result (IsPlaced wanted.cursor belief.new.place) }
     ensures mode { OnOk result (belief.new.mode ≡ Some wanted.mode) }
-    ensures step { Anew W.went W.failures wire.old wire.new result (C.table checked.now) (fresh_limit (C.table checked.now)) (IsLeft (C.table checked.now) shown_as) (Agrees (C.table checked.now) (N.cells new.now) belief.new) (C.table checked.now).resync }
+    ensures step { Anew W.went W.failures wire.old wire.new result (C.table screens.now.checked.now)
+        (fresh_limit (C.table screens.now.checked.now)) (IsLeft (C.table screens.now.checked.now) shown_as)
+        (Agrees (C.table screens.now.checked.now) (N.cells screens.now.new.now) belief.new)
+        (C.table screens.now.checked.now).resync }
 {
-    let _ = checked.rows();
     *belief = start_belief(shown_as);
-    send_all(wire, checked.resync())?;
-    paint(
-        checked,
-        belief,
-        wire,
-        &Blank,
-        new,
-        &Whole,
-        wanted.cursor,
-        wanted.mode,
-    )
+    send_all(wire, screens.checked.resync())?;
+    let anew = Screens {
+        checked: screens.checked,
+        old: &Blank,
+        new: screens.new,
+    };
+    paint(&anew, belief, wire, &Whole, wanted)
 }
 
-/// From a known state: all is cleared, and painted anew.
-fn clear_first<C: Certificate, N: View, W: Wire>(
-    checked: &C,
+/// From a known state: clears all, and paints it anew.
+fn clear_first<C: Certificate, O: View, N: View, W: Wire>(
+    screens: &Screens<'_, C, O, N>,
     belief: &mut Belief,
     wire: &mut W,
-    new: &N,
     wanted: Wanted,
 ) -> Result<(), WireFault>
-    requires drawable { CanShow (C.table checked.now) (N.cells new.now) }
-    requires cursor { IsWithin (C.table checked.now) wanted.cursor }
-    requires lines { CanHide (C.table checked.now) wanted.mode }
+    requires scene { IsPaintable (scene C.table O.cells N.cells screens.now) }
+    requires cursor { IsWithin (C.table screens.now.checked.now) wanted.cursor }
+    requires lines { CanHide (C.table screens.now.checked.now) wanted.mode }
     ensures there { OnOk result (IsPlaced wanted.cursor belief.new.place) }
     ensures mode { OnOk result (belief.new.mode ≡ Some wanted.mode) }
-    ensures step { (line : List ℕ) → (C.table checked.now).line_of Clear ≡ Some line → (shown : ℕ → ℕ → Ink)
-        → Anew W.went W.failures wire.old wire.new result (C.table checked.now)
-        (length line + paint_limit (C.table checked.now) (cleared belief.old.brush.background) (N.cells new.now) (at_corner belief.old) wanted.cursor wanted.mode)
-        (Agrees (C.table checked.now) shown belief.old) (Agrees (C.table checked.now) (N.cells new.now) belief.new) line }
+    ensures step { (line : List ℕ) → (C.table screens.now.checked.now).line_of Clear ≡ Some line → (shown : ℕ → ℕ → Ink)
+        → Anew W.went W.failures wire.old wire.new result (C.table screens.now.checked.now)
+        (length line + paint_limit (C.table screens.now.checked.now) (cleared belief.old.brush.background)
+        (N.cells screens.now.new.now) (at_corner belief.old) wanted.cursor wanted.mode)
+        (Agrees (C.table screens.now.checked.now) shown belief.old)
+        (Agrees (C.table screens.now.checked.now) (N.cells screens.now.new.now) belief.new) line }
 {
-    let _ = checked.rows();
     let cleared = Cleared {
         background: belief.brush.background,
     };
     belief.place = Some(Place { row: 0, col: 0 });
-    send_all(wire, checked.line(Row::Clear).unwrap())?;
-    paint(
-        checked,
-        belief,
-        wire,
-        &cleared,
-        new,
-        &Whole,
-        wanted.cursor,
-        wanted.mode,
-    )
+    send_all(wire, screens.checked.line(Row::Clear).unwrap())?;
+    let anew = Screens {
+        checked: screens.checked,
+        old: &cleared,
+        new: screens.new,
+    };
+    paint(&anew, belief, wire, &Whole, wanted)
 }
 
-/// Whether it is likely to take fewer bytes to clear all and paint it than to mend what differs, and whether that keeps
-/// within the bound.
+/// Whether it is likely to take fewer bytes to clear all to `background` and paint it than to mend what differs, and
+/// whether that keeps within the bound.
 fn is_better_cleared<C: Certificate, O: View, N: View, D: Changes>(
-    checked: &C,
+    screens: &Screens<'_, C, O, N>,
     background: Option<Color>,
-    old: &O,
-    new: &N,
     changes: &D,
 ) -> bool
-    ensures fewer { result ≡ true → (line : List ℕ) → (C.table checked.now).line_of Clear ≡ Some line
-        → length line + all_differ (cleared background) (N.cells new.now) (C.table checked.now).cols (C.table checked.now).rows < all_differ (O.cells old.now) (N.cells new.now) (C.table checked.now).cols (C.table checked.now).rows }
+    requires scene { IsPaintable (scene C.table O.cells N.cells screens.now) }
+    ensures fewer { result ≡ true → (line : List ℕ) → (C.table screens.now.checked.now).line_of Clear ≡ Some line
+        → length line + all_differ (cleared background) (N.cells screens.now.new.now)
+        (C.table screens.now.checked.now).cols (C.table screens.now.checked.now).rows
+        < all_changed (scene C.table O.cells N.cells screens.now) }
 {
-    let rows = checked.rows();
-    let cols = checked.cols();
-    if !may_become_blanks(new, changes, rows, cols) {
+    let rows = screens.checked.rows();
+    let cols = screens.checked.cols();
+    if !may_become_blanks(screens.new, changes, rows, cols) {
         return false;
     }
     let blank = Cleared { background };
-    let clear = checked.line(Row::Clear).unwrap().len();
-    saves(checked, &blank, old, new, clear) && leaves_fewer(&blank, old, new, rows, cols, clear)
+    let clear = screens.checked.line(Row::Clear).unwrap().len();
+    saves(screens.checked, &blank, screens.old, screens.new, clear)
+        && leaves_fewer(&blank, screens.old, screens.new, rows, cols, clear)
 }
 
-/// From a known state: what differs, or all after clearing, where that is likely to take fewer bytes.
+/// From a known state: mends what differs, or clears all and paints it, where that is likely to take fewer bytes.
 fn mend<C: Certificate, O: View, N: View, D: Changes, W: Wire>(
-    checked: &C,
+    screens: &Screens<'_, C, O, N>,
     belief: &mut Belief,
     wire: &mut W,
-    old: &O,
-    new: &N,
     changes: &D,
     wanted: Wanted,
 ) -> Result<(), WireFault>
-    requires drawable { CanShow (C.table checked.now) (N.cells new.now) }
-    requires changes { D.between changes.now (O.cells old.now) (N.cells new.now) }
-    requires cursor { IsWithin (C.table checked.now) wanted.cursor }
-    requires lines { CanHide (C.table checked.now) wanted.mode }
+    requires scene { IsPaintable (scene C.table O.cells N.cells screens.now) }
+    requires changes { D.between changes.now (O.cells screens.now.old.now) (N.cells screens.now.new.now) }
+    requires cursor { IsWithin (C.table screens.now.checked.now) wanted.cursor }
+    requires lines { CanHide (C.table screens.now.checked.now) wanted.mode }
     ensures there { OnOk result (IsPlaced wanted.cursor belief.new.place) }
     ensures mode { OnOk result (belief.new.mode ≡ Some wanted.mode) }
-    ensures step { Steps W.went W.failures wire.old wire.new result (IsPiece (C.table checked.now)) (paint_limit (C.table checked.now) (O.cells old.now) (N.cells new.now) belief.old wanted.cursor wanted.mode)
-        (IsLost (C.table checked.now)) (Agrees (C.table checked.now) (O.cells old.now) belief.old) (Agrees (C.table checked.now) (N.cells new.now) belief.new) }
+    ensures step { Paints W.went W.failures wire.old wire.new result (scene C.table O.cells N.cells screens.now)
+        wanted.cursor wanted.mode belief.old belief.new }
 {
-    let _ = checked.rows();
-    if is_better_cleared(checked, belief.brush.background, old, new, changes) {
-        return clear_first(checked, belief, wire, new, wanted);
+    if is_better_cleared(screens, belief.brush.background, changes) {
+        return clear_first(screens, belief, wire, wanted);
     }
-    paint(
-        checked,
-        belief,
-        wire,
-        old,
-        new,
-        changes,
-        wanted.cursor,
-        wanted.mode,
-    )
+    paint(screens, belief, wire, changes, wanted)
 }
 
-/// What differs where the terminal is known and isn't to be cleared, else all.
+/// What differs where the terminal is known by `status` and isn't to be cleared, else all.
 fn draw<C: Certificate, O: View, N: View, D: Changes, W: Wire>(
-    checked: &C,
+    screens: &Screens<'_, C, O, N>,
     status: Status,
     belief: &mut Belief,
     wire: &mut W,
-    old: &O,
-    new: &N,
     changes: &D,
     wanted: Wanted,
 ) -> Result<(), WireFault>
-    requires drawable { CanShow (C.table checked.now) (N.cells new.now) }
-    requires changes { D.between changes.now (O.cells old.now) (N.cells new.now) }
-    requires cursor { IsWithin (C.table checked.now) wanted.cursor }
-    requires lines { CanHide (C.table checked.now) wanted.mode }
-    ensures draws { Draws W.went W.failures wire.old wire.new result (C.table checked.now) (O.cells old.now) (N.cells new.now) wanted status belief.old belief.new }
+    requires scene { IsPaintable (scene C.table O.cells N.cells screens.now) }
+    requires changes { D.between changes.now (O.cells screens.now.old.now) (N.cells screens.now.new.now) }
+    requires cursor { IsWithin (C.table screens.now.checked.now) wanted.cursor }
+    requires lines { CanHide (C.table screens.now.checked.now) wanted.mode }
+    ensures draws { Draws W.went W.failures wire.old wire.new result (C.table screens.now.checked.now)
+        (O.cells screens.now.old.now) (N.cells screens.now.new.now) wanted status belief.old belief.new }
 {
-    let _ = checked.rows();
     match (status, wanted.clear) {
-        (Status::Known, false) => mend(checked, belief, wire, old, new, changes, wanted),
-        (Status::Known, true) => clear_first(checked, belief, wire, new, wanted),
-        (Status::Fresh, _) => repaint(checked, belief, wire, Some(Mode::Normal), new, wanted),
-        (Status::Lost, _) => repaint(checked, belief, wire, None, new, wanted),
+        (Status::Known, false) => mend(screens, belief, wire, changes, wanted),
+        (Status::Known, true) => clear_first(screens, belief, wire, wanted),
+        (Status::Fresh, _) => repaint(screens, belief, wire, Some(Mode::Normal), wanted),
+        (Status::Lost, _) => repaint(screens, belief, wire, None, wanted),
     }
 }
 
@@ -256,21 +238,15 @@ pub fn update<C: Certificate, O: View, N: View, D: Changes, W: Wire>(
     requires changes { D.between changes.now (O.cells old.now) (N.cells new.now) }
     requires cursor { IsWithin (C.table checked.now) wanted.cursor }
     requires lines { CanHide (C.table checked.now) wanted.mode }
-    ensures refreshes { Refreshes W.went W.failures wire.old wire.new result (C.table checked.now) (O.cells old.now) (N.cells new.now) wanted session.old session.new }
+    ensures refreshes { Refreshes W.went W.failures wire.old wire.new result (C.table checked.now)
+        (O.cells old.now) (N.cells new.now) wanted session.old session.new }
 {
+    // only this call's contract says that the certificate is verified
     let _ = checked.rows();
+    let screens = Screens { checked, old, new };
     let status = session.status;
     session.status = Status::Lost;
-    draw(
-        checked,
-        status,
-        &mut session.belief,
-        wire,
-        old,
-        new,
-        changes,
-        wanted,
-    )?;
+    draw(&screens, status, &mut session.belief, wire, changes, wanted)?;
     session.status = Status::Known;
     Ok(())
 }

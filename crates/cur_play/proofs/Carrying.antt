@@ -7,9 +7,9 @@ use Rattle.vt_term.specs.Text.{IsOpen}
 use Rattle.vt_term.proofs.Running.{runs_nothing}
 use Rattle.cur_windows.specs.VirtualScreen.{Screen}
 use Rattle.cur_wires.specs.Wire.{IsWire}
-use Rattle.cur_steps.specs.Leads.{Ends}
+use Rattle.vt_term.specs.Ends.{Ends}
 use Rattle.ti_rows.specs.declared.rows.Row.TheVariants.{Bel}
-use Rattle.cur_looks.specs.Certified.{Table, IsLost, IsSmall, cell_limit}
+use Rattle.ti_conforms.specs.Certified.{Table, IsLost, IsSmall, cell_limit}
 use Rattle.cur_looks.specs.declared.beliefs.Belief.{Belief}
 use Rattle.cur_looks.specs.declared.beliefs.Mode.{Mode}
 use Rattle.cur_looks.specs.declared.beliefs.Place.{Place}

@@ -4,7 +4,7 @@ use Rattle.std.proofs.lemmas.Nat.{mul-le}
 use Rattle.vt_term.specs.Size.{IsSize}
 use Rattle.ti_rows.specs.declared.rows.Row.{Row}
 use Rattle.ti_rows.specs.declared.rows.Row.TheVariants.{Cup, Sgr0, Rmacs, Cnorm, Rmcup}
-use Rattle.cur_looks.specs.Certified.{Table, IsSmall, cell_limit, or_nothing, text_of}
+use Rattle.ti_conforms.specs.Certified.{Table, IsSmall, cell_limit, or_nothing, text_of}
 use Rattle.cur_looks.specs.declared.beliefs.Belief.{Belief}
 use Rattle.cur_looks.specs.declared.inks.Ink.{Ink}
 use Rattle.cur_paint.proofs.Bounding.{fresh_enough}

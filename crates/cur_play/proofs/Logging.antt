@@ -11,9 +11,9 @@ use Rattle.cur_windows.specs.Desks.{State as Desk}
 use Rattle.cur_windows.specs.VirtualScreen.{Screen, new_screen, refreshed}
 use Rattle.cur_wires.specs.Wire.{IsWire}
 use Rattle.cur_wires.specs.Counted.{Counts, counts_joins}
-use Rattle.cur_steps.specs.Leads.{Ends}
-use Rattle.cur_steps.proofs.Leading.{ends_then}
-use Rattle.cur_looks.specs.Certified.{Table}
+use Rattle.vt_term.specs.Ends.{Ends}
+use Rattle.cur_wires.proofs.Leading.{ends_then}
+use Rattle.ti_conforms.specs.Certified.{Table}
 use Rattle.cur_looks.specs.declared.beliefs.Mode.{Mode}
 use Rattle.cur_looks.specs.declared.beliefs.Place.{Place}
 use Rattle.cur_paint.specs.Limits.{IsPlaced}

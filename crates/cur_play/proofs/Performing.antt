@@ -12,7 +12,7 @@ use Rattle.cur_windows.specs.VirtualScreen.{Screen, Refresh, if_shown, noutrefre
 use Rattle.cur_pads.specs.Making.{pad_of}
 use Rattle.cur_pads.specs.Ranges.{between, from}
 use Rattle.cur_pads.specs.Showing.{pnoutrefresh, start}
-use Rattle.cur_looks.specs.Certified.{Table}
+use Rattle.ti_conforms.specs.Certified.{Table}
 use Rattle.cur_calls.specs.declared.calls.Call.{Call}
 use Rattle.cur_calls.specs.declared.calls.Call.TheVariants.{Show, ShowPad, CursSet, InitPair}
 use Rattle.cur_play.specs.Drawing.{Draws, Drawn, NoSpace, SameSizes}

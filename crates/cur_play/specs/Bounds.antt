@@ -1,7 +1,7 @@
 -- The most that a refresh sends.
 use Rattle.std.specs.Prelude.{ℕ, ◌≡◌, ◌+◌, ◌*◌, Bool, true, false}
 use Rattle.cur_windows.specs.VirtualScreen.{Screen}
-use Rattle.cur_looks.specs.Certified.{Table, cell_limit}
+use Rattle.ti_conforms.specs.Certified.{Table, cell_limit}
 use Rattle.cur_looks.specs.declared.beliefs.Mode.{Mode}
 use Rattle.cur_paint.specs.Limits.{IsPlaced, fresh_limit}
 use Rattle.cur_paint.specs.declared.updates.Status.{Status}

@@ -2,8 +2,8 @@
 use Rattle.std.specs.Prelude.{ℕ, ◌<◌, ◌≤◌, ◌^◌, ◌≡◌, true, false, List, length, Option, Some}
 use Rattle.vt_term.specs.Screen.{State}
 use Rattle.cur_windows.specs.VirtualScreen.{Screen}
-use Rattle.cur_steps.specs.Leads.{Ends}
-use Rattle.cur_looks.specs.Certified.{Table}
+use Rattle.vt_term.specs.Ends.{Ends}
+use Rattle.ti_conforms.specs.Certified.{Table}
 use Rattle.cur_looks.specs.declared.beliefs.Mode.{Mode}
 use Rattle.cur_paint.specs.Limits.{IsPlaced}
 use Rattle.cur_paint.specs.Update.{Fits, Shows}

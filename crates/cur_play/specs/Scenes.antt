@@ -3,7 +3,7 @@
 use Rattle.std.specs.Prelude.{◌≡◌}
 use Rattle.cur_windows.specs.Desks.{State, new_desk}
 use Rattle.cur_windows.specs.VirtualScreen.{Screen, new_screen}
-use Rattle.cur_looks.specs.Certified.{Table}
+use Rattle.ti_conforms.specs.Certified.{Table}
 use Rattle.cur_looks.specs.declared.beliefs.Mode.{Mode}
 use Rattle.cur_looks.specs.declared.beliefs.Mode.TheVariants.{Normal}
 use Rattle.cur_paint.specs.declared.updates.Status.{Status}

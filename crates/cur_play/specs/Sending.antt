@@ -2,7 +2,7 @@
 use Rattle.std.specs.Prelude.{◌≡◌}
 use Rattle.ti_rows.specs.declared.rows.Row.TheVariants.{Bel}
 use Rattle.cur_windows.specs.VirtualScreen.{Screen, refreshed}
-use Rattle.cur_looks.specs.Certified.{Table, has}
+use Rattle.ti_conforms.specs.Certified.{Table, has}
 use Rattle.cur_paint.specs.declared.updates.Status.{Status}
 use Rattle.cur_paint.specs.declared.updates.Status.TheVariants.{Fresh, Known, Lost}
 use Rattle.cur_play.specs.Steps.{rung}

@@ -6,7 +6,7 @@ use Rattle.cur_drawing.specs.declared.refusals.Refusal.TheVariants.{NoMemory, No
 use Rattle.cur_windows.specs.Desks as desks
 use Rattle.cur_windows.specs.VirtualScreen as screens
 use Rattle.cur_pads.specs.Showing.{pnoutrefresh}
-use Rattle.cur_looks.specs.Certified.{Table, has}
+use Rattle.ti_conforms.specs.Certified.{Table, has}
 use Rattle.cur_looks.specs.declared.beliefs.Mode.{Mode}
 use Rattle.cur_paint.specs.declared.updates.Status.{Status}
 use Rattle.cur_paint.specs.declared.updates.Status.TheVariants.{Fresh, Known, Lost}

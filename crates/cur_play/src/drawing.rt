@@ -7,13 +7,13 @@ use crate::answers::{Answer, answer_of, mode_answer};
 use crate::changing::change;
 use crate::making::make;
 use cur_calls::Call;
-use cur_looks::Certificate;
 use cur_pads::pnoutrefresh;
-use cur_update::{Alternates, Painter};
+use cur_update::Painter;
 use cur_windows::{Desk, Virtual};
+use ti_conforms::Certificate;
 
 /// Does all of a call but what it sends.
-pub(crate) fn draw<C: Certificate + Alternates>(
+pub(crate) fn draw<C: Certificate>(
     desk: &mut Desk,
     screen: &mut Virtual,
     painter: &mut Painter<'_, C>,
@@ -39,7 +39,7 @@ pub(crate) fn draw<C: Certificate + Alternates>(
 }
 
 /// A call on more than windows; those that only send do nothing here.
-fn show<C: Certificate + Alternates>(
+fn show<C: Certificate>(
     desk: &mut Desk,
     screen: &mut Virtual,
     painter: &mut Painter<'_, C>,

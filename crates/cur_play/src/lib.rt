@@ -10,6 +10,10 @@ mod sending;
 mod sessions;
 
 pub use answers::Answer;
-pub use cur_calls::Call;
+pub use cur_calls::{
+    Attrs, AttrsCall, Border, Call, CellCall, FlagCall, LONGEST, LayCall, LineCall, NumberCall,
+    NumbersCall, PadCall, PartCall, PlainCall, Put, ScreenCall, ScriptFault, ScriptFaultKind,
+    ShowCall, Text, read_script,
+};
 pub use runs::{Entry, Log, run};
 pub use sessions::Session;

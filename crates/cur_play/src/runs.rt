@@ -7,10 +7,10 @@ ghost use Rattle.cur_play.specs.Scenes.{first, scene_of};
 use crate::answers::Answer;
 use crate::sessions::Session;
 use cur_calls::Call;
-use cur_looks::Certificate;
-use cur_update::{Alternates, Wire};
+use cur_update::Wire;
 use cur_wires::Counted;
 use std::alloc::{AllocError, Global};
+use ti_conforms::Certificate;
 
 /// What a call of a run answered, and how many bytes the wire had got since the run began.
 #[derive(Clone, Copy)]
@@ -29,7 +29,7 @@ pub struct Log {
 /// is done as it is defined; and each refresh that was done has made a terminal in its first state, fed with the first
 /// bytes of the run, as many as its entry tells, show the virtual screen. An error where there was no memory for the
 /// session or the log; then nothing was sent.
-pub fn run<C: Certificate + Alternates, W: Wire>(
+pub fn run<C: Certificate, W: Wire>(
     alloc: Global,
     checked: &C,
     calls: &[Call<'_>],
@@ -47,7 +47,7 @@ pub fn run<C: Certificate + Alternates, W: Wire>(
 }
 
 /// Plays the calls, with an entry for each.
-fn play_all<C: Certificate + Alternates, W: Wire>(
+fn play_all<C: Certificate, W: Wire>(
     session: Session<'_, C>,
     calls: &[Call<'_>],
     log: Vec<Entry>,

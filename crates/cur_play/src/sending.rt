@@ -7,9 +7,9 @@ ghost use Rattle.cur_play.specs.Steps as spec;
 
 use crate::answers::Answer;
 use cur_calls::{Call, PadCall, ScreenCall, ShowCall};
-use cur_looks::Certificate;
-use cur_update::{Alternates, Painter, Unsent, Wire};
+use cur_update::{Painter, Unsent, Wire};
 use cur_windows::Virtual;
+use ti_conforms::Certificate;
 
 /// What a call sends.
 #[derive(Clone, Copy)]
@@ -45,7 +45,7 @@ pub(crate) fn output_of(call: &Call<'_>) -> Output
 }
 
 /// Sends it.
-pub(crate) fn send<C: Certificate + Alternates, W: Wire>(
+pub(crate) fn send<C: Certificate, W: Wire>(
     screen: &mut Virtual,
     painter: &mut Painter<'_, C>,
     output: Output,
@@ -67,7 +67,7 @@ pub(crate) fn send<C: Certificate + Alternates, W: Wire>(
 }
 
 /// Makes the terminal show the virtual screen.
-fn update<C: Certificate + Alternates, W: Wire>(
+fn update<C: Certificate, W: Wire>(
     screen: &mut Virtual,
     painter: &mut Painter<'_, C>,
     wire: &mut W,
@@ -89,7 +89,7 @@ fn update<C: Certificate + Alternates, W: Wire>(
 }
 
 /// Rings the bell.
-fn ring<C: Certificate + Alternates, W: Wire>(painter: &mut Painter<'_, C>, wire: &mut W) -> Answer
+fn ring<C: Certificate, W: Wire>(painter: &mut Painter<'_, C>, wire: &mut W) -> Answer
     ensures delivers { (screen : Screen) → Delivers (C.table painter.old.checked) Output.Bell screen painter.old.session.status result screen painter.new.session.status }
     ensures puts { (screen : Screen) → Puts W.went W.failures wire.old wire.new (C.table painter.old.checked) (C.partners painter.old.checked) screen Output.Bell result painter.old painter.new }
     ensures certificate { painter.new.checked ≡ painter.old.checked }
@@ -103,10 +103,7 @@ fn ring<C: Certificate + Alternates, W: Wire>(painter: &mut Painter<'_, C>, wire
 }
 
 /// Ends the program's screen.
-fn finish<C: Certificate + Alternates, W: Wire>(
-    painter: &mut Painter<'_, C>,
-    wire: &mut W,
-) -> Answer
+fn finish<C: Certificate, W: Wire>(painter: &mut Painter<'_, C>, wire: &mut W) -> Answer
     ensures delivers { (screen : Screen) → Delivers (C.table painter.old.checked) Output.End screen painter.old.session.status result screen painter.new.session.status }
     ensures puts { (screen : Screen) → Puts W.went W.failures wire.old wire.new (C.table painter.old.checked) (C.partners painter.old.checked) screen Output.End result painter.old painter.new }
     ensures certificate { painter.new.checked ≡ painter.old.checked }

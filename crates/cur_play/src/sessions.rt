@@ -1,6 +1,6 @@
 //! A session: windows, the virtual screen, and a painter for the terminal.
 ghost use Rattle.std.specs.Prelude.{◌≡◌, IfOk};
-ghost use Rattle.cur_looks.specs.Certified.{IsChecked};
+ghost use Rattle.ti_conforms.specs.Certified.{IsChecked};
 ghost use Rattle.cur_play.specs.Carrying.{Carries};
 ghost use Rattle.cur_play.specs.Drawing.{SameSizes};
 ghost use Rattle.cur_play.specs.Outputs.{Puts, poised};
@@ -11,22 +11,22 @@ use crate::answers::Answer;
 use crate::drawing::draw;
 use crate::sending::{output_of, send};
 use cur_calls::Call;
-use cur_looks::Certificate;
-use cur_update::{Alternates, Painter, Wire, cells_bounded};
+use cur_update::{Painter, Wire, cells_bounded};
 use cur_windows::{Desk, Size, Virtual};
 use std::alloc::{AllocError, Global};
 use std::marker::Model;
+use ti_conforms::Certificate;
 
 /// A session on the terminal of a verified certificate.
 #[derive(Drop)]
-pub struct Session<'a, C: Certificate + Alternates> {
+pub struct Session<'a, C: Certificate> {
     desk: Desk,
     screen: Virtual,
     painter: Painter<'a, C>,
 }
 
-impl<'a, C: Certificate + Alternates> Model for Session<'a, C> {
-    ghost use Rattle.cur_looks.specs.Certified.{IsChecked};
+impl<'a, C: Certificate> Model for Session<'a, C> {
+    ghost use Rattle.ti_conforms.specs.Certified.{IsChecked};
     ghost use Rattle.cur_play.specs.Scenes.{Stage, IsStage};
 
     ghost Value = { Stage C };
@@ -36,7 +36,7 @@ impl<'a, C: Certificate + Alternates> Model for Session<'a, C> {
     ghost invariant = { λ s. IsStage (C.table s.painter.checked) s.desk s.screen × IsChecked (C.table s.painter.checked) };
 }
 
-impl<'a, C: Certificate + Alternates> Session<'a, C> {
+impl<'a, C: Certificate> Session<'a, C> {
     /// A session that has sent nothing: window 0 and the virtual screen are blank. An error where a growth was refused.
     pub fn open(alloc: Global, checked: &'a C) -> Result<Session<'a, C>, AllocError>
         ensures scene { IfOk result (λ s. scene_of s ≡ first (C.table checked.now)) }
@@ -76,7 +76,7 @@ impl<'a, C: Certificate + Alternates> Session<'a, C> {
 }
 
 /// Draws, and then sends.
-fn play<C: Certificate + Alternates, W: Wire>(
+fn play<C: Certificate, W: Wire>(
     desk: &mut Desk,
     screen: &mut Virtual,
     painter: &mut Painter<'_, C>,

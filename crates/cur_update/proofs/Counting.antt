@@ -6,7 +6,7 @@ use Rattle.ti_rows.specs.declared.rows.Attributes.{Attributes}
 use Rattle.cur_drawing.specs.Cells.{Content}
 use Rattle.cur_windows.specs.VirtualScreen.{Screen, colors_at}
 use Rattle.cur_windows.specs.declared.virtual_screen.Colors.{Colors}
-use Rattle.cur_looks.specs.Certified.{Table}
+use Rattle.ti_conforms.specs.Certified.{Table}
 use Rattle.cur_looks.specs.Inks.{alike, same_few, same_others, same_attributes, same_color, same, blank_ink}
 use Rattle.cur_looks.specs.declared.inks.Ink.{Ink}
 use Rattle.cur_paint.specs.Differ.{differs, span, all_differ}

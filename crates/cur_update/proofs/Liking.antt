@@ -1,7 +1,7 @@
 -- Cells of a line that are printed alike.
 use Rattle.std.proofs.Common.{◌≡◌, ℕ, ◌<◌, ◌&&◌, Bool, true, false, nat_lt, if◌then◌else◌, Option, Some, sym, ap, subst, ◌∙◌, arith}
 use Rattle.std.proofs.lemmas.Bool.Decides.{nat_tests}
-use Rattle.ti_looks.specs.Alternates.{Character, shown, in_plain_set}
+use Rattle.ti_conforms.specs.Alternates.{Character, shown, in_plain_set}
 use Rattle.cur_drawing.specs.Cells.{Content}
 use Rattle.cur_windows.specs.VirtualScreen.{Screen, colors_at}
 use Rattle.cur_windows.specs.declared.virtual_screen.Colors.{Colors}

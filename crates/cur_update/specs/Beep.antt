@@ -3,7 +3,7 @@ use Rattle.std.specs.Prelude.{ℕ, ◌≡◌, true, false, List, Result, Ok, Err
 use Rattle.ti_rows.specs.declared.rows.Row.TheVariants.{Bel}
 use Rattle.cur_drawing.specs.declared.refusals.Refusal.{Refusal}
 use Rattle.cur_drawing.specs.declared.refusals.Refusal.TheVariants.{NoCap, IsLost}
-use Rattle.cur_looks.specs.Certified.{Table, has}
+use Rattle.ti_conforms.specs.Certified.{Table, has}
 use Rattle.cur_paint.specs.Beep.{Rang, RangShort, IsSame}
 use Rattle.cur_paint.specs.declared.updates.Session.{Session}
 use Rattle.cur_paint.specs.declared.updates.Status.TheVariants.{Lost}

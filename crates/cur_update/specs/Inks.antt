@@ -4,12 +4,12 @@ use Rattle.std.specs.Prelude.{ℕ, ◌≡◌, ◌==◌, ◌&&◌, nat_lt, not, B
 use Rattle.vt_term.specs.Color.{Color, color}
 use Rattle.ti_rows.specs.declared.rows.Attributes.{Attributes}
 use Rattle.ti_rows.specs.declared.rows.Row.TheVariants.{Op, Smacs}
-use Rattle.ti_looks.specs.Alternates.{Character, shown, printed_only, in_plain_set}
+use Rattle.ti_conforms.specs.Alternates.{Character, shown, printed_only, in_plain_set}
 use Rattle.cur_drawing.specs.Cells.{Content, space}
 use Rattle.cur_drawing.specs.Grids.{line_at}
 use Rattle.cur_windows.specs.VirtualScreen.{Screen, colors_at}
 use Rattle.cur_windows.specs.declared.virtual_screen.Colors.{Colors}
-use Rattle.cur_looks.specs.Certified.{Table, has}
+use Rattle.ti_conforms.specs.Certified.{Table, has}
 use Rattle.cur_looks.specs.Inks.{blank_ink}
 use Rattle.cur_looks.specs.declared.inks.Brush.{Brush}
 use Rattle.cur_looks.specs.declared.inks.Ink.{Ink}

@@ -7,7 +7,7 @@ use Rattle.cur_drawing.specs.Windows.{place_below}
 use Rattle.cur_drawing.specs.declared.refusals.Refusal.{Refusal}
 use Rattle.cur_drawing.specs.declared.refusals.Refusal.TheVariants.{BadRegion, NoCap}
 use Rattle.cur_windows.specs.VirtualScreen.{Screen}
-use Rattle.cur_looks.specs.Certified.{Table, has}
+use Rattle.ti_conforms.specs.Certified.{Table, has}
 use Rattle.cur_looks.specs.Beliefs.{CanHide}
 use Rattle.cur_looks.specs.declared.beliefs.Place.{Place}
 use Rattle.cur_looks.specs.declared.beliefs.Mode.{Mode}

@@ -2,7 +2,7 @@
 use Rattle.std.specs.Prelude.{ℕ, ◌≡◌, ◌<◌, Bool, true, Option}
 use Rattle.cur_drawing.specs.Cells.{pair_count}
 use Rattle.cur_windows.specs.VirtualScreen.{Screen, colors_at}
-use Rattle.cur_looks.specs.Certified.{Table}
+use Rattle.ti_conforms.specs.Certified.{Table}
 use Rattle.cur_looks.specs.declared.inks.Ink.{Ink}
 use Rattle.cur_update.specs.Inks.{ink_at}
 

@@ -2,9 +2,9 @@
 ghost use Rattle.cur_update.specs.Beep.{Rings};
 
 use cur_drawing::Refusal;
-use cur_looks::Certificate;
 use cur_paint::Session;
 use cur_wires::{Wire, WireFault};
+use ti_conforms::Certificate;
 
 /// Why nothing, or not all, was sent.
 #[derive(Clone, Copy)]

@@ -3,11 +3,10 @@ ghost use Rattle.std.specs.Prelude.{◌≡◌, ◌<◌, ◌≤◌, ℕ, true, le
 ghost use Rattle.cur_drawing.specs.Differences.{AreEqualIn};
 ghost use Rattle.cur_windows.specs.VirtualScreen.{colors_at};
 
-use crate::alternates::Alternates;
 use cur_drawing::{Cell, PAIRS, first_diff, last_diff};
-use cur_looks::Certificate;
 use cur_paint::{Changes, Columns};
 use cur_windows::Virtual;
+use ti_conforms::Certificate;
 
 /// The screen that was shown last, and the one to be shown.
 #[derive(Drop)]
@@ -19,7 +18,7 @@ pub(crate) struct Shift<'a, C> {
     pub same_pairs: bool,
 }
 
-impl<'a, C: Certificate + Alternates> Changes for Shift<'a, C> {
+impl<'a, C: Certificate> Changes for Shift<'a, C> {
     ghost use Rattle.std.specs.Prelude.{◌≤◌, ℕ};
     ghost use Rattle.cur_looks.specs.declared.inks.Ink.{Ink};
     ghost use Rattle.cur_paint.specs.Differ.{IsSameOutside};

@@ -2,15 +2,14 @@
 ghost use Rattle.std.specs.Prelude.{◌≡◌, ◌<◌, ℕ, Option, IfSome, length, slice_index_or, true};
 ghost use Rattle.cur_drawing.specs.Cells.{space};
 ghost use Rattle.ti_rows.specs.declared.rows.Row.TheVariants.{Smacs, Op};
-ghost use Rattle.cur_looks.specs.Certified.{has};
+ghost use Rattle.ti_conforms.specs.Certified.{has};
 ghost use Rattle.cur_looks.specs.Inks.{same, blank_ink};
 ghost use Rattle.cur_update.specs.Inks as spec;
 ghost use Rattle.cur_update.specs.declared.inks.Means.{Means};
 
-use crate::alternates::Alternates;
 use cur_drawing::{Attrs, Cell};
-use cur_looks::{Attributes, Brush, Certificate, Ink, Row, is_same};
-use ti_looks::{Character, shown};
+use cur_looks::{Attributes, Brush, Ink, Row, is_same};
+use ti_conforms::{Certificate, Character, shown};
 use vt_term::{Color, color_of as color};
 
 /// Whether the entry has a string.
@@ -76,7 +75,7 @@ fn partner_in(graphic: bool, partner: Option<u8>) -> Option<u8>
 
 /// The character that a cell shows.
 #[inline(always)]
-fn character_of<C: Alternates>(checked: &C, graphic: bool, cell: Cell) -> Character
+fn character_of<C: Certificate>(checked: &C, graphic: bool, cell: Cell) -> Character
     ensures byte { result.byte ≡ (spec.character_of graphic (C.partners checked.now) cell).byte }
     ensures graphic { result.graphic ≡ (spec.character_of graphic (C.partners checked.now) cell).graphic }
 {
@@ -124,7 +123,7 @@ fn brush_of(colored: bool, colors: (Option<u8>, Option<u8>), cell: Cell) -> Brus
 }
 
 /// How a cell is printed, with the colours of its pair.
-pub(crate) fn ink_of<C: Alternates>(
+pub(crate) fn ink_of<C: Certificate>(
     checked: &C,
     means: Means,
     colors: (Option<u8>, Option<u8>),
@@ -145,7 +144,7 @@ pub(crate) fn ink_of<C: Alternates>(
 
 /// Whether a cell is printed like this, with the colours of its pair.
 #[inline(never)]
-pub(crate) fn shows_ink<C: Alternates>(
+pub(crate) fn shows_ink<C: Certificate>(
     checked: &C,
     means: Means,
     colors: (Option<u8>, Option<u8>),
@@ -172,7 +171,7 @@ pub(crate) fn shows_ink<C: Alternates>(
 /// Whether a cell is printed as a blank, with the colours of its pair.
 #[inline(always)]
 #[tactic(auto, using(crate::proofs::Plainly::space_told))]
-pub(crate) fn is_blank_ink<C: Alternates>(
+pub(crate) fn is_blank_ink<C: Certificate>(
     checked: &C,
     means: Means,
     colors: (Option<u8>, Option<u8>),

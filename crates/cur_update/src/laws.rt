@@ -1,7 +1,7 @@
 //! Laws of the bound, by the cells of virtual screens.
 ghost use Rattle.std.specs.Prelude.{◌≡◌, ◌≤◌, ◌+◌, ◌*◌, ℕ, Option, Some};
 ghost use Rattle.cur_windows.specs.VirtualScreen.{Screen};
-ghost use Rattle.cur_looks.specs.Certified.{Table, cell_limit};
+ghost use Rattle.ti_conforms.specs.Certified.{Table, cell_limit};
 ghost use Rattle.cur_looks.specs.declared.beliefs.Belief.{Belief};
 ghost use Rattle.cur_looks.specs.declared.beliefs.Place.{Place};
 ghost use Rattle.cur_looks.specs.declared.beliefs.Mode.{Mode};
@@ -9,8 +9,8 @@ ghost use Rattle.cur_paint.specs.Limits.{IsPlaced, paint_limit};
 ghost use Rattle.cur_update.specs.Differ.{in_lines};
 ghost use Rattle.cur_update.specs.Inks.{ink_at};
 
-/// What a refresh from one virtual screen to another sends at most, where the terminal is known: so many
-/// times the bytes of a cell as cells differ, and once more for the cursor. Nothing where no cell differs,
+/// What a refresh from one virtual screen to another sends at most, where the terminal is known: the limit of
+/// a cell for each cell that differs, and once more for the cursor. Nothing where no cell differs,
 /// the mode is the shown one, and the cursor is where it is wanted.
 pub fn cells_bounded()
     ensures most { (t : Table) (partners : ℕ → Option ℕ) (v w : Screen) (b : Belief) (cursor : Option Place) (mode : Mode) → v.rows ≡ w.rows → v.cols ≡ w.cols

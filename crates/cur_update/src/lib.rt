@@ -1,7 +1,6 @@
 //! Output to a terminal: a painter that makes it show a virtual screen.
 #![tactic(auto)]
 
-mod alternates;
 mod bells;
 mod changes;
 mod inks;
@@ -9,7 +8,6 @@ mod laws;
 mod painters;
 mod screens;
 
-pub use alternates::Alternates;
 pub use bells::Unsent;
 pub use cur_paint::{Session, Status};
 pub use cur_wires::{Fuse, Tape, Wire, WireFault};

@@ -9,29 +9,29 @@ ghost use Rattle.cur_update.specs.Inks.{ink_at};
 ghost use Rattle.cur_update.specs.Painters.{IsPainter, mode_number, mode_of, set_mode, wanted_of};
 ghost use Rattle.cur_update.specs.Beep.{Rings};
 
-use crate::alternates::Alternates;
 use crate::bells::{Unsent, ring};
 use crate::changes::{Shift, same_pairs};
 use crate::inks::{has_line, means_of};
 use crate::screens::{PrintedScreen, all_cells};
 use cur_drawing::{Refusal, place_below};
-use cur_looks::{Certificate, Mode, Place, Row};
+use cur_looks::{Mode, Place, Row};
 use cur_paint::{Session, Wanted};
 use cur_windows::{Size, Virtual};
 use cur_wires::{Wire, WireFault};
 use std::alloc::{AllocError, Global};
 use std::marker::Model;
+use ti_conforms::Certificate;
 
 /// A painter for the terminal of a verified certificate: what that shows, and what is known of it.
 #[derive(Drop)]
-pub struct Painter<'a, C: Certificate + Alternates> {
+pub struct Painter<'a, C: Certificate> {
     checked: &'a C,
     shown: Virtual,
     session: Session,
     mode: Mode,
 }
 
-impl<'a, C: Certificate + Alternates> Model for Painter<'a, C> {
+impl<'a, C: Certificate> Model for Painter<'a, C> {
     ghost use Rattle.cur_update.specs.Painters.{Painted, IsPainter};
 
     ghost Value = { Painted C };
@@ -41,7 +41,7 @@ impl<'a, C: Certificate + Alternates> Model for Painter<'a, C> {
     ghost invariant = { λ p. IsPainter (C.table p.checked.now) p.shown p.mode };
 }
 
-impl<'a, C: Certificate + Alternates> Painter<'a, C> {
+impl<'a, C: Certificate> Painter<'a, C> {
     /// A painter of a fresh session: nothing was sent, the screen is blank, and the cursor's mode is 1. An
     /// error where a growth was refused.
     pub fn start(alloc: Global, checked: &'a C) -> Result<Painter<'a, C>, AllocError>
@@ -143,7 +143,7 @@ fn wanted_of(screen: &Virtual, mode: Mode) -> Wanted
 }
 
 /// What goes out in a refresh; the first screen then is a copy of the other.
-fn refresh<C: Certificate + Alternates, W: Wire>(
+fn refresh<C: Certificate, W: Wire>(
     checked: &C,
     shown: &mut Virtual,
     session: &mut Session,

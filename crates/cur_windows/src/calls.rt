@@ -272,7 +272,7 @@ impl Desk {
         self.border(id, &Border::sides(vertical, horizontal))
     }
 
-    /// Changes nothing: lines are scrolled where it helps.
+    /// Changes nothing: a refresh doesn't use the terminal's own insertion and deletion of lines.
     pub fn idlok(&self, id: usize, _on: bool) -> Result<(), Refusal>
         ensures { spec.step self.now result ≡ spec.unchanged self.now id }
     {

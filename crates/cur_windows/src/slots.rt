@@ -21,7 +21,7 @@ pub struct Slot {
     pub window: Window,
 }
 
-/// The rectangle of so many rows and columns that begins at the corner.
+/// The rectangle of `rows` rows and `cols` columns that begins at the corner.
 pub(crate) fn whole_area(rows: u16, cols: u16) -> Area
     ensures { result ≡ spec.whole_area rows cols }
 {

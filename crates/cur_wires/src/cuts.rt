@@ -37,7 +37,7 @@ impl Cuts {
         self.bytes.get(self.passed).copied()
     }
 
-    /// So many bytes went out.
+    /// Takes note that `n` bytes went out.
     pub fn count_down(&mut self, n: usize)
         ensures value { self.new ≡ counted_down n self.old }
     {

@@ -5,17 +5,17 @@ ghost use Rattle.hello.specs.Greeting.{IsGreeting};
 ghost use Rattle.hello.specs.Showing.{Greets};
 
 use anyhow::Result;
-use cur_looks::Certificate;
-use cur_update::{Alternates, Painter, Wire};
+use cur_update::{Painter, Wire};
 use cur_windows::{Desk, Put, Refusal, Virtual};
 use std::alloc::Global;
+use ti_conforms::Certificate;
 use vt_term::Size;
 
 /// The number of the greeting's window.
 const GREETING: usize = 1;
 
 /// Shows the greeting on a terminal to which nothing was sent, and hands out the painter that knows what it shows.
-pub fn greet<'a, C: Certificate + Alternates, W: Wire>(
+pub fn greet<'a, C: Certificate, W: Wire>(
     alloc: Global,
     checked: &'a C,
     wire: &mut W,

@@ -14,7 +14,7 @@ use Rattle.ti_arguments.specs.Line.{line}
 use Rattle.ti_arguments.specs.declared.parsing.Answer.{Answer}
 use Rattle.ti_arguments.specs.declared.parsing.Answer.TheVariants as answers
 use Rattle.ti_arguments.specs.declared.parsing.LineFault.{LineFault}
-use Rattle.ti_arguments.specs.declared.request.Request.{Request}
+use Rattle.ti_requests.specs.declared.request.Request.{Request}
 
 line_is_simple : is_simple_and_free line ≡ true
 unfolding clap_on_literals

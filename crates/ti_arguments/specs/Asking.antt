@@ -10,9 +10,9 @@ use Rattle.clap.specs.declared.error.kind.ErrorKind.TheVariants as kind
 use Rattle.ti_arguments.specs.Line.{line}
 use Rattle.ti_arguments.specs.declared.parsing.Answer.{Answer}
 use Rattle.ti_arguments.specs.declared.parsing.Answer.TheVariants as answers
-use Rattle.ti_arguments.specs.declared.request.Request.{Request}
-use Rattle.ti_arguments.specs.declared.request.ScriptWords.{ScriptWords}
-use Rattle.ti_arguments.specs.declared.request.Request.TheVariants.{Expand, Feed, Tic, Check, Verify, Play, Show, Survey, Print, Common, Neither}
+use Rattle.ti_requests.specs.declared.request.Request.{Request}
+use Rattle.ti_requests.specs.declared.request.ScriptWords.{ScriptWords}
+use Rattle.ti_requests.specs.declared.request.Request.TheVariants.{Expand, Feed, Tic, Check, Verify, Play, Show, Survey, Print, Common, Neither}
 
 -- the word that stands for an argument, if it has one
 abbrev pub word_of : Text → List Row → Text
@@ -40,7 +40,7 @@ Plays rows words =
 -- the request of a command of this name with these words for its arguments
 abbrev pub AsksFor : Text → List Row → Request → Type 0
 AsksFor name rows (Expand words) =
-    (name ≡ codes "expand") × (words.cup ≡ is_on (codes "cup") rows) × (words.string.now ≡ word_of (codes "STRING") rows)
+    (name ≡ codes "expand") × (words.judges_cup ≡ is_on (codes "cup") rows) × (words.string.now ≡ word_of (codes "STRING") rows)
     × (words.rows.now ≡ word_of (codes "ROWS") rows) × (words.cols.now ≡ word_of (codes "COLS") rows) × (map (λ p. p.now) words.params.items ≡ words_of (codes "PARAM") rows)
 AsksFor name rows (Feed height width file) =
     (name ≡ codes "feed") × (height.now ≡ word_of (codes "ROWS") rows) × (width.now ≡ word_of (codes "COLS") rows) × (file.now ≡ word_of (codes "FILE") rows)

@@ -166,10 +166,13 @@ CAUSE is one of:
   StaticRead   the string reads a static variable, %gA to %gZ, before it sets it
   Unfinished   what the string sends ends within a control sequence
   Stuck        what the string sends has a byte that is neither text nor part of a sequence
-  BadLook      `sgr` with one attribute turns on a rendition that is not its own
-  WrongEffect  from the state that is described the string doesn't do what it is for
+  BadLook      `sgr` with one attribute turns on a rendition that is not its own; of acsc: the line drawing set can stay
+               active, and the entry can't switch sets
+  WrongEffect  from the state that is described the string doesn't do what it is for; of smacs and rmacs also: it activates
+               the wrong character set
   NotTame      no single effect describes what is sent from all states; the string may be right
   NotShown     the effect is not the wanted one, but no state was found that shows it; the string may be right
+  TooLong      with this line the certificate would have more than 67108864 bytes
   NoResync     what leads out of any state (smcup, enacs, sgr0, rmacs, csr and clear, one after another) doesn't begin with ESC
 KIND is one of:
   BadSize      ROWS is not 2 to 200, or COLS is not 2 to 500

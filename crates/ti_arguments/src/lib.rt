@@ -4,7 +4,5 @@
 mod commands;
 mod help;
 mod parsing;
-mod request;
 
 pub use parsing::{Answer, LineFault, parse_line};
-pub use request::{CheckWords, ExpandWords, Request, ScriptWords, SurveyWords, VerifyWords};

@@ -7,10 +7,10 @@ ghost use Rattle.clap.specs.Words.{found_of, kind_of, subcommand_rows_of};
 ghost use Rattle.ti_arguments.specs.Asking.{Asks, AsksFor, IsAnswer, IsTold, Plays, is_on, word_of, words_of};
 
 use crate::commands::command_line;
-use crate::request::{CheckWords, ExpandWords, Request, ScriptWords, SurveyWords, VerifyWords};
 use clap::ArgMatches;
 use clap::error::{Error, ErrorKind};
 use std::alloc::{AllocError, Global};
+use ti_requests::{CheckWords, ExpandWords, Request, ScriptWords, SurveyWords, VerifyWords};
 
 /// What a line that can be understood asks for.
 #[derive(Debug, Drop)]
@@ -87,7 +87,7 @@ fn expand_request<'a>(alloc: Global, words: &ArgMatches<'a>) -> Result<Request<'
 {
     let params = words.get_strs("PARAM").unwrap_or(&[]);
     Ok(Request::Expand(ExpandWords {
-        cup: is_on(words, "cup"),
+        judges_cup: is_on(words, "cup"),
         string: word(words, "STRING"),
         rows: word(words, "ROWS"),
         cols: word(words, "COLS"),

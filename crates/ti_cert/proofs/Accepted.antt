@@ -5,11 +5,11 @@ use Rattle.vt_term.specs.Size.{IsSize}
 use Rattle.ti_caps.specs.Entry.{Content}
 use Rattle.ti_rows.specs.declared.rows.Row.{Row}
 use Rattle.ti_rows.specs.declared.rows.Row.TheVariants.{Clear, Smcup, Enacs, Sgr0, Rmacs, Cnorm}
-use Rattle.ti_checked.specs.Table.{Table, has, part, widening, resync}
-use Rattle.ti_checked.specs.Checked.{IsLine}
-use Rattle.ti_checked.proofs.Cutting.{judged_is_checked}
-use Rattle.ti_checked.specs.Judged.{IsJudged}
-use Rattle.ti_sends.specs.Entries.{EntryAgrees}
+use Rattle.ti_conforms.specs.Table.{Table, has, part, widening, resync}
+use Rattle.ti_conforms.specs.Checked.{IsLine}
+use Rattle.ti_conforms.proofs.Cutting.{judged_is_checked}
+use Rattle.ti_conforms.specs.Judged.{IsJudged}
+use Rattle.ti_conforms.specs.Entries.{EntryAgrees}
 use Rattle.ti_conforms.specs.Conforms.{IsFit, Conforms}
 use Rattle.ti_conforms.proofs.Conforming.{agreed_conforms}
 use Rattle.ti_conforms.proofs.Together.{agreed_stand_together}

@@ -11,8 +11,8 @@ use Rattle.vt_term.proofs.Splitting.{one_splitting, splits_front}
 use Rattle.vt_effects.specs.declared.effects.Effect.{Effect}
 use Rattle.vt_effects.specs.declared.starts.Start.{Start}
 use Rattle.vt_effects.specs.Record.{IsRecordOf, record_of}
-use Rattle.ti_charsets.specs.Charsets.{IsAmong}
-use Rattle.ti_charsets.specs.declared.closing.Charsets.{Charsets}
+use Rattle.ti_conforms.specs.Charsets.{IsAmong}
+use Rattle.ti_conforms.specs.declared.closing.Charsets.{Charsets}
 use Rattle.ti_rows.specs.declared.rows.Looks.{Looks}
 use Rattle.ti_rows.specs.declared.rows.Row.{Row}
 use Rattle.ti_rows.specs.declared.rows.Row.TheVariants.{Clear, Sgr0, Csr}
@@ -20,9 +20,9 @@ use Rattle.ti_rows.specs.Names.{order}
 use Rattle.ti_rows.specs.Lists.{IsInRange, rank}
 use Rattle.ti_rows.specs.Looks.{learned}
 use Rattle.ti_rows.specs.Asked.{start_of, asked}
-use Rattle.ti_lines.specs.declared.lines.RowLine.{RowLine}
+use Rattle.ti_lines.specs.declared.row_lines.RowLine.{RowLine}
 use Rattle.ti_lines.specs.Heads.{IsSizeText, IsAcscText, is_end}
-use Rattle.ti_lines.specs.Lines.{IsTextOf}
+use Rattle.ti_lines.specs.RowLines.{IsTextOf}
 use Rattle.ti_cert.specs.Strings.{Strings, allows, group_at, string_in, has_group, total, Adds}
 use Rattle.ti_cert.specs.Singles.{no_looks, rival}
 use Rattle.ti_cert.specs.Audit.{Known, Holds, IsKept, HasRecord, looks_with}

@@ -4,13 +4,13 @@ use Rattle.std.specs.Prelude.{is_some}
 use Rattle.std.proofs.lemmas.Bool.{and_parts, false≢true}
 use Rattle.vt_term.specs.Size.{IsSize}
 use Rattle.ti_caps.specs.Entry.{Content}
-use Rattle.ti_charsets.specs.Charsets.{IsAmong}
+use Rattle.ti_conforms.specs.Charsets.{IsAmong}
 use Rattle.ti_rows.specs.declared.rows.Row.{Row}
 use Rattle.ti_rows.specs.declared.rows.Row.TheVariants.{Clear, Cup, Home, El, Sgr0}
 use Rattle.ti_rows.specs.Lists.{IsInRange}
-use Rattle.ti_lines.specs.declared.lines.RowLine.{RowLine}
-use Rattle.ti_reader.specs.declared.judging.LineFault.{LineFault}
-use Rattle.ti_sends.specs.Entries.{has_string, is_checked, string_of, EntrySends}
+use Rattle.ti_lines.specs.declared.row_lines.RowLine.{RowLine}
+use Rattle.ti_lines.specs.declared.judging.LineFault.{LineFault}
+use Rattle.ti_conforms.specs.Entries.{has_string, is_checked, string_of, EntrySends}
 use Rattle.ti_cert.specs.Strings.{string_in}
 use Rattle.ti_cert.specs.Table as tables
 use Rattle.ti_cert.specs.Order.{HasBytes}
@@ -23,7 +23,7 @@ use Rattle.ti_cert.specs.declared.faults.AgreeFault.TheVariants.{Disagree, NoMem
 use Rattle.ti_cert.specs.declared.faults.CertFaultKind.{CertFaultKind}
 use Rattle.ti_cert.specs.declared.faults.VerifyFault.{VerifyFault}
 use Rattle.ti_cert.specs.declared.faults.VerifyFault.TheVariants.{Cert, Agree}
-use Rattle.ti_reader.specs.Reader.{Rose}
+use Rattle.ti_lines.specs.Reader.{Rose}
 use Rattle.ti_cert.proofs.Disagreeing.{excludes_yes}
 use Rattle.ti_cert.proofs.Relating.{not_rose}
 use Rattle.ti_cert.proofs.Singleness.{one_answer}

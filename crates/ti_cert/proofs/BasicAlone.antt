@@ -7,14 +7,14 @@ use Rattle.vt_term.specs.Text.{Splits}
 use Rattle.vt_term.proofs.Splitting.{one_splitting}
 use Rattle.vt_effects.specs.declared.effects.Effect.{Effect}
 use Rattle.vt_effects.specs.Record.{record_of}
-use Rattle.ti_charsets.specs.Charsets.{IsAmong}
+use Rattle.ti_conforms.specs.Charsets.{IsAmong}
 use Rattle.ti_rows.specs.declared.rows.Row.{Row}
 use Rattle.ti_rows.specs.declared.rows.Row.TheVariants.{Home, El}
 use Rattle.ti_rows.specs.Asked.{start_of}
-use Rattle.ti_lines.specs.declared.lines.RowLine.{RowLine}
+use Rattle.ti_lines.specs.declared.row_lines.RowLine.{RowLine}
 use Rattle.ti_lines.specs.Texts.{texts_of, ended}
-use Rattle.ti_sends.specs.Sends.{Sends}
-use Rattle.ti_sends.specs.Entries.{has_string, string_of}
+use Rattle.ti_conforms.specs.Sends.{Sends}
+use Rattle.ti_conforms.specs.Entries.{has_string, string_of}
 use Rattle.ti_cert.specs.Order.{Precedes, HasLine}
 use Rattle.ti_cert.specs.Certificates.{HasEffect}
 use Rattle.ti_cert.specs.Texts.{StandInOrder, IsCertificate}

@@ -22,17 +22,17 @@ use Rattle.vt_effects.specs.Record.{record_of}
 use Rattle.vt_effects.proofs.Basics.{clear_record, cup_record, sgr0_record, home_record, el_record}
 use Rattle.vt_notation.specs.Text.{spelled, row_name, col_name}
 use Rattle.vt_notation.proofs.Digits.{decimal_lacks}
-use Rattle.ti_charsets.specs.Charsets.{IsAmong, charset_after}
+use Rattle.ti_conforms.specs.Charsets.{IsAmong, charset_after}
 use Rattle.ti_rows.specs.declared.rows.Row.{Row}
 use Rattle.ti_rows.specs.declared.rows.Row.TheVariants.{Clear, Cup, Home, El, Sgr0}
 use Rattle.ti_rows.specs.Asked.{start_of}
 use Rattle.ti_rows.specs.Names.{name_in_order}
-use Rattle.ti_lines.specs.declared.lines.RowLine.{RowLine}
+use Rattle.ti_lines.specs.declared.row_lines.RowLine.{RowLine}
 use Rattle.ti_lines.specs.Heads.{IsAcscText, is_end, size_text, IsSizeText}
-use Rattle.ti_lines.specs.Lines.{IsLine, line_text}
+use Rattle.ti_lines.specs.RowLines.{IsLine, line_text}
 use Rattle.ti_lines.proofs.Cutting.{lacks}
 use Rattle.ti_lines.proofs.Hexing.{both}
-use Rattle.ti_reader.specs.Text.{line_end}
+use Rattle.ti_lines.specs.Text.{line_end}
 use Rattle.ti_cert.specs.Certificates.{HasEffect, IsAskedFor}
 use Rattle.ti_cert.specs.Basic.{basic_bytes, basic_effect, basic_line}
 use Rattle.ti_cert.proofs.BasicOrder.{Kind, IsClear, IsCup, IsEl, IsHome, IsSgr0}

@@ -8,12 +8,12 @@ use Rattle.vt_term.specs.Function.{function_of}
 use Rattle.vt_term.specs.Screen.{Charset, is_graphic}
 use Rattle.vt_term.proofs.Splitting.{one_splitting, splits_append}
 use Rattle.vt_effects.specs.Basic.{sgr0_text, clear_text}
-use Rattle.ti_charsets.specs.Charsets.{IsAmong, charset_after, charset_over, reset_charset}
+use Rattle.ti_conforms.specs.Charsets.{IsAmong, charset_after, charset_over, reset_charset}
 use Rattle.ti_rows.specs.declared.rows.Row.{Row}
 use Rattle.ti_rows.specs.declared.rows.Row.TheVariants.{Clear, Sgr0}
-use Rattle.ti_checked.specs.Table.{Table, resync}
-use Rattle.ti_checked.specs.Sets.{CanHave, AtReset, AfterToken, LeadsBy, CanSettle, AfterResync, AfterLine}
-use Rattle.ti_lines.specs.declared.lines.RowLine.{RowLine}
+use Rattle.ti_conforms.specs.Table.{Table, resync}
+use Rattle.ti_conforms.specs.Sets.{CanHave, AtReset, AfterToken, LeadsBy, CanSettle, AfterResync, AfterLine}
+use Rattle.ti_lines.specs.declared.row_lines.RowLine.{RowLine}
 use Rattle.ti_cert.specs.Strings.{allows}
 use Rattle.ti_cert.specs.Singles.{no_looks}
 use Rattle.ti_cert.specs.Clashes.{Misswitches, LeavesPlain, LeavesGraphic, Misresyncs, BeginsOpen, ResyncsGraphic, GoesTogether, OfLines}

@@ -8,18 +8,18 @@ use Rattle.vt_term.proofs.Splitting.{one_splitting, splits_append, empty_splits}
 use Rattle.vt_effects.specs.declared.effects.Effect.{Effect}
 use Rattle.vt_effects.specs.declared.effects.Sets.{Sets}
 use Rattle.vt_effects.specs.Effect.{designated}
-use Rattle.ti_charsets.specs.declared.reach.Reach.{Reach}
-use Rattle.ti_charsets.specs.declared.closing.Charsets.{Charsets}
-use Rattle.ti_charsets.specs.Charsets.{charset_after, charset_over, can_have, IsAmong, Reached, AtReset, AfterToken}
-use Rattle.ti_charsets.specs.Closing.{Settled, First, After, SomeLeads, Leaves, designated_all}
-use Rattle.ti_charsets.specs.Closing as closing
-use Rattle.ti_charsets.proofs.Reaching.{reached_can, can_reached}
+use Rattle.ti_conforms.specs.declared.reach.Reach.{Reach}
+use Rattle.ti_conforms.specs.declared.closing.Charsets.{Charsets}
+use Rattle.ti_conforms.specs.Charsets.{charset_after, charset_over, can_have, IsAmong, Reached, AtReset, AfterToken}
+use Rattle.ti_conforms.specs.Closing.{Settled, First, After, SomeLeads, Leaves, designated_all}
+use Rattle.ti_conforms.specs.Closing as closing
+use Rattle.ti_conforms.proofs.Reaching.{reached_can, can_reached}
 use Rattle.ti_rows.specs.declared.rows.Row.{Row}
 use Rattle.ti_rows.specs.declared.rows.Row.TheVariants.{Clear, Csr, Smcup, Enacs, Sgr0, Smacs, Rmacs}
-use Rattle.ti_checked.specs.Table.{or_nothing, part, widening, resync, resync_front}
-use Rattle.ti_checked.specs.Sets.{CanHave, LeadsBy, CanSettle, AfterResync, AfterLine}
-use Rattle.ti_checked.specs.Sets as sets
-use Rattle.ti_checked.proofs.Holding.{Leads}
+use Rattle.ti_conforms.specs.Table.{or_nothing, part, widening, resync, resync_front}
+use Rattle.ti_conforms.specs.Sets.{CanHave, LeadsBy, CanSettle, AfterResync, AfterLine}
+use Rattle.ti_conforms.specs.Sets as sets
+use Rattle.ti_conforms.proofs.Holding.{Leads}
 use Rattle.ti_cert.specs.Strings.{Strings, string_in}
 use Rattle.ti_cert.specs.Audit.{Known, IsKept, IsFrom, IsTold, Holds}
 use Rattle.ti_cert.specs.Table.{checked_of, first_of_resync, Changes, NoString, OfString, kept, or_kept, changes_of, Leads as Activates}

@@ -5,19 +5,19 @@ use Rattle.std.specs.List.{AllByRecursion, slice_get}
 use Rattle.std.proofs.lemmas.Bool.{false≢true, or_cases, and_parts, eqb-true, cases_Bool}
 use Rattle.ti_caps.specs.Entry as caps
 use Rattle.ti_caps.specs.Entry.{flag_at, number_at, string_at}
-use Rattle.ti_looks.specs.Alternates.{Plain, letters, found, fallback_of}
+use Rattle.ti_conforms.specs.Alternates.{Plain, letters, found, fallback_of}
 use Rattle.ti_rows.specs.declared.rows.Row.{Row}
 use Rattle.ti_rows.specs.declared.rows.Row.TheVariants.{Clear, Cup, Sgr0}
 use Rattle.ti_rows.specs.Lists.{IsFirst, IsInRange, rank}
 use Rattle.ti_rows.specs.Names.{order}
-use Rattle.ti_sends.specs.Agreeing.{SomeLine}
-use Rattle.ti_sends.specs.Entries.{acsc, is_checked, has_string, EntrySends, LineAgrees, EntryAgrees, IsNotAgreed}
-use Rattle.ti_sends.specs.declared.agreeing.AgreeFault as sends
-use Rattle.ti_sends.specs.declared.agreeing.AgreeFault.TheVariants as other
+use Rattle.ti_conforms.specs.Agreeing.{SomeLine}
+use Rattle.ti_conforms.specs.Entries.{acsc, is_checked, has_string, EntrySends, LineAgrees, EntryAgrees, IsNotAgreed}
+use Rattle.ti_conforms.specs.declared.agreeing.AgreeFault as sends
+use Rattle.ti_conforms.specs.declared.agreeing.AgreeFault.TheVariants as other
 use Rattle.ti_conforms.specs.Conforms.{IsFit, xmc, hc, gn, os}
 use Rattle.ti_cert.specs.Strings.{Strings, allows, group_at, has_group, string_in}
 use Rattle.ti_cert.specs.Table.{Content}
-use Rattle.ti_cert.specs.Unfit.{is_flag_out, IsRequired, HasMisfit, IsUnfitBy, Flagged, Lacks, Unprinted}
+use Rattle.ti_conforms.specs.Unfit.{is_flag_out, IsRequired, HasMisfit, IsUnfitBy, Flagged, Lacks, Unprinted}
 use Rattle.ti_cert.specs.Disagreeing.{IsDisagreement, RuledOut, OtherPairs, OtherLine, IsDisagreeing, IsAtRow, IsAtCap, TextDisagrees}
 use Rattle.ti_cert.specs.Texts.{IsTableOf}
 use Rattle.ti_cert.specs.declared.faults.AgreeFault.{AgreeFault}

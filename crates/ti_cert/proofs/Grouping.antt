@@ -11,7 +11,7 @@ use Rattle.ti_rows.specs.Names.{HasFirst}
 use Rattle.ti_rows.specs.Lists.{IsFirst}
 use Rattle.ti_rows.proofs.Naming.{firsts_in_order}
 use Rattle.ti_rows.proofs.Listing.{firsts_in_range}
-use Rattle.ti_sends.specs.Agreeing.{SomeLine}
+use Rattle.ti_conforms.specs.Agreeing.{SomeLine}
 use Rattle.std.proofs.lemmas.Option.{slice_get_within, same_Some, none-some}
 use Rattle.ti_rows.specs.declared.rows.Row.{Row}
 use Rattle.ti_rows.specs.Names.{order}

@@ -16,17 +16,17 @@ use Rattle.vt_effects.specs.declared.starts.Start.{Start}
 use Rattle.vt_effects.specs.Record.{record_of}
 use Rattle.vt_effects.specs.Settings.{SetsAs}
 use Rattle.vt_effects.proofs.Saying.{records_tell}
-use Rattle.ti_charsets.specs.declared.reach.Reach.{Reach}
-use Rattle.ti_charsets.specs.declared.closing.Charsets.{Charsets}
-use Rattle.ti_charsets.specs.Charsets.{charset_after, charset_over, reset_charset, IsAmong, Reached, AtReset, AfterToken, can_have}
-use Rattle.ti_charsets.specs.Closing.{Settled, First, After, SomeLeads, Leaves, designated_all}
-use Rattle.ti_charsets.specs.Closing as closing
-use Rattle.ti_charsets.proofs.Reaching.{reached_can, can_reached}
+use Rattle.ti_conforms.specs.declared.reach.Reach.{Reach}
+use Rattle.ti_conforms.specs.declared.closing.Charsets.{Charsets}
+use Rattle.ti_conforms.specs.Charsets.{charset_after, charset_over, reset_charset, IsAmong, Reached, AtReset, AfterToken, can_have}
+use Rattle.ti_conforms.specs.Closing.{Settled, First, After, SomeLeads, Leaves, designated_all}
+use Rattle.ti_conforms.specs.Closing as closing
+use Rattle.ti_conforms.proofs.Reaching.{reached_can, can_reached}
 use Rattle.ti_rows.specs.declared.rows.Row.{Row}
 use Rattle.ti_rows.specs.declared.rows.Row.TheVariants.{Clear, Cup, Home, Cr, Hpa, Vpa, Cub1, Cuf1, Cuu1, Cud1, Cub, Cuf, Cuu, Cud, El, El1, Ed, Ech, Sgr, Sgr0, Setaf, Setab, Op, Smul, Rev, Blink, Dim, Bold, Invis, Smso, Enacs, Smacs, Rmacs, Csr, Ind, Ri, Civis, Cnorm, Cvvis, Smcup, Rmcup, Bel}
 use Rattle.ti_rows.specs.Asked.{start_of}
-use Rattle.ti_checked.specs.Table.{or_nothing, resync, Activates}
-use Rattle.ti_checked.specs.Judged.{JudgedLine, ChangesSets, NoLine, ByLine, changed, left_of, IsJudged}
+use Rattle.ti_conforms.specs.Table.{or_nothing, resync, Activates}
+use Rattle.ti_conforms.specs.Judged.{JudgedLine, ChangesSets, NoLine, ByLine, changed, left_of, IsJudged}
 use Rattle.ti_cert.specs.Strings.{Strings, string_in, has_group}
 use Rattle.ti_cert.specs.Audit.{Known, IsKept, IsChange, Holds}
 use Rattle.ti_cert.specs.Table.{checked_of, first_or, first_of_resync, Changes, NoString, OfString, kept, or_kept, changes_of, Leads}

@@ -5,9 +5,9 @@ use Rattle.vt_term.specs.Text.{Splits}
 use Rattle.vt_effects.specs.declared.effects.Effect.{Effect}
 use Rattle.vt_effects.specs.declared.effects.Sets.{Sets}
 use Rattle.vt_effects.specs.Record.{record_of}
-use Rattle.ti_charsets.specs.Charsets.{IsAmong, reach_of, joined}
-use Rattle.ti_charsets.specs.declared.reach.Reach.{Reach}
-use Rattle.ti_charsets.proofs.Reaching.{reach_of-append}
+use Rattle.ti_conforms.specs.Charsets.{IsAmong, reach_of, joined}
+use Rattle.ti_conforms.specs.declared.reach.Reach.{Reach}
+use Rattle.ti_conforms.proofs.Reaching.{reach_of-append}
 use Rattle.ti_rows.specs.declared.rows.Looks.{Looks}
 use Rattle.ti_rows.specs.declared.rows.Marks.{Marks}
 use Rattle.ti_rows.specs.declared.rows.Row.{Row}
@@ -19,7 +19,7 @@ use Rattle.ti_rows.specs.Lists.{rank}
 use Rattle.ti_rows.specs.Looks.{learned, shown}
 use Rattle.ti_rows.specs.Asked.{start_of, asked, rendering, just, ink_of, defaults_both_inks, with_marks_on}
 use Rattle.ti_rows.proofs.Telling.{earlier_kept}
-use Rattle.ti_checked.specs.Table.{keeps_settled}
+use Rattle.ti_conforms.specs.Table.{keeps_settled}
 use Rattle.ti_cert.specs.Strings.{Strings, string_in, has_group, Adds}
 use Rattle.ti_cert.specs.Audit.{Known, rival, looks_with, HasRecord, IsKept, IsChange, IsFrom, IsTold, Holds, with_change}
 use Rattle.ti_cert.specs.Singles.{LooksAlone, no_looks}

@@ -19,3 +19,6 @@ pub mod BasicTexts
 pub mod BasicAgreeing
 pub mod BasicAlone
 pub mod Disagreeing
+pub mod Lengths
+pub mod Smallness
+pub mod Certified

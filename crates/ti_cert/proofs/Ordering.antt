@@ -8,8 +8,8 @@ use Rattle.ti_rows.specs.Names.{order, first_in_order, HasFirst}
 use Rattle.ti_rows.specs.Lists.{IsInRange, next, rank, count, IsFirst, Follows}
 use Rattle.ti_rows.proofs.Naming.{firsts_in_order, orders_small}
 use Rattle.ti_rows.proofs.Listing.{firsts_in_range, next_follows, ranks_below, last_is_last, one_of_rank}
-use Rattle.ti_sends.proofs.Walking.{same_count}
-use Rattle.ti_lines.specs.declared.lines.RowLine.{RowLine}
+use Rattle.ti_conforms.proofs.Walking.{same_count}
+use Rattle.ti_lines.specs.declared.row_lines.RowLine.{RowLine}
 use Rattle.ti_cert.specs.Strings.{allows}
 use Rattle.ti_cert.specs.Order.{Precedes, HasLine, HasCap, IsRequired, IsLacking, IsFirstLacking, IsComplete}
 use Rattle.ti_cert.specs.Places.{next_within, is_between, required, missing_behind, missing}

@@ -8,7 +8,7 @@ use Rattle.ti_rows.specs.Names.{order, first_in_order, HasFirst}
 use Rattle.ti_rows.specs.Lists.{IsInRange, next, rank, Follows}
 use Rattle.ti_rows.proofs.Naming.{firsts_in_order, orders_small}
 use Rattle.ti_rows.proofs.Listing.{next_follows}
-use Rattle.ti_lines.specs.declared.lines.RowLine.{RowLine}
+use Rattle.ti_lines.specs.declared.row_lines.RowLine.{RowLine}
 use Rattle.ti_cert.specs.Strings.{allows}
 use Rattle.ti_cert.specs.Order.{Precedes, HasLine, HasCap, IsRequired, IsLacking, IsFirstLacking, IsLate, IsBehind, IsInPlace}
 use Rattle.ti_cert.specs.Places.{next_within, missing, expected, or_row, is_late, or_missing, early_fault, place_fault}

@@ -1,12 +1,12 @@
 -- The judgement of a whole text, as what its lines say.
 use Rattle.std.proofs.Common.{◌≡◌, ◌<◌, ◌+◌, ◌-◌, ◌⊎◌, ℕ, Bool, is_some, List, [], ◌∷◌, ◌++◌, length, Option, None, Result, Ok, Err, IfErr, inl, inr, refl, sym, ap, subst, ◌∙◌, arith}
-use Rattle.ti_lines.specs.declared.lines.RowLine.{RowLine}
-use Rattle.ti_reader.specs.Text.{cut_of}
-use Rattle.ti_reader.specs.Reader.{Rose, AtEnd}
-use Rattle.ti_reader.proofs.Gaves.{gave_nothing}
-use Rattle.ti_checked.specs.Table.{Table}
-use Rattle.ti_reader.specs.Judging.{fault_at, AtLine, Passes, Fails, TooLong, JudgedLine, JudgedLines, JudgedFrom, Judged, GivesOr, Outcome, Whole, Early, Cuts, Reports}
-use Rattle.ti_reader.specs.declared.judging.LineFault.{LineFault}
+use Rattle.ti_lines.specs.declared.row_lines.RowLine.{RowLine}
+use Rattle.ti_lines.specs.Text.{cut_of}
+use Rattle.ti_lines.specs.Reader.{Rose, AtEnd}
+use Rattle.ti_lines.proofs.Gaves.{gave_nothing}
+use Rattle.ti_conforms.specs.Table.{Table}
+use Rattle.ti_lines.specs.Judging.{fault_at, AtLine, Passes, Fails, TooLong, JudgedLine, JudgedLines, JudgedFrom, Judged, GivesOr, Outcome, Whole, Early, Cuts, Reports}
+use Rattle.ti_lines.specs.declared.judging.LineFault.{LineFault}
 use Rattle.ti_cert.specs.Clashes.{ClashesBy, ByActive, ByLook, ByResync}
 use Rattle.ti_cert.specs.Certificates.{Said, Nothing, Sized, Listing, Ended, Mislooks, Misdoes, JudgesRow, NotAllowed, TooLate, TooEarly, Cut, Wild, Untrue, Unasked, Stands, JudgesLast, Lacks, Clashes, Closes, JudgesLater, IsLast, IsRow, IsMisplaced, IsNone, HasPairs, HasNoPairs, HasSize, HasNoSize, JudgesLine, JudgesEnd, rules_of, limit, IsAnswer}
 use Rattle.ti_cert.specs.Table.{Content}

@@ -12,15 +12,15 @@ use Rattle.ti_rows.specs.declared.rows.Row.{Row}
 use Rattle.ti_rows.specs.declared.rows.Row.TheVariants.{Smacs, Rmacs, Smcup, Enacs, Sgr0, Clear, Csr}
 use Rattle.ti_rows.specs.Asked.{start_of}
 use Rattle.ti_rows.specs.Lists.{IsInRange}
-use Rattle.ti_checked.specs.Table.{Table, or_nothing, part, widening, resync, resync_front}
-use Rattle.ti_checked.specs.Sets.{CanHave, AtReset, AfterToken, LeadsBy, CanSettle, AfterResync, AfterLine, has_sets}
-use Rattle.ti_lines.specs.declared.lines.RowLine.{RowLine}
+use Rattle.ti_conforms.specs.Table.{Table, or_nothing, part, widening, resync, resync_front}
+use Rattle.ti_conforms.specs.Sets.{CanHave, AtReset, AfterToken, LeadsBy, CanSettle, AfterResync, AfterLine, has_sets}
+use Rattle.ti_lines.specs.declared.row_lines.RowLine.{RowLine}
 use Rattle.ti_lines.specs.Heads.{IsAcscText, acsc_in, is_end}
 use Rattle.ti_lines.proofs.LinesRead.{one_line}
 use Rattle.ti_lines.proofs.HeadsRead.{acsc_each}
-use Rattle.ti_reader.specs.Text.{cut_of}
-use Rattle.ti_reader.specs.Judging.{fault_at, AtLine, Passes, Fails, TooLong, JudgedLine, JudgedLines, JudgedFrom, Judged}
-use Rattle.ti_reader.specs.declared.judging.LineFault.{LineFault}
+use Rattle.ti_lines.specs.Text.{cut_of}
+use Rattle.ti_lines.specs.Judging.{fault_at, AtLine, Passes, Fails, TooLong, JudgedLine, JudgedLines, JudgedFrom, Judged}
+use Rattle.ti_lines.specs.declared.judging.LineFault.{LineFault}
 use Rattle.ti_cert.specs.Strings.{string_in}
 use Rattle.ti_cert.specs.Order.{Precedes, HasBytes, IsFirstLacking, IsComplete, IsLate, IsBehind}
 use Rattle.ti_cert.specs.Clashes.{Misswitches, LeavesPlain, LeavesGraphic, StaysGraphic, Misresyncs, BeginsOpen, ResyncsGraphic, ClashesBy, ByActive, ByLook, ByResync, GoesTogether, OfLines}

@@ -4,19 +4,19 @@ use Rattle.std.specs.List.{AllByRecursion}
 use Rattle.std.proofs.lemmas.Slice.Eq.{bytes_eq-Decides}
 use Rattle.std.proofs.lemmas.List.{reverse-reverse}
 use Rattle.std.proofs.lemmas.Grind.{reverse_onto}
-use Rattle.ti_lines.specs.declared.lines.RowLine.{RowLine}
+use Rattle.ti_lines.specs.declared.row_lines.RowLine.{RowLine}
 use Rattle.ti_lines.specs.Heads.{size_text, end_text, IsSizeText}
 use Rattle.ti_lines.specs.Hex.{hex_text}
-use Rattle.ti_lines.specs.Lines.{numbers_text, IsLine, IsTextOf}
+use Rattle.ti_lines.specs.RowLines.{numbers_text, IsLine, IsTextOf}
 use Rattle.ti_rows.specs.Names.{name_of}
 use Rattle.ti_rows.specs.Params.{params}
 use Rattle.hex.specs.Hex.{lower_digits}
 use Rattle.hex.proofs.HexLemmas.{length-encode_with}
 use Rattle.ti_lines.specs.Texts.{acsc_lines, row_lines, ended, HasBytes}
-use Rattle.ti_reader.specs.Text.{IsText, cut_of}
-use Rattle.ti_reader.proofs.Texts.{text_is}
-use Rattle.ti_reader.specs.Judging.{Passes, Fails, TooLong, JudgedLine, JudgedLines, JudgedFrom, Judged}
-use Rattle.ti_reader.specs.declared.judging.LineFault.{LineFault}
+use Rattle.ti_lines.specs.Text.{IsText, cut_of}
+use Rattle.ti_lines.proofs.Texts.{text_is}
+use Rattle.ti_lines.specs.Judging.{Passes, Fails, TooLong, JudgedLine, JudgedLines, JudgedFrom, Judged}
+use Rattle.ti_lines.specs.declared.judging.LineFault.{LineFault}
 use Rattle.ti_cert.specs.Order.{IsComplete}
 use Rattle.ti_cert.specs.Certificates.{Said, Nothing, Sized, Listing, Ended, JudgesRow, NotAllowed, TooLate, TooEarly, Cut, Wild, Untrue, Unasked, Stands, JudgesLast, Lacks, Clashes, Closes, JudgesLater, IsLast, IsRow, IsMisplaced, IsNone, JudgesSecond, HasPairs, HasNoPairs, JudgesFirst, HasSize, HasNoSize, JudgesLine, rules_of, limit, IsAnswer}
 use Rattle.ti_cert.specs.Good.{all_bytes}

@@ -4,13 +4,13 @@ use Rattle.vt_term.specs.Text.{Splits}
 use Rattle.vt_effects.specs.declared.effects.Effect.{Effect}
 use Rattle.vt_effects.specs.declared.effects.Sets.{Sets}
 use Rattle.vt_effects.specs.Record.{record_of}
-use Rattle.ti_charsets.specs.Charsets.{IsAmong, reach_of}
-use Rattle.ti_charsets.specs.declared.reach.Reach.{Reach}
+use Rattle.ti_conforms.specs.Charsets.{IsAmong, reach_of}
+use Rattle.ti_conforms.specs.declared.reach.Reach.{Reach}
 use Rattle.ti_rows.specs.declared.rows.Looks.{Looks}
 use Rattle.ti_rows.specs.declared.rows.Row.{Row}
 use Rattle.ti_rows.specs.Looks.{learned}
 use Rattle.ti_rows.specs.Asked.{start_of, asked}
-use Rattle.ti_checked.specs.Table.{keeps_settled}
+use Rattle.ti_conforms.specs.Table.{keeps_settled}
 use Rattle.ti_cert.specs.Strings.{Strings, string_in, has_group}
 use Rattle.ti_cert.specs.Singles.{LooksAlone}
 pub use Rattle.ti_cert.specs.Singles.{rival}

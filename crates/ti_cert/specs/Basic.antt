@@ -11,12 +11,12 @@ use Rattle.ti_caps.specs.Entry.{Content, string_at}
 use Rattle.ti_rows.specs.declared.rows.Row.{Row}
 use Rattle.ti_rows.specs.declared.rows.Row.TheVariants.{Clear, Cup, Home, El, Sgr0}
 use Rattle.ti_rows.specs.Lists.{IsInRange}
-use Rattle.ti_sends.specs.Sends.{Sends}
-use Rattle.ti_sends.specs.Entries.{acsc, has_string, is_checked, string_of, EntryAgrees}
+use Rattle.ti_conforms.specs.Sends.{Sends}
+use Rattle.ti_conforms.specs.Entries.{acsc, has_string, is_checked, string_of, EntryAgrees}
 use Rattle.ti_conforms.specs.Conforms.{IsFit}
-use Rattle.ti_lines.specs.declared.lines.RowLine.{RowLine}
+use Rattle.ti_lines.specs.declared.row_lines.RowLine.{RowLine}
 use Rattle.ti_lines.specs.Texts.{texts_of, ended}
-use Rattle.ti_charsets.specs.Charsets.{IsAmong}
+use Rattle.ti_conforms.specs.Charsets.{IsAmong}
 use Rattle.ti_cert.specs.Order.{HasLine}
 use Rattle.ti_cert.specs.Strings.{string_in}
 use Rattle.ti_cert.specs.Table as tables

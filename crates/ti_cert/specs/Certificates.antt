@@ -12,11 +12,11 @@ use Rattle.ti_rows.specs.Names.{order, no_attributes}
 use Rattle.ti_rows.specs.Lists.{IsInRange}
 use Rattle.ti_rows.specs.Looks.{learned}
 use Rattle.ti_rows.specs.Asked.{start_of, asked}
-use Rattle.ti_lines.specs.declared.lines.RowLine.{RowLine}
+use Rattle.ti_lines.specs.declared.row_lines.RowLine.{RowLine}
 use Rattle.ti_lines.specs.Heads.{IsSizeText, IsAcscText, is_end}
-use Rattle.ti_lines.specs.Lines.{IsTextOf}
-use Rattle.ti_reader.specs.Judging.{Rules, Judged}
-use Rattle.ti_reader.specs.declared.judging.LineFault.{LineFault}
+use Rattle.ti_lines.specs.RowLines.{IsTextOf}
+use Rattle.ti_lines.specs.Judging.{Rules, Judged}
+use Rattle.ti_lines.specs.declared.judging.LineFault.{LineFault}
 use Rattle.ti_cert.specs.Singles.{no_looks, rival}
 use Rattle.ti_cert.specs.Clashes.{ClashesBy, GoesTogether, OfLines}
 use Rattle.ti_cert.specs.Order.{IsFirstLacking, IsComplete, IsLate, IsBehind, IsInPlace}

@@ -2,12 +2,12 @@
 -- lead a terminal out of an unknown state (terminfo(5), "Initialization" and "Line Graphics").
 use Rattle.std.specs.Prelude.{ℕ, ◌≡◌, ◌&&◌, Bool, true, false, List, ◌∷◌, Some}
 use Rattle.vt_term.specs.Screen.{Charset, is_graphic}
-use Rattle.ti_charsets.specs.Charsets.{IsAmong}
+use Rattle.ti_conforms.specs.Charsets.{IsAmong}
 use Rattle.ti_rows.specs.declared.rows.Row.{Row}
 use Rattle.ti_rows.specs.declared.rows.Row.TheVariants.{Smacs, Rmacs}
-use Rattle.ti_checked.specs.Table.{Table, resync}
-use Rattle.ti_checked.specs.Sets.{CanHave, LeadsBy, CanSettle, has_sets}
-use Rattle.ti_lines.specs.declared.lines.RowLine.{RowLine}
+use Rattle.ti_conforms.specs.Table.{Table, resync}
+use Rattle.ti_conforms.specs.Sets.{CanHave, LeadsBy, CanSettle, has_sets}
+use Rattle.ti_lines.specs.declared.row_lines.RowLine.{RowLine}
 use Rattle.ti_cert.specs.Order.{HasBytes}
 use Rattle.ti_cert.specs.declared.faults.CertFaultKind.{CertFaultKind}
 use Rattle.ti_cert.specs.declared.faults.CertFaultKind.TheVariants.{NotShown, NoResync, BadLook}

@@ -6,12 +6,12 @@ use Rattle.ti_rows.specs.declared.rows.Row.{Row}
 use Rattle.ti_rows.specs.Lists.{IsInRange}
 use Rattle.ti_rows.specs.Names.{cap_of}
 use Rattle.ti_rows.specs.Params.{params}
-use Rattle.ti_sends.specs.Entries.{acsc, LineAgrees, EntryAgrees}
+use Rattle.ti_conforms.specs.Entries.{acsc, LineAgrees, EntryAgrees}
 use Rattle.ti_conforms.specs.Conforms.{IsFit}
 use Rattle.ti_cert.specs.Strings.{string_in}
 use Rattle.ti_cert.specs.Table.{Content}
 use Rattle.ti_cert.specs.Texts.{IsTableOf}
-use Rattle.ti_cert.specs.Unfit.{IsUnfitBy}
+use Rattle.ti_conforms.specs.Unfit.{IsUnfitBy}
 use Rattle.ti_cert.specs.declared.faults.AgreeFault.{AgreeFault}
 use Rattle.ti_cert.specs.declared.faults.AgreeFault.TheVariants.{Disagree, NoMemory}
 use Rattle.ti_cert.specs.declared.faults.VerifyFault.{VerifyFault}

@@ -4,19 +4,19 @@ use Rattle.vt_effects.specs.declared.effects.Effect.{Effect}
 use Rattle.vt_effects.specs.declared.effects.Sets.{Sets}
 use Rattle.vt_effects.specs.Effect.{designated}
 use Rattle.vt_term.specs.Screen.{Charset, is_graphic}
-use Rattle.ti_charsets.specs.declared.closing.Charsets.{Charsets}
-use Rattle.ti_charsets.specs.Closing as closing
+use Rattle.ti_conforms.specs.declared.closing.Charsets.{Charsets}
+use Rattle.ti_conforms.specs.Closing as closing
 use Rattle.vt_effects.specs.Record.{record_of}
 use Rattle.vt_term.specs.Text.{Splits}
-use Rattle.ti_charsets.specs.Charsets.{IsAmong}
-use Rattle.ti_checked.specs.Judged.{IsJudged}
+use Rattle.ti_conforms.specs.Charsets.{IsAmong}
+use Rattle.ti_conforms.specs.Judged.{IsJudged}
 use Rattle.ti_rows.specs.declared.rows.Row.{Row}
 use Rattle.ti_rows.specs.declared.rows.Row.TheVariants.{Clear, Sgr0, Csr}
 use Rattle.ti_rows.specs.Asked.{start_of, asked}
 use Rattle.ti_rows.specs.Lists.{IsInRange}
-use Rattle.ti_lines.specs.declared.lines.RowLine.{RowLine}
+use Rattle.ti_lines.specs.declared.row_lines.RowLine.{RowLine}
 use Rattle.ti_lines.specs.Heads.{IsAcscText}
-use Rattle.ti_reader.specs.Judging.{Rules}
+use Rattle.ti_lines.specs.Judging.{Rules}
 use Rattle.ti_cert.specs.Audit.{Known, Holds, looks_with}
 use Rattle.ti_cert.specs.Certificates.{Said, Nothing, Sized, Listing, Ended, speaks_of, looks_of, IsWhole, IsMisfit, JudgesRow, JudgesLast, JudgesLater, JudgesLine, JudgesEnd}
 use Rattle.ti_cert.specs.Order.{Precedes, HasLine, HasBytes, IsComplete}

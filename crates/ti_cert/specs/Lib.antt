@@ -11,5 +11,5 @@ pub mod Places
 pub mod Good
 pub mod Verified
 pub mod Basic
-pub mod Unfit
 pub mod Disagreeing
+pub mod Contents

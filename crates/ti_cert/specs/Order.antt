@@ -1,11 +1,11 @@
 -- The order of a certificate's lines about capabilities, and which of them have to be there.
 use Rattle.std.specs.Prelude.{ℕ, ◌<◌, ◌≡◌, ◌⊎◌, List, Option, None, Some}
-use Rattle.ti_charsets.specs.Charsets.{IsAmong}
+use Rattle.ti_conforms.specs.Charsets.{IsAmong}
 use Rattle.ti_rows.specs.declared.rows.Row.{Row}
 use Rattle.ti_rows.specs.declared.rows.Row.TheVariants.{Clear, Cup, Sgr0}
 use Rattle.ti_rows.specs.Names.{order}
 use Rattle.ti_rows.specs.Lists.{IsInRange, rank}
-use Rattle.ti_lines.specs.declared.lines.RowLine.{RowLine}
+use Rattle.ti_lines.specs.declared.row_lines.RowLine.{RowLine}
 
 -- by the byte order of the names, and then by the parameters
 abbrev pub Precedes : ℕ → ℕ → Row → Row → Type 0

@@ -5,7 +5,7 @@ use Rattle.ti_rows.specs.declared.rows.Row.{Row}
 use Rattle.ti_rows.specs.declared.rows.Row.TheVariants.{Sgr, Smul, Rev, Blink, Dim, Bold, Invis, Smso}
 use Rattle.ti_rows.specs.Names.{no_attributes}
 use Rattle.ti_rows.specs.Asked.{no_marks}
-use Rattle.ti_checked.specs.Table.{Table, has}
+use Rattle.ti_conforms.specs.Table.{Table, has}
 
 -- an attribute that has a string looks as the rendition of its name, and one that has none can't be seen; what standout
 -- looks like, its string says

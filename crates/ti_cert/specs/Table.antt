@@ -7,13 +7,13 @@ use Rattle.vt_effects.specs.Record.{record_of}
 use Rattle.vt_effects.specs.declared.effects.Effect.{Effect}
 use Rattle.vt_term.specs.Screen.{Charset, is_graphic}
 use Rattle.vt_term.specs.Text.{Splits}
-use Rattle.ti_charsets.specs.declared.closing.Charsets.{Charsets}
-use Rattle.ti_charsets.specs.Charsets.{can_have}
-use Rattle.ti_charsets.specs.Closing as closing
+use Rattle.ti_conforms.specs.declared.closing.Charsets.{Charsets}
+use Rattle.ti_conforms.specs.Charsets.{can_have}
+use Rattle.ti_conforms.specs.Closing as closing
 use Rattle.ti_rows.specs.declared.rows.Row.{Row}
 use Rattle.ti_rows.specs.declared.rows.Row.TheVariants.{Clear, Sgr0, Csr, Rmacs, Smcup, Enacs}
 use Rattle.ti_rows.specs.Asked.{start_of}
-use Rattle.ti_checked.specs.Table as checked
+use Rattle.ti_conforms.specs.Table as checked
 use Rattle.ti_cert.specs.Strings.{Strings, string_in}
 use Rattle.ti_cert.specs.Audit.{Known}
 

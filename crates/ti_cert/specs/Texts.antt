@@ -1,13 +1,13 @@
 -- What an audit's answer says of the text of a certificate.
 use Rattle.std.specs.Prelude.{ℕ, ◌+◌, ◌≤◌, ◌≡◌, ◌⊎◌, List, [], ◌∷◌, length, reverse, Option, None, Some, Result, Ok, Err}
-use Rattle.ti_charsets.specs.Charsets.{IsAmong}
+use Rattle.ti_conforms.specs.Charsets.{IsAmong}
 use Rattle.ti_rows.specs.declared.rows.Row.{Row}
-use Rattle.ti_lines.specs.declared.lines.RowLine.{RowLine}
+use Rattle.ti_lines.specs.declared.row_lines.RowLine.{RowLine}
 use Rattle.ti_lines.specs.Texts.{IsCertificateText}
-use Rattle.ti_reader.specs.Reader.{Gave}
-use Rattle.ti_reader.specs.Text.{cut_of}
-use Rattle.ti_reader.specs.Judging.{fault_at}
-use Rattle.ti_reader.specs.declared.judging.LineFault.{LineFault}
+use Rattle.ti_lines.specs.Reader.{Gave}
+use Rattle.ti_lines.specs.Text.{cut_of}
+use Rattle.ti_lines.specs.Judging.{fault_at}
+use Rattle.ti_lines.specs.declared.judging.LineFault.{LineFault}
 use Rattle.ti_cert.specs.Strings.{string_in}
 use Rattle.ti_cert.specs.Table.{Content}
 use Rattle.ti_cert.specs.Order.{HasBytes, IsComplete, IsInPlace}

@@ -2,11 +2,11 @@
 use Rattle.std.specs.Prelude.{ℕ, ◌<◌, ◌≡◌, ◌&&◌, List, Option, Some, None, if◌then◌else◌}
 use Rattle.vt_term.specs.Size.{IsSize}
 use Rattle.vt_term.specs.Screen.{State}
-use Rattle.ti_looks.specs.Alternates.{partner_of}
+use Rattle.ti_conforms.specs.Alternates.{partner_of}
 use Rattle.ti_rows.specs.declared.rows.Row.TheVariants.{Smacs, Rmacs}
-use Rattle.ti_resync.specs.Lost.{EndsIn}
-use Rattle.ti_checked.specs.Table.{Table, has, resync, IsLost}
-use Rattle.ti_checked.specs.Checked.{IsChecked, IsResynced}
+use Rattle.vt_term.specs.Ends.{Ends}
+use Rattle.ti_conforms.specs.Table.{Table, has, resync, IsLost}
+use Rattle.ti_conforms.specs.Checked.{IsChecked, IsResynced}
 use Rattle.ti_conforms.specs.Together.{StandTogether}
 use Rattle.ti_cert.specs.Singles.{LooksStand}
 use Rattle.ti_cert.specs.Strings.{total}
@@ -35,7 +35,7 @@ partner_in c letter = if has (table_of c) Smacs && has (table_of c) Rmacs then l
 
 -- from every state that output cut off at any byte may leave, to a blank screen at rest
 abbrev pub Resyncs : Table → Type 0
-Resyncs t = (s : State) → IsLost t s → EndsIn s (resync t) (IsResynced t s.screen.visible)
+Resyncs t = (s : State) → IsLost t s → Ends s (resync t) (IsResynced t s.screen.visible)
 
 abbrev pub IsResync : Content → List ℕ → Type 0
 IsResync c text = text ≡ resync (table_of c)

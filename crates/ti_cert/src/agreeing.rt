@@ -1,106 +1,19 @@
 //! Whether a certificate is that of an entry.
 
-ghost use Rattle.std.specs.Prelude.{◌≡◌, ◌<◌, ℕ, List, OnOk, IfErr, IfNone, IfSome, true, false, Some, None};
-ghost use Rattle.ti_caps.specs.Entry.{flag_at, number_at, string_at};
+ghost use Rattle.std.specs.Prelude.{◌≡◌, OnOk, IfErr, true, false};
+ghost use Rattle.ti_caps.specs.Entry.{string_at};
 ghost use Rattle.ti_conforms.specs.Conforms as conforms;
-ghost use Rattle.ti_looks.specs.Alternates.{is_misfit};
-ghost use Rattle.ti_sends.specs.Entries as entries;
-ghost use Rattle.ti_rows.specs.declared.rows.Row.TheVariants as rows;
+ghost use Rattle.ti_conforms.specs.Entries as entries;
 ghost use Rattle.ti_cert.specs.Basic.{IsBasicTable};
 ghost use Rattle.ti_cert.specs.Disagreeing as spec;
 ghost use Rattle.ti_cert.specs.Strings.{string_in};
-ghost use Rattle.ti_cert.specs.Unfit.{HasMisfit, IsLacking, IsUnfitBy, is_flag_out};
 
 use crate::faults::AgreeFault;
 use crate::table::Table;
 use std::alloc::Global;
-use ti_caps::{Cap, Entry, Kind, at};
-use ti_looks::misfit;
+use ti_caps::{Cap, Entry};
+use ti_conforms::{AgreeFault as Disagreement, acsc, entry_agrees, first_unfit};
 use ti_rows::{Params, Row};
-use ti_sends::{AgreeFault as Disagreement, entry_agrees};
-
-/// A required string that the entry hasn't.
-fn lacking(entry: &Entry) -> Option<Row>
-    ensures some { IfSome result (λ row. IsLacking entry.now row) }
-    ensures clear { IfNone result (entries.has_string entry.now rows.Clear ≡ true) }
-    ensures cup { IfNone result (entries.has_string entry.now (rows.Cup 0 0) ≡ true) }
-    ensures sgr0 { IfNone result (entries.has_string entry.now rows.Sgr0 ≡ true) }
-{
-    if entry.get_string(Row::Clear.cap()).is_none() {
-        return Some(Row::Clear);
-    }
-    if entry.get_string(Row::Cup(0, 0).cap()).is_none() {
-        return Some(Row::Cup(0, 0));
-    }
-    if entry.get_string(Row::Sgr0.cap()).is_none() {
-        return Some(Row::Sgr0);
-    }
-    None
-}
-
-/// The first of the flags that no certificate is for.
-#[tactic(auto, unfolding(ti_caps::specs::Table::kind_of, ti_caps::specs::Table::position_of, ti_caps::specs::Table::place_from))]
-fn flagged(entry: &Entry) -> Option<Cap>
-    ensures some { IfSome result (λ cap. is_flag_out entry.now cap ≡ true) }
-    ensures gn { IfNone result (flag_at entry.now conforms.gn ≡ false) }
-    ensures hc { IfNone result (flag_at entry.now conforms.hc ≡ false) }
-    ensures os { IfNone result (flag_at entry.now conforms.os ≡ false) }
-    ensures xmc { IfNone result (number_at entry.now conforms.xmc ≡ None) }
-{
-    let gn = at(Kind::Flag, 6).unwrap();
-    let hc = at(Kind::Flag, 7).unwrap();
-    let os = at(Kind::Flag, 15).unwrap();
-    let xmc = at(Kind::Number, 4).unwrap();
-    if entry.get_flag(gn) {
-        return Some(gn);
-    }
-    if entry.get_flag(hc) {
-        return Some(hc);
-    }
-    if entry.get_flag(os) {
-        return Some(os);
-    }
-    if entry.get_number(xmc).is_some() {
-        return Some(xmc);
-    }
-    None
-}
-
-/// The capability of alternate characters.
-#[tactic(auto, unfolding(ti_caps::specs::Table::kind_of, ti_caps::specs::Table::position_of, ti_caps::specs::Table::place_from))]
-fn acsc() -> Cap
-    ensures { result ≡ entries.acsc }
-{
-    at(Kind::String, 146).unwrap()
-}
-
-/// Whether a letter of line graphics has a partner that can't be printed.
-fn has_misfit(entry: &Entry) -> bool
-    ensures some { result ≡ true → HasMisfit entry.now }
-    ensures none { result ≡ false → (pairs : List ℕ) → string_at entry.now entries.acsc ≡ Some pairs → (letter : ℕ) → letter < 256 → is_misfit pairs letter ≡ false }
-{
-    match entry.get_string(acsc()) {
-        Some(pairs) => misfit(pairs).is_some(),
-        None => false,
-    }
-}
-
-/// A capability for which no certificate can be that of the entry.
-fn unfit(entry: &Entry) -> Option<Cap>
-    ensures some { IfSome result (λ cap. IsUnfitBy entry.now cap) }
-    ensures none { IfNone result (conforms.IsFit entry.now) }
-{
-    if let Some(row) = lacking(entry) {
-        return Some(row.cap());
-    }
-    if let Some(cap) = flagged(entry) {
-        return Some(cap);
-    }
-    if has_misfit(entry) {
-        return Some(acsc());
-    }
-    None
-}
 
 /// Whether the table has the pairs of alternate characters that the entry has.
 fn has_pairs(table: &Table, entry: &Entry) -> bool
@@ -161,8 +74,8 @@ pub fn agrees(alloc: Global, table: &Table, entry: &Entry) -> Result<(), AgreeFa
     ensures disagrees { IfErr result (spec.IsDisagreeing table.now entry.now) }
     ensures basic { IsBasicTable entry.now table.now → IfErr result (λ fault. fault ≡ AgreeFault.NoMemory) }
 {
-    if let Some(cap) = unfit(entry) {
-        return Err(at_cap(cap));
+    if let Some(why) = first_unfit(entry) {
+        return Err(at_cap(why.cap()));
     }
     if !has_pairs(table, entry) {
         return Err(at_cap(acsc()));

@@ -1,9 +1,9 @@
 //! A certificate judged line by line as a reader gives it.
 
 ghost use Rattle.std.specs.Prelude.{◌≡◌, ◌<◌, ℕ, Bool, List, true, false, IfOk, IfErr, OnOk, Ok};
-ghost use Rattle.ti_checked.specs.Judged.{IsJudged};
+ghost use Rattle.ti_conforms.specs.Judged.{IsJudged};
 ghost use Rattle.ti_lines.specs.Heads.{IsSizeText};
-ghost use Rattle.ti_reader.specs.Reader.{Rose};
+ghost use Rattle.ti_lines.specs.Reader.{Rose};
 ghost use Rattle.ti_cert.specs.Basic.{IsStopped, basic_text};
 ghost use Rattle.ti_cert.specs.Good as spec;
 ghost use Rattle.ti_cert.specs.Certificates.{limit};
@@ -21,9 +21,10 @@ use crate::tokenizing::row_effect;
 use std::alloc::{AllocError, Global};
 use std::mem;
 use ti_caps::Bytes;
-use ti_charsets::Charsets;
-use ti_lines::{RowLine, is_end_line, read_acsc_line, read_row_line, read_size_line};
-use ti_reader::{Judge, Reader, judge_lines};
+use ti_conforms::Charsets;
+use ti_lines::{
+    Judge, Reader, RowLine, is_end_line, judge_lines, read_acsc_line, read_row_line, read_size_line,
+};
 use vt_term::{Scanner, Size};
 
 /// The most bytes that a certificate has.

@@ -5,7 +5,7 @@ ghost use Rattle.ti_cert.specs.Good.{LacksRecord, LacksNeeded, Misleads, FailsTo
 ghost use Rattle.ti_cert.specs.Audit.{Holds};
 ghost use Rattle.ti_cert.specs.Strings.{has_group, string_in};
 ghost use Rattle.ti_cert.specs.Table as spec;
-ghost use Rattle.ti_charsets.specs.Closing as closing;
+ghost use Rattle.ti_conforms.specs.Closing as closing;
 ghost use Rattle.vt_term.specs.Screen.{Charset};
 ghost use Rattle.vt_term.specs.Text.{Splits};
 ghost use Rattle.ti_rows.specs.declared.rows.Row.TheVariants as rows;
@@ -15,7 +15,7 @@ use crate::known::Known;
 use crate::strings::Strings;
 use crate::tokenizing::row_effect;
 use std::alloc::Global;
-use ti_charsets::{Charsets, Reach};
+use ti_conforms::{Charsets, Reach};
 use ti_rows::Row;
 use vt_effects::{Sets, Switch};
 use vt_term::Scanner;

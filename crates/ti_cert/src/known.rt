@@ -1,9 +1,9 @@
-//! What the lines of a certificate have told so far.
+//! What is known from the lines of a certificate that were read so far.
 
 ghost use Rattle.std.specs.Prelude.{◌≡◌, [], length, replicate, IfOk, IfErr, OnOk, IsTrue, true, List, ℕ};
 ghost use Rattle.ti_rows.specs.Lists.{rank};
 ghost use Rattle.ti_rows.specs.Names.{order};
-ghost use Rattle.ti_checked.specs.Table.{keeps_settled};
+ghost use Rattle.ti_conforms.specs.Table.{keeps_settled};
 ghost use Rattle.ti_cert.specs.Strings.{Adds, allows, group_at};
 ghost use Rattle.ti_cert.specs.Singles.{no_looks};
 ghost use Rattle.ti_cert.specs.Certificates as certificates;
@@ -15,7 +15,7 @@ use crate::strings::Strings;
 use crate::tokenizing::not_whole;
 use std::alloc::{AllocError, Global};
 use std::marker::Model;
-use ti_charsets::Reach;
+use ti_conforms::Reach;
 use ti_rows::{Attributes, Looks, NO_ATTRIBUTES, NO_MARKS, Row};
 use vt_effects::{Effect, Sets};
 use vt_term::{Scanner, Size};

@@ -3,6 +3,7 @@
 
 mod agreeing;
 mod audits;
+mod certificates;
 mod ending;
 mod faults;
 mod groups;

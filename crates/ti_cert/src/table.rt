@@ -1,7 +1,7 @@
 //! The table that a certificate makes.
 
 ghost use Rattle.std.specs.Prelude.{◌≡◌, option_copied};
-ghost use Rattle.ti_checked.specs.Judged.{IsJudged};
+ghost use Rattle.ti_conforms.specs.Judged.{IsJudged};
 ghost use Rattle.ti_cert.specs.Singles.{LooksStand};
 ghost use Rattle.ti_cert.specs.Strings.{string_in};
 ghost use Rattle.ti_cert.specs.Table as spec;
@@ -9,9 +9,8 @@ ghost use Rattle.ti_cert.specs.Table as spec;
 use crate::known::Known;
 use std::marker::Model;
 use ti_caps::Bytes;
-use ti_charsets::Charsets;
+use ti_conforms::{Charsets, Lines};
 use ti_rows::Row;
-use ti_sends::Lines;
 use vt_term::Size;
 
 /// The lines of a certificate for a size, each of which was judged.
@@ -23,7 +22,7 @@ pub struct Table {
 }
 
 impl Model for Table {
-    ghost use Rattle.ti_checked.specs.Judged.{IsJudged};
+    ghost use Rattle.ti_conforms.specs.Judged.{IsJudged};
     ghost use Rattle.ti_cert.specs.Singles.{LooksStand};
     ghost use Rattle.ti_cert.specs.Table.{Content, checked_of};
 

@@ -1,15 +1,15 @@
 //! An entry that its certificate verifies.
 
 ghost use Rattle.std.specs.Prelude.{◌≡◌, ◌++◌, ℕ, List, IfOk, IfErr, IfSome, OnOk, option_copied};
-ghost use Rattle.ti_reader.specs.Reader.{Rose};
+ghost use Rattle.ti_lines.specs.Reader.{Rose};
 ghost use Rattle.ti_cert.specs.Texts.{IsCertRefused, IsCertLineRead, Takes};
 ghost use Rattle.ti_cert.specs.Basic.{IsBasic, IsVerifyStopped, basic_text_of};
 ghost use Rattle.ti_cert.specs.Disagreeing.{IsAgreeRefused};
 ghost use Rattle.ti_caps.specs.Entry.{string_at};
-ghost use Rattle.ti_checked.specs.Checked.{IsLine};
-ghost use Rattle.ti_checked.specs.Table.{part, resync, widening};
+ghost use Rattle.ti_conforms.specs.Checked.{IsLine};
+ghost use Rattle.ti_conforms.specs.Table.{part, resync, widening};
 ghost use Rattle.ti_conforms.specs.Conforms.{Conforms};
-ghost use Rattle.ti_sends.specs.Entries.{EntryAgrees, acsc};
+ghost use Rattle.ti_conforms.specs.Entries.{EntryAgrees, acsc};
 ghost use Rattle.ti_cert.specs.Table.{table_of};
 ghost use Rattle.ti_cert.specs.Verified as spec;
 
@@ -20,8 +20,8 @@ use crate::table::Table;
 use std::alloc::{AllocError, Global};
 use std::marker::Model;
 use ti_caps::{Bytes, Entry};
-use ti_looks::partner;
-use ti_reader::Reader;
+use ti_conforms::partner;
+use ti_lines::Reader;
 use ti_rows::Row;
 use vt_term::Size;
 

@@ -1,7 +1,7 @@
 -- The certificate of a basic entry is its basic text.
 use Rattle.std.proofs.Common.{ℕ, List, Option, Ok, sym, subst, ◌∙◌}
 use Rattle.std.proofs.lemmas.Option.{same_Some}
-use Rattle.ti_sends.specs.Sends.{Sends}
+use Rattle.ti_conforms.specs.Sends.{Sends}
 use Rattle.ti_cert.specs.Certificates.{Ended, IsAnswer}
 use Rattle.ti_cert.proofs.BasicAlone.{alone}
 use Rattle.ti_checker.specs.Certificate.{BasicCertificate}

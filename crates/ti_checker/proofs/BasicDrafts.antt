@@ -9,7 +9,7 @@ use Rattle.vt_term.proofs.Splitting.{one_splitting}
 use Rattle.vt_effects.specs.declared.effects.Effect.{Effect}
 use Rattle.vt_effects.specs.Record.{record_of}
 use Rattle.ti_caps.specs.Entry.{Content}
-use Rattle.ti_charsets.specs.Charsets.{IsAmong}
+use Rattle.ti_conforms.specs.Charsets.{IsAmong}
 use Rattle.ti_rows.specs.declared.rows.Looks.{Looks}
 use Rattle.ti_rows.specs.declared.rows.Row.{Row}
 use Rattle.ti_rows.specs.declared.rows.Row.TheVariants.{Home, El}
@@ -18,9 +18,9 @@ use Rattle.ti_rows.specs.Lists.{IsInRange}
 use Rattle.ti_rows.specs.Names.{order}
 use Rattle.ti_rows.proofs.Naming.{orders_small}
 use Rattle.ti_rows.proofs.Righting.{recorded_is_right}
-use Rattle.ti_lines.specs.declared.lines.RowLine.{RowLine}
+use Rattle.ti_lines.specs.declared.row_lines.RowLine.{RowLine}
 use Rattle.ti_lines.specs.Texts.{texts_of, ended}
-use Rattle.ti_sends.specs.Entries.{has_string, is_checked, string_of}
+use Rattle.ti_conforms.specs.Entries.{has_string, is_checked, string_of}
 use Rattle.ti_conforms.specs.Conforms.{IsFit}
 use Rattle.ti_cert.specs.Basic.{basic_bytes, basic_effect, basic_line, basic_rows, basic_text, basic_text_of, IsBasic}
 use Rattle.ti_cert.specs.Certificates.{Ended, IsAnswer}

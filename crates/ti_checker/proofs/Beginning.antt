@@ -13,7 +13,7 @@ use Rattle.ti_rows.specs.Names.{order}
 use Rattle.ti_lines.specs.Heads.{acsc_text, size_text}
 use Rattle.ti_lines.specs.Hex.{hex_text}
 use Rattle.ti_lines.specs.Texts.{acsc_lines, ended}
-use Rattle.ti_sends.specs.Entries.{acsc}
+use Rattle.ti_conforms.specs.Entries.{acsc}
 use Rattle.ti_cert.proofs.BasicLines.{size_short}
 use Rattle.ti_checker.specs.First.{IsDrafted}
 use Rattle.ti_checker.specs.Limit.{most}

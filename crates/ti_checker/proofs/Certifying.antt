@@ -7,8 +7,8 @@ use Rattle.ti_rows.specs.declared.rows.Row.{Row}
 use Rattle.ti_rows.specs.Lists.{IsInRange, rank}
 use Rattle.ti_rows.specs.Names.{order}
 use Rattle.std.specs.List.{slice_get}
-use Rattle.ti_sends.specs.Sends.{Sends}
-use Rattle.ti_sends.specs.Entries.{acsc, is_checked, EntryAgrees}
+use Rattle.ti_conforms.specs.Sends.{Sends}
+use Rattle.ti_conforms.specs.Entries.{acsc, is_checked, EntryAgrees}
 use Rattle.ti_cert.specs.Strings.{allows, group_at, string_in}
 use Rattle.ti_cert.specs.Table as tables
 use Rattle.ti_cert.specs.Certificates.{Ended, IsAnswer}

@@ -5,17 +5,17 @@ use Rattle.std.proofs.lemmas.Bool.{false≢true}
 use Rattle.std.proofs.lemmas.Option.{same_Some}
 use Rattle.vt_term.specs.Size.{IsSize}
 use Rattle.ti_caps.specs.Entry.{Content}
-use Rattle.ti_charsets.specs.Charsets.{IsAmong}
+use Rattle.ti_conforms.specs.Charsets.{IsAmong}
 use Rattle.ti_rows.specs.declared.rows.Row.{Row}
 use Rattle.ti_rows.specs.Names.{order, cap_of}
 use Rattle.ti_rows.specs.Params.{params}
 use Rattle.ti_rows.specs.Lists.{IsFirst, IsInRange, Follows, next, rank, count}
 use Rattle.ti_rows.proofs.Naming.{orders_small}
 use Rattle.ti_rows.proofs.Listing.{last_is_last, ranks_below, one_of_rank}
-use Rattle.ti_lines.specs.declared.lines.RowLine.{RowLine}
-use Rattle.ti_lines.specs.Lines.{line_text}
-use Rattle.ti_sends.specs.Entries.{is_checked, string_of}
-use Rattle.ti_sends.proofs.Walking.{same_count}
+use Rattle.ti_lines.specs.declared.row_lines.RowLine.{RowLine}
+use Rattle.ti_lines.specs.RowLines.{line_text}
+use Rattle.ti_conforms.specs.Entries.{is_checked, string_of}
+use Rattle.ti_conforms.proofs.Walking.{same_count}
 use Rattle.ti_cert.specs.Order.{Precedes, HasLine}
 use Rattle.ti_cert.proofs.BasicOrder.{among_either}
 use Rattle.ti_cert.proofs.Keeping.{among_front, among_behind}

@@ -20,8 +20,8 @@ use Rattle.ti_rows.specs.Wants.{Wants}
 use Rattle.ti_probes.specs.Breaking.{Breaks}
 use Rattle.ti_probes.specs.Probe.{screen_of}
 use Rattle.ti_probes.specs.declared.probes.Probe.{Probe}
-use Rattle.ti_sends.specs.Sends.{Sends, values}
-use Rattle.ti_sends.specs.Entries.{is_checked, string_of}
+use Rattle.ti_conforms.specs.Sends.{Sends, values}
+use Rattle.ti_conforms.specs.Entries.{is_checked, string_of}
 use Rattle.ti_conforms.specs.Conforms.{Conforms, IsFit}
 use Rattle.ti_cert.proofs.Disagreeing.{flag_not_out, none_lacking, none_misfit}
 use Rattle.ti_checker.proofs.Together.{none_open}

@@ -2,14 +2,14 @@
 use Rattle.std.proofs.Common.{◌≡◌, ◌⊎◌, inl, inr, ◌<◌, ◌≤◌, ℕ, true, List, [], ◌∷◌, length, sym, ap, subst, arith}
 use Rattle.std.proofs.Math.Nat.{eq-or-lt_of_le}
 use Rattle.ti_caps.specs.Entry.{Content}
-use Rattle.ti_charsets.specs.Charsets.{IsAmong}
+use Rattle.ti_conforms.specs.Charsets.{IsAmong}
 use Rattle.ti_parm.proofs.Numbers.{le_or_ge}
 use Rattle.ti_rows.specs.declared.rows.Row.{Row}
 use Rattle.ti_rows.specs.Lists.{IsInRange, rank}
 use Rattle.ti_rows.specs.Names.{order}
 use Rattle.ti_rows.proofs.Naming.{orders_small}
-use Rattle.ti_lines.specs.declared.lines.RowLine.{RowLine}
-use Rattle.ti_sends.specs.Entries.{is_checked}
+use Rattle.ti_lines.specs.declared.row_lines.RowLine.{RowLine}
+use Rattle.ti_conforms.specs.Entries.{is_checked}
 use Rattle.ti_cert.specs.Order.{Precedes, HasLine}
 use Rattle.ti_checker.specs.First.{EachWritten, IsDrafted}
 use Rattle.ti_checker.specs.Limit.{InOrder, StaysWithin, FitsLimit}

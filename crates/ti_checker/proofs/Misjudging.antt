@@ -5,7 +5,7 @@ use Rattle.vt_effects.specs.Record.{record_of}
 use Rattle.vt_effects.specs.declared.effects.Effect.{Effect}
 use Rattle.ti_rows.specs.Asked.{start_of}
 use Rattle.ti_rows.specs.declared.rows.Row.{Row}
-use Rattle.ti_sends.specs.Sends.{Sends}
+use Rattle.ti_conforms.specs.Sends.{Sends}
 use Rattle.ti_probes.proofs.Showing.{shown_breaks}
 use Rattle.ti_checker.specs.No.{IsFaulty, IsMisfit, IsMisjudged}
 use Rattle.ti_checker.specs.declared.causes.Cause.{Cause}

@@ -6,7 +6,7 @@ use Rattle.vt_term.proofs.Splitting.{one_splitting}
 use Rattle.ti_caps.specs.Entry.{Content}
 use Rattle.ti_rows.specs.declared.rows.Row.{Row}
 use Rattle.ti_rows.specs.Names.{cap_of, firsts}
-use Rattle.ti_sends.specs.Entries.{is_checked}
+use Rattle.ti_conforms.specs.Entries.{is_checked}
 use Rattle.ti_checker.specs.Notes.{SendsTokens, notes_of, StringNotes, RowNotes, RowsNotes, EntryNotes}
 use Rattle.ti_checker.specs.declared.noting.CheckNote.{CheckNote}
 

@@ -1,9 +1,9 @@
 -- Lists of lines in the order of a certificate: one within another is no longer, and two with the same lines are one.
 use Rattle.std.proofs.Common.{◌≡◌, ◌⊎◌, ◌≤◌, ◌+◌, ℕ, List, [], ◌∷◌, ◌++◌, map, reverse, length, inl, inr, refl, sym, ap, subst, ◌∙◌, arith, length-append}
 use Rattle.std.proofs.lemmas.Grind.{reverse_onto}
-use Rattle.ti_charsets.specs.Charsets.{IsAmong}
-use Rattle.ti_lines.specs.declared.lines.RowLine.{RowLine}
-use Rattle.ti_lines.specs.Lines.{line_text}
+use Rattle.ti_conforms.specs.Charsets.{IsAmong}
+use Rattle.ti_lines.specs.declared.row_lines.RowLine.{RowLine}
+use Rattle.ti_lines.specs.RowLines.{line_text}
 use Rattle.ti_lines.specs.Texts.{ended}
 use Rattle.ti_cert.specs.Order.{Precedes}
 use Rattle.ti_cert.specs.Certificates.{HasEffect}

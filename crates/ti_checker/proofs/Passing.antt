@@ -7,15 +7,15 @@ use Rattle.vt_term.proofs.Splitting.{one_splitting}
 use Rattle.vt_effects.specs.declared.effects.Effect.{Effect}
 use Rattle.vt_effects.specs.Record.{record_of}
 use Rattle.ti_caps.specs.Entry.{Content, string_at}
-use Rattle.ti_charsets.specs.Charsets.{IsAmong}
+use Rattle.ti_conforms.specs.Charsets.{IsAmong}
 use Rattle.ti_rows.specs.declared.rows.Row.{Row}
 use Rattle.ti_rows.specs.Asked.{start_of}
-use Rattle.ti_lines.specs.declared.lines.RowLine.{RowLine}
+use Rattle.ti_lines.specs.declared.row_lines.RowLine.{RowLine}
 use Rattle.ti_lines.specs.Heads.{size_text, end_text}
-use Rattle.ti_lines.specs.Lines.{line_text}
+use Rattle.ti_lines.specs.RowLines.{line_text}
 use Rattle.ti_lines.specs.Texts.{acsc_lines, row_lines, ended}
-use Rattle.ti_sends.specs.Sends.{Sends}
-use Rattle.ti_sends.specs.Entries.{acsc}
+use Rattle.ti_conforms.specs.Sends.{Sends}
+use Rattle.ti_conforms.specs.Entries.{acsc}
 use Rattle.ti_cert.specs.Texts.{IsCertificate}
 use Rattle.ti_cert.proofs.Spelling.{that_of_certificate}
 use Rattle.ti_checker.specs.Certificate.{IsCertificateOf}

@@ -17,7 +17,7 @@ use Rattle.vt_effects.specs.declared.effects.Switch.{Switch}
 use Rattle.vt_effects.specs.declared.effects.Switch.TheVariants as switches
 use Rattle.vt_effects.specs.Effect.{designated, switched}
 use Rattle.ti_caps.specs.Entry.{Content, string_at}
-use Rattle.ti_charsets.specs.Charsets.{charset_after, charset_over}
+use Rattle.ti_conforms.specs.Charsets.{charset_after, charset_over}
 use Rattle.ti_rows.specs.declared.rows.Looks.{Looks}
 use Rattle.ti_rows.specs.declared.rows.Row.{Row}
 use Rattle.ti_rows.specs.declared.rows.Row.TheVariants.{Clear, Csr, Smcup, Enacs, Sgr0, Smacs, Rmacs}
@@ -25,11 +25,11 @@ use Rattle.ti_rows.specs.Lists.{IsInRange}
 use Rattle.ti_rows.specs.Right.{IsRight}
 use Rattle.ti_rows.specs.Starts.{Starts, IsAny, IsFree}
 use Rattle.ti_rows.specs.Wants.{Wants}
-use Rattle.ti_sends.specs.Entries.{acsc, has_string, is_checked, meets}
-use Rattle.ti_sends.specs.declared.entries.Group.TheVariants as groups
-use Rattle.ti_checked.specs.Table.{Table, or_nothing, part, widening, resync}
-use Rattle.ti_checked.specs.Sets.{CanHave, LeadsBy, AfterResync}
-use Rattle.ti_checked.proofs.Judging.{over_steps}
+use Rattle.ti_conforms.specs.Entries.{acsc, has_string, is_checked, meets}
+use Rattle.ti_conforms.specs.declared.entries.Group.TheVariants as groups
+use Rattle.ti_conforms.specs.Table.{Table, or_nothing, part, widening, resync}
+use Rattle.ti_conforms.specs.Sets.{CanHave, LeadsBy, AfterResync}
+use Rattle.ti_conforms.proofs.Judging.{over_steps}
 use Rattle.ti_checker.specs.First.{EachStands, SendsRight}
 use Rattle.ti_checker.specs.Last.{OfAllSent, LeavesPlain, SettleRight}
 use Rattle.ti_checker.specs.Switching.{HasSent}

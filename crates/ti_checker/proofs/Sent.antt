@@ -15,10 +15,10 @@ use Rattle.ti_rows.specs.Params.{params}
 use Rattle.ti_rows.specs.Starts.{Starts}
 use Rattle.ti_parm.specs.Meaning.{sent}
 use Rattle.ti_parm.specs.declared.fault.ParmFault.{ParmFault}
-use Rattle.ti_sends.specs.Sends.{Sends, values}
-use Rattle.ti_sends.specs.Entries.{acsc, is_checked, string_of, meets, group_of, EntryAgrees, LineAgrees}
-use Rattle.ti_checked.specs.Table.{Table, or_nothing, part, widening, resync, Activates}
-use Rattle.ti_checked.specs.Sets.{CanHave, AtReset, AfterToken, LeadsBy, CanSettle, AfterResync, AfterLine}
+use Rattle.ti_conforms.specs.Sends.{Sends, values}
+use Rattle.ti_conforms.specs.Entries.{acsc, is_checked, string_of, meets, group_of, EntryAgrees, LineAgrees}
+use Rattle.ti_conforms.specs.Table.{Table, or_nothing, part, widening, resync, Activates}
+use Rattle.ti_conforms.specs.Sets.{CanHave, AtReset, AfterToken, LeadsBy, CanSettle, AfterResync, AfterLine}
 use Rattle.ti_conforms.specs.Conforms.{Conforms, IsFit}
 use Rattle.ti_cert.specs.Singles.{no_looks}
 use Rattle.ti_cert.specs.Strings.{allows}

@@ -14,13 +14,13 @@ use Rattle.vt_effects.specs.declared.effects.Sets.{Sets}
 use Rattle.vt_effects.specs.declared.effects.Switch.TheVariants as switches
 use Rattle.vt_effects.specs.Effect.{designated}
 use Rattle.ti_caps.specs.Entry.{Content}
-use Rattle.ti_charsets.specs.declared.reach.Reach.{Reach}
-use Rattle.ti_charsets.specs.declared.closing.Charsets.{Charsets}
-use Rattle.ti_charsets.specs.Charsets.{IsAmong, Reached, charset_after, charset_over, can_have, joined, reach_of}
-use Rattle.ti_charsets.specs.Charsets as charsets
-use Rattle.ti_charsets.specs.Closing.{Settled, First, After, SomeLeads, Leaves, designated_all}
-use Rattle.ti_charsets.specs.Closing as closing
-use Rattle.ti_charsets.proofs.Reaching.{can_reached, reached_can, reach_of-append}
+use Rattle.ti_conforms.specs.declared.reach.Reach.{Reach}
+use Rattle.ti_conforms.specs.declared.closing.Charsets.{Charsets}
+use Rattle.ti_conforms.specs.Charsets.{IsAmong, Reached, charset_after, charset_over, can_have, joined, reach_of}
+use Rattle.ti_conforms.specs.Charsets as charsets
+use Rattle.ti_conforms.specs.Closing.{Settled, First, After, SomeLeads, Leaves, designated_all}
+use Rattle.ti_conforms.specs.Closing as closing
+use Rattle.ti_conforms.proofs.Reaching.{can_reached, reached_can, reach_of-append}
 use Rattle.ti_rows.specs.declared.rows.Row.{Row}
 use Rattle.ti_rows.specs.declared.rows.Row.TheVariants.{Clear, Csr, Smcup, Enacs, Sgr0, Smacs, Rmacs}
 use Rattle.ti_rows.specs.Lists.{IsInRange, next, rank, count}
@@ -28,12 +28,12 @@ use Rattle.ti_rows.specs.Names.{order}
 use Rattle.ti_rows.proofs.Listing.{last_is_last, ranks_below, one_of_rank}
 use Rattle.ti_rows.proofs.Naming.{orders_small}
 use Rattle.ti_parm.specs.Meaning.{sent}
-use Rattle.ti_sends.specs.Sends.{Sends}
-use Rattle.ti_sends.specs.Entries.{is_checked, string_of, meets, group_of}
-use Rattle.ti_sends.proofs.Walking.{same_count}
-use Rattle.ti_checked.specs.Table.{Table, or_nothing, part, widening, resync, keeps_settled, Activates}
-use Rattle.ti_checked.specs.Sets.{CanHave, AtReset, AfterToken, LeadsBy, CanSettle, AfterResync, AfterLine, Occurs}
-use Rattle.ti_checked.proofs.Judging.{over_steps}
+use Rattle.ti_conforms.specs.Sends.{Sends}
+use Rattle.ti_conforms.specs.Entries.{is_checked, string_of, meets, group_of}
+use Rattle.ti_conforms.proofs.Walking.{same_count}
+use Rattle.ti_conforms.specs.Table.{Table, or_nothing, part, widening, resync, keeps_settled, Activates}
+use Rattle.ti_conforms.specs.Sets.{CanHave, AtReset, AfterToken, LeadsBy, CanSettle, AfterResync, AfterLine, Occurs}
+use Rattle.ti_conforms.proofs.Judging.{over_steps}
 use Rattle.ti_cert.specs.Audit.{with_change}
 use Rattle.ti_probes.specs.Probe.{screen_of}
 use Rattle.ti_probes.specs.declared.probes.Probe.{Probe}

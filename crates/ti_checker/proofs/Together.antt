@@ -5,9 +5,9 @@ use Rattle.ti_caps.specs.Entry.{Content}
 use Rattle.ti_rows.specs.declared.rows.Row.{Row}
 use Rattle.ti_rows.specs.declared.rows.Row.TheVariants.{Clear, Csr, Smcup, Enacs, Sgr0, Rmacs}
 use Rattle.ti_rows.specs.Lists.{IsInRange}
-use Rattle.ti_sends.specs.Sends.{Sends}
-use Rattle.ti_sends.specs.Entries.{is_checked, string_of, EntryAgrees}
-use Rattle.ti_checked.specs.Table.{Table, or_nothing, part, widening, resync}
+use Rattle.ti_conforms.specs.Sends.{Sends}
+use Rattle.ti_conforms.specs.Entries.{is_checked, string_of, EntryAgrees}
+use Rattle.ti_conforms.specs.Table.{Table, or_nothing, part, widening, resync}
 use Rattle.ti_conforms.specs.Conforms.{Conforms, IsFit}
 use Rattle.ti_rows.specs.Names.{cap_of}
 use Rattle.ti_rows.specs.Params.{params}

@@ -5,9 +5,9 @@ use Rattle.ti_caps.specs.Entry.{Content, string_at}
 use Rattle.ti_rows.specs.declared.rows.Row.{Row}
 use Rattle.ti_rows.specs.declared.rows.Row.TheVariants.{Setaf, Setab, Op, Smul, Rev, Blink, Dim, Bold, Invis, Smso, Smacs, Rmacs}
 use Rattle.ti_rows.specs.Names.{order, string_in_order}
-use Rattle.ti_sends.specs.declared.entries.Group.{Group}
-use Rattle.ti_sends.specs.declared.entries.Group.TheVariants.{Colors, Single, Sets, Alone}
-use Rattle.ti_sends.specs.Entries.{group_of, string_of, has_string, meets, is_checked}
+use Rattle.ti_conforms.specs.declared.entries.Group.{Group}
+use Rattle.ti_conforms.specs.declared.entries.Group.TheVariants.{Colors, Single, Sets, Alone}
+use Rattle.ti_conforms.specs.Entries.{group_of, string_of, has_string, meets, is_checked}
 use Rattle.ti_checker.specs.No.{HasFaulty, IsFaulty, IsFaultyOf, IsSo, IsSoBy}
 use Rattle.ti_checker.specs.declared.causes.Cause.{Cause}
 use Rattle.ti_checker.specs.declared.causes.Cause.TheVariants.{FlagOut, Absent, AcsByte, Parm, StaticRead, Unfinished, Stuck, NotTame, BadLook, WrongEffect, NotShown, TooLong, NoResync, NoMemory}

@@ -3,9 +3,9 @@ use Rattle.std.specs.Prelude.{ℕ, ◌≡◌, true, List, Ok}
 use Rattle.ti_caps.specs.Entry.{Content, string_at}
 use Rattle.ti_rows.specs.declared.rows.Row.{Row}
 use Rattle.ti_rows.specs.Lists.{IsInRange}
-use Rattle.ti_lines.specs.declared.lines.RowLine.{RowLine}
-use Rattle.ti_sends.specs.Entries.{acsc, is_checked}
-use Rattle.ti_charsets.specs.Charsets.{IsAmong}
+use Rattle.ti_lines.specs.declared.row_lines.RowLine.{RowLine}
+use Rattle.ti_conforms.specs.Entries.{acsc, is_checked}
+use Rattle.ti_conforms.specs.Charsets.{IsAmong}
 use Rattle.vt_term.specs.Size.{IsSize}
 use Rattle.ti_cert.specs.Basic.{IsBasic, basic_text_of}
 use Rattle.ti_cert.specs.Order.{HasLine}

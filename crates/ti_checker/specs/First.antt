@@ -8,8 +8,8 @@ use Rattle.ti_rows.specs.Names.{cap_of}
 use Rattle.ti_rows.specs.Params.{params}
 use Rattle.ti_rows.specs.Lists.{IsInRange}
 use Rattle.ti_rows.specs.Right.{IsRight}
-use Rattle.ti_sends.specs.Sends.{Sends}
-use Rattle.ti_sends.specs.Entries.{is_checked, string_of}
+use Rattle.ti_conforms.specs.Sends.{Sends}
+use Rattle.ti_conforms.specs.Entries.{is_checked, string_of}
 use Rattle.ti_cert.specs.Order.{Precedes}
 use Rattle.ti_checker.specs.declared.causes.Cause.{Cause}
 use Rattle.ti_checker.specs.declared.causes.Cause.TheVariants.{FlagOut, Absent, AcsByte, BadLook, WrongEffect, NotShown, NoResync, NoMemory}

@@ -5,10 +5,10 @@ use Rattle.vt_term.specs.Screen.{State, Charset, is_graphic}
 use Rattle.ti_caps.specs.Entry.{Content}
 use Rattle.ti_rows.specs.declared.rows.Row.{Row}
 use Rattle.ti_rows.specs.declared.rows.Row.TheVariants.{Smacs, Rmacs}
-use Rattle.ti_resync.specs.Lost.{EndsIn}
-use Rattle.ti_sends.specs.Entries.{is_checked}
-use Rattle.ti_checked.specs.Table.{Table, resync, Activates}
-use Rattle.ti_checked.specs.Sets.{CanHave, LeadsBy, CanSettle}
+use Rattle.vt_term.specs.Ends.{Ends}
+use Rattle.ti_conforms.specs.Entries.{is_checked}
+use Rattle.ti_conforms.specs.Table.{Table, resync, Activates}
+use Rattle.ti_conforms.specs.Sets.{CanHave, LeadsBy, CanSettle}
 use Rattle.ti_checker.specs.Switching.{HasSent}
 
 -- it is so of each table that has just what the entry sends
@@ -18,7 +18,7 @@ OfAllSent entry rows cols Is = (t : Table) → HasSent entry rows cols t → Is 
 -- from each state with nothing open and a charset that can be settled, the run of the row's bytes ends with the set active
 -- that the row switches to
 abbrev pub SwitchesRight : Row → Table → Type 0
-SwitchesRight row t = (bytes : List ℕ) → t.line_of row ≡ Some bytes → (s : State) → s.rest ≡ [] → CanSettle t s.screen.charset → EndsIn s bytes (λ u. Activates row u.screen.charset)
+SwitchesRight row t = (bytes : List ℕ) → t.line_of row ≡ Some bytes → (s : State) → s.rest ≡ [] → CanSettle t s.screen.charset → Ends s bytes (λ u. Activates row u.screen.charset)
 
 -- where letters of line graphics can't be sent, each charset that can be settled is plain
 abbrev pub SettlesPlain : Content → Table → Type 0

@@ -1,15 +1,15 @@
 -- Where the lines of an entry's certificate would pass the length that a certificate may have.
 use Rattle.std.specs.Prelude.{ℕ, ◌≡◌, ◌<◌, ◌≤◌, ◌⊎◌, true, length, map, List, [], ◌∷◌, ◌++◌}
 use Rattle.ti_caps.specs.Entry.{Content, string_at}
-use Rattle.ti_charsets.specs.Charsets.{IsAmong}
+use Rattle.ti_conforms.specs.Charsets.{IsAmong}
 use Rattle.ti_rows.specs.declared.rows.Row.{Row}
 use Rattle.ti_rows.specs.Lists.{IsInRange}
-use Rattle.ti_lines.specs.declared.lines.RowLine.{RowLine}
+use Rattle.ti_lines.specs.declared.row_lines.RowLine.{RowLine}
 use Rattle.ti_lines.specs.Heads.{size_text}
-use Rattle.ti_lines.specs.Lines.{line_text}
+use Rattle.ti_lines.specs.RowLines.{line_text}
 use Rattle.ti_lines.specs.Texts.{acsc_lines, texts_of, ended}
-use Rattle.ti_sends.specs.Sends.{Sends}
-use Rattle.ti_sends.specs.Entries.{acsc, is_checked}
+use Rattle.ti_conforms.specs.Sends.{Sends}
+use Rattle.ti_conforms.specs.Entries.{acsc, is_checked}
 use Rattle.ti_cert.specs.Order.{HasLine, Precedes}
 use Rattle.ti_cert.specs.Certificates.{HasEffect, limit}
 use Rattle.ti_checker.specs.Certificate.{IsSent}

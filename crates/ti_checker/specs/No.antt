@@ -16,12 +16,12 @@ use Rattle.ti_rows.specs.Bits.{number_of}
 use Rattle.ti_rows.specs.Names.{cap_of, order}
 use Rattle.ti_rows.specs.Params.{params}
 use Rattle.ti_rows.specs.Lists.{IsInRange}
-use Rattle.ti_sends.specs.Sends.{Sends, ReadsStatic, values}
-use Rattle.ti_sends.specs.Entries.{acsc, has_string, is_checked, string_of}
+use Rattle.ti_conforms.specs.Sends.{Sends, ReadsStatic, values}
+use Rattle.ti_conforms.specs.Entries.{acsc, has_string, is_checked, string_of}
 use Rattle.ti_conforms.specs.Conforms.{IsFit, xmc, hc, gn, os}
 use Rattle.ti_probes.specs.declared.probes.Probe.{Probe}
 use Rattle.ti_probes.specs.Breaking.{Breaks, IsShown}
-use Rattle.ti_cert.specs.Unfit.{HasMisfit, LacksCap, is_flag_out}
+use Rattle.ti_conforms.specs.Unfit.{HasMisfit, LacksCap, is_flag_out, HasNoFlagOut, HasRequired}
 use Rattle.ti_cert.specs.declared.faults.AgreeFault.TheVariants as agreeing
 use Rattle.ti_cert.specs.declared.faults.CertFaultKind.TheVariants as kinds_of_cert
 use Rattle.ti_cert.specs.declared.faults.VerifyFault.{VerifyFault}
@@ -206,18 +206,6 @@ IsOutOfMemory (Cert fault) = fault.kind ≡ kinds_of_cert.NoMemory
 IsOutOfMemory (Agree fault) = fault ≡ agreeing.NoMemory
 
 -- ---- the order of causes
-
-pub record HasNoFlagOut (entry : Content) : Type 0 where
-  pub no_cookies : number_at entry xmc ≡ None
-  pub no_paper : flag_at entry hc ≡ false
-  pub no_generic : flag_at entry gn ≡ false
-  pub no_overstrike : flag_at entry os ≡ false
-
-pub record HasRequired (entry : Content) : Type 0 where
-  pub flags : HasNoFlagOut entry
-  pub clear : has_string entry Clear ≡ true
-  pub cup : has_string entry (Cup 0 0) ≡ true
-  pub sgr0 : has_string entry Sgr0 ≡ true
 
 -- flags come first, then required strings, then alternate characters, then all else
 abbrev pub IsFirstCause : Content → Cause → Type 0

@@ -10,8 +10,8 @@ use Rattle.ti_rows.specs.declared.rows.Row.{Row}
 use Rattle.ti_rows.specs.Names.{cap_of, first_in_order, firsts}
 use Rattle.ti_rows.specs.Params.{params}
 use Rattle.ti_lines.specs.Hex.{hex_text}
-use Rattle.ti_sends.specs.Sends.{Sends, ReadsStatic, values}
-use Rattle.ti_sends.specs.Entries.{is_checked, string_of}
+use Rattle.ti_conforms.specs.Sends.{Sends, ReadsStatic, values}
+use Rattle.ti_conforms.specs.Entries.{is_checked, string_of}
 use Rattle.ti_checker.specs.Ignored.{is_ignored}
 use Rattle.ti_checker.specs.No.{SendsSome}
 use Rattle.ti_checker.specs.declared.noting.CheckNote.{CheckNote}

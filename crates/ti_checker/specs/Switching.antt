@@ -8,19 +8,19 @@ use Rattle.vt_term.specs.Text.{Splits}
 use Rattle.vt_effects.specs.declared.effects.Sets.{Sets}
 use Rattle.vt_effects.specs.Effect.{designated}
 use Rattle.ti_caps.specs.Entry.{Content}
-use Rattle.ti_charsets.specs.declared.reach.Reach.{Reach}
-use Rattle.ti_charsets.specs.declared.closing.Charsets.{Charsets}
-use Rattle.ti_charsets.specs.Charsets.{IsAmong, charset_over, can_have, reach_of}
-use Rattle.ti_charsets.specs.Closing as closing
+use Rattle.ti_conforms.specs.declared.reach.Reach.{Reach}
+use Rattle.ti_conforms.specs.declared.closing.Charsets.{Charsets}
+use Rattle.ti_conforms.specs.Charsets.{IsAmong, charset_over, can_have, reach_of}
+use Rattle.ti_conforms.specs.Closing as closing
 use Rattle.ti_rows.specs.declared.rows.Row.{Row}
 use Rattle.ti_rows.specs.declared.rows.Row.TheVariants.{Smacs, Rmacs}
 use Rattle.ti_rows.specs.Lists.{IsInRange, rank}
 use Rattle.ti_rows.specs.Names.{order}
 use Rattle.ti_rows.specs.Starts.{Starts}
-use Rattle.ti_sends.specs.Sends.{Sends}
-use Rattle.ti_sends.specs.Entries.{is_checked, string_of, EntryAgrees}
-use Rattle.ti_checked.specs.Table.{Table, part, resync, keeps_settled, Activates}
-use Rattle.ti_checked.specs.Sets.{CanSettle, LeadsBy, Occurs}
+use Rattle.ti_conforms.specs.Sends.{Sends}
+use Rattle.ti_conforms.specs.Entries.{is_checked, string_of, EntryAgrees}
+use Rattle.ti_conforms.specs.Table.{Table, part, resync, keeps_settled, Activates}
+use Rattle.ti_conforms.specs.Sets.{CanSettle, LeadsBy, Occurs}
 use Rattle.ti_probes.specs.Probe.{screen_of}
 use Rattle.ti_probes.specs.declared.probes.Probe.{Probe}
 

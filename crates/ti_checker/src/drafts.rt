@@ -8,21 +8,20 @@ ghost use Rattle.ti_checker.specs.First as told;
 ghost use Rattle.ti_checker.specs.Limit.{AddsLine, most};
 ghost use Rattle.ti_checker.specs.No as spec;
 ghost use Rattle.ti_lines.specs.Heads.{acsc_text, end_text, size_text};
-ghost use Rattle.ti_lines.specs.Lines.{line_text};
+ghost use Rattle.ti_lines.specs.RowLines.{line_text};
 ghost use Rattle.ti_lines.specs.Texts.{acsc_lines, ended};
 ghost use Rattle.ti_rows.specs.Lists.{IsFirst, IsInRange};
 ghost use Rattle.ti_rows.specs.Names.{order};
-ghost use Rattle.ti_sends.specs.Entries as entries;
-ghost use Rattle.ti_sends.specs.Entries.{string_of};
+ghost use Rattle.ti_conforms.specs.Entries as entries;
+ghost use Rattle.ti_conforms.specs.Entries.{string_of};
 
 use crate::causes::{Cause, No};
-use crate::fitness::acsc;
 use crate::judging::{NO_LOOKS, judge_row};
 use std::alloc::{AllocError, Global};
 use ti_caps::Entry;
+use ti_conforms::{acsc, is_checked};
 use ti_lines::{push_hex, push_row_line};
 use ti_rows::{Looks, Row};
-use ti_sends::is_checked;
 use vt_effects::Effect;
 use vt_term::{Scanner, Size};
 

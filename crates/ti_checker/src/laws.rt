@@ -19,7 +19,7 @@ ghost use Rattle.vt_term.specs.Rendering.{rendered};
 ghost use Rattle.vt_term.specs.Step.{mode_set};
 ghost use Rattle.vt_term.specs.Text.{IsDropped, IsSequence, IsSingle};
 
-/// Whole sequences are told from the other tokens of a text: from printed characters, controls and
+/// A whole sequence differs from the other tokens of a text: printed characters, controls and
 /// sequences that were cut off.
 pub fn sequences_told_apart()
     ensures sequence { (token : List ℕ) → IsSequence token → is_whole_sequence token ≡ true }

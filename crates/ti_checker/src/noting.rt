@@ -4,7 +4,7 @@ ghost use Rattle.std.specs.Prelude.{◌≡◌, ◌++◌, ◌∷◌, [], IfErr, I
 ghost use Rattle.ti_checker.specs.No.{IsSo};
 ghost use Rattle.ti_checker.specs.Notes as spec;
 ghost use Rattle.ti_rows.specs.Names.{cap_of};
-ghost use Rattle.ti_sends.specs.Entries as entries;
+ghost use Rattle.ti_conforms.specs.Entries as entries;
 
 use crate::causes::{Cause, No};
 use crate::ignoring::is_ignored;
@@ -12,8 +12,8 @@ use crate::judging::tokens_of;
 use crate::sending::sent;
 use std::alloc::{AllocError, Global};
 use ti_caps::{Bytes, Cap, Entry};
+use ti_conforms::is_checked;
 use ti_rows::Row;
-use ti_sends::is_checked;
 use vt_term::{Size, Token};
 
 /// A sequence that the terminal ignores, wholly or in one of its numbers.

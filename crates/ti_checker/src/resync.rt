@@ -12,8 +12,8 @@ use crate::causes::{Cause, No};
 use crate::sending::sent;
 use std::alloc::Global;
 use ti_caps::Entry;
+use ti_conforms::is_checked;
 use ti_rows::Row;
-use ti_sends::is_checked;
 use vt_term::Size;
 
 /// What the entry sends for the row, nothing where it isn't checked.

@@ -5,14 +5,14 @@ ghost use Rattle.ti_checker.specs.No as spec;
 ghost use Rattle.ti_parm.specs.Meaning.{meaning};
 ghost use Rattle.ti_parm.specs.Value.{values_of, zeros};
 ghost use Rattle.ti_parm.specs.declared.fault.ParmFault.{ParmFault};
-ghost use Rattle.ti_sends.specs.Sends as sends;
+ghost use Rattle.ti_conforms.specs.Sends as sends;
 
 use crate::causes::Cause;
 use arrayvec::ArrayVec;
 use std::alloc::Global;
+use ti_conforms::{Unsent, send_into};
 use ti_parm::{Param, ParmFault, reads_unset};
 use ti_rows::Row;
-use ti_sends::{Unsent, send_into};
 
 /// The row's parameters, as a string takes them.
 fn values(row: Row) -> ArrayVec<Param<'static>, 9>

@@ -2,9 +2,9 @@
 
 ghost use Rattle.std.specs.Prelude.{◌≡◌, ◌+◌, [], IfErr, IfNone, IfOk, IfSome, OnOk, false, true};
 ghost use Rattle.ti_cert.specs.Audit.{with_change};
-ghost use Rattle.ti_charsets.specs.Charsets.{joined, reach_of};
-ghost use Rattle.ti_charsets.specs.Closing as closing;
-ghost use Rattle.ti_checked.specs.Table as checked;
+ghost use Rattle.ti_conforms.specs.Charsets.{joined, reach_of};
+ghost use Rattle.ti_conforms.specs.Closing as closing;
+ghost use Rattle.ti_conforms.specs.Table as checked;
 ghost use Rattle.ti_checker.specs.First.{EachWritten};
 ghost use Rattle.ti_checker.specs.Last as last;
 ghost use Rattle.ti_checker.specs.No.{IsFaulty, IsOfAll};
@@ -15,20 +15,18 @@ ghost use Rattle.ti_rows.specs.Lists.{IsFirst, IsInRange, rank};
 ghost use Rattle.ti_rows.specs.Names.{order};
 ghost use Rattle.ti_rows.specs.Starts.{IsFree};
 ghost use Rattle.ti_rows.specs.declared.rows.Row.TheVariants as rows;
-ghost use Rattle.ti_sends.specs.Entries as entries;
+ghost use Rattle.ti_conforms.specs.Entries as entries;
 ghost use Rattle.vt_effects.specs.Effect.{designated};
 ghost use Rattle.vt_term.specs.Screen.{Charset, is_graphic};
 
 use crate::causes::{Cause, No};
-use crate::fitness::acsc;
 use crate::judging::tokens_of;
 use crate::sending::sent;
 use std::alloc::{AllocError, Global};
 use ti_caps::Entry;
-use ti_charsets::{Charsets, Reach};
+use ti_conforms::{Charsets, Reach, acsc, is_checked};
 use ti_probes::Probe;
 use ti_rows::{NO_MARKS, Row};
-use ti_sends::is_checked;
 use vt_effects::{Sets, Switch, effect_of};
 use vt_term::{Charset, Size, Token};
 
@@ -72,7 +70,7 @@ fn change_by(
     }
 }
 
-/// The same of the entry's string, `None` where the row isn't checked.
+/// What the entry's string for `row` does to the charset, `None` where the row isn't checked.
 fn change_at(
     alloc: Global,
     entry: &Entry,
@@ -149,7 +147,7 @@ impl Seen {
         Ok(())
     }
 
-    /// The same of all rows of a capability.
+    /// Learns what the strings of all rows of a capability send, from the row `first` on.
     fn learn_rows(&mut self, alloc: Global, entry: &Entry, first: Row, size: Size) -> Result<(), No>
         requires fit { IsFit entry.now }
         requires written { EachWritten entry.now size.rows size.cols }

@@ -14,24 +14,26 @@ use Rattle.vt_term.specs.Run.{Runs, Sticks}
 use Rattle.vt_term.specs.Screen.{State, reset}
 use Rattle.vt_term.specs.Size.{IsSize}
 use Rattle.vt_term.specs.declared.terminals.Stuck.{Stuck}
+use Rattle.ti_commands.specs.Words.{GiveParams, texts_of}
 use Rattle.ti_commands.specs.Expanding.{Asked, FailsToExpand, IsExpanded, JudgesCup, Shows, ShowsCursor, IsParmFailure, cursor_line, escape_failure, no_line, serves, misses}
-use Rattle.ti_commands.specs.declared.expansion.Expansion.{Expansion}
+use Rattle.ti_requests.specs.declared.request.ExpandWords.{ExpandWords}
 use Rattle.ti_commands.specs.declared.failure.Failure.{Failure}
 use Rattle.ti_commands.specs.declared.failure.Failure.TheVariants.{Refused, RefusedUnwritten, Usage, File, Output, NoMemory}
 use Rattle.ti_commands.specs.declared.failure.Refusal.TheVariants as refusals
 use Rattle.ti_commands.specs.declared.failure.Reply.{Reply}
+use denote.Ref.{Bor}
 
 -- a whole text is run to its end
 whole_runs : (before : State) (bytes : List ℕ) (fed : Result (Unit {0}) Stuck) (after : State) → before.rest ≡ [] → IsWhole bytes → OnOk fed (Runs before bytes after) → IfErr fed (λ e. Sticks before bytes e.at after) → Runs before bytes after
 whole_runs before bytes (Ok _) after rest whole ok stuck = ok
 whole_runs before bytes (Err e) after rest whole ok stuck = absurd (runs_or_sticks before _ after bytes e.at (text_runs before bytes whole.0 rest whole.1) stuck)
 
-pub escape_fails : (words : Expansion) (asked : Asked words) (e : EscapeFault) → IsSize asked.rows asked.cols → FailsBy e (unescaped words.string.now) → FailsToExpand words (escape_failure e)
+pub escape_fails : (words : ExpandWords) (asked : Asked words) (e : EscapeFault) → IsSize asked.rows asked.cols → FailsBy e (unescaped words.string.now) → FailsToExpand words (escape_failure e)
 escape_fails words asked escape_faults.BadEscape size h = (asked, size, h)
 escape_fails words asked escape_faults.TooLong size h = (asked, size, h)
 escape_fails words asked escape_faults.NoMemory size h = tt
 
-pub sending_fails : (words : Expansion) (asked : Asked words) (string : List ℕ) (e : Failure) → IsSize asked.rows asked.cols → unescaped words.string.now ≡ Ok string → IsParmFailure string asked.values e → FailsToExpand words e
+pub sending_fails : (words : ExpandWords) (asked : Asked words) (string : List ℕ) (e : Failure) → IsSize asked.rows asked.cols → unescaped words.string.now ≡ Ok string → IsParmFailure string asked.values e → FailsToExpand words e
 sending_fails words asked string (Refused refusals.Size) size q h = absurd h
 sending_fails words asked string (Refused (refusals.Escape fault)) size q h = absurd h
 sending_fails words asked string (Refused (refusals.Parm fault)) size q h = (asked, size, (string, q, h))
@@ -61,20 +63,24 @@ cursor_shown view rows cols bytes before after fed row col (Ok t) b whole ok stu
     record { after = after; runs = subst (λ (s : State). Runs s bytes after) b (whole_runs before bytes fed after (ap (λ (s : State). s.rest) b) whole ok stuck); spelled = e ∙ ap (λ (n : ℕ). cursor_line n col) p ∙ ap (λ (n : ℕ). cursor_line after.screen.row n) q }
 cursor_shown view rows cols bytes before after fed row col (Err x) b whole ok stuck p q e = tt
 
+-- parameters of a list are those of an equal one
+pub given_as : (slice items : List (Bor (List ℕ))) (values : List Value) → slice ≡ items → GiveParams (texts_of slice) values → GiveParams (texts_of items) values
+given_as slice items values e g = subst (λ (l : List (Bor (List ℕ))). GiveParams (texts_of l) values) e g
+
 -- what the steps of `expand_string` lead to
-pub size_told : (words : Expansion) (asked : Asked words) (e : Failure) → (IsSize asked.rows asked.cols → false ≡ true) → e ≡ Refused refusals.Size → FailsToExpand words e
+pub size_told : (words : ExpandWords) (asked : Asked words) (e : Failure) → (IsSize asked.rows asked.cols → false ≡ true) → e ≡ Refused refusals.Size → FailsToExpand words e
 size_told words asked e h q = subst (λ (f : Failure). FailsToExpand words f) (sym q) (asked, λ s. (let k : false ≡ true = h s in cc))
 
-pub escape_told : (words : Expansion) (asked : Asked words) (text : List ℕ) (fault : EscapeFault) (e : Failure) → IsSize asked.rows asked.cols → text ≡ words.string.now → FailsBy fault (unescaped text) → e ≡ escape_failure fault → FailsToExpand words e
+pub escape_told : (words : ExpandWords) (asked : Asked words) (text : List ℕ) (fault : EscapeFault) (e : Failure) → IsSize asked.rows asked.cols → text ≡ words.string.now → FailsBy fault (unescaped text) → e ≡ escape_failure fault → FailsToExpand words e
 escape_told words asked text fault e size t h q =
     subst (λ (f : Failure). FailsToExpand words f) (sym q) (escape_fails words asked fault size (subst (λ (l : List ℕ). FailsBy fault (unescaped l)) t h))
 
-pub sending_told : (words : Expansion) (asked : Asked words) (text string slice : List ℕ) (given : List Param) (e : Failure) → IsSize asked.rows asked.cols → text ≡ words.string.now → unescaped text ≡ Ok string → slice ≡ string → values_of given ≡ asked.values → IsParmFailure slice (values_of given) e → FailsToExpand words e
+pub sending_told : (words : ExpandWords) (asked : Asked words) (text string slice : List ℕ) (given : List Param) (e : Failure) → IsSize asked.rows asked.cols → text ≡ words.string.now → unescaped text ≡ Ok string → slice ≡ string → values_of given ≡ asked.values → IsParmFailure slice (values_of given) e → FailsToExpand words e
 sending_told words asked text string slice given e size t u s g h =
     sending_fails words asked string e size (ap unescaped (sym t) ∙ u)
     (subst (λ (l : List ℕ). IsParmFailure l asked.values e) s (subst (λ (l : List Value). IsParmFailure slice l e) g h))
 
-pub expanded : (words : Expansion) (asked : Asked words) (text string slice other : List ℕ) (given : List Param) (bytes shown : List ℕ) (rows cols : ℕ) (reply : Reply) → IsSize asked.rows asked.cols → text ≡ words.string.now → unescaped text ≡ Ok string → slice ≡ string → values_of given ≡ asked.values → sent slice (values_of given) ≡ Ok bytes → other ≡ string → shown ≡ bytes → rows ≡ asked.rows → cols ≡ asked.cols → Shows words.judges_cup rows cols other shown reply → IsExpanded words reply
+pub expanded : (words : ExpandWords) (asked : Asked words) (text string slice other : List ℕ) (given : List Param) (bytes shown : List ℕ) (rows cols : ℕ) (reply : Reply) → IsSize asked.rows asked.cols → text ≡ words.string.now → unescaped text ≡ Ok string → slice ≡ string → values_of given ≡ asked.values → sent slice (values_of given) ≡ Ok bytes → other ≡ string → shown ≡ bytes → rows ≡ asked.rows → cols ≡ asked.cols → Shows words.judges_cup rows cols other shown reply → IsExpanded words reply
 expanded words asked text string slice other given bytes shown rows cols reply size t u s g q o b r k h = record {
   asked = asked;
   size = size;

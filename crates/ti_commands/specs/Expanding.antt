@@ -18,7 +18,7 @@ use Rattle.vt_term.specs.declared.tokenizing.TokenFault.{TokenFault}
 use Rattle.vt_term.specs.declared.tokenizing.TokenFaultKind.TheVariants as token_faults
 use Rattle.ti_commands.specs.Failing.{WrongParam, WrongSize}
 use Rattle.ti_commands.specs.Words.{GivesNumber, GiveParams, IsNumberWord, texts_of}
-use Rattle.ti_commands.specs.declared.expansion.Expansion.{Expansion}
+use Rattle.ti_requests.specs.declared.request.ExpandWords.{ExpandWords}
 use Rattle.ti_commands.specs.declared.failure.Failure.{Failure}
 use Rattle.ti_commands.specs.declared.failure.Failure.TheVariants.{Refused, Usage, NoMemory}
 use Rattle.ti_commands.specs.declared.failure.Refusal.{Refusal}
@@ -26,13 +26,13 @@ use Rattle.ti_commands.specs.declared.failure.Refusal.TheVariants.{Size, Escape,
 use Rattle.ti_commands.specs.declared.failure.Reply.{Reply}
 
 -- the words of the line can be read: they give numbers for the size, and values for the parameters
-pub record Asked (words : Expansion) : Type 0 where
+pub record Asked (words : ExpandWords) : Type 0 where
   pub rows : ℕ
   pub cols : ℕ
   pub values : List Value
   pub gives_rows : GivesNumber words.rows.now rows
   pub gives_cols : GivesNumber words.cols.now cols
-  pub gives_params : GiveParams (texts_of words.params.now) values
+  pub gives_params : GiveParams (texts_of words.params.items) values
 
 -- the bytes in hexadecimal, on a line
 abbrev pub hex_line : List ℕ → List ℕ
@@ -88,7 +88,7 @@ pub record Shows (judges : Bool) (rows cols : ℕ) (string bytes : List ℕ) (re
   pub shows : ShowsUpTo judges rows cols string bytes reply.text.items reply.failure
 
 -- the words are read, the size is one, the string's escapes and its expansion have no fault
-pub record IsExpanded (words : Expansion) (reply : Reply) : Type 0 where
+pub record IsExpanded (words : ExpandWords) (reply : Reply) : Type 0 where
   pub asked : Asked words
   pub size : IsSize asked.rows asked.cols
   pub string : List ℕ
@@ -110,18 +110,18 @@ IsParmFailure string values NoMemory = Unit {0}
 IsParmFailure string values _ = ⊥
 
 -- a word is wrong: first the rows, then the columns, then the parameters
-abbrev pub WrongWords : Expansion → Failure → Type 0
-WrongWords words failure = WrongSize words.rows.now words.cols.now failure ⊎ (IsNumberWord words.rows.now × IsNumberWord words.cols.now × WrongParam (texts_of words.params.now) failure)
+abbrev pub WrongWords : ExpandWords → Failure → Type 0
+WrongWords words failure = WrongSize words.rows.now words.cols.now failure ⊎ (IsNumberWord words.rows.now × IsNumberWord words.cols.now × WrongParam (texts_of words.params.items) failure)
 
 -- what is refused, in this order
-abbrev pub RefusesExpansion : Expansion → Refusal → Type 0
+abbrev pub RefusesExpansion : ExpandWords → Refusal → Type 0
 RefusesExpansion words Size = (asked : Asked words) × (IsSize asked.rows asked.cols → ⊥)
 RefusesExpansion words (Escape fault) = (asked : Asked words) × IsSize asked.rows asked.cols × (unescaped words.string.now ≡ Err fault)
 RefusesExpansion words (Parm fault) = (asked : Asked words) × IsSize asked.rows asked.cols × ((string : List ℕ) × (unescaped words.string.now ≡ Ok string) × (sent string asked.values ≡ Err fault))
 RefusesExpansion words _ = ⊥
 
 -- the words come first, then what is refused
-abbrev pub FailsToExpand : Expansion → Failure → Type 0
+abbrev pub FailsToExpand : ExpandWords → Failure → Type 0
 FailsToExpand words (Usage told) = WrongWords words (Usage told)
 FailsToExpand words (Refused refusal) = RefusesExpansion words refusal
 FailsToExpand words NoMemory = Unit {0}

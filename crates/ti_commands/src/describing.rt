@@ -7,11 +7,12 @@ ghost use Rattle.ti_commands.specs.Listing.{comparison_text, is_listed, is_liste
 ghost use Rattle.ti_commands.specs.Finding.{FailsToFind, LacksEntry};
 ghost use Rattle.ti_commands.specs.Replying.{GivesEntry, IsCompared, IsCompiled, IsPrinted, LacksSecond, Outcome, Stores};
 
-use crate::entries::{Found, find_entry};
+use crate::entries::{Found, find_entry, note_lines};
 use crate::failure::{Failure, Refusal, Reply};
 use crate::files::{FileFault, Files};
 use crate::reading::file_fault;
 use crate::remarks::Remarks;
+use crate::unknown_names::unknown_names;
 use std::alloc::{AllocError, Global};
 use ti_caps::{CAPABILITIES, Cap, Entry, Kind, Value, at_rank, is_kind, name};
 use ti_compiled::{PackFault, encode};
@@ -29,11 +30,9 @@ pub fn compile_entry<F: Files>(
     ensures failure { IfErr result (λ e. FailsToFind (F.holds files.old) word.now e ⊎ (e ≡ Failure.NoMemory)) }
     ensures kept { OnErr result (F.holds files.new ≡ F.holds files.old) }
 {
-    let Found {
-        notes,
-        entry,
-        unknown,
-    } = find_entry(alloc, files, word, remarks)?;
+    let Found { text, raws, entry } = find_entry(alloc, files, word, remarks)?;
+    let notes = note_lines(alloc, raws.as_slice())?;
+    let unknown = unknown_names(alloc, text.as_slice())?;
     let failure = stored(alloc, files, out, entry, remarks)?;
     remarks.add_words(unknown.as_slice());
     Ok(Reply {
@@ -147,9 +146,9 @@ pub fn entry_of<F: Files>(
     ensures kept { F.holds files.new ≡ F.holds files.old }
 {
     let Found {
-        notes: _notes,
+        text: _text,
+        raws: _raws,
         entry,
-        unknown: _unknown,
     } = find_entry(alloc, files, word, remarks)?;
     match entry {
         Ok(entry) => Ok(entry),

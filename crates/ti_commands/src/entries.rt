@@ -1,17 +1,16 @@
 //! The ENTRY words of a line: an entry of a source file, or a compiled file.
 
-ghost use Rattle.std.specs.Prelude.{◌≡◌, ◌++◌, IfErr, IfNone, IfOk, IfSome, OnOk};
+ghost use Rattle.std.specs.Prelude.{◌≡◌, ◌++◌, [], IfErr, IfNone, IfOk, IfSome, OnOk};
 ghost use Rattle.std.specs.List.{AllByRecursion, flat_map};
 ghost use Rattle.ti_source.specs.Raw.{IsRaw};
 ghost use Rattle.ti_commands.specs.Holding.{HasBytes, longest_file};
 ghost use Rattle.ti_commands.specs.Finding.{FailsInFile, FailsInSource, FailsToFind, Finds, FitsTo, IsOfFile, IsOfSource, IsPath, IsPathAndName, ResolvesTo, IsPackFailure, IsSourceFailure, note_line, note_name, notes_text};
 
-use crate::explaining::{explain_packed, explain_source};
+use crate::explaining::{explain_packed, explain_source, explain_unread};
 use crate::failure::{Failure, Refusal};
 use crate::files::Files;
 use crate::reading::{LONGEST_FILE, read_whole};
 use crate::remarks::Remarks;
-use crate::unknown_names::unknown_names;
 use std::alloc::{AllocError, Global};
 use ti_caps::Entry;
 use ti_compiled::{PackFault, Packed, decode};
@@ -24,12 +23,12 @@ const COMPILED_LIMIT: u32 = 131_072;
 /// What an ENTRY word gives.
 #[derive(Drop)]
 pub struct Found {
-    /// A line for each note of the whole source file.
-    pub notes: Vec<u8>,
+    /// The text of the source file; empty where the file is a compiled one.
+    pub text: Vec<u8>,
+    /// All entries of that text, as they were read.
+    pub raws: Vec<RawEntry>,
     /// The entry, or why it can't be had.
     pub entry: Result<Entry, Refusal>,
-    /// A line that counts the names in the source file that no capability has, if there are any.
-    pub unknown: Vec<u8>,
 }
 
 /// Reads the file that the word names, and finds or unpacks its entry.
@@ -39,7 +38,7 @@ pub fn find_entry<F: Files>(
     word: &str,
     remarks: &mut Remarks,
 ) -> Result<Found, Failure>
-    ensures found { IfOk result (λ found. Finds (F.holds files.old) word.now found.notes.items found.entry) }
+    ensures found { IfOk result (λ found. Finds (F.holds files.old) word.now (notes_text found.raws.items) found.entry) }
     ensures failure { IfErr result (λ e. FailsToFind (F.holds files.old) word.now e) }
     ensures kept { F.holds files.new ≡ F.holds files.old }
 {
@@ -64,31 +63,36 @@ fn find_in_source<F: Files>(
     name: &str,
     remarks: &mut Remarks,
 ) -> Result<Found, Failure>
-    ensures found { IfOk result (λ found. HasBytes (F.holds files.old path.now) longest_file (λ bytes. IsOfSource bytes name.now found.notes.items found.entry)) }
+    ensures found { IfOk result (λ found. HasBytes (F.holds files.old path.now) longest_file (λ bytes. IsOfSource bytes name.now (notes_text found.raws.items) found.entry)) }
     ensures failure { IfErr result (λ e. FailsInSource (F.holds files.old) path.now e) }
     ensures kept { F.holds files.new ≡ F.holds files.old }
 {
     let text = read_whole(alloc, files, path, LONGEST_FILE, remarks)?;
-    let found = find_in_text(alloc, text.as_slice(), name);
-    explain_source(alloc, path, text.as_slice(), &found, remarks);
-    found
+    match find_in_text(alloc, text.as_slice(), name) {
+        Ok((raws, entry)) => {
+            explain_source(alloc, path, text.as_slice(), &entry, remarks);
+            Ok(Found { text, raws, entry })
+        }
+        Err(failure) => {
+            explain_unread(alloc, path, text.as_slice(), &failure, remarks);
+            Err(failure)
+        }
+    }
 }
 
-/// The entry of this name in a source text.
-fn find_in_text(alloc: Global, text: &[u8], name: &str) -> Result<Found, Failure>
-    ensures found { IfOk result (λ found. IsOfSource text.now name.now found.notes.items found.entry) }
+/// The entries of a source text, and the one of this name or why it can't be had.
+fn find_in_text(
+    alloc: Global,
+    text: &[u8],
+    name: &str,
+) -> Result<(Vec<RawEntry>, Result<Entry, Refusal>), Failure>
+    ensures found { IfOk result (λ found. IsOfSource text.now name.now (notes_text found.0.items) found.1) }
     ensures failure { IfErr result (λ e. IsSourceFailure text.now e) }
 {
     match read(alloc, text) {
         Ok(raws) => {
-            let notes = note_lines(alloc, raws.as_slice())?;
             let entry = resolved(alloc, raws.as_slice(), name)?;
-            let unknown = unknown_names(alloc, text)?;
-            Ok(Found {
-                notes,
-                entry,
-                unknown,
-            })
+            Ok((raws, entry))
         }
         Err(fault) => match fault.kind {
             FaultKind::NoMemory => Err(Failure::NoMemory),
@@ -114,7 +118,7 @@ fn resolved(
 }
 
 /// A line for each note, in the order of the file.
-fn note_lines(alloc: Global, raws: &[RawEntry]) -> Result<Vec<u8>, AllocError>
+pub fn note_lines(alloc: Global, raws: &[RawEntry]) -> Result<Vec<u8>, AllocError>
     ensures { IfOk result (λ lines. lines.items ≡ notes_text raws.now) }
 {
     let mut lines = Vec::new(alloc);
@@ -159,27 +163,27 @@ fn unpack<F: Files>(
     path: &str,
     remarks: &mut Remarks,
 ) -> Result<Found, Failure>
-    ensures found { IfOk result (λ found. HasBytes (F.holds files.old path.now) 131072 (λ bytes. IsOfFile bytes found.notes.items found.entry)) }
+    ensures found { IfOk result (λ found. HasBytes (F.holds files.old path.now) 131072 (λ bytes. IsOfFile bytes (notes_text found.raws.items) found.entry)) }
     ensures failure { IfErr result (λ e. FailsInFile (F.holds files.old) path.now e) }
     ensures kept { F.holds files.new ≡ F.holds files.old }
 {
     let file = read_whole(alloc, files, path, COMPILED_LIMIT, remarks)?;
-    let found = unpack_file(alloc, file.as_slice());
-    explain_packed(path, file.as_slice(), &found, remarks);
-    found
+    let entry = unpack_file(alloc, file.as_slice());
+    explain_packed(path, file.as_slice(), &entry, remarks);
+    Ok(Found {
+        text: Vec::new(alloc),
+        raws: Vec::new(alloc),
+        entry: entry?,
+    })
 }
 
-/// The entry of a compiled file.
-fn unpack_file(alloc: Global, file: &[u8]) -> Result<Found, Failure>
-    ensures found { IfOk result (λ found. IsOfFile file.now found.notes.items found.entry) }
+/// The entry of a compiled file, or why it can't be had.
+fn unpack_file(alloc: Global, file: &[u8]) -> Result<Result<Entry, Refusal>, Failure>
+    ensures found { IfOk result (λ entry. IsOfFile file.now [] entry) }
     ensures failure { IfErr result (λ e. IsPackFailure file.now e) }
 {
     match decode(file) {
-        Ok(packed) => Ok(Found {
-            notes: Vec::new(alloc),
-            entry: unpacked(alloc, &packed)?,
-            unknown: Vec::new(alloc),
-        }),
+        Ok(packed) => Ok(unpacked(alloc, &packed)?),
         Err(fault) => Err(Failure::Refused(Refusal::Pack(fault))),
     }
 }

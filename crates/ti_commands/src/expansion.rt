@@ -18,31 +18,17 @@ use smallvec::SmallVec;
 use std::alloc::{AllocError, Global};
 use ti_parm::{Param, ParmFault};
 use ti_reach::{MissKind, reach_cup};
+use ti_requests::ExpandWords;
 use ti_source::{EscapeFault, unescape};
 use vt_term::{Size, Terminal, TokenFaultKind, tokens};
 
 /// The parameters of one string: nine and fewer take no memory.
 type Params<'a> = SmallVec<Param<'a>, 9>;
 
-/// The words of `expand`.
-#[derive(Clone, Copy)]
-pub struct Expansion<'a> {
-    /// The parameter string, in the escapes of terminfo source.
-    pub string: &'a str,
-    /// The terminal's rows, a decimal number.
-    pub rows: &'a str,
-    /// The terminal's columns, a decimal number.
-    pub cols: &'a str,
-    /// The string's parameters: decimal numbers, or `s:` and a text.
-    pub params: &'a [&'a str],
-    /// Whether the string is also judged as `cup`.
-    pub judges_cup: bool,
-}
-
 /// Expands the string and shows where it leaves the cursor of a blank terminal.
 pub fn expand_string(
     alloc: Global,
-    words: &Expansion<'_>,
+    words: &ExpandWords<'_>,
     remarks: &mut Remarks,
 ) -> Result<Reply, Failure>
     ensures reply { IfOk result (λ reply. IsExpanded words.now reply) }
@@ -50,7 +36,7 @@ pub fn expand_string(
 {
     let rows = number_word(alloc, "ROWS", words.rows)?;
     let cols = number_word(alloc, "COLS", words.cols)?;
-    let params = read_params(alloc, words.params)?;
+    let params = read_params(alloc, words.params.as_slice())?;
     let size = size_of(alloc, rows, cols, remarks)?;
     let string = match unescape(alloc, words.string.as_bytes()) {
         Ok(string) => string,

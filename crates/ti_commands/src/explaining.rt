@@ -1,36 +1,40 @@
 //! Why an entry or a string is refused, in plain words: the further lines below the fixed one.
 
-use crate::entries::Found;
 use crate::failure::{Failure, Refusal};
 use crate::remarks::Remarks;
 use crate::source_lines::{Field, faulty_field, line_of};
 use std::alloc::{AllocError, Global};
-use ti_caps::{Kind, by_name, kind, name};
+use ti_caps::{Entry, Kind, by_name, kind, name};
 use ti_compiled::PackFault;
 use ti_parm::ParmFault;
 use ti_resolve::ResolveFault;
 use ti_source::{EscapeFault, FaultKind, SourceFault, percent_carets};
 use vt_term::{TokenFault, TokenFaultKind};
 
-/// Why a source text has no such entry.
+/// Why a source text has no such entry, and what its strings may not mean.
 pub fn explain_source(
     alloc: Global,
     path: &str,
     text: &[u8],
-    found: &Result<Found, Failure>,
+    entry: &Result<Entry, Refusal>,
     remarks: &mut Remarks,
 ) {
-    match found {
-        Err(Failure::Refused(Refusal::Source(fault))) => {
-            explain_fault(alloc, path, text, *fault, remarks);
-        }
-        Ok(found) => {
-            if let Err(Refusal::Resolve(fault)) = &found.entry {
-                explain_resolving(alloc, path, fault, remarks);
-            }
-            let _ = hint_carets(alloc, text, remarks);
-        }
-        Err(_) => {}
+    if let Err(Refusal::Resolve(fault)) = entry {
+        explain_resolving(alloc, path, fault, remarks);
+    }
+    let _ = hint_carets(alloc, text, remarks);
+}
+
+/// Why a source text can't be read.
+pub fn explain_unread(
+    alloc: Global,
+    path: &str,
+    text: &[u8],
+    failure: &Failure,
+    remarks: &mut Remarks,
+) {
+    if let Failure::Refused(Refusal::Source(fault)) = failure {
+        explain_fault(alloc, path, text, *fault, remarks);
     }
 }
 
@@ -129,16 +133,12 @@ fn explain_resolving(alloc: Global, path: &str, fault: &ResolveFault, remarks: &
 pub fn explain_packed(
     path: &str,
     file: &[u8],
-    found: &Result<Found, Failure>,
+    entry: &Result<Result<Entry, Refusal>, Failure>,
     remarks: &mut Remarks,
 ) {
-    let fault = match found {
-        Err(Failure::Refused(Refusal::Pack(fault))) => *fault,
-        Ok(found) => match &found.entry {
-            Err(Refusal::Pack(fault)) => *fault,
-            _ => return,
-        },
-        Err(_) => return,
+    let fault = match entry {
+        Err(Failure::Refused(Refusal::Pack(fault))) | Ok(Err(Refusal::Pack(fault))) => *fault,
+        _ => return,
     };
     remarks.add(path.as_bytes(), packed_words(fault, file));
 }

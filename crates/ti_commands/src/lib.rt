@@ -19,7 +19,7 @@ mod source_lines;
 mod unknown_names;
 
 pub use describing::{Comparison, compare_entries, compile_entry, entry_of, print_entry};
-pub use expansion::{Expansion, expand_string};
+pub use expansion::expand_string;
 pub use failure::{Failure, Refusal, Reply, report, usage_error};
 pub use feeding::feed_file;
 pub use files::{Cause, FileFault, Files};

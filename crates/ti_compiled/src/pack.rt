@@ -247,7 +247,7 @@ fn put_numbers(out: &mut Vec<u8>, entry: &Entry, form: Form, count: usize) -> Re
     Ok(())
 }
 
-/// The offset of a string of so many bytes with its NUL at this place of the table, or -1 where there is none.
+/// The offset of a string that has `size` bytes with its NUL, at this place of the table, or -1 where there is none.
 fn offset_at(place: usize, size: usize) -> usize
     ensures { result ≡ (if size == 0 then 65535 else place) }
 {
@@ -303,7 +303,7 @@ fn magic(form: Form) -> usize
     }
 }
 
-/// Writes the header, of a file whose names section has so many bytes.
+/// Writes the header of a file whose names section has `names` bytes.
 fn put_header(out: &mut Vec<u8>, names: usize, plan: &Plan) -> Result<(), AllocError>
     requires names { names < 65536 }
     requires flags { plan.now.flags < 65536 }

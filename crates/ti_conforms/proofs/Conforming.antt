@@ -2,10 +2,10 @@
 use Rattle.std.proofs.Common.{◌≡◌, ◌&&◌, ℕ, true, false, List, Option, None, refl, ap}
 use Rattle.std.specs.Prelude.{is_some}
 use Rattle.ti_rows.specs.declared.rows.Row.TheVariants.{Smacs, Rmacs}
-use Rattle.ti_checked.specs.Table.{Table, has}
-use Rattle.ti_checked.specs.Sets.{has_sets}
-use Rattle.ti_checked.specs.Checked.{IsChecked}
-use Rattle.ti_checked.proofs.Cutting.{judged_is_checked}
+use Rattle.ti_conforms.specs.Table.{Table, has}
+use Rattle.ti_conforms.specs.Sets.{has_sets}
+use Rattle.ti_conforms.specs.Checked.{IsChecked}
+use Rattle.ti_conforms.proofs.Cutting.{judged_is_checked}
 use Rattle.ti_conforms.specs.Conforms.{AgreedConforms}
 
 no_sets : (t : Table) → t.line_of Smacs ≡ None → has_sets t ≡ false

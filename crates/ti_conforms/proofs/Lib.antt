@@ -1,2 +1,16 @@
 pub mod Conforming
 pub mod Together
+pub mod Pairs
+pub mod Reaching
+pub mod Settling
+pub mod Texts
+pub mod Dropping
+pub mod Leading
+pub mod Fronting
+pub mod Judging
+pub mod Resyncing
+pub mod Holding
+pub mod Cutting
+pub mod Valuing
+pub mod Walking
+pub mod Matching

@@ -7,9 +7,9 @@ use Rattle.ti_rows.specs.declared.rows.Row.{Row}
 use Rattle.ti_rows.specs.declared.rows.Row.TheVariants.{Clear, Cup, Sgr, Sgr0, Setaf, Setab, Op, Smul, Rev, Blink, Dim, Bold, Invis, Smso, Smacs, Rmacs}
 use Rattle.ti_rows.specs.Names.{no_attributes}
 use Rattle.ti_rows.specs.Lists.{IsInRange}
-use Rattle.ti_sends.specs.Entries.{acsc, has_string, is_checked, LineAgrees, EntryAgrees}
-use Rattle.ti_sends.proofs.Matching.{same_checked}
-use Rattle.ti_checked.specs.Table.{Table, has}
+use Rattle.ti_conforms.specs.Entries.{acsc, has_string, is_checked, LineAgrees, EntryAgrees}
+use Rattle.ti_conforms.proofs.Matching.{same_checked}
+use Rattle.ti_conforms.specs.Table.{Table, has}
 use Rattle.ti_conforms.specs.Together.{HasNoSingles, AgreedStandTogether}
 
 agreed_there : (entry : Content) (line : Option (List ℕ)) (row : Row) (b : Bool) → is_checked entry row ≡ b → LineAgrees entry line row → is_some line ≡ b

@@ -3,18 +3,19 @@ use Rattle.std.specs.Prelude.{ℕ, ◌≡◌, ◌<◌, true, false, List, [], �
 use Rattle.vt_term.specs.Screen.{State, IsOfSize, Charset, is_graphic}
 use Rattle.vt_effects.specs.Settings.{IsTame}
 use Rattle.ti_caps.specs.Entry.{Content, flag_at, number_at, string_at}
-use Rattle.ti_looks.specs.Alternates.{is_misfit}
+use Rattle.ti_conforms.specs.Alternates.{is_misfit}
 use Rattle.ti_rows.specs.declared.rows.Row.{Row}
 use Rattle.ti_rows.specs.declared.rows.Row.TheVariants.{Clear, Cup, Sgr0, Smacs}
 use Rattle.ti_rows.specs.Starts.{Starts}
 use Rattle.ti_rows.specs.Right.{IsRight}
-use Rattle.ti_resync.specs.Lost.{EndsIn, IsBlank, HasWholeMargins}
-use Rattle.ti_sends.specs.Entries.{acsc, has_string, is_checked, EntryAgrees}
-use Rattle.ti_checked.specs.Table.{Table, has, widening, resync, Activates}
-use Rattle.ti_checked.specs.Sets.{CanHave, CanSettle}
-use Rattle.ti_checked.specs.Judged.{IsJudged}
+use Rattle.ti_conforms.specs.Lost.{IsBlank, HasWholeMargins}
+use Rattle.vt_term.specs.Ends.{Ends}
+use Rattle.ti_conforms.specs.Entries.{acsc, has_string, is_checked, EntryAgrees}
+use Rattle.ti_conforms.specs.Table.{Table, has, widening, resync, Activates}
+use Rattle.ti_conforms.specs.Sets.{CanHave, CanSettle}
+use Rattle.ti_conforms.specs.Judged.{IsJudged}
 
--- the places of `hc`, `gn` and `os` among flags, and of `xmc` among numbers, in the table of capabilities
+-- the places of `gn`, `hc`, `os` and `xmc` in the table of all capabilities
 abbrev pub gn : ℕ
 gn = 6
 
@@ -27,7 +28,7 @@ os = 15
 abbrev pub xmc : ℕ
 xmc = 48
 
--- 1. What the entry has to have, and what it may not have: attributes that take room on the screen, paper, a generic
+-- What the entry has to have, and what it may not have: attributes that take room on the screen, paper, a generic
 -- type, and cells that keep what was printed before.
 pub record IsFit (entry : Content) : Type 0 where
   pub clear : has_string entry Clear ≡ true
@@ -39,19 +40,19 @@ pub record IsFit (entry : Content) : Type 0 where
   pub no_overstrike : flag_at entry os ≡ false
   pub partners : (pairs : List ℕ) → string_at entry acsc ≡ Some pairs → (letter : ℕ) → letter < 256 → is_misfit pairs letter ≡ false
 
--- 2, of `smacs` and `rmacs` (terminfo(5), "Line Graphics"): from every start whose charset can be settled the run ends with
+-- Of `smacs` and `rmacs` (terminfo(5), "Line Graphics"): from every start whose charset can be settled the run ends with
 -- the graphic set active, and with the plain one.
 abbrev pub Switches : Table → Type 0
 Switches t = (row : Row) (bytes : List ℕ) → t.line_of row ≡ Some bytes → (s : State) → s.rest ≡ [] → Starts t.rows t.cols row s.screen → CanSettle t s.screen.charset
-    → EndsIn s bytes (λ u. Activates row u.screen.charset)
+    → Ends s bytes (λ u. Activates row u.screen.charset)
 
--- 4. A resynchronization begins with ESC. From every state with a charset that can be had, and with margins that are
+-- A resynchronization begins with ESC. From every state with a charset that can be had, and with margins that are
 -- whole where no line sets any, it leads to a blank screen at rest: whatever is open, wherever the cursor is.
 pub record Resyncs (t : Table) : Type 0 where
   pub rest : List ℕ
   pub escapes : resync t ≡ 27 ∷ rest
   pub leads : (s : State) → IsOfSize t.rows t.cols s → IsTame s.screen → CanHave t s.screen.charset → (has t (widening t) ≡ false → HasWholeMargins s.screen)
-      → EndsIn s (resync t) (IsBlank t.rows t.cols s.screen.visible)
+      → Ends s (resync t) (IsBlank t.rows t.cols s.screen.visible)
 
 pub record Conforms (entry : Content) (rows cols : ℕ) : Type 0 where
   pub fit : IsFit entry
@@ -60,10 +61,10 @@ pub record Conforms (entry : Content) (rows cols : ℕ) : Type 0 where
   pub rows_are : table.rows ≡ rows
   pub cols_are : table.cols ≡ cols
   pub sends : EntryAgrees rows cols entry table.line_of
-  -- 2. each is whole, and its run from every start ends as is wanted
+  -- each is whole, and its run from every start ends as is wanted
   pub right : (row : Row) (bytes : List ℕ) → table.line_of row ≡ Some bytes → IsRight rows cols table.looks row bytes
   pub switches : Switches table
-  -- 3. without all of `acsc`, `smacs` and `rmacs` every settled charset is plain
+  -- without all of `acsc`, `smacs` and `rmacs` every settled charset is plain
   pub plain : is_checked entry Smacs ≡ false → (c : Charset) → CanSettle table c → is_graphic c ≡ false
   pub resyncs : Resyncs table
 

@@ -1,2 +1,17 @@
 pub mod Conforms
 pub mod Together
+pub mod Alternates
+pub mod Charsets
+pub mod Closing
+pub mod Lost
+pub mod Lines
+pub mod Resync
+pub mod Table
+pub mod Sets
+pub mod Judged
+pub mod Checked
+pub mod Sends
+pub mod Agreeing
+pub mod Entries
+pub mod Certified
+pub mod Unfit

@@ -6,8 +6,8 @@ use Rattle.ti_rows.specs.declared.rows.Row.{Row}
 use Rattle.ti_rows.specs.declared.rows.Row.TheVariants.{Clear, Cup, Sgr, Sgr0, Setaf, Setab, Op, Smul, Rev, Blink, Dim, Bold, Invis, Smso, Smacs, Rmacs}
 use Rattle.ti_rows.specs.Names.{order, no_attributes}
 use Rattle.ti_rows.specs.Lists.{IsInRange}
-use Rattle.ti_sends.specs.Entries.{EntryAgrees}
-use Rattle.ti_checked.specs.Table.{Table, has}
+use Rattle.ti_conforms.specs.Entries.{EntryAgrees}
+use Rattle.ti_conforms.specs.Table.{Table, has}
 use Rattle.ti_conforms.specs.Conforms.{IsFit}
 
 -- `sgr` sets all attributes, or strings of single attributes do

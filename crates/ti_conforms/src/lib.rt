@@ -1,4 +1,23 @@
-//! What it means that an entry conforms, and that judged lines which agree with it say so.
+//! What it means that an entry conforms to the terminal, and what may be relied on then: what its strings
+//! send, which character sets they leave, how a terminal in an unknown state is led to a blank screen, and
+//! that judged lines which agree with the entry show all that.
 #![tactic(auto)]
 
+mod agreeing;
+mod certificates;
+mod closing;
+mod entries;
+mod fitness;
 pub mod laws;
+mod partners;
+mod reach;
+mod sending;
+
+pub use agreeing::{AgreeFault, Lines, all_agree};
+pub use certificates::Certificate;
+pub use closing::Charsets;
+pub use entries::{Group, entry_agrees, is_checked};
+pub use fitness::{Unfit, acsc, first_unfit};
+pub use partners::{Character, fallback, misfit, partner, shown};
+pub use reach::Reach;
+pub use sending::{Unsent, send, send_into};

@@ -3,3 +3,8 @@ pub mod Hexing
 pub mod NumbersRead
 pub mod LinesRead
 pub mod HeadsRead
+pub mod Gaves
+pub mod Ends
+pub mod Texts
+pub mod Progress
+pub mod Answers

@@ -22,10 +22,10 @@ use Rattle.ti_rows.specs.Names.{order, name_of, name_in_order}
 use Rattle.ti_rows.specs.Params.{params, with_params, HasParams}
 use Rattle.ti_rows.proofs.Naming.{names_rise, orders_small}
 use Rattle.ti_rows.proofs.Reading.{finds_params, params_found, same_count}
-use Rattle.ti_lines.specs.declared.lines.RowLine.{RowLine}
+use Rattle.ti_lines.specs.declared.row_lines.RowLine.{RowLine}
 use Rattle.ti_lines.specs.Cut.{cut_at}
 use Rattle.ti_lines.specs.Hex.{hex_text, hex_in}
-use Rattle.ti_lines.specs.Lines.{numbers_text, line_text, IsLine, IsTextOf, numbers_before, row_before, line_behind, line_of}
+use Rattle.ti_lines.specs.RowLines.{numbers_text, line_text, IsLine, IsTextOf, numbers_before, row_before, line_behind, line_of}
 use Rattle.ti_lines.proofs.Cutting.{lacks, cut_front, cut_is, IsCut}
 use Rattle.ti_lines.proofs.Hexing.{hex_written, hex_read, IsHex, both}
 

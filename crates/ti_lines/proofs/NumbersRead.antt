@@ -3,7 +3,7 @@ use Rattle.std.proofs.Common.{◌≡◌, ℕ, suc, ◌+◌, ◌-◌, ◌<◌, Li
 use Rattle.std.specs.Option.{option_and_then}
 use Rattle.vt_notation.specs.Reading.{number_at}
 use Rattle.ti_lines.specs.Cut.{cut_at}
-use Rattle.ti_lines.specs.Lines.{numbers_before}
+use Rattle.ti_lines.specs.RowLines.{numbers_before}
 
 pub no_word : (count counter : ℕ) (done text : List ℕ) → counter < count → cut_at 32 text ≡ None → numbers_before (count - counter) done text ≡ None
 no_word count counter done text lt h =

@@ -1,5 +1,10 @@
 pub mod Cut
 pub mod Hex
-pub mod Lines
+pub mod RowLines
 pub mod Heads
 pub mod Texts
+pub mod Reader
+pub mod Drip
+pub mod Text
+pub mod Lines
+pub mod Judging

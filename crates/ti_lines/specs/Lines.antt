@@ -1,50 +1,41 @@
--- A line of a certificate about a checked capability: its name, its parameters, its bytes, and their effect.
-use Rattle.std.specs.Prelude.{ℕ, zero, suc, length, ◌<◌, ◌≡◌, List, [], ◌∷◌, ◌++◌, Option, Some}
-use Rattle.std.specs.Fmt.{decimal}
-use Rattle.std.specs.List.{AllByRecursion}
-use Rattle.std.specs.Option.{option_map, option_and_then}
-use Rattle.hex.specs.Hex.{IsBytes}
-use Rattle.vt_notation.specs.Text.{spelled, IsPlain}
-use Rattle.vt_notation.specs.Reading.{number_at, effect_in}
-use Rattle.ti_rows.specs.Names.{name_of}
-use Rattle.ti_rows.specs.Params.{params, with_params}
-use Rattle.ti_rows.specs.declared.rows.Row.{Row}
-use Rattle.ti_lines.specs.Cut.{cut_at}
-use Rattle.ti_lines.specs.Hex.{hex_text, hex_in}
-use Rattle.ti_lines.specs.declared.lines.RowLine.{RowLine}
+-- A reader of lines: what it has taken and not passed yet.
+use Rattle.std.specs.Prelude.{ℕ, ◌+◌, ◌<◌, ◌≤◌, ◌≡◌, ◌==◌, nat_lt, if◌then◌else◌, true, List, [], ◌++◌, None, Some, length}
+use Rattle.ti_lines.specs.Reader.{AtEnd, Gave, Rose}
+use Rattle.ti_lines.specs.Text.{line_end, is_long}
+use Rattle.ti_lines.specs.declared.lines.Next.{Next}
+use Rattle.ti_lines.specs.declared.lines.Next.TheVariants.{Line, End, Unended, Long}
+use Rattle.ti_lines.specs.declared.lines.Halt.{Halt}
+use Rattle.ti_lines.specs.declared.lines.Halt.TheVariants.{ReadFailed, NoMemory}
 
--- each number in decimal, and a space after it
-abbrev pub numbers_text : List ℕ → List ℕ
-numbers_text [] = []
-numbers_text (n ∷ ns) = decimal n ++ 32 ∷ numbers_text ns
+pub record Reading : Type 0 where
+  -- taken, and not passed yet
+  pub unread : List ℕ
+  -- how many bytes more may be passed
+  pub budget : ℕ
 
--- the words of a line, with one space between each two
-abbrev pub line_text : RowLine → List ℕ
-line_text line = name_of line.row ++ 32 ∷ (numbers_text (params line.row) ++ (hex_text line.bytes ++ 32 ∷ spelled line.effect))
+-- more bytes were taken, and none passed
+pub record Takes {R : Type 0} (left : R → List ℕ → Type 0) (failures : R → ℕ) (old : Reading) (reader : R) (new : Reading) (after : R) : Type 0 where
+  pub bytes : List ℕ
+  pub gave : Gave left failures reader after bytes
+  pub unread : new.unread ≡ old.unread ++ bytes
+  pub budget : new.budget ≡ old.budget
+  pub bound : length new.unread ≤ new.budget + 1
 
--- a line that can be written: numbers of 16 bits, bytes, and an effect in its one form
-pub record IsLine (line : RowLine) : Type 0 where
-  pub numbers : AllByRecursion (λ n. n < 65536) (params line.row)
-  pub bytes : IsBytes line.bytes
-  pub effect : IsPlain line.effect
+-- what is so of what comes next
+abbrev pub IsNext : {R : Type 0} → (R → List ℕ → Type 0) → Reading → R → Next → Type 0
+IsNext left r reader (Line n) = (line_end r.unread ≡ Some n) × (n < r.budget)
+IsNext left r reader End = (r.unread ≡ []) × AtEnd left reader
+IsNext left r reader Unended = (0 < length r.unread) × (line_end r.unread ≡ None) × AtEnd left reader
+IsNext left r reader Long = is_long r.budget r.unread ≡ true
 
--- this is the text of this line
-pub record IsTextOf (text : List ℕ) (line : RowLine) : Type 0 where
-  pub line_is : IsLine line
-  pub spelled : line_text line ≡ text
+abbrev pub HaltsBy : ℕ → ℕ → Halt → Type 0
+HaltsBy old new ReadFailed = Rose old new
+HaltsBy old new NoMemory = Unit {0}
 
--- reading: so many numbers, and what follows the space after the last
-abbrev pub numbers_before : ℕ → List ℕ → List ℕ → Option (List ℕ × List ℕ)
-numbers_before zero done text = Some (done, text)
-numbers_before (suc count) done text = option_and_then (λ p. option_and_then (λ n. numbers_before count (done ++ n ∷ []) p.1) (number_at p.0)) (cut_at 32 text)
+-- a line that ends in this place is within the limit or not
+abbrev pub next_line : ℕ → ℕ → Next
+next_line at budget = if nat_lt at budget then Line at else Long
 
--- the row whose parameters come first, and what follows them
-abbrev pub row_before : Row → List ℕ → Option (Row × List ℕ)
-row_before first text = option_and_then (λ p. option_map (λ row. (row, p.1)) (with_params first p.0)) (numbers_before (length (params first)) [] text)
-
--- the bytes and the effect after a row
-abbrev pub line_behind : Row → List ℕ → Option RowLine
-line_behind row text = option_and_then (λ p. option_and_then (λ effect. option_map (λ bytes. record { row = row; bytes = bytes; effect = effect }) (hex_in p.0)) (effect_in p.1)) (cut_at 32 text)
-
-abbrev pub line_of : Row → List ℕ → Option RowLine
-line_of first text = option_and_then (λ p. line_behind p.0 p.1) (row_before first text)
+-- after so many bytes that have no LF there are no more
+abbrev pub next_end : ℕ → Next
+next_end count = if count == 0 then End else Unended

@@ -3,9 +3,9 @@
 use Rattle.std.specs.Prelude.{ℕ, ◌≡◌, List, [], ◌∷◌, ◌++◌, Option, None, Some}
 use Rattle.std.specs.List.{AllByRecursion}
 use Rattle.hex.specs.Hex.{IsBytes}
-use Rattle.ti_lines.specs.declared.lines.RowLine.{RowLine}
+use Rattle.ti_lines.specs.declared.row_lines.RowLine.{RowLine}
 use Rattle.ti_lines.specs.Heads.{size_text, acsc_text, end_text, IsSizeText}
-use Rattle.ti_lines.specs.Lines.{line_text, IsLine, IsTextOf}
+use Rattle.ti_lines.specs.RowLines.{line_text, IsLine, IsTextOf}
 
 -- what a certificate says
 pub record Certificate : Type 0 where

@@ -1,7 +1,17 @@
-//! Laws of lines.
+//! Laws of a certificate's lines, and of how a text is cut into lines.
+
 ghost use Rattle.ti_lines.specs.Texts.{OneLine};
+ghost use Rattle.std.specs.Prelude.{ℕ, List, ◌≡◌};
+ghost use Rattle.ti_lines.specs.Text.{IsText, cut_of};
 
 /// No text is that of two lines about capabilities.
 pub fn one_line()
     ensures { OneLine }
+{}
+
+/// The lines that are judged, each followed by LF, and the part after the last LF are the text, and
+/// there is no other way to cut it so.
+pub fn text_is_cut()
+    ensures is { (text : List ℕ) → IsText (cut_of text).lines (cut_of text).last text }
+    ensures only { (text last : List ℕ) (lines : List (List ℕ)) → IsText lines last text → cut_of text ≡ record { lines = lines; last = last } }
 {}

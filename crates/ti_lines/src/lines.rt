@@ -1,13 +1,249 @@
-//! A line of a certificate as a value.
-use ti_caps::Bytes;
-use ti_rows::Row;
-use vt_effects::Effect;
+//! Lines over a buffer that is refilled from a reader, within a budget of bytes.
 
-/// A line of a certificate about a checked capability: with these parameters its string is these
-/// bytes, and their effect is this one.
-#[derive(Debug, Drop)]
-pub struct RowLine {
-    pub row: Row,
-    pub bytes: Bytes,
-    pub effect: Effect,
+ghost use Rattle.std.specs.Prelude.{◌≡◌, ◌<◌, ◌≤◌, ◌+◌, ◌-◌, ◌++◌, [], None, Some, length, take, drop, IfOk, IfErr, OnErr, OnOk, IfSome};
+ghost use Rattle.std.specs.List.{position};
+ghost use Rattle.ti_lines.specs.Reader.{AtEnd, Gave, Rose};
+ghost use Rattle.ti_lines.specs.Text.{is_feed, line_end};
+ghost use Rattle.ti_lines.specs.Lines.{Takes, IsNext, HaltsBy, next_line, next_end};
+
+use crate::readers::{ReadFault, Reader};
+use std::alloc::{AllocError, Global};
+use std::marker::Model;
+
+/// Why the next line could not be found.
+#[derive(Clone, Copy, Debug, PartialEq, Eq)]
+pub enum Halt {
+    /// The reader failed in this call.
+    ReadFailed,
+    /// Out of memory.
+    NoMemory,
+}
+
+impl From<AllocError> for Halt {
+    fn from(_: AllocError) -> Halt
+        ensures { result ≡ Halt.NoMemory }
+    {
+        Halt::NoMemory
+    }
+}
+
+impl From<ReadFault> for Halt {
+    fn from(_: ReadFault) -> Halt
+        ensures { result ≡ Halt.ReadFailed }
+    {
+        Halt::ReadFailed
+    }
+}
+
+/// What comes next in a text.
+#[derive(Clone, Copy, Debug, PartialEq, Eq)]
+pub enum Next {
+    /// A line of this many bytes, followed by LF.
+    Line(usize),
+    /// Nothing: the text ends here.
+    End,
+    /// Bytes without an LF, up to the end of the text.
+    Unended,
+    /// A line whose LF isn't within the budget.
+    Long,
+}
+
+/// The lines of what a reader gives, up to a limit of bytes. At most one byte past the limit is read.
+#[derive(Drop)]
+pub struct Lines {
+    buffer: Vec<u8>,
+    /// Where the bytes begin that have not been passed.
+    from: usize,
+    /// How many more bytes may be passed.
+    budget: u32,
+}
+
+impl Model for Lines {
+    ghost use Rattle.std.specs.Prelude.{◌≤◌, ◌+◌, length, drop};
+    ghost use Rattle.ti_lines.specs.Lines.{Reading};
+
+    ghost Value = { Reading };
+
+    ghost view = { λ l. record { unread = drop l.from l.buffer.items; budget = l.budget } };
+
+    ghost invariant = { λ l. (l.from ≤ length l.buffer.items) × (length l.buffer.items ≤ l.from + l.budget + 1) };
+}
+
+fn first_feed(bytes: &[u8]) -> Option<usize>
+    ensures value { result ≡ position is_feed bytes.now }
+    ensures within { IfSome result (λ at. at < length bytes.now) }
+{
+    bytes.iter().position(|byte| *byte == b'\n')
+}
+
+/// The place of the first LF.
+#[tactic(auto, using(crate::proofs::Ends::end_found))]
+fn feed_in(bytes: &[u8]) -> Option<usize>
+    ensures value { result ≡ line_end bytes.now }
+    ensures within { IfSome result (λ at. at < length bytes.now) }
+{
+    first_feed(bytes)
+}
+
+fn tail(bytes: &[u8], at: usize) -> &[u8]
+    requires { at ≤ length bytes.now }
+    ensures { result.now ≡ drop at bytes.now }
+{
+    &bytes[at..]
+}
+
+/// How many bytes to ask for where this many are taken and not passed.
+fn wanted(unread: usize, budget: u32) -> usize
+    requires { unread ≤ budget }
+    ensures some { 0 < result }
+    ensures few { result ≤ 4096 }
+    ensures within { unread + result ≤ budget + 1 }
+{
+    4096.min(budget as usize - unread + 1)
+}
+
+/// Takes at most this many bytes.
+fn take_front<R: Reader>(reader: &mut R, into: &mut [u8], want: usize) -> Result<usize, ReadFault>
+    requires some { 0 < want }
+    requires room { want ≤ length into.old }
+    ensures within { IfOk result (λ n. n ≤ want) }
+    ensures gave { IfOk result (λ n. Gave R.left R.failures reader.old reader.new (take n into.new)) }
+    ensures end { IfOk result (λ n. n ≡ 0 → AtEnd R.left reader.new) }
+    ensures none { OnErr result (Gave R.left R.failures reader.old reader.new []) }
+    ensures failed { OnErr result (Rose (R.failures reader.old) (R.failures reader.new)) }
+{
+    reader.take(&mut into[..want])
+}
+
+/// The place of the first LF, where the first `seen` bytes have none.
+#[tactic(auto, using(crate::proofs::Ends::end_some, crate::proofs::Ends::end_none))]
+fn feed_after(bytes: &[u8], seen: usize) -> Option<usize>
+    requires within { seen ≤ length bytes.now }
+    requires none { line_end (take seen bytes.now) ≡ None }
+    ensures value { result ≡ line_end bytes.now }
+    ensures within { IfSome result (λ at. at < length bytes.now) }
+{
+    match feed_in(tail(bytes, seen)) {
+        None => None,
+        Some(at) => Some(seen + at),
+    }
+}
+
+/// A line that ends at this place.
+fn line_to(at: usize, budget: u32) -> Next
+    ensures { result ≡ next_line at budget }
+{
+    if at < budget as usize {
+        Next::Line(at)
+    } else {
+        Next::Long
+    }
+}
+
+/// What comes where the text ends after this many bytes.
+fn end_after(count: usize) -> Next
+    ensures { result ≡ next_end count }
+{
+    if count == 0 { Next::End } else { Next::Unended }
+}
+
+impl Lines {
+    /// No bytes taken, and a budget of this many bytes for all lines with their LFs.
+    pub fn new(alloc: Global, limit: u32) -> Lines
+        ensures { result ≡ record { unread = []; budget = limit } }
+    {
+        Lines {
+            buffer: Vec::new(alloc),
+            from: 0,
+            budget: limit,
+        }
+    }
+
+    /// The bytes that are taken and not passed.
+    pub fn unread(&self) -> &[u8]
+        ensures value { result.now ≡ self.now.unread }
+        ensures bound { length result.now ≤ self.now.budget + 1 }
+    {
+        &self.buffer[self.from..]
+    }
+
+    /// Passes a line of this many bytes and its LF.
+    pub fn pass(&mut self, count: usize)
+        requires taken { count < length self.old.unread }
+        requires allowed { count < self.old.budget }
+        ensures { self.new ≡ record { unread = drop (count + 1) self.old.unread; budget = self.old.budget - (count + 1) } }
+    {
+        let _ = &self.budget;
+        let passed = count as u32 + 1;
+        self.budget -= passed;
+        self.from += passed as usize;
+    }
+
+    /// Moves the bytes that have not been passed to the front of the buffer.
+    fn drop_passed(&mut self)
+        ensures { self.new ≡ self.old }
+    {
+        if self.from > 0 {
+            self.buffer.rotate_left(self.from);
+            self.buffer.truncate(self.buffer.len() - self.from);
+            self.from = 0;
+        }
+    }
+
+    /// Takes more bytes and returns how many, 0 at the end. The last is at most one past the budget.
+    fn fill<R: Reader>(&mut self, reader: &mut R) -> Result<usize, Halt>
+        requires { length self.old.unread ≤ self.old.budget }
+        ensures takes { Takes R.left R.failures self.old reader.old self.new reader.new }
+        ensures same { OnErr result (self.new ≡ self.old) }
+        ensures count { IfOk result (λ n. length self.new.unread ≡ length self.old.unread + n) }
+        ensures end { IfOk result (λ n. n ≡ 0 → AtEnd R.left reader.new) }
+        ensures halts { IfErr result (HaltsBy (R.failures reader.old) (R.failures reader.new)) }
+    {
+        self.drop_passed();
+        let mut chunk = [0u8; 4096];
+        let want = wanted(self.unread().len(), self.budget);
+        if self.buffer.reserve(want).is_err() {
+            return Err(Halt::NoMemory);
+        }
+        let count = take_front(reader, &mut chunk, want)?;
+        self.buffer.extend_from_slice(&chunk[..count]).unwrap();
+        Ok(count)
+    }
+
+    /// Finds what comes next, and takes the bytes that this needs. A line is not passed by it.
+    ///
+    /// # Errors
+    /// `ReadFailed` where the reader failed in this call, and `NoMemory` where the buffer could not
+    /// grow. No byte that was taken is lost in either.
+    pub fn next<R: Reader>(&mut self, reader: &mut R) -> Result<Next, Halt>
+        requires { length self.old.unread ≤ self.old.budget + 1 }
+        ensures takes { Takes R.left R.failures self.old reader.old self.new reader.new }
+        ensures next { IfOk result (IsNext R.left self.new reader.new) }
+        ensures within { OnErr result (line_end self.new.unread ≡ None) }
+        ensures halts { IfErr result (HaltsBy (R.failures reader.old) (R.failures reader.new)) }
+    {
+        let mut seen = 0;
+        loop {
+            let budget = self.budget();
+            match feed_after(self.unread(), seen) {
+                Some(at) => return Ok(line_to(at, budget)),
+                None => {}
+            }
+            seen = self.unread().len();
+            if seen > budget as usize {
+                return Ok(Next::Long);
+            }
+            if self.fill(reader)? == 0 {
+                return Ok(end_after(seen));
+            }
+        }
+    }
+
+    /// How many more bytes may be passed.
+    fn budget(&self) -> u32
+        ensures value { result ≡ self.now.budget }
+        ensures bound { length self.now.unread ≤ self.now.budget + 1 }
+    {
+        self.budget
+    }
 }

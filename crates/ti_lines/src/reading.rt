@@ -1,11 +1,11 @@
 //! Reading a line about a checked capability.
 ghost use Rattle.std.specs.Prelude.{◌≡◌, ◌≤◌, [], Some, length, IfOk, IfSome, IfNone, option_map};
-ghost use Rattle.ti_lines.specs.declared.lines.RowLine as declared;
-ghost use Rattle.ti_lines.specs.Lines as spec;
+ghost use Rattle.ti_lines.specs.declared.row_lines.RowLine as declared;
+ghost use Rattle.ti_lines.specs.RowLines as spec;
 
 use crate::cuts::cut;
 use crate::hexes::hex_at;
-use crate::lines::RowLine;
+use crate::row_lines::RowLine;
 use std::alloc::AllocError;
 use ti_caps::Bytes;
 use ti_rows::{Params, Row};
@@ -50,7 +50,7 @@ fn row_before(first: Row, text: &[u8]) -> Option<(Row, &[u8])>
     Some((row, rest))
 }
 
-/// So many numbers, which are pushed, and what follows the space after the last.
+/// Pushes the `count` numbers at the front of `text`, and returns what follows the space after the last.
 fn numbers_before<'a>(count: usize, text: &'a [u8], numbers: &mut Params) -> Option<&'a [u8]>
     requires empty { numbers.old.items ≡ [] }
     requires room { count ≤ 9 }

@@ -3,7 +3,7 @@ ghost use Rattle.std.specs.Prelude.{◌≡◌, ◌++◌, ◌∷◌, [], OnOk};
 ghost use Rattle.std.specs.Fmt.{decimal};
 ghost use Rattle.hex.specs.Hex.{encode_lower};
 ghost use Rattle.ti_lines.specs.Hex.{hex_text};
-ghost use Rattle.ti_lines.specs.Lines as spec;
+ghost use Rattle.ti_lines.specs.RowLines as spec;
 
 use std::alloc::AllocError;
 use ti_rows::Row;

@@ -172,8 +172,8 @@ fn check_effect(effect: &Effect, size: Size, row: usize, col: usize) -> Result<(
     }
 }
 
-/// Whether a move leads from each of so many rows or columns to this one. It does where it does from
-/// the first and from the last.
+/// Whether a move leads from each of `count` rows or columns to `to`. It does if it does from the first
+/// and from the last.
 fn leads_all(way: Move, count: usize, to: usize) -> bool
     requires some { 1 ≤ count }
     requires small { count ≤ 500 }

@@ -103,7 +103,7 @@ impl Row {
     }
 }
 
-/// The same for the rows that are about the rendition.
+/// The effect that is asked for, for the rows that are about the rendition.
 fn asked_of_rendition(row: Row, looks: Looks, effect: &Effect) -> Effect
     ensures { result ≡ spec.asked_of_rendition looks row effect.now }
 {

@@ -45,7 +45,7 @@ impl Looks {
     }
 }
 
-/// The same for `sgr`, by the number of its parameter list.
+/// What a line of `sgr` shows of the looks, by the number of its parameter list.
 fn learned_alone(number: usize, rendering: Rendering, looks: Looks) -> Looks
     ensures { result ≡ spec.learned_alone number rendering looks }
 {

@@ -129,7 +129,7 @@ impl Row {
     }
 }
 
-/// The same for the names from `dim` on.
+/// The place of a row's capability in the table, for the names from `dim` on.
 fn order_from_dim(row: Row) -> usize
     requires { 17 < spec.order row }
     ensures { result ≡ spec.order row }

@@ -41,7 +41,7 @@ impl Row {
         }
     }
 
-    /// The same capability with these parameters, if it has so many and each can be what it is for:
+    /// The capability of this row with the parameters `numbers`, if it takes as many and each can be what it is for:
     /// 0 or 1 for an attribute, below 8 for a colour. Whether a size allows them is another question.
     pub fn with_params(self, numbers: &[u16]) -> Option<Row>
         ensures { result ≡ spec.with_params self numbers.now }

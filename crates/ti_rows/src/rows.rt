@@ -75,18 +75,18 @@ pub enum Row {
     Cuf1,
     Cuu1,
     Cud1,
-    /// Left by so many columns.
+    /// Left by this many columns.
     Cub(u16),
-    /// Right by so many columns.
+    /// Right by this many columns.
     Cuf(u16),
-    /// Up by so many rows.
+    /// Up by this many rows.
     Cuu(u16),
-    /// Down by so many rows.
+    /// Down by this many rows.
     Cud(u16),
     El,
     El1,
     Ed,
-    /// So many cells.
+    /// This many cells, from the cursor on.
     Ech(u16),
     Sgr(Attributes),
     Sgr0,

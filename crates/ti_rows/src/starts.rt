@@ -50,7 +50,7 @@ fn calm(size: Size) -> Start
     starting(size, false, Margins::Whole)
 }
 
-/// The same, with so many columns to the left of the cursor.
+/// The states of `start` with at least `n` columns to the left of the cursor.
 fn room_left(n: u16, start: Start) -> Start
     ensures { result ≡ spec.room_left n start }
 {
@@ -60,7 +60,7 @@ fn room_left(n: u16, start: Start) -> Start
     }
 }
 
-/// The same, with so many columns to the right of the cursor.
+/// The states of `start` with at least `n` columns to the right of the cursor.
 fn room_right(n: u16, start: Start) -> Start
     ensures { result ≡ spec.room_right n start }
 {
@@ -70,7 +70,7 @@ fn room_right(n: u16, start: Start) -> Start
     }
 }
 
-/// The same, with so many rows above of the cursor.
+/// The states of `start` with at least `n` rows above the cursor.
 fn room_above(n: u16, start: Start) -> Start
     ensures { result ≡ spec.room_above n start }
 {
@@ -80,7 +80,7 @@ fn room_above(n: u16, start: Start) -> Start
     }
 }
 
-/// The same, with so many rows below of the cursor.
+/// The states of `start` with at least `n` rows below the cursor.
 fn room_below(n: u16, start: Start) -> Start
     ensures { result ≡ spec.room_below n start }
 {

@@ -9,7 +9,7 @@ use Rattle.ti_commands.specs.Words.{texts_of}
 use Rattle.ti_commands.specs.declared.failure.Failure.{Failure}
 use Rattle.ti_commands.specs.declared.failure.Reply.{Reply}
 use Rattle.ti_surveys.specs.Lines.{Answers, AreLines, HasParts}
-use Rattle.ti_surveys.specs.declared.surveying.Survey.{Survey}
+use Rattle.ti_requests.specs.declared.request.SurveyWords.{SurveyWords}
 
 -- the lines of what a path holds
 abbrev pub HasLines : (Content → List ℕ → Type 0) → Held → List ℕ → List ℕ → Type 0
@@ -43,12 +43,12 @@ first_failure (Some failure) later = Some failure
 first_failure None later = later
 
 -- the lines of each path, and after them the line of counts; it fails where a path can't be had
-pub record IsSurveyed (certifies : Content → ℕ → ℕ → List ℕ → Type 0) (refuses : Content → ℕ → ℕ → No → Type 0) (held : Held) (words : Survey) (reply : Reply) : Type 0 where
+pub record IsSurveyed (certifies : Content → ℕ → ℕ → List ℕ → Type 0) (refuses : Content → ℕ → ℕ → No → Type 0) (held : Held) (words : SurveyWords) (reply : Reply) : Type 0 where
   pub height : ℕ
   pub width : ℕ
   pub given : SizeGiven words.rows.now words.cols.now height width
   pub lines : List ℕ
-  pub ends : EndsPaths (Answers certifies refuses height width) held (texts_of words.files.now) lines reply.failure
+  pub ends : EndsPaths (Answers certifies refuses height width) held (texts_of words.paths.items) lines reply.failure
   pub counts : List ℕ
   pub says : reply.text.items ≡ lines ++ counts
   pub no_notes : reply.notes.items ≡ []

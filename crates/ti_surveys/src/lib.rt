@@ -6,5 +6,5 @@ mod surveying;
 mod tallies;
 mod watching;
 
-pub use surveying::{Survey, survey_files};
+pub use surveying::survey_files;
 pub use watching::Watcher;

@@ -11,21 +11,11 @@ use crate::tallies::Tally;
 use crate::watching::{Course, Watcher};
 use std::alloc::{AllocError, Global};
 use ti_commands::{Failure, Files, LONGEST_FILE, Remarks, Reply, read_whole, size_words};
+use ti_requests::SurveyWords;
 use ti_verdicts::Certifier;
 use vt_term::Size;
 
-/// The words of `survey`.
-#[derive(Clone, Copy)]
-pub struct Survey<'a> {
-    /// The terminal's rows, a decimal number.
-    pub rows: &'a str,
-    /// The terminal's columns, a decimal number.
-    pub cols: &'a str,
-    /// The paths of the files.
-    pub files: &'a [&'a str],
-}
-
-/// What a survey of some paths has told so far.
+/// What a survey of some paths has found so far.
 #[derive(Drop)]
 struct Told {
     /// The lines of the paths.
@@ -43,7 +33,7 @@ struct Told {
 pub fn survey_files<C: Certifier, F: Files, W: Watcher + Drop>(
     alloc: Global,
     certifier: &C,
-    words: &Survey<'_>,
+    words: &SurveyWords<'_>,
     files: &mut F,
     watcher: W,
     remarks: &mut Remarks,
@@ -61,7 +51,7 @@ pub fn survey_files<C: Certifier, F: Files, W: Watcher + Drop>(
         alloc,
         certifier,
         size,
-        words.files,
+        words.paths.as_slice(),
         files,
         &mut course,
         remarks,

@@ -1,10 +1,10 @@
-//! Who is told how far a survey has come.
+//! Reports of how far a survey has come.
 
 use crate::tallies::Tally;
 
-/// Is told how far a survey has come.
+/// Receives reports of how far a survey has come.
 pub trait Watcher {
-    /// So many of all are done, and the one of this name is next.
+    /// `done` of `all` are done, and the one named `name` is next.
     fn begins(&mut self, done: usize, all: usize, name: &[u8]);
 
     /// There is no next one.
@@ -16,6 +16,6 @@ pub trait Watcher {
 pub struct Course<W> {
     /// The answers so far.
     pub tally: Tally,
-    /// Who is told.
+    /// Who receives the reports.
     pub watcher: W,
 }

@@ -7,7 +7,6 @@ use Rattle.ti_checker.specs.Notes.{EntryNotes, IsFirstUnsent, notes_text}
 use Rattle.ti_checker.specs.declared.causes.Cause.TheVariants as causes
 use Rattle.ti_checker.specs.declared.causes.No.{No}
 use Rattle.ti_checker.specs.declared.noting.CheckNote.{CheckNote}
-use Rattle.ti_commands.specs.Finding.{LacksEntry}
 use Rattle.ti_commands.specs.Holding.{Held, Stored}
 use Rattle.ti_commands.specs.Replying.{GivesEntry}
 use Rattle.ti_commands.specs.Sizes.{LacksSize, SizeGiven}
@@ -16,7 +15,7 @@ use Rattle.ti_commands.specs.declared.failure.Failure.TheVariants.{File, NoMemor
 use Rattle.ti_commands.specs.declared.failure.Reply.{Reply}
 use Rattle.ti_verdicts.specs.Telling.{TellsNo}
 use Rattle.ti_verdicts.specs.Verifying.{FailsAtEntry}
-use Rattle.ti_verdicts.specs.declared.checking.Inspection.{Inspection}
+use Rattle.ti_requests.specs.declared.request.CheckWords.{CheckWords}
 use denote.Ref.{Bor}
 
 -- a no of the checker is so, and of a cause that comes first
@@ -84,7 +83,7 @@ TellsNotes entry lines = HasNotes entry lines ⊎ LacksNotes entry lines
 
 -- The entry that the word gives, at the size that the words give: its notes are told, also where it is refused, and its
 -- certificate is delivered, or a no is told.
-pub record IsChecked (certifies : Content → ℕ → ℕ → List ℕ → Type 0) (refuses : Content → ℕ → ℕ → No → Type 0) (before after : Held) (words : Inspection) (reply : Reply) : Type 0 where
+pub record IsChecked (certifies : Content → ℕ → ℕ → List ℕ → Type 0) (refuses : Content → ℕ → ℕ → No → Type 0) (before after : Held) (words : CheckWords) (reply : Reply) : Type 0 where
   pub height : ℕ
   pub width : ℕ
   pub given : SizeGiven words.rows.now words.cols.now height width
@@ -94,6 +93,6 @@ pub record IsChecked (certifies : Content → ℕ → ℕ → List ℕ → Type 
   pub ends : DeliversSome (certifies entry height width) words.out before after reply ⊎ Denies (refuses entry height width) before after reply
 
 -- the words of the size come first, then the entry; memory can run out at any time
-abbrev pub FailsToCheck : Held → Inspection → Failure → Type 0
+abbrev pub FailsToCheck : Held → CheckWords → Failure → Type 0
 FailsToCheck held words failure =
     LacksSize words.rows.now words.cols.now failure ⊎ FailsAtEntry held words.rows.now words.cols.now words.entry.now failure ⊎ (failure ≡ NoMemory)

@@ -1,7 +1,7 @@
 -- What `verify` answers, by what its files hold.
 use Rattle.std.specs.Prelude.{◌≡◌, ◌⊎◌, ℕ, List, codes}
 use Rattle.ti_caps.specs.Entry.{Content, string_at}
-use Rattle.ti_sends.specs.Entries.{EntryAgrees, acsc}
+use Rattle.ti_conforms.specs.Entries.{EntryAgrees, acsc}
 use Rattle.ti_cert.specs.Table.{Content as Strings, table_of}
 use Rattle.ti_cert.specs.declared.faults.VerifyFault.{VerifyFault}
 use Rattle.ti_conforms.specs.Conforms.{Conforms}
@@ -13,10 +13,10 @@ use Rattle.ti_commands.specs.Sizes.{HasSize, LacksSize, SizeGiven}
 use Rattle.ti_commands.specs.declared.failure.Failure.{Failure}
 use Rattle.ti_commands.specs.declared.failure.Reply.{Reply}
 use Rattle.ti_verdicts.specs.Telling.{TellsFault}
-use Rattle.ti_verdicts.specs.declared.verifying.Verification.{Verification}
+use Rattle.ti_requests.specs.declared.request.VerifyWords.{VerifyWords}
 
 -- the word gives an entry that conforms at the size that the words give
-pub record GivesConforming (held : Held) (words : Verification) : Type 0 where
+pub record GivesConforming (held : Held) (words : VerifyWords) : Type 0 where
   pub height : ℕ
   pub width : ℕ
   pub given : SizeGiven words.rows.now words.cols.now height width
@@ -32,7 +32,7 @@ pub record HandsOut (entry : Content) (height width : ℕ) (checked : Strings) :
   pub partners : checked.acsc ≡ string_at entry acsc
 
 -- the reply is yes
-pub record IsVerified (held : Held) (words : Verification) (reply : Reply) : Type 0 where
+pub record IsVerified (held : Held) (words : VerifyWords) (reply : Reply) : Type 0 where
   pub proved : GivesConforming held words
   pub says : IsText (codes "yes\n") reply
 
@@ -45,11 +45,11 @@ pub record FailsAtEntry (held : Held) (rows cols word : List ℕ) (failure : Fai
   pub sized : HasSize rows cols
   pub lacks : LacksEntry held word failure
 
-pub record FailsAtCertificate (held : Held) (words : Verification) (failure : Failure) : Type 0 where
+pub record FailsAtCertificate (held : Held) (words : VerifyWords) (failure : Failure) : Type 0 where
   pub sized : HasSize words.rows.now words.cols.now
   pub entry : Content
   pub gives : GivesEntry held words.entry.now entry
   pub lacks : LacksCertificate words.certificate.now failure
 
-abbrev pub FailsToVerify : Held → Verification → Failure → Type 0
+abbrev pub FailsToVerify : Held → VerifyWords → Failure → Type 0
 FailsToVerify held words failure = LacksSize words.rows.now words.cols.now failure ⊎ FailsAtEntry held words.rows.now words.cols.now words.entry.now failure ⊎ FailsAtCertificate held words failure

@@ -6,7 +6,7 @@ use crate::seen::Seen;
 use std::alloc::Global;
 use std::io::Read;
 use ti_commands::{Cause, FileFault};
-use ti_reader::{ReadFault, Reader};
+use ti_lines::{ReadFault, Reader};
 
 /// A file that gives a certificate. It remembers the lines that it gave last, and why it failed.
 #[derive(Drop)]

@@ -13,10 +13,10 @@ use vt_term::Size;
 
 /// Writes the certificates of entries.
 pub trait Certifier {
-    /// What holds of the text that it writes for an entry and so many rows and columns.
+    /// What holds of the text that it writes for an entry and a number of rows and columns.
     ghost certifies: { Self → Content → ℕ → ℕ → List ℕ → Type 0 };
 
-    /// What holds of its no for an entry and so many rows and columns.
+    /// What holds of its no for an entry and a number of rows and columns.
     ghost refuses: { Self → Content → ℕ → ℕ → No → Type 0 };
 
     /// The certificate of an entry for a size.

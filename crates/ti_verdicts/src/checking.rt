@@ -10,27 +10,15 @@ use std::alloc::{AllocError, Global};
 use ti_caps::Entry;
 use ti_checker::{Cause, No, note_lines, notes};
 use ti_commands::{Failure, Files, Remarks, Reply, entry_of, file_fault, size_words};
+use ti_requests::CheckWords;
 use vt_term::Size;
-
-/// The words of `check`.
-#[derive(Clone, Copy)]
-pub struct Inspection<'a> {
-    /// The entry.
-    pub entry: &'a str,
-    /// The terminal's rows, a decimal number.
-    pub rows: &'a str,
-    /// The terminal's columns, a decimal number.
-    pub cols: &'a str,
-    /// The path of the certificate, if it isn't for standard output.
-    pub out: Option<&'a str>,
-}
 
 /// Replies with the notes on the entry and with its certificate, which goes to its path or to standard
 /// output, or with why there is none.
 pub fn check_entry<C: Certifier, F: Files>(
     alloc: Global,
     certifier: &C,
-    words: &Inspection<'_>,
+    words: &CheckWords<'_>,
     files: &mut F,
     remarks: &mut Remarks,
 ) -> Result<Reply, Failure>

@@ -15,6 +15,6 @@ mod verifying;
 mod wanted;
 
 pub use certifiers::{Certifier, Checker};
-pub use checking::{Inspection, check_entry};
+pub use checking::check_entry;
 pub use telling::no_words;
-pub use verifying::{Verification, checked_at, verify_certificate};
+pub use verifying::{checked_at, verify_certificate};

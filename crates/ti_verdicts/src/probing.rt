@@ -94,7 +94,7 @@ pub fn changed_cells(terminal: &Terminal, fill: u8) -> Changed {
     changed
 }
 
-/// The same with those of one more row.
+/// The cells that changed in the rows above (`above`), with those of the row `row`.
 fn changed_in_row(terminal: &Terminal, fill: u8, row: usize, above: Changed) -> Changed
     requires { row < terminal.now.screen.rows }
 {

@@ -9,10 +9,9 @@ use std::alloc::{AllocError, Global};
 use ti_caps::{Entry, name};
 use ti_checker::{Cause, No, Probe};
 use ti_commands::Remarks;
-use ti_looks::misfit;
+use ti_conforms::{Unsent, is_checked, misfit, send};
 use ti_parm::ParmFault;
 use ti_rows::{Looks, NO_MARKS, Row};
-use ti_sends::{Unsent, is_checked, send};
 use vt_effects::effect_of;
 use vt_term::{Size, Terminal, TokenFault, TokenFaultKind, tokens};
 

@@ -13,25 +13,13 @@ use std::io::Read;
 use ti_caps::Entry;
 use ti_cert::{AgreeFault, CertFault, CertFaultKind, Checked, VerifyFault, verify_from};
 use ti_commands::{Failure, Files, Remarks, Reply, entry_of, file_fault, size_words};
+use ti_requests::VerifyWords;
 use vt_term::Size;
-
-/// The words of `verify`.
-#[derive(Clone, Copy)]
-pub struct Verification<'a> {
-    /// The entry.
-    pub entry: &'a str,
-    /// The terminal's rows, a decimal number.
-    pub rows: &'a str,
-    /// The terminal's columns, a decimal number.
-    pub cols: &'a str,
-    /// The path of the certificate.
-    pub certificate: &'a str,
-}
 
 /// Says yes if the certificate shows that the entry conforms at this size.
 pub fn verify_certificate<F: Files>(
     alloc: Global,
-    words: &Verification<'_>,
+    words: &VerifyWords<'_>,
     files: &mut F,
     remarks: &mut Remarks,
 ) -> Result<Reply, Failure>

@@ -3,19 +3,17 @@
 ghost use Rattle.std.specs.Prelude.{◌≤◌};
 
 use crate::progress::ProgressLine;
-use cur_commands::{Playing, play_script, show_script};
+use cur_commands::{play_script, show_script};
 use std::alloc::Global;
 use std::io::{IsTerminal, Write};
-use ti_arguments::{
-    Answer, CheckWords, ExpandWords, LineFault, Request, ScriptWords, SurveyWords, VerifyWords,
-    parse_line,
-};
+use ti_arguments::{Answer, LineFault, parse_line};
 use ti_commands::{
-    Comparison, Expansion, Failure, Files, Output, Remarks, Reply, Written, compare_entries,
-    compile_entry, expand_string, feed_file, print_entry, report, write_reply, write_text,
+    Comparison, Failure, Files, Output, Remarks, Reply, Written, compare_entries, compile_entry,
+    expand_string, feed_file, print_entry, report, write_reply, write_text,
 };
-use ti_surveys::{Survey, survey_files};
-use ti_verdicts::{Checker, Inspection, Verification, check_entry, verify_certificate};
+use ti_requests::Request;
+use ti_surveys::survey_files;
+use ti_verdicts::{Checker, check_entry, verify_certificate};
 
 /// Does what the words after the program's own name ask for: the answer goes to `out`, notes and a
 /// failure's lines to `err`, and the result is the exit status: 0 done, 1 refused, 2 a usage error,
@@ -76,17 +74,20 @@ fn reply_to<F: Files, O: Output, E: Write + IsTerminal>(
     remarks: &mut Remarks,
 ) -> Result<Reply, Failure> {
     match request {
-        Request::Expand(words) => expand(alloc, words, remarks),
+        Request::Expand(words) => expand_string(alloc, words, remarks),
         Request::Feed { rows, cols, file } => feed_file(alloc, rows, cols, file, files, remarks),
         Request::Tic { entry, out } => compile_entry(alloc, entry, *out, files, remarks),
-        Request::Check(words) => check(alloc, words, files, remarks),
-        Request::Verify(words) => verify(alloc, words, files, remarks),
+        Request::Check(words) => check_entry(alloc, &Checker, words, files, remarks),
+        Request::Verify(words) => verify_certificate(alloc, words, files, remarks),
         Request::Play(words) => {
-            play_script(alloc, &playing(words), files, out, remarks)?;
+            play_script(alloc, words, files, out, remarks)?;
             Ok(Reply::of_text(alloc, Vec::new(alloc)))
         }
-        Request::Show(words) => show_script(alloc, &playing(words), files, remarks),
-        Request::Survey(words) => survey(alloc, words, files, err, remarks),
+        Request::Show(words) => show_script(alloc, words, files, remarks),
+        Request::Survey(words) => {
+            let line = ProgressLine::new(alloc, err);
+            survey_files(alloc, &Checker, words, files, line, remarks)
+        }
         Request::Print { entry } => print_entry(alloc, entry, files, remarks),
         Request::Common { first, second } => {
             compare_entries(alloc, first, second, Comparison::Common, files, remarks)
@@ -95,71 +96,4 @@ fn reply_to<F: Files, O: Output, E: Write + IsTerminal>(
             compare_entries(alloc, first, second, Comparison::Neither, files, remarks)
         }
     }
-}
-
-fn playing<'a>(words: &ScriptWords<'a>) -> Playing<'a> {
-    Playing {
-        entry: words.entry,
-        rows: words.rows,
-        cols: words.cols,
-        certificate: words.certificate,
-        script: words.script,
-    }
-}
-
-fn expand(alloc: Global, words: &ExpandWords<'_>, remarks: &mut Remarks) -> Result<Reply, Failure> {
-    let expansion = Expansion {
-        string: words.string,
-        rows: words.rows,
-        cols: words.cols,
-        params: words.params.as_slice(),
-        judges_cup: words.cup,
-    };
-    expand_string(alloc, &expansion, remarks)
-}
-
-fn check<F: Files>(
-    alloc: Global,
-    words: &CheckWords<'_>,
-    files: &mut F,
-    remarks: &mut Remarks,
-) -> Result<Reply, Failure> {
-    let inspection = Inspection {
-        entry: words.entry,
-        rows: words.rows,
-        cols: words.cols,
-        out: words.out,
-    };
-    check_entry(alloc, &Checker, &inspection, files, remarks)
-}
-
-fn verify<F: Files>(
-    alloc: Global,
-    words: &VerifyWords<'_>,
-    files: &mut F,
-    remarks: &mut Remarks,
-) -> Result<Reply, Failure> {
-    let verification = Verification {
-        entry: words.entry,
-        rows: words.rows,
-        cols: words.cols,
-        certificate: words.certificate,
-    };
-    verify_certificate(alloc, &verification, files, remarks)
-}
-
-fn survey<F: Files, E: Write + IsTerminal>(
-    alloc: Global,
-    words: &SurveyWords<'_>,
-    files: &mut F,
-    err: &mut E,
-    remarks: &mut Remarks,
-) -> Result<Reply, Failure> {
-    let survey = Survey {
-        rows: words.rows,
-        cols: words.cols,
-        files: words.paths.as_slice(),
-    };
-    let line = ProgressLine::new(alloc, err);
-    survey_files(alloc, &Checker, &survey, files, line, remarks)
 }

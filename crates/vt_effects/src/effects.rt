@@ -11,9 +11,9 @@ pub enum Move {
     Kept,
     /// To this row or column, whatever it was.
     To(u16),
-    /// Up, or left, by so many.
+    /// Up, or left, by this many.
     Back(u16),
-    /// Down, or right, by so many.
+    /// Down, or right, by this many.
     Forward(u16),
 }
 
@@ -29,7 +29,7 @@ pub enum Erasure {
     Head,
     /// From the cursor to the screen's end.
     Rest,
-    /// So many cells from the cursor on, at most to the line's end.
+    /// This many cells from the cursor on, at most to the line's end.
     Next(u16),
 }
 

@@ -196,7 +196,7 @@ fn knows_whole(size: Size, margins: Margins) -> bool
     }
 }
 
-/// The same, where these margins may have been set.
+/// Whether the margins are the whole screen, where `set` may have been set.
 fn are_whole(size: Size, margins: Margins, set: Option<Region>) -> bool
     ensures { result ≡ spec.are_whole size.rows margins set }
 {

@@ -7,9 +7,9 @@ pub enum Margins {
     Whole,
     /// Any two lines, the first above the last.
     Legal,
-    /// The same, and the cursor is on the last.
+    /// Any legal ones, and the cursor is on the last line of the region.
     OnBottom,
-    /// The same, and the cursor is on the first.
+    /// Any legal ones, and the cursor is on the first line of the region.
     OnTop,
 }
 

@@ -44,7 +44,7 @@ pub fn number_at(digits: &[u8]) -> Option<u16>
     }
 }
 
-/// The same of a number above 0.
+/// The number above 0 that the digits are, if they are one.
 pub(crate) fn positive_at(digits: &[u8]) -> Option<u16>
     ensures { result ≡ spec.positive (spec.number_at digits.now) }
 {

@@ -8,6 +8,7 @@ pub mod Screen
 pub mod Function
 pub mod Step
 pub mod Run
+pub mod Ends
 pub mod Fault
 pub mod Printed
 pub mod ParserStates

@@ -131,7 +131,7 @@ impl fmt::Display for TokenFault {
 
 impl Error for TokenFault {}
 
-/// The same fault, where memory could be refused too.
+/// The fault of a text, as one of a call that could also run out of memory.
 fn told(fault: TextFault) -> TokenFault
     ensures { (text : List ℕ) → HasFault text fault → TellsFault text result }
 {

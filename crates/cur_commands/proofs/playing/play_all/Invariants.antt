@@ -6,7 +6,7 @@ use Rattle.cur_commands.proofs.playing.play_all.Given as goal
 
 abbrev pub invariant-loop-call : goal.invariant-loop-call
 invariant-loop-call g l = record {
-  played : Logged g.W.Wire.went l.fn.wire.wire l.wire.wire l.wire.sent (g.C.Certificate.table l.fn.session.painter.checked) (g.C.Alternates.partners l.fn.session.painter.checked) l.calls l.call-index l.session l.log.items;
+  played : Logged g.W.Wire.went l.fn.wire.wire l.wire.wire l.wire.sent (g.C.Certificate.table l.fn.session.painter.checked) (g.C.Certificate.partners l.fn.session.painter.checked) l.calls l.call-index l.session l.log.items;
   through : g.W.Wire.failures l.wire.wire.now ≡ 0 → AreThrough l.log.items;
   room : length l.calls ≤ vec_capacity l.log;
   count : vec_len l.log ≡ l.call-index;

@@ -1,7 +1,7 @@
 use Rattle.std.proofs.Common.{◌*◌, arith}
 use Rattle.std.proofs.lemmas.Result.{err_from_is_err_and}
-use Rattle.cur_steps.proofs.Stopping.{steps_fail, steps_next}
-use Rattle.cur_looks.specs.Certified.{IsPiece, IsLost}
+use Rattle.cur_wires.proofs.Stopping.{steps_fail, steps_next}
+use Rattle.ti_conforms.specs.Certified.{IsPiece, IsLost}
 use Rattle.cur_looks.specs.Beliefs.{Agrees, moves, brush_limit, ready_limit}
 use Rattle.cur_looks.proofs.Telling.{moves_few, at_most}
 use Rattle.cur_looks.proofs.cells.poise.Goals as goal

@@ -1,5 +1,5 @@
 use Rattle.std.proofs.Common.{length, ap, arith}
-use Rattle.cur_looks.specs.Certified.{or_nothing}
+use Rattle.ti_conforms.specs.Certified.{or_nothing}
 use Rattle.cur_looks.proofs.Doing.{line_sent, line_steps}
 use Rattle.cur_looks.proofs.lines.send_line.Goals as goal
 

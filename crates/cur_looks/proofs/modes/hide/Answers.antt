@@ -1,6 +1,6 @@
 use Rattle.std.proofs.Common.{◌≡◌, true, false, arith, refl}
 use Rattle.ti_rows.specs.declared.rows.Row.TheVariants.{Civis}
-use Rattle.cur_looks.specs.Certified.{has}
+use Rattle.ti_conforms.specs.Certified.{has}
 use Rattle.cur_looks.proofs.Telling.{has_none}
 use Rattle.cur_looks.proofs.Turning.{hidden}
 use Rattle.cur_looks.proofs.modes.hide.Goals as goal

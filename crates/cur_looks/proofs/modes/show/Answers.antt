@@ -1,7 +1,7 @@
 use Rattle.std.proofs.Common.{Some, arith, refl}
-use Rattle.cur_steps.proofs.Stopping.{steps_nothing}
+use Rattle.cur_wires.proofs.Stopping.{steps_nothing}
 use Rattle.ti_rows.specs.declared.rows.Row.TheVariants.{Cnorm}
-use Rattle.cur_looks.specs.Certified.{IsPiece, IsLost}
+use Rattle.ti_conforms.specs.Certified.{IsPiece, IsLost}
 use Rattle.cur_looks.specs.Beliefs.{Agrees, Belief, Normal}
 use Rattle.cur_looks.proofs.Doing.{agrees_lost}
 use Rattle.cur_looks.proofs.Telling.{has_none}

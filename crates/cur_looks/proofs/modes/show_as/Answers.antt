@@ -1,6 +1,6 @@
 use Rattle.std.proofs.Common.{◌*◌, arith, refl}
-use Rattle.cur_steps.proofs.Stopping.{steps_none, steps_wider}
-use Rattle.cur_looks.specs.Certified.{IsPiece, IsLost}
+use Rattle.cur_wires.proofs.Stopping.{steps_none, steps_wider}
+use Rattle.ti_conforms.specs.Certified.{IsPiece, IsLost}
 use Rattle.cur_looks.specs.Beliefs.{Agrees, changes, modes_limit}
 use Rattle.cur_looks.proofs.Doing.{agrees_lost}
 use Rattle.cur_looks.proofs.Telling.{once}

@@ -1,6 +1,6 @@
 use Rattle.std.proofs.Common.{Some, arith}
-use Rattle.cur_steps.proofs.Stopping.{steps_nothing}
-use Rattle.cur_looks.specs.Certified.{IsPiece, IsLost}
+use Rattle.cur_wires.proofs.Stopping.{steps_nothing}
+use Rattle.ti_conforms.specs.Certified.{IsPiece, IsLost}
 use Rattle.cur_looks.specs.Beliefs.{Agrees, Belief, Prominent}
 use Rattle.cur_looks.proofs.Doing.{agrees_lost}
 use Rattle.cur_looks.proofs.Turning.{stressed, stressed_without}

@@ -2,7 +2,7 @@ use Rattle.std.proofs.Common.{◌≤◌, ◌≡◌, ℕ, Option, Some, length, s
 use Rattle.std.proofs.lemmas.Option.{same_Some}
 use Rattle.ti_rows.specs.declared.rows.Row.{Row}
 use Rattle.ti_rows.specs.declared.rows.Row.TheVariants.{Cup, Home, Cr, Hpa, Vpa, Cub1, Cuf1, Cuu1, Cud1, Cub, Cuf, Cuu, Cud}
-use Rattle.cur_looks.specs.Certified.{Table, text_of}
+use Rattle.ti_conforms.specs.Certified.{Table, text_of}
 use Rattle.cur_looks.specs.Beliefs.{Place}
 use Rattle.cur_looks.specs.Moves.{MovesFrom, IsWay}
 use Rattle.cur_looks.proofs.Fewest.{picked, unknown, fewest_of, fewest_from}

@@ -1,5 +1,5 @@
 use Rattle.std.proofs.Common.{length, arith}
-use Rattle.cur_looks.specs.Certified.{text_of}
+use Rattle.ti_conforms.specs.Certified.{text_of}
 use Rattle.cur_looks.proofs.Moving.{turned}
 use Rattle.cur_looks.proofs.reaching.end_leg.Goals as goal
 

@@ -1,7 +1,7 @@
 use Rattle.std.proofs.Common.{length, arith}
 use Rattle.std.proofs.lemmas.Result.{err_from_is_err_and}
-use Rattle.cur_steps.proofs.Stopping.{steps_fail, steps_next}
-use Rattle.cur_looks.specs.Certified.{IsPiece, IsLost, text_of}
+use Rattle.cur_wires.proofs.Stopping.{steps_fail, steps_next}
+use Rattle.ti_conforms.specs.Certified.{IsPiece, IsLost, text_of}
 use Rattle.cur_looks.specs.Beliefs.{Agrees}
 use Rattle.cur_looks.specs.Routes.{leg_bytes}
 use Rattle.cur_looks.proofs.reaching.follow.Goals as goal

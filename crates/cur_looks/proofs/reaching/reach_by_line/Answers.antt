@@ -1,5 +1,5 @@
-use Rattle.cur_steps.proofs.Stopping.{steps_none}
-use Rattle.cur_looks.specs.Certified.{IsPiece, IsLost}
+use Rattle.cur_wires.proofs.Stopping.{steps_none}
+use Rattle.ti_conforms.specs.Certified.{IsPiece, IsLost}
 use Rattle.cur_looks.specs.Beliefs.{Agrees}
 use Rattle.cur_looks.proofs.Doing.{agrees_lost}
 use Rattle.cur_looks.proofs.Moving.{turned}

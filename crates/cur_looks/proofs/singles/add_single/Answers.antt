@@ -1,6 +1,6 @@
 use Rattle.std.proofs.Common.{◌≡◌, true, length, refl, sym}
-use Rattle.cur_steps.proofs.Stopping.{steps_none, steps_nothing}
-use Rattle.cur_looks.specs.Certified.{HasSingles, IsPiece, IsLost, text_of}
+use Rattle.cur_wires.proofs.Stopping.{steps_none, steps_nothing}
+use Rattle.ti_conforms.specs.Certified.{HasSingles, IsPiece, IsLost, text_of}
 use Rattle.cur_looks.specs.Beliefs.{Agrees, Belief}
 use Rattle.cur_looks.specs.Singles.{has_single, turned_on}
 use Rattle.cur_looks.proofs.Doing.{agrees_lost}

@@ -1,7 +1,7 @@
 use Rattle.std.proofs.Common.{◌≡◌, ℕ, Ok, None, take, drop}
 use Rattle.cur_wires.specs.declared.wires.WireFault.{WireFault}
-use Rattle.cur_steps.specs.Steps.{Steps}
-use Rattle.cur_looks.specs.Certified.{IsPiece, IsLost, lengths}
+use Rattle.cur_wires.specs.Steps.{Steps}
+use Rattle.ti_conforms.specs.Certified.{IsPiece, IsLost, lengths}
 use Rattle.cur_looks.specs.Beliefs.{Agrees}
 use Rattle.cur_looks.specs.declared.inks.Ink.{Ink}
 use Rattle.cur_looks.specs.Singles.{with_singles}

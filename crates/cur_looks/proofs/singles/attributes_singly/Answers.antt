@@ -1,8 +1,8 @@
 use Rattle.std.proofs.Common.{◌≡◌, ◌+◌, ◌≤◌, false, length, ap, arith}
 use Rattle.std.proofs.lemmas.Result.{err_from_is_err_and}
-use Rattle.cur_steps.proofs.Stopping.{steps_fail, steps_next, on_ok_map}
+use Rattle.cur_wires.proofs.Stopping.{steps_fail, steps_next, on_ok_map}
 use Rattle.ti_rows.specs.declared.rows.Row.TheVariants.{Sgr, Sgr0}
-use Rattle.cur_looks.specs.Certified.{IsPiece, IsLost, has, text_of, lengths, singles}
+use Rattle.ti_conforms.specs.Certified.{IsPiece, IsLost, has, text_of, lengths, singles}
 use Rattle.cur_looks.specs.Inks.{no_attributes}
 use Rattle.cur_looks.specs.Beliefs.{Agrees, Belief}
 use Rattle.cur_looks.proofs.Telling.{has_none}

@@ -1,6 +1,6 @@
 use Rattle.std.proofs.Common.{None, length, arith}
 use Rattle.ti_rows.specs.declared.rows.Row.TheVariants.{Sgr0}
-use Rattle.cur_looks.specs.Certified.{text_of}
+use Rattle.ti_conforms.specs.Certified.{text_of}
 use Rattle.cur_looks.specs.Inks.{plain_brush}
 use Rattle.cur_looks.specs.Beliefs.{Belief}
 use Rattle.cur_looks.proofs.Singling.{stripped}

@@ -1,7 +1,7 @@
 use Rattle.std.proofs.Common.{ap, sym}
-use Rattle.cur_steps.proofs.Stopping.{steps_nothing}
+use Rattle.cur_wires.proofs.Stopping.{steps_nothing}
 use Rattle.ti_rows.specs.declared.rows.Attributes.{Attributes}
-use Rattle.cur_looks.specs.Certified.{IsPiece, IsLost}
+use Rattle.ti_conforms.specs.Certified.{IsPiece, IsLost}
 use Rattle.cur_looks.specs.Beliefs.{Agrees, Belief}
 use Rattle.cur_looks.proofs.Doing.{agrees_lost}
 use Rattle.cur_looks.proofs.Sameness.{attributes_equal}

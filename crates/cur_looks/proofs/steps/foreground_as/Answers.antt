@@ -1,8 +1,8 @@
 use Rattle.std.proofs.Common.{◌≡◌, Option, Some, true, false, arith, refl, ap, sym, ◌∙◌}
 use Rattle.vt_term.specs.Color.{Color}
-use Rattle.cur_steps.proofs.Stopping.{steps_nothing}
+use Rattle.cur_wires.proofs.Stopping.{steps_nothing}
 use Rattle.ti_rows.specs.declared.rows.Row.TheVariants.{Op, Setaf}
-use Rattle.cur_looks.specs.Certified.{IsPiece, IsLost, has}
+use Rattle.ti_conforms.specs.Certified.{IsPiece, IsLost, has}
 use Rattle.cur_looks.specs.Beliefs.{Agrees, Belief}
 use Rattle.cur_looks.proofs.Doing.{agrees_lost}
 use Rattle.cur_looks.proofs.Telling.{has_none}

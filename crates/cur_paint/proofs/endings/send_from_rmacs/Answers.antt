@@ -1,7 +1,7 @@
 use Rattle.std.proofs.lemmas.Result.{err_from_is_err_and}
-use Rattle.cur_steps.proofs.Painting.{sends_then, stops_more}
+use Rattle.cur_wires.proofs.Painting.{sends_then, stops_more}
 use Rattle.ti_rows.specs.declared.rows.Row.TheVariants.{Rmacs}
-use Rattle.cur_looks.specs.Certified.{text_of}
+use Rattle.ti_conforms.specs.Certified.{text_of}
 use Rattle.cur_paint.specs.Finish.{from_cup_text}
 use Rattle.cur_paint.proofs.endings.send_from_rmacs.Goals as goal
 

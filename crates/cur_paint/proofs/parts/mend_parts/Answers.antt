@@ -2,34 +2,34 @@ use Rattle.std.proofs.Common.{◌≡◌, ◌+◌, ◌*◌, Ok, refl, sym, ◌∙
 use Rattle.std.proofs.lemmas.Result.{err_from_is_err_and}
 use Rattle.cur_looks.specs.Inks.{mixed}
 use Rattle.cur_paint.specs.Differ.{span}
-use Rattle.cur_looks.specs.Certified.{IsPiece, IsLost, cell_limit}
+use Rattle.ti_conforms.specs.Certified.{IsPiece, IsLost, cell_limit}
 use Rattle.cur_looks.specs.Beliefs.{Agrees}
-use Rattle.cur_steps.proofs.Stopping.{steps_nothing, steps_next, steps_fail, steps_wider}
+use Rattle.cur_wires.proofs.Stopping.{steps_nothing, steps_next, steps_fail, steps_wider}
 use Rattle.cur_looks.proofs.Doing.{agrees_lost}
 use Rattle.cur_paint.proofs.Mixing.{span_join, span_grows, times_grows, sum_limit, agrees_at}
 use Rattle.cur_paint.proofs.parts.mend_parts.Goals as goal
 
 pub loop-done-init : goal.loop-done-init
 loop-done-init g c =
-    let t = g.C.Certificate.table c.args.checked.now in
+    let t = g.C.Certificate.table c.args.screens.now.checked.now in
     let b = c.args.belief.now in
-    let old = g.O.View.cells c.args.old.now in
-    let new = g.N.View.cells c.args.new.now in
+    let old = g.O.View.cells c.args.screens.now.old.now in
+    let new = g.N.View.cells c.args.screens.now.new.now in
     record {
       within = omega arith;
       idle = λ e. refl;
-      step = steps_nothing g.W.Wire.went g.W.Wire.failures g.met.W.Wire.lawful c.args.wire.now tt (IsPiece t) _ (IsLost t) (Agrees t (mixed old new c.args.row c.args.from) b) (Agrees t (mixed old new c.args.row (c.args.from + 0)) b)
-          (λ s x. x.ready.rest) (agrees_at t old new c.args.row c.args.from (c.args.from + 0) b (omega arith)) (agrees_lost t c.rows.ensures.checked (mixed old new c.args.row c.args.from) b);
+      step = steps_nothing g.W.Wire.went g.W.Wire.failures g.met.W.Wire.lawful c.args.wire.now tt (IsPiece t) _ (IsLost t) (Agrees t (mixed old new c.args.cells.row c.args.cells.from) b) (Agrees t (mixed old new c.args.cells.row (c.args.cells.from + 0)) b)
+          (λ s x. x.ready.rest) (agrees_at t old new c.args.cells.row c.args.cells.from (c.args.cells.from + 0) b (omega arith)) (agrees_lost t c.requires.scene.checked (mixed old new c.args.cells.row c.args.cells.from) b);
     }
 
 pub loop-done-preserved : goal.loop-done-preserved
 loop-done-preserved g c =
-    let t = g.C.Certificate.table c.args.checked.now in
+    let t = g.C.Certificate.table c.args.screens.now.checked.now in
     let b = c.args.belief.now in
-    let old = g.O.View.cells c.args.old.now in
-    let new = g.N.View.cells c.args.new.now in
-    let row = c.args.row in
-    let from = c.args.from in
+    let old = g.O.View.cells c.args.screens.now.old.now in
+    let new = g.N.View.cells c.args.screens.now.new.now in
+    let row = c.args.cells.row in
+    let from = c.args.cells.from in
     let done = c.loop-done.done in
     let n = c.next_part-part.result.count in
     let more : span old new row from done + span old new row (from + done) n ≡ span old new row from (done + n) = span_join old new row from done n in
@@ -48,17 +48,17 @@ loop-done-preserved g c =
 pub returns-in_err-mend_part-clause-step : goal.returns-in_err-mend_part-clause-step
 returns-in_err-mend_part-clause-step g c =
     let e = err_from_is_err_and c.from_residual.result c.from_residual.ensures.1 in
-    let t = g.C.Certificate.table c.args.checked.now in
+    let t = g.C.Certificate.table c.args.screens.now.checked.now in
     let b = c.args.belief.now in
-    let old = g.O.View.cells c.args.old.now in
-    let new = g.N.View.cells c.args.new.now in
-    let row = c.args.row in
-    let from = c.args.from in
+    let old = g.O.View.cells c.args.screens.now.old.now in
+    let new = g.N.View.cells c.args.screens.now.new.now in
+    let row = c.args.cells.row in
+    let from = c.args.cells.from in
     let done = c.loop-done.done in
     let n = c.next_part-part.result.count in
-    rw e.1 (steps_fail g.W.Wire.went g.W.Wire.failures c.args.wire.now c.mend_part.new.wire _ _ (IsPiece t) (span old new row from (done + n) * cell_limit t) (span old new row from c.args.count * cell_limit t) (IsLost t)
-    (Agrees t (mixed old new row from) b) (Agrees t (mixed old new row (from + done + n)) c.mend_part.new.belief) (Agrees t (mixed old new row (from + c.args.count)) c.mend_part.new.belief)
-    (times_grows _ _ (cell_limit t) (span_grows old new row from (done + n) c.args.count (omega (arith, c.next_part-part.ensures.within, c.loop-done.invariant.within))))
+    rw e.1 (steps_fail g.W.Wire.went g.W.Wire.failures c.args.wire.now c.mend_part.new.wire _ _ (IsPiece t) (span old new row from (done + n) * cell_limit t) (span old new row from c.args.cells.count * cell_limit t) (IsLost t)
+    (Agrees t (mixed old new row from) b) (Agrees t (mixed old new row (from + done + n)) c.mend_part.new.belief) (Agrees t (mixed old new row (from + c.args.cells.count)) c.mend_part.new.belief)
+    (times_grows _ _ (cell_limit t) (span_grows old new row from (done + n) c.args.cells.count (omega (arith, c.next_part-part.ensures.within, c.loop-done.invariant.within))))
     (steps_next g.W.Wire.went g.W.Wire.failures g.met.W.Wire.lawful c.args.wire.now c.loop-done.wire c.mend_part.new.wire _ _ (IsPiece t)
     (span old new row from done * cell_limit t) (span old new row (from + done) n * cell_limit t) (span old new row from (done + n) * cell_limit t) (IsLost t)
     (Agrees t (mixed old new row from) b) (Agrees t (mixed old new row (from + done)) c.loop-done.belief) (Agrees t (mixed old new row (from + done + n)) c.mend_part.new.belief)

@@ -1,19 +1,16 @@
-use Rattle.std.proofs.Common.{◌≡◌, ◌+◌, ◌-◌, ◌*◌, ◌≤◌, Ok}
+use Rattle.std.proofs.Common.{◌≡◌, ◌-◌, ◌≤◌, Ok}
 use Rattle.cur_wires.specs.declared.wires.WireFault.{WireFault}
-use Rattle.cur_looks.specs.Inks.{mixed}
-use Rattle.cur_paint.specs.Differ.{span}
-use Rattle.cur_looks.specs.Certified.{IsPiece, IsLost, cell_limit}
-use Rattle.cur_looks.specs.Beliefs.{Agrees}
-use Rattle.cur_steps.specs.Steps.{Steps}
+use Rattle.cur_paint.specs.Scenes.{MendsCells, changed, scene}
 use Rattle.cur_paint.proofs.parts.mend_parts.Given as goal
 
 abbrev pub invariant-loop-done : goal.invariant-loop-done
 invariant-loop-done g l = record {
-  within : l.done ≤ l.count;
-  idle : span (g.O.View.cells l.old) (g.N.View.cells l.new) l.row l.from l.done ≡ 0 → l.belief ≡ l.fn.belief;
-  step : Steps {T = Unit {0}} {E = WireFault} g.W.Wire.went g.W.Wire.failures l.fn.wire l.wire (Ok tt) (IsPiece (g.C.Certificate.table l.checked)) (span (g.O.View.cells l.old) (g.N.View.cells l.new) l.row l.from l.done * cell_limit (g.C.Certificate.table l.checked))
-      (IsLost (g.C.Certificate.table l.checked)) (Agrees (g.C.Certificate.table l.checked) (mixed (g.O.View.cells l.old) (g.N.View.cells l.new) l.row l.from) l.fn.belief) (Agrees (g.C.Certificate.table l.checked) (mixed (g.O.View.cells l.old) (g.N.View.cells l.new) l.row (l.from + l.done)) l.belief);
+  within : l.done ≤ l.cells.count;
+  idle : changed (scene g.C.Certificate.table g.O.View.cells g.N.View.cells l.screens) (record l.cells { count = l.done }) ≡ 0
+      → l.belief ≡ l.fn.belief;
+  step : MendsCells {T = Unit {0}} {E = WireFault} g.W.Wire.went g.W.Wire.failures l.fn.wire l.wire (Ok tt)
+      (scene g.C.Certificate.table g.O.View.cells g.N.View.cells l.screens) (record l.cells { count = l.done }) l.fn.belief l.belief;
 }
 
 abbrev pub decreases-loop-done : goal.decreases-loop-done
-decreases-loop-done g l = l.count - l.done
+decreases-loop-done g l = l.cells.count - l.done

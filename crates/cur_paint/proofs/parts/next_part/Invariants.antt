@@ -3,8 +3,8 @@ use Rattle.cur_paint.proofs.parts.next_part.Given as goal
 
 abbrev pub invariant-loop-n : goal.invariant-loop-n
 invariant-loop-n g l = record {
-  within : l.n ≤ l.count;
+  within : l.n ≤ l.cells.count;
 }
 
 abbrev pub decreases-loop-n : goal.decreases-loop-n
-decreases-loop-n g l = l.count - l.n
+decreases-loop-n g l = l.cells.count - l.n

@@ -5,9 +5,9 @@ abbrev pub invariant-loop-run : goal.invariant-loop-run
 invariant-loop-run g l = record {
   order : l.run.start ≤ l.run.end;
   within : l.run.end ≤ l.run.len;
-  len : l.run.len ≤ l.count;
+  len : l.run.len ≤ l.cells.count;
   differing : l.run.differing ≤ l.run.len;
 }
 
 abbrev pub decreases-loop-run : goal.decreases-loop-run
-decreases-loop-run g l = l.count - l.run.len
+decreases-loop-run g l = l.cells.count - l.run.len

@@ -18,28 +18,28 @@ one_line o a b e f = cc
 pub returns-in_err-send_all-clause-step : goal.returns-in_err-send_all-clause-step
 returns-in_err-send_all-clause-step g c line is shown =
     let e = err_from_is_err_and c.from_residual.result c.from_residual.ensures.1 in
-    let t = g.C.Certificate.table c.args.checked.now in
+    let t = g.C.Certificate.table c.args.screens.now.checked.now in
     let b : Belief = c.args.belief.now in
     let d : Belief = at_corner b in
-    let new = g.N.View.cells c.args.new.now in
+    let new = g.N.View.cells c.args.screens.now.new.now in
     let sent : List ℕ = c.unwrap.result.now in
     let its : t.line_of Clear ≡ Some sent = line_is t Clear c.line.result c.unwrap.result c.unwrap.ensures c.line.ensures.value in
     let limit : ℕ = paint_limit t (cleared b.brush.background) new d c.args.wanted.cursor c.args.wanted.mode in
     let P : List ℕ → Type 0 = λ l. Anew {T = Unit {0}} {E = WireFault} g.W.Wire.went g.W.Wire.failures c.args.wire.now c.send_all.new.wire (Err e.0) t (length l + limit) (Agrees t shown b) (Agrees t new d) l in
     rw e.1 (subst P (one_line (t.line_of Clear) sent line its is)
-    (anew_failed g.W.Wire.went g.W.Wire.failures c.args.wire.now c.send_all.new.wire _ t (length sent + limit) (Agrees t shown b) (Agrees t (cleared b.brush.background) d) (Agrees t new d) sent (agrees_lost t c.rows.ensures.checked (cleared b.brush.background) d) (omega arith)
-    (clear_leads t c.rows.ensures.checked sent its shown b) c.in_err-send_all.ensures.sends))
+    (anew_failed g.W.Wire.went g.W.Wire.failures c.args.wire.now c.send_all.new.wire _ t (length sent + limit) (Agrees t shown b) (Agrees t (cleared b.brush.background) d) (Agrees t new d) sent (agrees_lost t c.requires.scene.checked (cleared b.brush.background) d) (omega arith)
+    (clear_leads t c.requires.scene.checked sent its shown b) c.in_err-send_all.ensures.sends))
 
 pub returns-clause-step : goal.returns-clause-step
 returns-clause-step g c line is shown =
-    let t = g.C.Certificate.table c.args.checked.now in
+    let t = g.C.Certificate.table c.args.screens.now.checked.now in
     let b : Belief = c.args.belief.now in
     let d : Belief = at_corner b in
-    let new = g.N.View.cells c.args.new.now in
+    let new = g.N.View.cells c.args.screens.now.new.now in
     let sent : List ℕ = c.unwrap.result.now in
     let its : t.line_of Clear ≡ Some sent = line_is t Clear c.line.result c.unwrap.result c.unwrap.ensures c.line.ensures.value in
     let limit : ℕ = paint_limit t (cleared b.brush.background) new d c.args.wanted.cursor c.args.wanted.mode in
     let P : List ℕ → Type 0 = λ l. Anew g.W.Wire.went g.W.Wire.failures c.args.wire.now c.paint.new.wire c.paint.result t (length l + limit) (Agrees t shown b) (Agrees t new c.paint.new.belief) l in
     subst P (one_line (t.line_of Clear) sent line its is)
     (anew_then g.W.Wire.went g.W.Wire.failures g.met.W.Wire.lawful c.args.wire.now c.send_all.new.wire c.paint.new.wire c.paint.result t (length sent + limit) (Agrees t shown b) (Agrees t (cleared b.brush.background) d) (Agrees t new c.paint.new.belief) sent
-    limit (omega arith) (clear_leads t c.rows.ensures.checked sent its shown b) c.in_ok-send_all.ensures.sends c.paint.ensures.step)
+    limit (omega arith) (clear_leads t c.requires.scene.checked sent its shown b) c.in_ok-send_all.ensures.sends c.paint.ensures.step)

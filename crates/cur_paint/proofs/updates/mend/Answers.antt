@@ -1,7 +1,7 @@
 use Rattle.std.proofs.Common.{◌+◌, length}
 use Rattle.ti_rows.specs.declared.rows.Row.TheVariants.{Clear}
-use Rattle.cur_steps.proofs.Stopping.{steps_wider}
-use Rattle.cur_looks.specs.Certified.{IsPiece, IsLost}
+use Rattle.cur_wires.proofs.Stopping.{steps_wider}
+use Rattle.ti_conforms.specs.Certified.{IsPiece, IsLost}
 use Rattle.cur_looks.specs.Beliefs.{Agrees}
 use Rattle.cur_paint.specs.Cleared.{at_corner, cleared}
 use Rattle.cur_paint.specs.Limits.{paint_limit}
@@ -11,12 +11,12 @@ use Rattle.cur_paint.proofs.updates.mend.Goals as goal
 
 pub returns-then-is_better_cleared-clause-step : goal.returns-then-is_better_cleared-clause-step
 returns-then-is_better_cleared-clause-step g c =
-    let t = g.C.Certificate.table c.args.checked.now in
+    let t = g.C.Certificate.table c.args.screens.now.checked.now in
     let b = c.args.belief.now in
-    let old = g.O.View.cells c.args.old.now in
-    let new = g.N.View.cells c.args.new.now in
+    let old = g.O.View.cells c.args.screens.now.old.now in
+    let new = g.N.View.cells c.args.screens.now.new.now in
     let w = c.args.wanted in
-    let k : IsThere (t.line_of Clear) = there (t.line_of Clear) c.rows.ensures.checked.clears in
+    let k : IsThere (t.line_of Clear) = there (t.line_of Clear) c.requires.scene.checked.clears in
     let blank = cleared b.brush.background in
     let after = c.clear_first.new.belief in
     steps_wider g.W.Wire.went g.W.Wire.failures c.args.wire.now c.clear_first.new.wire c.clear_first.result (IsPiece t) (length k.bytes + paint_limit t blank new (at_corner b) w.cursor w.mode) (paint_limit t old new b w.cursor w.mode) (IsLost t)

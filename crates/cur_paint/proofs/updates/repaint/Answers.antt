@@ -13,21 +13,21 @@ use Rattle.cur_paint.proofs.updates.repaint.Goals as goal
 pub returns-in_err-send_all-clause-step : goal.returns-in_err-send_all-clause-step
 returns-in_err-send_all-clause-step g c =
     let e = err_from_is_err_and c.from_residual.result c.from_residual.ensures.1 in
-    let t = g.C.Certificate.table c.args.checked.now in
-    let new = g.N.View.cells c.args.new.now in
+    let t = g.C.Certificate.table c.args.screens.now.checked.now in
+    let new = g.N.View.cells c.args.screens.now.new.now in
     let blank : ℕ → ℕ → Ink = λ i j. blank_ink in
     let sends = rw c.resync.ensures.value at c.in_err-send_all.ensures.sends in
-    rw e.1 (anew_failed g.W.Wire.went g.W.Wire.failures c.args.wire.now c.send_all.new.wire _ t (fresh_limit t) (IsLeft t c.args.shown_as) (Agrees t blank (at_start c.args.shown_as)) (Agrees t new c.start_belief.result) t.resync (agrees_lost t c.rows.ensures.checked blank (at_start c.args.shown_as)) (omega arith)
-    (resync_leads t c.rows.ensures.checked c.args.shown_as) sends)
+    rw e.1 (anew_failed g.W.Wire.went g.W.Wire.failures c.args.wire.now c.send_all.new.wire _ t (fresh_limit t) (IsLeft t c.args.shown_as) (Agrees t blank (at_start c.args.shown_as)) (Agrees t new c.start_belief.result) t.resync (agrees_lost t c.requires.scene.checked blank (at_start c.args.shown_as)) (omega arith)
+    (resync_leads t c.requires.scene.checked c.args.shown_as) sends)
 
 pub returns-clause-step : goal.returns-clause-step
 returns-clause-step g c =
-    let t = g.C.Certificate.table c.args.checked.now in
-    let new = g.N.View.cells c.args.new.now in
+    let t = g.C.Certificate.table c.args.screens.now.checked.now in
+    let new = g.N.View.cells c.args.screens.now.new.now in
     let blank : ℕ → ℕ → Ink = λ i j. blank_ink in
     let w = c.args.wanted in
     let start = at_start c.args.shown_as in
     let sends = rw c.resync.ensures.value at c.in_ok-send_all.ensures.sends in
     let steps = rw c.start_belief.ensures.value at c.paint.ensures.step in
     anew_then g.W.Wire.went g.W.Wire.failures g.met.W.Wire.lawful c.args.wire.now c.send_all.new.wire c.paint.new.wire c.paint.result t (fresh_limit t) (IsLeft t c.args.shown_as) (Agrees t blank start) (Agrees t new c.paint.new.belief) t.resync
-    (paint_limit t blank new start w.cursor w.mode) (fresh_enough t (length t.resync) blank new start w.cursor w.mode (omega arith)) (resync_leads t c.rows.ensures.checked c.args.shown_as) sends steps
+    (paint_limit t blank new start w.cursor w.mode) (fresh_enough t (length t.resync) blank new start w.cursor w.mode (omega arith)) (resync_leads t c.requires.scene.checked c.args.shown_as) sends steps

@@ -6,7 +6,7 @@ pub loop-call-init : goal.loop-call-init
 loop-call-init g c =
     let given = c.args.session.painter.checked in
     record {
-      played = log_none g.W.Wire.went g.W.Wire.failures g.met.W.Wire.lawful c.args.wire.now.wire c.args.wire.now.sent (g.C.Certificate.table given) (g.C.Alternates.partners given) c.args.calls.now c.args.session c.args.log.items
+      played = log_none g.W.Wire.went g.W.Wire.failures g.met.W.Wire.lawful c.args.wire.now.wire c.args.wire.now.sent (g.C.Certificate.table given) (g.C.Certificate.partners given) c.args.calls.now c.args.session c.args.log.items
           c.requires.none c.requires.scene (ap length c.requires.empty);
       room = c.requires.room;
       count = c.requires.len;
@@ -19,7 +19,7 @@ loop-call-preserved g c =
     let len = rw c.unwrap.ensures at c.push.ensures.len in
     let before = c.loop-call.invariant in
     record {
-      played = rw items (log_call g.W.Wire.went g.W.Wire.failures g.met.W.Wire.lawful (λ x. x.wire) (λ x. x.sent) c.args.wire.now.wire c.loop-call.wire c.call-answer.new.wire g.C.Certificate.table g.C.Alternates.partners
+      played = rw items (log_call g.W.Wire.went g.W.Wire.failures g.met.W.Wire.lawful (λ x. x.wire) (λ x. x.sent) c.args.wire.now.wire c.loop-call.wire c.call-answer.new.wire g.C.Certificate.table g.C.Certificate.partners
           c.args.session.painter.checked c.args.calls.now c.loop-call.call-index c.call-item.result c.loop-call.session c.call-answer.new.self c.loop-call.log.items c.call-answer.result
           before.played (next_call c.args.calls.now c.loop-call.call-index c.call-item.result c.loop-call-test.true c.call-item.is) before.certificate c.call-answer.ensures.certificate
           c.call-answer.ensures.step c.call-answer.ensures.stage c.call-answer.ensures.carries);
@@ -32,6 +32,6 @@ pub returns : goal.returns
 returns g c =
     let given = c.args.session.painter.checked in
     record {
-      ran = log_whole g.W.Wire.went c.args.wire.now.wire c.loop-call.wire.wire c.loop-call.wire.sent (g.C.Certificate.table given) (g.C.Alternates.partners given) c.args.calls.now c.loop-call.call-index c.loop-call.session c.loop-call.log.items
+      ran = log_whole g.W.Wire.went c.args.wire.now.wire c.loop-call.wire.wire c.loop-call.wire.sent (g.C.Certificate.table given) (g.C.Certificate.partners given) c.args.calls.now c.loop-call.call-index c.loop-call.session c.loop-call.log.items
           (omega (arith, c.loop-call-test.false, c.loop-call.auto.call-index-end)) (omega (arith, c.loop-call.log.small, c.loop-call.log.ok, c.loop-call.invariant.room, c.loop-call.auto.call-index-end)) c.loop-call.invariant.played;
     }

@@ -1,5 +1,5 @@
 use Rattle.std.proofs.Common.{arith}
-use Rattle.cur_looks.specs.Certified.{cell_limit}
+use Rattle.ti_conforms.specs.Certified.{cell_limit}
 use Rattle.cur_paint.specs.Differ.{all_differ}
 use Rattle.cur_paint.specs.Limits.{paint_limit}
 use Rattle.cur_update.specs.Differ.{in_lines}

@@ -9,13 +9,13 @@ use Rattle.cur_update.proofs.painters.refresh.Goals as goal
 pub update-requires-clause-drawable : goal.update-requires-clause-drawable
 update-requires-clause-drawable g c =
     let t = g.C.Certificate.table c.args.checked.now in
-    let partners = g.C.Alternates.partners c.args.checked.now in
+    let partners = g.C.Certificate.partners c.args.checked.now in
     subst (CanShow t) (sym (as_table c.means_of-means.result t partners c.args.screen.now c.means_of-means.ensures)) (can_show t partners c.args.screen.now c.all_cells.ensures)
 
 pub update-requires-clause-changes : goal.update-requires-clause-changes
 update-requires-clause-changes g c =
     let t = g.C.Certificate.table c.args.checked.now in
-    let partners = g.C.Alternates.partners c.args.checked.now in
+    let partners = g.C.Certificate.partners c.args.checked.now in
     record {
       before = as_table c.means_of-means.result t partners c.args.shown.now c.means_of-means.ensures;
       after = as_table c.means_of-means.result t partners c.args.screen.now c.means_of-means.ensures;
@@ -25,7 +25,7 @@ update-requires-clause-changes g c =
 pub returns-clause-refreshes : goal.returns-clause-refreshes
 returns-clause-refreshes g c =
     let t = g.C.Certificate.table c.args.checked.now in
-    let partners = g.C.Alternates.partners c.args.checked.now in
+    let partners = g.C.Certificate.partners c.args.checked.now in
     let means = c.means_of-means.result in
     let R : (ℕ → ℕ → Ink) → (ℕ → ℕ → Ink) → Type 0 =
     λ old new. Refreshed {W = g.row.W.Denot} g.W.Wire.went c.args.wire.now c.update.new.wire t old new c.args.wanted c.args.session.now c.update.new.session in

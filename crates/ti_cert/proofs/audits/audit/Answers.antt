@@ -1,6 +1,6 @@
 use Rattle.std.proofs.Common.{◌≡◌, refl, subst, ℕ, List}
 use Rattle.std.proofs.lemmas.Result.{IfErr-weaker}
-use Rattle.ti_reader.specs.Reader.{Rose}
+use Rattle.ti_lines.specs.Reader.{Rose}
 use Rattle.ti_cert.specs.Texts.{IsRefused}
 use Rattle.ti_cert.specs.declared.faults.CertFaultKind.TheVariants.{NoMemory}
 use Rattle.ti_cert.proofs.Relating.{never_failed}

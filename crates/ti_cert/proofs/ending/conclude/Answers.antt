@@ -1,8 +1,8 @@
 use Rattle.std.proofs.Common.{◌≡◌, true, List, sym, subst, ◌∙◌}
 use Rattle.vt_term.specs.Screen.{Charset}
 use Rattle.vt_effects.specs.declared.effects.Sets.{Sets}
-use Rattle.ti_charsets.specs.Closing.{Settled, SomeLeads}
-use Rattle.ti_charsets.specs.Closing as closing
+use Rattle.ti_conforms.specs.Closing.{Settled, SomeLeads}
+use Rattle.ti_conforms.specs.Closing as closing
 use Rattle.ti_cert.specs.Audit.{Known, Holds}
 use Rattle.std.proofs.lemmas.Result.{err_from_is_err_and}
 use Rattle.ti_cert.specs.Good.{IsConcluded, ConcludesBy}

@@ -1,6 +1,6 @@
 use Rattle.std.proofs.Common.{refl}
 use Rattle.std.proofs.lemmas.Result.{IfErr-weaker}
-use Rattle.ti_reader.specs.Reader.{Rose}
+use Rattle.ti_lines.specs.Reader.{Rose}
 use Rattle.ti_cert.specs.Basic.{IsVerifyStopped}
 use Rattle.ti_cert.proofs.BasicAgreeing.{verify_stopped}
 use Rattle.ti_cert.specs.Texts.{IsCertRefused}

@@ -1,5 +1,5 @@
 use Rattle.ti_conforms.specs.Conforms.{Conforms}
-use Rattle.ti_sends.specs.Entries.{EntryAgrees}
+use Rattle.ti_conforms.specs.Entries.{EntryAgrees}
 use Rattle.ti_cert.specs.Strings.{string_in}
 use Rattle.ti_cert.specs.Table.{table_of}
 use Rattle.ti_cert.specs.Table as tables
@@ -7,8 +7,8 @@ use Rattle.ti_cert.specs.Verified.{Resyncs}
 use Rattle.ti_cert.proofs.Accepted.{verified, is_verified, agrees_at, resyncs, at_ok}
 use Rattle.std.proofs.Common.{◌≡◌, refl, sym, subst}
 use Rattle.std.proofs.lemmas.Result.{IfErr-weaker}
-use Rattle.ti_reader.specs.Reader.{Rose}
-use Rattle.ti_sends.specs.Entries.{has_string}
+use Rattle.ti_lines.specs.Reader.{Rose}
+use Rattle.ti_conforms.specs.Entries.{has_string}
 use Rattle.ti_rows.specs.declared.rows.Row.TheVariants.{Home, El}
 use Rattle.ti_cert.specs.Basic.{IsVerifyStopped, basic_text_of}
 use Rattle.ti_cert.proofs.BasicAgreeing.{basic_table_at}

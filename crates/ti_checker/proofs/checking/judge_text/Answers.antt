@@ -1,5 +1,5 @@
 use Rattle.ti_rows.specs.declared.rows.Row.TheVariants.{Home, El}
-use Rattle.ti_sends.specs.Entries.{has_string}
+use Rattle.ti_conforms.specs.Entries.{has_string}
 use Rattle.ti_cert.proofs.Accepted.{verified}
 use Rattle.ti_checker.proofs.Certifying.{certified}
 use Rattle.ti_checker.proofs.checking.judge_text.Goals as goal

@@ -4,7 +4,7 @@ use Rattle.std.proofs.lemmas.Option.{none-some}
 use Rattle.ti_rows.specs.Names.{order, first_in_order}
 use Rattle.ti_rows.proofs.Naming.{firsts_in_order}
 use Rattle.ti_rows.proofs.Listing.{firsts_in_range}
-use Rattle.ti_sends.proofs.Matching.{first_is}
+use Rattle.ti_conforms.proofs.Matching.{first_is}
 use Rattle.ti_checker.specs.First.{IsDrafted}
 use Rattle.ti_checker.proofs.drafts.push_at.Goals as goal
 

@@ -1,7 +1,7 @@
 use Rattle.std.proofs.Common.{refl, sym, subst, ◌∙◌}
 use Rattle.ti_rows.specs.Names.{order}
 use Rattle.ti_rows.proofs.Listing.{next_follows}
-use Rattle.ti_sends.proofs.Walking.{nearer}
+use Rattle.ti_conforms.proofs.Walking.{nearer}
 use Rattle.ti_checker.specs.No.{IsRowRefused}
 use Rattle.ti_checker.specs.declared.causes.Cause.{Cause}
 use Rattle.ti_checker.proofs.Earliest.{one_more, before_next, after_last, unchecked_cap, first_row, row_fault}

@@ -1,6 +1,6 @@
 use Rattle.std.proofs.Common.{List, ℕ, [], subst}
 use Rattle.vt_term.specs.Text.{Splits}
-use Rattle.ti_sends.proofs.Matching.{on_err}
+use Rattle.ti_conforms.proofs.Matching.{on_err}
 use Rattle.ti_checker.proofs.Misjudging.{misjudged}
 use Rattle.ti_checker.proofs.judging.judge_row.Goals as goal
 

@@ -1,5 +1,5 @@
 use Rattle.std.proofs.Common.{rules, arith}
-use Rattle.ti_sends.proofs.Valuing.{values_more, passed}
+use Rattle.ti_conforms.proofs.Valuing.{values_more, passed}
 use Rattle.ti_checker.proofs.sending.values.Goals as goal
 
 pub loop-number-preserved : goal.loop-number-preserved

@@ -1,7 +1,7 @@
 use Rattle.std.proofs.Common.{◌≡◌, ◌≤◌, length, take}
 use Rattle.ti_parm.specs.Value.{values_of}
 use Rattle.ti_rows.specs.Params.{params}
-use Rattle.ti_sends.specs.Sends as spec
+use Rattle.ti_conforms.specs.Sends as spec
 use Rattle.ti_checker.proofs.sending.values.Given as goal
 
 abbrev pub invariant-loop-number : goal.invariant-loop-number

@@ -2,7 +2,7 @@ use Rattle.std.proofs.Common.{◌≡◌, ℕ, ◌+◌, sym, subst, ◌∙◌}
 use Rattle.ti_rows.specs.Names.{order, first_in_order}
 use Rattle.ti_rows.proofs.Naming.{firsts_in_order}
 use Rattle.ti_rows.proofs.Listing.{firsts_in_range}
-use Rattle.ti_sends.proofs.Matching.{first_is}
+use Rattle.ti_conforms.proofs.Matching.{first_is}
 use Rattle.ti_checker.specs.Switching.{IsSeen}
 use Rattle.ti_checker.proofs.Settled.{nothing_seen}
 use Rattle.ti_checker.proofs.switching.seen_of.Goals as goal

@@ -1,7 +1,7 @@
 use Rattle.std.proofs.Common.{List, ◌≡◌, true, sym, subst}
 use Rattle.vt_effects.specs.declared.effects.Sets.{Sets}
-use Rattle.ti_charsets.specs.Closing.{Settled, SomeLeads}
-use Rattle.ti_charsets.specs.Closing as closing
+use Rattle.ti_conforms.specs.Closing.{Settled, SomeLeads}
+use Rattle.ti_conforms.specs.Closing as closing
 use Rattle.ti_checker.proofs.Settled.{can_settle, has_settled}
 use Rattle.ti_checker.proofs.switching.settled_of.Goals as goal
 

@@ -1,5 +1,5 @@
 use Rattle.std.proofs.Common.{◌-◌, ◌+◌, ℕ, List, sym, ap, ◌∙◌, arith}
-use Rattle.ti_lines.specs.Lines as spec
+use Rattle.ti_lines.specs.RowLines as spec
 use Rattle.ti_lines.proofs.NumbersRead.{next_number}
 use Rattle.ti_lines.proofs.reading.numbers_before.Goals as goal
 

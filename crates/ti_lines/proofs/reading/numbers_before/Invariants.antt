@@ -1,5 +1,5 @@
 use Rattle.std.proofs.Common.{◌≡◌, ◌-◌, length, []}
-use Rattle.ti_lines.specs.Lines as spec
+use Rattle.ti_lines.specs.RowLines as spec
 use Rattle.ti_lines.proofs.reading.numbers_before.Given as goal
 
 -- what is left to read, from now on, is the whole

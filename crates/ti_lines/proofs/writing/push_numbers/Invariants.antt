@@ -1,5 +1,5 @@
 use Rattle.std.proofs.Common.{◌≡◌, ◌++◌, drop}
-use Rattle.ti_lines.specs.Lines as spec
+use Rattle.ti_lines.specs.RowLines as spec
 use Rattle.ti_lines.proofs.writing.push_numbers.Given as goal
 
 -- the text has the numbers so far, and those ahead make it the whole

@@ -1,5 +1,5 @@
 use Rattle.std.proofs.Common.{List, ℕ, ap, ◌∙◌}
-use Rattle.ti_charsets.specs.Charsets.{joined, reach_of}
+use Rattle.ti_conforms.specs.Charsets.{joined, reach_of}
 use Rattle.ti_checker.specs.Switching.{IsChangeOf}
 use Rattle.ti_checker.proofs.Settled.{seen_more, seen_unchecked, found_some, found_none}
 use Rattle.ti_checker.proofs.switching.Seen.learn.Goals as goal

@@ -2,7 +2,7 @@ use Rattle.std.proofs.Common.{ℕ, ◌+◌, sym, subst, ◌∙◌}
 use Rattle.ti_rows.specs.Lists.{rank}
 use Rattle.ti_rows.specs.Names.{order}
 use Rattle.ti_rows.proofs.Listing.{next_follows}
-use Rattle.ti_sends.proofs.Walking.{nearer}
+use Rattle.ti_conforms.proofs.Walking.{nearer}
 use Rattle.ti_checker.specs.Switching.{IsSeen}
 use Rattle.ti_checker.proofs.Settled.{seen_cap}
 use Rattle.ti_checker.proofs.switching.Seen.learn_rows.Goals as goal

@@ -1,0 +1,37 @@
+-- Reading the words of a line one after another.
+use Rattle.std.specs.Prelude.{ℕ, ℤ, List, [], ◌∷◌, Option, None, Some}
+use Rattle.std.specs.List.{join_with_byte}
+use Rattle.cur_calls.specs.Cutting.{words_of, ◌>>=◌}
+use Rattle.cur_calls.specs.Numbers.{number_in, window_in}
+
+-- a line's words from one of them on, where there is a further one
+abbrev pub words_left : Option (List ℕ) → List (List ℕ)
+words_left None = []
+words_left (Some text) = words_of text
+
+abbrev pub first_word : List (List ℕ) → Option (List ℕ × List (List ℕ))
+first_word [] = None
+first_word (word ∷ words) = Some (word, words)
+
+-- no words
+abbrev pub ended : List (List ℕ) → Option (Unit {0})
+ended [] = Some tt
+ended (word ∷ words) = None
+
+-- the rest of a line, with its spaces: there is none after the last word
+abbrev pub rest : List (List ℕ) → Option (List ℕ)
+rest [] = None
+rest (word ∷ words) = Some (join_with_byte 32 (word ∷ words))
+
+-- what the first word says, and the words after it
+abbrev pub first : {A : Type 0} → (List ℕ → Option A) → List (List ℕ) → Option (A × List (List ℕ))
+first read words = first_word words >>= λ p. read p.0 >>= λ x. Some (x, p.1)
+
+abbrev pub two_numbers : List (List ℕ) → Option ((ℤ × ℤ) × List (List ℕ))
+two_numbers words = first number_in words >>= λ a. first number_in a.1 >>= λ b. Some ((a.0, b.0), b.1)
+
+abbrev pub four_numbers : List (List ℕ) → Option ((ℤ × ℤ × ℤ × ℤ) × List (List ℕ))
+four_numbers words = two_numbers words >>= λ a. two_numbers a.1 >>= λ b. Some ((a.0.0, a.0.1, b.0.0, b.0.1), b.1)
+
+abbrev pub two_windows : List (List ℕ) → Option ((ℕ × ℕ) × List (List ℕ))
+two_windows words = first window_in words >>= λ a. first window_in a.1 >>= λ b. Some ((a.0, b.0), b.1)

@@ -1,0 +1,112 @@
+//! Numbers in decimal.
+ghost use Rattle.std.specs.Prelude.{◌≡◌, ◌<◌, ◌≤◌, option_map, IfSome};
+ghost use Rattle.cur_calls.specs.Numbers as spec;
+
+// The greatest value of a word, whatever its sign.
+const GREATEST: u64 = 2_147_483_648;
+
+fn digit_in(byte: u8) -> Option<u32>
+    ensures value { result ≡ spec.digit_in byte }
+    ensures range { IfSome result (λ digit. digit < 10) }
+{
+    if b'0' <= byte && byte <= b'9' {
+        Some((byte - b'0') as u32)
+    } else {
+        None
+    }
+}
+
+fn capped(number: u64) -> u32
+    ensures value { result ≡ spec.capped number }
+    ensures range { result ≤ 2147483649 }
+{
+    if number <= GREATEST {
+        number as u32
+    } else {
+        GREATEST as u32 + 1
+    }
+}
+
+// The number that these digits spell, or one past the greatest.
+fn digits(text: &[u8]) -> Option<u32>
+    ensures { result ≡ option_map spec.capped (spec.spelled_after 0 text.now) }
+{
+    let mut number = 0;
+    for byte in text {
+        let digit = digit_in(*byte)?;
+        number = capped(number as u64 * 10 + digit as u64);
+    }
+    Some(number)
+}
+
+fn spelled(text: &[u8]) -> Option<u32>
+    ensures { result ≡ option_map spec.capped (spec.spelled text.now) }
+{
+    match text {
+        [] => None,
+        _ => digits(text),
+    }
+}
+
+/// The number that the word spells without a sign, up to a limit.
+#[tactic(auto, using(crate::proofs::Capping::limited))]
+pub(crate) fn natural(limit: u32, word: &[u8]) -> Option<u32>
+    requires { limit ≤ 2147483648 }
+    ensures value { result ≡ spec.natural limit word.now }
+    ensures range { IfSome result (λ n. n ≤ limit) }
+{
+    at_most(limit, spelled(word)?)
+}
+
+fn at_most(limit: u32, number: u32) -> Option<u32>
+    ensures value { result ≡ spec.at_most limit number }
+    ensures range { IfSome result (λ n. n ≤ limit) }
+{
+    if number <= limit { Some(number) } else { None }
+}
+
+/// The number that the word spells, perhaps after a minus sign.
+pub(crate) fn number_in(word: &[u8]) -> Option<i32>
+    ensures { result ≡ spec.number_in word.now }
+{
+    match word {
+        [] => None,
+        [b'-', digits @ ..] => Some(negated(natural(2_147_483_648, digits)?)),
+        _ => Some(natural(2_147_483_647, word)? as i32),
+    }
+}
+
+fn negated(number: u32) -> i32
+    requires { number ≤ 2147483648 }
+    ensures { result ≡ spec.negated number }
+{
+    (0 - number as i64) as i32
+}
+
+/// The number of a window.
+pub(crate) fn window_in(word: &[u8]) -> Option<usize>
+    ensures { result ≡ spec.window_in word.now }
+{
+    Some(natural(2_147_483_647, word)? as usize)
+}
+
+/// 0 or 1.
+pub(crate) fn flag_in(word: &[u8]) -> Option<bool>
+    ensures { result ≡ spec.flag_in word.now }
+{
+    match number_in(word)? {
+        0 => Some(false),
+        1 => Some(true),
+        _ => None,
+    }
+}
+
+/// Whether the word is 0.
+pub(crate) fn zero_in(word: &[u8]) -> Option<()>
+    ensures { result ≡ spec.zero_in word.now }
+{
+    match number_in(word)? {
+        0 => Some(()),
+        _ => None,
+    }
+}

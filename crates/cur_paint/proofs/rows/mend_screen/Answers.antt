@@ -1,0 +1,107 @@
+use Rattle.std.proofs.Common.{◌≡◌, ◌+◌, ◌*◌, ◌<◌, ℕ, Result, Ok, Err, OnOk, refl, subst, ◌∙◌, arith}
+use Rattle.ti_rows.specs.declared.rows.Row.TheVariants.{Ed}
+use Rattle.cur_looks.proofs.Telling.{line_is}
+use Rattle.std.proofs.lemmas.Result.{err_from_is_err_and}
+use Rattle.cur_wires.specs.declared.wires.WireFault.{WireFault}
+use Rattle.cur_looks.specs.Inks.{mixed}
+use Rattle.cur_paint.specs.Differ.{span, all_differ}
+use Rattle.ti_conforms.specs.Certified.{IsPiece, IsLost, cell_limit}
+use Rattle.cur_looks.specs.Beliefs.{Agrees}
+use Rattle.cur_wires.specs.Steps.{Steps}
+use Rattle.cur_wires.proofs.Stopping.{steps_nothing, steps_next, steps_fail, steps_wider}
+use Rattle.cur_looks.proofs.Doing.{agrees_lost}
+use Rattle.cur_paint.proofs.Mixing.{span_parts, all_more, all_grows, times_grows, sum_limit, none_done, all_done}
+use Rattle.cur_paint.proofs.rows.mend_screen.Goals as goal
+
+pub loop-row-init : goal.loop-row-init
+loop-row-init g c =
+    let t = g.C.Certificate.table c.args.screens.now.checked.now in
+    let b = c.args.belief.now in
+    let old = g.O.View.cells c.args.screens.now.old.now in
+    let new = g.N.View.cells c.args.screens.now.new.now in
+    record {
+      rest = c.erasing_line-rest.ensures.value;
+      idle = λ e. refl;
+      step = steps_nothing g.W.Wire.went g.W.Wire.failures g.met.W.Wire.lawful c.args.wire.now tt (IsPiece t) (0 * cell_limit t) (IsLost t) (Agrees t old b) (Agrees t (mixed old new 0 0) b)
+          (λ s x. x.ready.rest) (none_done t old new b) (agrees_lost t c.requires.scene.checked old b);
+    }
+
+pub loop-row-preserved : goal.loop-row-preserved
+loop-row-preserved g c =
+    let t = g.C.Certificate.table c.args.screens.now.checked.now in
+    let b = c.args.belief.now in
+    let old = g.O.View.cells c.args.screens.now.old.now in
+    let new = g.N.View.cells c.args.screens.now.new.now in
+    let row = c.loop-row.row in
+    let more = all_more old new t.cols row in
+    record {
+      rest = c.loop-row.invariant.rest;
+      idle = λ e. c.in_ok-mend_line-in_default.ensures.idle (omega (arith, e, more)) ∙ c.loop-row.invariant.idle (omega (arith, e, more));
+      step = steps_next g.W.Wire.went g.W.Wire.failures g.met.W.Wire.lawful c.args.wire.now c.loop-row.wire c.mend_line.new.wire _ (Ok tt) (IsPiece t)
+          (all_differ old new t.cols row * cell_limit t) (span old new row 0 t.cols * cell_limit t) (all_differ old new t.cols (row + 1) * cell_limit t) (IsLost t)
+          (Agrees t old b) (Agrees t (mixed old new row 0) c.loop-row.belief) (Agrees t (mixed old new (row + 1) 0) c.mend_line.new.belief)
+          (sum_limit _ _ _ (cell_limit t) more) c.loop-row.invariant.step c.in_ok-mend_line-in_default.ensures.step;
+    }
+
+pub returns-in_err-mend_line-in_default-clause-step : goal.returns-in_err-mend_line-in_default-clause-step
+returns-in_err-mend_line-in_default-clause-step g c =
+    let e = err_from_is_err_and c.from_residual.result c.from_residual.ensures.1 in
+    let t = g.C.Certificate.table c.args.screens.now.checked.now in
+    let b = c.args.belief.now in
+    let old = g.O.View.cells c.args.screens.now.old.now in
+    let new = g.N.View.cells c.args.screens.now.new.now in
+    let row = c.loop-row.row in
+    rw e.1 (steps_fail g.W.Wire.went g.W.Wire.failures c.args.wire.now c.mend_line.new.wire _ _ (IsPiece t) (all_differ old new t.cols (row + 1) * cell_limit t) (all_differ old new t.cols t.rows * cell_limit t) (IsLost t)
+    (Agrees t old b) (Agrees t (mixed old new (row + 1) 0) c.mend_line.new.belief) (Agrees t new c.mend_line.new.belief)
+    (times_grows _ _ (cell_limit t) (all_grows old new t.cols (row + 1) t.rows (omega (arith, c.loop-row-test.true, c.rows-rows.ensures.value))))
+    (steps_next g.W.Wire.went g.W.Wire.failures g.met.W.Wire.lawful c.args.wire.now c.loop-row.wire c.mend_line.new.wire _ _ (IsPiece t)
+    (all_differ old new t.cols row * cell_limit t) (span old new row 0 t.cols * cell_limit t) (all_differ old new t.cols (row + 1) * cell_limit t) (IsLost t)
+    (Agrees t old b) (Agrees t (mixed old new row 0) c.loop-row.belief) (Agrees t (mixed old new (row + 1) 0) c.mend_line.new.belief)
+    (sum_limit _ _ _ (cell_limit t) (all_more old new t.cols row)) c.loop-row.invariant.step c.in_err-mend_line-in_default.ensures.step))
+
+pub returns-clause-step : goal.returns-clause-step
+returns-clause-step g c =
+    let t = g.C.Certificate.table c.args.screens.now.checked.now in
+    let b = c.args.belief.now in
+    let old = g.O.View.cells c.args.screens.now.old.now in
+    let new = g.N.View.cells c.args.screens.now.new.now in
+    let all : c.loop-row.row ≡ t.rows = omega (arith, c.rows-rows.ensures.value) in
+    let P : ℕ → Type 0 = λ n. Steps {T = Unit {0}} {E = WireFault} g.W.Wire.went g.W.Wire.failures c.args.wire.now c.loop-row.wire (Ok tt) (IsPiece t) (all_differ old new t.cols n * cell_limit t) (IsLost t) (Agrees t old b) (Agrees t (mixed old new n 0) c.loop-row.belief) in
+    let limit = all_differ old new t.cols t.rows * cell_limit t in
+    steps_wider g.W.Wire.went g.W.Wire.failures c.args.wire.now c.loop-row.wire _ (IsPiece t) limit limit (IsLost t) (Agrees t old b) (Agrees t (mixed old new t.rows 0) c.loop-row.belief) (Agrees t old b) (Agrees t new c.loop-row.belief)
+    (omega arith) (λ s x. x) (all_done t old new c.loop-row.belief) (subst P all c.loop-row.invariant.step)
+
+pub mend_bottom-requires-clause-line : goal.mend_bottom-requires-clause-line
+mend_bottom-requires-clause-line g c = line_is (g.C.Certificate.table c.args.screens.now.checked.now) Ed _ c.in-Some.line c.in-Some.is c.loop-row.invariant.rest
+
+always : {T E : Type 0} (r : Result T E) (A : Type 0) → A → OnOk r A
+always (Ok x) A a = a
+always (Err e) A a = tt
+
+pub returns-in-Some-clause-idle : goal.returns-in-Some-clause-idle
+returns-in-Some-clause-idle g c =
+    let t = g.C.Certificate.table c.args.screens.now.checked.now in
+    let old = g.O.View.cells c.args.screens.now.old.now in
+    let new = g.N.View.cells c.args.screens.now.new.now in
+    let row = c.loop-row.row in
+    let col = c.bottom_from-bottom.result.col in
+    let lt : col < t.cols = omega (arith, c.if-bottom-cols.true, c.cols-cols.ensures.value) in
+    let some = c.bottom_from-bottom.ensures.differs lt in
+    let parts = span_parts old new row col t.cols (omega (arith, lt)) in
+    let more = all_more old new t.cols row in
+    let grows = all_grows old new t.cols (row + 1) t.rows (omega (arith, c.loop-row-test.true, c.rows-rows.ensures.value)) in
+    always c.mend_bottom.result _ (λ e. absurd (omega (arith, e, some, parts, more, grows)))
+
+pub returns-in-Some-clause-step : goal.returns-in-Some-clause-step
+returns-in-Some-clause-step g c =
+    let t = g.C.Certificate.table c.args.screens.now.checked.now in
+    let b = c.args.belief.now in
+    let old = g.O.View.cells c.args.screens.now.old.now in
+    let new = g.N.View.cells c.args.screens.now.new.now in
+    let row = c.loop-row.row in
+    let sum = sum_limit (all_differ old new t.cols row) (span old new row 0 t.cols) (all_differ old new t.cols (row + 1)) (cell_limit t) (all_more old new t.cols row) in
+    let grows = times_grows (all_differ old new t.cols (row + 1)) (all_differ old new t.cols t.rows) (cell_limit t) (all_grows old new t.cols (row + 1) t.rows (omega (arith, c.loop-row-test.true, c.rows-rows.ensures.value))) in
+    steps_next g.W.Wire.went g.W.Wire.failures g.met.W.Wire.lawful c.args.wire.now c.loop-row.wire c.mend_bottom.new.wire _ c.mend_bottom.result (IsPiece t)
+    (all_differ old new t.cols row * cell_limit t) (span old new row 0 t.cols * cell_limit t) (all_differ old new t.cols t.rows * cell_limit t) (IsLost t)
+    (Agrees t old b) (Agrees t (mixed old new row 0) c.loop-row.belief) (Agrees t new c.mend_bottom.new.belief)
+    (omega (arith, sum, grows)) c.loop-row.invariant.step c.mend_bottom.ensures.step

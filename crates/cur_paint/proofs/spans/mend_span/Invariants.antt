@@ -1,0 +1,16 @@
+use Rattle.std.proofs.Common.{◌≡◌, ◌-◌, ◌≤◌, Ok}
+use Rattle.cur_wires.specs.declared.wires.WireFault.{WireFault}
+use Rattle.cur_paint.specs.Scenes.{MendsCells, changed, scene}
+use Rattle.cur_paint.proofs.spans.mend_span.Given as goal
+
+abbrev pub invariant-loop-done : goal.invariant-loop-done
+invariant-loop-done g l = record {
+  within : l.done ≤ l.cells.count;
+  idle : changed (scene g.C.Certificate.table g.O.View.cells g.N.View.cells l.screens) (record l.cells { count = l.done }) ≡ 0
+      → l.belief ≡ l.fn.belief;
+  step : MendsCells {T = Unit {0}} {E = WireFault} g.W.Wire.went g.W.Wire.failures l.fn.wire l.wire (Ok tt)
+      (scene g.C.Certificate.table g.O.View.cells g.N.View.cells l.screens) (record l.cells { count = l.done }) l.fn.belief l.belief;
+}
+
+abbrev pub decreases-loop-done : goal.decreases-loop-done
+decreases-loop-done g l = l.cells.count - l.done

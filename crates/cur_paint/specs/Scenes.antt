@@ -1,0 +1,122 @@
+-- (Serves the code alone.) What the painter's steps work on, and what they promise.
+use Rattle.std.specs.Prelude.{ℕ, ◌+◌, ◌-◌, ◌*◌, ◌<◌, ◌≤◌, ◌≡◌, List, Option, Result, OnOk}
+use Rattle.cur_wires.specs.Steps.{Steps}
+use Rattle.ti_conforms.specs.Certified.{Table, IsChecked, IsPiece, IsLost, cell_limit}
+use Rattle.cur_looks.specs.Inks.{CanShow, mixed, blank_ink}
+use Rattle.cur_looks.specs.Beliefs.{Agrees}
+use Rattle.cur_looks.specs.declared.beliefs.Belief.{Belief}
+use Rattle.cur_looks.specs.declared.beliefs.Mode.{Mode}
+use Rattle.cur_looks.specs.declared.beliefs.Place.{Place}
+use Rattle.cur_looks.specs.declared.inks.Ink.{Ink}
+use Rattle.cur_paint.specs.Differ.{differs, span, all_differ}
+use Rattle.cur_paint.specs.Limits.{paint_limit}
+use Rattle.cur_paint.specs.declared.screens.Cells.{Cells}
+use Rattle.cur_paint.specs.declared.screens.Screens.{Screens}
+
+-- a certificate's table, the cells that its terminal shows, and those that it is to show
+pub record Scene : Type 0 where
+  pub table : Table
+  pub old : ℕ → ℕ → Ink
+  pub new : ℕ → ℕ → Ink
+
+abbrev pub scene : {C O N : Type 0} → (C → Table) → (O → ℕ → ℕ → Ink) → (N → ℕ → ℕ → Ink) → Screens C O N → Scene
+scene table old new s = record { table = table s.checked.now; old = old s.old.now; new = new s.new.now }
+
+-- the certificate is verified, and its terminal can show the new cells
+pub record IsPaintable (s : Scene) : Type 0 where
+  pub checked : IsChecked s.table
+  pub drawable : CanShow s.table s.new
+
+-- the cells are on the screen
+pub record IsOn (t : Table) (cells : Cells) : Type 0 where
+  pub row : cells.row < t.rows
+  pub cols : cells.from + cells.count ≤ t.cols
+
+-- how many of the cells differ
+abbrev pub changed : Scene → Cells → ℕ
+changed s cells = span s.old s.new cells.row cells.from cells.count
+
+-- how many of a line's cells differ from a column on
+abbrev pub changed_from : Scene → ℕ → ℕ → ℕ
+changed_from s row col = span s.old s.new row col (s.table.cols - col)
+
+-- how many of a line's cells differ
+abbrev pub line_changed : Scene → ℕ → ℕ
+line_changed s row = span s.old s.new row 0 s.table.cols
+
+-- how many cells of the screen differ
+abbrev pub all_changed : Scene → ℕ
+all_changed s = all_differ s.old s.new s.table.cols s.table.rows
+
+-- the new cells as far as a column of a line, and the old ones from there on
+abbrev pub mended : Scene → ℕ → ℕ → ℕ → ℕ → Ink
+mended s row col = mixed s.old s.new row col
+
+-- a line is to be blank from a column on
+abbrev pub IsBlankPast : Scene → ℕ → ℕ → Type 0
+IsBlankPast s row col = (k : ℕ) → col ≤ k → k < s.table.cols → s.new row k ≡ blank_ink
+
+-- a line doesn't differ from a column on
+abbrev pub IsSamePast : Scene → ℕ → ℕ → Type 0
+IsSamePast s row col = (k : ℕ) → col ≤ k → k < s.table.cols → s.old row k ≡ s.new row k
+
+-- an answer Ok leaves what is believed as it was, if n, the number of cells that differ, is 0
+abbrev pub IsIdle : {T E : Type 0} → Result T E → ℕ → Belief → Belief → Type 0
+IsIdle answer n b c = OnOk answer (n ≡ 0 → c ≡ b)
+
+-- A step from a terminal that shows the cells g to one that shows h. It sends at most limit bytes.
+abbrev pub Sends : {W T E : Type 0} → (W → W → List ℕ → Type 0) → (W → ℕ) → W → W → Result T E → Table → ℕ
+    → (ℕ → ℕ → Ink) → (ℕ → ℕ → Ink) → Belief → Belief → Type 0
+Sends went failures before after answer t limit g h b c =
+    Steps went failures before after answer (IsPiece t) limit (IsLost t) (Agrees t g b) (Agrees t h c)
+
+-- such a step that sends at most n times the bytes of a cell
+abbrev pub Mends : {W T E : Type 0} → (W → W → List ℕ → Type 0) → (W → ℕ) → W → W → Result T E → Table → ℕ
+    → (ℕ → ℕ → Ink) → (ℕ → ℕ → Ink) → Belief → Belief → Type 0
+Mends went failures before after answer t n g h b c =
+    Sends went failures before after answer t (n * cell_limit t) g h b c
+
+-- one cell becomes new, where all before it is
+abbrev pub MendsCell : {W T E : Type 0} → (W → W → List ℕ → Type 0) → (W → ℕ) → W → W → Result T E → Scene
+    → ℕ → ℕ → Belief → Belief → Type 0
+MendsCell went failures before after answer s row col b c =
+    Mends went failures before after answer s.table (differs s.old s.new row col) (mended s row col)
+    (mended s row (col + 1)) b c
+
+-- the cells become new, where all before them is
+abbrev pub MendsCells : {W T E : Type 0} → (W → W → List ℕ → Type 0) → (W → ℕ) → W → W → Result T E → Scene
+    → Cells → Belief → Belief → Type 0
+MendsCells went failures before after answer s cells b c =
+    Mends went failures before after answer s.table (changed s cells) (mended s cells.row cells.from)
+    (mended s cells.row (cells.from + cells.count)) b c
+
+-- a line becomes new from a column on, where all before that is
+abbrev pub MendsFrom : {W T E : Type 0} → (W → W → List ℕ → Type 0) → (W → ℕ) → W → W → Result T E → Scene
+    → ℕ → ℕ → Belief → Belief → Type 0
+MendsFrom went failures before after answer s row col b c =
+    Mends went failures before after answer s.table (changed_from s row col) (mended s row col)
+    (mended s row s.table.cols) b c
+
+-- a line becomes new, where all lines above it are
+abbrev pub MendsLine : {W T E : Type 0} → (W → W → List ℕ → Type 0) → (W → ℕ) → W → W → Result T E → Scene
+    → ℕ → Belief → Belief → Type 0
+MendsLine went failures before after answer s row b c =
+    Mends went failures before after answer s.table (line_changed s row) (mended s row 0) (mended s (row + 1) 0) b c
+
+-- a line and all below it become new, where all lines above it are, by the bytes of the line's cells
+abbrev pub MendsBelow : {W T E : Type 0} → (W → W → List ℕ → Type 0) → (W → ℕ) → W → W → Result T E → Scene
+    → ℕ → Belief → Belief → Type 0
+MendsBelow went failures before after answer s row b c =
+    Mends went failures before after answer s.table (line_changed s row) (mended s row 0) s.new b c
+
+-- all becomes new
+abbrev pub MendsAll : {W T E : Type 0} → (W → W → List ℕ → Type 0) → (W → ℕ) → W → W → Result T E → Scene
+    → Belief → Belief → Type 0
+MendsAll went failures before after answer s b c =
+    Mends went failures before after answer s.table (all_changed s) s.old s.new b c
+
+-- all becomes new, and then the cursor gets its place and its mode
+abbrev pub Paints : {W T E : Type 0} → (W → W → List ℕ → Type 0) → (W → ℕ) → W → W → Result T E → Scene
+    → Option Place → Mode → Belief → Belief → Type 0
+Paints went failures before after answer s cursor mode b c =
+    Sends went failures before after answer s.table (paint_limit s.table s.old s.new b cursor mode) s.old s.new b c

@@ -1,0 +1,194 @@
+//! Cells of a line that differ: printed one by one, or several in one piece.
+ghost use Rattle.std.specs.Prelude.{◌≡◌, ◌+◌, ◌<◌, ◌≤◌, ℕ, true, Some, IfSome, length, slice_index_or};
+ghost use Rattle.cur_looks.specs.Gaps.{IsAlike};
+ghost use Rattle.cur_paint.specs.Differ.{differs, span, IsLike};
+ghost use Rattle.cur_paint.specs.Scenes.{IsIdle, IsOn, IsPaintable, MendsCell, MendsCells, changed, scene};
+
+use crate::screens::{Cells, Screens};
+use cur_looks::{Belief, Ink, View, goes_on, print_text, put_cell};
+use cur_wires::{Wire, WireFault};
+use ti_conforms::Certificate;
+
+/// How many characters at most go out in one piece after the first one.
+const TEXT: usize = 64;
+
+/// Prints the cell in line `row` and column `col`, which differs, as `ink`.
+fn print_cell<C: Certificate, O: View, N: View, W: Wire>(
+    screens: &Screens<'_, C, O, N>,
+    belief: &mut Belief,
+    wire: &mut W,
+    row: usize,
+    col: usize,
+    ink: Ink,
+) -> Result<(), WireFault>
+    requires scene { IsPaintable (scene C.table O.cells N.cells screens.now) }
+    requires row { row < (C.table screens.now.checked.now).rows }
+    requires col { col < (C.table screens.now.checked.now).cols }
+    requires ink { ink ≡ N.cells screens.now.new.now row col }
+    requires changed { differs (O.cells screens.now.old.now) (N.cells screens.now.new.now) row col ≡ 1 }
+    ensures step { MendsCell W.went W.failures wire.old wire.new result (scene C.table O.cells N.cells screens.now)
+        row col belief.old belief.new }
+{
+    put_cell(screens.checked, belief, wire, screens.new, row, col, ink)
+}
+
+/// Prints the `cells`, which all differ, one by one.
+fn print_each<C: Certificate, O: View, N: View, W: Wire>(
+    screens: &Screens<'_, C, O, N>,
+    belief: &mut Belief,
+    wire: &mut W,
+    cells: Cells,
+) -> Result<(), WireFault>
+    requires scene { IsPaintable (scene C.table O.cells N.cells screens.now) }
+    requires cells { IsOn (C.table screens.now.checked.now) cells }
+    requires changed { (k : ℕ) → k < cells.count
+        → differs (O.cells screens.now.old.now) (N.cells screens.now.new.now) cells.row (cells.from + k) ≡ 1 }
+    ensures idle { IsIdle result (changed (scene C.table O.cells N.cells screens.now) cells) belief.old belief.new }
+    ensures step { MendsCells W.went W.failures wire.old wire.new result (scene C.table O.cells N.cells screens.now)
+        cells belief.old belief.new }
+{
+    for n in 0..cells.count {
+        let col = cells.from + n;
+        let ink = screens.new.at(cells.row, col);
+        print_cell(screens, belief, wire, cells.row, col, ink)?;
+    }
+    Ok(())
+}
+
+/// The character in line `row` and column `col`, if it is printed in the set and the brush of `ink`, which is what
+/// the line has in the column `like`.
+fn like_byte<N: View>(new: &N, row: usize, col: usize, like: usize, ink: Ink) -> Option<u8>
+    requires ink { ink ≡ N.cells new.now row like }
+    ensures value { IfSome result (λ b. N.cells new.now row col ≡ record ink { byte = b }) }
+{
+    new.byte_like(row, col, like)
+}
+
+/// How many of the first `cells` differ and are printed in the set and the brush of `ink`, which is what their line
+/// has in the column `like`; no more than there is room for in `text`. It gets their characters.
+fn like_cells<O: View, N: View>(
+    old: &O,
+    new: &N,
+    cells: Cells,
+    like: usize,
+    ink: Ink,
+    text: &mut [u8],
+) -> usize
+    requires within { cells.from + cells.count ≤ 1000 }
+    requires ink { ink ≡ N.cells new.now cells.row like }
+    ensures within { result ≤ cells.count }
+    ensures room { result ≤ length text.new }
+    ensures cells { (k : ℕ) → k < result
+        → IsLike (O.cells old.now) (N.cells new.now) cells.row (cells.from + k) ink (slice_index_or text.new k 0) }
+{
+    let mut n = 0;
+    while n < cells.count && n < text.len() {
+        let col = cells.from + n;
+        let Some(byte) = like_byte(new, cells.row, col, like, ink) else {
+            return n;
+        };
+        if old.shows(cells.row, col, Ink { byte, ..ink }) {
+            return n;
+        }
+        text[n] = byte;
+        n += 1;
+    }
+    n
+}
+
+/// Whether `count` is not 0, and the next character is known to go to line `row` and column `col` and to be printed
+/// in the set and the brush of `ink`.
+fn is_led_on(belief: &Belief, row: usize, col: usize, ink: Ink, count: usize) -> bool
+    ensures some { result ≡ true → 0 < count }
+    ensures place { result ≡ true → belief.now.place ≡ Some (record { row = row; col = col }) }
+    ensures alike { result ≡ true → IsAlike belief.now ink }
+{
+    count > 0 && goes_on(belief, row, col, ink)
+}
+
+/// Prints the `cells`, which all differ and have the characters of `text` in the set and the brush of `ink`: in one
+/// piece where the terminal is known to print them so, else one by one.
+fn print_alike<C: Certificate, O: View, N: View, W: Wire>(
+    screens: &Screens<'_, C, O, N>,
+    belief: &mut Belief,
+    wire: &mut W,
+    cells: Cells,
+    ink: Ink,
+    text: &[u8],
+) -> Result<(), WireFault>
+    requires scene { IsPaintable (scene C.table O.cells N.cells screens.now) }
+    requires cells { IsOn (C.table screens.now.checked.now) cells }
+    requires long { cells.count ≤ length text.now }
+    requires alike { (k : ℕ) → k < cells.count → IsLike (O.cells screens.now.old.now) (N.cells screens.now.new.now)
+        cells.row (cells.from + k) ink (slice_index_or text.now k 0) }
+    ensures idle { IsIdle result (changed (scene C.table O.cells N.cells screens.now) cells) belief.old belief.new }
+    ensures step { MendsCells W.went W.failures wire.old wire.new result (scene C.table O.cells N.cells screens.now)
+        cells belief.old belief.new }
+{
+    if is_led_on(belief, cells.row, cells.from, ink, cells.count) {
+        return print_text(
+            screens.checked,
+            belief,
+            wire,
+            screens.new,
+            cells.row,
+            cells.from,
+            text,
+            cells.count,
+        );
+    }
+    print_each(screens, belief, wire, cells)
+}
+
+/// Prints those of the `cells` that differ: in one piece those that follow one another and are printed alike.
+pub(crate) fn mend_span<C: Certificate, O: View, N: View, W: Wire>(
+    screens: &Screens<'_, C, O, N>,
+    belief: &mut Belief,
+    wire: &mut W,
+    cells: Cells,
+) -> Result<(), WireFault>
+    requires scene { IsPaintable (scene C.table O.cells N.cells screens.now) }
+    requires cells { IsOn (C.table screens.now.checked.now) cells }
+    ensures idle { IsIdle result (changed (scene C.table O.cells N.cells screens.now) cells) belief.old belief.new }
+    ensures step { MendsCells W.went W.failures wire.old wire.new result (scene C.table O.cells N.cells screens.now)
+        cells belief.old belief.new }
+{
+    let mut text = [0; TEXT];
+    let mut done = 0;
+    while done < cells.count {
+        let first = cells.from + done;
+        let ink = screens.new.at(cells.row, first);
+        if screens.old.shows(cells.row, first, ink) {
+            done += 1;
+            continue;
+        }
+        let rest = Cells {
+            row: cells.row,
+            from: first + 1,
+            count: cells.count - done - 1,
+        };
+        let more = like_cells(screens.old, screens.new, rest, first, ink, &mut text);
+        print_cell(screens, belief, wire, cells.row, first, ink)?;
+        let alike = Cells {
+            count: more,
+            ..rest
+        };
+        print_alike(screens, belief, wire, alike, ink, &text)?;
+        done += 1 + more;
+    }
+    Ok(())
+}
+
+/// Whether any of the `cells` differs.
+pub(crate) fn differs_in<O: View, N: View>(old: &O, new: &N, cells: Cells) -> bool
+    requires { cells.from + cells.count ≤ 1000 }
+    ensures { result ≡ true → 0 < span (O.cells old.now) (N.cells new.now) cells.row cells.from cells.count }
+{
+    for n in 0..cells.count {
+        let col = cells.from + n;
+        if !old.shows(cells.row, col, new.at(cells.row, col)) {
+            return true;
+        }
+    }
+    false
+}

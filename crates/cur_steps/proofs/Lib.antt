@@ -1,4 +1,0 @@
-pub mod Leading
-pub mod Painting
-pub mod Stopping
-pub mod Completing

@@ -1,5 +1,0 @@
-use Rattle.cur_steps.proofs.Leading.{meet}
-use Rattle.cur_steps.proofs.laws.fronts_meet.Goals as goal
-
-pub returns : goal.returns
-returns c = meet

@@ -1,4 +1,0 @@
-pub mod Leads
-pub mod Paints
-pub mod Steps
-pub mod Lines

@@ -1,0 +1,5 @@
+use Rattle.cur_wires.proofs.Leading.{meet}
+use Rattle.cur_wires.proofs.laws.fronts_meet.Goals as goal
+
+pub returns : goal.returns
+returns c = meet

@@ -1,2 +1,0 @@
-pub mod Charsets
-pub mod Closing

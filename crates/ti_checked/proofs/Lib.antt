@@ -1,4 +1,0 @@
-pub mod Judging
-pub mod Resyncing
-pub mod Holding
-pub mod Cutting

@@ -1,4 +1,0 @@
-pub mod Table
-pub mod Sets
-pub mod Judged
-pub mod Checked

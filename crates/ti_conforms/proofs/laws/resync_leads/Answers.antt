@@ -1,0 +1,5 @@
+use Rattle.ti_conforms.proofs.Leading.{resync_leads}
+use Rattle.ti_conforms.proofs.laws.resync_leads.Goals as goal
+
+pub returns : goal.returns
+returns c = resync_leads

@@ -1,0 +1,38 @@
+//! What a painter asks of a verified certificate.
+ghost use Rattle.std.specs.Prelude.{◌≡◌, IfSome, Some, None};
+ghost use Rattle.ti_conforms.specs.Certified.{Table, IsChecked};
+
+use ti_rows::Row;
+
+/// A verified certificate: the strings of an entry for a size, of which all is known that a painter needs.
+pub trait Certificate {
+    ghost use Rattle.std.specs.Prelude.{ℕ, Option};
+
+    ghost table: { Self → Table };
+
+    /// The partner of each letter in the graphic set (terminfo(5), "Line Graphics"), where there is one.
+    ghost partners: { Self → ℕ → Option ℕ };
+
+    /// How many lines the screen has, and that all was verified.
+    fn rows(&self) -> usize
+        ensures value { result ≡ (table self.now).rows }
+        ensures checked { IsChecked (table self.now) };
+
+    /// How many columns the screen has.
+    fn cols(&self) -> usize
+        ensures value { result ≡ (table self.now).cols };
+
+    /// The bytes of a row's line, if the entry has it.
+    fn line(&self, row: Row) -> Option<&[u8]>
+        ensures value { IfSome result (λ b. (table self.now).line_of row ≡ Some b.now) }
+        ensures none { result ≡ None → (table self.now).line_of row ≡ None };
+
+    /// What leads from any state to a blank screen at rest.
+    fn resync(&self) -> &[u8]
+        ensures value { result.now ≡ (table self.now).resync };
+
+    /// The partner that the entry lists for `letter` in `acsc`, or `None` where it lists none or lacks the
+    /// strings for the graphic set.
+    fn partner(&self, letter: u8) -> Option<u8>
+        ensures value { result ≡ partners self.now letter };
+}

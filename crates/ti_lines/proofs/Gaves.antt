@@ -1,0 +1,46 @@
+-- What a reader gave, piece after piece.
+use Rattle.std.proofs.Common.{◌≡◌, ℕ, ◌+◌, ◌<◌, ◌≤◌, ◌⊎◌, List, [], ◌++◌, length, refl, sym, ap, ◌∙◌, inl, inr, arith, append_assoc}
+use Rattle.std.proofs.Math.Nat.{le_refl, le_trans}
+use Rattle.std.proofs.lemmas.List.{append-nil}
+use Rattle.std.proofs.lemmas.Bool.{cases_lt}
+use Rattle.ti_lines.specs.Reader.{Gave, Rose, last_count}
+use Rattle.ti_lines.specs.Lines.{Reading, Takes, HaltsBy}
+use Rattle.ti_lines.specs.declared.lines.Halt.{Halt}
+use Rattle.ti_lines.specs.declared.lines.Halt.TheVariants.{ReadFailed, NoMemory}
+
+pub gave_nothing : {R : Type 0} (left : R → List ℕ → Type 0) (failures : R → ℕ) (a : R) → Gave left failures a a []
+gave_nothing left failures a = record { tells = λ all t. record { rest = all; parts = refl; there = t }; counts = le_refl (failures a) }
+
+pub gave_joins : {R : Type 0} (left : R → List ℕ → Type 0) (failures : R → ℕ) (a b c : R) (x y : List ℕ) → Gave left failures a b x → Gave left failures b c y → Gave left failures a c (x ++ y)
+gave_joins left failures a b c x y p q = record {
+  tells = λ all t.
+      let u = p.tells all t in
+      let v = q.tells u.rest u.there in
+      record { rest = v.rest; parts = u.parts ∙ (ap (λ (l : List ℕ). x ++ l) v.parts ∙ sym (append_assoc x y v.rest)); there = v.there };
+  counts = le_trans p.counts q.counts;
+}
+
+rose_at_last : (a b c : ℕ) → a ≤ b → b ≡ last_count → c ≡ last_count → (a < b) ⊎ (b ≤ a) → Rose a c
+rose_at_last a b c le e f (inl lt) = inl (omega arith)
+rose_at_last a b c le e f (inr ge) = let same : a ≡ b = omega arith in inr (same ∙ e, f)
+
+-- a failure after more was given
+pub rose_later : (a b c : ℕ) → a ≤ b → Rose b c → Rose a c
+rose_later a b c le (inl lt) = inl (omega arith)
+rose_later a b c le (inr last) = rose_at_last a b c le last.0 last.1 (cases_lt a b)
+
+pub halts_later : (a b c : ℕ) (h : Halt) → a ≤ b → HaltsBy b c h → HaltsBy a c h
+halts_later a b c ReadFailed le r = rose_later a b c le r
+halts_later a b c NoMemory le r = tt
+
+pub takes_nothing : {R : Type 0} (left : R → List ℕ → Type 0) (failures : R → ℕ) (r : Reading) (a : R) → length r.unread ≤ r.budget + 1 → Takes left failures r a r a
+takes_nothing left failures r a h = record { bytes = []; gave = gave_nothing left failures a; unread = sym (append-nil r.unread); budget = refl; bound = h }
+
+pub takes_joins : {R : Type 0} (left : R → List ℕ → Type 0) (failures : R → ℕ) (r s t : Reading) (a b c : R) → Takes left failures r a s b → Takes left failures s b t c → Takes left failures r a t c
+takes_joins left failures r s t a b c p q = record {
+  bytes = p.bytes ++ q.bytes;
+  gave = gave_joins left failures a b c p.bytes q.bytes p.gave q.gave;
+  unread = q.unread ∙ (ap (λ (l : List ℕ). l ++ q.bytes) p.unread ∙ append_assoc r.unread p.bytes q.bytes);
+  budget = q.budget ∙ p.budget;
+  bound = q.bound;
+}

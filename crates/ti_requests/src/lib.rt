@@ -1,0 +1,6 @@
+//! What a command line can ask for, as values: the parser of the line makes them, and each command takes its own.
+#![tactic(auto)]
+
+mod request;
+
+pub use request::{CheckWords, ExpandWords, Request, ScriptWords, SurveyWords, VerifyWords};

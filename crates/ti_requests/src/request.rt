@@ -1,0 +1,120 @@
+//! What a command line can ask for: one variant for each command, with its words.
+
+/// The words of `expand`.
+#[derive(Debug, Drop)]
+pub struct ExpandWords<'a> {
+    /// Whether the string is also judged as `cup`.
+    pub judges_cup: bool,
+    /// The parameter string, in the escapes of terminfo source.
+    pub string: &'a str,
+    /// The terminal's rows, a decimal number.
+    pub rows: &'a str,
+    /// The terminal's columns, a decimal number.
+    pub cols: &'a str,
+    /// The string's parameters: decimal numbers, or `s:` and a text.
+    pub params: Vec<&'a str>,
+}
+
+/// The words of `check`.
+#[derive(Clone, Copy, Debug)]
+pub struct CheckWords<'a> {
+    /// The entry.
+    pub entry: &'a str,
+    /// The terminal's rows, a decimal number.
+    pub rows: &'a str,
+    /// The terminal's columns, a decimal number.
+    pub cols: &'a str,
+    /// The path of the certificate, if it isn't for standard output.
+    pub out: Option<&'a str>,
+}
+
+/// The words of `verify`.
+#[derive(Clone, Copy, Debug)]
+pub struct VerifyWords<'a> {
+    /// The entry.
+    pub entry: &'a str,
+    /// The terminal's rows, a decimal number.
+    pub rows: &'a str,
+    /// The terminal's columns, a decimal number.
+    pub cols: &'a str,
+    /// The path of the certificate.
+    pub certificate: &'a str,
+}
+
+/// The words of `play` and `show`.
+#[derive(Clone, Copy, Debug)]
+pub struct ScriptWords<'a> {
+    /// The entry.
+    pub entry: &'a str,
+    /// The terminal's rows, a decimal number.
+    pub rows: &'a str,
+    /// The terminal's columns, a decimal number.
+    pub cols: &'a str,
+    /// The path of the certificate.
+    pub certificate: &'a str,
+    /// The path of the script.
+    pub script: &'a str,
+}
+
+/// The words of `survey`.
+#[derive(Debug, Drop)]
+pub struct SurveyWords<'a> {
+    /// The terminal's rows, a decimal number.
+    pub rows: &'a str,
+    /// The terminal's columns, a decimal number.
+    pub cols: &'a str,
+    /// The paths of the files.
+    pub paths: Vec<&'a str>,
+}
+
+/// A command and its words. What a word means (a number, a path, an entry) is the command's own matter.
+#[derive(Debug, Drop)]
+pub enum Request<'a> {
+    /// `expand [--cup] STRING ROWS COLS [PARAM..]`: expand a parameter string.
+    Expand(ExpandWords<'a>),
+    /// `feed ROWS COLS FILE`: feed a file to a terminal.
+    Feed {
+        /// The terminal's rows.
+        rows: &'a str,
+        /// The terminal's columns.
+        cols: &'a str,
+        /// The path of the file.
+        file: &'a str,
+    },
+    /// `tic ENTRY [--out FILE]`: compile an entry.
+    Tic {
+        /// The entry.
+        entry: &'a str,
+        /// The path of the compiled file, if one is asked for.
+        out: Option<&'a str>,
+    },
+    /// `check ENTRY ROWS COLS [--out FILE]`: write the certificate of an entry.
+    Check(CheckWords<'a>),
+    /// `verify ENTRY ROWS COLS CERT`: verify the certificate of an entry.
+    Verify(VerifyWords<'a>),
+    /// `play ENTRY ROWS COLS CERT SCRIPT`: play a script of curses calls.
+    Play(ScriptWords<'a>),
+    /// `show ENTRY ROWS COLS CERT SCRIPT`: show the screen that a script of curses calls leaves.
+    Show(ScriptWords<'a>),
+    /// `survey ROWS COLS FILE..`: check all entries of some files.
+    Survey(SurveyWords<'a>),
+    /// `infocmp ENTRY`: print an entry.
+    Print {
+        /// The entry.
+        entry: &'a str,
+    },
+    /// `infocmp -c ENTRY ENTRY`: list what both entries have with equal values.
+    Common {
+        /// The first entry.
+        first: &'a str,
+        /// The second entry.
+        second: &'a str,
+    },
+    /// `infocmp -n ENTRY ENTRY`: list what neither entry has.
+    Neither {
+        /// The first entry.
+        first: &'a str,
+        /// The second entry.
+        second: &'a str,
+    },
+}

@@ -1,3 +1,0 @@
-pub mod Dropping
-pub mod Leading
-pub mod Fronting

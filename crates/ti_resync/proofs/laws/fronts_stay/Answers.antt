@@ -1,8 +1,0 @@
-use Rattle.ti_resync.proofs.Fronting.{fronts_stay, wholes_stay}
-use Rattle.ti_resync.proofs.laws.fronts_stay.Goals as goal
-
-pub returns-clause-front : goal.returns-clause-front
-returns-clause-front c = fronts_stay
-
-pub returns-clause-whole : goal.returns-clause-whole
-returns-clause-whole c = wholes_stay

@@ -1,5 +1,0 @@
-use Rattle.ti_resync.proofs.Leading.{resync_leads}
-use Rattle.ti_resync.proofs.laws.resync_leads.Goals as goal
-
-pub returns : goal.returns
-returns c = resync_leads

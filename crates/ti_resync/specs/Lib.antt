@@ -1,3 +1,0 @@
-pub mod Lost
-pub mod Lines
-pub mod Resync

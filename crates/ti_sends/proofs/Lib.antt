@@ -1,3 +1,0 @@
-pub mod Valuing
-pub mod Walking
-pub mod Matching

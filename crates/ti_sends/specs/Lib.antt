@@ -1,3 +1,0 @@
-pub mod Sends
-pub mod Agreeing
-pub mod Entries
