@@ -6,6 +6,7 @@ use Rattle.ti_source.specs.declared.escapes.Piece.{Piece}
 use Rattle.ti_source.specs.declared.escapes.Decoded.{Decoded}
 use Rattle.ti_source.specs.declared.escapes.EscapeFault.{EscapeFault}
 use Rattle.ti_source.specs.declared.escapes.EscapeFault.TheVariants.{BadEscape, TooLong, NoMemory}
+use Rattle.ti_source.specs.Marks.{comma, colon, backslash, caret}
 
 -- A string has no byte 0: where one would stand there is 128.
 abbrev pub stored : ℕ → ℕ
@@ -34,7 +35,7 @@ letter_value letter =
     else (if letter == 102 then Some 12
     else (if letter == 97 then Some 7
     else (if letter == 115 then Some 32
-    else (if letter == 94 || letter == 92 || letter == 44 || letter == 58 then Some letter
+    else (if letter == caret || letter == backslash || letter == comma || letter == colon then Some letter
     else None))))))))
 
 -- the piece that a backslash makes with this letter
@@ -68,13 +69,13 @@ control_of b = if b == 63 then 127 else bit_and b 31
 -- what a caret makes with what stands after it: neither the end nor a comma
 unfoldable pub control_at : List ℕ → Option Piece
 control_at [] = None
-control_at (b ∷ rest) = if b == 44 then None else Some (plain (control_of b) 2)
+control_at (b ∷ rest) = if b == comma then None else Some (plain (control_of b) 2)
 
 -- the piece at the front, or None where an escape that begins there has no end
 unfoldable pub piece_at : List ℕ → Option Piece
 piece_at [] = None
 piece_at (b ∷ rest) =
-    if b == 92 then escape_at rest else (if b == 94 then control_at rest else Some (plain b 1))
+    if b == backslash then escape_at rest else (if b == caret then control_at rest else Some (plain b 1))
 
 -- the bytes of a string, and how many odd escapes its value has
 pub record Decoding : Type 0 where

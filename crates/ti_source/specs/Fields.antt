@@ -19,6 +19,7 @@ use Rattle.ti_source.specs.declared.layout.Mark.TheVariants.{At, Hash, Equals}
 use Rattle.ti_source.specs.Escapes.{Decoding, decoding_of}
 use Rattle.ti_source.specs.Layout.{is_white, skip_white, trim_end, Marked, marked_in, Cut, cut_of}
 use Rattle.ti_source.specs.Numbers.{number_of}
+use Rattle.ti_source.specs.Marks.{space, period, bar}
 
 infixl 10 ◌>>=◌
 abbrev pub ◌>>=◌ : {A B : Type 0} → Result A FaultKind → (A → Result B FaultKind) → Result B FaultKind
@@ -73,7 +74,7 @@ split_reading field (Some m) = marked_reading m.mark m.name m.value
 -- nothing, or a field that is commented out by a period
 abbrev pub is_skipped : List ℕ → Bool
 is_skipped [] = true
-is_skipped (b ∷ rest) = b == 46
+is_skipped (b ∷ rest) = b == period
 
 abbrev pub trimmed_reading : List ℕ → Result Reading FaultKind
 trimmed_reading field = if is_skipped field then Ok Skipped else split_reading field (marked_in field)
@@ -153,11 +154,11 @@ add_cut line raw cut = add_fields line raw cut.ended >>= λ next. add_last next 
 -- the first name is empty
 abbrev pub begins_unnamed : List ℕ → Bool
 begins_unnamed [] = true
-begins_unnamed (b ∷ rest) = b == 124
+begins_unnamed (b ∷ rest) = b == bar
 
 -- not the names of an entry, which stand from the first column on
 unfoldable pub is_no_name : List ℕ → Bool
-is_no_name names = begins_unnamed names || list_any (λ b. nat_lt b 32) names
+is_no_name names = begins_unnamed names || list_any (λ b. nat_lt b space) names
 
 abbrev pub new_entry : ℕ → List ℕ → RawEntry
 new_entry line names = record { line = line; names = names; fields = []; notes = [] }

@@ -12,17 +12,18 @@ use Rattle.ti_source.specs.Fields.{is_skipped}
 use Rattle.ti_caps.specs.Table.{is_kind}
 use Rattle.ti_source.specs.Layout.{Marked, cut_of, lines_of, marked_in, skip_white}
 use Rattle.ti_source.specs.Source.{begins_white, is_passed}
+use Rattle.ti_source.specs.Marks.{percent, caret}
 
 -- a `%` that no backslash and no caret takes
 abbrev pub is_percent : Opener → ℕ → Bool
-is_percent Nothing b = b == 37
+is_percent Nothing b = b == percent
 is_percent Backslash b = false
 is_percent Caret b = false
 
 -- a value in which a caret follows such a `%`; the mark says whether one stands straight before the value
 abbrev pub has_caret : Opener → Bool → List ℕ → Bool
-has_caret opener percent [] = false
-has_caret opener percent (b ∷ rest) = (percent && (b == 94)) || has_caret (opener_after opener b) (is_percent opener b) rest
+has_caret opener follows [] = false
+has_caret opener follows (b ∷ rest) = (follows && (b == caret)) || has_caret (opener_after opener b) (is_percent opener b) rest
 
 unfoldable pub has_percent_caret : List ℕ → Bool
 has_percent_caret value = has_caret Nothing false value

@@ -5,6 +5,7 @@ use Rattle.ti_caps.specs.declared.fits.Opener.TheVariants.{Nothing}
 use Rattle.ti_caps.specs.Fits.{opener_after, ends_at_comma}
 use Rattle.ti_source.specs.declared.layout.Mark.{Mark}
 use Rattle.ti_source.specs.declared.layout.Mark.TheVariants.{At, Hash, Equals}
+use Rattle.ti_source.specs.Marks.{tab, line_feed, carriage_return, space, hash, comma, equals, at_sign}
 
 -- a byte at the front of the first line
 abbrev pub onto_line : ℕ → List (List ℕ) → List (List ℕ)
@@ -13,19 +14,19 @@ onto_line b (line ∷ lines) = (b ∷ line) ∷ lines
 
 abbrev pub begins_feed : List ℕ → Bool
 begins_feed [] = false
-begins_feed (b ∷ rest) = b == 10
+begins_feed (b ∷ rest) = b == line_feed
 
 -- Lines end with a line feed, the last one perhaps with the text. A carriage return straight before a
 -- line feed is dropped.
 abbrev pub lines_of : List ℕ → List (List ℕ)
 lines_of [] = []
 lines_of (b ∷ rest) =
-    if b == 10 then [] ∷ lines_of rest
-    else (if (b == 13) && begins_feed rest then lines_of rest else onto_line b (lines_of rest))
+    if b == line_feed then [] ∷ lines_of rest
+    else (if (b == carriage_return) && begins_feed rest then lines_of rest else onto_line b (lines_of rest))
 
 -- space and tab
 abbrev pub is_white : ℕ → Bool
-is_white b = (b == 32) || (b == 9)
+is_white b = (b == space) || (b == tab)
 
 abbrev pub skip_white : List ℕ → List ℕ
 skip_white [] = []
@@ -54,7 +55,7 @@ onto_cut b cut = onto_ended b cut.ended cut.last
 -- A comma ends its field, but not where a backslash takes it: backslashes and carets are paired with the
 -- bytes after them from the front of the field.
 abbrev pub ends_field : Opener → ℕ → Bool
-ends_field opener b = ends_at_comma opener && (b == 44)
+ends_field opener b = ends_at_comma opener && (b == comma)
 
 abbrev pub cut_from : Opener → List ℕ → Cut
 cut_from opener [] = record { ended = []; last = [] }
@@ -66,7 +67,7 @@ cut_of line = cut_from Nothing line
 
 -- the marks between a name and a value: name@, name#number, name=string
 abbrev pub mark_of : ℕ → Option Mark
-mark_of b = if b == 64 then Some At else (if b == 35 then Some Hash else (if b == 61 then Some Equals else None))
+mark_of b = if b == at_sign then Some At else (if b == hash then Some Hash else (if b == equals then Some Equals else None))
 
 -- the name in a field, its first mark, and what stands after the mark
 pub record Marked : Type 0 where

@@ -8,6 +8,7 @@ use Rattle.ti_caps.specs.declared.value.Value.TheVariants.{Flag, Number, String}
 use Rattle.ti_caps.specs.Entry.{Content, value_at}
 use Rattle.ti_caps.specs.Table.{name_at, kind_of, place_of_rank}
 use Rattle.ti_caps.specs.Table.{is_kind}
+use Rattle.ti_source.specs.Marks.{tab, line_feed, hash, comma, colon, equals, backslash, caret}
 
 -- what a backslash stands before: E n r t b f s for the bytes 27 10 13 9 8 12 32, and the marks , \ ^ :
 abbrev pub letter_for : ℕ → Option ℕ
@@ -19,15 +20,15 @@ letter_for b =
     else (if b == 8 then Some 98
     else (if b == 12 then Some 102
     else (if b == 32 then Some 115
-    else (if (b == 44) || ((b == 92) || ((b == 94) || (b == 58))) then Some b
+    else (if (b == comma) || ((b == backslash) || ((b == caret) || (b == colon))) then Some b
     else None)))))))
 
 -- a backslash and three octal digits
 abbrev pub octal : ℕ → List ℕ
-octal b = 92 ∷ (48 + b / 64) ∷ (48 + b / 8 % 8) ∷ (48 + b % 8) ∷ []
+octal b = backslash ∷ (48 + b / 64) ∷ (48 + b / 8 % 8) ∷ (48 + b % 8) ∷ []
 
 abbrev pub spelled_with : ℕ → Option ℕ → List ℕ
-spelled_with b (Some letter) = 92 ∷ letter ∷ []
+spelled_with b (Some letter) = backslash ∷ letter ∷ []
 spelled_with b None = if nat_le 33 b && nat_le b 126 then b ∷ [] else octal b
 
 -- how a byte of a string is printed
@@ -40,12 +41,12 @@ string_text bytes = flat_map spelled bytes
 -- what stands after a name
 abbrev pub value_text : Value → List ℕ
 value_text Flag = []
-value_text (Number n) = 35 ∷ decimal n
-value_text (String bytes) = 61 ∷ string_text bytes
+value_text (Number n) = hash ∷ decimal n
+value_text (String bytes) = equals ∷ string_text bytes
 
 -- a tab, the name, the value, a comma and a line feed
 unfoldable pub field_text : ℕ → Value → List ℕ
-field_text place value = 9 ∷ (name_at place ++ (value_text value ++ 44 ∷ 10 ∷ []))
+field_text place value = tab ∷ (name_at place ++ (value_text value ++ comma ∷ line_feed ∷ []))
 
 -- the field of one capability, if the entry has it
 abbrev pub place_text : ℕ → Option Value → List ℕ
@@ -69,4 +70,4 @@ kind_text entry kind = ranks_text entry kind 497
 -- the names, and then flags, numbers and strings
 unfoldable pub text_of : Content → List ℕ
 text_of entry =
-    entry.names ++ (44 ∷ 10 ∷ (kind_text entry kinds.Flag ++ (kind_text entry kinds.Number ++ kind_text entry kinds.String)))
+    entry.names ++ (comma ∷ line_feed ∷ (kind_text entry kinds.Flag ++ (kind_text entry kinds.Number ++ kind_text entry kinds.String)))

@@ -20,21 +20,22 @@ use Rattle.ti_source.specs.Fields.{is_use, is_no_name, new_entry, with_reading}
 use Rattle.ti_source.specs.Layout.{is_white, trim_end, ends_field, mark_of}
 use Rattle.ti_source.specs.Numbers.{number_of}
 use Rattle.ti_source.specs.Source.{is_passed, begins_white, source_of}
+use Rattle.ti_source.specs.Marks.{line_feed, carriage_return, hash, comma, period, equals, at_sign, use_mark}
 
 -- no line feed is among the bytes
 abbrev pub NoFeed : List ℕ → Type 0
-NoFeed line = IsTrue (list_all (λ b. not (b == 10)) line)
+NoFeed line = IsTrue (list_all (λ b. not (b == line_feed)) line)
 
 abbrev pub ends_in_return : List ℕ → Bool
 ends_in_return [] = false
-ends_in_return (b ∷ []) = b == 13
+ends_in_return (b ∷ []) = b == carriage_return
 ends_in_return (b ∷ c ∷ line) = ends_in_return (c ∷ line)
 
 -- The first line of a text, and what stands after it. A line feed ends it, or a carriage return with a
 -- line feed, or the text.
 pub data FirstLine (line rest text : List ℕ) : Type 0 where
-  Fed : text ≡ line ++ 10 ∷ rest → NoFeed line → ends_in_return line ≡ false → FirstLine line rest text
-  Returned : text ≡ line ++ 13 ∷ 10 ∷ rest → NoFeed line → FirstLine line rest text
+  Fed : text ≡ line ++ line_feed ∷ rest → NoFeed line → ends_in_return line ≡ false → FirstLine line rest text
+  Returned : text ≡ line ++ carriage_return ∷ line_feed ∷ rest → NoFeed line → FirstLine line rest text
   Alone : text ≡ line → line ≢ [] → NoFeed line → rest ≡ [] → FirstLine line rest text
 
 abbrev pub HasLines : List (List ℕ) → List ℕ → Type 0
@@ -53,7 +54,7 @@ is_unended opener (b ∷ rest) = not (ends_field opener b) && is_unended (opener
 -- the fields of a line, each with a comma after it, and what stands after the last comma
 abbrev pub HasFields : List (List ℕ) → List ℕ → List ℕ → Type 0
 HasFields [] last line = (line ≡ last) × IsTrue (is_unended Nothing last)
-HasFields (field ∷ fields) last line = (rest : List ℕ) × (line ≡ field ++ 44 ∷ rest) × IsTrue (is_one_field Nothing field) × HasFields fields last rest
+HasFields (field ∷ fields) last line = (rest : List ℕ) × (line ≡ field ++ comma ∷ rest) × IsTrue (is_one_field Nothing field) × HasFields fields last rest
 
 -- none of the marks @ # = is among the bytes
 abbrev pub NoMark : List ℕ → Type 0
@@ -63,23 +64,23 @@ NoMark name = IsTrue (list_all (λ b. not (is_some (mark_of b))) name)
 -- has. The first mark ends the name.
 pub data Means (field : List ℕ) (reading : Reading) : Type 0 where
   IsFlag : (cap : ℕ) → NoMark field → place_in (trim_end field) ≡ Some cap → kind_of cap ≡ kinds.Flag → reading ≡ Says (Set cap values.Flag) 0 → Means field reading
-  IsNumber : (name value : List ℕ) (cap n : ℕ) → field ≡ name ++ 35 ∷ value → NoMark name → place_in name ≡ Some cap → kind_of cap ≡ kinds.Number → number_of value ≡ Ok n → reading ≡ Says (Set cap (values.Number n)) 0 → Means field reading
-  IsString : (name value : List ℕ) (cap : ℕ) (d : Decoding) → field ≡ name ++ 61 ∷ value → NoMark name → is_use name ≡ false → place_in name ≡ Some cap → kind_of cap ≡ kinds.String → decoding_of value ≡ Some d → length d.bytes ≤ 4095 → reading ≡ Says (Set cap (values.String d.bytes)) d.odd → Means field reading
-  Cancels : (name behind : List ℕ) (cap : ℕ) → field ≡ name ++ 64 ∷ behind → NoMark name → place_in name ≡ Some cap → reading ≡ Says (Cancel cap) 0 → Means field reading
-  Uses : (name : List ℕ) → field ≡ 117 ∷ 115 ∷ 101 ∷ 61 ∷ name → reading ≡ Says (Include name) 0 → Means field reading
+  IsNumber : (name value : List ℕ) (cap n : ℕ) → field ≡ name ++ hash ∷ value → NoMark name → place_in name ≡ Some cap → kind_of cap ≡ kinds.Number → number_of value ≡ Ok n → reading ≡ Says (Set cap (values.Number n)) 0 → Means field reading
+  IsString : (name value : List ℕ) (cap : ℕ) (d : Decoding) → field ≡ name ++ equals ∷ value → NoMark name → is_use name ≡ false → place_in name ≡ Some cap → kind_of cap ≡ kinds.String → decoding_of value ≡ Some d → length d.bytes ≤ 4095 → reading ≡ Says (Set cap (values.String d.bytes)) d.odd → Means field reading
+  Cancels : (name behind : List ℕ) (cap : ℕ) → field ≡ name ++ at_sign ∷ behind → NoMark name → place_in name ≡ Some cap → reading ≡ Says (Cancel cap) 0 → Means field reading
+  Uses : (name : List ℕ) → field ≡ use_mark ++ name → reading ≡ Says (Include name) 0 → Means field reading
   UnknownAlone : NoMark field → place_in (trim_end field) ≡ None → reading ≡ Unknown → Means field reading
   UnknownMarked : (name value : List ℕ) (b : ℕ) (mark : Mark) → field ≡ name ++ b ∷ value → NoMark name → mark_of b ≡ Some mark → (mark ≡ Equals → is_use name ≡ false) → place_in name ≡ None → reading ≡ Unknown → Means field reading
 
 -- a field begins with neither white space nor a period
 abbrev pub begins_field : List ℕ → Bool
 begins_field [] = false
-begins_field (b ∷ rest) = not (is_white b) && not (b == 46)
+begins_field (b ∷ rest) = not (is_white b) && not (b == period)
 
 -- What stands before a comma says: nothing where it is white space or, after white space, begins with a
 -- period; else what the field after the white space says.
 pub data PartSays (part : List ℕ) (reading : Reading) : Type 0 where
   Blank : White part → reading ≡ Skipped → PartSays part reading
-  Commented : (white rest : List ℕ) → White white → part ≡ white ++ 46 ∷ rest → reading ≡ Skipped → PartSays part reading
+  Commented : (white rest : List ℕ) → White white → part ≡ white ++ period ∷ rest → reading ≡ Skipped → PartSays part reading
   Said : (white field : List ℕ) → White white → part ≡ white ++ field → begins_field field ≡ true → Means field reading → PartSays part reading
 
 -- an entry with the fields of a line, one after another

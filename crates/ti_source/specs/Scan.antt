@@ -4,6 +4,7 @@ use Rattle.ti_caps.specs.declared.fits.Opener.{Opener}
 use Rattle.ti_caps.specs.Fits.{opener_after}
 use Rattle.ti_caps.specs.declared.fits.Opener.TheVariants.{Nothing}
 use Rattle.ti_source.specs.Layout.{ends_field, Marked, marked_with}
+use Rattle.ti_source.specs.Marks.{line_feed}
 
 -- the line without a carriage return at its end
 abbrev pub without_return : List ℕ → List ℕ
@@ -14,7 +15,7 @@ without_return (b ∷ c ∷ rest) = b ∷ without_return (c ∷ rest)
 -- where the first line feed stands
 abbrev pub feed_in : List ℕ → Option ℕ
 feed_in [] = None
-feed_in (b ∷ rest) = if b == 10 then Some 0 else option_map suc (feed_in rest)
+feed_in (b ∷ rest) = if b == line_feed then Some 0 else option_map suc (feed_in rest)
 
 -- where the first comma stands that ends a field
 abbrev pub comma_from : Opener → List ℕ → Option ℕ

@@ -7,6 +7,7 @@ use Rattle.ti_source.specs.declared.types.SourceFault.{SourceFault}
 use Rattle.ti_source.specs.declared.types.RawEntry.{RawEntry}
 use Rattle.ti_source.specs.Layout.{lines_of, is_white, cut_of}
 use Rattle.ti_source.specs.Fields.{◌>>=◌, add_cut, entry_on}
+use Rattle.ti_source.specs.Marks.{hash}
 
 -- the entries that are whole, and the one that further lines may belong to
 pub record Progress : Type 0 where
@@ -19,7 +20,7 @@ all_of progress = progress.done ++ option_to_list progress.open_entry
 -- a line of white space alone, and one whose first byte is #
 abbrev pub is_comment : List ℕ → Bool
 is_comment [] = false
-is_comment (b ∷ rest) = b == 35
+is_comment (b ∷ rest) = b == hash
 
 abbrev pub is_passed : List ℕ → Bool
 is_passed line = list_all is_white line || is_comment line
