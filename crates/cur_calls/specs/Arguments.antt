@@ -2,7 +2,7 @@
 use Rattle.std.specs.Prelude.{ℕ, List, Option, Some}
 use Rattle.cur_drawing.specs.declared.puts.Put.{Put}
 use Rattle.cur_drawing.specs.declared.puts.Border.{Border}
-use Rattle.cur_drawing.specs.Calls.{drawn_line, default_border}
+use Rattle.cur_drawing.specs.Calls.{drawn_line, horizontal_bar, vertical_bar, default_border}
 use Rattle.cur_calls.specs.declared.calls.Call.{Call}
 use Rattle.cur_calls.specs.declared.calls.Call.TheVariants.{Newwin, Newpad, Part, Dupwin, Plain, Number, Numbers, Flag, Attributes, Cell, Addstr, Line, DrawBorder, DrawBox, Lay, Copywin, Show, ShowPad, Screen, CursSet, InitPair}
 use Rattle.cur_calls.specs.declared.groups.PartCall.{PartCall}
@@ -111,8 +111,8 @@ addstr words = do
 
 -- the default cell of a line
 abbrev pub default_of : LineCall → Put
-default_of Hline = drawn_line 113
-default_of Vline = drawn_line 120
+default_of Hline = drawn_line horizontal_bar
+default_of Vline = drawn_line vertical_bar
 
 -- hline w cell n
 abbrev pub line : LineCall → List (List ℕ) → Option Call
@@ -126,10 +126,10 @@ line call words = do
 -- ls rs ts bs
 abbrev pub sides : List (List ℕ) → Option (Border × List (List ℕ))
 sides words = do
-  a ← first (cell_or (drawn_line 120)) words
-  b ← first (cell_or (drawn_line 120)) a.1
-  c ← first (cell_or (drawn_line 113)) b.1
-  d ← first (cell_or (drawn_line 113)) c.1
+  a ← first (cell_or (drawn_line vertical_bar)) words
+  b ← first (cell_or (drawn_line vertical_bar)) a.1
+  c ← first (cell_or (drawn_line horizontal_bar)) b.1
+  d ← first (cell_or (drawn_line horizontal_bar)) c.1
   Some (record default_border { left = a.0; right = b.0; top = c.0; bottom = d.0 }, d.1)
 
 -- tl tr bl br
@@ -154,8 +154,8 @@ draw_border words = do
 abbrev pub draw_box : List (List ℕ) → Option Call
 draw_box words = do
   a ← first window_in words
-  b ← first (cell_or (drawn_line 120)) a.1
-  c ← first (cell_or (drawn_line 113)) b.1
+  b ← first (cell_or (drawn_line vertical_bar)) a.1
+  c ← first (cell_or (drawn_line horizontal_bar)) b.1
   _ ← ended c.1
   Some (DrawBox a.0 b.0 c.0)
 

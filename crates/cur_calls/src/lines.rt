@@ -14,7 +14,8 @@ pub(crate) fn read_line<'a>(
     line: &'a [u8],
     calls: &mut Vec<Call<'a>>,
 ) -> Result<(), ScriptFault>
-    ensures ok { OnOk result (option_map (λ more. calls.old.items ++ more) (line_calls line.now) ≡ Some calls.new.items) }
+    ensures ok { OnOk result (option_map (λ more. calls.old.items ++ more) (line_calls line.now) ≡
+        Some calls.new.items) }
     ensures line { IfErr result (λ e. e.line ≡ number) }
     ensures kind { IfErr result (λ e. LineFails e.kind (line_calls line.now)) }
 {

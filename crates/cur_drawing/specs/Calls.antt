@@ -249,20 +249,44 @@ corners b w g =
 abbrev pub bordered : Border → Canvas → CanvasStep
 bordered b s = if_accepted (checked_border b) s (done (corners b s.window (sides b s.window s.grid)) s.window)
 
--- ---- default cells: characters of the alternate set (X/Open Curses Issue 7, "Line drawing")
+-- ---- default cells: characters of the alternate set (X/Open Curses Issue 7, "Line drawing"), by their letters
+-- q
+abbrev pub horizontal_bar : ℕ
+horizontal_bar = 113
+
+-- x
+abbrev pub vertical_bar : ℕ
+vertical_bar = 120
+
+-- l
+abbrev pub upper_left : ℕ
+upper_left = 108
+
+-- k
+abbrev pub upper_right : ℕ
+upper_right = 107
+
+-- m
+abbrev pub lower_left : ℕ
+lower_left = 109
+
+-- j
+abbrev pub lower_right : ℕ
+lower_right = 106
+
 abbrev pub drawn_line : ℕ → Put
 drawn_line byte = record { byte = byte; attrs = record { 0 = 128 }; pair = 0 }
 
 abbrev pub default_border : Border
 default_border = record {
-  left = drawn_line 120;
-  right = drawn_line 120;
-  top = drawn_line 113;
-  bottom = drawn_line 113;
-  top_left = drawn_line 108;
-  top_right = drawn_line 107;
-  bottom_left = drawn_line 109;
-  bottom_right = drawn_line 106;
+  left = drawn_line vertical_bar;
+  right = drawn_line vertical_bar;
+  top = drawn_line horizontal_bar;
+  bottom = drawn_line horizontal_bar;
+  top_left = drawn_line upper_left;
+  top_right = drawn_line upper_right;
+  bottom_left = drawn_line lower_left;
+  bottom_right = drawn_line lower_right;
 }
 
 -- box: the default corners

@@ -35,12 +35,14 @@ pub fn erasing_stays_inside()
 /// A scroll up by `n` lines gives each place of the region what was `n` lines below it, or the background; all other
 /// places keep what they had.
 pub fn scroll_up_by_place()
-    ensures { (g : Grid) (w : Window) (n y x : ℕ) → calls.IsCanvas g w → y < w.area.rows → x < w.area.cols → cell_of w (calls.scrolled (pos n) w g) y x ≡ went_up w n g y x }
+    ensures { (g : Grid) (w : Window) (n y x : ℕ) → calls.IsCanvas g w → y < w.area.rows → x < w.area.cols →
+        cell_of w (calls.scrolled (pos n) w g) y x ≡ went_up w n g y x }
 {}
 
 /// A scroll down by `n` lines gives each place of the region what was `n` lines above it, or the background.
 pub fn scroll_down_by_place()
-    ensures { (g : Grid) (w : Window) (n y x : ℕ) → calls.IsCanvas g w → y < w.area.rows → x < w.area.cols → cell_of w (calls.scrolled (negsuc n) w g) y x ≡ went_down w (n + 1) g y x }
+    ensures { (g : Grid) (w : Window) (n y x : ℕ) → calls.IsCanvas g w → y < w.area.rows → x < w.area.cols →
+        cell_of w (calls.scrolled (negsuc n) w g) y x ≡ went_down w (n + 1) g y x }
 {}
 
 /// A call that is refused has changed nothing; a character's only where it isn't `NoScroll`.
@@ -56,7 +58,8 @@ pub fn refusals_change_nothing()
 
 /// `insch` and `delch` shift the rest of the cursor's line by one place.
 pub fn line_shifts_by_place()
-    ensures insch { (put : Put) → LeavesCells (calls.insert_char put) (λ w g y x. cell_inserted w (content w put) g y x) }
+    ensures insch { (put : Put) →
+        LeavesCells (calls.insert_char put) (λ w g y x. cell_inserted w (content w put) g y x) }
     ensures delch { LeavesCells calls.delete_char (λ w g y x. cell_deleted w g y x) }
 {}
 

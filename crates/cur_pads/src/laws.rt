@@ -12,20 +12,25 @@ ghost use Rattle.cur_pads.specs.Showing.{pnoutrefresh};
 /// Where a part of a pad is shown, the screen's places from its first row and column to its last ones have the pad's cells,
 /// and all others what they had.
 pub fn parts_are_shown()
-    ensures { (d : State) (v : Screen) (n : ℕ) (pr pc sr sc : ℤ) (bottom right : ℕ) → IsDesk d → ShowsCells d v n pr pc sr sc bottom right }
+    ensures { (d : State) (v : Screen) (n : ℕ) (pr pc sr sc : ℤ) (bottom right : ℕ) → IsDesk d →
+        ShowsCells d v n pr pc sr sc bottom right }
 {}
 
 /// A refused call changes neither the desk nor the screen.
 pub fn refused_calls_change_nothing()
     ensures newpad { (d : State) (n : ℕ) (lines cols : ℤ) → UnchangedIfRefused d (newpad d n lines cols) }
     ensures subpad { (d : State) (n w : ℕ) (lines cols y x : ℤ) → UnchangedIfRefused d (subpad d n w lines cols y x) }
-    ensures pnoutrefresh { (d : State) (v : Screen) (n : ℕ) (pr pc sr sc er ec : ℤ) → BothUnchangedIfRefused d v (pnoutrefresh d v n pr pc sr sc er ec) }
+    ensures pnoutrefresh { (d : State) (v : Screen) (n : ℕ) (pr pc sr sc er ec : ℤ) →
+        BothUnchangedIfRefused d v (pnoutrefresh d v n pr pc sr sc er ec) }
 {}
 
 /// The refusal of a call is the first in the order of ranks that there is cause for. `NoMemory`, the last of all, is
 /// reported only where there is cause for none of these.
 pub fn refused_calls_are_ranked()
-    ensures newpad { (d : State) (n : ℕ) (lines cols : ℤ) → IsFirstOf (causes.newpad d n lines cols) (newpad d n lines cols).1 }
-    ensures subpad { (d : State) (n w : ℕ) (lines cols y x : ℤ) → IsFirstOf (causes.subpad d n w lines cols y x) (subpad d n w lines cols y x).1 }
-    ensures pnoutrefresh { (d : State) (v : Screen) (n : ℕ) (pr pc sr sc er ec : ℤ) → IsFirstOf (causes.pnoutrefresh d n pr pc sr sc er ec) (pnoutrefresh d v n pr pc sr sc er ec).2 }
+    ensures newpad { (d : State) (n : ℕ) (lines cols : ℤ) →
+        IsFirstOf (causes.newpad d n lines cols) (newpad d n lines cols).1 }
+    ensures subpad { (d : State) (n w : ℕ) (lines cols y x : ℤ) →
+        IsFirstOf (causes.subpad d n w lines cols y x) (subpad d n w lines cols y x).1 }
+    ensures pnoutrefresh { (d : State) (v : Screen) (n : ℕ) (pr pc sr sc er ec : ℤ) →
+        IsFirstOf (causes.pnoutrefresh d n pr pc sr sc er ec) (pnoutrefresh d v n pr pc sr sc er ec).2 }
 {}

@@ -10,7 +10,8 @@ use cur_windows::{Desk, Refusal, in_range};
 /// A new pad of 1 to 1000 lines and as many columns (X/Open Curses, `newpad`). `Full` for a number above 63,
 /// `NumberUsed`, `BadRegion` for any other size; `NoMemory` where a growth was refused. Then nothing has changed.
 pub fn newpad(desk: &mut Desk, n: usize, lines: i32, cols: i32) -> Result<(), Refusal>
-    ensures { ((result ≡ Err Refusal.NoMemory) × (desk.new ≡ desk.old) × ((spec.newpad desk.old n lines cols).1 ≡ Ok tt)) ⊎ (step desk.new result ≡ spec.newpad desk.old n lines cols) }
+    ensures { ((result ≡ Err Refusal.NoMemory) × (desk.new ≡ desk.old) ×
+        ((spec.newpad desk.old n lines cols).1 ≡ Ok tt)) ⊎ (step desk.new result ≡ spec.newpad desk.old n lines cols) }
 {
     desk.check_free(n)?;
     let (Some(rows), Some(cols)) = (side(lines), side(cols)) else {

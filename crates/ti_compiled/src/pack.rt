@@ -215,7 +215,8 @@ fn put_flags(out: &mut Vec<u8>, entry: &Entry, count: usize) -> Result<(), Alloc
     requires entry { IsEntry entry.now }
     requires count { count ≡ length (trimmed itself (flags_of entry.now)) }
     requires few { count ≤ 44 }
-    ensures { OnOk result (out.new.items ≡ out.old.items ++ flat_map (λ flag. from_bool flag ∷ []) (trimmed itself (flags_of entry.now))) }
+    ensures { OnOk result (out.new.items ≡
+        out.old.items ++ flat_map (λ flag. from_bool flag ∷ []) (trimmed itself (flags_of entry.now))) }
 {
     for position in 0..count {
         out.push(u8::from(flag_there(entry, position)))?;
@@ -239,7 +240,8 @@ fn put_numbers(out: &mut Vec<u8>, entry: &Entry, form: Form, count: usize) -> Re
     requires form { form ≡ form_for entry.now }
     requires count { count ≡ length (trimmed is_some (numbers_of entry.now)) }
     requires few { count ≤ 39 }
-    ensures { OnOk result (out.new.items ≡ out.old.items ++ flat_map (λ number. number_bytes form (number_cell form number)) (trimmed is_some (numbers_of entry.now))) }
+    ensures { OnOk result (out.new.items ≡
+        out.old.items ++ flat_map (λ number. number_bytes form (number_cell form number)) (trimmed is_some (numbers_of entry.now))) }
 {
     for position in 0..count {
         put_number(out, form, number_there(entry, position))?;
@@ -259,7 +261,8 @@ fn put_offsets(out: &mut Vec<u8>, entry: &Entry, count: usize) -> Result<(), All
     requires count { count ≡ length (trimmed is_some (strings_of entry.now)) }
     requires few { count ≤ 414 }
     requires small { length (table_of (trimmed is_some (strings_of entry.now))) < 65536 }
-    ensures { OnOk result (out.new.items ≡ out.old.items ++ flat_map word (offsets_from 0 (trimmed is_some (strings_of entry.now)))) }
+    ensures { OnOk result (out.new.items ≡
+        out.old.items ++ flat_map word (offsets_from 0 (trimmed is_some (strings_of entry.now)))) }
 {
     let mut place = 0;
     for position in 0..count {
@@ -310,7 +313,8 @@ fn put_header(out: &mut Vec<u8>, names: usize, plan: &Plan) -> Result<(), AllocE
     requires numbers { plan.now.numbers < 65536 }
     requires strings { plan.now.strings < 65536 }
     requires table { plan.now.table < 65536 }
-    ensures { OnOk result (out.new.items ≡ out.old.items ++ word (magic plan.now.form) ++ word names ++ word plan.now.flags ++ word plan.now.numbers ++ word plan.now.strings ++ word plan.now.table) }
+    ensures { OnOk result (out.new.items ≡
+        out.old.items ++ word (magic plan.now.form) ++ word names ++ word plan.now.flags ++ word plan.now.numbers ++ word plan.now.strings ++ word plan.now.table) }
 {
     put_word(out, magic(plan.form))?;
     put_word(out, names)?;

@@ -131,7 +131,8 @@ pub fn decode(file: &[u8]) -> Result<Packed<'_>, PackFault>
     // What is read lies in the file in the layout.
     ensures packed { IfOk result (λ packed. (rest : List ℕ) × IsPacked file.now packed rest) }
     // What lies in the file in the layout is read.
-    ensures only { (entry : Content) → (rest : List ℕ) → IsPacked file.now entry rest → IsOkAnd result (λ packed. packed ≡ entry) }
+    ensures only { (entry : Content) → (rest : List ℕ) → IsPacked file.now entry rest →
+        IsOkAnd result (λ packed. packed ≡ entry) }
 {
     read_file(file)
 }

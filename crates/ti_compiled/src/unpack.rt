@@ -91,7 +91,8 @@ fn has_long_string(parts: &Sections<'_>) -> bool
 fn put_string(parts: &Sections<'_>, position: usize, entry: &mut Entry) -> Result<(), AllocError>
     requires place { position < 414 }
     requires short { is_long_string (value_of (parts_view parts.now) kinds.String position) ≡ false }
-    ensures { OnOk result (entry.new ≡ with_row entry.old (83 + position) (value_of (parts_view parts.now) kinds.String position)) }
+    ensures { OnOk result (entry.new ≡
+        with_row entry.old (83 + position) (value_of (parts_view parts.now) kinds.String position)) }
 {
     let cap = cap_at(Kind::String, position);
     match string_in(parts, position) {

@@ -138,7 +138,8 @@ fn variable_of(letter: u8) -> Option<Variable>
 /// The variable whose letter stands at the front, and what follows it.
 #[inline(always)]
 fn variable_ahead(text: &[u8]) -> Result<(Variable, &[u8]), ParmFault>
-    ensures variable { (f : Variable → Action) → Answers (λ x. (Code.Act (f x.0), x.1.now)) result (variable_code f text.now) }
+    ensures variable { (f : Variable → Action) →
+        Answers (λ x. (Code.Act (f x.0), x.1.now)) result (variable_code f text.now) }
     ensures within { IfOk result (λ x. length x.1.now ≤ length text.now) }
 {
     let [letter, rest @ ..] = text else {

@@ -71,7 +71,8 @@ pub const PLAIN: Format = Format {
 
 /// The flags with the one at the front of a text, and what follows it.
 fn flag_ahead(flags: Flags, text: &[u8]) -> Option<(Flags, &[u8])>
-    ensures flag { MatchOption result (flag_at flags text.now ≡ None) (λ x. flag_at flags text.now ≡ Some (x.0, x.1.now)) }
+    ensures flag { MatchOption result (flag_at flags text.now ≡ None) (λ x. flag_at flags text.now ≡
+        Some (x.0, x.1.now)) }
     ensures shorter { IfSome result (λ x. length x.1.now < length text.now) }
 {
     let [byte, rest @ ..] = text else {

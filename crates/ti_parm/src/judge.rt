@@ -24,7 +24,8 @@ fn check_rest(nest: &mut Nest, text: &[u8]) -> Result<(), ParmFault>
 /// The first fault of the syntax from a place on that lies in these conditionals, or, if it has none,
 /// the fault that a run met before the place.
 pub fn first_fault(nest: &mut Nest, text: &[u8], fault: ParmFault) -> ParmFault
-    ensures { ((judged (ahead text.now).behind nest.old ≡ Ok tt) × (result ≡ fault)) ⊎ FailsBy result (judged (ahead text.now).behind nest.old) }
+    ensures { ((judged (ahead text.now).behind nest.old ≡ Ok tt) × (result ≡ fault)) ⊎
+        FailsBy result (judged (ahead text.now).behind nest.old) }
 {
     match check_rest(nest, text) {
         Ok(()) => fault,

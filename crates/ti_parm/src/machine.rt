@@ -95,7 +95,8 @@ impl<'a> Machine<'a> {
         nest: &mut Nest,
         out: &mut Vec<u8>,
     ) -> Result<&'s [u8], ParmFault>
-        ensures ok { IfOk result (λ rest. judged_ahead (ahead rest.now) nest.new (state_of self.new out.new.items) ≡ judged_ahead (before code (ahead behind.now)) nest.old (state_of self.old out.old.items)) }
+        ensures ok { IfOk result (λ rest. judged_ahead (ahead rest.now) nest.new (state_of self.new out.new.items) ≡
+            judged_ahead (before code (ahead behind.now)) nest.old (state_of self.old out.old.items)) }
         ensures fault { IfErr result (λ e. FailsBy e (judged_ahead (before code (ahead behind.now)) nest.old (state_of self.old out.old.items))) }
         ensures within { IfOk result (λ rest. length rest.now ≤ length behind.now) }
         ensures grows { Extends out.old.items out.new.items }
@@ -123,9 +124,13 @@ impl<'a> Machine<'a> {
         behind: &'s [u8],
         nest: &mut Nest,
     ) -> Result<&'s [u8], ParmFault>
-        ensures judged { IfOk result (λ rest. judged (ahead rest.now).behind nest.new ≡ judged (ahead behind.now).behind nest.old) }
-        ensures ok { IfOk result (λ rest. (output : List ℕ) → HasEnd (ahead behind.now).behind → run_ahead (ahead rest.now) (state_of self.new output) ≡ run_ahead (before (Code.Of mark) (ahead behind.now)) (state_of self.old output)) }
-        ensures fault { IfErr result (λ e. (output : List ℕ) → FailsBy e (judged_behind (judged (ahead behind.now).behind nest.old) (run_ahead (before (Code.Of mark) (ahead behind.now)) (state_of self.old output)))) }
+        ensures judged { IfOk result (λ rest. judged (ahead rest.now).behind nest.new ≡
+            judged (ahead behind.now).behind nest.old) }
+        ensures ok { IfOk result (λ rest. (output : List ℕ) → HasEnd (ahead behind.now).behind →
+            run_ahead (ahead rest.now) (state_of self.new output) ≡
+            run_ahead (before (Code.Of mark) (ahead behind.now)) (state_of self.old output)) }
+        ensures fault { IfErr result (λ e. (output : List ℕ) →
+            FailsBy e (judged_behind (judged (ahead behind.now).behind nest.old) (run_ahead (before (Code.Of mark) (ahead behind.now)) (state_of self.old output)))) }
         ensures within { IfOk result (λ rest. length rest.now ≤ length behind.now) }
     {
         match mark {
@@ -141,7 +146,8 @@ impl<'a> Machine<'a> {
 
     /// Takes the top of the stack: whether it is another number than 0.
     fn pop_test(&mut self) -> Result<bool, ParmFault>
-        ensures { (output : List ℕ) → Gives (λ holds. (holds, state_of self.new output)) result (pop_test self.old.stack (state_of self.old output)) }
+        ensures { (output : List ℕ) →
+            Gives (λ holds. (holds, state_of self.new output)) result (pop_test self.old.stack (state_of self.old output)) }
     {
         let number = self.stack.pop_number()?;
         Ok(number != 0)
@@ -175,7 +181,8 @@ impl<'a> Machine<'a> {
     /// Pushes a variable.
     #[tactic(auto, unfolding(crate::specs::Meaning::act))]
     fn get(&mut self, variable: Variable) -> Result<(), ParmFault>
-        ensures { (output : List ℕ) → Gives (λ _. state_of self.new output) result (act (Action.Get variable) (state_of self.old output)) }
+        ensures { (output : List ℕ) →
+            Gives (λ _. state_of self.new output) result (act (Action.Get variable) (state_of self.old output)) }
     {
         match variable {
             Variable::Dynamic(index) => self.stack.push_number(number_at(&self.dynamics, index)),
@@ -189,7 +196,8 @@ impl<'a> Machine<'a> {
     /// Takes a number and puts it into a variable.
     #[tactic(auto, unfolding(crate::specs::Meaning::act))]
     fn set(&mut self, variable: Variable) -> Result<(), ParmFault>
-        ensures { (output : List ℕ) → Gives (λ _. state_of self.new output) result (act (Action.Set variable) (state_of self.old output)) }
+        ensures { (output : List ℕ) →
+            Gives (λ _. state_of self.new output) result (act (Action.Set variable) (state_of self.old output)) }
     {
         let number = self.stack.pop_number()?;
         match variable {
@@ -205,7 +213,8 @@ impl<'a> Machine<'a> {
     /// Adds one to the first two parameters.
     #[tactic(auto, unfolding(crate::specs::Meaning::act))]
     fn increment(&mut self) -> Result<(), ParmFault>
-        ensures { (output : List ℕ) → Gives (λ _. state_of self.new output) result (act Action.Increment (state_of self.old output)) }
+        ensures { (output : List ℕ) →
+            Gives (λ _. state_of self.new output) result (act Action.Increment (state_of self.old output)) }
     {
         let first = one_more(self.params.get(0))?;
         let second = one_more(self.params.get(1))?;

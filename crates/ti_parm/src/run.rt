@@ -54,8 +54,10 @@ pub fn expand(
     statics: &mut Statics,
     out: &mut Vec<u8>,
 ) -> Result<(), ParmFault>
-    ensures ok { OnOk result ((end : State) × (meaning string.now (values_of params.now) statics.old ≡ Ok end) × (out.new.items ≡ out.old.items ++ end.output) × (statics.new ≡ end.statics)) }
-    ensures fault { IfErr result (λ e. (e ≡ ParmFault.NoMemory) ⊎ (meaning string.now (values_of params.now) statics.old ≡ Err e)) }
+    ensures ok { OnOk result ((end : State) × (meaning string.now (values_of params.now) statics.old ≡ Ok end) ×
+        (out.new.items ≡ out.old.items ++ end.output) × (statics.new ≡ end.statics)) }
+    ensures fault { IfErr result (λ e. (e ≡ ParmFault.NoMemory) ⊎
+        (meaning string.now (values_of params.now) statics.old ≡ Err e)) }
     ensures unwritten { OnErr result (out.new.items ≡ out.old.items) }
     ensures unset { OnErr result (statics.new ≡ statics.old) }
 {
@@ -86,7 +88,8 @@ pub fn sent(
     params: &[Param],
     out: &mut Vec<u8>,
 ) -> Result<(), ParmFault>
-    ensures ok { OnOk result ((bytes : List ℕ) × (sent string.now (values_of params.now) ≡ Ok bytes) × (out.new.items ≡ out.old.items ++ bytes)) }
+    ensures ok { OnOk result ((bytes : List ℕ) × (sent string.now (values_of params.now) ≡ Ok bytes) ×
+        (out.new.items ≡ out.old.items ++ bytes)) }
     ensures fault { IfErr result (λ e. (e ≡ ParmFault.NoMemory) ⊎ (sent string.now (values_of params.now) ≡ Err e)) }
     ensures unwritten { OnErr result (out.new.items ≡ out.old.items) }
 {
@@ -105,8 +108,10 @@ fn run_alone(
     params: &[Param],
     out: &mut Vec<u8>,
 ) -> Result<bool, ParmFault>
-    ensures ok { IfOk result (λ reads. (end : State) × (meaning string.now (values_of params.now) zeros ≡ Ok end) × (IsTrue reads ↔ ReadsUnset end) × (out.new.items ≡ out.old.items ++ end.output)) }
-    ensures fault { IfErr result (λ e. (e ≡ ParmFault.NoMemory) ⊎ (meaning string.now (values_of params.now) zeros ≡ Err e)) }
+    ensures ok { IfOk result (λ reads. (end : State) × (meaning string.now (values_of params.now) zeros ≡ Ok end) ×
+        (IsTrue reads ↔ ReadsUnset end) × (out.new.items ≡ out.old.items ++ end.output)) }
+    ensures fault { IfErr result (λ e. (e ≡ ParmFault.NoMemory) ⊎
+        (meaning string.now (values_of params.now) zeros ≡ Err e)) }
 {
     let statics = Statics::new();
     let mut machine = Machine::new(alloc, params, &statics);
@@ -122,8 +127,10 @@ fn run_alone(
 ///
 /// terminfo(5), "Parameterized Strings".
 pub fn reads_unset(alloc: Global, string: &[u8], params: &[Param]) -> Result<bool, ParmFault>
-    ensures ok { IfOk result (λ reads. (end : State) × (meaning string.now (values_of params.now) zeros ≡ Ok end) × (IsTrue reads ↔ ReadsUnset end)) }
-    ensures fault { IfErr result (λ e. (e ≡ ParmFault.NoMemory) ⊎ (meaning string.now (values_of params.now) zeros ≡ Err e)) }
+    ensures ok { IfOk result (λ reads. (end : State) × (meaning string.now (values_of params.now) zeros ≡ Ok end) ×
+        (IsTrue reads ↔ ReadsUnset end)) }
+    ensures fault { IfErr result (λ e. (e ≡ ParmFault.NoMemory) ⊎
+        (meaning string.now (values_of params.now) zeros ≡ Err e)) }
 {
     let mut out = Vec::new(alloc);
     run_alone(alloc, string, params, &mut out)
@@ -141,8 +148,10 @@ pub fn sent_and_reads_unset(
     params: &[Param],
     out: &mut Vec<u8>,
 ) -> Result<bool, ParmFault>
-    ensures ok { IfOk result (λ reads. (end : State) × (meaning string.now (values_of params.now) zeros ≡ Ok end) × (IsTrue reads ↔ ReadsUnset end) × (out.new.items ≡ out.old.items ++ strip end.output)) }
-    ensures fault { IfErr result (λ e. (e ≡ ParmFault.NoMemory) ⊎ (meaning string.now (values_of params.now) zeros ≡ Err e)) }
+    ensures ok { IfOk result (λ reads. (end : State) × (meaning string.now (values_of params.now) zeros ≡ Ok end) ×
+        (IsTrue reads ↔ ReadsUnset end) × (out.new.items ≡ out.old.items ++ strip end.output)) }
+    ensures fault { IfErr result (λ e. (e ≡ ParmFault.NoMemory) ⊎
+        (meaning string.now (values_of params.now) zeros ≡ Err e)) }
 {
     let start = out.len();
     let reads = run_alone(alloc, string, params, out)?;
@@ -153,14 +162,18 @@ pub fn sent_and_reads_unset(
 /// A string without `%` is written as it stands, whatever the parameters, and changes no static
 /// variable; and if it has no `$<` either, it is sent as it stands.
 pub fn plain_text_is_itself()
-    ensures written { (string : List ℕ) (given : List Value) (statics : List ℤ) → IsPlain string → meaning string given statics ≡ Ok (record (start_of given statics) { output = string }) }
-    ensures sent { (string : List ℕ) (given : List Value) (statics : List ℤ) → IsPlain string → HasNoOpening string → sent_with string given statics ≡ Ok string }
+    ensures written { (string : List ℕ) (given : List Value) (statics : List ℤ) → IsPlain string →
+        meaning string given statics ≡ Ok (record (start_of given statics) { output = string }) }
+    ensures sent { (string : List ℕ) (given : List Value) (statics : List ℤ) → IsPlain string → HasNoOpening string →
+        sent_with string given statics ≡ Ok string }
 {}
 
 /// Static variables that a string does not read before it sets them have no say in what it sends: from
 /// other ones, if they agree on those that it reads so, it has no fault either, and sends the same.
 pub fn unread_statics_have_no_say()
-    ensures { (string : List ℕ) (given : List Value) (one other : List ℤ) (end : State) → length one ≡ 26 → length other ≡ 26 → meaning string given one ≡ Ok end → Agree end one other → sent_with string given other ≡ sent_with string given one }
+    ensures { (string : List ℕ) (given : List Value) (one other : List ℤ) (end : State) → length one ≡ 26 →
+        length other ≡ 26 → meaning string given one ≡ Ok end → Agree end one other →
+        sent_with string given other ≡ sent_with string given one }
 {}
 
 /// A string has a syntax tree exactly if it spells that tree, by the grammar of codes and conditionals;
@@ -173,6 +186,8 @@ pub fn strings_spell_trees()
 /// For each string, parameters and static variables there is one answer and no other: what the tree does
 /// that the string spells, or, if it spells none, the first fault of its syntax.
 pub fn strings_have_one_answer()
-    ensures some { (string : List ℕ) (given : List Value) (statics : List ℤ) → IsAnswer string given statics (meaning string given statics) }
-    ensures one { (string : List ℕ) (given : List Value) (statics : List ℤ) (answer : Result State ParmFault) → IsAnswer string given statics answer → answer ≡ meaning string given statics }
+    ensures some { (string : List ℕ) (given : List Value) (statics : List ℤ) →
+        IsAnswer string given statics (meaning string given statics) }
+    ensures one { (string : List ℕ) (given : List Value) (statics : List ℤ) (answer : Result State ParmFault) →
+        IsAnswer string given statics answer → answer ≡ meaning string given statics }
 {}

@@ -29,8 +29,10 @@ fn depth_behind(code: Code, depth: usize, to_else: bool) -> Option<usize>
 /// syntax is judged on the way.
 #[inline(always)]
 pub fn skip<'s>(nest: &mut Nest, text: &'s [u8], to_else: bool) -> Result<&'s [u8], ParmFault>
-    ensures judged { IfOk result (λ rest. judged (ahead rest.now).behind nest.new ≡ judged (ahead text.now).behind nest.old) }
-    ensures past { IfOk result (λ rest. HasEnd (ahead text.now).behind → ahead rest.now ≡ past to_else 0 (ahead text.now).behind) }
+    ensures judged { IfOk result (λ rest. judged (ahead rest.now).behind nest.new ≡
+        judged (ahead text.now).behind nest.old) }
+    ensures past { IfOk result (λ rest. HasEnd (ahead text.now).behind →
+        ahead rest.now ≡ past to_else 0 (ahead text.now).behind) }
     ensures within { IfOk result (λ rest. length rest.now ≤ length text.now) }
     ensures fault { IfErr result (λ e. FailsBy e (judged (ahead text.now).behind nest.old)) }
 {

@@ -46,7 +46,8 @@ fn decide(decided: &mut [bool], cap: Cap)
 fn take_field(entry: &mut Entry, decided: &mut [bool], field: &Field) -> Result<(), AllocError>
     requires sized { length decided.old ≡ 497 }
     requires fits { FitsField field.now }
-    ensures { OnOk result (record { entry = entry.new; decided = decided.new } ≡ take_field (record { entry = entry.old; decided = decided.old }) field.now) }
+    ensures { OnOk result (record { entry = entry.new; decided = decided.new } ≡
+        take_field (record { entry = entry.old; decided = decided.old }) field.now) }
 {
     match field {
         Field::Include(_) => {}
@@ -65,7 +66,8 @@ fn take_field(entry: &mut Entry, decided: &mut [bool], field: &Field) -> Result<
 fn take_each(entry: &mut Entry, decided: &mut [bool], fields: &[Field]) -> Result<(), AllocError>
     requires sized { length decided.old ≡ 497 }
     requires fits { AllByRecursion FitsField fields.now }
-    ensures { OnOk result (record { entry = entry.new; decided = decided.new } ≡ take_fields (record { entry = entry.old; decided = decided.old }) fields.now) }
+    ensures { OnOk result (record { entry = entry.new; decided = decided.new } ≡
+        take_fields (record { entry = entry.old; decided = decided.old }) fields.now) }
 {
     for field in fields {
         take_field(entry, decided, field)?;
@@ -83,7 +85,8 @@ fn take_entries(
 ) -> Result<(), AllocError>
     requires sized { length decided.old ≡ 497 }
     requires fit { AllByRecursion IsRaw raws.now }
-    ensures { OnOk result (record { entry = entry.new; decided = decided.new } ≡ take_fields (record { entry = entry.old; decided = decided.old }) (fields_of_all raws.now places.now)) }
+    ensures { OnOk result (record { entry = entry.new; decided = decided.new } ≡
+        take_fields (record { entry = entry.old; decided = decided.old }) (fields_of_all raws.now places.now)) }
 {
     for place in places {
         take_each(entry, decided, fields_of(raws, *place))?;

@@ -22,8 +22,11 @@ impl Row {
 /// Whether the effect of these tokens from the row's start is the one that the table asks for. If so,
 /// every text of these tokens does what is wanted of the row, from each of its starts.
 pub fn does_as_wanted(row: Row, looks: Looks, size: Size, tokens: &[Token]) -> bool
-    ensures right { IsTrue result → (bytes : List ℕ) → Splits bytes tokens.now [] → IsRight size.rows size.cols looks row bytes }
-    ensures complete { (effect : Effect) → record_of size.rows size.cols (spec.start_of size.rows size.cols row) tokens.now ≡ Some effect → effect ≡ spec.asked looks row effect → IsTrue result }
+    ensures right { IsTrue result → (bytes : List ℕ) → Splits bytes tokens.now [] →
+        IsRight size.rows size.cols looks row bytes }
+    ensures complete { (effect : Effect) →
+        record_of size.rows size.cols (spec.start_of size.rows size.cols row) tokens.now ≡ Some effect →
+        effect ≡ spec.asked looks row effect → IsTrue result }
 {
     match effect_of(tokens, size, &row.start(size)) {
         None => false,

@@ -10,9 +10,11 @@ ghost use Rattle.vt_effects.specs.Basic.{HasRecord, home_text, clear_text, el_te
 /// place, to make the rendition plain, to go home, and to erase to the line's end.
 pub fn basic_records()
     ensures clear { (rows cols : ℕ) (start : Start) → IsSize rows cols → HasRecord rows cols start clear_text cleared }
-    ensures cup { (rows cols row col : ℕ) (start : Start) → IsSize rows cols → row < rows → col < cols → HasRecord rows cols start (cursor_to row col) (placed_at row col) }
+    ensures cup { (rows cols row col : ℕ) (start : Start) → IsSize rows cols → row < rows → col < cols →
+        HasRecord rows cols start (cursor_to row col) (placed_at row col) }
     ensures sgr0 { (rows cols : ℕ) (start : Start) → IsSize rows cols → HasRecord rows cols start sgr0_text made_plain }
-    ensures home { (rows cols : ℕ) (start : Start) → IsSize rows cols → HasRecord rows cols start home_text (placed_at 0 0) }
+    ensures home { (rows cols : ℕ) (start : Start) → IsSize rows cols →
+        HasRecord rows cols start home_text (placed_at 0 0) }
     ensures el { (rows cols : ℕ) (start : Start) → IsSize rows cols → HasRecord rows cols start el_text tail_erased }
 {}
 

@@ -157,7 +157,8 @@ fn push_look(
     last: usize,
     cell: &Cell,
 ) -> Result<(), AllocError>
-    ensures { OnOk result (text.new.items ≡ text.old.items ++ spec.look_text row first last (spec.style_text cell.now)) }
+    ensures { OnOk result (text.new.items ≡
+        text.old.items ++ spec.look_text row first last (spec.style_text cell.now)) }
 {
     let style = style_text(alloc, cell)?;
     if style.is_empty() {

@@ -10,12 +10,14 @@ ghost use Rattle.vt_term.specs.Run.{Runs, RunsCut, Sticks};
 
 /// A text falls into tokens and an open rest in one way at most.
 pub fn one_splitting()
-    ensures { (text : List ℕ) (ts us : List (List ℕ)) (r q : List ℕ) → Splits text ts r → Splits text us q → (us ≡ ts) × (q ≡ r) }
+    ensures { (text : List ℕ) (ts us : List (List ℕ)) (r q : List ℕ) → Splits text ts r → Splits text us q →
+        (us ≡ ts) × (q ≡ r) }
 {}
 
 /// A text goes on after its rest.
 pub fn splits_join()
-    ensures { (a b : List ℕ) (ts us : List (List ℕ)) (r q : List ℕ) → Splits a ts r → Splits (r ++ b) us q → Splits (a ++ b) (ts ++ us) q }
+    ensures { (a b : List ℕ) (ts us : List (List ℕ)) (r q : List ℕ) → Splits a ts r → Splits (r ++ b) us q →
+        Splits (a ++ b) (ts ++ us) q }
 {}
 
 /// A front of a text that can be split can be split.
@@ -45,12 +47,14 @@ pub fn runs_keep()
 
 /// A text of whole tokens is run where nothing is open.
 pub fn text_runs()
-    ensures { (s : State) (a : List ℕ) (ts : List (List ℕ)) → s.rest ≡ [] → Splits a ts [] → Runs s a (record { screen = steps ts s.screen; rest = [] }) }
+    ensures { (s : State) (a : List ℕ) (ts : List (List ℕ)) → s.rest ≡ [] → Splits a ts [] →
+        Runs s a (record { screen = steps ts s.screen; rest = [] }) }
 {}
 
 /// What sticks after a run sticks so much later in both together.
 pub fn sticks_join()
-    ensures { (s t u : State) (a b : List ℕ) (k : ℕ) → Runs s a t → Sticks t b k u → Sticks s (a ++ b) (length a + k) u }
+    ensures { (s t u : State) (a b : List ℕ) (k : ℕ) → Runs s a t → Sticks t b k u →
+        Sticks s (a ++ b) (length a + k) u }
 {}
 
 /// A text sticks at one place at most.
@@ -70,22 +74,26 @@ pub fn sticks_first()
 
 /// The run of a whole text ends with nothing open.
 pub fn whole_text_rests()
-    ensures { (s t : State) (a : List ℕ) (ts : List (List ℕ)) → s.rest ≡ [] → Splits a ts [] → Runs s a t → t.rest ≡ [] }
+    ensures { (s t : State) (a : List ℕ) (ts : List (List ℕ)) → s.rest ≡ [] → Splits a ts [] → Runs s a t →
+        t.rest ≡ [] }
 {}
 
 /// To run a whole text and then another text is to run both as one.
 pub fn whole_text_first()
-    ensures { (s t : State) (a b : List ℕ) (ts : List (List ℕ)) → s.rest ≡ [] → Splits a ts [] → Runs s (a ++ b) t → Runs (record { screen = steps ts s.screen; rest = [] }) b t }
+    ensures { (s t : State) (a b : List ℕ) (ts : List (List ℕ)) → s.rest ≡ [] → Splits a ts [] → Runs s (a ++ b) t →
+        Runs (record { screen = steps ts s.screen; rest = [] }) b t }
 {}
 
 /// The tokens of a front of a text are a front of its tokens.
 pub fn front_tokens()
-    ensures { (front more : List ℕ) (ts us : List (List ℕ)) (rest last : List ℕ) → Splits front ts rest → Splits (front ++ more) us last → GoesOn ts us rest more last }
+    ensures { (front more : List ℕ) (ts us : List (List ℕ)) (rest last : List ℕ) → Splits front ts rest →
+        Splits (front ++ more) us last → GoesOn ts us rest more last }
 {}
 
 /// ESC drops what is open: a text that begins with it runs as if nothing had been open.
 pub fn escape_drops()
-    ensures { (s t : State) (bytes : List ℕ) → IsOpen s.rest → Runs (record s { rest = [] }) (27 ∷ bytes) t → Runs s (27 ∷ bytes) t }
+    ensures { (s t : State) (bytes : List ℕ) → IsOpen s.rest → Runs (record s { rest = [] }) (27 ∷ bytes) t →
+        Runs s (27 ∷ bytes) t }
 {}
 
 /// SO, SI and SCS change the character sets as they say, and no other function changes them.

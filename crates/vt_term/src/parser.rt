@@ -177,7 +177,8 @@ impl Parser {
 
 /// What the token asks for that this byte ends.
 pub(crate) fn ended(stage: ParserState, numbers: &[Option<u16>], byte: u8) -> Function<'_>
-    ensures { (begun : List ℕ) → IsAt stage numbers.now begun → IsWhole (begun ++ byte ∷ []) → result ≡ function_of (begun ++ byte ∷ []) }
+    ensures { (begun : List ℕ) → IsAt stage numbers.now begun → IsWhole (begun ++ byte ∷ []) →
+        result ≡ function_of (begun ++ byte ∷ []) }
 {
     match stage {
         ParserState::Outside => single(byte),
@@ -238,7 +239,8 @@ fn transition_inside(closed: bool, byte: u8, has_room: bool) -> Transition
 /// The stage and the numbers after one byte more, with which the sequence stays open.
 fn behind(stage: ParserState, numbers: &mut Vec<Option<u16>>, byte: u8) -> ParserState
     requires { length numbers.old.items < vec_capacity numbers.old }
-    ensures at { (begun : List ℕ) → IsAt stage numbers.old.items begun → IsOpen (begun ++ byte ∷ []) → IsAt result numbers.new.items (begun ++ byte ∷ []) }
+    ensures at { (begun : List ℕ) → IsAt stage numbers.old.items begun → IsOpen (begun ++ byte ∷ []) →
+        IsAt result numbers.new.items (begun ++ byte ∷ []) }
     ensures few { length numbers.new.items ≤ length numbers.old.items + 1 }
     ensures room { vec_capacity numbers.old ≤ vec_capacity numbers.new }
 {
@@ -282,8 +284,10 @@ fn behind_escape(numbers: &mut Vec<Option<u16>>, byte: u8) -> ParserState
 fn behind_number(stage: ParserState, numbers: &mut Vec<Option<u16>>, byte: u8) -> ParserState
     requires { length numbers.old.items < vec_capacity numbers.old }
     ensures stage { spec.is_numeral byte ≡ true → result ≡ stage }
-    ensures numbers { spec.is_numeral byte ≡ true → (front : List ℕ) → numbers.old.items ≡ spec.numbers front → numbers.new.items ≡ spec.numbers (front ++ byte ∷ []) }
-    ensures unnamed { spec.is_numeral byte ≡ false → (begun : List ℕ) → NamesNothing (begun ++ byte ∷ []) → IsAt result numbers.new.items (begun ++ byte ∷ []) }
+    ensures numbers { spec.is_numeral byte ≡ true → (front : List ℕ) → numbers.old.items ≡ spec.numbers front →
+        numbers.new.items ≡ spec.numbers (front ++ byte ∷ []) }
+    ensures unnamed { spec.is_numeral byte ≡ false → (begun : List ℕ) → NamesNothing (begun ++ byte ∷ []) →
+        IsAt result numbers.new.items (begun ++ byte ∷ []) }
     ensures few { length numbers.new.items ≤ length numbers.old.items + 1 }
     ensures room { vec_capacity numbers.old ≤ vec_capacity numbers.new }
 {
@@ -297,7 +301,8 @@ fn behind_number(stage: ParserState, numbers: &mut Vec<Option<u16>>, byte: u8) -
 
 /// The stage after a byte of a control sequence that names no function.
 fn unnamed(byte: u8) -> ParserState
-    ensures { (begun : List ℕ) (numbers : List (Option ℕ)) → NamesNothing (begun ++ byte ∷ []) → IsAt result numbers (begun ++ byte ∷ []) }
+    ensures { (begun : List ℕ) (numbers : List (Option ℕ)) → NamesNothing (begun ++ byte ∷ []) →
+        IsAt result numbers (begun ++ byte ∷ []) }
 {
     match byte {
         0x20..=0x2f => ParserState::Closed,
@@ -309,7 +314,8 @@ fn unnamed(byte: u8) -> ParserState
 fn read_numeral(numbers: &mut Vec<Option<u16>>, byte: u8)
     requires numeral { spec.is_numeral byte ≡ true }
     requires room { length numbers.old.items < vec_capacity numbers.old }
-    ensures numbers { (front : List ℕ) → numbers.old.items ≡ spec.numbers front → numbers.new.items ≡ spec.numbers (front ++ byte ∷ []) }
+    ensures numbers { (front : List ℕ) → numbers.old.items ≡ spec.numbers front →
+        numbers.new.items ≡ spec.numbers (front ++ byte ∷ []) }
     ensures few { length numbers.new.items ≤ length numbers.old.items + 1 }
     ensures room { vec_capacity numbers.old ≤ vec_capacity numbers.new }
 {

@@ -89,7 +89,8 @@ impl Scanner {
         requires { from ≤ length text.now }
         ensures token { IfOk result (λ found. IfSome found (λ end. IsTokenAt text.now from end self.new)) }
         ensures end { IfOk result (λ found. found ≡ None → from ≡ length text.now) }
-        ensures fault { IfErr result (λ e. (tokens : List (List ℕ)) → Begins text.now tokens (drop from text.now) → HasFault text.now e) }
+        ensures fault { IfErr result (λ e. (tokens : List (List ℕ)) → Begins text.now tokens (drop from text.now) →
+            HasFault text.now e) }
     {
         self.last = None;
         self.parser.clear();

@@ -84,8 +84,10 @@ impl Token {
 
 /// Where a text of these tokens leaves the cursor from every state at rest, if its last token says so.
 pub fn place_after(tokens: &[Token], size: Size) -> Option<(usize, usize)>
-    ensures leads { IfSome result (λ place. (bytes : List ℕ) → Splits bytes tokens.now [] → Reaches size.rows size.cols bytes place.0 place.1) }
-    ensures last { (front : List (List ℕ)) (token : List ℕ) → tokens.now ≡ front ++ token ∷ [] → result ≡ place_of size.rows size.cols token }
+    ensures leads { IfSome result (λ place. (bytes : List ℕ) → Splits bytes tokens.now [] →
+        Reaches size.rows size.cols bytes place.0 place.1) }
+    ensures last { (front : List (List ℕ)) (token : List ℕ) → tokens.now ≡ front ++ token ∷ [] →
+        result ≡ place_of size.rows size.cols token }
     ensures empty { tokens.now ≡ [] → result ≡ None }
 {
     match tokens {
