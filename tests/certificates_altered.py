@@ -1,4 +1,4 @@
-"""A small certificate cut at each length, and with each byte set to many other values, beside a plain judge.
+"""A small certificate cut at each length, and with each byte set to each other value, beside a plain judge.
 
 The judge cuts the text into lines and words, runs the bytes of a line on a small terminal from each start, and compares the
 ends with what the capability's row asks for."""
@@ -365,17 +365,13 @@ def judge_line(number, line, place, sent):
     return rank + 1
 
 
-# printed characters, and a few bytes that aren't
-VALUES = [*range(32, 127), 0, 10, 13, 27, 127, 128, 255]
-
-
 def variants(text):
-    """The text, each front of it, and the text with each byte set to each other of these values."""
+    """The text, each front of it, and the text with each byte set to each other value."""
     yield text
     for size in range(len(text)):
         yield text[:size]
     for at, old in enumerate(text):
-        for value in VALUES:
+        for value in range(256):
             if value != old:
                 yield text[:at] + bytes([value]) + text[at + 1 :]
 

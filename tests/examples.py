@@ -35,6 +35,12 @@ xc|xterm colours,
 EVEN = bytes.fromhex("1a01 0400 0200 0100 0000 0000 617c6200 0001 5000")
 STRING = bytes.fromhex("1a01 0200 0000 0000 0700 0400 6d00 ffffffffffffffffffffffff 0000 1b5b4b00")
 WIDE = bytes.fromhex("1e02 0400 0200 0100 0000 0000 617c6200 0001 409c0000")
+PACKED_MINI = (
+    bytes.fromhex("1a010c000000000028001d00")
+    + b"mini|sample\0"
+    + b"".join(struct.pack("<h", {5: 0, 10: 8, 39: 25}.get(at, -1)) for at in range(40))
+    + b"\x1b[H\x1b[2J\0\x1b[%i%p1%d;%p2%dH\0\x1b[m\0"
+)
 CERTIFICATE = (
     b"ticert 2 2 2\n"
     b"clear 1b5b481b5b324a row=0 col=0 nopend all\n"
@@ -109,6 +115,9 @@ FILES = {
     "even_swapped": b"\1\x1a" + EVEN[2:],
     "unpadded": bytes.fromhex("1a01 0300 0200 0100 0000 0000 616200 0001 5000"),
     "string.out": STRING,
+    "mini.out": PACKED_MINI,
+    "largest": b"a|a,\n" + b"#" * (16_777_216 - 6) + b"\n",
+    "past_limit": b"a|a,\n" + b"#" * (16_777_217 - 6) + b"\n",
     "past_table": STRING[:26] + b"\4" + STRING[27:],
     "open_string": STRING[:-1] + b"\1",
     "wide.out": WIDE,
@@ -311,6 +320,9 @@ RUNS = [
     (["infocmp", "no_names_long"], 1, "", "refused: BadNames\n"),
     (["infocmp", "longest"], 0, "a|b,\n\tam,\n\tcols#80,\n", ""),
     (["infocmp", "too_long"], 3, "", "file: too_long\n"),
+    (["infocmp", "mini.out"], 0, f"mini|sample,\n\tclear=\\E[H\\E[2J,\n\tcup={CUP},\n\tsgr0=\\E[m,\n", ""),
+    (["infocmp", "largest:a"], 0, "a|a,\n", ""),
+    (["infocmp", "past_limit:a"], 3, "", "file: past_limit\n"),
     (["infocmp", "absent"], 3, "", "file: absent\n"),
     (["infocmp", "absent:a"], 3, "", "file: absent\n"),
     (["infocmp", "-c", "even_short", "absent"], 1, "", "refused: Short\n"),
@@ -482,13 +494,7 @@ WRITTEN = [
     ("wide:a", WIDE),
     ("widest:a", WIDE[:-4] + b"\xff\xff\xff\x7f"),
     ("not_wide:a", EVEN[:-2] + b"\xff\x7f"),
-    (
-        "mini:mini",
-        bytes.fromhex("1a010c000000000028001d00")
-        + b"mini|sample\0"
-        + b"".join(struct.pack("<h", {5: 0, 10: 8, 39: 25}.get(at, -1)) for at in range(40))
-        + b"\x1b[H\x1b[2J\0\x1b[%i%p1%d;%p2%dH\0\x1b[m\0",
-    ),
+    ("mini:mini", PACKED_MINI),
     ("large:m", packed(4079)),
     ("too_large:m", None),
     ("large_wide:m", packed(*[4095] * 7, 4061, number=40000)),
