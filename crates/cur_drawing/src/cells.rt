@@ -176,6 +176,7 @@ pub fn all_cells(cells: &[Cell])
     ensures { (k : ℕ) → k < length cells.now → IsCell (slice_index_or cells.now k space) }
 {
     for k in 0..cells.len() {
+        // here the prover learns what a cell holds; the loop does nothing else
         let _ = (cells[k].byte(), cells[k].pair());
     }
 }

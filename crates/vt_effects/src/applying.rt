@@ -13,6 +13,7 @@ pub fn apply(effect: &Effect, terminal: &mut Terminal)
     requires { spec.Applies effect.now terminal.old.screen }
     ensures { terminal.new ≡ record terminal.old { screen = spec.applied effect.now terminal.old.screen } }
 {
+    // here the prover learns the invariant of the terminal
     let _ = terminal.size();
     erase(effect.erasure, terminal);
     scroll(effect.scroll, terminal);

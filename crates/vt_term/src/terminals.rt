@@ -58,6 +58,7 @@ impl Terminal {
         ensures rows { self.new.screen.rows ≡ self.old.screen.rows }
         ensures cols { self.new.screen.cols ≡ self.old.screen.cols }
     {
+        // here the prover learns the invariant of the terminal
         let _ = &self.parser;
         let mut at = 0;
         while at < bytes.len() {
@@ -98,6 +99,7 @@ impl Terminal {
         ensures rows { self.new.screen.rows ≡ self.old.screen.rows }
         ensures cols { self.new.screen.cols ≡ self.old.screen.cols }
     {
+        // here the prover learns the invariant of the display
         let _ = self.display.size();
         self.display.print_front(bytes)
     }
@@ -111,10 +113,12 @@ impl Terminal {
         ensures rows { self.new.screen.rows ≡ self.old.screen.rows }
         ensures cols { self.new.screen.cols ≡ self.old.screen.cols }
     {
+        // here the prover learns the invariant of the terminal
         let _ = &self.parser;
         let mut numbers = [None; 16];
         match read_parameters(bytes, &mut numbers) {
             Some(found) => {
+                // here the prover learns the invariant of the display
                 let _ = self.display.size();
                 self.display
                     .act(of_numbers(found.last, &numbers[..found.count]));
@@ -132,10 +136,12 @@ impl Terminal {
         ensures rows { self.new.screen.rows ≡ self.old.screen.rows }
         ensures cols { self.new.screen.cols ≡ self.old.screen.cols }
     {
+        // here the prover learns the invariant of the terminal
         let _ = &self.parser;
         let mut numbers = [None; 16];
         match read_parameters(bytes, &mut numbers) {
             Some(found) => {
+                // here the prover learns the invariant of the display
                 let _ = self.display.size();
                 let function = of_private_numbers(found.last, &numbers[..found.count]);
                 self.display.act(function);
@@ -157,6 +163,7 @@ impl Terminal {
                 true
             }
             Transition::Ends => {
+                // here the prover learns the invariant of the display
                 let _ = self.display.size();
                 self.display.act(self.parser.function(byte));
                 self.parser.clear();
@@ -184,6 +191,7 @@ impl Terminal {
         ensures cols { result.cols ≡ self.now.screen.cols }
         ensures state { IsState self.now }
     {
+        // here the prover learns the invariant of the terminal
         let _ = &self.display;
         self.display.size()
     }
