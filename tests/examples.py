@@ -1,5 +1,6 @@
 """Whole runs of the program: the words, the status, standard output and standard error."""
 
+import contextlib
 import os
 import pty
 import shutil
