@@ -10,7 +10,7 @@ ghost use Rattle.ti_resolve.specs.Walk.{Gives, FailsBy, enter, walk_of};
 use crate::faults::ResolveFault;
 use crate::fill::filled;
 use crate::search::{Index, names_of};
-use crate::walk::{MOST_USED, enter};
+use crate::walk::{Destination, MOST_USED, enter};
 use std::alloc::Global;
 use ti_caps::Entry;
 use ti_source::RawEntry;
@@ -27,15 +27,8 @@ fn entered_from(
 {
     let mut chain = Vec::new(alloc);
     let mut entered = Vec::new(alloc);
-    enter(
-        alloc,
-        index,
-        MOST_USED + 1,
-        name,
-        root,
-        &mut chain,
-        &mut entered,
-    )?;
+    let to = Destination { name, place: root };
+    enter(alloc, index, MOST_USED + 1, to, &mut chain, &mut entered)?;
     Ok(entered)
 }
 

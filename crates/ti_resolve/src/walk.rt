@@ -12,6 +12,13 @@ use ti_source::Field;
 /// The most entries that uses reach, beside the one asked for.
 pub(crate) const MOST_USED: usize = 64;
 
+/// An entry by its place among all, and the name that led to it.
+#[derive(Clone, Copy)]
+pub(crate) struct Destination<'a> {
+    pub(crate) name: &'a [u8],
+    pub(crate) place: usize,
+}
+
 /// Where a use leads: to an entry that is to be entered, or to one that was.
 #[tactic(auto, using(crate::proofs::Told::told_fails), unfolding(crate::specs::Walk::target))]
 fn lead(
@@ -39,7 +46,7 @@ fn lead(
     Ok(Some(place))
 }
 
-/// Enters the entry at a place, which this name led to, and then all that it uses.
+/// Enters the entry `to`, and then all that it uses.
 ///
 /// An entry is entered once, and never more than 65 of them, so that calls nest no deeper than 65 and each
 /// field of an entered entry is looked at once, however often and in whatever diamonds entries are used.
@@ -48,25 +55,24 @@ pub(crate) fn enter(
     alloc: Global,
     index: &Index<'_>,
     depth: usize,
-    name: &[u8],
-    place: usize,
+    to: Destination<'_>,
     chain: &mut Vec<usize>,
     entered: &mut Vec<usize>,
 ) -> Result<(), ResolveFault>
-    requires { place < length index.now.raws.now }
-    ensures walk { Gives (λ _. entered.new.items) result (enter depth index.now.raws.now chain.old.items name.now place entered.old.items) }
+    requires { to.place < length index.now.raws.now }
+    ensures walk { Gives (λ _. entered.new.items) result (enter depth index.now.raws.now chain.old.items to.entry.name.now to.entry.place entered.old.items) }
     ensures chain { OnOk result (chain.new.items ≡ chain.old.items) }
 {
     if depth == 0 {
-        return Err(ResolveFault::too_many(alloc, name));
+        return Err(ResolveFault::too_many(alloc, to.name));
     }
-    chain.push(place)?;
-    entered.push(place)?;
+    chain.push(to.place)?;
+    entered.push(to.place)?;
     follow_all(
         alloc,
         index,
         depth - 1,
-        index.fields_of(place),
+        index.fields_of(to.place),
         chain,
         entered,
     )?;
@@ -127,6 +133,13 @@ fn follow(
 {
     match lead(alloc, index, name, chain.as_slice(), entered.as_slice())? {
         None => Ok(()),
-        Some(place) => enter(alloc, index, depth, name, place, chain, entered),
+        Some(place) => enter(
+            alloc,
+            index,
+            depth,
+            Destination { name, place },
+            chain,
+            entered,
+        ),
     }
 }

@@ -6,17 +6,17 @@ use Rattle.ti_resolve.proofs.walk.+walk.Goals as goal
 
 pub enter-returns-then-depth-eq0-clause-walk : goal.enter-returns-then-depth-eq0-clause-walk
 enter-returns-then-depth-eq0-clause-walk t c =
-    told_fails _ _ _ c.too_many.ensures (enter_none c.args.depth c.args.index.now.raws.now c.args.chain.now.items c.args.name.now c.args.place c.args.entered.now.items c.if-depth-eq0.true)
+    told_fails _ _ _ c.too_many.ensures (enter_none c.args.depth c.args.index.now.raws.now c.args.chain.now.items c.args.to.name.now c.args.to.place c.args.entered.now.items c.if-depth-eq0.true)
 
 pub enter-returns-in_err-follow_all-clause-walk : goal.enter-returns-in_err-follow_all-clause-walk
 enter-returns-in_err-follow_all-clause-walk t c =
     let p = err_from_is_err_and c.from_residual-in_err-follow_all.result c.from_residual-in_err-follow_all.ensures.1 in
-    let is = enter_is c.args.depth c.args.index.now.raws.now c.args.chain.now.items c.args.name.now c.args.place c.args.entered.now.items _ _ _ c.if-depth-eq0.false c.in_ok-push.ensures.items c.in_ok-push-2.ensures.items c.fields_of.ensures in
+    let is = enter_is c.args.depth c.args.index.now.raws.now c.args.chain.now.items c.args.to.name.now c.args.to.place c.args.entered.now.items _ _ _ c.if-depth-eq0.false c.in_ok-push.ensures.items c.in_ok-push-2.ensures.items c.fields_of.ensures in
     rw (p.1, p.2) (subst (FailsBy c.in_err-follow_all.field-0.0) is c.in_err-follow_all.ensures.walk)
 
 pub enter-returns-clause-walk : goal.enter-returns-clause-walk
 enter-returns-clause-walk t c =
-    sym (enter_is c.args.depth c.args.index.now.raws.now c.args.chain.now.items c.args.name.now c.args.place c.args.entered.now.items _ _ _ c.if-depth-eq0.false c.in_ok-push.ensures.items c.in_ok-push-2.ensures.items c.fields_of.ensures) ∙ c.in_ok-follow_all.ensures.walk
+    sym (enter_is c.args.depth c.args.index.now.raws.now c.args.chain.now.items c.args.to.name.now c.args.to.place c.args.entered.now.items _ _ _ c.if-depth-eq0.false c.in_ok-push.ensures.items c.in_ok-push-2.ensures.items c.fields_of.ensures) ∙ c.in_ok-follow_all.ensures.walk
 
 pub follow_all-returns-in_err-follow_field-clause-walk : goal.follow_all-returns-in_err-follow_field-clause-walk
 follow_all-returns-in_err-follow_field-clause-walk t c =
