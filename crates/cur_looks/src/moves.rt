@@ -1,6 +1,6 @@
 //! The row by which the cursor moves: of those that lead to a place, one with the shortest line.
 ghost use Rattle.std.specs.Prelude.{ℕ, ◌≡◌, ◌<◌, ◌≤◌, length, Option, Some, IfSome};
-ghost use Rattle.ti_conforms.specs.Certified.{text_of};
+ghost use Rattle.ti_conforms.specs.Certified.{IsChecked, text_of};
 ghost use Rattle.cur_looks.specs.Beliefs.{Place};
 ghost use Rattle.cur_looks.specs.Moves.{Moves, IsAtMost, IsWay};
 ghost use Rattle.ti_rows.specs.declared.rows.Row.{Row};
@@ -19,17 +19,18 @@ pub(crate) struct Way {
 
 /// A row with the shortest line that leads from what is known of the cursor's place to this one.
 pub(crate) fn shortest<C: Certificate>(checked: &C, from: Option<Place>, row: u16, col: u16) -> Way
+    requires checked { IsChecked (C.table checked.now) }
     requires row { row < (C.table checked.now).rows }
     requires col { col < (C.table checked.now).cols }
     ensures way { IsWay (C.table checked.now) from row col result.line }
     ensures bytes { result.bytes ≡ length (text_of (C.table checked.now) result.line) }
-    ensures least { (line : Row) → Moves (C.table checked.now).cols from row col line → IsAtMost (C.table checked.now) result.bytes line }
+    ensures least { (line : Row) → Moves (C.table checked.now).cols from row col line
+        → IsAtMost (C.table checked.now) result.bytes line }
 {
     let best = shorter(checked, straight(checked, row, col), by_corner(row, col));
     let Some(at) = from else {
         return best;
     };
-    let _ = checked.rows();
     let cols = checked.cols();
     let best = shorter(checked, best, by_line_start(at, row, col));
     let best = shorter(checked, best, by_one(at, row, col, cols));
@@ -40,13 +41,13 @@ pub(crate) fn shortest<C: Certificate>(checked: &C, from: Option<Place>, row: u1
 
 /// `cup`.
 fn straight<C: Certificate>(checked: &C, row: u16, col: u16) -> Way
+    requires checked { IsChecked (C.table checked.now) }
     requires row { row < (C.table checked.now).rows }
     requires col { col < (C.table checked.now).cols }
     ensures line { result.line ≡ Cup row col }
     ensures way { (from : Option Place) → IsWay (C.table checked.now) from row col result.line }
     ensures bytes { result.bytes ≡ length (text_of (C.table checked.now) result.line) }
 {
-    let _ = checked.rows();
     let line = Row::Cup(row, col);
     Way {
         line,
@@ -67,7 +68,8 @@ fn line_length<C: Certificate>(checked: &C, line: Row) -> usize
 /// The other row if its line is there and is the shorter one.
 fn shorter<C: Certificate>(checked: &C, best: Way, other: Option<Row>) -> Way
     requires bytes { best.bytes ≡ length (text_of (C.table checked.now) best.line) }
-    ensures way { (from : Option Place) (row col : ℕ) → IsWay (C.table checked.now) from row col best.line → IfSome other (λ line. Moves (C.table checked.now).cols from row col line)
+    ensures way { (from : Option Place) (row col : ℕ) → IsWay (C.table checked.now) from row col best.line
+        → IfSome other (λ line. Moves (C.table checked.now).cols from row col line)
         → IsWay (C.table checked.now) from row col result.line }
     ensures bytes { result.bytes ≡ length (text_of (C.table checked.now) result.line) }
     ensures first { result.bytes ≤ best.bytes }

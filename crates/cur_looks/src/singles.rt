@@ -1,13 +1,11 @@
 //! Attributes by strings of their own, for entries without `sgr`.
 ghost use Rattle.std.specs.Prelude.{◌≡◌, ◌<◌, ℕ, false, Option, Some, None, OnOk, length};
-ghost use Rattle.cur_wires.specs.Steps.{Steps};
 ghost use Rattle.ti_rows.specs.declared.rows.Row.TheVariants.{Sgr, Sgr0};
-ghost use Rattle.ti_conforms.specs.Certified.{IsPiece, IsLost, has, text_of, lengths};
+ghost use Rattle.ti_conforms.specs.Certified.{IsChecked, has, text_of, lengths};
 ghost use Rattle.cur_looks.specs.Inks.{no_attributes, plain_brush};
-ghost use Rattle.cur_looks.specs.Beliefs.{Agrees, Belief};
 ghost use Rattle.cur_looks.specs.Singles as spec;
 ghost use Rattle.cur_looks.specs.declared.inks.Brush.{Brush};
-ghost use Rattle.cur_looks.specs.declared.inks.Ink.{Ink};
+ghost use Rattle.cur_looks.specs.Steps.{Keeps};
 
 use crate::beliefs::Belief;
 use crate::inks::Brush;
@@ -56,11 +54,11 @@ fn strip<C: Certificate, W: Wire>(
     belief: &mut Belief,
     wire: &mut W,
 ) -> Result<(), WireFault>
+    requires checked { IsChecked (C.table checked.now) }
     ensures belief { belief.new ≡ record belief.old { brush = plain_brush; graphic = None } }
-    ensures step { (g : ℕ → ℕ → Ink) → Steps W.went W.failures wire.old wire.new result (IsPiece (C.table checked.now)) (length (text_of (C.table checked.now) Sgr0))
-        (IsLost (C.table checked.now)) (Agrees (C.table checked.now) g belief.old) (Agrees (C.table checked.now) g belief.new) }
+    ensures step { Keeps W.went W.failures wire.old wire.new result (C.table checked.now)
+        (length (text_of (C.table checked.now) Sgr0)) belief.old belief.new }
 {
-    let _ = checked.rows();
     belief.brush = Brush::plain();
     belief.graphic = None;
     send_line(checked, Row::Sgr0, checked.line(Row::Sgr0).unwrap(), wire)
@@ -74,13 +72,14 @@ fn add_single<C: Certificate, W: Wire>(
     wanted: Attributes,
     row: Row,
 ) -> Result<(), WireFault>
+    requires checked { IsChecked (C.table checked.now) }
     requires sgr { has (C.table checked.now) (Sgr no_attributes) ≡ false }
     requires set { belief.old.graphic ≡ None }
-    ensures belief { belief.new ≡ record belief.old { brush = record belief.old.brush { attributes = spec.with_single wanted row belief.old.brush.attributes } } }
-    ensures step { (g : ℕ → ℕ → Ink) → Steps W.went W.failures wire.old wire.new result (IsPiece (C.table checked.now)) (length (text_of (C.table checked.now) row))
-        (IsLost (C.table checked.now)) (Agrees (C.table checked.now) g belief.old) (Agrees (C.table checked.now) g belief.new) }
+    ensures belief { belief.new ≡ record belief.old
+        { brush = record belief.old.brush { attributes = spec.with_single wanted row belief.old.brush.attributes } } }
+    ensures step { Keeps W.went W.failures wire.old wire.new result (C.table checked.now)
+        (length (text_of (C.table checked.now) row)) belief.old belief.new }
 {
-    let _ = checked.rows();
     if !has_single(wanted, row) {
         return Ok(());
     }
@@ -99,13 +98,17 @@ fn add_singles<C: Certificate, W: Wire>(
     wanted: Attributes,
     rows: &[Row],
 ) -> Result<(), WireFault>
+    requires checked { IsChecked (C.table checked.now) }
     requires sgr { has (C.table checked.now) (Sgr no_attributes) ≡ false }
     requires set { belief.old.graphic ≡ None }
-    ensures belief { OnOk result (belief.new ≡ record belief.old { brush = record belief.old.brush { attributes = spec.with_singles wanted rows.now belief.old.brush.attributes } }) }
-    ensures step { (g : ℕ → ℕ → Ink) → Steps W.went W.failures wire.old wire.new result (IsPiece (C.table checked.now)) (lengths (C.table checked.now) rows.now)
-        (IsLost (C.table checked.now)) (Agrees (C.table checked.now) g belief.old) (Agrees (C.table checked.now) g belief.new) }
+    ensures belief { OnOk result
+        (belief.new ≡ record belief.old {
+          brush = record belief.old.brush
+              { attributes = spec.with_singles wanted rows.now belief.old.brush.attributes };
+        }) }
+    ensures step { Keeps W.went W.failures wire.old wire.new result (C.table checked.now)
+        (lengths (C.table checked.now) rows.now) belief.old belief.new }
 {
-    let _ = checked.rows();
     for row in rows {
         add_single(checked, belief, wire, wanted, *row)?;
     }
@@ -120,13 +123,14 @@ pub(crate) fn attributes_singly<C: Certificate, W: Wire>(
     wire: &mut W,
     wanted: Attributes,
 ) -> Result<(), WireFault>
+    requires checked { IsChecked (C.table checked.now) }
     requires sgr { (C.table checked.now).line_of (Sgr wanted) ≡ None }
-    ensures brush { OnOk result (belief.new.brush ≡ record { attributes = wanted; foreground = None; background = None }) }
+    ensures brush { OnOk result
+        (belief.new.brush ≡ record { attributes = wanted; foreground = None; background = None }) }
     ensures place { OnOk result (belief.new.place ≡ belief.old.place) }
-    ensures step { (g : ℕ → ℕ → Ink) → Steps W.went W.failures wire.old wire.new result (IsPiece (C.table checked.now)) (C.table checked.now).longest.sgr
-        (IsLost (C.table checked.now)) (Agrees (C.table checked.now) g belief.old) (Agrees (C.table checked.now) g belief.new) }
+    ensures step { Keeps W.went W.failures wire.old wire.new result (C.table checked.now)
+        (C.table checked.now).longest.sgr belief.old belief.new }
 {
-    let _ = checked.rows();
     strip(checked, belief, wire)?;
     let rows = [
         Row::Smul,

@@ -12,7 +12,7 @@ returns-in_err-poise_plainly g c =
     let t = g.C.Certificate.table c.args.checked.now in
     let b = c.args.belief.now in
     rw e.1 (record {
-      step = λ h. steps_fail g.W.Wire.went g.W.Wire.failures c.args.wire.now c.poise_plainly.new.wire _ _ (IsPiece t) (ready_limit t) (cell_limit t) (IsLost t) (Agrees t h b) (Agrees t h c.poise_plainly.new.belief) (Agrees t (erased c.args.erasure c.args.row c.args.col h) c.poise_plainly.new.belief)
+      step = λ h. steps_fail g.W.Wire.went g.W.Wire.failures c.args.wire.now c.poise_plainly.new.wire _ _ (IsPiece t) (ready_limit t) (cell_limit t) (IsLost t) (Agrees t h b) (Agrees t h c.poise_plainly.new.belief) (Agrees t (erased c.args.erasure c.args.at.row c.args.at.col h) c.poise_plainly.new.belief)
           (omega arith) (c.in_err-poise_plainly.ensures.step h);
     })
 
@@ -22,5 +22,5 @@ returns g c =
     let b = c.args.belief.now in
     record {
       step = λ h. steps_next g.W.Wire.went g.W.Wire.failures g.met.W.Wire.lawful c.args.wire.now c.poise_plainly.new.wire c.erase_here.new.wire _ c.erase_here.result (IsPiece t) (ready_limit t) (t.longest.erasure) (cell_limit t) (IsLost t)
-          (Agrees t h b) (Agrees t h c.poise_plainly.new.belief) (Agrees t (erased c.args.erasure c.args.row c.args.col h) c.poise_plainly.new.belief) (omega arith) (c.in_ok-poise_plainly.ensures.step h) (c.erase_here.ensures.step h);
+          (Agrees t h b) (Agrees t h c.poise_plainly.new.belief) (Agrees t (erased c.args.erasure c.args.at.row c.args.at.col h) c.poise_plainly.new.belief) (omega arith) (c.in_ok-poise_plainly.ensures.step h) (c.erase_here.ensures.step h);
     }

@@ -18,4 +18,4 @@ returns-in-None-clause-step g c h =
     let b = c.args.belief.now in
     let d : Belief = record b { mode = Some Prominent } in
     steps_nothing g.W.Wire.went g.W.Wire.failures g.met.W.Wire.lawful c.args.wire.now tt (IsPiece t) _ (IsLost t) (Agrees t h b) (Agrees t h d) (λ s x. x.ready.rest)
-    (stressed_without t h b c.requires.shown) (agrees_lost t c.rows.ensures.checked h b)
+    (stressed_without t h b c.requires.shown) (agrees_lost t c.requires.checked h b)
