@@ -9,7 +9,8 @@ pub record IsAlike (b : Belief) (x : Ink) : Type 0 where
   pub brush : b.brush ≡ x.brush
   pub set : b.graphic ≡ Some x.graphic
 
--- from the cursor to a column ahead in its line: no more cells than the longest `cup` has bytes, each printed like this now
+-- from the cursor to a column ahead in its line: no more cells than the longest `cup` has bytes, each printed like
+-- this now
 pub record IsGap (t : Table) (b : Belief) (g : ℕ → ℕ → Ink) (row from col : ℕ) : Type 0 where
   pub place : b.place ≡ Some (record { row = row; col = from })
   pub ahead : from < col

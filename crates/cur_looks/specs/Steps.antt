@@ -1,4 +1,5 @@
--- (Serves the code alone.) What a single step promises: bytes that lead from what is shown and believed to what then is.
+-- (Serves the code alone.) What a single step promises: bytes that lead from what is shown and believed to what then
+-- is.
 use Rattle.std.specs.Prelude.{ℕ, List, Result}
 use Rattle.cur_wires.specs.Steps.{Steps}
 use Rattle.ti_conforms.specs.Certified.{Table, IsPiece, IsLost}

@@ -105,7 +105,7 @@ pub(crate) fn brush_as<C: Certificate, W: Wire>(
 }
 
 /// Moves the cursor to `at`, in a line that is shown as far as that place, and makes the brush `wanted`.
-pub(crate) fn poise<C: Certificate, N: View, W: Wire>(
+pub(crate) fn reach_in_brush<C: Certificate, N: View, W: Wire>(
     target: &Target<'_, C, N>,
     belief: &mut Belief,
     wire: &mut W,
@@ -127,7 +127,7 @@ pub(crate) fn poise<C: Certificate, N: View, W: Wire>(
 }
 
 /// Prints `ink` in its set at `at`, where the next character is known to go, in the brush that is known.
-fn stamp<C: Certificate, W: Wire>(
+fn print_in_set<C: Certificate, W: Wire>(
     checked: &C,
     belief: &mut Belief,
     wire: &mut W,
@@ -182,7 +182,7 @@ fn approach<C: Certificate, N: View, W: Wire>(
 }
 
 /// Prints `ink` at `at`, where the next character is known to go.
-fn ink_in<C: Certificate, W: Wire>(
+fn put_here<C: Certificate, W: Wire>(
     checked: &C,
     belief: &mut Belief,
     wire: &mut W,
@@ -201,7 +201,7 @@ fn ink_in<C: Certificate, W: Wire>(
         return print_at(checked, belief, wire, at, ink);
     }
     brush_as(checked, belief, wire, ink.brush)?;
-    stamp(checked, belief, wire, at, ink)
+    print_in_set(checked, belief, wire, at, ink)
 }
 
 /// Prints `ink` at `at`, in a line that is shown as far as that place.
@@ -223,7 +223,7 @@ pub fn put_cell<C: Certificate, N: View, W: Wire>(
     // only this call's contract says that the certificate is verified
     let _ = target.checked.rows();
     approach(target, belief, wire, at)?;
-    ink_in(target.checked, belief, wire, at, ink)
+    put_here(target.checked, belief, wire, at, ink)
 }
 
 /// Makes a line that is shown as far as `at` blank from there on, by the string `tail`.
@@ -244,6 +244,6 @@ pub fn blank_tail<C: Certificate, N: View, W: Wire>(
 {
     // only this call's contract says that the certificate is verified
     let _ = target.checked.rows();
-    poise(target, belief, wire, at, Brush::plain())?;
+    reach_in_brush(target, belief, wire, at, Brush::plain())?;
     erase_tail(target.checked, tail, belief, wire, at)
 }

@@ -7,7 +7,7 @@ ghost use Rattle.cur_looks.specs.Erasures.{erasure_row, erased};
 ghost use Rattle.cur_looks.specs.Steps.{Keeps, Makes, MakesFrom};
 
 use crate::beliefs::{Belief, Place};
-use crate::cells::{brush_as, poise};
+use crate::cells::{brush_as, reach_in_brush};
 use crate::inks::{Brush, View};
 use crate::lines::send_line;
 use crate::reaching::reach_by_line;
@@ -67,7 +67,7 @@ fn erase_here<C: Certificate, W: Wire>(
 }
 
 /// Moves the cursor to `at`, whatever is shown, and makes the brush plain.
-fn poise_plainly<C: Certificate, W: Wire>(
+fn reach_plainly<C: Certificate, W: Wire>(
     checked: &C,
     belief: &mut Belief,
     wire: &mut W,
@@ -104,7 +104,7 @@ pub fn erase_from<C: Certificate, N: View, W: Wire>(
 {
     // only this call's contract says that the certificate is verified
     let _ = target.checked.rows();
-    poise(target, belief, wire, at, Brush::plain())?;
+    reach_in_brush(target, belief, wire, at, Brush::plain())?;
     erase_here(target.checked, line, belief, wire, at, erasure)
 }
 
@@ -125,6 +125,6 @@ pub fn erase_at<C: Certificate, W: Wire>(
 {
     // only this call's contract says that the certificate is verified
     let _ = checked.rows();
-    poise_plainly(checked, belief, wire, at)?;
+    reach_plainly(checked, belief, wire, at)?;
     erase_here(checked, line, belief, wire, at, erasure)
 }

@@ -11,7 +11,7 @@ use cur_wires::{Wire, WireFault};
 use ti_conforms::Certificate;
 use ti_rows::Row;
 
-/// The cursor disappears.
+/// Hides the cursor.
 fn hide<C: Certificate, W: Wire>(
     checked: &C,
     belief: &mut Belief,
@@ -31,7 +31,7 @@ fn hide<C: Certificate, W: Wire>(
     }
 }
 
-/// The cursor appears.
+/// Shows the cursor.
 fn show<C: Certificate, W: Wire>(
     checked: &C,
     belief: &mut Belief,
@@ -49,8 +49,8 @@ fn show<C: Certificate, W: Wire>(
     }
 }
 
-/// The cursor, which is shown, becomes very visible.
-fn stress<C: Certificate, W: Wire>(
+/// Makes the cursor, which is shown, very visible.
+fn make_prominent<C: Certificate, W: Wire>(
     checked: &C,
     belief: &mut Belief,
     wire: &mut W,
@@ -68,8 +68,8 @@ fn stress<C: Certificate, W: Wire>(
     }
 }
 
-/// The cursor is shown very visibly.
-fn show_stressed<C: Certificate, W: Wire>(
+/// Shows the cursor and makes it very visible.
+fn show_prominently<C: Certificate, W: Wire>(
     checked: &C,
     belief: &mut Belief,
     wire: &mut W,
@@ -80,10 +80,10 @@ fn show_stressed<C: Certificate, W: Wire>(
         (modes_limit (C.table checked.now)) belief.old belief.new }
 {
     show(checked, belief, wire)?;
-    stress(checked, belief, wire)
+    make_prominent(checked, belief, wire)
 }
 
-/// Whether the mode is known to be this one.
+/// Whether the mode `now` is known and is `wanted`.
 fn is_mode(now: Option<Mode>, wanted: Mode) -> bool
     ensures so { result ≡ true → now ≡ Some wanted }
     ensures counted { result ≡ false → changes now wanted ≡ 1 }
@@ -96,7 +96,7 @@ fn is_mode(now: Option<Mode>, wanted: Mode) -> bool
     )
 }
 
-/// The cursor is shown in this mode, if it isn't known to be.
+/// Shows the cursor in the mode `wanted`, if it isn't known to be.
 pub fn show_as<C: Certificate, W: Wire>(
     checked: &C,
     belief: &mut Belief,
@@ -116,6 +116,6 @@ pub fn show_as<C: Certificate, W: Wire>(
     match wanted {
         Mode::Hidden => hide(checked, belief, wire),
         Mode::Normal => show(checked, belief, wire),
-        Mode::Prominent => show_stressed(checked, belief, wire),
+        Mode::Prominent => show_prominently(checked, belief, wire),
     }
 }

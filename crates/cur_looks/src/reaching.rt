@@ -48,7 +48,7 @@ fn reprint<C: Certificate, N: View, W: Wire>(
 }
 
 /// Goes to `at` by the last leg `leg` of a way.
-fn end_leg<C: Certificate, N: View, W: Wire>(
+fn follow_leg<C: Certificate, N: View, W: Wire>(
     target: &Target<'_, C, N>,
     belief: &mut Belief,
     wire: &mut W,
@@ -103,7 +103,7 @@ fn go_to_stop<C: Certificate, W: Wire>(
 }
 
 /// Goes to `at` by the way `route`.
-fn follow<C: Certificate, N: View, W: Wire>(
+fn follow_route<C: Certificate, N: View, W: Wire>(
     target: &Target<'_, C, N>,
     belief: &mut Belief,
     wire: &mut W,
@@ -121,10 +121,10 @@ fn follow<C: Certificate, N: View, W: Wire>(
         (C.table target.now.checked.now).longest.cup (N.cells target.now.shown.now) at belief.old belief.new }
 {
     match route.stop {
-        None => end_leg(target, belief, wire, at, route.leg),
+        None => follow_leg(target, belief, wire, at, route.leg),
         Some(stop) => {
             go_to_stop(target.checked, belief, wire, stop)?;
-            end_leg(target, belief, wire, at, route.leg)
+            follow_leg(target, belief, wire, at, route.leg)
         }
     }
 }
@@ -150,7 +150,7 @@ pub fn reach<C: Certificate, N: View, W: Wire>(
         return Ok(());
     }
     let route = route_to(target, belief, at);
-    follow(target, belief, wire, at, route)
+    follow_route(target, belief, wire, at, route)
 }
 
 /// Moves the cursor to `at` by a line, whatever is shown.

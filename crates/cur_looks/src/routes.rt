@@ -46,7 +46,7 @@ struct Measured {
     bytes: usize,
 }
 
-/// Whether a character is printed like this now.
+/// Whether a character is printed now in the set and the brush of `ink`.
 pub(crate) fn is_alike(belief: &Belief, ink: Ink) -> bool
     ensures alike { result ≡ true → IsAlike belief.now ink }
     ensures known { IsAlike belief.now ink → result ≡ true }

@@ -14,7 +14,7 @@ use cur_wires::{Wire, WireFault};
 use ti_conforms::Certificate;
 use ti_rows::{Attributes, Row};
 
-/// Whether the attribute of a row's string is among these.
+/// Whether the attribute of the string of `row` is among `attributes`.
 fn has_single(attributes: Attributes, row: Row) -> bool
     ensures { result ≡ spec.has_single row attributes }
 {
@@ -30,7 +30,7 @@ fn has_single(attributes: Attributes, row: Row) -> bool
     }
 }
 
-/// These attributes and that of a row's string.
+/// The `attributes` and that of the string of `row`.
 fn turned_on(attributes: Attributes, row: Row) -> Attributes
     ensures { result ≡ spec.turned_on row attributes }
 {
@@ -48,8 +48,8 @@ fn turned_on(attributes: Attributes, row: Row) -> Attributes
     attributes
 }
 
-/// Attributes and colours become plain.
-fn strip<C: Certificate, W: Wire>(
+/// Makes attributes and colours plain.
+fn make_plain<C: Certificate, W: Wire>(
     checked: &C,
     belief: &mut Belief,
     wire: &mut W,
@@ -64,7 +64,7 @@ fn strip<C: Certificate, W: Wire>(
     send_line(checked, Row::Sgr0, checked.line(Row::Sgr0).unwrap(), wire)
 }
 
-/// The attribute of a row's string, if it is wanted. One without a string can't be seen.
+/// Adds the attribute of the string of `row`, if it is `wanted`. One without a string can't be seen.
 fn add_single<C: Certificate, W: Wire>(
     checked: &C,
     belief: &mut Belief,
@@ -90,7 +90,7 @@ fn add_single<C: Certificate, W: Wire>(
     }
 }
 
-/// Those of these rows' attributes that are wanted.
+/// Adds those of the attributes of `rows` that are `wanted`.
 fn add_singles<C: Certificate, W: Wire>(
     checked: &C,
     belief: &mut Belief,
@@ -115,8 +115,8 @@ fn add_singles<C: Certificate, W: Wire>(
     Ok(())
 }
 
-/// The attributes become these, and the colours the default ones: all go off, and those that are
-/// wanted go on one by one.
+/// Makes the attributes `wanted`, and the colours the default ones: all go off, and those that are wanted go on one by
+/// one.
 pub(crate) fn attributes_singly<C: Certificate, W: Wire>(
     checked: &C,
     belief: &mut Belief,
@@ -131,7 +131,7 @@ pub(crate) fn attributes_singly<C: Certificate, W: Wire>(
     ensures step { Keeps W.went W.failures wire.old wire.new result (C.table checked.now)
         (C.table checked.now).longest.sgr belief.old belief.new }
 {
-    strip(checked, belief, wire)?;
+    make_plain(checked, belief, wire)?;
     let rows = [
         Row::Smul,
         Row::Rev,

@@ -27,7 +27,7 @@ pub(crate) fn stands(place: Option<Place>, at: Place) -> bool
     matches!(place, Some(p) if p.row == at.row && p.col == at.col)
 }
 
-/// The colours become the default ones.
+/// Makes the colours the default ones.
 pub(crate) fn colors_off<C: Certificate, W: Wire>(
     checked: &C,
     belief: &mut Belief,
@@ -51,7 +51,7 @@ pub(crate) fn colors_off<C: Certificate, W: Wire>(
     }
 }
 
-/// Whether a brush has the default colours.
+/// Whether `brush` has the default colours.
 fn is_uncolored(brush: Brush) -> bool
     ensures foreground { result ≡ true → brush.foreground ≡ None }
     ensures background { result ≡ true → brush.background ≡ None }
@@ -59,7 +59,7 @@ fn is_uncolored(brush: Brush) -> bool
     matches!((brush.foreground, brush.background), (None, None))
 }
 
-/// The attributes become these; the colours are the default ones before and after.
+/// Makes the attributes `wanted`; the colours are the default ones before and after.
 pub(crate) fn attributes_as<C: Certificate, W: Wire>(
     checked: &C,
     belief: &mut Belief,
@@ -85,7 +85,7 @@ pub(crate) fn attributes_as<C: Certificate, W: Wire>(
     }
 }
 
-/// The attributes become these by one string; the colours are the default ones before and after.
+/// Makes the attributes `wanted` by one string, `line`; the colours are the default ones before and after.
 fn attributes_at_once<C: Certificate, W: Wire>(
     checked: &C,
     line: &[u8],
@@ -107,7 +107,7 @@ fn attributes_at_once<C: Certificate, W: Wire>(
     send_line(checked, Row::Sgr(wanted), line, wire)
 }
 
-/// The foreground becomes this colour, or stays the default one.
+/// Makes the foreground the colour `wanted`, or leaves it the default one.
 pub(crate) fn foreground_as<C: Certificate, W: Wire>(
     checked: &C,
     belief: &mut Belief,
@@ -135,7 +135,7 @@ pub(crate) fn foreground_as<C: Certificate, W: Wire>(
     }
 }
 
-/// The background becomes this colour, or stays the default one.
+/// Makes the background the colour `wanted`, or leaves it the default one.
 pub(crate) fn background_as<C: Certificate, W: Wire>(
     checked: &C,
     belief: &mut Belief,
@@ -163,7 +163,7 @@ pub(crate) fn background_as<C: Certificate, W: Wire>(
     }
 }
 
-/// The graphic or the plain set becomes the active one, if it isn't known to be.
+/// Makes the set, the graphic one if `graphic`, the active one, if it isn't known to be.
 pub(crate) fn set_as<C: Certificate, W: Wire>(
     checked: &C,
     belief: &mut Belief,
@@ -187,14 +187,14 @@ pub(crate) fn set_as<C: Certificate, W: Wire>(
     }
 }
 
-/// The row whose line makes a set the active one.
+/// The row whose line makes the set, the graphic one if `graphic`, the active one.
 fn row_of_set(graphic: bool) -> Row
     ensures { result ≡ set_row graphic }
 {
     if graphic { Row::Smacs } else { Row::Rmacs }
 }
 
-/// Whether a set is known to be the active one.
+/// Whether the active set `now` is known and is the graphic one just if `graphic`.
 pub(crate) fn is_active(now: Option<bool>, graphic: bool) -> bool
     ensures active { result ≡ true → now ≡ Some graphic }
     ensures known { now ≡ Some graphic → result ≡ true }
@@ -202,7 +202,7 @@ pub(crate) fn is_active(now: Option<bool>, graphic: bool) -> bool
     matches!(now, Some(active) if active == graphic)
 }
 
-/// A character in a place to which the next one is known to go, printed in the brush and the set that are known.
+/// Prints `ink` at `at`, where the next character is known to go, in the brush and the set that are known.
 pub(crate) fn print_at<C: Certificate, W: Wire>(
     checked: &C,
     belief: &mut Belief,
@@ -228,7 +228,7 @@ pub(crate) fn print_at<C: Certificate, W: Wire>(
     send_all(wire, &[ink.byte])
 }
 
-/// The line's end is erased from where the cursor is known to be.
+/// Erases the line's end by its string `tail`, from `at`, where the cursor is known to be.
 pub(crate) fn erase_tail<C: Certificate, W: Wire>(
     checked: &C,
     tail: &[u8],

@@ -21,6 +21,6 @@ returns g c =
     let t = g.C.Certificate.table c.args.target.now.checked.now in
     let b = c.args.belief.now in
     record {
-      step = λ h k. steps_next g.W.Wire.went g.W.Wire.failures g.met.W.Wire.lawful c.args.wire.now c.approach.new.wire c.ink_in.new.wire _ c.ink_in.result (IsPiece t) t.longest.cup (ink_limit t) (cell_limit t) (IsLost t)
-          (Agrees t h b) (Agrees t h c.approach.new.belief) (Agrees t (put_at c.args.at.row c.args.at.col c.args.ink h) c.ink_in.new.belief) (omega arith) (c.in_ok-approach.ensures.step h k) (c.ink_in.ensures.step h);
+      step = λ h k. steps_next g.W.Wire.went g.W.Wire.failures g.met.W.Wire.lawful c.args.wire.now c.approach.new.wire c.put_here.new.wire _ c.put_here.result (IsPiece t) t.longest.cup (ink_limit t) (cell_limit t) (IsLost t)
+          (Agrees t h b) (Agrees t h c.approach.new.belief) (Agrees t (put_at c.args.at.row c.args.at.col c.args.ink h) c.put_here.new.belief) (omega arith) (c.in_ok-approach.ensures.step h k) (c.put_here.ensures.step h);
     }

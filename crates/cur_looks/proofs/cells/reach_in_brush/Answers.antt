@@ -4,7 +4,7 @@ use Rattle.cur_wires.proofs.Stopping.{steps_fail, steps_next}
 use Rattle.ti_conforms.specs.Certified.{IsPiece, IsLost}
 use Rattle.cur_looks.specs.Beliefs.{Agrees, moves, brush_limit, ready_limit}
 use Rattle.cur_looks.proofs.Telling.{moves_few, at_most}
-use Rattle.cur_looks.proofs.cells.poise.Goals as goal
+use Rattle.cur_looks.proofs.cells.reach_in_brush.Goals as goal
 
 pub returns-in_err-reach-clause-step : goal.returns-in_err-reach-clause-step
 returns-in_err-reach-clause-step g c h k =

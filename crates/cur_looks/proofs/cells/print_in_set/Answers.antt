@@ -4,7 +4,7 @@ use Rattle.cur_wires.proofs.Stopping.{steps_fail, steps_next}
 use Rattle.ti_conforms.specs.Certified.{IsPiece, IsLost}
 use Rattle.cur_looks.specs.Inks.{put_at}
 use Rattle.cur_looks.specs.Beliefs.{Agrees, stamp_limit}
-use Rattle.cur_looks.proofs.cells.stamp.Goals as goal
+use Rattle.cur_looks.proofs.cells.print_in_set.Goals as goal
 
 pub returns-in_err-set_as : goal.returns-in_err-set_as
 returns-in_err-set_as g c =

@@ -4,7 +4,7 @@ use Rattle.ti_conforms.specs.Certified.{IsPiece, IsLost}
 use Rattle.cur_looks.specs.Beliefs.{Agrees, Belief, Prominent}
 use Rattle.cur_looks.proofs.Doing.{agrees_lost}
 use Rattle.cur_looks.proofs.Turning.{stressed, stressed_without}
-use Rattle.cur_looks.proofs.modes.stress.Goals as goal
+use Rattle.cur_looks.proofs.modes.make_prominent.Goals as goal
 
 pub returns-in-Some-clause-step : goal.returns-in-Some-clause-step
 returns-in-Some-clause-step g c h =

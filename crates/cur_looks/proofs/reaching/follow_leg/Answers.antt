@@ -1,7 +1,7 @@
 use Rattle.std.proofs.Common.{length, arith}
 use Rattle.ti_conforms.specs.Certified.{text_of}
 use Rattle.cur_looks.proofs.Moving.{turned}
-use Rattle.cur_looks.proofs.reaching.end_leg.Goals as goal
+use Rattle.cur_looks.proofs.reaching.follow_leg.Goals as goal
 
 pub returns-in-By-clause-step : goal.returns-in-By-clause-step
 returns-in-By-clause-step g c h k =
