@@ -1,11 +1,17 @@
 -- (Serves the code alone.) What a single step promises: bytes that lead from what is shown and believed to what then
 -- is.
-use Rattle.std.specs.Prelude.{ℕ, List, Result}
+use Rattle.std.specs.Prelude.{ℕ, ◌<◌, List, Result}
 use Rattle.cur_wires.specs.Steps.{Steps}
-use Rattle.ti_conforms.specs.Certified.{Table, IsPiece, IsLost}
+use Rattle.ti_conforms.specs.Certified.{Table, IsChecked, IsPiece, IsLost}
 use Rattle.cur_looks.specs.Beliefs.{Agrees, Belief, Place}
 use Rattle.cur_looks.specs.Gaps.{BeginsAs}
 use Rattle.cur_looks.specs.declared.inks.Ink.{Ink}
+
+-- where a step is to end: the certificate is verified, and the place is on its screen
+pub record IsGoal (t : Table) (at : Place) : Type 0 where
+  pub checked : IsChecked t
+  pub row : at.row < t.rows
+  pub col : at.col < t.cols
 
 -- A step from a terminal that shows the cells g to one that shows h. It sends at most limit bytes.
 abbrev pub Acts : {W T E : Type 0} → (W → W → List ℕ → Type 0) → (W → ℕ) → W → W → Result T E → Table → ℕ

@@ -4,7 +4,7 @@ ghost use Rattle.ti_rows.specs.declared.rows.Row.TheVariants.{El};
 ghost use Rattle.ti_conforms.specs.Certified.{IsChecked, cell_limit};
 ghost use Rattle.cur_looks.specs.Inks.{CanShow, IsInk, IsColored, put_at, tail_blank, plain_brush};
 ghost use Rattle.cur_looks.specs.Beliefs.{IsNext, plain_limit, colors_limit, brush_limit, ready_limit, stamp_limit, ink_limit};
-ghost use Rattle.cur_looks.specs.Steps.{Keeps, KeepsFrom, Makes, MakesFrom};
+ghost use Rattle.cur_looks.specs.Steps.{IsGoal, Keeps, KeepsFrom, Makes, MakesFrom};
 
 use crate::beliefs::{Belief, Place};
 use crate::inks::{Brush, Ink, View, same_attributes};
@@ -112,10 +112,8 @@ pub(crate) fn reach_in_brush<C: Certificate, N: View, W: Wire>(
     at: Place,
     wanted: Brush,
 ) -> Result<(), WireFault>
-    requires checked { IsChecked (C.table target.now.checked.now) }
+    requires goal { IsGoal (C.table target.now.checked.now) at }
     requires drawable { CanShow (C.table target.now.checked.now) (N.cells target.now.shown.now) }
-    requires row { at.row < (C.table target.now.checked.now).rows }
-    requires col { at.col < (C.table target.now.checked.now).cols }
     requires colored { IsColored (C.table target.now.checked.now) wanted }
     ensures brush { OnOk result (belief.new.brush ≡ wanted) }
     ensures place { OnOk result (belief.new.place ≡ Some at) }
@@ -134,9 +132,7 @@ fn print_in_set<C: Certificate, W: Wire>(
     at: Place,
     ink: Ink,
 ) -> Result<(), WireFault>
-    requires checked { IsChecked (C.table checked.now) }
-    requires row { at.row < (C.table checked.now).rows }
-    requires col { at.col < (C.table checked.now).cols }
+    requires goal { IsGoal (C.table checked.now) at }
     requires ink { IsInk (C.table checked.now) ink }
     requires place { IsNext (C.table checked.now).cols belief.old.place at.row at.col }
     requires brush { belief.old.brush ≡ ink.brush }
@@ -164,10 +160,8 @@ fn approach<C: Certificate, N: View, W: Wire>(
     wire: &mut W,
     at: Place,
 ) -> Result<(), WireFault>
-    requires checked { IsChecked (C.table target.now.checked.now) }
+    requires goal { IsGoal (C.table target.now.checked.now) at }
     requires drawable { CanShow (C.table target.now.checked.now) (N.cells target.now.shown.now) }
-    requires row { at.row < (C.table target.now.checked.now).rows }
-    requires col { at.col < (C.table target.now.checked.now).cols }
     ensures place { OnOk result (IsNext (C.table target.now.checked.now).cols belief.new.place at.row at.col) }
     ensures step { KeepsFrom W.went W.failures wire.old wire.new result (C.table target.now.checked.now)
         (C.table target.now.checked.now).longest.cup (N.cells target.now.shown.now) at belief.old belief.new }
@@ -189,9 +183,7 @@ fn put_here<C: Certificate, W: Wire>(
     at: Place,
     ink: Ink,
 ) -> Result<(), WireFault>
-    requires checked { IsChecked (C.table checked.now) }
-    requires row { at.row < (C.table checked.now).rows }
-    requires col { at.col < (C.table checked.now).cols }
+    requires goal { IsGoal (C.table checked.now) at }
     requires ink { IsInk (C.table checked.now) ink }
     requires place { IsNext (C.table checked.now).cols belief.old.place at.row at.col }
     ensures step { Makes W.went W.failures wire.old wire.new result (C.table checked.now)

@@ -4,7 +4,7 @@ ghost use Rattle.ti_conforms.specs.Certified.{IsChecked, cell_limit};
 ghost use Rattle.cur_looks.specs.Inks.{CanShow, plain_brush};
 ghost use Rattle.cur_looks.specs.Beliefs.{ready_limit};
 ghost use Rattle.cur_looks.specs.Erasures.{erasure_row, erased};
-ghost use Rattle.cur_looks.specs.Steps.{Keeps, Makes, MakesFrom};
+ghost use Rattle.cur_looks.specs.Steps.{IsGoal, Keeps, Makes, MakesFrom};
 
 use crate::beliefs::{Belief, Place};
 use crate::cells::{brush_as, reach_in_brush};
@@ -73,9 +73,7 @@ fn reach_plainly<C: Certificate, W: Wire>(
     wire: &mut W,
     at: Place,
 ) -> Result<(), WireFault>
-    requires checked { IsChecked (C.table checked.now) }
-    requires row { at.row < (C.table checked.now).rows }
-    requires col { at.col < (C.table checked.now).cols }
+    requires goal { IsGoal (C.table checked.now) at }
     ensures brush { OnOk result (belief.new.brush ≡ plain_brush) }
     ensures place { OnOk result (belief.new.place ≡ Some at) }
     ensures step { Keeps W.went W.failures wire.old wire.new result (C.table checked.now)

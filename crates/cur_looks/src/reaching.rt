@@ -6,7 +6,7 @@ ghost use Rattle.cur_looks.specs.Beliefs.{moves};
 ghost use Rattle.cur_looks.specs.Gaps.{IsAlike, right};
 ghost use Rattle.cur_looks.specs.Moves.{IsFewest};
 ghost use Rattle.cur_looks.specs.Routes.{IsLeg, IsStop, IsRoute, leg_bytes, at_stop};
-ghost use Rattle.cur_looks.specs.Steps.{Keeps, KeepsFrom};
+ghost use Rattle.cur_looks.specs.Steps.{IsGoal, Keeps, KeepsFrom};
 
 use crate::beliefs::{Belief, Place};
 use crate::inks::View;
@@ -55,10 +55,8 @@ fn follow_leg<C: Certificate, N: View, W: Wire>(
     at: Place,
     leg: Leg,
 ) -> Result<(), WireFault>
-    requires checked { IsChecked (C.table target.now.checked.now) }
+    requires goal { IsGoal (C.table target.now.checked.now) at }
     requires drawable { CanShow (C.table target.now.checked.now) (N.cells target.now.shown.now) }
-    requires row { at.row < (C.table target.now.checked.now).rows }
-    requires col { at.col < (C.table target.now.checked.now).cols }
     requires leg { IsLeg (C.table target.now.checked.now) belief.old (N.cells target.now.shown.now) at.row at.col leg }
     ensures belief { OnOk result (belief.new ≡ record belief.old { place = Some at }) }
     ensures step { KeepsFrom W.went W.failures wire.old wire.new result (C.table target.now.checked.now)
@@ -110,10 +108,8 @@ fn follow_route<C: Certificate, N: View, W: Wire>(
     at: Place,
     route: Route,
 ) -> Result<(), WireFault>
-    requires checked { IsChecked (C.table target.now.checked.now) }
+    requires goal { IsGoal (C.table target.now.checked.now) at }
     requires drawable { CanShow (C.table target.now.checked.now) (N.cells target.now.shown.now) }
-    requires row { at.row < (C.table target.now.checked.now).rows }
-    requires col { at.col < (C.table target.now.checked.now).cols }
     requires route { IsRoute (C.table target.now.checked.now) belief.old (N.cells target.now.shown.now) at.row at.col
         route }
     ensures belief { OnOk result (belief.new ≡ record belief.old { place = Some at }) }
@@ -160,9 +156,7 @@ pub(crate) fn reach_by_line<C: Certificate, W: Wire>(
     wire: &mut W,
     at: Place,
 ) -> Result<(), WireFault>
-    requires checked { IsChecked (C.table checked.now) }
-    requires row { at.row < (C.table checked.now).rows }
-    requires col { at.col < (C.table checked.now).cols }
+    requires goal { IsGoal (C.table checked.now) at }
     ensures belief { OnOk result (belief.new ≡ record belief.old { place = Some at }) }
     ensures step { Keeps W.went W.failures wire.old wire.new result (C.table checked.now)
         (C.table checked.now).longest.cup belief.old belief.new }

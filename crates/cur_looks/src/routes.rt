@@ -6,6 +6,7 @@ ghost use Rattle.cur_looks.specs.Gaps.{IsAlike, IsGap};
 ghost use Rattle.cur_looks.specs.Beliefs.{Place};
 ghost use Rattle.cur_looks.specs.Moves.{Moves};
 ghost use Rattle.cur_looks.specs.Routes.{IsLeg, IsRoute, leg_bytes};
+ghost use Rattle.cur_looks.specs.Steps.{IsGoal};
 
 use crate::beliefs::{Belief, Place};
 use crate::inks::{Ink, View, same_brush};
@@ -75,8 +76,7 @@ fn gap_start<C: Certificate, N: View>(
     at: Place,
     bytes: usize,
 ) -> Option<usize>
-    requires checked { IsChecked (C.table target.now.checked.now) }
-    requires col { at.col < (C.table target.now.checked.now).cols }
+    requires goal { IsGoal (C.table target.now.checked.now) at }
     requires bytes { bytes ≤ (C.table target.now.checked.now).longest.cup }
     ensures gap { IfSome result
         (λ from. IsGap (C.table target.now.checked.now) belief.now (N.cells target.now.shown.now) at.row from at.col) }
@@ -101,9 +101,7 @@ fn leg_to<C: Certificate, N: View>(
     belief: &Belief,
     at: Place,
 ) -> Measured
-    requires checked { IsChecked (C.table target.now.checked.now) }
-    requires row { at.row < (C.table target.now.checked.now).rows }
-    requires col { at.col < (C.table target.now.checked.now).cols }
+    requires goal { IsGoal (C.table target.now.checked.now) at }
     ensures leg { IsLeg (C.table target.now.checked.now) belief.now (N.cells target.now.shown.now) at.row at.col
         result.leg }
     ensures bytes { result.bytes ≡ leg_bytes (C.table target.now.checked.now) result.leg at.col }
@@ -123,9 +121,7 @@ fn leg_to<C: Certificate, N: View>(
 
 /// A way to `at` without a stop.
 fn direct<C: Certificate, N: View>(target: &Target<'_, C, N>, belief: &Belief, at: Place) -> Route
-    requires checked { IsChecked (C.table target.now.checked.now) }
-    requires row { at.row < (C.table target.now.checked.now).rows }
-    requires col { at.col < (C.table target.now.checked.now).cols }
+    requires goal { IsGoal (C.table target.now.checked.now) at }
     ensures route { IsRoute (C.table target.now.checked.now) belief.now (N.cells target.now.shown.now) at.row at.col
         result }
 {
@@ -145,9 +141,7 @@ fn with_stop<C: Certificate, N: View>(
     best: Route,
     stop: Stop,
 ) -> Route
-    requires checked { IsChecked (C.table target.now.checked.now) }
-    requires row { at.row < (C.table target.now.checked.now).rows }
-    requires col { at.col < (C.table target.now.checked.now).cols }
+    requires goal { IsGoal (C.table target.now.checked.now) at }
     requires best { IsRoute (C.table target.now.checked.now) belief.now (N.cells target.now.shown.now) at.row at.col
         best }
     requires moves { Moves (C.table target.now.checked.now).cols belief.now.place stop.place.row stop.place.col
@@ -224,9 +218,7 @@ pub(crate) fn route_to<C: Certificate, N: View>(
     belief: &Belief,
     at: Place,
 ) -> Route
-    requires checked { IsChecked (C.table target.now.checked.now) }
-    requires row { at.row < (C.table target.now.checked.now).rows }
-    requires col { at.col < (C.table target.now.checked.now).cols }
+    requires goal { IsGoal (C.table target.now.checked.now) at }
     ensures route { IsRoute (C.table target.now.checked.now) belief.now (N.cells target.now.shown.now) at.row at.col
         result }
 {
@@ -246,9 +238,7 @@ fn by_corner<C: Certificate, N: View>(
     at: Place,
     best: Route,
 ) -> Route
-    requires checked { IsChecked (C.table target.now.checked.now) }
-    requires row { at.row < (C.table target.now.checked.now).rows }
-    requires col { at.col < (C.table target.now.checked.now).cols }
+    requires goal { IsGoal (C.table target.now.checked.now) at }
     requires best { IsRoute (C.table target.now.checked.now) belief.now (N.cells target.now.shown.now) at.row at.col
         best }
     ensures route { IsRoute (C.table target.now.checked.now) belief.now (N.cells target.now.shown.now) at.row at.col
@@ -269,9 +259,7 @@ fn by_line_start<C: Certificate, N: View>(
     best: Route,
     from: Place,
 ) -> Route
-    requires checked { IsChecked (C.table target.now.checked.now) }
-    requires row { at.row < (C.table target.now.checked.now).rows }
-    requires col { at.col < (C.table target.now.checked.now).cols }
+    requires goal { IsGoal (C.table target.now.checked.now) at }
     requires best { IsRoute (C.table target.now.checked.now) belief.now (N.cells target.now.shown.now) at.row at.col
         best }
     requires from { belief.now.place ≡ Some from }
@@ -292,9 +280,7 @@ fn by_column<C: Certificate, N: View>(
     best: Route,
     from: Place,
 ) -> Route
-    requires checked { IsChecked (C.table target.now.checked.now) }
-    requires row { at.row < (C.table target.now.checked.now).rows }
-    requires col { at.col < (C.table target.now.checked.now).cols }
+    requires goal { IsGoal (C.table target.now.checked.now) at }
     requires best { IsRoute (C.table target.now.checked.now) belief.now (N.cells target.now.shown.now) at.row at.col
         best }
     requires from { belief.now.place ≡ Some from }

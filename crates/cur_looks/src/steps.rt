@@ -7,7 +7,7 @@ ghost use Rattle.ti_conforms.specs.Certified.{IsChecked, has};
 ghost use Rattle.cur_looks.specs.Inks.{put_at, tail_blank, plain_brush};
 ghost use Rattle.cur_looks.specs.Beliefs.{moves, IsNext, set_row};
 ghost use Rattle.cur_looks.specs.declared.inks.Brush.{Brush};
-ghost use Rattle.cur_looks.specs.Steps.{Keeps, Makes};
+ghost use Rattle.cur_looks.specs.Steps.{IsGoal, Keeps, Makes};
 
 use crate::beliefs::{Belief, Place};
 use crate::inks::{Brush, Ink, same_attributes, same_color};
@@ -210,9 +210,7 @@ pub(crate) fn print_at<C: Certificate, W: Wire>(
     at: Place,
     ink: Ink,
 ) -> Result<(), WireFault>
-    requires checked { IsChecked (C.table checked.now) }
-    requires row { at.row < (C.table checked.now).rows }
-    requires col { at.col < (C.table checked.now).cols }
+    requires goal { IsGoal (C.table checked.now) at }
     requires printed { IsPrinted ink.byte }
     requires place { IsNext (C.table checked.now).cols belief.old.place at.row at.col }
     requires brush { belief.old.brush ≡ ink.brush }

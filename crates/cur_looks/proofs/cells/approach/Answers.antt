@@ -10,7 +10,7 @@ pub returns-then-wraps_to-clause-step : goal.returns-then-wraps_to-clause-step
 returns-then-wraps_to-clause-step g c h k =
     let t = g.C.Certificate.table c.args.target.now.checked.now in
     let b = c.args.belief.now in
-    steps_none g.W.Wire.went g.W.Wire.failures g.met.W.Wire.lawful c.args.wire.now tt (IsPiece t) _ (IsLost t) (Agrees t h b) (λ s x. x.ready.rest) (agrees_lost t c.requires.checked h b)
+    steps_none g.W.Wire.went g.W.Wire.failures g.met.W.Wire.lawful c.args.wire.now tt (IsPiece t) _ (IsLost t) (Agrees t h b) (λ s x. x.ready.rest) (agrees_lost t c.requires.goal.checked h b)
 
 pub returns-clause-step : goal.returns-clause-step
 returns-clause-step g c h k =
@@ -23,4 +23,4 @@ pub returns-then-stands-clause-step : goal.returns-then-stands-clause-step
 returns-then-stands-clause-step g c h k =
     let t = g.C.Certificate.table c.args.target.now.checked.now in
     let b = c.args.belief.now in
-    steps_none g.W.Wire.went g.W.Wire.failures g.met.W.Wire.lawful c.args.wire.now tt (IsPiece t) _ (IsLost t) (Agrees t h b) (λ s x. x.ready.rest) (agrees_lost t c.requires.checked h b)
+    steps_none g.W.Wire.went g.W.Wire.failures g.met.W.Wire.lawful c.args.wire.now tt (IsPiece t) _ (IsLost t) (Agrees t h b) (λ s x. x.ready.rest) (agrees_lost t c.requires.goal.checked h b)

@@ -9,4 +9,4 @@ returns-in-By-clause-step g c h k =
     let b = c.args.belief.now in
     let line = c.in-By.line in
     let way = rw c.in-By.is at c.requires.leg in
-    rw c.in-By.is (c.send_line.ensures.exact (length (text_of t line)) h h b _ (omega arith) (turned t h b c.args.at.row c.args.at.col c.requires.row c.requires.col line way.moves))
+    rw c.in-By.is (c.send_line.ensures.exact (length (text_of t line)) h h b _ (omega arith) (turned t h b c.args.at.row c.args.at.col c.requires.goal.row c.requires.goal.col line way.moves))
