@@ -60,8 +60,8 @@ fn follow_leg<C: Certificate, N: View, W: Wire>(
     requires leg { IsLeg (C.table target.now.checked.now) belief.old (N.cells target.now.shown.now) at.row at.col leg }
     ensures belief { OnOk result (belief.new ≡ record belief.old { place = Some at }) }
     ensures step { KeepsFrom W.went W.failures wire.old wire.new result (C.table target.now.checked.now)
-        (leg_bytes (C.table target.now.checked.now) leg at.col) (N.cells target.now.shown.now) at belief.old
-        belief.new }
+        (leg_bytes (C.table target.now.checked.now) leg at.col) (N.cells target.now.shown.now) at
+        belief.old belief.new }
 {
     match leg {
         Leg::Over(from) => {
@@ -110,8 +110,8 @@ fn follow_route<C: Certificate, N: View, W: Wire>(
 ) -> Result<(), WireFault>
     requires goal { IsGoal (C.table target.now.checked.now) at }
     requires drawable { CanShow (C.table target.now.checked.now) (N.cells target.now.shown.now) }
-    requires route { IsRoute (C.table target.now.checked.now) belief.old (N.cells target.now.shown.now) at.row at.col
-        route }
+    requires route { IsRoute (C.table target.now.checked.now) belief.old (N.cells target.now.shown.now)
+        at.row at.col route }
     ensures belief { OnOk result (belief.new ≡ record belief.old { place = Some at }) }
     ensures step { KeepsFrom W.went W.failures wire.old wire.new result (C.table target.now.checked.now)
         (C.table target.now.checked.now).longest.cup (N.cells target.now.shown.now) at belief.old belief.new }

@@ -102,8 +102,8 @@ fn leg_to<C: Certificate, N: View>(
     at: Place,
 ) -> Measured
     requires goal { IsGoal (C.table target.now.checked.now) at }
-    ensures leg { IsLeg (C.table target.now.checked.now) belief.now (N.cells target.now.shown.now) at.row at.col
-        result.leg }
+    ensures leg { IsLeg (C.table target.now.checked.now) belief.now (N.cells target.now.shown.now)
+        at.row at.col result.leg }
     ensures bytes { result.bytes ≡ leg_bytes (C.table target.now.checked.now) result.leg at.col }
 {
     let way = shortest(target.checked, belief.place, at.row as u16, at.col as u16);
@@ -122,8 +122,8 @@ fn leg_to<C: Certificate, N: View>(
 /// A way to `at` without a stop.
 fn direct<C: Certificate, N: View>(target: &Target<'_, C, N>, belief: &Belief, at: Place) -> Route
     requires goal { IsGoal (C.table target.now.checked.now) at }
-    ensures route { IsRoute (C.table target.now.checked.now) belief.now (N.cells target.now.shown.now) at.row at.col
-        result }
+    ensures route { IsRoute (C.table target.now.checked.now) belief.now (N.cells target.now.shown.now)
+        at.row at.col result }
 {
     let whole = leg_to(target, belief, at);
     Route {
@@ -142,12 +142,12 @@ fn with_stop<C: Certificate, N: View>(
     stop: Stop,
 ) -> Route
     requires goal { IsGoal (C.table target.now.checked.now) at }
-    requires best { IsRoute (C.table target.now.checked.now) belief.now (N.cells target.now.shown.now) at.row at.col
-        best }
-    requires moves { Moves (C.table target.now.checked.now).cols belief.now.place stop.place.row stop.place.col
-        stop.line }
-    ensures route { IsRoute (C.table target.now.checked.now) belief.now (N.cells target.now.shown.now) at.row at.col
-        result }
+    requires best { IsRoute (C.table target.now.checked.now) belief.now (N.cells target.now.shown.now)
+        at.row at.col best }
+    requires moves { Moves (C.table target.now.checked.now).cols belief.now.place
+        stop.place.row stop.place.col stop.line }
+    ensures route { IsRoute (C.table target.now.checked.now) belief.now (N.cells target.now.shown.now)
+        at.row at.col result }
 {
     if stop.place.row >= target.checked.rows() || stop.place.col >= target.checked.cols() {
         return best;
@@ -219,8 +219,8 @@ pub(crate) fn route_to<C: Certificate, N: View>(
     at: Place,
 ) -> Route
     requires goal { IsGoal (C.table target.now.checked.now) at }
-    ensures route { IsRoute (C.table target.now.checked.now) belief.now (N.cells target.now.shown.now) at.row at.col
-        result }
+    ensures route { IsRoute (C.table target.now.checked.now) belief.now (N.cells target.now.shown.now)
+        at.row at.col result }
 {
     let best = direct(target, belief, at);
     let best = by_corner(target, belief, at, best);
@@ -239,10 +239,10 @@ fn by_corner<C: Certificate, N: View>(
     best: Route,
 ) -> Route
     requires goal { IsGoal (C.table target.now.checked.now) at }
-    requires best { IsRoute (C.table target.now.checked.now) belief.now (N.cells target.now.shown.now) at.row at.col
-        best }
-    ensures route { IsRoute (C.table target.now.checked.now) belief.now (N.cells target.now.shown.now) at.row at.col
-        result }
+    requires best { IsRoute (C.table target.now.checked.now) belief.now (N.cells target.now.shown.now)
+        at.row at.col best }
+    ensures route { IsRoute (C.table target.now.checked.now) belief.now (N.cells target.now.shown.now)
+        at.row at.col result }
 {
     if at.row > 0 && at.col > 0 {
         return best;
@@ -260,11 +260,11 @@ fn by_line_start<C: Certificate, N: View>(
     from: Place,
 ) -> Route
     requires goal { IsGoal (C.table target.now.checked.now) at }
-    requires best { IsRoute (C.table target.now.checked.now) belief.now (N.cells target.now.shown.now) at.row at.col
-        best }
+    requires best { IsRoute (C.table target.now.checked.now) belief.now (N.cells target.now.shown.now)
+        at.row at.col best }
     requires from { belief.now.place ≡ Some from }
-    ensures route { IsRoute (C.table target.now.checked.now) belief.now (N.cells target.now.shown.now) at.row at.col
-        result }
+    ensures route { IsRoute (C.table target.now.checked.now) belief.now (N.cells target.now.shown.now)
+        at.row at.col result }
 {
     if from.col == 0 || from.row != at.row && at.col > 0 {
         return best;
@@ -281,11 +281,11 @@ fn by_column<C: Certificate, N: View>(
     from: Place,
 ) -> Route
     requires goal { IsGoal (C.table target.now.checked.now) at }
-    requires best { IsRoute (C.table target.now.checked.now) belief.now (N.cells target.now.shown.now) at.row at.col
-        best }
+    requires best { IsRoute (C.table target.now.checked.now) belief.now (N.cells target.now.shown.now)
+        at.row at.col best }
     requires from { belief.now.place ≡ Some from }
-    ensures route { IsRoute (C.table target.now.checked.now) belief.now (N.cells target.now.shown.now) at.row at.col
-        result }
+    ensures route { IsRoute (C.table target.now.checked.now) belief.now (N.cells target.now.shown.now)
+        at.row at.col result }
 {
     if from.row == at.row || from.col >= target.checked.cols() {
         return best;

@@ -121,8 +121,8 @@ impl<'a, C: Certificate> Painter<'a, C> {
     /// `IsLost` by a lost session; then nothing was sent. On a wire's fault a front of the string went out,
     /// and the session is lost.
     pub fn beep<W: Wire>(&mut self, wire: &mut W) -> Result<(), Unsent>
-        ensures beeps { Rings W.went W.failures wire.old wire.new result (C.table self.old.checked) self.old.session
-            self.new.session }
+        ensures beeps { Rings W.went W.failures wire.old wire.new result (C.table self.old.checked)
+            self.old.session self.new.session }
         ensures others { self.new ≡ record self.old { session = self.new.session } }
     {
         ring(self.checked, &mut self.session, wire)
