@@ -20,7 +20,8 @@ IsHere cols (Some p) row col pending = (row ≡ p.row) × (col ≡ min p.col (co
 
 -- the next character goes to this place: the cursor is there, or a wrap is pending in the line above
 abbrev pub IsNext : ℕ → Option Place → ℕ → ℕ → Type 0
-IsNext cols place row col = (place ≡ Some (record { row = row; col = col })) ⊎ ((place ≡ Some (record { row = row - 1; col = cols })) × (1 ≤ row) × (col ≡ 0))
+IsNext cols place row col = (place ≡ Some (record { row = row; col = col }))
+    ⊎ ((place ≡ Some (record { row = row - 1; col = cols })) × (1 ≤ row) × (col ≡ 0))
 
 abbrev pub IsSo : Option Bool → Bool → Type 0
 IsSo None b = Unit {0}
@@ -48,7 +49,8 @@ pub record Agrees (t : Table) (g : ℕ → ℕ → Ink) (b : Belief) (s : State)
 -- a row's line leads from the one to the other
 pub record Turns (t : Table) (row : Row) (g : ℕ → ℕ → Ink) (b : Belief) (h : ℕ → ℕ → Ink) (c : Belief) : Type 0 where
   pub starts : (s : State) → Agrees t g b s → Starts t.rows t.cols row s.screen
-  pub ends : (s u : State) → Agrees t g b s → IsOfSize t.rows t.cols u → u.rest ≡ [] → Ended t row s.screen u.screen → Agrees t h c u
+  pub ends : (s u : State) → Agrees t g b s → IsOfSize t.rows t.cols u → u.rest ≡ []
+      → Ended t row s.screen u.screen → Agrees t h c u
 
 -- how many moves it takes: none or one
 abbrev pub moves : Option Place → ℕ → ℕ → ℕ

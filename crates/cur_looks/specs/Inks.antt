@@ -46,7 +46,8 @@ same_color (Some c) (Some d) = color_number c == color_number d
 same_color _ _ = false
 
 abbrev pub same_brush : Brush → Brush → Bool
-same_brush a b = same_attributes a.attributes b.attributes && (same_color a.foreground b.foreground && same_color a.background b.background)
+same_brush a b = same_attributes a.attributes b.attributes
+    && (same_color a.foreground b.foreground && same_color a.background b.background)
 
 abbrev pub same : Ink → Ink → Bool
 same a b = (a.byte == b.byte) && (alike a.graphic b.graphic && same_brush a.brush b.brush)

@@ -5,3 +5,4 @@ pub mod Moves
 pub mod Gaps
 pub mod Erasures
 pub mod Routes
+pub mod Steps

@@ -1,4 +1,5 @@
--- (Serves the code alone.) Which rows lead the cursor from what is known of its place to a place (terminfo(5), "Cursor Motions").
+-- (Serves the code alone.) Which rows lead the cursor from what is known of its place to a place (terminfo(5),
+-- "Cursor Motions").
 use Rattle.std.specs.Prelude.{ℕ, ◌+◌, ◌^◌, ◌<◌, ◌≤◌, ◌≡◌, true, length, Option, Some, None}
 use Rattle.ti_rows.specs.declared.rows.Row.{Row}
 use Rattle.ti_rows.specs.declared.rows.Row.TheVariants.{Cup, Home, Cr, Hpa, Vpa, Cub1, Cuf1, Cuu1, Cud1, Cub, Cuf, Cuu, Cud}

@@ -1,4 +1,5 @@
--- (Serves the code alone.) How the cursor goes to a place: perhaps by one line to a stop, and then by a line or over cells printed once more.
+-- (Serves the code alone.) How the cursor goes to a place: perhaps by one line to a stop, and then by a line or over
+-- cells printed once more.
 use Rattle.std.specs.Prelude.{ℕ, ◌+◌, ◌-◌, ◌<◌, ◌≤◌, ◌≡◌, true, length, Option, Some, None, IfSome}
 use Rattle.ti_conforms.specs.Certified.{Table, has, text_of}
 use Rattle.cur_looks.specs.Beliefs.{Belief, Place}

@@ -1,12 +1,10 @@
 //! A cell, and the end of a line, each in as few of the single steps as its look needs.
 ghost use Rattle.std.specs.Prelude.{◌≡◌, ◌<◌, ℕ, true, Some, None, OnOk, IfOk};
-ghost use Rattle.cur_wires.specs.Steps.{Steps};
 ghost use Rattle.ti_rows.specs.declared.rows.Row.TheVariants.{El};
-ghost use Rattle.ti_conforms.specs.Certified.{IsPiece, IsLost, cell_limit};
+ghost use Rattle.ti_conforms.specs.Certified.{IsChecked, cell_limit};
 ghost use Rattle.cur_looks.specs.Inks.{CanShow, IsInk, IsColored, put_at, tail_blank, plain_brush};
-ghost use Rattle.cur_looks.specs.Beliefs.{Agrees, Belief, IsNext, plain_limit, colors_limit, brush_limit, ready_limit, stamp_limit, ink_limit};
-ghost use Rattle.cur_looks.specs.Gaps.{BeginsAs};
-ghost use Rattle.cur_looks.specs.declared.inks.Ink.{Ink};
+ghost use Rattle.cur_looks.specs.Beliefs.{IsNext, plain_limit, colors_limit, brush_limit, ready_limit, stamp_limit, ink_limit};
+ghost use Rattle.cur_looks.specs.Steps.{IsGoal, Keeps, KeepsFrom, Makes, MakesFrom};
 
 use crate::beliefs::{Belief, Place};
 use crate::inks::{Brush, Ink, View, same_attributes};
@@ -15,55 +13,59 @@ use crate::routes::is_alike;
 use crate::steps::{
     attributes_as, background_as, colors_off, erase_tail, foreground_as, print_at, set_as, stands,
 };
+use crate::targets::Target;
 use cur_wires::{Wire, WireFault};
 use ti_conforms::Certificate;
 use ti_rows::Attributes;
 use vt_term::Color;
 
-/// The attributes become these, and the colours the default ones.
+/// Makes the attributes `wanted`, and the colours the default ones.
 fn plainly_as<C: Certificate, W: Wire>(
     checked: &C,
     belief: &mut Belief,
     wire: &mut W,
     wanted: Attributes,
 ) -> Result<(), WireFault>
-    ensures brush { OnOk result (belief.new.brush ≡ record { attributes = wanted; foreground = None; background = None }) }
+    requires checked { IsChecked (C.table checked.now) }
+    ensures brush { OnOk result
+        (belief.new.brush ≡ record { attributes = wanted; foreground = None; background = None }) }
     ensures place { OnOk result (belief.new.place ≡ belief.old.place) }
-    ensures step { (g : ℕ → ℕ → Ink) → Steps W.went W.failures wire.old wire.new result (IsPiece (C.table checked.now)) (plain_limit (C.table checked.now))
-        (IsLost (C.table checked.now)) (Agrees (C.table checked.now) g belief.old) (Agrees (C.table checked.now) g belief.new) }
+    ensures step { Keeps W.went W.failures wire.old wire.new result (C.table checked.now)
+        (plain_limit (C.table checked.now)) belief.old belief.new }
 {
     colors_off(checked, belief, wire)?;
     attributes_as(checked, belief, wire, wanted)
 }
 
-/// The colours become these, where none of them becomes the default one.
+/// Makes the colours those of `wanted`, where none of them becomes the default one.
 fn colors_as<C: Certificate, W: Wire>(
     checked: &C,
     belief: &mut Belief,
     wire: &mut W,
     wanted: Brush,
 ) -> Result<(), WireFault>
+    requires checked { IsChecked (C.table checked.now) }
     requires attributes { belief.old.brush.attributes ≡ wanted.attributes }
     requires foreground { wanted.foreground ≡ None → belief.old.brush.foreground ≡ None }
     requires background { wanted.background ≡ None → belief.old.brush.background ≡ None }
     requires colored { IsColored (C.table checked.now) wanted }
     ensures brush { OnOk result (belief.new.brush ≡ wanted) }
     ensures place { OnOk result (belief.new.place ≡ belief.old.place) }
-    ensures step { (g : ℕ → ℕ → Ink) → Steps W.went W.failures wire.old wire.new result (IsPiece (C.table checked.now)) (colors_limit (C.table checked.now))
-        (IsLost (C.table checked.now)) (Agrees (C.table checked.now) g belief.old) (Agrees (C.table checked.now) g belief.new) }
+    ensures step { Keeps W.went W.failures wire.old wire.new result (C.table checked.now)
+        (colors_limit (C.table checked.now)) belief.old belief.new }
 {
     foreground_as(checked, belief, wire, wanted.foreground)?;
     background_as(checked, belief, wire, wanted.background)
 }
 
-/// Whether a colour is wanted, or the default one is there already.
+/// Whether a colour is `wanted`, or `now` the default one is there already.
 fn needs_no_default(now: Option<Color>, wanted: Option<Color>) -> bool
     ensures { result ≡ true → wanted ≡ None → now ≡ None }
 {
     matches!((now, wanted), (None, _) | (_, Some(_)))
 }
 
-/// Whether no colour becomes the default one.
+/// Whether no colour of the brush `now` becomes the default one in `wanted`.
 fn needs_no_defaults(now: Brush, wanted: Brush) -> bool
     ensures foreground { result ≡ true → wanted.foreground ≡ None → now.foreground ≡ None }
     ensures background { result ≡ true → wanted.background ≡ None → now.background ≡ None }
@@ -72,7 +74,7 @@ fn needs_no_defaults(now: Brush, wanted: Brush) -> bool
         && needs_no_default(now.background, wanted.background)
 }
 
-/// Whether one brush becomes another by its colours, none of which becomes the default one.
+/// Whether the brush `now` becomes `wanted` by its colours, none of which becomes the default one.
 fn is_recolored(now: Brush, wanted: Brush) -> bool
     ensures attributes { result ≡ true → now.attributes ≡ wanted.attributes }
     ensures foreground { result ≡ true → wanted.foreground ≡ None → now.foreground ≡ None }
@@ -81,18 +83,19 @@ fn is_recolored(now: Brush, wanted: Brush) -> bool
     same_attributes(now.attributes, wanted.attributes) && needs_no_defaults(now, wanted)
 }
 
-/// The brush becomes this one.
+/// Makes the brush `wanted`.
 pub(crate) fn brush_as<C: Certificate, W: Wire>(
     checked: &C,
     belief: &mut Belief,
     wire: &mut W,
     wanted: Brush,
 ) -> Result<(), WireFault>
+    requires checked { IsChecked (C.table checked.now) }
     requires colored { IsColored (C.table checked.now) wanted }
     ensures brush { OnOk result (belief.new.brush ≡ wanted) }
     ensures place { OnOk result (belief.new.place ≡ belief.old.place) }
-    ensures step { (g : ℕ → ℕ → Ink) → Steps W.went W.failures wire.old wire.new result (IsPiece (C.table checked.now)) (brush_limit (C.table checked.now))
-        (IsLost (C.table checked.now)) (Agrees (C.table checked.now) g belief.old) (Agrees (C.table checked.now) g belief.new) }
+    ensures step { Keeps W.went W.failures wire.old wire.new result (C.table checked.now)
+        (brush_limit (C.table checked.now)) belief.old belief.new }
 {
     if is_recolored(belief.brush, wanted) {
         return colors_as(checked, belief, wire, wanted);
@@ -101,147 +104,138 @@ pub(crate) fn brush_as<C: Certificate, W: Wire>(
     colors_as(checked, belief, wire, wanted)
 }
 
-/// The cursor is in a place, and the brush is this one.
-pub(crate) fn poise<C: Certificate, N: View, W: Wire>(
-    checked: &C,
+/// Moves the cursor to `at`, in a line that is shown as far as that place, and makes the brush `wanted`.
+pub(crate) fn reach_in_brush<C: Certificate, N: View, W: Wire>(
+    target: &Target<'_, C, N>,
     belief: &mut Belief,
     wire: &mut W,
-    shown: &N,
-    row: usize,
-    col: usize,
+    at: Place,
     wanted: Brush,
 ) -> Result<(), WireFault>
-    requires drawable { CanShow (C.table checked.now) (N.cells shown.now) }
-    requires row { row < (C.table checked.now).rows }
-    requires col { col < (C.table checked.now).cols }
-    requires colored { IsColored (C.table checked.now) wanted }
+    requires goal { IsGoal (C.table target.now.checked.now) at }
+    requires drawable { CanShow (C.table target.now.checked.now) (N.cells target.now.shown.now) }
+    requires colored { IsColored (C.table target.now.checked.now) wanted }
     ensures brush { OnOk result (belief.new.brush ≡ wanted) }
-    ensures place { OnOk result (belief.new.place ≡ Some (record { row = row; col = col })) }
-    ensures step { (g : ℕ → ℕ → Ink) → BeginsAs g (N.cells shown.now) row col → Steps W.went W.failures wire.old wire.new result (IsPiece (C.table checked.now)) (ready_limit (C.table checked.now))
-        (IsLost (C.table checked.now)) (Agrees (C.table checked.now) g belief.old) (Agrees (C.table checked.now) g belief.new) }
+    ensures place { OnOk result (belief.new.place ≡ Some at) }
+    ensures step { KeepsFrom W.went W.failures wire.old wire.new result (C.table target.now.checked.now)
+        (ready_limit (C.table target.now.checked.now)) (N.cells target.now.shown.now) at belief.old belief.new }
 {
-    reach(checked, belief, wire, shown, row, col)?;
-    brush_as(checked, belief, wire, wanted)
+    reach(target, belief, wire, at)?;
+    brush_as(target.checked, belief, wire, wanted)
 }
 
-/// A character in its set, where the next one is known to go and in the brush that is known.
-fn stamp<C: Certificate, W: Wire>(
+/// Prints `ink` in its set at `at`, where the next character is known to go, in the brush that is known.
+fn print_in_set<C: Certificate, W: Wire>(
     checked: &C,
     belief: &mut Belief,
     wire: &mut W,
-    row: usize,
-    col: usize,
+    at: Place,
     ink: Ink,
 ) -> Result<(), WireFault>
-    requires row { row < (C.table checked.now).rows }
-    requires col { col < (C.table checked.now).cols }
+    requires goal { IsGoal (C.table checked.now) at }
     requires ink { IsInk (C.table checked.now) ink }
-    requires place { IsNext (C.table checked.now).cols belief.old.place row col }
+    requires place { IsNext (C.table checked.now).cols belief.old.place at.row at.col }
     requires brush { belief.old.brush ≡ ink.brush }
-    ensures step { (g : ℕ → ℕ → Ink) → Steps W.went W.failures wire.old wire.new result (IsPiece (C.table checked.now)) (stamp_limit (C.table checked.now))
-        (IsLost (C.table checked.now)) (Agrees (C.table checked.now) g belief.old) (Agrees (C.table checked.now) (put_at row col ink g) belief.new) }
+    ensures step { Makes W.went W.failures wire.old wire.new result (C.table checked.now)
+        (stamp_limit (C.table checked.now)) (put_at at.row at.col ink) belief.old belief.new }
 {
     set_as(checked, belief, wire, ink.graphic)?;
-    print_at(checked, belief, wire, row, col, ink)
+    print_at(checked, belief, wire, at, ink)
 }
 
-/// Whether a wrap is pending that takes the next character there.
-fn wraps_to(place: Option<Place>, cols: usize, row: usize, col: usize) -> bool
-    ensures { result ≡ true → IsNext cols place row col }
+/// Whether the cursor is at `place` with a wrap pending that takes the next character to `at`.
+fn wraps_to(place: Option<Place>, cols: usize, at: Place) -> bool
+    ensures { result ≡ true → IsNext cols place at.row at.col }
 {
     match place {
-        Some(at) => col == 0 && row > 0 && at.row == row - 1 && at.col == cols,
+        Some(p) => at.col == 0 && at.row > 0 && p.row == at.row - 1 && p.col == cols,
         None => false,
     }
 }
 
-/// The next character goes to a place of a line that is shown as far as that place.
+/// Takes the next character to `at`, in a line that is shown as far as that place.
 fn approach<C: Certificate, N: View, W: Wire>(
-    checked: &C,
+    target: &Target<'_, C, N>,
     belief: &mut Belief,
     wire: &mut W,
-    shown: &N,
-    row: usize,
-    col: usize,
+    at: Place,
 ) -> Result<(), WireFault>
-    requires drawable { CanShow (C.table checked.now) (N.cells shown.now) }
-    requires row { row < (C.table checked.now).rows }
-    requires col { col < (C.table checked.now).cols }
-    ensures place { OnOk result (IsNext (C.table checked.now).cols belief.new.place row col) }
-    ensures step { (g : ℕ → ℕ → Ink) → BeginsAs g (N.cells shown.now) row col → Steps W.went W.failures wire.old wire.new result (IsPiece (C.table checked.now)) (C.table checked.now).longest.cup
-        (IsLost (C.table checked.now)) (Agrees (C.table checked.now) g belief.old) (Agrees (C.table checked.now) g belief.new) }
+    requires goal { IsGoal (C.table target.now.checked.now) at }
+    requires drawable { CanShow (C.table target.now.checked.now) (N.cells target.now.shown.now) }
+    ensures place { OnOk result (IsNext (C.table target.now.checked.now).cols belief.new.place at.row at.col) }
+    ensures step { KeepsFrom W.went W.failures wire.old wire.new result (C.table target.now.checked.now)
+        (C.table target.now.checked.now).longest.cup (N.cells target.now.shown.now) at belief.old belief.new }
 {
-    let _ = checked.rows();
-    if stands(belief.place, row, col) {
+    if stands(belief.place, at) {
         return Ok(());
     }
-    if wraps_to(belief.place, checked.cols(), row, col) {
+    if wraps_to(belief.place, target.checked.cols(), at) {
         return Ok(());
     }
-    reach(checked, belief, wire, shown, row, col)
+    reach(target, belief, wire, at)
 }
 
-/// A cell to which the next character is known to go.
-fn ink_in<C: Certificate, W: Wire>(
+/// Prints `ink` at `at`, where the next character is known to go.
+fn put_here<C: Certificate, W: Wire>(
     checked: &C,
     belief: &mut Belief,
     wire: &mut W,
-    row: usize,
-    col: usize,
+    at: Place,
     ink: Ink,
 ) -> Result<(), WireFault>
-    requires row { row < (C.table checked.now).rows }
-    requires col { col < (C.table checked.now).cols }
+    requires goal { IsGoal (C.table checked.now) at }
     requires ink { IsInk (C.table checked.now) ink }
-    requires place { IsNext (C.table checked.now).cols belief.old.place row col }
-    ensures step { (g : ℕ → ℕ → Ink) → Steps W.went W.failures wire.old wire.new result (IsPiece (C.table checked.now)) (ink_limit (C.table checked.now))
-        (IsLost (C.table checked.now)) (Agrees (C.table checked.now) g belief.old) (Agrees (C.table checked.now) (put_at row col ink g) belief.new) }
+    requires place { IsNext (C.table checked.now).cols belief.old.place at.row at.col }
+    ensures step { Makes W.went W.failures wire.old wire.new result (C.table checked.now)
+        (ink_limit (C.table checked.now)) (put_at at.row at.col ink) belief.old belief.new }
 {
     if is_alike(belief, ink) {
-        return print_at(checked, belief, wire, row, col, ink);
+        return print_at(checked, belief, wire, at, ink);
     }
     brush_as(checked, belief, wire, ink.brush)?;
-    stamp(checked, belief, wire, row, col, ink)
+    print_in_set(checked, belief, wire, at, ink)
 }
 
-/// A cell of a line that is shown as far as that place.
+/// Prints `ink` at `at`, in a line that is shown as far as that place.
 pub fn put_cell<C: Certificate, N: View, W: Wire>(
-    checked: &C,
+    target: &Target<'_, C, N>,
     belief: &mut Belief,
     wire: &mut W,
-    shown: &N,
-    row: usize,
-    col: usize,
+    at: Place,
     ink: Ink,
 ) -> Result<(), WireFault>
-    requires drawable { CanShow (C.table checked.now) (N.cells shown.now) }
-    requires row { row < (C.table checked.now).rows }
-    requires col { col < (C.table checked.now).cols }
-    requires ink { IsInk (C.table checked.now) ink }
-    ensures step { (g : ℕ → ℕ → Ink) → BeginsAs g (N.cells shown.now) row col → Steps W.went W.failures wire.old wire.new result (IsPiece (C.table checked.now)) (cell_limit (C.table checked.now))
-        (IsLost (C.table checked.now)) (Agrees (C.table checked.now) g belief.old) (Agrees (C.table checked.now) (put_at row col ink g) belief.new) }
+    requires drawable { CanShow (C.table target.now.checked.now) (N.cells target.now.shown.now) }
+    requires row { at.row < (C.table target.now.checked.now).rows }
+    requires col { at.col < (C.table target.now.checked.now).cols }
+    requires ink { IsInk (C.table target.now.checked.now) ink }
+    ensures step { MakesFrom W.went W.failures wire.old wire.new result (C.table target.now.checked.now)
+        (cell_limit (C.table target.now.checked.now)) (N.cells target.now.shown.now) at (put_at at.row at.col ink)
+        belief.old belief.new }
 {
-    approach(checked, belief, wire, shown, row, col)?;
-    ink_in(checked, belief, wire, row, col, ink)
+    // only this call's contract says that the certificate is verified
+    let _ = target.checked.rows();
+    approach(target, belief, wire, at)?;
+    put_here(target.checked, belief, wire, at, ink)
 }
 
-/// A line that is shown as far as a place is blank from there on.
+/// Makes a line that is shown as far as `at` blank from there on, by the string `tail`.
 pub fn blank_tail<C: Certificate, N: View, W: Wire>(
-    checked: &C,
+    target: &Target<'_, C, N>,
     belief: &mut Belief,
     wire: &mut W,
-    shown: &N,
-    row: usize,
-    col: usize,
+    at: Place,
     tail: &[u8],
 ) -> Result<(), WireFault>
-    requires drawable { CanShow (C.table checked.now) (N.cells shown.now) }
-    requires row { row < (C.table checked.now).rows }
-    requires col { col < (C.table checked.now).cols }
-    requires tail { (C.table checked.now).line_of El ≡ Some tail.now }
-    ensures step { (g : ℕ → ℕ → Ink) → BeginsAs g (N.cells shown.now) row col → Steps W.went W.failures wire.old wire.new result (IsPiece (C.table checked.now)) (cell_limit (C.table checked.now))
-        (IsLost (C.table checked.now)) (Agrees (C.table checked.now) g belief.old) (Agrees (C.table checked.now) (tail_blank row col g) belief.new) }
+    requires drawable { CanShow (C.table target.now.checked.now) (N.cells target.now.shown.now) }
+    requires row { at.row < (C.table target.now.checked.now).rows }
+    requires col { at.col < (C.table target.now.checked.now).cols }
+    requires tail { (C.table target.now.checked.now).line_of El ≡ Some tail.now }
+    ensures step { MakesFrom W.went W.failures wire.old wire.new result (C.table target.now.checked.now)
+        (cell_limit (C.table target.now.checked.now)) (N.cells target.now.shown.now) at (tail_blank at.row at.col)
+        belief.old belief.new }
 {
-    poise(checked, belief, wire, shown, row, col, Brush::plain())?;
-    erase_tail(checked, tail, belief, wire, row, col)
+    // only this call's contract says that the certificate is verified
+    let _ = target.checked.rows();
+    reach_in_brush(target, belief, wire, at, Brush::plain())?;
+    erase_tail(target.checked, tail, belief, wire, at)
 }

@@ -1,18 +1,17 @@
 //! Erasures but for that of a line's end, each from a place and in the plain brush.
 ghost use Rattle.std.specs.Prelude.{◌≡◌, ◌<◌, ℕ, Some, None, OnOk, IfSome};
-ghost use Rattle.cur_wires.specs.Steps.{Steps};
-ghost use Rattle.ti_conforms.specs.Certified.{IsPiece, IsLost, cell_limit};
+ghost use Rattle.ti_conforms.specs.Certified.{IsChecked, cell_limit};
 ghost use Rattle.cur_looks.specs.Inks.{CanShow, plain_brush};
-ghost use Rattle.cur_looks.specs.Beliefs.{Agrees, Belief, ready_limit};
-ghost use Rattle.cur_looks.specs.Gaps.{BeginsAs};
+ghost use Rattle.cur_looks.specs.Beliefs.{ready_limit};
 ghost use Rattle.cur_looks.specs.Erasures.{erasure_row, erased};
-ghost use Rattle.cur_looks.specs.declared.inks.Ink.{Ink};
+ghost use Rattle.cur_looks.specs.Steps.{IsGoal, Keeps, Makes, MakesFrom};
 
-use crate::beliefs::Belief;
-use crate::cells::{brush_as, poise};
+use crate::beliefs::{Belief, Place};
+use crate::cells::{brush_as, reach_in_brush};
 use crate::inks::{Brush, View};
 use crate::lines::send_line;
 use crate::reaching::reach_by_line;
+use crate::targets::Target;
 use cur_wires::{Wire, WireFault};
 use ti_conforms::Certificate;
 use ti_rows::Row;
@@ -28,7 +27,7 @@ pub enum Erasure {
     Rest,
 }
 
-/// The row whose line erases it.
+/// The row whose line erases `erasure`.
 fn row_of_erasure(erasure: Erasure) -> Row
     ensures { result ≡ erasure_row erasure }
 {
@@ -39,7 +38,7 @@ fn row_of_erasure(erasure: Erasure) -> Row
     }
 }
 
-/// The line that erases it, if there is one.
+/// The line that erases `erasure`, if there is one.
 pub fn erasing_line<C: Certificate>(checked: &C, erasure: Erasure) -> Option<&[u8]>
     ensures value { IfSome result (λ b. (C.table checked.now).line_of (erasure_row erasure) ≡ Some b.now) }
     ensures none { result ≡ None → (C.table checked.now).line_of (erasure_row erasure) ≡ None }
@@ -47,84 +46,83 @@ pub fn erasing_line<C: Certificate>(checked: &C, erasure: Erasure) -> Option<&[u
     checked.line(row_of_erasure(erasure))
 }
 
-/// Erased from where the cursor is known to be.
+/// Erases `erasure` by its string `line`, from `at`, where the cursor is known to be.
 fn erase_here<C: Certificate, W: Wire>(
     checked: &C,
     line: &[u8],
     belief: &Belief,
     wire: &mut W,
-    row: usize,
-    col: usize,
+    at: Place,
     erasure: Erasure,
 ) -> Result<(), WireFault>
-    requires col { col < (C.table checked.now).cols }
+    requires checked { IsChecked (C.table checked.now) }
+    requires col { at.col < (C.table checked.now).cols }
     requires line { (C.table checked.now).line_of (erasure_row erasure) ≡ Some line.now }
-    requires place { belief.now.place ≡ Some (record { row = row; col = col }) }
+    requires place { belief.now.place ≡ Some at }
     requires brush { belief.now.brush ≡ plain_brush }
-    ensures step { (g : ℕ → ℕ → Ink) → Steps W.went W.failures wire.old wire.new result (IsPiece (C.table checked.now)) (C.table checked.now).longest.erasure
-        (IsLost (C.table checked.now)) (Agrees (C.table checked.now) g belief.now) (Agrees (C.table checked.now) (erased erasure row col g) belief.now) }
+    ensures step { Makes W.went W.failures wire.old wire.new result (C.table checked.now)
+        (C.table checked.now).longest.erasure (erased erasure at.row at.col) belief.now belief.now }
 {
-    let _ = belief;
     send_line(checked, row_of_erasure(erasure), line, wire)
 }
 
-/// The cursor is in a place, whatever is shown, and the brush is the plain one.
-fn poise_plainly<C: Certificate, W: Wire>(
+/// Moves the cursor to `at`, whatever is shown, and makes the brush plain.
+fn reach_plainly<C: Certificate, W: Wire>(
     checked: &C,
     belief: &mut Belief,
     wire: &mut W,
-    row: usize,
-    col: usize,
+    at: Place,
 ) -> Result<(), WireFault>
-    requires row { row < (C.table checked.now).rows }
-    requires col { col < (C.table checked.now).cols }
+    requires goal { IsGoal (C.table checked.now) at }
     ensures brush { OnOk result (belief.new.brush ≡ plain_brush) }
-    ensures place { OnOk result (belief.new.place ≡ Some (record { row = row; col = col })) }
-    ensures step { (g : ℕ → ℕ → Ink) → Steps W.went W.failures wire.old wire.new result (IsPiece (C.table checked.now)) (ready_limit (C.table checked.now))
-        (IsLost (C.table checked.now)) (Agrees (C.table checked.now) g belief.old) (Agrees (C.table checked.now) g belief.new) }
+    ensures place { OnOk result (belief.new.place ≡ Some at) }
+    ensures step { Keeps W.went W.failures wire.old wire.new result (C.table checked.now)
+        (ready_limit (C.table checked.now)) belief.old belief.new }
 {
-    reach_by_line(checked, belief, wire, row, col)?;
+    reach_by_line(checked, belief, wire, at)?;
     brush_as(checked, belief, wire, Brush::plain())
 }
 
-/// Erased from a place of a line that is shown as far as that place.
+/// Erases `erasure` by its string `line`, from the place `at` of a line that is shown as far as that place.
 pub fn erase_from<C: Certificate, N: View, W: Wire>(
-    checked: &C,
+    target: &Target<'_, C, N>,
     belief: &mut Belief,
     wire: &mut W,
-    shown: &N,
-    row: usize,
-    col: usize,
+    at: Place,
     erasure: Erasure,
     line: &[u8],
 ) -> Result<(), WireFault>
-    requires drawable { CanShow (C.table checked.now) (N.cells shown.now) }
-    requires row { row < (C.table checked.now).rows }
-    requires col { col < (C.table checked.now).cols }
-    requires line { (C.table checked.now).line_of (erasure_row erasure) ≡ Some line.now }
-    ensures step { (g : ℕ → ℕ → Ink) → BeginsAs g (N.cells shown.now) row col → Steps W.went W.failures wire.old wire.new result (IsPiece (C.table checked.now)) (cell_limit (C.table checked.now))
-        (IsLost (C.table checked.now)) (Agrees (C.table checked.now) g belief.old) (Agrees (C.table checked.now) (erased erasure row col g) belief.new) }
+    requires drawable { CanShow (C.table target.now.checked.now) (N.cells target.now.shown.now) }
+    requires row { at.row < (C.table target.now.checked.now).rows }
+    requires col { at.col < (C.table target.now.checked.now).cols }
+    requires line { (C.table target.now.checked.now).line_of (erasure_row erasure) ≡ Some line.now }
+    ensures step { MakesFrom W.went W.failures wire.old wire.new result (C.table target.now.checked.now)
+        (cell_limit (C.table target.now.checked.now)) (N.cells target.now.shown.now) at (erased erasure at.row at.col)
+        belief.old belief.new }
 {
-    poise(checked, belief, wire, shown, row, col, Brush::plain())?;
-    erase_here(checked, line, belief, wire, row, col, erasure)
+    // only this call's contract says that the certificate is verified
+    let _ = target.checked.rows();
+    reach_in_brush(target, belief, wire, at, Brush::plain())?;
+    erase_here(target.checked, line, belief, wire, at, erasure)
 }
 
-/// Erased from a place of any line.
+/// Erases `erasure` by its string `line`, from `at`, whatever is shown.
 pub fn erase_at<C: Certificate, W: Wire>(
     checked: &C,
     belief: &mut Belief,
     wire: &mut W,
-    row: usize,
-    col: usize,
+    at: Place,
     erasure: Erasure,
     line: &[u8],
 ) -> Result<(), WireFault>
-    requires row { row < (C.table checked.now).rows }
-    requires col { col < (C.table checked.now).cols }
+    requires row { at.row < (C.table checked.now).rows }
+    requires col { at.col < (C.table checked.now).cols }
     requires line { (C.table checked.now).line_of (erasure_row erasure) ≡ Some line.now }
-    ensures step { (g : ℕ → ℕ → Ink) → Steps W.went W.failures wire.old wire.new result (IsPiece (C.table checked.now)) (cell_limit (C.table checked.now))
-        (IsLost (C.table checked.now)) (Agrees (C.table checked.now) g belief.old) (Agrees (C.table checked.now) (erased erasure row col g) belief.new) }
+    ensures step { Makes W.went W.failures wire.old wire.new result (C.table checked.now)
+        (cell_limit (C.table checked.now)) (erased erasure at.row at.col) belief.old belief.new }
 {
-    poise_plainly(checked, belief, wire, row, col)?;
-    erase_here(checked, line, belief, wire, row, col, erasure)
+    // only this call's contract says that the certificate is verified
+    let _ = checked.rows();
+    reach_plainly(checked, belief, wire, at)?;
+    erase_here(checked, line, belief, wire, at, erasure)
 }

@@ -28,25 +28,26 @@ pub trait View {
 
     ghost cells: { Self → ℕ → ℕ → Ink };
 
-    /// What is in a place; elsewhere something blank.
+    /// What is in line `row` and column `col`; elsewhere something blank.
     fn at(&self, row: usize, col: usize) -> Ink
         ensures value { result ≡ cells self.now row col };
 
-    /// Whether what is in a place is printed like this.
+    /// Whether what is in line `row` and column `col` is printed like `ink`.
     fn shows(&self, row: usize, col: usize, ink: Ink) -> bool
         ensures value { result ≡ same (cells self.now row col) ink }
     {
         is_same(self.at(row, col), ink)
     }
 
-    /// Whether a place is blank.
+    /// Whether line `row` and column `col` is blank.
     fn is_blank(&self, row: usize, col: usize) -> bool
         ensures value { result ≡ same (cells self.now row col) blank_ink }
     {
         self.shows(row, col, Ink::blank())
     }
 
-    /// The character in a place, if it is printed in the set and the brush of another place of the line.
+    /// The character in line `row` and column `col`, if it is printed in the set and the brush of the column `like` of
+    /// that line.
     fn byte_like(&self, row: usize, col: usize, like: usize) -> Option<u8>
         ensures value { result ≡ byte_as (cells self.now row col) (cells self.now row like) }
     {
@@ -103,14 +104,14 @@ impl Brush {
     }
 }
 
-/// Whether two are printed in one way with one look.
+/// Whether `a` and `b` are printed in one way with one look.
 pub fn is_same(a: Ink, b: Ink) -> bool
     ensures value { result ≡ spec.same a b }
 {
     a.byte == b.byte && a.graphic == b.graphic && same_brush(a.brush, b.brush)
 }
 
-/// The character, if it is printed in the set and the brush of another one.
+/// The character of `ink`, if it is printed in the set and the brush of `like`.
 pub fn byte_as(ink: Ink, like: Ink) -> Option<u8>
     ensures value { result ≡ spec.byte_as ink like }
 {
@@ -118,7 +119,7 @@ pub fn byte_as(ink: Ink, like: Ink) -> Option<u8>
     is_like.then_some(ink.byte)
 }
 
-/// Whether two brushes are the same.
+/// Whether the brushes `a` and `b` are the same.
 pub(crate) fn same_brush(a: Brush, b: Brush) -> bool
     ensures value { result ≡ spec.same_brush a b }
 {
@@ -127,28 +128,28 @@ pub(crate) fn same_brush(a: Brush, b: Brush) -> bool
         && same_color(a.background, b.background)
 }
 
-/// Whether two sets of attributes are the same.
+/// Whether the attributes `a` and `b` are the same.
 pub(crate) fn same_attributes(a: Attributes, b: Attributes) -> bool
     ensures value { result ≡ spec.same_attributes a b }
 {
     same_few(a, b) && same_others(a, b)
 }
 
-/// Whether two sets are the same in standout, underline and reverse.
+/// Whether `a` and `b` are the same in standout, underline and reverse.
 fn same_few(a: Attributes, b: Attributes) -> bool
     ensures value { result ≡ spec.same_few a b }
 {
     a.standout == b.standout && a.underline == b.underline && a.reverse == b.reverse
 }
 
-/// Whether two sets are the same in the other attributes.
+/// Whether `a` and `b` are the same in the other attributes.
 fn same_others(a: Attributes, b: Attributes) -> bool
     ensures value { result ≡ spec.same_others a b }
 {
     a.blink == b.blink && a.dim == b.dim && a.bold == b.bold && a.invisible == b.invisible
 }
 
-/// Whether two colours are the same.
+/// Whether the colours `a` and `b` are the same.
 pub(crate) fn same_color(a: Option<Color>, b: Option<Color>) -> bool
     ensures value { result ≡ spec.same_color a b }
 {

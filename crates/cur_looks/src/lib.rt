@@ -13,6 +13,7 @@ mod reaching;
 mod routes;
 mod singles;
 mod steps;
+mod targets;
 mod texts;
 
 pub use beliefs::{Belief, Mode, Place};
@@ -21,5 +22,6 @@ pub use erasing::{Erasure, erase_at, erase_from, erasing_line};
 pub use inks::{Blank, Brush, Ink, View, byte_as, is_same};
 pub use modes::show_as;
 pub use reaching::{line_bytes, reach};
+pub use targets::Target;
 pub use texts::{goes_on, print_text};
 pub use ti_rows::{Attributes, Looks, Marks, Row};

@@ -1,28 +1,30 @@
 //! The sending of one line.
 ghost use Rattle.std.specs.Prelude.{◌≡◌, ◌≤◌, ℕ, length, Some};
-ghost use Rattle.cur_wires.specs.Steps.{Steps};
-ghost use Rattle.ti_conforms.specs.Certified.{IsPiece, IsLost, limit_of, text_of};
-ghost use Rattle.cur_looks.specs.Beliefs.{Agrees, Belief, Turns};
+ghost use Rattle.ti_conforms.specs.Certified.{IsChecked, limit_of, text_of};
+ghost use Rattle.cur_looks.specs.Beliefs.{Belief, Turns};
+ghost use Rattle.cur_looks.specs.Steps.{Acts};
 ghost use Rattle.cur_looks.specs.declared.inks.Ink.{Ink};
 
 use cur_wires::{Wire, WireFault, send_all};
 use ti_conforms::Certificate;
 use ti_rows::Row;
 
-/// A row's line goes out. It leads from whatever belief the row starts from to what the row makes of it.
+/// Sends `bytes`, which is the line of `row`. It leads from whatever belief the row starts from to what the row makes
+/// of it.
 pub(crate) fn send_line<C: Certificate, W: Wire>(
     checked: &C,
     row: Row,
     bytes: &[u8],
     wire: &mut W,
 ) -> Result<(), WireFault>
+    requires checked { IsChecked (C.table checked.now) }
     requires line { (C.table checked.now).line_of row ≡ Some bytes.now }
-    ensures exact { (n : ℕ) (g h : ℕ → ℕ → Ink) (b c : Belief) → length (text_of (C.table checked.now) row) ≤ n → Turns (C.table checked.now) row g b h c
-        → Steps W.went W.failures wire.old wire.new result (IsPiece (C.table checked.now)) n (IsLost (C.table checked.now)) (Agrees (C.table checked.now) g b) (Agrees (C.table checked.now) h c) }
-    ensures step { (n : ℕ) (g h : ℕ → ℕ → Ink) (b c : Belief) → limit_of (C.table checked.now) row ≤ n → Turns (C.table checked.now) row g b h c
-        → Steps W.went W.failures wire.old wire.new result (IsPiece (C.table checked.now)) n (IsLost (C.table checked.now)) (Agrees (C.table checked.now) g b) (Agrees (C.table checked.now) h c) }
+    ensures exact { (n : ℕ) (g h : ℕ → ℕ → Ink) (b c : Belief) → length (text_of (C.table checked.now) row) ≤ n
+        → Turns (C.table checked.now) row g b h c
+        → Acts W.went W.failures wire.old wire.new result (C.table checked.now) n g h b c }
+    ensures step { (n : ℕ) (g h : ℕ → ℕ → Ink) (b c : Belief) → limit_of (C.table checked.now) row ≤ n
+        → Turns (C.table checked.now) row g b h c
+        → Acts W.went W.failures wire.old wire.new result (C.table checked.now) n g h b c }
 {
-    let _ = checked.rows();
-    let _ = row;
     send_all(wire, bytes)
 }

@@ -1,10 +1,9 @@
 //! How the cursor is shown.
 ghost use Rattle.std.specs.Prelude.{◌≡◌, ◌*◌, ℕ, true, false, Some, OnOk};
-ghost use Rattle.cur_wires.specs.Steps.{Steps};
 ghost use Rattle.ti_rows.specs.declared.rows.Row.TheVariants.{Civis, Cnorm};
-ghost use Rattle.ti_conforms.specs.Certified.{IsPiece, IsLost, has};
-ghost use Rattle.cur_looks.specs.Beliefs.{Agrees, Belief, CanHide, Hidden, Normal, Prominent, changes, modes_limit};
-ghost use Rattle.cur_looks.specs.declared.inks.Ink.{Ink};
+ghost use Rattle.ti_conforms.specs.Certified.{IsChecked, has};
+ghost use Rattle.cur_looks.specs.Beliefs.{CanHide, Hidden, Normal, Prominent, changes, modes_limit};
+ghost use Rattle.cur_looks.specs.Steps.{Keeps};
 
 use crate::beliefs::{Belief, Mode};
 use crate::lines::send_line;
@@ -12,19 +11,19 @@ use cur_wires::{Wire, WireFault};
 use ti_conforms::Certificate;
 use ti_rows::Row;
 
-/// The cursor disappears.
+/// Hides the cursor.
 fn hide<C: Certificate, W: Wire>(
     checked: &C,
     belief: &mut Belief,
     wire: &mut W,
 ) -> Result<(), WireFault>
+    requires checked { IsChecked (C.table checked.now) }
     requires line { has (C.table checked.now) Civis ≡ true }
     requires back { has (C.table checked.now) Cnorm ≡ true }
     ensures belief { belief.new ≡ record belief.old { mode = Some Hidden } }
-    ensures step { (g : ℕ → ℕ → Ink) → Steps W.went W.failures wire.old wire.new result (IsPiece (C.table checked.now)) ((C.table checked.now).longest.civis)
-        (IsLost (C.table checked.now)) (Agrees (C.table checked.now) g belief.old) (Agrees (C.table checked.now) g belief.new) }
+    ensures step { Keeps W.went W.failures wire.old wire.new result (C.table checked.now)
+        (C.table checked.now).longest.civis belief.old belief.new }
 {
-    let _ = checked.rows();
     belief.mode = Some(Mode::Hidden);
     match checked.line(Row::Civis) {
         Some(line) => send_line(checked, Row::Civis, line, wire),
@@ -32,17 +31,17 @@ fn hide<C: Certificate, W: Wire>(
     }
 }
 
-/// The cursor appears.
+/// Shows the cursor.
 fn show<C: Certificate, W: Wire>(
     checked: &C,
     belief: &mut Belief,
     wire: &mut W,
 ) -> Result<(), WireFault>
+    requires checked { IsChecked (C.table checked.now) }
     ensures belief { belief.new ≡ record belief.old { mode = Some Normal } }
-    ensures step { (g : ℕ → ℕ → Ink) → Steps W.went W.failures wire.old wire.new result (IsPiece (C.table checked.now)) ((C.table checked.now).longest.cnorm)
-        (IsLost (C.table checked.now)) (Agrees (C.table checked.now) g belief.old) (Agrees (C.table checked.now) g belief.new) }
+    ensures step { Keeps W.went W.failures wire.old wire.new result (C.table checked.now)
+        (C.table checked.now).longest.cnorm belief.old belief.new }
 {
-    let _ = checked.rows();
     belief.mode = Some(Mode::Normal);
     match checked.line(Row::Cnorm) {
         Some(line) => send_line(checked, Row::Cnorm, line, wire),
@@ -50,18 +49,18 @@ fn show<C: Certificate, W: Wire>(
     }
 }
 
-/// The cursor, which is shown, becomes very visible.
-fn stress<C: Certificate, W: Wire>(
+/// Makes the cursor, which is shown, very visible.
+fn make_prominent<C: Certificate, W: Wire>(
     checked: &C,
     belief: &mut Belief,
     wire: &mut W,
 ) -> Result<(), WireFault>
+    requires checked { IsChecked (C.table checked.now) }
     requires shown { belief.old.mode ≡ Some Normal }
     ensures belief { belief.new ≡ record belief.old { mode = Some Prominent } }
-    ensures step { (g : ℕ → ℕ → Ink) → Steps W.went W.failures wire.old wire.new result (IsPiece (C.table checked.now)) ((C.table checked.now).longest.cvvis)
-        (IsLost (C.table checked.now)) (Agrees (C.table checked.now) g belief.old) (Agrees (C.table checked.now) g belief.new) }
+    ensures step { Keeps W.went W.failures wire.old wire.new result (C.table checked.now)
+        (C.table checked.now).longest.cvvis belief.old belief.new }
 {
-    let _ = checked.rows();
     belief.mode = Some(Mode::Prominent);
     match checked.line(Row::Cvvis) {
         Some(line) => send_line(checked, Row::Cvvis, line, wire),
@@ -69,21 +68,22 @@ fn stress<C: Certificate, W: Wire>(
     }
 }
 
-/// The cursor is shown very visibly.
-fn show_stressed<C: Certificate, W: Wire>(
+/// Shows the cursor and makes it very visible.
+fn show_prominently<C: Certificate, W: Wire>(
     checked: &C,
     belief: &mut Belief,
     wire: &mut W,
 ) -> Result<(), WireFault>
+    requires checked { IsChecked (C.table checked.now) }
     ensures belief { OnOk result (belief.new ≡ record belief.old { mode = Some Prominent }) }
-    ensures step { (g : ℕ → ℕ → Ink) → Steps W.went W.failures wire.old wire.new result (IsPiece (C.table checked.now)) (modes_limit (C.table checked.now))
-        (IsLost (C.table checked.now)) (Agrees (C.table checked.now) g belief.old) (Agrees (C.table checked.now) g belief.new) }
+    ensures step { Keeps W.went W.failures wire.old wire.new result (C.table checked.now)
+        (modes_limit (C.table checked.now)) belief.old belief.new }
 {
     show(checked, belief, wire)?;
-    stress(checked, belief, wire)
+    make_prominent(checked, belief, wire)
 }
 
-/// Whether the mode is known to be this one.
+/// Whether the mode `now` is known and is `wanted`.
 fn is_mode(now: Option<Mode>, wanted: Mode) -> bool
     ensures so { result ≡ true → now ≡ Some wanted }
     ensures counted { result ≡ false → changes now wanted ≡ 1 }
@@ -96,7 +96,7 @@ fn is_mode(now: Option<Mode>, wanted: Mode) -> bool
     )
 }
 
-/// The cursor is shown in this mode, if it isn't known to be.
+/// Shows the cursor in the mode `wanted`, if it isn't known to be.
 pub fn show_as<C: Certificate, W: Wire>(
     checked: &C,
     belief: &mut Belief,
@@ -105,9 +105,10 @@ pub fn show_as<C: Certificate, W: Wire>(
 ) -> Result<(), WireFault>
     requires lines { CanHide (C.table checked.now) wanted }
     ensures belief { OnOk result (belief.new ≡ record belief.old { mode = Some wanted }) }
-    ensures step { (g : ℕ → ℕ → Ink) → Steps W.went W.failures wire.old wire.new result (IsPiece (C.table checked.now)) (changes belief.old.mode wanted * modes_limit (C.table checked.now))
-        (IsLost (C.table checked.now)) (Agrees (C.table checked.now) g belief.old) (Agrees (C.table checked.now) g belief.new) }
+    ensures step { Keeps W.went W.failures wire.old wire.new result (C.table checked.now)
+        (changes belief.old.mode wanted * modes_limit (C.table checked.now)) belief.old belief.new }
 {
+    // only this call's contract says that the certificate is verified
     let _ = checked.rows();
     if is_mode(belief.mode, wanted) {
         return Ok(());
@@ -115,6 +116,6 @@ pub fn show_as<C: Certificate, W: Wire>(
     match wanted {
         Mode::Hidden => hide(checked, belief, wire),
         Mode::Normal => show(checked, belief, wire),
-        Mode::Prominent => show_stressed(checked, belief, wire),
+        Mode::Prominent => show_prominently(checked, belief, wire),
     }
 }

@@ -1,6 +1,6 @@
 //! The row by which the cursor moves: of those that lead to a place, one with the shortest line.
 ghost use Rattle.std.specs.Prelude.{ℕ, ◌≡◌, ◌<◌, ◌≤◌, length, Option, Some, IfSome};
-ghost use Rattle.ti_conforms.specs.Certified.{text_of};
+ghost use Rattle.ti_conforms.specs.Certified.{IsChecked, text_of};
 ghost use Rattle.cur_looks.specs.Beliefs.{Place};
 ghost use Rattle.cur_looks.specs.Moves.{Moves, IsAtMost, IsWay};
 ghost use Rattle.ti_rows.specs.declared.rows.Row.{Row};
@@ -17,19 +17,21 @@ pub(crate) struct Way {
     pub bytes: usize,
 }
 
-/// A row with the shortest line that leads from what is known of the cursor's place to this one.
+/// A row with the shortest line that leads to line `row` and column `col` from what is known of the cursor's place,
+/// `from`.
 pub(crate) fn shortest<C: Certificate>(checked: &C, from: Option<Place>, row: u16, col: u16) -> Way
+    requires checked { IsChecked (C.table checked.now) }
     requires row { row < (C.table checked.now).rows }
     requires col { col < (C.table checked.now).cols }
     ensures way { IsWay (C.table checked.now) from row col result.line }
     ensures bytes { result.bytes ≡ length (text_of (C.table checked.now) result.line) }
-    ensures least { (line : Row) → Moves (C.table checked.now).cols from row col line → IsAtMost (C.table checked.now) result.bytes line }
+    ensures least { (line : Row) → Moves (C.table checked.now).cols from row col line
+        → IsAtMost (C.table checked.now) result.bytes line }
 {
     let best = shorter(checked, straight(checked, row, col), by_corner(row, col));
     let Some(at) = from else {
         return best;
     };
-    let _ = checked.rows();
     let cols = checked.cols();
     let best = shorter(checked, best, by_line_start(at, row, col));
     let best = shorter(checked, best, by_one(at, row, col, cols));
@@ -40,13 +42,13 @@ pub(crate) fn shortest<C: Certificate>(checked: &C, from: Option<Place>, row: u1
 
 /// `cup`.
 fn straight<C: Certificate>(checked: &C, row: u16, col: u16) -> Way
+    requires checked { IsChecked (C.table checked.now) }
     requires row { row < (C.table checked.now).rows }
     requires col { col < (C.table checked.now).cols }
     ensures line { result.line ≡ Cup row col }
     ensures way { (from : Option Place) → IsWay (C.table checked.now) from row col result.line }
     ensures bytes { result.bytes ≡ length (text_of (C.table checked.now) result.line) }
 {
-    let _ = checked.rows();
     let line = Row::Cup(row, col);
     Way {
         line,
@@ -54,7 +56,7 @@ fn straight<C: Certificate>(checked: &C, row: u16, col: u16) -> Way
     }
 }
 
-/// How many bytes a row's line has.
+/// How many bytes the line of the row `line` has.
 fn line_length<C: Certificate>(checked: &C, line: Row) -> usize
     ensures { result ≡ length (text_of (C.table checked.now) line) }
 {
@@ -64,10 +66,11 @@ fn line_length<C: Certificate>(checked: &C, line: Row) -> usize
     }
 }
 
-/// The other row if its line is there and is the shorter one.
+/// The row `other`, if its line is there and is shorter than that of `best`; else `best`.
 fn shorter<C: Certificate>(checked: &C, best: Way, other: Option<Row>) -> Way
     requires bytes { best.bytes ≡ length (text_of (C.table checked.now) best.line) }
-    ensures way { (from : Option Place) (row col : ℕ) → IsWay (C.table checked.now) from row col best.line → IfSome other (λ line. Moves (C.table checked.now).cols from row col line)
+    ensures way { (from : Option Place) (row col : ℕ) → IsWay (C.table checked.now) from row col best.line
+        → IfSome other (λ line. Moves (C.table checked.now).cols from row col line)
         → IsWay (C.table checked.now) from row col result.line }
     ensures bytes { result.bytes ≡ length (text_of (C.table checked.now) result.line) }
     ensures first { result.bytes ≤ best.bytes }
@@ -85,7 +88,7 @@ fn shorter<C: Certificate>(checked: &C, best: Way, other: Option<Row>) -> Way
     }
 }
 
-/// `home` to the corner.
+/// `home`, if line `row` and column `col` are the corner.
 fn by_corner(row: u16, col: u16) -> Option<Row>
     ensures moves { (cols : ℕ) (from : Option Place) → IfSome result (λ line. Moves cols from row col line) }
     ensures found { (cols : ℕ) (from : Option Place) → Moves cols from row col Home → result ≡ Some Home }
@@ -97,7 +100,7 @@ fn by_corner(row: u16, col: u16) -> Option<Row>
     }
 }
 
-/// `cr` to the first column of the cursor's line.
+/// `cr`, if line `row` is that of the cursor, which is at `at`, and column `col` is the first one.
 fn by_line_start(at: Place, row: u16, col: u16) -> Option<Row>
     ensures moves { (cols : ℕ) → IfSome result (λ line. Moves cols (Some at) row col line) }
     ensures found { (cols : ℕ) → Moves cols (Some at) row col Cr → result ≡ Some Cr }
@@ -109,7 +112,7 @@ fn by_line_start(at: Place, row: u16, col: u16) -> Option<Row>
     }
 }
 
-/// A move by one, to a neighbour, where no wrap is pending.
+/// A move by one from `at` to line `row` and column `col`, if that is a neighbour and no wrap is pending.
 fn by_one(at: Place, row: u16, col: u16, cols: usize) -> Option<Row>
     ensures moves { IfSome result (λ line. Moves cols (Some at) row col line) }
     ensures left { Moves cols (Some at) row col Cub1 → result ≡ Some Cub1 }
@@ -134,7 +137,7 @@ fn by_one(at: Place, row: u16, col: u16, cols: usize) -> Option<Row>
     }
 }
 
-/// A move by a count, in the cursor's line or column, where no wrap is pending.
+/// A move by a count from `at` to line `row` and column `col`, if one of them is the same and no wrap is pending.
 fn by_count(at: Place, row: u16, col: u16, cols: usize) -> Option<Row>
     requires cols { cols ≤ 1000 }
     ensures moves { IfSome result (λ line. Moves cols (Some at) row col line) }
@@ -160,7 +163,7 @@ fn by_count(at: Place, row: u16, col: u16, cols: usize) -> Option<Row>
     }
 }
 
-/// `hpa` to a column of the cursor's line.
+/// `hpa` to column `col`, if line `row` is that of the cursor, which is at `at`.
 fn by_column_name(at: Place, row: u16, col: u16) -> Option<Row>
     ensures moves { (cols : ℕ) → IfSome result (λ line. Moves cols (Some at) row col line) }
     ensures found { (cols n : ℕ) → Moves cols (Some at) row col (Hpa n) → result ≡ Some (Hpa n) }
@@ -172,7 +175,7 @@ fn by_column_name(at: Place, row: u16, col: u16) -> Option<Row>
     }
 }
 
-/// `vpa` to a row of the cursor's column.
+/// `vpa` to line `row`, if column `col` is that of the cursor, which is at `at`.
 fn by_row_name(at: Place, row: u16, col: u16) -> Option<Row>
     ensures moves { (cols : ℕ) → IfSome result (λ line. Moves cols (Some at) row col line) }
     ensures found { (cols n : ℕ) → Moves cols (Some at) row col (Vpa n) → result ≡ Some (Vpa n) }

@@ -1,13 +1,12 @@
 //! The way to a place, gone: by a line, over cells printed once more, or by a line to a stop and then so.
 ghost use Rattle.std.specs.Prelude.{◌≡◌, ◌+◌, ◌*◌, ◌<◌, ◌≤◌, ℕ, length, Some, OnOk};
-ghost use Rattle.cur_wires.specs.Steps.{Steps};
-ghost use Rattle.ti_conforms.specs.Certified.{IsPiece, IsLost, text_of};
+ghost use Rattle.ti_conforms.specs.Certified.{IsChecked, text_of};
 ghost use Rattle.cur_looks.specs.Inks.{CanShow};
-ghost use Rattle.cur_looks.specs.Beliefs.{Agrees, Belief, moves};
-ghost use Rattle.cur_looks.specs.Gaps.{IsAlike, BeginsAs};
+ghost use Rattle.cur_looks.specs.Beliefs.{moves};
+ghost use Rattle.cur_looks.specs.Gaps.{IsAlike, right};
 ghost use Rattle.cur_looks.specs.Moves.{IsFewest};
 ghost use Rattle.cur_looks.specs.Routes.{IsLeg, IsStop, IsRoute, leg_bytes, at_stop};
-ghost use Rattle.cur_looks.specs.declared.inks.Ink.{Ink};
+ghost use Rattle.cur_looks.specs.Steps.{IsGoal, Keeps, KeepsFrom};
 
 use crate::beliefs::{Belief, Place};
 use crate::inks::View;
@@ -15,169 +14,169 @@ use crate::lines::send_line;
 use crate::moves::shortest;
 use crate::routes::{Leg, Route, Stop, route_to};
 use crate::steps::{print_at, stands};
+use crate::targets::Target;
 use cur_wires::{Wire, WireFault};
 use ti_conforms::Certificate;
 
-/// Prints once more the `count` cells of the line `row` from the column `from` on, where the cursor is known to be.
+/// Prints once more the `count` cells from `from` on, where the cursor is known to be.
 fn reprint<C: Certificate, N: View, W: Wire>(
-    checked: &C,
+    target: &Target<'_, C, N>,
     belief: &mut Belief,
     wire: &mut W,
-    shown: &N,
-    row: usize,
-    from: usize,
+    from: Place,
     count: usize,
 ) -> Result<(), WireFault>
-    requires drawable { CanShow (C.table checked.now) (N.cells shown.now) }
-    requires row { row < (C.table checked.now).rows }
-    requires col { from + count < (C.table checked.now).cols }
-    requires place { belief.old.place ≡ Some (record { row = row; col = from }) }
-    requires alike { (k : ℕ) → k < count → IsAlike belief.old (N.cells shown.now row (from + k)) }
-    ensures belief { OnOk result (belief.new ≡ record belief.old { place = Some (record { row = row; col = from + count }) }) }
-    ensures step { (g : ℕ → ℕ → Ink) → BeginsAs g (N.cells shown.now) row (from + count) → Steps W.went W.failures wire.old wire.new result (IsPiece (C.table checked.now)) count
-        (IsLost (C.table checked.now)) (Agrees (C.table checked.now) g belief.old) (Agrees (C.table checked.now) g belief.new) }
+    requires checked { IsChecked (C.table target.now.checked.now) }
+    requires drawable { CanShow (C.table target.now.checked.now) (N.cells target.now.shown.now) }
+    requires row { from.row < (C.table target.now.checked.now).rows }
+    requires col { from.col + count < (C.table target.now.checked.now).cols }
+    requires place { belief.old.place ≡ Some from }
+    requires alike { (k : ℕ) → k < count → IsAlike belief.old (N.cells target.now.shown.now from.row (from.col + k)) }
+    ensures belief { OnOk result (belief.new ≡ record belief.old { place = Some (right from count) }) }
+    ensures step { KeepsFrom W.went W.failures wire.old wire.new result (C.table target.now.checked.now) count
+        (N.cells target.now.shown.now) (right from count) belief.old belief.new }
 {
-    let _ = checked.rows();
     for n in 0..count {
-        print_at(
-            checked,
-            belief,
-            wire,
-            row,
-            from + n,
-            shown.at(row, from + n),
-        )?;
+        let at = Place {
+            row: from.row,
+            col: from.col + n,
+        };
+        let ink = target.shown.at(at.row, at.col);
+        print_at(target.checked, belief, wire, at, ink)?;
     }
     Ok(())
 }
 
-/// The last leg of a way.
-fn end_leg<C: Certificate, N: View, W: Wire>(
-    checked: &C,
+/// Goes to `at` by the last leg `leg` of a way.
+fn follow_leg<C: Certificate, N: View, W: Wire>(
+    target: &Target<'_, C, N>,
     belief: &mut Belief,
     wire: &mut W,
-    shown: &N,
-    row: usize,
-    col: usize,
+    at: Place,
     leg: Leg,
 ) -> Result<(), WireFault>
-    requires drawable { CanShow (C.table checked.now) (N.cells shown.now) }
-    requires row { row < (C.table checked.now).rows }
-    requires col { col < (C.table checked.now).cols }
-    requires leg { IsLeg (C.table checked.now) belief.old (N.cells shown.now) row col leg }
-    ensures belief { OnOk result (belief.new ≡ record belief.old { place = Some (record { row = row; col = col }) }) }
-    ensures step { (g : ℕ → ℕ → Ink) → BeginsAs g (N.cells shown.now) row col → Steps W.went W.failures wire.old wire.new result (IsPiece (C.table checked.now)) (leg_bytes (C.table checked.now) leg col)
-        (IsLost (C.table checked.now)) (Agrees (C.table checked.now) g belief.old) (Agrees (C.table checked.now) g belief.new) }
+    requires goal { IsGoal (C.table target.now.checked.now) at }
+    requires drawable { CanShow (C.table target.now.checked.now) (N.cells target.now.shown.now) }
+    requires leg { IsLeg (C.table target.now.checked.now) belief.old (N.cells target.now.shown.now) at.row at.col leg }
+    ensures belief { OnOk result (belief.new ≡ record belief.old { place = Some at }) }
+    ensures step { KeepsFrom W.went W.failures wire.old wire.new result (C.table target.now.checked.now)
+        (leg_bytes (C.table target.now.checked.now) leg at.col) (N.cells target.now.shown.now) at
+        belief.old belief.new }
 {
-    let _ = checked.rows();
     match leg {
-        Leg::Over(from) => reprint(checked, belief, wire, shown, row, from, col - from),
+        Leg::Over(from) => {
+            let start = Place {
+                row: at.row,
+                col: from,
+            };
+            reprint(target, belief, wire, start, at.col - from)
+        }
         Leg::By(line) => {
-            belief.place = Some(Place { row, col });
-            send_line(checked, line, checked.line(line).unwrap(), wire)
+            belief.place = Some(at);
+            send_line(
+                target.checked,
+                line,
+                target.checked.line(line).unwrap(),
+                wire,
+            )
         }
     }
 }
 
-/// The way to a stop.
+/// Goes to the stop `stop` by its line.
 fn go_to_stop<C: Certificate, W: Wire>(
     checked: &C,
     belief: &mut Belief,
     wire: &mut W,
     stop: Stop,
 ) -> Result<(), WireFault>
+    requires checked { IsChecked (C.table checked.now) }
     requires stop { IsStop (C.table checked.now) belief.old.place stop }
     ensures belief { belief.new ≡ record belief.old { place = Some stop.place } }
-    ensures step { (g : ℕ → ℕ → Ink) → Steps W.went W.failures wire.old wire.new result (IsPiece (C.table checked.now)) (length (text_of (C.table checked.now) stop.line))
-        (IsLost (C.table checked.now)) (Agrees (C.table checked.now) g belief.old) (Agrees (C.table checked.now) g belief.new) }
+    ensures step { Keeps W.went W.failures wire.old wire.new result (C.table checked.now)
+        (length (text_of (C.table checked.now) stop.line)) belief.old belief.new }
 {
     belief.place = Some(stop.place);
     send_line(checked, stop.line, checked.line(stop.line).unwrap(), wire)
 }
 
-/// A way, gone.
-fn follow<C: Certificate, N: View, W: Wire>(
-    checked: &C,
+/// Goes to `at` by the way `route`.
+fn follow_route<C: Certificate, N: View, W: Wire>(
+    target: &Target<'_, C, N>,
     belief: &mut Belief,
     wire: &mut W,
-    shown: &N,
-    row: usize,
-    col: usize,
+    at: Place,
     route: Route,
 ) -> Result<(), WireFault>
-    requires drawable { CanShow (C.table checked.now) (N.cells shown.now) }
-    requires row { row < (C.table checked.now).rows }
-    requires col { col < (C.table checked.now).cols }
-    requires route { IsRoute (C.table checked.now) belief.old (N.cells shown.now) row col route }
-    ensures belief { OnOk result (belief.new ≡ record belief.old { place = Some (record { row = row; col = col }) }) }
-    ensures step { (g : ℕ → ℕ → Ink) → BeginsAs g (N.cells shown.now) row col → Steps W.went W.failures wire.old wire.new result (IsPiece (C.table checked.now)) (C.table checked.now).longest.cup
-        (IsLost (C.table checked.now)) (Agrees (C.table checked.now) g belief.old) (Agrees (C.table checked.now) g belief.new) }
+    requires goal { IsGoal (C.table target.now.checked.now) at }
+    requires drawable { CanShow (C.table target.now.checked.now) (N.cells target.now.shown.now) }
+    requires route { IsRoute (C.table target.now.checked.now) belief.old (N.cells target.now.shown.now)
+        at.row at.col route }
+    ensures belief { OnOk result (belief.new ≡ record belief.old { place = Some at }) }
+    ensures step { KeepsFrom W.went W.failures wire.old wire.new result (C.table target.now.checked.now)
+        (C.table target.now.checked.now).longest.cup (N.cells target.now.shown.now) at belief.old belief.new }
 {
     match route.stop {
-        None => end_leg(checked, belief, wire, shown, row, col, route.leg),
+        None => follow_leg(target, belief, wire, at, route.leg),
         Some(stop) => {
-            go_to_stop(checked, belief, wire, stop)?;
-            end_leg(checked, belief, wire, shown, row, col, route.leg)
+            go_to_stop(target.checked, belief, wire, stop)?;
+            follow_leg(target, belief, wire, at, route.leg)
         }
     }
 }
 
-/// The cursor goes to a place of a line that is shown as far as that place.
+/// Moves the cursor to `at`, in a line that is shown as far as that place.
 pub fn reach<C: Certificate, N: View, W: Wire>(
-    checked: &C,
+    target: &Target<'_, C, N>,
     belief: &mut Belief,
     wire: &mut W,
-    shown: &N,
-    row: usize,
-    col: usize,
+    at: Place,
 ) -> Result<(), WireFault>
-    requires drawable { CanShow (C.table checked.now) (N.cells shown.now) }
-    requires row { row < (C.table checked.now).rows }
-    requires col { col < (C.table checked.now).cols }
-    ensures belief { OnOk result (belief.new ≡ record belief.old { place = Some (record { row = row; col = col }) }) }
-    ensures step { (g : ℕ → ℕ → Ink) → BeginsAs g (N.cells shown.now) row col → Steps W.went W.failures wire.old wire.new result (IsPiece (C.table checked.now)) (moves belief.old.place row col * (C.table checked.now).longest.cup)
-        (IsLost (C.table checked.now)) (Agrees (C.table checked.now) g belief.old) (Agrees (C.table checked.now) g belief.new) }
+    requires drawable { CanShow (C.table target.now.checked.now) (N.cells target.now.shown.now) }
+    requires row { at.row < (C.table target.now.checked.now).rows }
+    requires col { at.col < (C.table target.now.checked.now).cols }
+    ensures belief { OnOk result (belief.new ≡ record belief.old { place = Some at }) }
+    ensures step { KeepsFrom W.went W.failures wire.old wire.new result (C.table target.now.checked.now)
+        (moves belief.old.place at.row at.col * (C.table target.now.checked.now).longest.cup)
+        (N.cells target.now.shown.now) at belief.old belief.new }
 {
-    let _ = checked.rows();
-    if stands(belief.place, row, col) {
+    // only this call's contract says that the certificate is verified
+    let _ = target.checked.rows();
+    if stands(belief.place, at) {
         return Ok(());
     }
-    let route = route_to(checked, belief, shown, row, col);
-    follow(checked, belief, wire, shown, row, col, route)
+    let route = route_to(target, belief, at);
+    follow_route(target, belief, wire, at, route)
 }
 
-/// The cursor goes to a place by a line, whatever is shown.
+/// Moves the cursor to `at` by a line, whatever is shown.
 pub(crate) fn reach_by_line<C: Certificate, W: Wire>(
     checked: &C,
     belief: &mut Belief,
     wire: &mut W,
-    row: usize,
-    col: usize,
+    at: Place,
 ) -> Result<(), WireFault>
-    requires row { row < (C.table checked.now).rows }
-    requires col { col < (C.table checked.now).cols }
-    ensures belief { OnOk result (belief.new ≡ record belief.old { place = Some (record { row = row; col = col }) }) }
-    ensures step { (g : ℕ → ℕ → Ink) → Steps W.went W.failures wire.old wire.new result (IsPiece (C.table checked.now)) (C.table checked.now).longest.cup
-        (IsLost (C.table checked.now)) (Agrees (C.table checked.now) g belief.old) (Agrees (C.table checked.now) g belief.new) }
+    requires goal { IsGoal (C.table checked.now) at }
+    ensures belief { OnOk result (belief.new ≡ record belief.old { place = Some at }) }
+    ensures step { Keeps W.went W.failures wire.old wire.new result (C.table checked.now)
+        (C.table checked.now).longest.cup belief.old belief.new }
 {
-    let _ = checked.rows();
-    let _ = checked.cols();
-    if stands(belief.place, row, col) {
+    if stands(belief.place, at) {
         return Ok(());
     }
-    let way = shortest(checked, belief.place, row as u16, col as u16);
-    belief.place = Some(Place { row, col });
+    let way = shortest(checked, belief.place, at.row as u16, at.col as u16);
+    belief.place = Some(at);
     send_line(checked, way.line, checked.line(way.line).unwrap(), wire)
 }
 
-/// How many bytes a shortest line has that leads from what is known of the cursor's place to another.
-pub fn line_bytes<C: Certificate>(checked: &C, from: Option<Place>, row: usize, col: usize) -> usize
-    requires row { row < (C.table checked.now).rows }
-    requires col { col < (C.table checked.now).cols }
-    ensures fewest { IsFewest (C.table checked.now) from row col result }
+/// How many bytes a shortest line has that leads to `at` from what is known of the cursor's place, `from`.
+pub fn line_bytes<C: Certificate>(checked: &C, from: Option<Place>, at: Place) -> usize
+    requires row { at.row < (C.table checked.now).rows }
+    requires col { at.col < (C.table checked.now).cols }
+    ensures fewest { IsFewest (C.table checked.now) from at.row at.col result }
     ensures short { result ≤ (C.table checked.now).longest.cup }
 {
+    // only this call's contract says that the certificate is verified
     let _ = checked.rows();
-    let _ = checked.cols();
-    shortest(checked, from, row as u16, col as u16).bytes
+    shortest(checked, from, at.row as u16, at.col as u16).bytes
 }

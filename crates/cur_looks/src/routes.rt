@@ -1,15 +1,18 @@
-//! The way to a place, chosen by its bytes: by a line, over the cells between, printed once more, or by a line to a stop
-//! and then so.
+//! The way to a place, chosen by its bytes: by a line, over the cells between, printed once more, or by a line to a
+//! stop and then so.
 ghost use Rattle.std.specs.Prelude.{◌≡◌, ◌+◌, ◌<◌, ◌≤◌, ℕ, true, Option, Some, None, IfSome};
+ghost use Rattle.ti_conforms.specs.Certified.{IsChecked};
 ghost use Rattle.cur_looks.specs.Gaps.{IsAlike, IsGap};
 ghost use Rattle.cur_looks.specs.Beliefs.{Place};
 ghost use Rattle.cur_looks.specs.Moves.{Moves};
 ghost use Rattle.cur_looks.specs.Routes.{IsLeg, IsRoute, leg_bytes};
+ghost use Rattle.cur_looks.specs.Steps.{IsGoal};
 
 use crate::beliefs::{Belief, Place};
 use crate::inks::{Ink, View, same_brush};
 use crate::moves::shortest;
 use crate::steps::is_active;
+use crate::targets::Target;
 use ti_conforms::Certificate;
 use ti_rows::Row;
 
@@ -44,7 +47,7 @@ struct Measured {
     bytes: usize,
 }
 
-/// Whether a character is printed like this now.
+/// Whether a character is printed now in the set and the brush of `ink`.
 pub(crate) fn is_alike(belief: &Belief, ink: Ink) -> bool
     ensures alike { result ≡ true → IsAlike belief.now ink }
     ensures known { IsAlike belief.now ink → result ≡ true }
@@ -52,70 +55,62 @@ pub(crate) fn is_alike(belief: &Belief, ink: Ink) -> bool
     same_brush(belief.brush, ink.brush) && is_active(belief.graphic, ink.graphic)
 }
 
-/// Whether the `count` cells of the line `row` from the column `from` on are printed in the brush and the set that are
-/// known.
-fn are_alike<N: View>(belief: &Belief, shown: &N, row: usize, from: usize, count: usize) -> bool
-    requires { from + count ≤ 1000 }
-    ensures { result ≡ true → (k : ℕ) → k < count → IsAlike belief.now (N.cells shown.now row (from + k)) }
+/// Whether the `count` cells from `from` on are printed in the brush and the set that are known.
+fn are_alike<N: View>(belief: &Belief, shown: &N, from: Place, count: usize) -> bool
+    requires { from.col + count ≤ 1000 }
+    ensures { result ≡ true → (k : ℕ) → k < count → IsAlike belief.now (N.cells shown.now from.row (from.col + k)) }
 {
     for n in 0..count {
-        if !is_alike(belief, shown.at(row, from + n)) {
+        if !is_alike(belief, shown.at(from.row, from.col + n)) {
             return false;
         }
     }
     true
 }
 
-/// Where the cursor stands in a line, if the cells from there to a column are fewer than the bytes of the
-/// move and are printed like this now.
+/// The column where the cursor stands in the line of `at`, if the cells from there to `at` are fewer than the bytes of
+/// the move, `bytes`, and are printed like this now.
 fn gap_start<C: Certificate, N: View>(
-    checked: &C,
+    target: &Target<'_, C, N>,
     belief: &Belief,
-    shown: &N,
-    row: usize,
-    col: usize,
+    at: Place,
     bytes: usize,
 ) -> Option<usize>
-    requires col { col < (C.table checked.now).cols }
-    requires bytes { bytes ≤ (C.table checked.now).longest.cup }
-    ensures gap { IfSome result (λ from. IsGap (C.table checked.now) belief.now (N.cells shown.now) row from col) }
+    requires goal { IsGoal (C.table target.now.checked.now) at }
+    requires bytes { bytes ≤ (C.table target.now.checked.now).longest.cup }
+    ensures gap { IfSome result
+        (λ from. IsGap (C.table target.now.checked.now) belief.now (N.cells target.now.shown.now) at.row from at.col) }
 {
-    let _ = checked.rows();
-    let _ = checked.cols();
-    let Some(at) = belief.place else {
+    let Some(from) = belief.place else {
         return None;
     };
-    if at.row != row || col <= at.col {
+    if from.row != at.row || at.col <= from.col {
         return None;
     }
-    let count = col - at.col;
-    if count < bytes && are_alike(belief, shown, row, at.col, count) {
-        Some(at.col)
+    let count = at.col - from.col;
+    if count < bytes && are_alike(belief, target.shown, from, count) {
+        Some(from.col)
     } else {
         None
     }
 }
 
-/// A leg to a place from where the cursor is believed to be.
+/// A leg to `at` from where the cursor is believed to be.
 fn leg_to<C: Certificate, N: View>(
-    checked: &C,
+    target: &Target<'_, C, N>,
     belief: &Belief,
-    shown: &N,
-    row: usize,
-    col: usize,
+    at: Place,
 ) -> Measured
-    requires row { row < (C.table checked.now).rows }
-    requires col { col < (C.table checked.now).cols }
-    ensures leg { IsLeg (C.table checked.now) belief.now (N.cells shown.now) row col result.leg }
-    ensures bytes { result.bytes ≡ leg_bytes (C.table checked.now) result.leg col }
+    requires goal { IsGoal (C.table target.now.checked.now) at }
+    ensures leg { IsLeg (C.table target.now.checked.now) belief.now (N.cells target.now.shown.now)
+        at.row at.col result.leg }
+    ensures bytes { result.bytes ≡ leg_bytes (C.table target.now.checked.now) result.leg at.col }
 {
-    let _ = checked.rows();
-    let _ = checked.cols();
-    let way = shortest(checked, belief.place, row as u16, col as u16);
-    match gap_start(checked, belief, shown, row, col, way.bytes) {
+    let way = shortest(target.checked, belief.place, at.row as u16, at.col as u16);
+    match gap_start(target, belief, at, way.bytes) {
         Some(from) => Measured {
             leg: Leg::Over(from),
-            bytes: col.saturating_sub(from),
+            bytes: at.col.saturating_sub(from),
         },
         None => Measured {
             leg: Leg::By(way.line),
@@ -124,19 +119,13 @@ fn leg_to<C: Certificate, N: View>(
     }
 }
 
-/// A way without a stop.
-fn direct<C: Certificate, N: View>(
-    checked: &C,
-    belief: &Belief,
-    shown: &N,
-    row: usize,
-    col: usize,
-) -> Route
-    requires row { row < (C.table checked.now).rows }
-    requires col { col < (C.table checked.now).cols }
-    ensures route { IsRoute (C.table checked.now) belief.now (N.cells shown.now) row col result }
+/// A way to `at` without a stop.
+fn direct<C: Certificate, N: View>(target: &Target<'_, C, N>, belief: &Belief, at: Place) -> Route
+    requires goal { IsGoal (C.table target.now.checked.now) at }
+    ensures route { IsRoute (C.table target.now.checked.now) belief.now (N.cells target.now.shown.now)
+        at.row at.col result }
 {
-    let whole = leg_to(checked, belief, shown, row, col);
+    let whole = leg_to(target, belief, at);
     Route {
         stop: None,
         leg: whole.leg,
@@ -144,26 +133,26 @@ fn direct<C: Certificate, N: View>(
     }
 }
 
-/// The way with a stop to which that line leads, if it is the shorter one.
+/// The way to `at` with the stop `stop`, if it is shorter than `best`.
 fn with_stop<C: Certificate, N: View>(
-    checked: &C,
+    target: &Target<'_, C, N>,
     belief: &Belief,
-    shown: &N,
-    row: usize,
-    col: usize,
+    at: Place,
     best: Route,
     stop: Stop,
 ) -> Route
-    requires row { row < (C.table checked.now).rows }
-    requires col { col < (C.table checked.now).cols }
-    requires best { IsRoute (C.table checked.now) belief.now (N.cells shown.now) row col best }
-    requires moves { Moves (C.table checked.now).cols belief.now.place stop.place.row stop.place.col stop.line }
-    ensures route { IsRoute (C.table checked.now) belief.now (N.cells shown.now) row col result }
+    requires goal { IsGoal (C.table target.now.checked.now) at }
+    requires best { IsRoute (C.table target.now.checked.now) belief.now (N.cells target.now.shown.now)
+        at.row at.col best }
+    requires moves { Moves (C.table target.now.checked.now).cols belief.now.place
+        stop.place.row stop.place.col stop.line }
+    ensures route { IsRoute (C.table target.now.checked.now) belief.now (N.cells target.now.shown.now)
+        at.row at.col result }
 {
-    if stop.place.row >= checked.rows() || stop.place.col >= checked.cols() {
+    if stop.place.row >= target.checked.rows() || stop.place.col >= target.checked.cols() {
         return best;
     }
-    let Some(line) = checked.line(stop.line) else {
+    let Some(line) = target.checked.line(stop.line) else {
         return best;
     };
     if line.len() + 1 >= best.bytes {
@@ -173,7 +162,7 @@ fn with_stop<C: Certificate, N: View>(
         place: Some(stop.place),
         ..*belief
     };
-    let left = leg_to(checked, &there, shown, row, col);
+    let left = leg_to(target, &there, at);
     if left.bytes < best.bytes - line.len() {
         Route {
             stop: Some(stop),
@@ -195,116 +184,112 @@ fn corner() -> Stop
     }
 }
 
-/// The start of the cursor's line, by `cr`.
-fn line_start(at: Place) -> Stop
-    ensures moves { (cols : ℕ) → Moves cols (Some at) result.place.row result.place.col result.line }
+/// The start of the line of `from`, where the cursor is, by `cr`.
+fn line_start(from: Place) -> Stop
+    ensures moves { (cols : ℕ) → Moves cols (Some from) result.place.row result.place.col result.line }
 {
     Stop {
         line: Row::Cr,
         place: Place {
-            row: at.row,
+            row: from.row,
             col: 0,
         },
     }
 }
 
-/// Another line in the cursor's column.
-fn same_column<C: Certificate>(checked: &C, at: Place, row: usize) -> Stop
+/// The line `row` in the column of `from`, where the cursor is.
+fn same_column<C: Certificate>(checked: &C, from: Place, row: usize) -> Stop
+    requires checked { IsChecked (C.table checked.now) }
     requires row { row < (C.table checked.now).rows }
-    requires col { at.col < (C.table checked.now).cols }
-    ensures moves { Moves (C.table checked.now).cols (Some at) result.place.row result.place.col result.line }
+    requires col { from.col < (C.table checked.now).cols }
+    ensures moves { Moves (C.table checked.now).cols (Some from) result.place.row result.place.col result.line }
 {
-    let _ = checked.rows();
-    let _ = checked.cols();
+    let col = from.col;
     Stop {
-        line: shortest(checked, Some(at), row as u16, at.col as u16).line,
-        place: Place { row, col: at.col },
+        line: shortest(checked, Some(from), row as u16, col as u16).line,
+        place: Place { row, col },
     }
 }
 
-/// A way of few bytes to a place: without a stop, or with one in the corner, at the start of the cursor's line, or
-/// in the line of the place. A stop from which `cup` alone leads on is left out.
+/// A way of few bytes to `at`: without a stop, or with one in the corner, at the start of the cursor's line, or in the
+/// line of `at`. A stop from which `cup` alone leads on is left out.
 pub(crate) fn route_to<C: Certificate, N: View>(
-    checked: &C,
+    target: &Target<'_, C, N>,
     belief: &Belief,
-    shown: &N,
-    row: usize,
-    col: usize,
+    at: Place,
 ) -> Route
-    requires row { row < (C.table checked.now).rows }
-    requires col { col < (C.table checked.now).cols }
-    ensures route { IsRoute (C.table checked.now) belief.now (N.cells shown.now) row col result }
+    requires goal { IsGoal (C.table target.now.checked.now) at }
+    ensures route { IsRoute (C.table target.now.checked.now) belief.now (N.cells target.now.shown.now)
+        at.row at.col result }
 {
-    let best = direct(checked, belief, shown, row, col);
-    let best = by_corner(checked, belief, shown, row, col, best);
-    let Some(at) = belief.place else {
+    let best = direct(target, belief, at);
+    let best = by_corner(target, belief, at, best);
+    let Some(from) = belief.place else {
         return best;
     };
-    let best = by_line_start(checked, belief, shown, row, col, best, at);
-    by_column(checked, belief, shown, row, col, best, at)
+    let best = by_line_start(target, belief, at, best, from);
+    by_column(target, belief, at, best, from)
 }
 
-/// The way by the corner, if it is the shorter one: to a place of the first line or the first column.
+/// The way by the corner, if it is shorter than `best`: to a place of the first line or the first column.
 fn by_corner<C: Certificate, N: View>(
-    checked: &C,
+    target: &Target<'_, C, N>,
     belief: &Belief,
-    shown: &N,
-    row: usize,
-    col: usize,
+    at: Place,
     best: Route,
 ) -> Route
-    requires row { row < (C.table checked.now).rows }
-    requires col { col < (C.table checked.now).cols }
-    requires best { IsRoute (C.table checked.now) belief.now (N.cells shown.now) row col best }
-    ensures route { IsRoute (C.table checked.now) belief.now (N.cells shown.now) row col result }
+    requires goal { IsGoal (C.table target.now.checked.now) at }
+    requires best { IsRoute (C.table target.now.checked.now) belief.now (N.cells target.now.shown.now)
+        at.row at.col best }
+    ensures route { IsRoute (C.table target.now.checked.now) belief.now (N.cells target.now.shown.now)
+        at.row at.col result }
 {
-    if row > 0 && col > 0 {
+    if at.row > 0 && at.col > 0 {
         return best;
     }
-    with_stop(checked, belief, shown, row, col, best, corner())
+    with_stop(target, belief, at, best, corner())
 }
 
-/// The way by the start of the cursor's line, if it is the shorter one: to a place of that line or of the first column.
+/// The way by the start of the line of `from`, where the cursor is, if it is shorter than `best`: to a place of that
+/// line or of the first column.
 fn by_line_start<C: Certificate, N: View>(
-    checked: &C,
+    target: &Target<'_, C, N>,
     belief: &Belief,
-    shown: &N,
-    row: usize,
-    col: usize,
-    best: Route,
     at: Place,
+    best: Route,
+    from: Place,
 ) -> Route
-    requires row { row < (C.table checked.now).rows }
-    requires col { col < (C.table checked.now).cols }
-    requires best { IsRoute (C.table checked.now) belief.now (N.cells shown.now) row col best }
-    requires at { belief.now.place ≡ Some at }
-    ensures route { IsRoute (C.table checked.now) belief.now (N.cells shown.now) row col result }
+    requires goal { IsGoal (C.table target.now.checked.now) at }
+    requires best { IsRoute (C.table target.now.checked.now) belief.now (N.cells target.now.shown.now)
+        at.row at.col best }
+    requires from { belief.now.place ≡ Some from }
+    ensures route { IsRoute (C.table target.now.checked.now) belief.now (N.cells target.now.shown.now)
+        at.row at.col result }
 {
-    if at.col == 0 || at.row != row && col > 0 {
+    if from.col == 0 || from.row != at.row && at.col > 0 {
         return best;
     }
-    with_stop(checked, belief, shown, row, col, best, line_start(at))
+    with_stop(target, belief, at, best, line_start(from))
 }
 
-/// The way by the cursor's column, if it is the shorter one: to a place of another line.
+/// The way by the column of `from`, where the cursor is, if it is shorter than `best`: to a place of another line.
 fn by_column<C: Certificate, N: View>(
-    checked: &C,
+    target: &Target<'_, C, N>,
     belief: &Belief,
-    shown: &N,
-    row: usize,
-    col: usize,
-    best: Route,
     at: Place,
+    best: Route,
+    from: Place,
 ) -> Route
-    requires row { row < (C.table checked.now).rows }
-    requires col { col < (C.table checked.now).cols }
-    requires best { IsRoute (C.table checked.now) belief.now (N.cells shown.now) row col best }
-    requires at { belief.now.place ≡ Some at }
-    ensures route { IsRoute (C.table checked.now) belief.now (N.cells shown.now) row col result }
+    requires goal { IsGoal (C.table target.now.checked.now) at }
+    requires best { IsRoute (C.table target.now.checked.now) belief.now (N.cells target.now.shown.now)
+        at.row at.col best }
+    requires from { belief.now.place ≡ Some from }
+    ensures route { IsRoute (C.table target.now.checked.now) belief.now (N.cells target.now.shown.now)
+        at.row at.col result }
 {
-    if at.row == row || at.col >= checked.cols() {
+    if from.row == at.row || from.col >= target.checked.cols() {
         return best;
     }
-    let stop = same_column(checked, at, row);
-    with_stop(checked, belief, shown, row, col, best, stop)
+    let stop = same_column(target.checked, from, at.row);
+    with_stop(target, belief, at, best, stop)
 }

@@ -1,13 +1,11 @@
 //! Attributes by strings of their own, for entries without `sgr`.
 ghost use Rattle.std.specs.Prelude.{◌≡◌, ◌<◌, ℕ, false, Option, Some, None, OnOk, length};
-ghost use Rattle.cur_wires.specs.Steps.{Steps};
 ghost use Rattle.ti_rows.specs.declared.rows.Row.TheVariants.{Sgr, Sgr0};
-ghost use Rattle.ti_conforms.specs.Certified.{IsPiece, IsLost, has, text_of, lengths};
+ghost use Rattle.ti_conforms.specs.Certified.{IsChecked, has, text_of, lengths};
 ghost use Rattle.cur_looks.specs.Inks.{no_attributes, plain_brush};
-ghost use Rattle.cur_looks.specs.Beliefs.{Agrees, Belief};
 ghost use Rattle.cur_looks.specs.Singles as spec;
 ghost use Rattle.cur_looks.specs.declared.inks.Brush.{Brush};
-ghost use Rattle.cur_looks.specs.declared.inks.Ink.{Ink};
+ghost use Rattle.cur_looks.specs.Steps.{Keeps};
 
 use crate::beliefs::Belief;
 use crate::inks::Brush;
@@ -16,7 +14,7 @@ use cur_wires::{Wire, WireFault};
 use ti_conforms::Certificate;
 use ti_rows::{Attributes, Row};
 
-/// Whether the attribute of a row's string is among these.
+/// Whether the attribute of the string of `row` is among `attributes`.
 fn has_single(attributes: Attributes, row: Row) -> bool
     ensures { result ≡ spec.has_single row attributes }
 {
@@ -32,7 +30,7 @@ fn has_single(attributes: Attributes, row: Row) -> bool
     }
 }
 
-/// These attributes and that of a row's string.
+/// The `attributes` and that of the string of `row`.
 fn turned_on(attributes: Attributes, row: Row) -> Attributes
     ensures { result ≡ spec.turned_on row attributes }
 {
@@ -50,23 +48,23 @@ fn turned_on(attributes: Attributes, row: Row) -> Attributes
     attributes
 }
 
-/// Attributes and colours become plain.
-fn strip<C: Certificate, W: Wire>(
+/// Makes attributes and colours plain.
+fn make_plain<C: Certificate, W: Wire>(
     checked: &C,
     belief: &mut Belief,
     wire: &mut W,
 ) -> Result<(), WireFault>
+    requires checked { IsChecked (C.table checked.now) }
     ensures belief { belief.new ≡ record belief.old { brush = plain_brush; graphic = None } }
-    ensures step { (g : ℕ → ℕ → Ink) → Steps W.went W.failures wire.old wire.new result (IsPiece (C.table checked.now)) (length (text_of (C.table checked.now) Sgr0))
-        (IsLost (C.table checked.now)) (Agrees (C.table checked.now) g belief.old) (Agrees (C.table checked.now) g belief.new) }
+    ensures step { Keeps W.went W.failures wire.old wire.new result (C.table checked.now)
+        (length (text_of (C.table checked.now) Sgr0)) belief.old belief.new }
 {
-    let _ = checked.rows();
     belief.brush = Brush::plain();
     belief.graphic = None;
     send_line(checked, Row::Sgr0, checked.line(Row::Sgr0).unwrap(), wire)
 }
 
-/// The attribute of a row's string, if it is wanted. One without a string can't be seen.
+/// Adds the attribute of the string of `row`, if it is `wanted`. One without a string can't be seen.
 fn add_single<C: Certificate, W: Wire>(
     checked: &C,
     belief: &mut Belief,
@@ -74,13 +72,14 @@ fn add_single<C: Certificate, W: Wire>(
     wanted: Attributes,
     row: Row,
 ) -> Result<(), WireFault>
+    requires checked { IsChecked (C.table checked.now) }
     requires sgr { has (C.table checked.now) (Sgr no_attributes) ≡ false }
     requires set { belief.old.graphic ≡ None }
-    ensures belief { belief.new ≡ record belief.old { brush = record belief.old.brush { attributes = spec.with_single wanted row belief.old.brush.attributes } } }
-    ensures step { (g : ℕ → ℕ → Ink) → Steps W.went W.failures wire.old wire.new result (IsPiece (C.table checked.now)) (length (text_of (C.table checked.now) row))
-        (IsLost (C.table checked.now)) (Agrees (C.table checked.now) g belief.old) (Agrees (C.table checked.now) g belief.new) }
+    ensures belief { belief.new ≡ record belief.old
+        { brush = record belief.old.brush { attributes = spec.with_single wanted row belief.old.brush.attributes } } }
+    ensures step { Keeps W.went W.failures wire.old wire.new result (C.table checked.now)
+        (length (text_of (C.table checked.now) row)) belief.old belief.new }
 {
-    let _ = checked.rows();
     if !has_single(wanted, row) {
         return Ok(());
     }
@@ -91,7 +90,7 @@ fn add_single<C: Certificate, W: Wire>(
     }
 }
 
-/// Those of these rows' attributes that are wanted.
+/// Adds those of the attributes of `rows` that are `wanted`.
 fn add_singles<C: Certificate, W: Wire>(
     checked: &C,
     belief: &mut Belief,
@@ -99,35 +98,40 @@ fn add_singles<C: Certificate, W: Wire>(
     wanted: Attributes,
     rows: &[Row],
 ) -> Result<(), WireFault>
+    requires checked { IsChecked (C.table checked.now) }
     requires sgr { has (C.table checked.now) (Sgr no_attributes) ≡ false }
     requires set { belief.old.graphic ≡ None }
-    ensures belief { OnOk result (belief.new ≡ record belief.old { brush = record belief.old.brush { attributes = spec.with_singles wanted rows.now belief.old.brush.attributes } }) }
-    ensures step { (g : ℕ → ℕ → Ink) → Steps W.went W.failures wire.old wire.new result (IsPiece (C.table checked.now)) (lengths (C.table checked.now) rows.now)
-        (IsLost (C.table checked.now)) (Agrees (C.table checked.now) g belief.old) (Agrees (C.table checked.now) g belief.new) }
+    ensures belief { OnOk result
+        (belief.new ≡ record belief.old {
+          brush = record belief.old.brush
+              { attributes = spec.with_singles wanted rows.now belief.old.brush.attributes };
+        }) }
+    ensures step { Keeps W.went W.failures wire.old wire.new result (C.table checked.now)
+        (lengths (C.table checked.now) rows.now) belief.old belief.new }
 {
-    let _ = checked.rows();
     for row in rows {
         add_single(checked, belief, wire, wanted, *row)?;
     }
     Ok(())
 }
 
-/// The attributes become these, and the colours the default ones: all go off, and those that are
-/// wanted go on one by one.
+/// Makes the attributes `wanted`, and the colours the default ones: all go off, and those that are wanted go on one by
+/// one.
 pub(crate) fn attributes_singly<C: Certificate, W: Wire>(
     checked: &C,
     belief: &mut Belief,
     wire: &mut W,
     wanted: Attributes,
 ) -> Result<(), WireFault>
+    requires checked { IsChecked (C.table checked.now) }
     requires sgr { (C.table checked.now).line_of (Sgr wanted) ≡ None }
-    ensures brush { OnOk result (belief.new.brush ≡ record { attributes = wanted; foreground = None; background = None }) }
+    ensures brush { OnOk result
+        (belief.new.brush ≡ record { attributes = wanted; foreground = None; background = None }) }
     ensures place { OnOk result (belief.new.place ≡ belief.old.place) }
-    ensures step { (g : ℕ → ℕ → Ink) → Steps W.went W.failures wire.old wire.new result (IsPiece (C.table checked.now)) (C.table checked.now).longest.sgr
-        (IsLost (C.table checked.now)) (Agrees (C.table checked.now) g belief.old) (Agrees (C.table checked.now) g belief.new) }
+    ensures step { Keeps W.went W.failures wire.old wire.new result (C.table checked.now)
+        (C.table checked.now).longest.sgr belief.old belief.new }
 {
-    let _ = checked.rows();
-    strip(checked, belief, wire)?;
+    make_plain(checked, belief, wire)?;
     let rows = [
         Row::Smul,
         Row::Rev,

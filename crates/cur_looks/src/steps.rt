@@ -2,13 +2,12 @@
 ghost use Rattle.std.specs.Prelude.{◌≡◌, ◌+◌, ◌<◌, ℕ, Bool, true, false, Option, Some, None, OnOk};
 ghost use Rattle.vt_term.specs.Color.{Color};
 ghost use Rattle.vt_term.specs.Look.{IsPrinted};
-ghost use Rattle.cur_wires.specs.Steps.{Steps};
 ghost use Rattle.ti_rows.specs.declared.rows.Row.TheVariants.{Op, El, Sgr, Smacs};
-ghost use Rattle.ti_conforms.specs.Certified.{IsPiece, IsLost, has};
+ghost use Rattle.ti_conforms.specs.Certified.{IsChecked, has};
 ghost use Rattle.cur_looks.specs.Inks.{put_at, tail_blank, plain_brush};
-ghost use Rattle.cur_looks.specs.Beliefs.{Agrees, Belief, moves, IsNext, set_row};
+ghost use Rattle.cur_looks.specs.Beliefs.{moves, IsNext, set_row};
 ghost use Rattle.cur_looks.specs.declared.inks.Brush.{Brush};
-ghost use Rattle.cur_looks.specs.declared.inks.Ink.{Ink};
+ghost use Rattle.cur_looks.specs.Steps.{IsGoal, Keeps, Makes};
 
 use crate::beliefs::{Belief, Place};
 use crate::inks::{Brush, Ink, same_attributes, same_color};
@@ -19,26 +18,27 @@ use ti_conforms::Certificate;
 use ti_rows::{Attributes, Row};
 use vt_term::Color;
 
-/// Whether the cursor is known to be there.
-pub(crate) fn stands(place: Option<Place>, row: usize, col: usize) -> bool
-    ensures here { result ≡ true → place ≡ Some (record { row = row; col = col }) }
-    ensures counted { result ≡ false → moves place row col ≡ 1 }
-    ensures known { place ≡ Some (record { row = row; col = col }) → result ≡ true }
+/// Whether `place` is known and is `at`.
+pub(crate) fn stands(place: Option<Place>, at: Place) -> bool
+    ensures here { result ≡ true → place ≡ Some at }
+    ensures counted { result ≡ false → moves place at.row at.col ≡ 1 }
+    ensures known { place ≡ Some at → result ≡ true }
 {
-    matches!(place, Some(p) if p.row == row && p.col == col)
+    matches!(place, Some(p) if p.row == at.row && p.col == at.col)
 }
 
-/// The colours become the default ones.
+/// Makes the colours the default ones.
 pub(crate) fn colors_off<C: Certificate, W: Wire>(
     checked: &C,
     belief: &mut Belief,
     wire: &mut W,
 ) -> Result<(), WireFault>
-    ensures belief { belief.new ≡ record belief.old { brush = record belief.old.brush { foreground = None; background = None } } }
-    ensures step { (g : ℕ → ℕ → Ink) → Steps W.went W.failures wire.old wire.new result (IsPiece (C.table checked.now)) (C.table checked.now).longest.op
-        (IsLost (C.table checked.now)) (Agrees (C.table checked.now) g belief.old) (Agrees (C.table checked.now) g belief.new) }
+    requires checked { IsChecked (C.table checked.now) }
+    ensures belief { belief.new ≡ record belief.old
+        { brush = record belief.old.brush { foreground = None; background = None } } }
+    ensures step { Keeps W.went W.failures wire.old wire.new result (C.table checked.now)
+        (C.table checked.now).longest.op belief.old belief.new }
 {
-    let _ = checked.rows();
     let plain = is_uncolored(belief.brush);
     belief.brush.foreground = None;
     belief.brush.background = None;
@@ -51,7 +51,7 @@ pub(crate) fn colors_off<C: Certificate, W: Wire>(
     }
 }
 
-/// Whether a brush has the default colours.
+/// Whether `brush` has the default colours.
 fn is_uncolored(brush: Brush) -> bool
     ensures foreground { result ≡ true → brush.foreground ≡ None }
     ensures background { result ≡ true → brush.background ≡ None }
@@ -59,21 +59,22 @@ fn is_uncolored(brush: Brush) -> bool
     matches!((brush.foreground, brush.background), (None, None))
 }
 
-/// The attributes become these; the colours are the default ones before and after.
+/// Makes the attributes `wanted`; the colours are the default ones before and after.
 pub(crate) fn attributes_as<C: Certificate, W: Wire>(
     checked: &C,
     belief: &mut Belief,
     wire: &mut W,
     wanted: Attributes,
 ) -> Result<(), WireFault>
+    requires checked { IsChecked (C.table checked.now) }
     requires foreground { belief.old.brush.foreground ≡ None }
     requires background { belief.old.brush.background ≡ None }
-    ensures brush { OnOk result (belief.new.brush ≡ record { attributes = wanted; foreground = None; background = None }) }
+    ensures brush { OnOk result
+        (belief.new.brush ≡ record { attributes = wanted; foreground = None; background = None }) }
     ensures place { OnOk result (belief.new.place ≡ belief.old.place) }
-    ensures step { (g : ℕ → ℕ → Ink) → Steps W.went W.failures wire.old wire.new result (IsPiece (C.table checked.now)) (C.table checked.now).longest.sgr
-        (IsLost (C.table checked.now)) (Agrees (C.table checked.now) g belief.old) (Agrees (C.table checked.now) g belief.new) }
+    ensures step { Keeps W.went W.failures wire.old wire.new result (C.table checked.now)
+        (C.table checked.now).longest.sgr belief.old belief.new }
 {
-    let _ = checked.rows();
     if same_attributes(belief.brush.attributes, wanted) {
         belief.brush.attributes = wanted;
         return Ok(());
@@ -84,7 +85,7 @@ pub(crate) fn attributes_as<C: Certificate, W: Wire>(
     }
 }
 
-/// The attributes become these by one string; the colours are the default ones before and after.
+/// Makes the attributes `wanted` by one string, `line`; the colours are the default ones before and after.
 fn attributes_at_once<C: Certificate, W: Wire>(
     checked: &C,
     line: &[u8],
@@ -92,33 +93,34 @@ fn attributes_at_once<C: Certificate, W: Wire>(
     wire: &mut W,
     wanted: Attributes,
 ) -> Result<(), WireFault>
+    requires checked { IsChecked (C.table checked.now) }
     requires line { (C.table checked.now).line_of (Sgr wanted) ≡ Some line.now }
     requires foreground { belief.old.brush.foreground ≡ None }
     requires background { belief.old.brush.background ≡ None }
     ensures brush { belief.new.brush ≡ record { attributes = wanted; foreground = None; background = None } }
     ensures place { belief.new.place ≡ belief.old.place }
-    ensures step { (g : ℕ → ℕ → Ink) → Steps W.went W.failures wire.old wire.new result (IsPiece (C.table checked.now)) (C.table checked.now).longest.sgr
-        (IsLost (C.table checked.now)) (Agrees (C.table checked.now) g belief.old) (Agrees (C.table checked.now) g belief.new) }
+    ensures step { Keeps W.went W.failures wire.old wire.new result (C.table checked.now)
+        (C.table checked.now).longest.sgr belief.old belief.new }
 {
     belief.brush.attributes = wanted;
     belief.graphic = None;
     send_line(checked, Row::Sgr(wanted), line, wire)
 }
 
-/// The foreground becomes this colour, or stays the default one.
+/// Makes the foreground the colour `wanted`, or leaves it the default one.
 pub(crate) fn foreground_as<C: Certificate, W: Wire>(
     checked: &C,
     belief: &mut Belief,
     wire: &mut W,
     wanted: Option<Color>,
 ) -> Result<(), WireFault>
+    requires checked { IsChecked (C.table checked.now) }
     requires now { wanted ≡ None → belief.old.brush.foreground ≡ None }
     requires colors { has (C.table checked.now) Op ≡ false → wanted ≡ None }
     ensures belief { belief.new ≡ record belief.old { brush = record belief.old.brush { foreground = wanted } } }
-    ensures step { (g : ℕ → ℕ → Ink) → Steps W.went W.failures wire.old wire.new result (IsPiece (C.table checked.now)) (C.table checked.now).longest.setaf
-        (IsLost (C.table checked.now)) (Agrees (C.table checked.now) g belief.old) (Agrees (C.table checked.now) g belief.new) }
+    ensures step { Keeps W.went W.failures wire.old wire.new result (C.table checked.now)
+        (C.table checked.now).longest.setaf belief.old belief.new }
 {
-    let _ = checked.rows();
     let same = same_color(belief.brush.foreground, wanted);
     belief.brush.foreground = wanted;
     if same {
@@ -133,20 +135,20 @@ pub(crate) fn foreground_as<C: Certificate, W: Wire>(
     }
 }
 
-/// The background becomes this colour, or stays the default one.
+/// Makes the background the colour `wanted`, or leaves it the default one.
 pub(crate) fn background_as<C: Certificate, W: Wire>(
     checked: &C,
     belief: &mut Belief,
     wire: &mut W,
     wanted: Option<Color>,
 ) -> Result<(), WireFault>
+    requires checked { IsChecked (C.table checked.now) }
     requires now { wanted ≡ None → belief.old.brush.background ≡ None }
     requires colors { has (C.table checked.now) Op ≡ false → wanted ≡ None }
     ensures belief { belief.new ≡ record belief.old { brush = record belief.old.brush { background = wanted } } }
-    ensures step { (g : ℕ → ℕ → Ink) → Steps W.went W.failures wire.old wire.new result (IsPiece (C.table checked.now)) (C.table checked.now).longest.setab
-        (IsLost (C.table checked.now)) (Agrees (C.table checked.now) g belief.old) (Agrees (C.table checked.now) g belief.new) }
+    ensures step { Keeps W.went W.failures wire.old wire.new result (C.table checked.now)
+        (C.table checked.now).longest.setab belief.old belief.new }
 {
-    let _ = checked.rows();
     let same = same_color(belief.brush.background, wanted);
     belief.brush.background = wanted;
     if same {
@@ -161,19 +163,19 @@ pub(crate) fn background_as<C: Certificate, W: Wire>(
     }
 }
 
-/// The graphic or the plain set becomes the active one, if it isn't known to be.
+/// Makes the set, the graphic one if `graphic`, the active one, if it isn't known to be.
 pub(crate) fn set_as<C: Certificate, W: Wire>(
     checked: &C,
     belief: &mut Belief,
     wire: &mut W,
     graphic: bool,
 ) -> Result<(), WireFault>
+    requires checked { IsChecked (C.table checked.now) }
     requires lines { has (C.table checked.now) Smacs ≡ false → graphic ≡ false }
     ensures belief { belief.new ≡ record belief.old { graphic = Some graphic } }
-    ensures step { (g : ℕ → ℕ → Ink) → Steps W.went W.failures wire.old wire.new result (IsPiece (C.table checked.now)) (C.table checked.now).longest.sets
-        (IsLost (C.table checked.now)) (Agrees (C.table checked.now) g belief.old) (Agrees (C.table checked.now) g belief.new) }
+    ensures step { Keeps W.went W.failures wire.old wire.new result (C.table checked.now)
+        (C.table checked.now).longest.sets belief.old belief.new }
 {
-    let _ = checked.rows();
     if is_active(belief.graphic, graphic) {
         return Ok(());
     }
@@ -185,14 +187,14 @@ pub(crate) fn set_as<C: Certificate, W: Wire>(
     }
 }
 
-/// The row whose line makes a set the active one.
+/// The row whose line makes the set, the graphic one if `graphic`, the active one.
 fn row_of_set(graphic: bool) -> Row
     ensures { result ≡ set_row graphic }
 {
     if graphic { Row::Smacs } else { Row::Rmacs }
 }
 
-/// Whether a set is known to be the active one.
+/// Whether the active set `now` is known and is the graphic one just if `graphic`.
 pub(crate) fn is_active(now: Option<bool>, graphic: bool) -> bool
     ensures active { result ≡ true → now ≡ Some graphic }
     ensures known { now ≡ Some graphic → result ≡ true }
@@ -200,47 +202,45 @@ pub(crate) fn is_active(now: Option<bool>, graphic: bool) -> bool
     matches!(now, Some(active) if active == graphic)
 }
 
-/// A character in a place to which the next one is known to go, printed in the brush and the set that are known.
+/// Prints `ink` at `at`, where the next character is known to go, in the brush and the set that are known.
 pub(crate) fn print_at<C: Certificate, W: Wire>(
     checked: &C,
     belief: &mut Belief,
     wire: &mut W,
-    row: usize,
-    col: usize,
+    at: Place,
     ink: Ink,
 ) -> Result<(), WireFault>
-    requires row { row < (C.table checked.now).rows }
-    requires col { col < (C.table checked.now).cols }
+    requires goal { IsGoal (C.table checked.now) at }
     requires printed { IsPrinted ink.byte }
-    requires place { IsNext (C.table checked.now).cols belief.old.place row col }
+    requires place { IsNext (C.table checked.now).cols belief.old.place at.row at.col }
     requires brush { belief.old.brush ≡ ink.brush }
     requires set { belief.old.graphic ≡ Some ink.graphic }
-    ensures belief { belief.new ≡ record belief.old { place = Some (record { row = row; col = col + 1 }) } }
-    ensures step { (g : ℕ → ℕ → Ink) → Steps W.went W.failures wire.old wire.new result (IsPiece (C.table checked.now)) 1
-        (IsLost (C.table checked.now)) (Agrees (C.table checked.now) g belief.old) (Agrees (C.table checked.now) (put_at row col ink g) belief.new) }
+    ensures belief { belief.new ≡ record belief.old { place = Some (record { row = at.row; col = at.col + 1 }) } }
+    ensures step { Makes W.went W.failures wire.old wire.new result (C.table checked.now) 1 (put_at at.row at.col ink)
+        belief.old belief.new }
 {
-    let _ = checked.rows();
-    let _ = checked.cols();
-    belief.place = Some(Place { row, col: col + 1 });
+    belief.place = Some(Place {
+        row: at.row,
+        col: at.col + 1,
+    });
     send_all(wire, &[ink.byte])
 }
 
-/// The line's end is erased from where the cursor is known to be.
+/// Erases the line's end by its string `tail`, from `at`, where the cursor is known to be.
 pub(crate) fn erase_tail<C: Certificate, W: Wire>(
     checked: &C,
     tail: &[u8],
     belief: &Belief,
     wire: &mut W,
-    row: usize,
-    col: usize,
+    at: Place,
 ) -> Result<(), WireFault>
-    requires col { col < (C.table checked.now).cols }
+    requires checked { IsChecked (C.table checked.now) }
+    requires col { at.col < (C.table checked.now).cols }
     requires tail { (C.table checked.now).line_of El ≡ Some tail.now }
-    requires place { belief.now.place ≡ Some (record { row = row; col = col }) }
+    requires place { belief.now.place ≡ Some at }
     requires brush { belief.now.brush ≡ plain_brush }
-    ensures step { (g : ℕ → ℕ → Ink) → Steps W.went W.failures wire.old wire.new result (IsPiece (C.table checked.now)) (C.table checked.now).longest.erasure
-        (IsLost (C.table checked.now)) (Agrees (C.table checked.now) g belief.now) (Agrees (C.table checked.now) (tail_blank row col g) belief.now) }
+    ensures step { Makes W.went W.failures wire.old wire.new result (C.table checked.now)
+        (C.table checked.now).longest.erasure (tail_blank at.row at.col) belief.now belief.now }
 {
-    let _ = belief;
     send_line(checked, Row::El, tail, wire)
 }

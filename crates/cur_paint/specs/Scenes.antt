@@ -1,9 +1,8 @@
 -- (Serves the code alone.) What the painter's steps work on, and what they promise.
 use Rattle.std.specs.Prelude.{ℕ, ◌+◌, ◌-◌, ◌*◌, ◌<◌, ◌≤◌, ◌≡◌, List, Option, Result, OnOk}
-use Rattle.cur_wires.specs.Steps.{Steps}
-use Rattle.ti_conforms.specs.Certified.{Table, IsChecked, IsPiece, IsLost, cell_limit}
+use Rattle.ti_conforms.specs.Certified.{Table, IsChecked, cell_limit}
 use Rattle.cur_looks.specs.Inks.{CanShow, mixed, blank_ink}
-use Rattle.cur_looks.specs.Beliefs.{Agrees}
+use Rattle.cur_looks.specs.Steps.{Acts}
 use Rattle.cur_looks.specs.declared.beliefs.Belief.{Belief}
 use Rattle.cur_looks.specs.declared.beliefs.Mode.{Mode}
 use Rattle.cur_looks.specs.declared.beliefs.Place.{Place}
@@ -64,17 +63,11 @@ IsSamePast s row col = (k : ℕ) → col ≤ k → k < s.table.cols → s.old ro
 abbrev pub IsIdle : {T E : Type 0} → Result T E → ℕ → Belief → Belief → Type 0
 IsIdle answer n b c = OnOk answer (n ≡ 0 → c ≡ b)
 
--- A step from a terminal that shows the cells g to one that shows h. It sends at most limit bytes.
-abbrev pub Sends : {W T E : Type 0} → (W → W → List ℕ → Type 0) → (W → ℕ) → W → W → Result T E → Table → ℕ
-    → (ℕ → ℕ → Ink) → (ℕ → ℕ → Ink) → Belief → Belief → Type 0
-Sends went failures before after answer t limit g h b c =
-    Steps went failures before after answer (IsPiece t) limit (IsLost t) (Agrees t g b) (Agrees t h c)
-
--- such a step that sends at most n times the bytes of a cell
+-- a step from the cells g to the cells h that sends at most n times the bytes of a cell
 abbrev pub Mends : {W T E : Type 0} → (W → W → List ℕ → Type 0) → (W → ℕ) → W → W → Result T E → Table → ℕ
     → (ℕ → ℕ → Ink) → (ℕ → ℕ → Ink) → Belief → Belief → Type 0
 Mends went failures before after answer t n g h b c =
-    Sends went failures before after answer t (n * cell_limit t) g h b c
+    Acts went failures before after answer t (n * cell_limit t) g h b c
 
 -- one cell becomes new, where all before it is
 abbrev pub MendsCell : {W T E : Type 0} → (W → W → List ℕ → Type 0) → (W → ℕ) → W → W → Result T E → Scene
@@ -119,4 +112,4 @@ MendsAll went failures before after answer s b c =
 abbrev pub Paints : {W T E : Type 0} → (W → W → List ℕ → Type 0) → (W → ℕ) → W → W → Result T E → Scene
     → Option Place → Mode → Belief → Belief → Type 0
 Paints went failures before after answer s cursor mode b c =
-    Sends went failures before after answer s.table (paint_limit s.table s.old s.new b cursor mode) s.old s.new b c
+    Acts went failures before after answer s.table (paint_limit s.table s.old s.new b cursor mode) s.old s.new b c

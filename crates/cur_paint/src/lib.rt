@@ -17,4 +17,5 @@ pub use bells::{Unsent, beep};
 pub use changes::{Changes, Columns};
 pub use endings::finish;
 pub use laws::{bounded, reset_is_fresh};
+pub use screens::Screens;
 pub use updates::{Session, Status, Wanted, update};

@@ -1,14 +1,15 @@
 //! What differs, then the cursor's mode and place.
 ghost use Rattle.std.specs.Prelude.{◌≡◌, ◌*◌, Some, OnOk};
 ghost use Rattle.cur_looks.specs.Beliefs.{CanHide};
+ghost use Rattle.cur_looks.specs.Steps.{Acts};
 ghost use Rattle.cur_paint.specs.Limits.{IsWithin, IsPlaced, last_move, cursor_limit};
-ghost use Rattle.cur_paint.specs.Scenes.{IsPaintable, Paints, Sends, scene};
+ghost use Rattle.cur_paint.specs.Scenes.{IsPaintable, Paints, scene};
 
 use crate::changes::Changes;
 use crate::rows::mend_screen;
 use crate::screens::Screens;
 use crate::updates::Wanted;
-use cur_looks::{Belief, Place, View, reach, show_as};
+use cur_looks::{Belief, Place, Target, View, reach, show_as};
 use cur_wires::{Wire, WireFault};
 use ti_conforms::Certificate;
 
@@ -23,19 +24,18 @@ fn place_cursor<C: Certificate, O: View, N: View, W: Wire>(
     requires cursor { IsWithin (C.table screens.now.checked.now) cursor }
     ensures there { OnOk result (IsPlaced cursor belief.new.place) }
     ensures mode { OnOk result (belief.new.mode ≡ belief.old.mode) }
-    ensures step { Sends W.went W.failures wire.old wire.new result (C.table screens.now.checked.now)
+    ensures step { Acts W.went W.failures wire.old wire.new result (C.table screens.now.checked.now)
         (last_move belief.old.place cursor * (C.table screens.now.checked.now).longest.cup)
         (N.cells screens.now.new.now) (N.cells screens.now.new.now) belief.old belief.new }
 {
     match cursor {
-        Some(place) => reach(
-            screens.checked,
-            belief,
-            wire,
-            screens.new,
-            place.row,
-            place.col,
-        ),
+        Some(place) => {
+            let target = Target {
+                checked: screens.checked,
+                shown: screens.new,
+            };
+            reach(&target, belief, wire, place)
+        }
         None => Ok(()),
     }
 }
@@ -52,7 +52,7 @@ fn set_cursor<C: Certificate, O: View, N: View, W: Wire>(
     requires lines { CanHide (C.table screens.now.checked.now) wanted.mode }
     ensures there { OnOk result (IsPlaced wanted.cursor belief.new.place) }
     ensures mode { OnOk result (belief.new.mode ≡ Some wanted.mode) }
-    ensures step { Sends W.went W.failures wire.old wire.new result (C.table screens.now.checked.now)
+    ensures step { Acts W.went W.failures wire.old wire.new result (C.table screens.now.checked.now)
         (cursor_limit (C.table screens.now.checked.now) belief.old wanted.cursor wanted.mode)
         (N.cells screens.now.new.now) (N.cells screens.now.new.now) belief.old belief.new }
 {

@@ -7,7 +7,9 @@ ghost use Rattle.cur_paint.specs.Scenes.{IsIdle, IsOn, IsPaintable, MendsCells, 
 
 use crate::screens::{Cells, Screens};
 use crate::spans::{differs_in, mend_span};
-use cur_looks::{Belief, Erasure, Place, View, erase_at, erase_from, erasing_line, line_bytes};
+use cur_looks::{
+    Belief, Erasure, Place, Target, View, erase_at, erase_from, erasing_line, line_bytes,
+};
 use cur_wires::{Wire, WireFault};
 use ti_conforms::Certificate;
 
@@ -98,7 +100,11 @@ fn pays<C: Certificate>(
     match erasing_line(checked, erasure) {
         Some(line) => {
             let at = Place { row, col: from };
-            let on = line_bytes(checked, Some(at), row, to.min(last));
+            let after = Place {
+                row,
+                col: to.min(last),
+            };
+            let on = line_bytes(checked, Some(at), after);
             line.len() < bytes && on < bytes - line.len()
         }
         None => false,
@@ -141,7 +147,8 @@ fn erasure_of<C: Certificate, N: View>(
     if pays(checked, part, row, start, end, run.differing) {
         return Some(part);
     }
-    let cup = line_bytes(checked, None, row, end - 1);
+    let last = Place { row, col: end - 1 };
+    let cup = line_bytes(checked, None, last);
     let rest = run.differing.saturating_sub(cup);
     if pays(checked, Erasure::Head, row, end - 1, end, rest) && are_blank(new, row, 0, start) {
         return Some(Erasure::Head);
@@ -236,16 +243,15 @@ fn mend_run<C: Certificate, O: View, N: View, W: Wire>(
     let part = Erasure::Part(cells.count as u16);
     match erasing_line(screens.checked, part) {
         Some(line) => {
-            erase_from(
-                screens.checked,
-                belief,
-                wire,
-                screens.new,
-                cells.row,
-                cells.from,
-                part,
-                line,
-            )
+            let target = Target {
+                checked: screens.checked,
+                shown: screens.new,
+            };
+            let at = Place {
+                row: cells.row,
+                col: cells.from,
+            };
+            erase_from(&target, belief, wire, at, part, line)
         }
         None => mend_span(screens, belief, wire, cells),
     }
@@ -270,16 +276,11 @@ fn mend_head<C: Certificate, O: View, N: View, W: Wire>(
     }
     match erasing_line(screens.checked, Erasure::Head) {
         Some(line) => {
-            let last = cells.from + cells.count - 1;
-            erase_at(
-                screens.checked,
-                belief,
-                wire,
-                cells.row,
-                last,
-                Erasure::Head,
-                line,
-            )
+            let last = Place {
+                row: cells.row,
+                col: cells.from + cells.count - 1,
+            };
+            erase_at(screens.checked, belief, wire, last, Erasure::Head, line)
         }
         None => mend_span(screens, belief, wire, cells),
     }

@@ -11,7 +11,7 @@ use crate::changes::{Changes, Columns};
 use crate::parts::{are_blank, mend_parts};
 use crate::screens::{Cells, Screens};
 use crate::spans::{differs_in, mend_span};
-use cur_looks::{Belief, Erasure, Row, View, blank_tail, erase_from, erasing_line};
+use cur_looks::{Belief, Erasure, Place, Row, Target, View, blank_tail, erase_from, erasing_line};
 use cur_wires::{Wire, WireFault};
 use ti_conforms::Certificate;
 
@@ -92,15 +92,15 @@ fn mend_tail<C: Certificate, O: View, N: View, W: Wire>(
     }
     match short_tail(screens.checked, cells.count) {
         Some(tail) => {
-            blank_tail(
-                screens.checked,
-                belief,
-                wire,
-                screens.new,
+            let target = Target {
+                checked: screens.checked,
+                shown: screens.new,
+            };
+            let at = Place {
                 row,
-                cells.from,
-                tail,
-            )
+                col: cells.from,
+            };
+            blank_tail(&target, belief, wire, at, tail)
         }
         None => mend_span(screens, belief, wire, cells),
     }
@@ -179,16 +179,15 @@ fn mend_bottom<C: Certificate, O: View, N: View, W: Wire>(
         count: columns.end - columns.from,
     };
     mend_parts(screens, belief, wire, cells)?;
-    erase_from(
-        screens.checked,
-        belief,
-        wire,
-        screens.new,
+    let target = Target {
+        checked: screens.checked,
+        shown: screens.new,
+    };
+    let at = Place {
         row,
-        columns.end,
-        Erasure::Rest,
-        line,
-    )
+        col: columns.end,
+    };
+    erase_from(&target, belief, wire, at, Erasure::Rest, line)
 }
 
 /// The first of the lines from `from` to the one before `rows` that isn't blank, or else the one after them.

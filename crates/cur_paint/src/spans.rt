@@ -5,7 +5,7 @@ ghost use Rattle.cur_paint.specs.Differ.{differs, span, IsLike};
 ghost use Rattle.cur_paint.specs.Scenes.{IsIdle, IsOn, IsPaintable, MendsCell, MendsCells, changed, scene};
 
 use crate::screens::{Cells, Screens};
-use cur_looks::{Belief, Ink, View, goes_on, print_text, put_cell};
+use cur_looks::{Belief, Ink, Place, Target, View, goes_on, print_text, put_cell};
 use cur_wires::{Wire, WireFault};
 use ti_conforms::Certificate;
 
@@ -29,7 +29,11 @@ fn print_cell<C: Certificate, O: View, N: View, W: Wire>(
     ensures step { MendsCell W.went W.failures wire.old wire.new result (scene C.table O.cells N.cells screens.now)
         row col belief.old belief.new }
 {
-    put_cell(screens.checked, belief, wire, screens.new, row, col, ink)
+    let target = Target {
+        checked: screens.checked,
+        shown: screens.new,
+    };
+    put_cell(&target, belief, wire, Place { row, col }, ink)
 }
 
 /// Prints the `cells`, which all differ, one by one.
@@ -103,7 +107,7 @@ fn is_led_on(belief: &Belief, row: usize, col: usize, ink: Ink, count: usize) ->
     ensures place { result ≡ true → belief.now.place ≡ Some (record { row = row; col = col }) }
     ensures alike { result ≡ true → IsAlike belief.now ink }
 {
-    count > 0 && goes_on(belief, row, col, ink)
+    count > 0 && goes_on(belief, Place { row, col }, ink)
 }
 
 /// Prints the `cells`, which all differ and have the characters of `text` in the set and the brush of `ink`: in one
@@ -126,16 +130,15 @@ fn print_alike<C: Certificate, O: View, N: View, W: Wire>(
         cells belief.old belief.new }
 {
     if is_led_on(belief, cells.row, cells.from, ink, cells.count) {
-        return print_text(
-            screens.checked,
-            belief,
-            wire,
-            screens.new,
-            cells.row,
-            cells.from,
-            text,
-            cells.count,
-        );
+        let target = Target {
+            checked: screens.checked,
+            shown: screens.new,
+        };
+        let at = Place {
+            row: cells.row,
+            col: cells.from,
+        };
+        return print_text(&target, belief, wire, at, text, cells.count);
     }
     print_each(screens, belief, wire, cells)
 }

@@ -222,31 +222,28 @@ fn draw<C: Certificate, O: View, N: View, D: Changes, W: Wire>(
     }
 }
 
-/// Makes the terminal show the new screen. The old one is what it shows, where that is known; only the
-/// columns that may differ from it are looked at, unless much of the screen becomes blank. On `WireFault` a
-/// front of lawful bytes went out, and the session is lost.
+/// Makes the terminal show the new one of the `screens`, with the cursor as `wanted` says. The old one is what it
+/// shows, where that is known by `session`; only the columns that may differ by `changes` are looked at, unless much
+/// of the screen becomes blank. On `WireFault` a front of lawful bytes went out, and the session is lost.
 pub fn update<C: Certificate, O: View, N: View, D: Changes, W: Wire>(
-    checked: &C,
+    screens: &Screens<'_, C, O, N>,
     session: &mut Session,
     wire: &mut W,
-    old: &O,
-    new: &N,
     changes: &D,
     wanted: Wanted,
 ) -> Result<(), WireFault>
-    requires drawable { CanShow (C.table checked.now) (N.cells new.now) }
-    requires changes { D.between changes.now (O.cells old.now) (N.cells new.now) }
-    requires cursor { IsWithin (C.table checked.now) wanted.cursor }
-    requires lines { CanHide (C.table checked.now) wanted.mode }
-    ensures refreshes { Refreshes W.went W.failures wire.old wire.new result (C.table checked.now)
-        (O.cells old.now) (N.cells new.now) wanted session.old session.new }
+    requires drawable { CanShow (C.table screens.now.checked.now) (N.cells screens.now.new.now) }
+    requires changes { D.between changes.now (O.cells screens.now.old.now) (N.cells screens.now.new.now) }
+    requires cursor { IsWithin (C.table screens.now.checked.now) wanted.cursor }
+    requires lines { CanHide (C.table screens.now.checked.now) wanted.mode }
+    ensures refreshes { Refreshes W.went W.failures wire.old wire.new result (C.table screens.now.checked.now)
+        (O.cells screens.now.old.now) (N.cells screens.now.new.now) wanted session.old session.new }
 {
     // only this call's contract says that the certificate is verified
-    let _ = checked.rows();
-    let screens = Screens { checked, old, new };
+    let _ = screens.checked.rows();
     let status = session.status;
     session.status = Status::Lost;
-    draw(&screens, status, &mut session.belief, wire, changes, wanted)?;
+    draw(screens, status, &mut session.belief, wire, changes, wanted)?;
     session.status = Status::Known;
     Ok(())
 }

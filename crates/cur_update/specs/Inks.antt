@@ -53,6 +53,10 @@ abbrev pub ink_with : Means → (ℕ → Option ℕ) → Colors → Content → 
 ink_with m partners p c = let x = character_of m.graphic partners c in
     record { byte = x.byte; graphic = x.graphic; brush = brush_of m.colored p c }
 
+-- (Serves the code alone.) the colours of a pair, the foreground first
+abbrev pub pair_colors : Option ℕ × Option ℕ → Colors
+pair_colors p = record { foreground = p.0; background = p.1 }
+
 abbrev pub ink_of : Table → (ℕ → Option ℕ) → Colors → Content → Ink
 ink_of t partners p c = ink_with (means_of t) partners p c
 

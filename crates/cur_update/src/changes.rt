@@ -24,7 +24,8 @@ impl<'a, C: Certificate> Changes for Shift<'a, C> {
     ghost use Rattle.cur_paint.specs.Differ.{IsSameOutside};
     ghost use Rattle.cur_update.specs.Shift.{IsShift};
 
-    ghost between = { λ s old new. IsShift (C.table s.checked.now) (C.partners s.checked.now) s.shown.now s.screen.now s.same_pairs old new };
+    ghost between = { λ s old new. IsShift (C.table s.checked.now) (C.partners s.checked.now)
+        s.shown.now s.screen.now s.same_pairs old new };
 
     fn columns(&self, row: usize, cols: usize) -> Columns {
         let (old_rows, old_cols) = self.shown.size();

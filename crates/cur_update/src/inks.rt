@@ -95,7 +95,7 @@ fn character_of<C: Certificate>(checked: &C, graphic: bool, cell: Cell) -> Chara
 #[tactic(auto, using(crate::proofs::Plainly::plain_is))]
 fn is_plain(cell: Cell, colors: (Option<u8>, Option<u8>)) -> bool
     ensures { result ≡ true → (means : Means) (partners : ℕ → Option ℕ)
-        → spec.ink_with means partners (record { foreground = colors.0; background = colors.1 }) cell ≡ spec.plain_ink cell.byte }
+        → spec.ink_with means partners (spec.pair_colors colors) cell ≡ spec.plain_ink cell.byte }
 {
     cell.attrs() == Attrs::none() && colors.0.is_none() && colors.1.is_none()
 }
@@ -113,7 +113,7 @@ fn plain_ink(byte: u8) -> Ink
 
 /// The attributes of a cell, and the colours of its pair where the entry has colours.
 fn brush_of(colored: bool, colors: (Option<u8>, Option<u8>), cell: Cell) -> Brush
-    ensures { result ≡ spec.brush_of colored (record { foreground = colors.0; background = colors.1 }) cell }
+    ensures { result ≡ spec.brush_of colored (spec.pair_colors colors) cell }
 {
     Brush {
         attributes: attributes_of(cell.attrs()),
@@ -129,7 +129,7 @@ pub(crate) fn ink_of<C: Certificate>(
     colors: (Option<u8>, Option<u8>),
     cell: Cell,
 ) -> Ink
-    ensures { result ≡ spec.ink_with means (C.partners checked.now) (record { foreground = colors.0; background = colors.1 }) cell }
+    ensures { result ≡ spec.ink_with means (C.partners checked.now) (spec.pair_colors colors) cell }
 {
     if is_plain(cell, colors) {
         return plain_ink(cell.byte());
@@ -151,7 +151,7 @@ pub(crate) fn shows_ink<C: Certificate>(
     cell: Cell,
     ink: Ink,
 ) -> bool
-    ensures { result ≡ same (spec.ink_with means (C.partners checked.now) (record { foreground = colors.0; background = colors.1 }) cell) ink }
+    ensures { result ≡ same (spec.ink_with means (C.partners checked.now) (spec.pair_colors colors) cell) ink }
 {
     if is_plain(cell, colors) {
         return is_same(plain_ink(cell.byte()), ink);
@@ -177,7 +177,7 @@ pub(crate) fn is_blank_ink<C: Certificate>(
     colors: (Option<u8>, Option<u8>),
     cell: Cell,
 ) -> bool
-    ensures { result ≡ same (spec.ink_with means (C.partners checked.now) (record { foreground = colors.0; background = colors.1 }) cell) blank_ink }
+    ensures { result ≡ same (spec.ink_with means (C.partners checked.now) (spec.pair_colors colors) cell) blank_ink }
 {
     if is_plain(cell, colors) {
         return cell.byte() == b' ';
@@ -197,7 +197,8 @@ pub(crate) fn is_other(cell: Cell, byte: u8) -> bool
 pub(crate) fn plain_byte(cells: &[Cell], at: usize, like: usize) -> Option<u8>
     requires at { at < length cells.now }
     requires like { like < length cells.now }
-    ensures { IfSome result (spec.IsPlainLike (slice_index_or cells.now at space) (slice_index_or cells.now like space)) }
+    ensures { IfSome result
+        (spec.IsPlainLike (slice_index_or cells.now at space) (slice_index_or cells.now like space)) }
 {
     let cell = cells[at];
     let other = cells[like];

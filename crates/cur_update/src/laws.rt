@@ -13,10 +13,14 @@ ghost use Rattle.cur_update.specs.Inks.{ink_at};
 /// a cell for each cell that differs, and once more for the cursor. Nothing where no cell differs,
 /// the mode is the shown one, and the cursor is where it is wanted.
 pub fn cells_bounded()
-    ensures most { (t : Table) (partners : ℕ → Option ℕ) (v w : Screen) (b : Belief) (cursor : Option Place) (mode : Mode) → v.rows ≡ w.rows → v.cols ≡ w.cols
-        → paint_limit t (ink_at t partners v) (ink_at t partners w) b cursor mode ≤ (in_lines v w t.cols t.rows + 1) * cell_limit t }
-    ensures none { (t : Table) (partners : ℕ → Option ℕ) (v w : Screen) (b : Belief) (cursor : Option Place) (mode : Mode) → v.rows ≡ w.rows → v.cols ≡ w.cols
-        → in_lines v w t.cols t.rows ≡ 0 → IsPlaced cursor b.place → b.mode ≡ Some mode → paint_limit t (ink_at t partners v) (ink_at t partners w) b cursor mode ≡ 0 }
+    ensures most { (t : Table) (partners : ℕ → Option ℕ) (v w : Screen) (b : Belief) (cursor : Option Place)
+        (mode : Mode) → v.rows ≡ w.rows → v.cols ≡ w.cols
+        → paint_limit t (ink_at t partners v) (ink_at t partners w) b cursor mode
+        ≤ (in_lines v w t.cols t.rows + 1) * cell_limit t }
+    ensures none { (t : Table) (partners : ℕ → Option ℕ) (v w : Screen) (b : Belief) (cursor : Option Place)
+        (mode : Mode) → v.rows ≡ w.rows → v.cols ≡ w.cols → in_lines v w t.cols t.rows ≡ 0
+        → IsPlaced cursor b.place → b.mode ≡ Some mode
+        → paint_limit t (ink_at t partners v) (ink_at t partners w) b cursor mode ≡ 0 }
 {
     cur_paint::bounded();
 }

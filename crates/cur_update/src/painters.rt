@@ -15,7 +15,7 @@ use crate::inks::{has_line, means_of};
 use crate::screens::{PrintedScreen, all_cells};
 use cur_drawing::{Refusal, place_below};
 use cur_looks::{Mode, Place, Row};
-use cur_paint::{Session, Wanted};
+use cur_paint::{Screens, Session, Wanted};
 use cur_windows::{Size, Virtual};
 use cur_wires::{Wire, WireFault};
 use std::alloc::{AllocError, Global};
@@ -47,7 +47,8 @@ impl<'a, C: Certificate> Painter<'a, C> {
     pub fn start(alloc: Global, checked: &'a C) -> Result<Painter<'a, C>, AllocError>
         ensures certificate { IfOk result (λ p. p.checked ≡ checked.now) }
         ensures fresh { IfOk result (λ p. p.session.status ≡ Fresh) }
-        ensures shown { IfOk result (λ p. p.shown ≡ new_screen ((C.table checked.now).rows) ((C.table checked.now).cols)) }
+        ensures shown { IfOk result
+            (λ p. p.shown ≡ new_screen (C.table checked.now).rows (C.table checked.now).cols) }
         ensures mode { IfOk result (λ p. p.mode ≡ Normal) }
     {
         let size = Size::new(checked.rows(), checked.cols()).unwrap();
@@ -66,8 +67,10 @@ impl<'a, C: Certificate> Painter<'a, C> {
     pub fn update<W: Wire>(&mut self, screen: &Virtual, wire: &mut W) -> Result<(), WireFault>
         requires rows { (screen.now).rows ≡ (C.table self.old.checked).rows }
         requires cols { (screen.now).cols ≡ (C.table self.old.checked).cols }
-        ensures refreshes { Refreshes W.went W.failures wire.old wire.new result (C.table self.old.checked) (ink_at (C.table self.old.checked) (C.partners self.old.checked) self.old.shown)
-            (ink_at (C.table self.old.checked) (C.partners self.old.checked) screen.now) (wanted_of screen.now self.old.mode) self.old.session self.new.session }
+        ensures refreshes { Refreshes W.went W.failures wire.old wire.new result (C.table self.old.checked)
+            (ink_at (C.table self.old.checked) (C.partners self.old.checked) self.old.shown)
+            (ink_at (C.table self.old.checked) (C.partners self.old.checked) screen.now)
+            (wanted_of screen.now self.old.mode) self.old.session self.new.session }
         ensures shown { OnOk result (self.new.shown ≡ screen.now) }
         ensures kept { OnErr result (self.new.shown ≡ self.old.shown) }
         ensures certificate { self.new.checked ≡ self.old.checked }
@@ -107,7 +110,8 @@ impl<'a, C: Certificate> Painter<'a, C> {
     /// `rmcup`, those that the entry has, after the resynchronization if the session is lost; nothing if it
     /// is fresh. Then it is fresh. On `WireFault` a front of that went out, and the session is lost.
     pub fn finish<W: Wire>(&mut self, wire: &mut W) -> Result<(), WireFault>
-        ensures finishes { Finishes W.went W.failures wire.old wire.new result (C.table self.old.checked) self.old.session self.new.session }
+        ensures finishes { Finishes W.went W.failures wire.old wire.new result (C.table self.old.checked)
+            self.old.session self.new.session }
         ensures others { self.new ≡ record self.old { session = self.new.session } }
     {
         cur_paint::finish(self.checked, &mut self.session, wire)
@@ -117,7 +121,8 @@ impl<'a, C: Certificate> Painter<'a, C> {
     /// `IsLost` by a lost session; then nothing was sent. On a wire's fault a front of the string went out,
     /// and the session is lost.
     pub fn beep<W: Wire>(&mut self, wire: &mut W) -> Result<(), Unsent>
-        ensures beeps { Rings W.went W.failures wire.old wire.new result (C.table self.old.checked) self.old.session self.new.session }
+        ensures beeps { Rings W.went W.failures wire.old wire.new result (C.table self.old.checked)
+            self.old.session self.new.session }
         ensures others { self.new ≡ record self.old { session = self.new.session } }
     {
         ring(self.checked, &mut self.session, wire)
@@ -155,11 +160,14 @@ fn refresh<C: Certificate, W: Wire>(
     requires cols { (screen.now).cols ≡ (C.table checked.now).cols }
     requires shown { IsPainter (C.table checked.now) shown.old wanted.mode }
     requires wanted { wanted ≡ wanted_of screen.now wanted.mode }
-    ensures refreshes { Refreshes W.went W.failures wire.old wire.new result (C.table checked.now) (ink_at (C.table checked.now) (C.partners checked.now) shown.old)
+    ensures refreshes { Refreshes W.went W.failures wire.old wire.new result (C.table checked.now)
+        (ink_at (C.table checked.now) (C.partners checked.now) shown.old)
         (ink_at (C.table checked.now) (C.partners checked.now) screen.now) wanted session.old session.new }
     ensures shown { OnOk result (shown.new ≡ screen.now) }
     ensures kept { OnErr result (shown.new ≡ shown.old) }
 {
+    // only these calls' contracts say that the certificate is verified, that each cell can be printed, and that the
+    // cursor is on the screen
     let _ = checked.rows();
     all_cells(screen);
     let _ = screen.row(0);
@@ -181,7 +189,12 @@ fn refresh<C: Certificate, W: Wire>(
         checked,
         means,
     };
-    cur_paint::update(checked, session, wire, &old, &new, &shift, wanted)?;
+    let screens = Screens {
+        checked,
+        old: &old,
+        new: &new,
+    };
+    cur_paint::update(&screens, session, wire, &shift, wanted)?;
     shown.copy_from(screen);
     Ok(())
 }

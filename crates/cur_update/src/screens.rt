@@ -22,7 +22,8 @@ impl<'a, C: Certificate> View for PrintedScreen<'a, C> {
     ghost cells = { λ s. ink_at_with s.means (C.partners s.checked.now) s.screen.now };
 
     fn at(&self, row: usize, col: usize) -> Ink
-        ensures value { result ≡ ink_at_with self.now.means (C.partners self.now.checked.now) self.now.screen.now row col }
+        ensures value { result ≡ ink_at_with self.now.means (C.partners self.now.checked.now)
+            self.now.screen.now row col }
     {
         let (rows, cols) = self.screen.size();
         if row >= rows as usize || col >= cols as usize {
@@ -91,6 +92,7 @@ pub(crate) fn all_cells(screen: &Virtual)
     ensures { (i j : ℕ) → i < (screen.now).rows → j < (screen.now).cols → IsCell (content_at screen.now i j) }
 {
     for row in 0..screen.size().0 {
+        // only this call's contract says what the cells of a line hold
         let _ = screen.row(row);
     }
 }

@@ -20,7 +20,8 @@ impl Desk {
         answer
     }
 
-    /// The scrolling region becomes the lines from `top` to `bottom`. `BadRegion` where these aren't lines of the window, in order.
+    /// The scrolling region becomes the lines from `top` to `bottom`. `BadRegion` where these aren't lines of the
+    /// window, in order.
     pub fn setscrreg(&mut self, id: usize, top: i32, bottom: i32) -> Result<(), Refusal>
         ensures { spec.step self.new result ≡ spec.on_cursor self.old id (window.set_region top bottom) }
     {
@@ -40,7 +41,8 @@ impl Desk {
         answer
     }
 
-    /// The background of what is written and erased from now on. `BadCell` for a byte outside 32 to 126, else `BadPair`.
+    /// The background of what is written and erased from now on. `BadCell` for a byte outside 32 to 126, else
+    /// `BadPair`.
     pub fn bkgdset(&mut self, id: usize, put: Put) -> Result<(), Refusal>
         ensures { spec.step self.new result ≡ spec.on_cursor self.old id (window.set_background put) }
     {
@@ -92,7 +94,8 @@ impl Desk {
 
     /// These attributes too are those of what is written from now on.
     pub fn attron(&mut self, id: usize, attrs: Attrs) -> Result<(), Refusal>
-        ensures { spec.step self.new result ≡ spec.set self.old id (λ w. record w { attrs = record { 0 = bit_or w.attrs.0 attrs.0 } }) }
+        ensures { spec.step self.new result ≡ spec.set self.old id
+            (λ w. record w { attrs = record { 0 = bit_or w.attrs.0 attrs.0 } }) }
     {
         let mut slot = self.find(id)?;
         slot.window.attrs = slot.window.attrs.with(attrs);
@@ -102,7 +105,8 @@ impl Desk {
 
     /// These attributes are no longer those of what is written.
     pub fn attroff(&mut self, id: usize, attrs: Attrs) -> Result<(), Refusal>
-        ensures { spec.step self.new result ≡ spec.set self.old id (λ w. record w { attrs = record { 0 = bit_and w.attrs.0 (255 - attrs.0) } }) }
+        ensures { spec.step self.new result ≡ spec.set self.old id
+            (λ w. record w { attrs = record { 0 = bit_and w.attrs.0 (255 - attrs.0) } }) }
     {
         let mut slot = self.find(id)?;
         slot.window.attrs = slot.window.attrs.without(attrs);
@@ -110,8 +114,8 @@ impl Desk {
         Ok(())
     }
 
-    /// A character at the cursor, which moves on. `BadCell` for a byte above 127, else `BadPair` for a pair above 63, else
-    /// `NoScroll` where the cursor would leave the last line: the cell is written, and the cursor stays.
+    /// A character at the cursor, which moves on. `BadCell` for a byte above 127, else `BadPair` for a pair above 63,
+    /// else `NoScroll` where the cursor would leave the last line: the cell is written, and the cursor stays.
     pub fn addch(&mut self, id: usize, put: Put) -> Result<(), Refusal>
         ensures { spec.step self.new result ≡ spec.on_window self.old id (call.added put) }
     {
@@ -122,10 +126,10 @@ impl Desk {
         answer
     }
 
-    /// A string at the cursor. It stops at its first refusal, and what was written before stands. At `NoScroll` the byte
-    /// at which it stopped was written too, and the cursor stays in the cell that was written last. The answer doesn't
-    /// tell how many bytes that were: of a string without controls, as many as there were cells from the cursor to the
-    /// window's last one.
+    /// A string at the cursor. It stops at its first refusal, and what was written before stands. At `NoScroll` the
+    /// byte at which it stopped was written too, and the cursor stays in the cell that was written last. The answer
+    /// doesn't tell how many bytes that were: of a string without controls, as many as there were cells from the
+    /// cursor to the window's last one.
     pub fn addstr(&mut self, id: usize, text: &[u8]) -> Result<(), Refusal>
         ensures { spec.step self.new result ≡ spec.on_window self.old id (call.added_all text.now) }
     {
@@ -238,7 +242,8 @@ impl Desk {
         slot.window.horizontal(grid, put, n)
     }
 
-    /// At most `n` cells from the cursor to the window's bottom. `BadCell` for a byte outside 32 to 126, else `BadPair`.
+    /// At most `n` cells from the cursor to the window's bottom. `BadCell` for a byte outside 32 to 126, else
+    /// `BadPair`.
     pub fn vline(&mut self, id: usize, put: Put, n: i32) -> Result<(), Refusal>
         ensures { spec.step self.new result ≡ spec.on_grid self.old id (call.vertical put n) }
     {
@@ -265,9 +270,11 @@ impl Desk {
         slot.window.scroll(grid, n)
     }
 
-    /// A border with these sides and the default corners (`box`). `BadCell` for a byte outside 32 to 126, else `BadPair`.
+    /// A border with these sides and the default corners (`box`). `BadCell` for a byte outside 32 to 126, else
+    /// `BadPair`.
     pub fn draw_box(&mut self, id: usize, vertical: Put, horizontal: Put) -> Result<(), Refusal>
-        ensures { spec.step self.new result ≡ spec.on_grid self.old id (call.bordered (call.box_of vertical horizontal)) }
+        ensures { spec.step self.new result ≡ spec.on_grid self.old id
+            (call.bordered (call.box_of vertical horizontal)) }
     {
         self.border(id, &Border::sides(vertical, horizontal))
     }

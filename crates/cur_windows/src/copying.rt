@@ -3,7 +3,7 @@ ghost use Rattle.std.specs.Prelude.{◌≡◌, ◌<◌, ◌≤◌, ◌≤ℤ◌,
 ghost use Rattle.cur_drawing.specs.Grids.{Fits, overlaid, moved_to, shape_of};
 ghost use Rattle.cur_drawing.specs.Calls.{IsCanvas};
 ghost use Rattle.cur_windows.specs.Desks as spec;
-ghost use Rattle.cur_windows.specs.Copying.{IsWithin, common, common_part, copied_or, copywin, in_order, matched, spans_copied};
+ghost use Rattle.cur_windows.specs.Copying.{IsWithin, common, common_part, copywin, in_order, matched, spans_copied};
 
 use crate::desks::Desk;
 use crate::making::in_range;
@@ -22,9 +22,9 @@ pub struct CopySpan {
 
 // Copying from a window to another one, or to itself, as if the source were read first. It takes no memory.
 impl Desk {
-    /// What both windows have on the screen is copied from the source to the target, without the source's spaces (X/Open
-    /// Curses, `overlay`); `Ok` also where that is nothing. `Full`, `NoWindow`, `PadKind` where one is a pad; then nothing
-    /// has changed.
+    /// What both windows have on the screen is copied from `source` to `target`, without the source's spaces (X/Open
+    /// Curses, `overlay`); `Ok` also where that is nothing. `Full`, `NoWindow`, `PadKind` where one is a pad; then
+    /// nothing has changed.
     pub fn overlay(&mut self, source: usize, target: usize) -> Result<(), Refusal>
         ensures { spec.step self.new result ≡ common_part true self.old source target }
     {
@@ -53,7 +53,8 @@ impl Desk {
         last_col: i32,
         skip: bool,
     ) -> Result<(), Refusal>
-        ensures { spec.step self.new result ≡ copywin self.old source target from_row from_col row col last_row last_col skip }
+        ensures { spec.step self.new result ≡ copywin self.old source target from_row from_col row col last_row
+            last_col skip }
     {
         in_range(source, target)?;
         let source = self.find(source)?;
@@ -62,17 +63,19 @@ impl Desk {
         let outer = source.window.area;
         let inner = target.window.area;
         let rows = matched(from_row, row, last_row, outer.rows, inner.rows);
+        let Some(rows) = rows else {
+            return Err(Refusal::OutOfWindow);
+        };
         let cols = matched(from_col, col, last_col, outer.cols, inner.cols);
-        self.copy_or(
-            &source,
-            &target,
-            rows,
-            cols,
-            skip,
-            Err(Refusal::OutOfWindow),
-        )
+        let Some(cols) = cols else {
+            return Err(Refusal::OutOfWindow);
+        };
+        self.copy_spans(&source, &target, rows, cols, skip);
+        Ok(())
     }
 
+    // What both windows have on the screen is copied from the source to the target, without its spaces if these are
+    // skipped.
     fn copy_common(&mut self, source: usize, target: usize, skip: bool) -> Result<(), Refusal>
         ensures { spec.step self.new result ≡ common_part skip self.old source target }
     {
@@ -85,31 +88,9 @@ impl Desk {
         let to = self.place_on_screen(&target);
         let rows = common(from.top, from.rows, to.top, to.rows);
         let cols = common(from.left, from.cols, to.left, to.cols);
-        self.copy_or(&source, &target, rows, cols, skip, Ok(()))
-    }
-
-    // Where there are such lines and columns they are copied, else nothing is done and the last one is the answer.
-    fn copy_or(
-        &mut self,
-        source: &Slot,
-        target: &Slot,
-        rows: Option<CopySpan>,
-        cols: Option<CopySpan>,
-        skip: bool,
-        otherwise: Result<(), Refusal>,
-    ) -> Result<(), Refusal>
-        requires source_root { (source.now).root < 64 }
-        requires source_canvas { IsCanvas (spec.grid_at self.old (source.now).root) (source.now).window }
-        requires target_root { (target.now).root < 64 }
-        requires target_canvas { IsCanvas (spec.grid_at self.old (target.now).root) (target.now).window }
-        requires rows { IfSome rows (IsWithin (source.now).window.area.rows (target.now).window.area.rows) }
-        requires cols { IfSome cols (IsWithin (source.now).window.area.cols (target.now).window.area.cols) }
-        ensures { spec.step self.new result ≡ copied_or otherwise self.old source.now target.now skip rows cols }
-    {
-        let (Some(rows), Some(cols)) = (rows, cols) else {
-            return otherwise;
-        };
-        self.copy_spans(source, target, rows, cols, skip);
+        if let (Some(rows), Some(cols)) = (rows, cols) {
+            self.copy_spans(&source, &target, rows, cols, skip);
+        }
         Ok(())
     }
 
@@ -130,20 +111,32 @@ impl Desk {
         requires cols { IsWithin (source.now).window.area.cols (target.now).window.area.cols cols }
         ensures { self.new ≡ spans_copied self.old source.now target.now rows cols skip }
     {
-        let area = Area {
-            top: target.window.area.top + rows.to,
-            left: target.window.area.left + cols.to,
-            rows: rows.count,
-            cols: cols.count,
-        };
-        let from = Place {
-            row: source.window.area.top + rows.from,
-            col: source.window.area.left + cols.from,
+        let patch = Patch {
+            area: Area {
+                top: target.window.area.top + rows.to,
+                left: target.window.area.left + cols.to,
+                rows: rows.count,
+                cols: cols.count,
+            },
+            from: Place {
+                row: source.window.area.top + rows.from,
+                col: source.window.area.left + cols.from,
+            },
+            skip,
         };
         let spare = Grid::empty(self.alloc);
         let (source, target) = (source.root as usize, target.root as usize);
-        copy_between(&mut self.grids, source, target, spare, area, from, skip);
+        copy_between(&mut self.grids, source, target, spare, patch);
     }
+}
+
+/// The rectangle `area` of a grid that gets the cells from the place `from` of a grid on, without the spaces among them
+/// if these are to `skip`.
+#[derive(Clone, Copy)]
+struct Patch {
+    area: Area,
+    from: Place,
+    skip: bool,
 }
 
 // A rectangle of one grid gets the cells of another one, or of itself, as they were before. The spare one stands in the
@@ -153,50 +146,49 @@ fn copy_between(
     source: usize,
     target: usize,
     spare: Grid<Cell>,
-    area: Area,
-    from: Place,
-    skip: bool,
+    patch: Patch,
 )
     requires source { source < length grids.old }
     requires target { target < length grids.old }
-    requires area { Fits area (slice_index_or grids.old target []) }
-    requires from { Fits (moved_to area from) (slice_index_or grids.old source []) }
-    ensures { grids.new ≡ slice_set grids.old target (overlaid area from skip (slice_index_or grids.old source []) (slice_index_or grids.old target [])) }
+    requires area { Fits patch.area (slice_index_or grids.old target []) }
+    requires from { Fits (moved_to patch.area patch.from) (slice_index_or grids.old source []) }
+    ensures { grids.new ≡ slice_set grids.old target (overlaid patch.area patch.from patch.skip
+        (slice_index_or grids.old source []) (slice_index_or grids.old target [])) }
 {
     if source == target {
-        overlay_shift(&mut grids[target], area, from, skip);
+        overlay_shift(&mut grids[target], patch);
         return;
     }
     let mut grid = mem::replace(&mut grids[target], spare);
-    overlay_from(&mut grid, area, &grids[source], from, skip);
+    overlay_from(&mut grid, &grids[source], patch);
     grids[target] = grid;
 }
 
-// A rectangle of a grid gets the cells of another one from a place on, without its spaces if these are skipped.
-fn overlay_from(grid: &mut Grid<Cell>, area: Area, source: &Grid<Cell>, from: Place, skip: bool)
-    requires target { Fits area grid.old }
-    requires source { Fits (moved_to area from) source.now }
-    ensures value { grid.new ≡ overlaid area from skip source.now grid.old }
+// The patch of a grid gets the cells of another one.
+fn overlay_from(grid: &mut Grid<Cell>, source: &Grid<Cell>, patch: Patch)
+    requires target { Fits patch.area grid.old }
+    requires source { Fits (moved_to patch.area patch.from) source.now }
+    ensures value { grid.new ≡ overlaid patch.area patch.from patch.skip source.now grid.old }
     ensures shape { shape_of grid.new ≡ shape_of grid.old }
 {
-    if skip {
-        grid.merge_from(area, source, from, &SkipSpaces);
+    if patch.skip {
+        grid.merge_from(patch.area, source, patch.from, &SkipSpaces);
     } else {
-        grid.copy_from(area, source, from);
+        grid.copy_from(patch.area, source, patch.from);
     }
 }
 
-// It gets those of the grid itself, as if they were all read first.
-fn overlay_shift(grid: &mut Grid<Cell>, area: Area, from: Place, skip: bool)
-    requires target { Fits area grid.old }
-    requires source { Fits (moved_to area from) grid.old }
-    ensures value { grid.new ≡ overlaid area from skip grid.old grid.old }
+// The patch of a grid gets the grid's own cells, as if they were all read first.
+fn overlay_shift(grid: &mut Grid<Cell>, patch: Patch)
+    requires target { Fits patch.area grid.old }
+    requires source { Fits (moved_to patch.area patch.from) grid.old }
+    ensures value { grid.new ≡ overlaid patch.area patch.from patch.skip grid.old grid.old }
     ensures shape { shape_of grid.new ≡ shape_of grid.old }
 {
-    if skip {
-        grid.merge_shift(area, from, &SkipSpaces);
+    if patch.skip {
+        grid.merge_shift(patch.area, patch.from, &SkipSpaces);
     } else {
-        grid.shift(area, from);
+        grid.shift(patch.area, patch.from);
     }
 }
 

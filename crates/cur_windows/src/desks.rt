@@ -30,13 +30,26 @@ impl Model for Desk {
 
     ghost Value = { State };
 
-    ghost view = { λ d. record { rows = d.rows; cols = d.cols; grids = d.grids.items; origins = d.origins.items; windows = d.windows.items } };
+    ghost view = { λ d. record {
+      rows = d.rows;
+      cols = d.cols;
+      grids = d.grids.items;
+      origins = d.origins.items;
+      windows = d.windows.items;
+    } };
 
-    ghost invariant = { λ d. IsDesk (record { rows = d.rows; cols = d.cols; grids = d.grids.items; origins = d.origins.items; windows = d.windows.items }) };
+    ghost invariant = { λ d. IsDesk (record {
+      rows = d.rows;
+      cols = d.cols;
+      grids = d.grids.items;
+      origins = d.origins.items;
+      windows = d.windows.items;
+    }) };
 }
 
 impl Desk {
-    /// A desk with window 0 over a screen of this size, of spaces without attributes. An error where a growth was refused.
+    /// A desk with window 0 over a screen of this size, of spaces without attributes. An error where a growth was
+    /// refused.
     pub fn new(alloc: Global, size: Size) -> Result<Desk, AllocError>
         ensures { IfOk result (λ desk. desk ≡ spec.new_desk size.rows size.cols) }
     {

@@ -15,10 +15,12 @@ use grids::{Area, Grid, Place};
 // Making, moving and deleting windows. A refusal changes nothing.
 impl Desk {
     /// A new window of a size, at a place of the screen; 0 lines or columns mean all up to the screen's edge (X/Open
-    /// Curses, `newwin`). `Full` for a number above 63, `NumberUsed`, `BadRegion` for a negative size, `OutOfScreen` where
-    /// it doesn't lie on the screen; `NoMemory` where a growth was refused.
+    /// Curses, `newwin`). `Full` for a number above 63, `NumberUsed`, `BadRegion` for a negative size, `OutOfScreen`
+    /// where it doesn't lie on the screen; `NoMemory` where a growth was refused.
     pub fn newwin(&mut self, n: usize, lines: i32, cols: i32, y: i32, x: i32) -> Result<(), Refusal>
-        ensures { ((result ≡ Err Refusal.NoMemory) × (self.new ≡ self.old) × ((make.newwin self.old n lines cols y x).1 ≡ Ok tt)) ⊎ (spec.step self.new result ≡ make.newwin self.old n lines cols y x) }
+        ensures { ((result ≡ Err
+            Refusal.NoMemory) × (self.new ≡ self.old) × ((make.newwin self.old n lines cols y x).1 ≡ Ok tt))
+            ⊎ (spec.step self.new result ≡ make.newwin self.old n lines cols y x) }
     {
         self.check_free(n)?;
         let geometry = Geometry::new(lines, cols, y, x);
@@ -78,10 +80,12 @@ impl Desk {
         self.make_subwindow(n, id, &slot, geometry)
     }
 
-    /// A new window with a copy of the other's cells, cursor, attributes, background, region and options, at its place;
-    /// the copy of a subwindow is none (`dupwin`). `Full`, `NumberUsed`, `NoWindow`; `NoMemory` where a growth was refused.
+    /// A new window with a copy of the other's cells, cursor, attributes, background, region and options, at its
+    /// place; the copy of a subwindow is none (`dupwin`). `Full`, `NumberUsed`, `NoWindow`; `NoMemory` where a growth
+    /// was refused.
     pub fn dupwin(&mut self, n: usize, id: usize) -> Result<(), Refusal>
-        ensures { ((result ≡ Err Refusal.NoMemory) × (self.new ≡ self.old) × ((make.dupwin self.old n id).1 ≡ Ok tt)) ⊎ (spec.step self.new result ≡ make.dupwin self.old n id) }
+        ensures { ((result ≡ Err Refusal.NoMemory) × (self.new ≡ self.old) × ((make.dupwin self.old n id).1 ≡ Ok tt))
+            ⊎ (spec.step self.new result ≡ make.dupwin self.old n id) }
     {
         in_range(n, id)?;
         self.check_free(n)?;
@@ -115,8 +119,8 @@ impl Desk {
         Ok(())
     }
 
-    /// The window goes to a place of the screen, and its subwindows with it (`mvwin`). `Full`, `NoWindow`, `PadKind` for
-    /// a pad, `IsSub` for a subwindow, `OutOfScreen` where it wouldn't lie on the screen.
+    /// The window goes to a place of the screen, and its subwindows with it (`mvwin`). `Full`, `NoWindow`, `PadKind`
+    /// for a pad, `IsSub` for a subwindow, `OutOfScreen` where it wouldn't lie on the screen.
     pub fn mvwin(&mut self, id: usize, y: i32, x: i32) -> Result<(), Refusal>
         ensures { spec.step self.new result ≡ make.mvwin self.old id y x }
     {
@@ -185,10 +189,11 @@ impl Desk {
         requires free { spec.window_at self.old n ≡ None }
         requires grid { grid ≡ blank area.rows area.cols }
         requires within { IsAreaWithin self.old.rows self.old.cols area }
-        ensures { self.new ≡ make.root_added self.old n grid (spec.on_screen area.top area.left false) (fresh (spec.whole_area area.rows area.cols)) }
+        ensures { self.new ≡ make.root_added self.old n grid (spec.on_screen area.top area.left false)
+            (fresh (spec.whole_area area.rows area.cols)) }
     {
         let whole = whole_area(area.rows, area.cols);
-        // no screen is larger than a window may be
+        // a look at a field brings in the invariant: no screen is larger than a window may be
         let _ = &self.rows;
         let origin = Origin {
             top: area.top,
@@ -251,7 +256,8 @@ impl Desk {
         requires free { spec.window_at self.old n ≡ None }
         requires parent { id < 64 }
         requires placed { spec.IsPlaced self.old id slot.now }
-        ensures { spec.step self.new result ≡ make.subwindow_at self.old n id slot.now geometry.lines geometry.cols geometry.y geometry.x }
+        ensures { spec.step self.new result ≡ make.subwindow_at self.old n id slot.now geometry.lines geometry.cols
+            geometry.y geometry.x }
     {
         let outer = slot.window.area;
         let area = area_within(outer.rows, outer.cols, geometry, Refusal::OutOfWindow)?;

@@ -24,8 +24,8 @@ impl Desk {
         Ok(self.origins[slot.root as usize].pad)
     }
 
-    /// A new pad of 1 to 1000 rows and columns. That the number is free is the caller's condition. An error where a growth
-    /// was refused; then nothing has changed.
+    /// A new pad of 1 to 1000 rows and columns. That the number is free is the caller's condition. An error where a
+    /// growth was refused; then nothing has changed.
     pub fn add_pad(&mut self, n: usize, rows: u16, cols: u16) -> Result<(), AllocError>
         requires number { n < 64 }
         requires free { spec.window_at self.old n ≡ None }
@@ -50,7 +50,8 @@ impl Desk {
         requires number { n < 64 }
         requires free { spec.window_at self.old n ≡ None }
         requires there { IsOk (spec.slot_of self.old id) }
-        requires inside { IfOk (spec.slot_of self.old id) (λ s. IsAreaWithin s.window.area.rows s.window.area.cols area) }
+        requires inside { IfOk (spec.slot_of self.old id)
+            (λ s. IsAreaWithin s.window.area.rows s.window.area.cols area) }
         ensures { IfOk (spec.slot_of self.old id) (λ s. self.new ≡ make.subwindow_added self.old n id s area) }
     {
         let Ok(slot) = self.find(id) else {
@@ -60,17 +61,19 @@ impl Desk {
     }
 
     /// A part of a window is copied to a place of the virtual screen, whose cursor becomes the window's if the window
-    /// doesn't leave it and it lies in that part, else none; the window's `clearok` goes over to the screen. That there is
-    /// such a window, that the part lies in it and, where it is copied to, on the screen, and that the screen has the
-    /// desk's size is the caller's condition.
+    /// doesn't leave it and it lies in that part, else none; the window's `clearok` goes over to the screen. That
+    /// there is such a window, that the part lies in it and, where it is copied to, on the screen, and that the screen
+    /// has the desk's size is the caller's condition.
     pub fn show_part(&mut self, id: usize, part: Area, to: Place, screen: &mut Virtual)
         requires there { IsOk (spec.slot_of self.old id) }
-        requires inside { IfOk (spec.slot_of self.old id) (λ s. (part.top + part.rows ≤ s.window.area.rows) × (part.left + part.cols ≤ s.window.area.cols)) }
+        requires inside { IfOk (spec.slot_of self.old id)
+            (λ s. (part.top + part.rows ≤ s.window.area.rows) × (part.left + part.cols ≤ s.window.area.cols)) }
         requires bottom { to.row + part.rows ≤ (self.old).rows }
         requires right { to.col + part.cols ≤ (self.old).cols }
         requires screen_rows { (screen.old).rows ≡ (self.old).rows }
         requires screen_cols { (screen.old).cols ≡ (self.old).cols }
-        ensures { IfOk (spec.slot_of self.old id) (λ s. (self.new, screen.new) ≡ part_shown self.old screen.old id s part to) }
+        ensures { IfOk (spec.slot_of self.old id)
+            (λ s. (self.new, screen.new) ≡ part_shown self.old screen.old id s part to) }
     {
         let Ok(mut slot) = self.find(id) else {
             return;
@@ -84,7 +87,7 @@ impl Desk {
             left: to.col,
             ..part
         };
-        // no screen is larger than a window may be
+        // a look at a field brings in the invariant: no screen is larger than a window may be
         let _ = &self.rows;
         let cursor = cursor_in_part(&slot.window, part, to);
         screen.show(area, self.grid_of(&slot), from, cursor, slot.window.clears);

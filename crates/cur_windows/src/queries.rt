@@ -7,9 +7,9 @@ use crate::desks::{Desk, WINDOWS};
 use cur_drawing::{Cell, Place, Refusal, Window};
 
 impl Desk {
-    /// The cursor (`getyx`), the size (`getmaxyx`), the attributes, the pair, the background (`getbkgd`), the options and
-    /// the scrolling region of a window. Its `area` is in the places of the grid that it shares with the windows it was made
-    /// of, so that two areas give a subwindow's place in its parent (`getparyx`). `Full`, `NoWindow`.
+    /// The cursor (`getyx`), the size (`getmaxyx`), the attributes, the pair, the background (`getbkgd`), the options
+    /// and the scrolling region of a window. Its `area` is in the places of the grid that it shares with the windows
+    /// it was made of, so that two areas give a subwindow's place in its parent (`getparyx`). `Full`, `NoWindow`.
     pub fn window(&self, id: usize) -> Result<Window, Refusal>
         ensures { result ≡ window_of self.now id }
     {

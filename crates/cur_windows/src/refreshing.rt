@@ -70,7 +70,8 @@ fn cursor_in(slot: &Slot, area: Area) -> Option<Place>
     requires cols { area.cols ≡ (slot.now).window.area.cols }
     requires height { area.top + area.rows ≤ 1000 }
     requires width { area.left + area.cols ≤ 1000 }
-    ensures value { result ≡ (if (slot.now).window.leaves then None else Some (place (area.top + (slot.now).window.row) (area.left + (slot.now).window.col))) }
+    ensures value { result ≡ (if (slot.now).window.leaves then None else Some
+        (place (area.top + (slot.now).window.row) (area.left + (slot.now).window.col))) }
     ensures within { IfSome result (λ p. (p.row < area.top + area.rows) × (p.col < area.left + area.cols)) }
 {
     if slot.window.leaves {

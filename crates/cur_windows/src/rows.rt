@@ -58,7 +58,8 @@ impl Desk {
     fn put_cell(&mut self, root: usize, row: usize, col: usize, cell: Cell)
         requires root { root < 64 }
         requires place { Fits (one row col) (spec.grid_at self.old root) }
-        ensures { self.new ≡ record self.old { grids = slice_set (self.old).grids root (filled (one row col) cell (spec.grid_at self.old root)) } }
+        ensures { self.new ≡ record self.old
+            { grids = slice_set (self.old).grids root (filled (one row col) cell (spec.grid_at self.old root)) } }
     {
         let grid = &mut self.grids[root];
         grid.set(row, col, cell);
@@ -69,11 +70,14 @@ impl<'a> RowMut<'a> {
     ghost use Rattle.std.specs.Borrow.{sem};
     ghost use Rattle.cur_windows.specs.Lending.{LendsLine};
 
-    /// Its cells, for writing: what is left in them is in the window's grid at that place, and nothing else has changed.
+    /// Its cells, for writing: what is left in them is in the window's grid at that place, and nothing else has
+    /// changed.
     pub fn into_cells(self) -> &'a mut [Cell]
         requires { IsLine self.desk.now self.slot self.row }
         ensures* writes_back { sem 𝓛 (LendsLine self.entry result) }
-        ensures value { result.now ≡ cut self.entry.slot.window.area (line_at (spec.grid_at self.entry.desk.now self.entry.slot.root) (self.entry.slot.window.area.top + self.entry.row)) }
+        ensures value { result.now ≡ cut self.entry.slot.window.area
+            (line_at (spec.grid_at self.entry.desk.now self.entry.slot.root)
+            (self.entry.slot.window.area.top + self.entry.row)) }
     {
         let RowMut { desk, slot, row } = self;
         let area = slot.window.area;
@@ -92,7 +96,9 @@ impl<'a> RowMut<'a> {
     /// Its cells.
     pub fn cells(&self) -> &[Cell]
         requires { IsLine (self.now).desk.now (self.now).slot (self.now).row }
-        ensures { result.now ≡ cut (self.now).slot.window.area (line_at (spec.grid_at (self.now).desk.now (self.now).slot.root) ((self.now).slot.window.area.top + (self.now).row)) }
+        ensures { result.now ≡ cut (self.now).slot.window.area
+            (line_at (spec.grid_at (self.now).desk.now (self.now).slot.root)
+            ((self.now).slot.window.area.top + (self.now).row)) }
     {
         let area = self.slot.window.area;
         let left = area.left as usize;

@@ -37,14 +37,28 @@ impl Model for Virtual {
 
     ghost Value = { Screen };
 
-    ghost view = { λ v. record { rows = v.rows; cols = v.cols; grid = v.grid; cursor = v.cursor; clearok = v.clearok; pairs = v.pairs.items } };
+    ghost view = { λ v. record {
+      rows = v.rows;
+      cols = v.cols;
+      grid = v.grid;
+      cursor = v.cursor;
+      clearok = v.clearok;
+      pairs = v.pairs.items;
+    } };
 
-    ghost invariant = { λ v. IsScreen (record { rows = v.rows; cols = v.cols; grid = v.grid; cursor = v.cursor; clearok = v.clearok; pairs = v.pairs.items }) };
+    ghost invariant = { λ v. IsScreen (record {
+      rows = v.rows;
+      cols = v.cols;
+      grid = v.grid;
+      cursor = v.cursor;
+      clearok = v.clearok;
+      pairs = v.pairs.items;
+    }) };
 }
 
 impl Virtual {
-    /// The first screen: spaces without attributes, the cursor at the corner, all pairs default on default. An error where a
-    /// growth was refused.
+    /// The first screen: spaces without attributes, the cursor at the corner, all pairs default on default. An error
+    /// where a growth was refused.
     pub fn new(alloc: Global, size: Size) -> Result<Virtual, AllocError>
         ensures { IfOk result (λ screen. screen ≡ spec.new_screen size.rows size.cols) }
     {
@@ -101,8 +115,8 @@ impl Virtual {
         self.clearok = false;
     }
 
-    /// The colours of a pair (`init_pair`). `BadPair` for a pair that isn't 1 to 63, or a colour that isn't 0 to 7; then
-    /// nothing has changed.
+    /// The colours of a pair (`init_pair`). `BadPair` for a pair that isn't 1 to 63, or a colour that isn't 0 to 7;
+    /// then nothing has changed.
     pub fn init_pair(&mut self, pair: i32, foreground: i32, background: i32) -> Result<(), Refusal>
         ensures { (self.new, result) ≡ spec.init_pair pair foreground background self.old }
     {

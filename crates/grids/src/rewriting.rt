@@ -10,7 +10,8 @@ fn redraw_part<C: Copy, R: Rule<C>>(cells: &mut [C], from: usize, to: usize, rul
     requires ordered { from ≤ to }
     requires within { to ≤ length cells.old }
     ensures len { length cells.new ≡ length cells.old }
-    ensures inside { (k : ℕ) (d : C) → from ≤ k → k < to → slice_index_or cells.new k d ≡ R.made rule.now (slice_index_or cells.old k d) }
+    ensures inside { (k : ℕ) (d : C) → from ≤ k → k < to
+        → slice_index_or cells.new k d ≡ R.made rule.now (slice_index_or cells.old k d) }
     ensures before { (k : ℕ) (d : C) → k < from → slice_index_or cells.new k d ≡ slice_index_or cells.old k d }
     ensures behind { (k : ℕ) (d : C) → to ≤ k → slice_index_or cells.new k d ≡ slice_index_or cells.old k d }
 {
@@ -40,7 +41,9 @@ fn merge_part<C: Copy, R: Merge<C>>(
     requires to { to + n ≤ length cells.old }
     requires from { from + n ≤ length source.now }
     ensures len { length cells.new ≡ length cells.old }
-    ensures inside { (k : ℕ) (d : C) → to ≤ k → k < to + n → slice_index_or cells.new k d ≡ R.merged rule.now (slice_index_or cells.old k d) (slice_index_or source.now (from + (k - to)) d) }
+    ensures inside { (k : ℕ) (d : C) → to ≤ k → k < to + n
+        → slice_index_or cells.new k d ≡ R.merged rule.now (slice_index_or cells.old k d)
+        (slice_index_or source.now (from + (k - to)) d) }
     ensures before { (k : ℕ) (d : C) → k < to → slice_index_or cells.new k d ≡ slice_index_or cells.old k d }
     ensures behind { (k : ℕ) (d : C) → to + n ≤ k → slice_index_or cells.new k d ≡ slice_index_or cells.old k d }
 {
@@ -71,7 +74,9 @@ fn merge_left<C: Copy, R: Merge<C>>(cells: &mut [C], to: usize, n: usize, from: 
     requires order { to ≤ from }
     requires from { from + n ≤ length cells.old }
     ensures len { length cells.new ≡ length cells.old }
-    ensures inside { (k : ℕ) (d : C) → to ≤ k → k < to + n → slice_index_or cells.new k d ≡ R.merged rule.now (slice_index_or cells.old k d) (slice_index_or cells.old (from + (k - to)) d) }
+    ensures inside { (k : ℕ) (d : C) → to ≤ k → k < to + n
+        → slice_index_or cells.new k d ≡ R.merged rule.now (slice_index_or cells.old k d)
+        (slice_index_or cells.old (from + (k - to)) d) }
     ensures before { (k : ℕ) (d : C) → k < to → slice_index_or cells.new k d ≡ slice_index_or cells.old k d }
     ensures behind { (k : ℕ) (d : C) → to + n ≤ k → slice_index_or cells.new k d ≡ slice_index_or cells.old k d }
 {
@@ -86,7 +91,9 @@ fn merge_right<C: Copy, R: Merge<C>>(cells: &mut [C], to: usize, n: usize, from:
     requires order { from < to }
     requires to { to + n ≤ length cells.old }
     ensures len { length cells.new ≡ length cells.old }
-    ensures inside { (k : ℕ) (d : C) → to ≤ k → k < to + n → slice_index_or cells.new k d ≡ R.merged rule.now (slice_index_or cells.old k d) (slice_index_or cells.old (from + (k - to)) d) }
+    ensures inside { (k : ℕ) (d : C) → to ≤ k → k < to + n
+        → slice_index_or cells.new k d ≡ R.merged rule.now (slice_index_or cells.old k d)
+        (slice_index_or cells.old (from + (k - to)) d) }
     ensures before { (k : ℕ) (d : C) → k < to → slice_index_or cells.new k d ≡ slice_index_or cells.old k d }
     ensures behind { (k : ℕ) (d : C) → to + n ≤ k → slice_index_or cells.new k d ≡ slice_index_or cells.old k d }
 {

@@ -8,19 +8,19 @@ use Rattle.cur_looks.proofs.cells.approach.Goals as goal
 
 pub returns-then-wraps_to-clause-step : goal.returns-then-wraps_to-clause-step
 returns-then-wraps_to-clause-step g c h k =
-    let t = g.C.Certificate.table c.args.checked.now in
+    let t = g.C.Certificate.table c.args.target.now.checked.now in
     let b = c.args.belief.now in
-    steps_none g.W.Wire.went g.W.Wire.failures g.met.W.Wire.lawful c.args.wire.now tt (IsPiece t) _ (IsLost t) (Agrees t h b) (λ s x. x.ready.rest) (agrees_lost t c.rows.ensures.checked h b)
+    steps_none g.W.Wire.went g.W.Wire.failures g.met.W.Wire.lawful c.args.wire.now tt (IsPiece t) _ (IsLost t) (Agrees t h b) (λ s x. x.ready.rest) (agrees_lost t c.requires.goal.checked h b)
 
 pub returns-clause-step : goal.returns-clause-step
 returns-clause-step g c h k =
-    let t = g.C.Certificate.table c.args.checked.now in
+    let t = g.C.Certificate.table c.args.target.now.checked.now in
     let b = c.args.belief.now in
-    steps_wider g.W.Wire.went g.W.Wire.failures c.args.wire.now c.reach.new.wire c.reach.result (IsPiece t) (moves b.place c.args.row c.args.col * t.longest.cup) t.longest.cup (IsLost t) (Agrees t h b) (Agrees t h c.reach.new.belief) (Agrees t h b) (Agrees t h c.reach.new.belief)
-    (at_most _ t.longest.cup (moves_few b.place c.args.row c.args.col)) (λ s x. x) (λ s x. x) (c.reach.ensures.step h k)
+    steps_wider g.W.Wire.went g.W.Wire.failures c.args.wire.now c.reach.new.wire c.reach.result (IsPiece t) (moves b.place c.args.at.row c.args.at.col * t.longest.cup) t.longest.cup (IsLost t) (Agrees t h b) (Agrees t h c.reach.new.belief) (Agrees t h b) (Agrees t h c.reach.new.belief)
+    (at_most _ t.longest.cup (moves_few b.place c.args.at.row c.args.at.col)) (λ s x. x) (λ s x. x) (c.reach.ensures.step h k)
 
 pub returns-then-stands-clause-step : goal.returns-then-stands-clause-step
 returns-then-stands-clause-step g c h k =
-    let t = g.C.Certificate.table c.args.checked.now in
+    let t = g.C.Certificate.table c.args.target.now.checked.now in
     let b = c.args.belief.now in
-    steps_none g.W.Wire.went g.W.Wire.failures g.met.W.Wire.lawful c.args.wire.now tt (IsPiece t) _ (IsLost t) (Agrees t h b) (λ s x. x.ready.rest) (agrees_lost t c.rows.ensures.checked h b)
+    steps_none g.W.Wire.went g.W.Wire.failures g.met.W.Wire.lawful c.args.wire.now tt (IsPiece t) _ (IsLost t) (Agrees t h b) (λ s x. x.ready.rest) (agrees_lost t c.requires.goal.checked h b)

@@ -9,18 +9,18 @@ use Rattle.cur_looks.proofs.cells.put_cell.Goals as goal
 pub returns-in_err-approach : goal.returns-in_err-approach
 returns-in_err-approach g c =
     let e = err_from_is_err_and c.from_residual.result c.from_residual.ensures.1 in
-    let t = g.C.Certificate.table c.args.checked.now in
+    let t = g.C.Certificate.table c.args.target.now.checked.now in
     let b = c.args.belief.now in
     rw e.1 (record {
-      step = λ h k. steps_fail g.W.Wire.went g.W.Wire.failures c.args.wire.now c.approach.new.wire _ _ (IsPiece t) t.longest.cup (cell_limit t) (IsLost t) (Agrees t h b) (Agrees t h c.approach.new.belief) (Agrees t (put_at c.args.row c.args.col c.args.ink h) c.approach.new.belief)
+      step = λ h k. steps_fail g.W.Wire.went g.W.Wire.failures c.args.wire.now c.approach.new.wire _ _ (IsPiece t) t.longest.cup (cell_limit t) (IsLost t) (Agrees t h b) (Agrees t h c.approach.new.belief) (Agrees t (put_at c.args.at.row c.args.at.col c.args.ink h) c.approach.new.belief)
           (omega arith) (c.in_err-approach.ensures.step h k);
     })
 
 pub returns : goal.returns
 returns g c =
-    let t = g.C.Certificate.table c.args.checked.now in
+    let t = g.C.Certificate.table c.args.target.now.checked.now in
     let b = c.args.belief.now in
     record {
-      step = λ h k. steps_next g.W.Wire.went g.W.Wire.failures g.met.W.Wire.lawful c.args.wire.now c.approach.new.wire c.ink_in.new.wire _ c.ink_in.result (IsPiece t) t.longest.cup (ink_limit t) (cell_limit t) (IsLost t)
-          (Agrees t h b) (Agrees t h c.approach.new.belief) (Agrees t (put_at c.args.row c.args.col c.args.ink h) c.ink_in.new.belief) (omega arith) (c.in_ok-approach.ensures.step h k) (c.ink_in.ensures.step h);
+      step = λ h k. steps_next g.W.Wire.went g.W.Wire.failures g.met.W.Wire.lawful c.args.wire.now c.approach.new.wire c.put_here.new.wire _ c.put_here.result (IsPiece t) t.longest.cup (ink_limit t) (cell_limit t) (IsLost t)
+          (Agrees t h b) (Agrees t h c.approach.new.belief) (Agrees t (put_at c.args.at.row c.args.at.col c.args.ink h) c.put_here.new.belief) (omega arith) (c.in_ok-approach.ensures.step h k) (c.put_here.ensures.step h);
     }

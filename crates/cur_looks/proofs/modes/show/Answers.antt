@@ -20,4 +20,4 @@ returns-in-None-clause-step g c h =
     let b = c.args.belief.now in
     let d : Belief = record b { mode = Some Normal } in
     steps_nothing g.W.Wire.went g.W.Wire.failures g.met.W.Wire.lawful c.args.wire.now tt (IsPiece t) _ (IsLost t) (Agrees t h b) (Agrees t h d) (λ s x. x.ready.rest)
-    (always_normal t (has_none t Cnorm (c.in-None.ensures.none refl)) h b) (agrees_lost t c.rows.ensures.checked h b)
+    (always_normal t (has_none t Cnorm (c.in-None.ensures.none refl)) h b) (agrees_lost t c.requires.checked h b)

@@ -30,5 +30,5 @@ pub returns-in-Prominent-clause-step : goal.returns-in-Prominent-clause-step
 returns-in-Prominent-clause-step g c h =
     let t = g.C.Certificate.table c.args.checked.now in
     let b = c.args.belief.now in
-    steps_wider g.W.Wire.went g.W.Wire.failures c.args.wire.now c.show_stressed.new.wire c.show_stressed.result (IsPiece t) (modes_limit t) (changes b.mode c.args.wanted * modes_limit t) (IsLost t) (Agrees t h b) (Agrees t h c.show_stressed.new.belief) (Agrees t h b) (Agrees t h c.show_stressed.new.belief)
-    (omega (arith, once _ (modes_limit t) (c.if-is_mode.ensures.counted refl))) (λ s x. x) (λ s x. x) (c.show_stressed.ensures.step h)
+    steps_wider g.W.Wire.went g.W.Wire.failures c.args.wire.now c.show_prominently.new.wire c.show_prominently.result (IsPiece t) (modes_limit t) (changes b.mode c.args.wanted * modes_limit t) (IsLost t) (Agrees t h b) (Agrees t h c.show_prominently.new.belief) (Agrees t h b) (Agrees t h c.show_prominently.new.belief)
+    (omega (arith, once _ (modes_limit t) (c.if-is_mode.ensures.counted refl))) (λ s x. x) (λ s x. x) (c.show_prominently.ensures.step h)

@@ -6,6 +6,6 @@ use Rattle.cur_looks.proofs.reaching.reach.Goals as goal
 
 pub returns-then-stands-clause-step : goal.returns-then-stands-clause-step
 returns-then-stands-clause-step g c h k =
-    let t = g.C.Certificate.table c.args.checked.now in
+    let t = g.C.Certificate.table c.args.target.now.checked.now in
     let b = c.args.belief.now in
     steps_none g.W.Wire.went g.W.Wire.failures g.met.W.Wire.lawful c.args.wire.now tt (IsPiece t) _ (IsLost t) (Agrees t h b) (λ s x. x.ready.rest) (agrees_lost t c.rows.ensures.checked h b)

@@ -9,7 +9,7 @@ pub returns-then-stands-clause-step : goal.returns-then-stands-clause-step
 returns-then-stands-clause-step g c h =
     let t = g.C.Certificate.table c.args.checked.now in
     let b = c.args.belief.now in
-    steps_none g.W.Wire.went g.W.Wire.failures g.met.W.Wire.lawful c.args.wire.now tt (IsPiece t) _ (IsLost t) (Agrees t h b) (λ s x. x.ready.rest) (agrees_lost t c.rows.ensures.checked h b)
+    steps_none g.W.Wire.went g.W.Wire.failures g.met.W.Wire.lawful c.args.wire.now tt (IsPiece t) _ (IsLost t) (Agrees t h b) (λ s x. x.ready.rest) (agrees_lost t c.requires.goal.checked h b)
 
 pub returns-clause-step : goal.returns-clause-step
 returns-clause-step g c h =
@@ -17,4 +17,4 @@ returns-clause-step g c h =
     let b = c.args.belief.now in
     let line = c.shortest-way.result.line in
     let way = c.shortest-way.ensures.way in
-    c.send_line.ensures.exact t.longest.cup h h b _ way.short (turned t h b c.args.row c.args.col c.requires.row c.requires.col line way.moves)
+    c.send_line.ensures.exact t.longest.cup h h b _ way.short (turned t h b c.args.at.row c.args.at.col c.requires.goal.row c.requires.goal.col line way.moves)

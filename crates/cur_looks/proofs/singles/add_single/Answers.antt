@@ -12,7 +12,7 @@ pub returns-then-not-has_single-clause-step : goal.returns-then-not-has_single-c
 returns-then-not-has_single-clause-step g c h =
     let t = g.C.Certificate.table c.args.checked.now in
     let b = c.args.belief.now in
-    steps_none g.W.Wire.went g.W.Wire.failures g.met.W.Wire.lawful c.args.wire.now tt (IsPiece t) _ (IsLost t) (Agrees t h b) (λ s x. x.ready.rest) (agrees_lost t c.rows.ensures.checked h b)
+    steps_none g.W.Wire.went g.W.Wire.failures g.met.W.Wire.lawful c.args.wire.now tt (IsPiece t) _ (IsLost t) (Agrees t h b) (λ s x. x.ready.rest) (agrees_lost t c.requires.checked h b)
 
 pub returns-in-Some-clause-step : goal.returns-in-Some-clause-step
 returns-in-Some-clause-step g c h =
@@ -21,7 +21,7 @@ returns-in-Some-clause-step g c h =
     let row = c.args.row in
     let on : has_single row c.args.wanted ≡ true = sym c.if-not-has_single.ensures in
     let its = c.in-Some.ensures.value in
-    let singles : HasSingles t = c.rows.ensures.checked.singles c.requires.sgr in
+    let singles : HasSingles t = c.requires.checked.singles c.requires.sgr in
     rw c.turned_on-belief.ensures
     (c.send_line.ensures.step (length (text_of t row)) h h b (with_attributes b (turned_on row b.brush.attributes)) (single_limit t c.args.wanted row on)
     (single_set t singles c.args.wanted row on (has_some t row c.in-Some.line.now its) h b c.requires.set))
@@ -33,7 +33,7 @@ returns-in-None-clause-step g c h =
     let row = c.args.row in
     let d : Belief = with_attributes b (turned_on row b.brush.attributes) in
     let on : has_single row c.args.wanted ≡ true = sym c.if-not-has_single.ensures in
-    let singles : HasSingles t = c.rows.ensures.checked.singles c.requires.sgr in
+    let singles : HasSingles t = c.requires.checked.singles c.requires.sgr in
     rw c.turned_on-belief.ensures
     (steps_nothing g.W.Wire.went g.W.Wire.failures g.met.W.Wire.lawful c.args.wire.now tt (IsPiece t) _ (IsLost t) (Agrees t h b) (Agrees t h d) (λ s x. x.ready.rest)
-    (single_absent t singles c.args.wanted row on (has_none t row (c.in-None.ensures.none refl)) h b) (agrees_lost t c.rows.ensures.checked h b))
+    (single_absent t singles c.args.wanted row on (has_none t row (c.in-None.ensures.none refl)) h b) (agrees_lost t c.requires.checked h b))

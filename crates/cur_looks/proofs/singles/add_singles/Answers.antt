@@ -14,7 +14,7 @@ loop-row-init g c =
     record {
       set = c.requires.set;
       ahead = refl;
-      step = λ h. steps_none g.W.Wire.went g.W.Wire.failures g.met.W.Wire.lawful c.args.wire.now tt (IsPiece t) _ (IsLost t) (Agrees t h b) (λ s x. x.ready.rest) (agrees_lost t c.rows.ensures.checked h b);
+      step = λ h. steps_none g.W.Wire.went g.W.Wire.failures g.met.W.Wire.lawful c.args.wire.now tt (IsPiece t) _ (IsLost t) (Agrees t h b) (λ s x. x.ready.rest) (agrees_lost t c.requires.checked h b);
     }
 
 pub loop-row-preserved : goal.loop-row-preserved

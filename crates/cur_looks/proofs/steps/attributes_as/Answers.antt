@@ -15,4 +15,4 @@ returns-then-same_attributes-clause-step g c h =
     let d : Belief = record b { brush = record b.brush { attributes = c.args.wanted } } in
     let same = attributes_equal b.brush.attributes c.args.wanted (sym c.if-same_attributes.ensures.value) in
     steps_nothing g.W.Wire.went g.W.Wire.failures g.met.W.Wire.lawful c.args.wire.now tt (IsPiece t) _ (IsLost t) (Agrees t h b) (Agrees t h d) (λ s x. x.ready.rest)
-    (brush_as t h b (record b.brush { attributes = c.args.wanted }) (ap (λ (a : Attributes). record b.brush { attributes = a }) same)) (agrees_lost t c.rows.ensures.checked h b)
+    (brush_as t h b (record b.brush { attributes = c.args.wanted }) (ap (λ (a : Attributes). record b.brush { attributes = a }) same)) (agrees_lost t c.requires.checked h b)

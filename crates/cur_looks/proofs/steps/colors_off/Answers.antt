@@ -14,7 +14,7 @@ returns-then-plain-clause-step g c h =
     let b = c.args.belief.now in
     let d : Belief = record b { brush = record b.brush { foreground = None; background = None } } in
     steps_nothing g.W.Wire.went g.W.Wire.failures g.met.W.Wire.lawful c.args.wire.now tt (IsPiece t) _ (IsLost t) (Agrees t h b) (Agrees t h d) (λ s x. x.ready.rest)
-    (no_colors t h b (c.is_uncolored-plain.ensures.foreground c.if-plain.true) (c.is_uncolored-plain.ensures.background c.if-plain.true)) (agrees_lost t c.rows.ensures.checked h b)
+    (no_colors t h b (c.is_uncolored-plain.ensures.foreground c.if-plain.true) (c.is_uncolored-plain.ensures.background c.if-plain.true)) (agrees_lost t c.requires.checked h b)
 
 pub returns-in-Some-clause-step : goal.returns-in-Some-clause-step
 returns-in-Some-clause-step g c h =
@@ -28,4 +28,4 @@ returns-in-None-clause-step g c h =
     let b = c.args.belief.now in
     let d : Belief = record b { brush = record b.brush { foreground = None; background = None } } in
     steps_nothing g.W.Wire.went g.W.Wire.failures g.met.W.Wire.lawful c.args.wire.now tt (IsPiece t) _ (IsLost t) (Agrees t h b) (Agrees t h d) (λ s x. x.ready.rest)
-    (no_color_lines t h b (has_none t Op (c.in-None.ensures.none refl))) (agrees_lost t c.rows.ensures.checked h b)
+    (no_color_lines t h b (has_none t Op (c.in-None.ensures.none refl))) (agrees_lost t c.requires.checked h b)

@@ -8,5 +8,5 @@ returns g c =
     let t = g.C.Certificate.table c.args.checked.now in
     let b = c.args.belief.now in
     record {
-      step = λ h. c.send_line.ensures.step t.longest.erasure h (tail_blank c.args.row c.args.col h) b b (omega arith) (tail_erased t h b c.args.row c.args.col c.requires.col c.requires.place c.requires.brush);
+      step = λ h. c.send_line.ensures.step t.longest.erasure h (tail_blank c.args.at.row c.args.at.col h) b b (omega arith) (tail_erased t h b c.args.at.row c.args.at.col c.requires.col c.requires.place c.requires.brush);
     }

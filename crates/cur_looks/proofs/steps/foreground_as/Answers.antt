@@ -17,7 +17,7 @@ returns-then-same-clause-step g c h =
     let d : Belief = record b { brush = record b.brush { foreground = c.args.wanted } } in
     let same : b.brush.foreground ≡ c.args.wanted = color_equal b.brush.foreground c.args.wanted (sym c.same_color-same.ensures.value ∙ c.if-same.true) in
     steps_nothing g.W.Wire.went g.W.Wire.failures g.met.W.Wire.lawful c.args.wire.now tt (IsPiece t) _ (IsLost t) (Agrees t h b) (Agrees t h d) (λ s x. x.ready.rest)
-    (brush_as t h b (record b.brush { foreground = c.args.wanted }) (ap (λ (f : Option Color). record b.brush { foreground = f }) same)) (agrees_lost t c.rows.ensures.checked h b)
+    (brush_as t h b (record b.brush { foreground = c.args.wanted }) (ap (λ (f : Option Color). record b.brush { foreground = f }) same)) (agrees_lost t c.requires.checked h b)
 
 pub returns-in_default-clause-step : goal.returns-in_default-clause-step
 returns-in_default-clause-step g c h =
@@ -25,7 +25,7 @@ returns-in_default-clause-step g c h =
     let b = c.args.belief.now in
     let d : Belief = record b { brush = record b.brush { foreground = c.args.wanted } } in
     steps_nothing g.W.Wire.went g.W.Wire.failures g.met.W.Wire.lawful c.args.wire.now tt (IsPiece t) _ (IsLost t) (Agrees t h b) (Agrees t h d) (λ s x. x.ready.rest)
-    (brush_as t h b (record b.brush { foreground = c.args.wanted }) (ap (λ (f : Option Color). record b.brush { foreground = f }) (c.requires.now c.in_default.is ∙ sym c.in_default.is))) (agrees_lost t c.rows.ensures.checked h b)
+    (brush_as t h b (record b.brush { foreground = c.args.wanted }) (ap (λ (f : Option Color). record b.brush { foreground = f }) (c.requires.now c.in_default.is ∙ sym c.in_default.is))) (agrees_lost t c.requires.checked h b)
 
 pub returns-in-Some-line-clause-step : goal.returns-in-Some-line-clause-step
 returns-in-Some-line-clause-step g c h =
@@ -40,6 +40,6 @@ returns-in-None-clause-step g c h =
     let t = g.C.Certificate.table c.args.checked.now in
     let color = c.in-Some.color in
     let known : has t Op ≡ true = colored_has (has t Op) color (λ e. sym c.in-Some.is ∙ c.requires.colors e) in
-    let there : has t (Setaf color) ≡ true = c.rows.ensures.checked.foregrounds known color in
+    let there : has t (Setaf color) ≡ true = c.requires.checked.foregrounds known color in
     let absent : has t (Setaf color) ≡ false = has_none t (Setaf color) (c.in-None.ensures.none refl) in
     absurd (cc)

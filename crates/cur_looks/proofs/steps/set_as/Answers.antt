@@ -11,7 +11,7 @@ pub returns-then-is_active-clause-step : goal.returns-then-is_active-clause-step
 returns-then-is_active-clause-step g c h =
     let t = g.C.Certificate.table c.args.checked.now in
     let b = c.args.belief.now in
-    steps_none g.W.Wire.went g.W.Wire.failures g.met.W.Wire.lawful c.args.wire.now tt (IsPiece t) _ (IsLost t) (Agrees t h b) (λ s x. x.ready.rest) (agrees_lost t c.rows.ensures.checked h b)
+    steps_none g.W.Wire.went g.W.Wire.failures g.met.W.Wire.lawful c.args.wire.now tt (IsPiece t) _ (IsLost t) (Agrees t h b) (λ s x. x.ready.rest) (agrees_lost t c.requires.checked h b)
 
 pub returns-in-Some-clause-step : goal.returns-in-Some-clause-step
 returns-in-Some-clause-step g c h =
@@ -26,4 +26,4 @@ returns-in-None-clause-step g c h =
     let d : Belief = record b { graphic = Some c.args.graphic } in
     let none = rw c.row_of_set-row.ensures at c.in-None.ensures.none refl in
     steps_nothing g.W.Wire.went g.W.Wire.failures g.met.W.Wire.lawful c.args.wire.now tt (IsPiece t) _ (IsLost t) (Agrees t h b) (Agrees t h d) (λ s x. x.ready.rest)
-    (set_absent t c.rows.ensures.checked c.args.graphic c.requires.lines (has_none t (set_row c.args.graphic) none) h b) (agrees_lost t c.rows.ensures.checked h b)
+    (set_absent t c.requires.checked c.args.graphic c.requires.lines (has_none t (set_row c.args.graphic) none) h b) (agrees_lost t c.requires.checked h b)

@@ -3,7 +3,7 @@ use Rattle.std.proofs.lemmas.Result.{err_from_is_err_and}
 use Rattle.cur_wires.proofs.Stopping.{steps_fail, steps_next}
 use Rattle.ti_conforms.specs.Certified.{IsPiece, IsLost}
 use Rattle.cur_looks.specs.Beliefs.{Agrees, modes_limit}
-use Rattle.cur_looks.proofs.modes.show_stressed.Goals as goal
+use Rattle.cur_looks.proofs.modes.show_prominently.Goals as goal
 
 pub returns-in_err-show-clause-step : goal.returns-in_err-show-clause-step
 returns-in_err-show-clause-step g c h =
@@ -16,5 +16,5 @@ pub returns-clause-step : goal.returns-clause-step
 returns-clause-step g c h =
     let t = g.C.Certificate.table c.args.checked.now in
     let b = c.args.belief.now in
-    steps_next g.W.Wire.went g.W.Wire.failures g.met.W.Wire.lawful c.args.wire.now c.show.new.wire c.stress.new.wire _ c.stress.result (IsPiece t) t.longest.cnorm t.longest.cvvis (modes_limit t) (IsLost t)
-    (Agrees t h b) (Agrees t h c.show.new.belief) (Agrees t h c.stress.new.belief) (omega arith) (c.in_ok-show.ensures.step h) (c.stress.ensures.step h)
+    steps_next g.W.Wire.went g.W.Wire.failures g.met.W.Wire.lawful c.args.wire.now c.show.new.wire c.make_prominent.new.wire _ c.make_prominent.result (IsPiece t) t.longest.cnorm t.longest.cvvis (modes_limit t) (IsLost t)
+    (Agrees t h b) (Agrees t h c.show.new.belief) (Agrees t h c.make_prominent.new.belief) (omega arith) (c.in_ok-show.ensures.step h) (c.make_prominent.ensures.step h)

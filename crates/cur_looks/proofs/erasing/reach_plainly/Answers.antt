@@ -3,7 +3,7 @@ use Rattle.std.proofs.lemmas.Result.{err_from_is_err_and}
 use Rattle.cur_wires.proofs.Stopping.{steps_fail, steps_next}
 use Rattle.ti_conforms.specs.Certified.{IsPiece, IsLost}
 use Rattle.cur_looks.specs.Beliefs.{Agrees, brush_limit, ready_limit}
-use Rattle.cur_looks.proofs.erasing.poise_plainly.Goals as goal
+use Rattle.cur_looks.proofs.erasing.reach_plainly.Goals as goal
 
 pub returns-in_err-reach_by_line-clause-step : goal.returns-in_err-reach_by_line-clause-step
 returns-in_err-reach_by_line-clause-step g c h =

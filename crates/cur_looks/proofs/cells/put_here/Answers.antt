@@ -4,7 +4,7 @@ use Rattle.cur_wires.proofs.Stopping.{steps_fail, steps_next, steps_wider}
 use Rattle.ti_conforms.specs.Certified.{IsPiece, IsLost}
 use Rattle.cur_looks.specs.Inks.{put_at}
 use Rattle.cur_looks.specs.Beliefs.{Agrees, brush_limit, stamp_limit, ink_limit}
-use Rattle.cur_looks.proofs.cells.ink_in.Goals as goal
+use Rattle.cur_looks.proofs.cells.put_here.Goals as goal
 
 pub returns-in_err-brush_as : goal.returns-in_err-brush_as
 returns-in_err-brush_as g c =
@@ -12,7 +12,7 @@ returns-in_err-brush_as g c =
     let t = g.C.Certificate.table c.args.checked.now in
     let b = c.args.belief.now in
     rw e.1 (record {
-      step = λ h. steps_fail g.W.Wire.went g.W.Wire.failures c.args.wire.now c.brush_as.new.wire _ _ (IsPiece t) (brush_limit t) (ink_limit t) (IsLost t) (Agrees t h b) (Agrees t h c.brush_as.new.belief) (Agrees t (put_at c.args.row c.args.col c.args.ink h) c.brush_as.new.belief)
+      step = λ h. steps_fail g.W.Wire.went g.W.Wire.failures c.args.wire.now c.brush_as.new.wire _ _ (IsPiece t) (brush_limit t) (ink_limit t) (IsLost t) (Agrees t h b) (Agrees t h c.brush_as.new.belief) (Agrees t (put_at c.args.at.row c.args.at.col c.args.ink h) c.brush_as.new.belief)
           (omega arith) (c.in_err-brush_as.ensures.step h);
     })
 
@@ -21,8 +21,8 @@ returns g c =
     let t = g.C.Certificate.table c.args.checked.now in
     let b = c.args.belief.now in
     record {
-      step = λ h. steps_next g.W.Wire.went g.W.Wire.failures g.met.W.Wire.lawful c.args.wire.now c.brush_as.new.wire c.stamp.new.wire _ c.stamp.result (IsPiece t) (brush_limit t) (stamp_limit t) (ink_limit t) (IsLost t)
-          (Agrees t h b) (Agrees t h c.brush_as.new.belief) (Agrees t (put_at c.args.row c.args.col c.args.ink h) c.stamp.new.belief) (omega arith) (c.in_ok-brush_as.ensures.step h) (c.stamp.ensures.step h);
+      step = λ h. steps_next g.W.Wire.went g.W.Wire.failures g.met.W.Wire.lawful c.args.wire.now c.brush_as.new.wire c.print_in_set.new.wire _ c.print_in_set.result (IsPiece t) (brush_limit t) (stamp_limit t) (ink_limit t) (IsLost t)
+          (Agrees t h b) (Agrees t h c.brush_as.new.belief) (Agrees t (put_at c.args.at.row c.args.at.col c.args.ink h) c.print_in_set.new.belief) (omega arith) (c.in_ok-brush_as.ensures.step h) (c.print_in_set.ensures.step h);
     }
 
 pub returns-then-is_alike : goal.returns-then-is_alike
@@ -31,6 +31,6 @@ returns-then-is_alike g c =
     let b = c.args.belief.now in
     let z = c.print_at.new in
     record {
-      step = λ h. steps_wider g.W.Wire.went g.W.Wire.failures c.args.wire.now z.wire c.print_at.result (IsPiece t) 1 (ink_limit t) (IsLost t) (Agrees t h b) (Agrees t (put_at c.args.row c.args.col c.args.ink h) z.belief) (Agrees t h b) (Agrees t (put_at c.args.row c.args.col c.args.ink h) z.belief)
+      step = λ h. steps_wider g.W.Wire.went g.W.Wire.failures c.args.wire.now z.wire c.print_at.result (IsPiece t) 1 (ink_limit t) (IsLost t) (Agrees t h b) (Agrees t (put_at c.args.at.row c.args.at.col c.args.ink h) z.belief) (Agrees t h b) (Agrees t (put_at c.args.at.row c.args.at.col c.args.ink h) z.belief)
           (omega arith) (λ s x. x) (λ s x. x) (c.print_at.ensures.step h);
     }

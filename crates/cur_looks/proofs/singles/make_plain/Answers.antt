@@ -4,7 +4,7 @@ use Rattle.ti_conforms.specs.Certified.{text_of}
 use Rattle.cur_looks.specs.Inks.{plain_brush}
 use Rattle.cur_looks.specs.Beliefs.{Belief}
 use Rattle.cur_looks.proofs.Singling.{stripped}
-use Rattle.cur_looks.proofs.singles.strip.Goals as goal
+use Rattle.cur_looks.proofs.singles.make_plain.Goals as goal
 
 pub returns-clause-step : goal.returns-clause-step
 returns-clause-step g c h =

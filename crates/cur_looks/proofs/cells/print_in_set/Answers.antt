@@ -4,7 +4,7 @@ use Rattle.cur_wires.proofs.Stopping.{steps_fail, steps_next}
 use Rattle.ti_conforms.specs.Certified.{IsPiece, IsLost}
 use Rattle.cur_looks.specs.Inks.{put_at}
 use Rattle.cur_looks.specs.Beliefs.{Agrees, stamp_limit}
-use Rattle.cur_looks.proofs.cells.stamp.Goals as goal
+use Rattle.cur_looks.proofs.cells.print_in_set.Goals as goal
 
 pub returns-in_err-set_as : goal.returns-in_err-set_as
 returns-in_err-set_as g c =
@@ -12,7 +12,7 @@ returns-in_err-set_as g c =
     let t = g.C.Certificate.table c.args.checked.now in
     let b = c.args.belief.now in
     rw e.1 (record {
-      step = λ h. steps_fail g.W.Wire.went g.W.Wire.failures c.args.wire.now c.set_as.new.wire _ _ (IsPiece t) (t.longest.sets) (stamp_limit t) (IsLost t) (Agrees t h b) (Agrees t h c.set_as.new.belief) (Agrees t (put_at c.args.row c.args.col c.args.ink h) c.set_as.new.belief)
+      step = λ h. steps_fail g.W.Wire.went g.W.Wire.failures c.args.wire.now c.set_as.new.wire _ _ (IsPiece t) (t.longest.sets) (stamp_limit t) (IsLost t) (Agrees t h b) (Agrees t h c.set_as.new.belief) (Agrees t (put_at c.args.at.row c.args.at.col c.args.ink h) c.set_as.new.belief)
           (omega arith) (c.in_err-set_as.ensures.step h);
     })
 
@@ -22,5 +22,5 @@ returns g c =
     let b = c.args.belief.now in
     record {
       step = λ h. steps_next g.W.Wire.went g.W.Wire.failures g.met.W.Wire.lawful c.args.wire.now c.set_as.new.wire c.print_at.new.wire _ c.print_at.result (IsPiece t) (t.longest.sets) (1) (stamp_limit t) (IsLost t)
-          (Agrees t h b) (Agrees t h c.set_as.new.belief) (Agrees t (put_at c.args.row c.args.col c.args.ink h) c.print_at.new.belief) (omega arith) (c.in_ok-set_as.ensures.step h) (c.print_at.ensures.step h);
+          (Agrees t h b) (Agrees t h c.set_as.new.belief) (Agrees t (put_at c.args.at.row c.args.at.col c.args.ink h) c.print_at.new.belief) (omega arith) (c.in_ok-set_as.ensures.step h) (c.print_at.ensures.step h);
     }

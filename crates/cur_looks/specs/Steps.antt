@@ -1,0 +1,44 @@
+-- (Serves the code alone.) What a single step promises: bytes that lead from what is shown and believed to what then
+-- is.
+use Rattle.std.specs.Prelude.{ℕ, ◌<◌, List, Result}
+use Rattle.cur_wires.specs.Steps.{Steps}
+use Rattle.ti_conforms.specs.Certified.{Table, IsChecked, IsPiece, IsLost}
+use Rattle.cur_looks.specs.Beliefs.{Agrees, Belief, Place}
+use Rattle.cur_looks.specs.Gaps.{BeginsAs}
+use Rattle.cur_looks.specs.declared.inks.Ink.{Ink}
+
+-- where a step is to end: the certificate is verified, and the place is on its screen
+pub record IsGoal (t : Table) (at : Place) : Type 0 where
+  pub checked : IsChecked t
+  pub row : at.row < t.rows
+  pub col : at.col < t.cols
+
+-- A step from a terminal that shows the cells g to one that shows h. It sends at most limit bytes.
+abbrev pub Acts : {W T E : Type 0} → (W → W → List ℕ → Type 0) → (W → ℕ) → W → W → Result T E → Table → ℕ
+    → (ℕ → ℕ → Ink) → (ℕ → ℕ → Ink) → Belief → Belief → Type 0
+Acts went failures before after answer t limit g h b c =
+    Steps went failures before after answer (IsPiece t) limit (IsLost t) (Agrees t g b) (Agrees t h c)
+
+-- all cells stay, whatever they are
+abbrev pub Keeps : {W T E : Type 0} → (W → W → List ℕ → Type 0) → (W → ℕ) → W → W → Result T E → Table → ℕ
+    → Belief → Belief → Type 0
+Keeps went failures before after answer t limit b c =
+    (g : ℕ → ℕ → Ink) → Acts went failures before after answer t limit g g b c
+
+-- the cells change, whatever they are
+abbrev pub Makes : {W T E : Type 0} → (W → W → List ℕ → Type 0) → (W → ℕ) → W → W → Result T E → Table → ℕ
+    → ((ℕ → ℕ → Ink) → ℕ → ℕ → Ink) → Belief → Belief → Type 0
+Makes went failures before after answer t limit change b c =
+    (g : ℕ → ℕ → Ink) → Acts went failures before after answer t limit g (change g) b c
+
+-- all cells stay, if those ahead of a place in its line are as they are to be
+abbrev pub KeepsFrom : {W T E : Type 0} → (W → W → List ℕ → Type 0) → (W → ℕ) → W → W → Result T E → Table → ℕ
+    → (ℕ → ℕ → Ink) → Place → Belief → Belief → Type 0
+KeepsFrom went failures before after answer t limit shown at b c =
+    (g : ℕ → ℕ → Ink) → BeginsAs g shown at.row at.col → Acts went failures before after answer t limit g g b c
+
+-- the cells change, if those ahead of a place in its line are as they are to be
+abbrev pub MakesFrom : {W T E : Type 0} → (W → W → List ℕ → Type 0) → (W → ℕ) → W → W → Result T E → Table → ℕ
+    → (ℕ → ℕ → Ink) → Place → ((ℕ → ℕ → Ink) → ℕ → ℕ → Ink) → Belief → Belief → Type 0
+MakesFrom went failures before after answer t limit shown at change b c =
+    (g : ℕ → ℕ → Ink) → BeginsAs g shown at.row at.col → Acts went failures before after answer t limit g (change g) b c
