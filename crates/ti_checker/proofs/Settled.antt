@@ -1,6 +1,6 @@
 -- What was seen of an entry's strings is so in every table of what it sends; and there is one where each row stands.
-use Rattle.std.proofs.Common.{◌≡◌, ◌⊎◌, inl, inr, ◌&&◌, ℕ, ◌+◌, ◌-◌, ◌<◌, not, Bool, true, false, List, [], ◌∷◌, ◌++◌, Option, None, Some, refl, sym, ap, subst, ◌∙◌, arith, below_more}
-use Rattle.std.specs.Prelude.{IfNone, IfSome, is_some}
+use Rattle.std.proofs.Common.{◌≡◌, ◌⊎◌, inl, inr, ℕ, ◌+◌, ◌-◌, ◌<◌, not, Bool, true, false, List, [], ◌∷◌, ◌++◌, Option, None, Some, refl, sym, ap, subst, ◌∙◌, arith, below_more}
+use Rattle.std.specs.Prelude.{IfNone, IfSome}
 use Rattle.std.proofs.lemmas.Bool.{true≢false, false≢true, cases_Bool}
 use Rattle.std.proofs.lemmas.Option.{same_Some, none-some}
 use Rattle.vt_term.specs.Size.{IsSize}
@@ -29,7 +29,7 @@ use Rattle.ti_rows.proofs.Listing.{last_is_last, ranks_below, one_of_rank}
 use Rattle.ti_rows.proofs.Naming.{orders_small}
 use Rattle.ti_parm.specs.Meaning.{sent}
 use Rattle.ti_conforms.specs.Sends.{Sends}
-use Rattle.ti_conforms.specs.Entries.{is_checked, string_of, meets, group_of}
+use Rattle.ti_conforms.specs.Entries.{is_checked, string_of}
 use Rattle.ti_conforms.proofs.Walking.{same_count}
 use Rattle.ti_conforms.specs.Table.{Table, or_nothing, text_of, widening, resync, settles, Activates, resync_of}
 use Rattle.ti_conforms.specs.Sets.{CanHave, AtReset, AfterToken, LeadsBy, CanSettle, AfterResync, AfterLine, Occurs}

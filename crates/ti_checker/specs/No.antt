@@ -1,6 +1,6 @@
 -- When a no is so.
-use Rattle.std.specs.Prelude.{ℕ, ◌≡◌, ◌⊎◌, ◌==◌, ◌||◌, Bool, true, false, List, [], Some, None, Err}
-use Rattle.ti_caps.specs.Entry.{Content, flag_at, number_at}
+use Rattle.std.specs.Prelude.{ℕ, ◌≡◌, ◌⊎◌, true, List, [], Some, None, Err}
+use Rattle.ti_caps.specs.Entry.{Content}
 use Rattle.ti_parm.specs.Meaning.{meaning}
 use Rattle.ti_parm.specs.Value.{zeros}
 use Rattle.vt_term.specs.Text.{IsStuck, IsUnfinished, Splits}
@@ -17,8 +17,8 @@ use Rattle.ti_rows.specs.Params.{params}
 use Rattle.ti_rows.specs.Lists.{IsInRange}
 use Rattle.ti_conforms.specs.Looks.{is_alone}
 use Rattle.ti_conforms.specs.Sends.{Sends, ReadsStatic, values}
-use Rattle.ti_conforms.specs.Entries.{acsc, has_string, is_checked, string_of}
-use Rattle.ti_conforms.specs.Conforms.{IsFit, xmc, hc, gn, os}
+use Rattle.ti_conforms.specs.Entries.{acsc, is_checked, string_of}
+use Rattle.ti_conforms.specs.Conforms.{IsFit}
 use Rattle.ti_checker.specs.declared.probes.Probe.{Probe}
 use Rattle.ti_checker.specs.Breaking.{Breaks, IsShown}
 use Rattle.ti_conforms.specs.Unfit.{HasMisfit, LacksCap, is_flag_out, HasNoFlagOut, HasRequired}
