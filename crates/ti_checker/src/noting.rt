@@ -4,7 +4,6 @@ ghost use Rattle.std.specs.Prelude.{◌≡◌, ◌++◌, ◌∷◌, [], IfErr, I
 ghost use Rattle.ti_checker.specs.No.{IsSo};
 ghost use Rattle.ti_checker.specs.Notes as spec;
 ghost use Rattle.ti_rows.specs.Names.{cap_of};
-ghost use Rattle.ti_conforms.specs.Entries as entries;
 
 use crate::causes::{Cause, No};
 use crate::ignored::is_ignored;
