@@ -5,15 +5,15 @@ use Rattle.vt_term.specs.Size.{IsSize}
 use Rattle.ti_caps.specs.Entry.{Content}
 use Rattle.ti_rows.specs.declared.rows.Row.{Row}
 use Rattle.ti_rows.specs.declared.rows.Row.TheVariants.{Clear, Smcup, Enacs, Sgr0, Rmacs, Cnorm}
-use Rattle.ti_conforms.specs.Table.{Table, has, part, widening, resync}
-use Rattle.ti_conforms.specs.Checked.{IsLine}
-use Rattle.ti_conforms.proofs.Cutting.{judged_is_checked}
+use Rattle.ti_conforms.specs.Table.{Table, has, text_of, widening, resync, resync_of}
+use Rattle.ti_conforms.specs.Holds.{LineHolds}
+use Rattle.ti_conforms.proofs.Cutting.{judged_holds}
 use Rattle.ti_conforms.specs.Judged.{IsJudged}
 use Rattle.ti_conforms.specs.Entries.{EntryAgrees}
 use Rattle.ti_conforms.specs.Conforms.{IsFit, Conforms}
 use Rattle.ti_conforms.proofs.Conforming.{agreed_conforms}
 use Rattle.ti_conforms.proofs.Together.{agreed_stand_together}
-use Rattle.ti_cert.specs.Singles.{LooksStand}
+use Rattle.ti_conforms.specs.Looks.{LooksStand}
 use Rattle.ti_cert.specs.Strings.{string_in, total}
 use Rattle.ti_cert.specs.Certificates.{limit}
 use Rattle.ti_cert.specs.Table as tables
@@ -29,7 +29,7 @@ pub is_verified : (entry : Content) (t : tables.Content) (rows cols : ℕ) → I
 is_verified entry t rows cols size fit judged looks agrees r c few = record {
   size = subst (λ (n : ℕ). IsSize n t.known.strings.cols) (sym r) (subst (λ (n : ℕ). IsSize rows n) (sym c) size);
   few = few;
-  checked = judged_is_checked (tables.table_of t) judged;
+  holds = judged_holds (tables.table_of t) judged;
   together = agreed_stand_together entry (tables.table_of t) fit agrees;
   looks = looks;
 }
@@ -45,24 +45,24 @@ six a b c d e f =
     ∙ ap (λ (x : List ℕ). x ++ (e ++ f)) (append_assoc (a ++ b) c d)
 
 -- the strings of a resynchronization, one after another
-pub resync_made : (t : Table) → (((((([] ++ part t Smcup) ++ part t Enacs) ++ part t Sgr0) ++ part t Rmacs) ++ part t (widening t)) ++ part t Clear) ≡ resync t
-unfolding resync
-resync_made t = six (part t Smcup) (part t Enacs) (part t Sgr0) (part t Rmacs) (part t (widening t)) (part t Clear)
+pub resync_made : (t : Table) → (((((([] ++ text_of t Smcup) ++ text_of t Enacs) ++ text_of t Sgr0) ++ text_of t Rmacs) ++ text_of t (widening t)) ++ text_of t Clear) ≡ resync t
+unfolding resync_of
+resync_made t = six (text_of t Smcup) (text_of t Enacs) (text_of t Sgr0) (text_of t Rmacs) (text_of t (widening t)) (text_of t Clear)
 
 -- from a lost state
 pub resyncs : (t : tables.Content) → IsVerified t → Resyncs (tables.table_of t)
-resyncs t v s lost = v.checked.resyncs (has (tables.table_of t) Cnorm) s lost
+resyncs t v s lost = v.holds.resyncs (has (tables.table_of t) Cnorm) s lost
 
-pub line_right : (t : tables.Content) (row : Row) → IsVerified t → (o : Option (Bor (List ℕ))) → option_copied o ≡ (tables.table_of t).line_of row → IfSome o (λ b. IsLine (tables.table_of t) row b.now)
+pub line_right : (t : tables.Content) (row : Row) → IsVerified t → (o : Option (Bor (List ℕ))) → option_copied o ≡ (tables.table_of t).line_of row → IfSome o (λ b. LineHolds (tables.table_of t) row b.now)
 line_right t row v None e = tt
-line_right t row v (Some b) e = v.checked.lines row b.now (sym e)
+line_right t row v (Some b) e = v.holds.lines row b.now (sym e)
 
-pub made_of : (t : Table) (a0 a1 a2 a3 a4 a5 a6 : List ℕ) (row : Row) → a0 ≡ [] → a1 ≡ a0 ++ part t Smcup → a2 ≡ a1 ++ part t Enacs → a3 ≡ a2 ++ part t Sgr0 → a4 ≡ a3 ++ part t Rmacs → row ≡ widening t
-    → a5 ≡ a4 ++ part t row → a6 ≡ a5 ++ part t Clear → a6 ≡ resync t
+pub made_of : (t : Table) (a0 a1 a2 a3 a4 a5 a6 : List ℕ) (row : Row) → a0 ≡ [] → a1 ≡ a0 ++ text_of t Smcup → a2 ≡ a1 ++ text_of t Enacs → a3 ≡ a2 ++ text_of t Sgr0 → a4 ≡ a3 ++ text_of t Rmacs → row ≡ widening t
+    → a5 ≡ a4 ++ text_of t row → a6 ≡ a5 ++ text_of t Clear → a6 ≡ resync t
 made_of t a0 a1 a2 a3 a4 a5 a6 row e0 e1 e2 e3 e4 whole e5 e6 =
-    e6 ∙ (ap (λ (x : List ℕ). x ++ part t Clear) (e5 ∙ (ap (λ (r : Row). a4 ++ part t r) whole
-    ∙ ap (λ (x : List ℕ). x ++ part t (widening t)) (e4 ∙ ap (λ (x : List ℕ). x ++ part t Rmacs) (e3 ∙ ap (λ (x : List ℕ). x ++ part t Sgr0) (e2 ∙ ap (λ (x : List ℕ). x ++ part t Enacs) (e1
-    ∙ ap (λ (x : List ℕ). x ++ part t Smcup) e0))))))
+    e6 ∙ (ap (λ (x : List ℕ). x ++ text_of t Clear) (e5 ∙ (ap (λ (r : Row). a4 ++ text_of t r) whole
+    ∙ ap (λ (x : List ℕ). x ++ text_of t (widening t)) (e4 ∙ ap (λ (x : List ℕ). x ++ text_of t Rmacs) (e3 ∙ ap (λ (x : List ℕ). x ++ text_of t Sgr0) (e2 ∙ ap (λ (x : List ℕ). x ++ text_of t Enacs) (e1
+    ∙ ap (λ (x : List ℕ). x ++ text_of t Smcup) e0))))))
     ∙ resync_made t)
 
 pub at_ok : {X E : Type 0} (P : X → Type 0) (x : X) (r : Result X E) → IfOk r (λ y. y ≡ x) → P x → IfOk r P

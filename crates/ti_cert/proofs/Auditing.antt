@@ -4,7 +4,7 @@ use Rattle.std.specs.List.{slice_get}
 use Rattle.std.specs.Prelude.{is_some}
 use Rattle.std.proofs.lemmas.List.{take-append-drop}
 use Rattle.std.proofs.lemmas.Bool.{true≢false, eqb-true, or_cases}
-use Rattle.std.proofs.lemmas.Option.{none-some, slice_get_cases}
+use Rattle.std.proofs.lemmas.Option.{none-some, same_Some, slice_get_cases}
 use Rattle.vt_term.specs.Size.{IsSize}
 use Rattle.vt_term.specs.Text.{Splits, IsStuck, IsUnfinished}
 use Rattle.vt_term.proofs.Splitting.{one_splitting, splits_front}
@@ -24,14 +24,15 @@ use Rattle.ti_lines.specs.declared.row_lines.RowLine.{RowLine}
 use Rattle.ti_lines.specs.Heads.{IsSizeText, IsAcscText, is_end}
 use Rattle.ti_lines.specs.RowLines.{IsTextOf}
 use Rattle.ti_cert.specs.Strings.{Strings, allows, group_at, string_in, has_group, total, Adds}
-use Rattle.ti_cert.specs.Singles.{no_looks, rival}
-use Rattle.ti_cert.specs.Audit.{Known, Holds, IsKept, HasRecord, looks_with}
+use Rattle.ti_cert.specs.Certificates.{rival, Said, Nothing, Sized, Listing, Ended, speaks_of, looks_of, IsWholeText, IsMisfit, JudgesRow, Cut, Wild, Untrue, Unasked, Stands as RowStands, JudgesLast, Lacks, Clashes, Closes, JudgesLater, IsLast, IsRow, IsMisplaced, IsNone, JudgesSecond, HasPairs as SecondHasPairs, HasNoPairs as SecondHasNoPairs, HasSize, HasNoSize, JudgesLine}
+use Rattle.ti_conforms.specs.Judged.{IsJudged}
+use Rattle.ti_conforms.specs.Looks.{no_looks}
+use Rattle.ti_cert.specs.Known.{Known, Holds, IsKept, HasRecord, looks_with}
 use Rattle.ti_cert.specs.Table.{checked_of}
 use Rattle.ti_cert.specs.Order.{Precedes, HasLine, HasCap, HasBytes, IsRequired, IsComplete, IsInPlace}
-use Rattle.ti_cert.specs.Certificates.{Said, Nothing, Sized, Listing, Ended, speaks_of, looks_of, IsWhole, IsMisfit, JudgesRow, Cut, Wild, Untrue, Unasked, Stands as RowStands, JudgesLast, Lacks, Clashes, Closes, JudgesLater, IsLast, IsRow, IsMisplaced, IsNone, JudgesSecond, HasPairs as SecondHasPairs, HasNoPairs as SecondHasNoPairs, HasSize, HasNoSize, JudgesLine}
 use Rattle.ti_cert.specs.Clashes.{ClashesBy, GoesTogether}
 use Rattle.ti_cert.specs.Places.{missing, place_fault}
-use Rattle.ti_cert.specs.Good.{Lists, IsLastRow, IsUpTo, Stands, Tells, Steps, Becomes, AnswersLine, AnswersLater, AnswersRow, AnswersLast, OrNoMemory, IsTokenFault, Misshows, NoRecord, Another, NotAsked, IsMisplacedBy, HasPairs, HasNoPairs, HasNoMemory, LacksRecord, NotSplit, NotRecorded, RanOut, LacksNeeded, NoClear, NoSgr0, NoWidening, IsConcluded, ConcludesBy, Lacking, Together, NoRoom}
+use Rattle.ti_cert.specs.Audits.{settled_of, Lists, IsLastRow, IsUpTo, Stands, Tells, Steps, Becomes, AnswersLine, AnswersLater, AnswersRow, AnswersLast, OrNoMemory, IsTokenFault, Misshows, NoRecord, Another, NotAsked, IsMisplacedBy, HasPairs, HasNoPairs, HasNoMemory, LacksRecord, NotSplit, NotRecorded, RanOut, LacksNeeded, NoClear, NoSgr0, NoWidening, IsConcluded, ConcludesBy, Lacking, Together, NoRoom}
 use Rattle.ti_cert.specs.declared.audits.Progress.{Progress}
 use Rattle.ti_cert.specs.declared.audits.Awaited.{Awaited}
 use Rattle.ti_cert.specs.declared.audits.Awaited.TheVariants as lines_awaited
@@ -44,14 +45,14 @@ use Rattle.ti_cert.proofs.Placing.{HasFirstLines, refusal, placed_wrong, placed_
 
 -- tokens and records
 
-pub not_unfinished : (text : List ℕ) (at : ℕ) → IsUnfinished text at → IsWhole text → ⊥
+pub not_unfinished : (text : List ℕ) (at : ℕ) → IsUnfinished text at → IsWholeText text → ⊥
 not_unfinished text at u w =
     let e = one_splitting text w.tokens u.tokens [] u.rest w.splits u.splits in
     let z : length u.rest ≡ 0 = ap (λ (l : List ℕ). length l) e.1 in
     let s = u.some in
     omega (arith, s, z)
 
-pub not_stuck : (text : List ℕ) (at : ℕ) → IsStuck text at → IsWhole text → ⊥
+pub not_stuck : (text : List ℕ) (at : ℕ) → IsStuck text at → IsWholeText text → ⊥
 not_stuck text at u w = u.fits_nothing (splits_front (take (at + 1) text) (drop (at + 1) text) w.tokens [] (subst (λ (l : List ℕ). Splits l w.tokens []) (sym (take-append-drop (at + 1) text)) w.splits))
 
 pub not_asked : (k : Known) (row : Row) (stated : Effect) (tokens : List (List ℕ)) (kind : CertFaultKind) (effect : Effect) (looks : Looks)
@@ -463,6 +464,13 @@ stands_at p (lines_awaited.Ended settled) pairs lines t = (t.0, t.1)
 stands_at p lines_awaited.First pairs lines t = absurd t
 stands_at p lines_awaited.Acsc pairs lines t = absurd t
 stands_at p lines_awaited.Rows pairs lines t = absurd t
+
+pub judged_at : (p : Progress) (awaited : Awaited) (settled : Charsets) (pairs : Option (List ℕ)) (lines : List RowLine) → settled_of awaited ≡ Some settled → Tells p awaited (Ended pairs lines)
+    → IsJudged (checked_of p.known settled)
+judged_at p (lines_awaited.Ended other) settled pairs lines e t = subst (λ (c : Charsets). IsJudged (checked_of p.known c)) (same_Some other settled e) t.2
+judged_at p lines_awaited.First settled pairs lines e t = absurd t
+judged_at p lines_awaited.Acsc settled pairs lines e t = absurd t
+judged_at p lines_awaited.Rows settled pairs lines e t = absurd t
 
 -- the record of a line's bytes, where the size is known by other names
 pub recorded_for : (rows cols r q : ℕ) (row : Row) (bytes : List ℕ) (found : Option Effect) → IsRecordOf r q (start_of r q row) bytes found → r ≡ rows → q ≡ cols → IsRecordOf rows cols (start_of rows cols row) bytes found

@@ -11,11 +11,11 @@ use Rattle.vt_effects.specs.Basic.{sgr0_text, clear_text}
 use Rattle.ti_conforms.specs.Charsets.{IsAmong, charset_after, charset_over, reset_charset}
 use Rattle.ti_rows.specs.declared.rows.Row.{Row}
 use Rattle.ti_rows.specs.declared.rows.Row.TheVariants.{Clear, Sgr0}
-use Rattle.ti_conforms.specs.Table.{Table, resync}
+use Rattle.ti_conforms.specs.Table.{Table, no_lengths, resync, resync_of}
 use Rattle.ti_conforms.specs.Sets.{CanHave, AtReset, AfterToken, LeadsBy, CanSettle, AfterResync, AfterLine}
 use Rattle.ti_lines.specs.declared.row_lines.RowLine.{RowLine}
 use Rattle.ti_cert.specs.Strings.{allows}
-use Rattle.ti_cert.specs.Singles.{no_looks}
+use Rattle.ti_conforms.specs.Looks.{no_looks}
 use Rattle.ti_cert.specs.Clashes.{Misswitches, LeavesPlain, LeavesGraphic, Misresyncs, BeginsOpen, ResyncsGraphic, GoesTogether, OfLines}
 use Rattle.ti_cert.specs.Basic.{basic_bytes, basic_line, is_basic, basic_rows}
 use Rattle.ti_cert.proofs.Ranges as ranges
@@ -32,6 +32,8 @@ basic_table rows cols home el = record {
   looks = no_looks;
   reached = λ c. true;
   settled = λ c. true;
+  resync = [];
+  longest = no_lengths;
 }
 
 -- a row of the table
@@ -73,7 +75,7 @@ has_reset rows cols home el size _ (AfterToken c d token has o e) =
 
 -- what leads out of an unknown state
 resync_is : (rows cols : ℕ) (home el : Bool) → resync (basic_table rows cols home el) ≡ sgr0_text ++ clear_text
-unfolding resync basic_table
+unfolding resync_of basic_table
 resync_is rows cols home el = refl
 
 resync_keeps : (rows cols : ℕ) (home el : Bool) → IsSize rows cols → (c d : Charset) → LeadsBy (resync (basic_table rows cols home el)) c d → d ≡ c

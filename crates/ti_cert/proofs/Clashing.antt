@@ -11,20 +11,20 @@ use Rattle.vt_effects.specs.Effect.{designated}
 use Rattle.ti_conforms.specs.declared.reach.Reach.{Reach}
 use Rattle.ti_conforms.specs.declared.closing.Charsets.{Charsets}
 use Rattle.ti_conforms.specs.Charsets.{charset_after, charset_over, can_have, IsAmong, Reached, AtReset, AfterToken}
-use Rattle.ti_conforms.specs.Closing.{Settled, First, After, SomeLeads, Leaves, designated_all}
+use Rattle.ti_conforms.specs.Closing.{Settled, First, After, SomeLeads, Leaves, designated_all, kept, or_kept}
 use Rattle.ti_conforms.specs.Closing as closing
 use Rattle.ti_conforms.proofs.Reaching.{reached_can, can_reached}
 use Rattle.ti_rows.specs.declared.rows.Row.{Row}
 use Rattle.ti_rows.specs.declared.rows.Row.TheVariants.{Clear, Csr, Smcup, Enacs, Sgr0, Smacs, Rmacs}
-use Rattle.ti_conforms.specs.Table.{or_nothing, part, widening, resync, resync_front}
+use Rattle.ti_conforms.specs.Table.{or_nothing, text_of, widening, resync, resync_front, resync_of}
 use Rattle.ti_conforms.specs.Sets.{CanHave, LeadsBy, CanSettle, AfterResync, AfterLine}
 use Rattle.ti_conforms.specs.Sets as sets
 use Rattle.ti_conforms.proofs.Holding.{Leads}
 use Rattle.ti_cert.specs.Strings.{Strings, string_in}
-use Rattle.ti_cert.specs.Audit.{Known, IsKept, IsFrom, IsTold, Holds}
-use Rattle.ti_cert.specs.Table.{checked_of, first_of_resync, Changes, NoString, OfString, kept, or_kept, changes_of, Leads as Activates}
+use Rattle.ti_cert.specs.Known.{Known, IsKept, IsFrom, IsTold, Holds}
+use Rattle.ti_cert.specs.Table.{checked_of, first_of_resync, Changes, NoString, OfString, changes_of, Leads as Activates}
 use Rattle.ti_cert.specs.Clashes.{Misswitches, LeavesPlain, LeavesGraphic, StaysGraphic, Misresyncs, BeginsOpen, ResyncsGraphic, ByActive, ByLook, ByResync}
-use Rattle.ti_cert.specs.Good.{Misleads, FailsTogether, AtActive, AtLook, AtResync, IsConcluded, ConcludesBy, Together}
+use Rattle.ti_cert.specs.Audits.{Misleads, FailsTogether, AtActive, AtLook, AtResync, IsConcluded, ConcludesBy, Together}
 use Rattle.ti_cert.specs.declared.faults.CertFaultKind.{CertFaultKind}
 use Rattle.ti_cert.specs.declared.faults.CertFaultKind.TheVariants.{NotShown, NoResync, BadLook}
 use Rattle.std.proofs.lemmas.Bool.{true≢false}
@@ -77,14 +77,14 @@ pub record Settles (k : Known) (settled first : Charsets) (smcup enacs sgr0 rmac
   pub close_complete : (c : Charset) → Settled (λ d. closing.has first d ≡ true) (SomeLeads k.changes) c → closing.has settled c ≡ true
 
 resync_leads : (k : Known) (settled first : Charsets) (smcup enacs sgr0 rmacs : Option Sets) → Settles k settled first smcup enacs sgr0 rmacs → Leads (resync (checked_of k settled)) (λ c. designated_all (changes_of smcup enacs sgr0 rmacs) c)
-unfolding resync
+unfolding resync_of
 resync_leads k settled first smcup enacs sgr0 rmacs p =
-    joined (resync_front (checked_of k settled)) (part (checked_of k settled) (widening (checked_of k settled)) ++ part (checked_of k settled) Clear) (λ c. designated_all (changes_of smcup enacs sgr0 rmacs) c) (λ c. c)
-    (joined (part (checked_of k settled) Smcup ++ part (checked_of k settled) Enacs) (part (checked_of k settled) Sgr0 ++ part (checked_of k settled) Rmacs)
+    joined (resync_front (checked_of k settled)) (text_of (checked_of k settled) (widening (checked_of k settled)) ++ text_of (checked_of k settled) Clear) (λ c. designated_all (changes_of smcup enacs sgr0 rmacs) c) (λ c. c)
+    (joined (text_of (checked_of k settled) Smcup ++ text_of (checked_of k settled) Enacs) (text_of (checked_of k settled) Sgr0 ++ text_of (checked_of k settled) Rmacs)
     (λ c. designated (or_kept enacs) (designated (or_kept smcup) c)) (λ c. designated (or_kept rmacs) (designated (or_kept sgr0) c))
-    (joined (part (checked_of k settled) Smcup) (part (checked_of k settled) Enacs) (λ c. designated (or_kept smcup) c) (λ c. designated (or_kept enacs) c) (of_change k Smcup smcup p.smcup_is) (of_change k Enacs enacs p.enacs_is))
-    (joined (part (checked_of k settled) Sgr0) (part (checked_of k settled) Rmacs) (λ c. designated (or_kept sgr0) c) (λ c. designated (or_kept rmacs) c) (of_change k Sgr0 sgr0 p.sgr0_is) (of_change k Rmacs rmacs p.rmacs_is)))
-    (joined (part (checked_of k settled) (widening (checked_of k settled))) (part (checked_of k settled) Clear) (λ c. c) (λ c. c)
+    (joined (text_of (checked_of k settled) Smcup) (text_of (checked_of k settled) Enacs) (λ c. designated (or_kept smcup) c) (λ c. designated (or_kept enacs) c) (of_change k Smcup smcup p.smcup_is) (of_change k Enacs enacs p.enacs_is))
+    (joined (text_of (checked_of k settled) Sgr0) (text_of (checked_of k settled) Rmacs) (λ c. designated (or_kept sgr0) c) (λ c. designated (or_kept rmacs) c) (of_change k Sgr0 sgr0 p.sgr0_is) (of_change k Rmacs rmacs p.rmacs_is)))
+    (joined (text_of (checked_of k settled) (widening (checked_of k settled))) (text_of (checked_of k settled) Clear) (λ c. c) (λ c. c)
     (widen_keeps k p.holds (string_in k.strings (Csr 0 (k.strings.rows - 1))) refl) (clear_keeps k p.holds (string_in k.strings Clear) refl))
 
 -- a charset that was reached by tokens can be had

@@ -19,17 +19,17 @@ use Rattle.vt_effects.proofs.Saying.{records_tell}
 use Rattle.ti_conforms.specs.declared.reach.Reach.{Reach}
 use Rattle.ti_conforms.specs.declared.closing.Charsets.{Charsets}
 use Rattle.ti_conforms.specs.Charsets.{charset_after, charset_over, reset_charset, IsAmong, Reached, AtReset, AfterToken, can_have}
-use Rattle.ti_conforms.specs.Closing.{Settled, First, After, SomeLeads, Leaves, designated_all}
+use Rattle.ti_conforms.specs.Closing.{Settled, First, After, SomeLeads, Leaves, designated_all, kept, or_kept}
 use Rattle.ti_conforms.specs.Closing as closing
 use Rattle.ti_conforms.proofs.Reaching.{reached_can, can_reached}
 use Rattle.ti_rows.specs.declared.rows.Row.{Row}
 use Rattle.ti_rows.specs.declared.rows.Row.TheVariants.{Clear, Cup, Home, Cr, Hpa, Vpa, Cub1, Cuf1, Cuu1, Cud1, Cub, Cuf, Cuu, Cud, El, El1, Ed, Ech, Sgr, Sgr0, Setaf, Setab, Op, Smul, Rev, Blink, Dim, Bold, Invis, Smso, Enacs, Smacs, Rmacs, Csr, Ind, Ri, Civis, Cnorm, Cvvis, Smcup, Rmcup, Bel}
 use Rattle.ti_rows.specs.Asked.{start_of}
-use Rattle.ti_conforms.specs.Table.{or_nothing, resync, Activates}
+use Rattle.ti_conforms.specs.Table.{or_nothing, resync, Activates, resync_of}
 use Rattle.ti_conforms.specs.Judged.{JudgedLine, ChangesSets, NoLine, ByLine, changed, left_of, IsJudged}
 use Rattle.ti_cert.specs.Strings.{Strings, string_in, has_group}
-use Rattle.ti_cert.specs.Audit.{Known, IsKept, IsChange, Holds}
-use Rattle.ti_cert.specs.Table.{checked_of, first_or, first_of_resync, Changes, NoString, OfString, kept, or_kept, changes_of, Leads}
+use Rattle.ti_cert.specs.Known.{Known, IsKept, IsChange, Holds}
+use Rattle.ti_cert.specs.Table.{checked_of, first_or, first_of_resync, Changes, NoString, OfString, changes_of, Leads}
 use Rattle.ti_cert.proofs.Grouping.{there_some}
 
 over_steps : (ts : List (List ℕ)) (s : Screen) → (steps ts s).charset ≡ charset_over ts s.charset
@@ -175,7 +175,7 @@ active k settled smacs rmacs s r g q Bel bytes tokens effect there whole recorde
 
 -- a resynchronization begins with the first byte of the first string that has one
 pub resync_head : (k : Known) (settled : Charsets) → first_of_resync k.strings ≡ head_of (resync (checked_of k settled))
-unfolding resync
+unfolding resync_of
 resync_head k settled = heads ∙ ap (λ (xs : List ℕ). head_of xs) (join_six (part_of Smcup) (part_of Enacs) (part_of Sgr0) (part_of Rmacs) (part_of (Csr 0 (k.strings.rows - 1))) (part_of Clear))
   where
     part_of : Row → List ℕ

@@ -19,10 +19,11 @@ use Rattle.ti_rows.specs.Lists.{rank}
 use Rattle.ti_rows.specs.Looks.{learned, shown}
 use Rattle.ti_rows.specs.Asked.{start_of, asked, rendering, just, ink_of, defaults_both_inks, with_marks_on}
 use Rattle.ti_rows.proofs.Telling.{earlier_kept}
-use Rattle.ti_conforms.specs.Table.{keeps_settled}
+use Rattle.ti_conforms.specs.Table.{settles}
 use Rattle.ti_cert.specs.Strings.{Strings, string_in, has_group, Adds}
-use Rattle.ti_cert.specs.Audit.{Known, rival, looks_with, HasRecord, IsKept, IsChange, IsFrom, IsTold, Holds, with_change}
-use Rattle.ti_cert.specs.Singles.{LooksAlone, no_looks}
+use Rattle.ti_cert.specs.Known.{Known, looks_with, HasRecord, IsKept, IsChange, IsFrom, IsTold, Holds, with_change}
+use Rattle.ti_cert.specs.Certificates.{rival}
+use Rattle.ti_conforms.specs.Looks.{LooksAlone, no_looks}
 use Rattle.ti_cert.proofs.Ranges.{less}
 use Rattle.ti_cert.proofs.Singling.{looks_more}
 use Rattle.ti_cert.proofs.Grouping.{there_some, none_at_first}
@@ -181,15 +182,15 @@ which_told false changes change x a = inl a
 
 pub holds_more : (k : Known) (strings : Strings) (row : Row) (bytes : List ℕ) (tokens : List (List ℕ)) (effect : Effect) (looks : Looks) (reach : Reach) (changes : List Sets)
     → Holds k → Adds k.strings strings row bytes → Splits bytes tokens [] → looks ≡ looks_with k row effect → HasRecord k.strings.rows k.strings.cols looks row tokens effect
-    → reach ≡ joined k.reach (reach_of tokens) → changes ≡ with_change (keeps_settled row) k.changes effect.charset
+    → reach ≡ joined k.reach (reach_of tokens) → changes ≡ with_change (settles row) k.changes effect.charset
     → Holds (record { strings = strings; looks = looks; reach = reach; changes = changes })
 holds_more k strings row bytes tokens effect looks reach changes h a whole looks_are has reach_so changes_so = record {
   all = h.all ++ tokens;
   reach_is = reach_so ∙ (ap (λ (r : Reach). joined r (reach_of tokens)) h.reach_is ∙ sym (reach_of-append h.all tokens));
   lines = λ r b there. line r b (a.only r b there);
-  changes = λ x among. change x (which_among (keeps_settled row) k.changes effect.charset x (subst (λ (xs : List Sets). IsAmong xs x) changes_so among));
+  changes = λ x among. change x (which_among (settles row) k.changes effect.charset x (subst (λ (xs : List Sets). IsAmong xs x) changes_so among));
   from_lines = λ token among. from_either token (either_list h.all tokens token among);
-  told = λ x among. told_either x (which_told (keeps_settled row) k.changes effect.charset x (subst (λ (xs : List Sets). IsAmong xs x) changes_so among));
+  told = λ x among. told_either x (which_told (settles row) k.changes effect.charset x (subst (λ (xs : List Sets). IsAmong xs x) changes_so among));
   looks = subst (λ (l : Looks). LooksAlone (λ r. has_group strings r) l) (sym looks_are) (looks_more k strings row bytes effect a h.looks);
 }
   where
@@ -209,7 +210,7 @@ holds_more k strings row bytes tokens effect looks reach changes h a whole looks
       effect = p.effect;
       has = sized looks r p.tokens p.effect (record { recorded = p.has.recorded; asked_for = p.has.asked_for ∙ same_asked r b p.effect there });
       reached = λ t among. among_front h.all tokens t (p.reached t among);
-      settled = λ q. subst (λ (xs : List Sets). IsAmong xs p.effect.charset) (sym changes_so) (kept_among (keeps_settled row) k.changes effect.charset p.effect.charset (p.settled q));
+      settled = λ q. subst (λ (xs : List Sets). IsAmong xs p.effect.charset) (sym changes_so) (kept_among (settles row) k.changes effect.charset p.effect.charset (p.settled q));
     }
 
     new_line : IsKept new (h.all ++ tokens) row bytes
@@ -219,7 +220,7 @@ holds_more k strings row bytes tokens effect looks reach changes h a whole looks
       effect = effect;
       has = sized looks row tokens effect has;
       reached = λ t among. among_behind h.all tokens t among;
-      settled = λ q. subst (λ (xs : List Sets). IsAmong xs effect.charset) (sym changes_so) (new_among (keeps_settled row) k.changes effect.charset q);
+      settled = λ q. subst (λ (xs : List Sets). IsAmong xs effect.charset) (sym changes_so) (new_among (settles row) k.changes effect.charset q);
     }
 
     line : (r : Row) (b : List ℕ) → (string_in k.strings r ≡ Some b) ⊎ ((r ≡ row) × (b ≡ bytes)) → IsKept new (h.all ++ tokens) r b
@@ -233,7 +234,7 @@ holds_more k strings row bytes tokens effect looks reach changes h a whole looks
     same_record : (r : Row) (ts : List (List ℕ)) (e : Effect) → record_of k.strings.rows k.strings.cols (start_of k.strings.rows k.strings.cols r) ts ≡ Some e → record_of strings.rows strings.cols (start_of strings.rows strings.cols r) ts ≡ Some e
     same_record r ts e p = subst (λ (n : ℕ). record_of n strings.cols (start_of n strings.cols r) ts ≡ Some e) (sym a.rows_kept) (subst (λ (n : ℕ). record_of k.strings.rows n (start_of k.strings.rows n r) ts ≡ Some e) (sym a.cols_kept) p)
 
-    told_either : (x : Sets) → IsAmong k.changes x ⊎ ((keeps_settled row ≡ true) × (x ≡ effect.charset)) → IsTold new x
+    told_either : (x : Sets) → IsAmong k.changes x ⊎ ((settles row ≡ true) × (x ≡ effect.charset)) → IsTold new x
     told_either x (inl among) = let f : IsTold k x = h.told x among in
         record { row = f.row; bytes = f.bytes; there = a.kept f.row f.bytes f.there; keeps = f.keeps; tokens = f.tokens; whole = f.whole; effect = f.effect; recorded = same_record f.row f.tokens f.effect f.recorded; is = f.is }
     told_either x (inr e) = record { row = row; bytes = bytes; there = a.there; keeps = e.0; tokens = tokens; whole = whole; effect = effect; recorded = same_record row tokens effect has.recorded; is = e.1 }
@@ -247,11 +248,11 @@ holds_more k strings row bytes tokens effect looks reach changes h a whole looks
 pub holds_to : (k : Known) (s : Strings) (l : Looks) (q : Reach) (x : List Sets) → record { strings = s; looks = l; reach = q; changes = x } ≡ k
     → (strings : Strings) (row : Row) (bytes : List ℕ) (tokens : List (List ℕ)) (effect : Effect) (looks : Looks) (reach : Reach) (changes : List Sets)
     → Holds k → Adds s strings row bytes → Splits bytes tokens [] → looks ≡ looks_with k row effect → HasRecord k.strings.rows k.strings.cols looks row tokens effect
-    → reach ≡ joined q (reach_of tokens) → changes ≡ with_change (keeps_settled row) x effect.charset
+    → reach ≡ joined q (reach_of tokens) → changes ≡ with_change (settles row) x effect.charset
     → Holds (record { strings = strings; looks = looks; reach = reach; changes = changes })
 holds_to k s l q x is strings row bytes tokens effect looks reach changes h a w lo has re ch = holds_more k strings row bytes tokens effect looks reach changes h
     (subst (λ (y : Known). Adds y.strings strings row bytes) is a) w lo has
-    (re ∙ ap (λ (y : Known). joined y.reach (reach_of tokens)) is) (ch ∙ ap (λ (y : Known). with_change (keeps_settled row) y.changes effect.charset) is)
+    (re ∙ ap (λ (y : Known). joined y.reach (reach_of tokens)) is) (ch ∙ ap (λ (y : Known). with_change (settles row) y.changes effect.charset) is)
 
 looks_at_first : (rows cols : ℕ) → LooksAlone (λ row. has_group (record { rows = rows; cols = cols; groups = replicate 42 [] }) row) no_looks
 looks_at_first rows cols off = record { underline = refl; reverse = refl; blink = refl; dim = refl; bold = refl; invisible = refl; standout = λ none. refl }

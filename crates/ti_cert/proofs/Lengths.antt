@@ -1,5 +1,5 @@
 -- No line is longer than the longest of its group.
-use Rattle.std.proofs.Common.{◌≡◌, ◌≤◌, ◌&&◌, ℕ, zero, suc, max, not, Bool, true, false, if◌then◌else◌, List, [], ◌∷◌, ◌++◌, length, length-append, Option, Some, None, refl, sym, ap, ◌∙◌, arith}
+use Rattle.std.proofs.Common.{◌≡◌, ◌≤◌, ℕ, zero, suc, max, Bool, true, false, if◌then◌else◌, List, [], ◌∷◌, ◌++◌, length, length-append, Option, Some, None, refl, sym, ap, ◌∙◌, arith}
 use Rattle.std.specs.Prelude.{is_some}
 use Rattle.std.specs.List.{slice_get}
 use Rattle.std.proofs.lemmas.Option.{same_Some}
@@ -7,22 +7,12 @@ use Rattle.ti_rows.specs.declared.rows.Row.{Row}
 use Rattle.ti_rows.specs.declared.rows.Row.TheVariants.{Clear, Cup, El, El1, Ed, Ech, Sgr, Sgr0, Setaf, Setab, Op, Smacs, Rmacs, Csr, Ind, Ri, Civis, Cnorm, Cvvis}
 use Rattle.ti_rows.specs.Names.{order, no_attributes}
 use Rattle.ti_rows.specs.Lists.{rank}
-use Rattle.ti_rows.specs.Right.{sets_visible}
 use Rattle.ti_conforms.specs.Table as strings
 use Rattle.ti_conforms.specs.Together.{StandTogether}
 use Rattle.ti_cert.specs.Strings.{Strings, allows, group_at, string_in}
-use Rattle.ti_cert.specs.Table.{Content, table_of}
-use Rattle.ti_conforms.specs.Certified.{or_nothing, limit_of}
-use Rattle.ti_cert.specs.Contents.{line_in, greatest, longest_line, longest_change, singly, certified}
-
--- what is kept back by a test was there, where the test lets it through
-pub let_through : (b : Bool) (o : Option (List ℕ)) (x : List ℕ) → (if b then None else o) ≡ Some x → (b ≡ false) × (o ≡ Some x)
-let_through true o x h = cc
-let_through false o x h = (refl, h)
-
--- a row's line is the entry's
-pub line_there : (t : strings.Table) (row : Row) (bytes : List ℕ) → line_in t row ≡ Some bytes → t.line_of row ≡ Some bytes
-line_there t row bytes h = (let_through (sets_visible row && not (strings.has t Cnorm)) (t.line_of row) bytes h).1
+use Rattle.ti_cert.specs.Table.{Content, table_of, certified}
+use Rattle.ti_conforms.specs.Certified.{or_nothing, limit_of, line_in}
+use Rattle.ti_cert.specs.Lengths.{greatest, longest_line, longest_change, singly, longest_in}
 
 allowed : (b : Bool) (o : Option (List ℕ)) (x : List ℕ) → (if b then o else None) ≡ Some x → o ≡ Some x
 allowed true o x h = h
@@ -50,22 +40,23 @@ there_is o x e = ap (λ (p : Option (List ℕ)). is_some p) e
 
 -- where one set of attributes has a line, so has the empty one
 sgr_within : (c : Content) → StandTogether (table_of c) → (row : Row) (bytes : List ℕ) → (strings.has (table_of c) row ≡ true → strings.has (table_of c) (Sgr no_attributes) ≡ true)
-    → longest_line c.known.strings row ≡ longest_line c.known.strings (Sgr no_attributes) → string_in c.known.strings row ≡ Some bytes → length bytes ≤ longest_change c
+    → longest_line c.known.strings row ≡ longest_line c.known.strings (Sgr no_attributes) → string_in c.known.strings row ≡ Some bytes → length bytes ≤ longest_change c.known.strings
 sgr_within c together row bytes same longest h =
     let there : strings.has (table_of c) (Sgr no_attributes) ≡ true = same (there_is (string_in c.known.strings row) bytes h) in
-    let e : longest_change c ≡ max (longest_line c.known.strings (Sgr no_attributes)) (longest_line c.known.strings Sgr0)
-    = taken (strings.has (table_of c) (Sgr no_attributes)) (max (longest_line c.known.strings (Sgr no_attributes)) (longest_line c.known.strings Sgr0)) (singly (table_of c)) there in
+    let e : longest_change c.known.strings ≡ max (longest_line c.known.strings (Sgr no_attributes)) (longest_line c.known.strings Sgr0)
+    = taken (strings.has (table_of c) (Sgr no_attributes)) (max (longest_line c.known.strings (Sgr no_attributes)) (longest_line c.known.strings Sgr0)) (singly c.known.strings) there in
     let w : length bytes ≤ longest_line c.known.strings row = within c.known.strings row bytes h in
     omega arith
 
 clear_within : (t : strings.Table) (bytes : List ℕ) → t.line_of Clear ≡ Some bytes → length bytes ≤ length (strings.resync t)
-unfolding strings.resync
+unfolding strings.resync_of
 clear_within t bytes h =
-    let e : length (strings.part t Clear) ≡ length bytes = ap (λ (p : Option (List ℕ)). length (strings.or_nothing p)) h in
-    omega (arith, length-append (strings.resync_front t) (strings.part t (strings.widening t) ++ strings.part t Clear), length-append (strings.part t (strings.widening t)) (strings.part t Clear))
+    let e : length (strings.text_of t Clear) ≡ length bytes = ap (λ (p : Option (List ℕ)). length (strings.or_nothing p)) h in
+    omega (arith, length-append (strings.resync_front t) (strings.text_of t (strings.widening t) ++ strings.text_of t Clear), length-append (strings.text_of t (strings.widening t)) (strings.text_of t Clear))
 
 -- each line is within its limit
 pub short : (c : Content) → StandTogether (table_of c) → (row : Row) (bytes : List ℕ) → string_in c.known.strings row ≡ Some bytes → line_in (table_of c) row ≡ Some bytes → length bytes ≤ limit_of (certified c) row
+unfolding longest_in
 short c together Clear bytes h l = clear_within (table_of c) bytes h
 short c together (Cup row col) bytes h l = within c.known.strings (Cup row col) bytes h
 short c together El bytes h l = let w : length bytes ≤ longest_line c.known.strings El = within c.known.strings El bytes h in omega arith

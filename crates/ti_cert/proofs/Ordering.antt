@@ -13,7 +13,7 @@ use Rattle.ti_lines.specs.declared.row_lines.RowLine.{RowLine}
 use Rattle.ti_cert.specs.Strings.{allows}
 use Rattle.ti_cert.specs.Order.{Precedes, HasLine, HasCap, IsRequired, IsLacking, IsFirstLacking, IsComplete}
 use Rattle.ti_cert.specs.Places.{next_within, is_between, required, missing_behind, missing}
-use Rattle.ti_cert.specs.Good.{IsLastRow, IsUpTo}
+use Rattle.ti_cert.specs.Audits.{IsLastRow, IsUpTo}
 use Rattle.ti_cert.proofs.Ranges.{is_allowed}
 use Rattle.ti_cert.proofs.Grouping.{if_true}
 

@@ -13,7 +13,7 @@ use Rattle.ti_cert.specs.Strings.{allows}
 use Rattle.ti_cert.specs.Order.{Precedes, HasLine, HasCap, IsRequired, IsLacking, IsFirstLacking, IsLate, IsBehind, IsInPlace}
 use Rattle.ti_cert.specs.Places.{next_within, missing, expected, or_row, is_late, or_missing, early_fault, place_fault}
 use Rattle.ti_cert.specs.Certificates.{Said, JudgesRow, NotAllowed, TooLate, TooEarly}
-use Rattle.ti_cert.specs.Good.{IsLastRow, IsUpTo}
+use Rattle.ti_cert.specs.Audits.{IsLastRow, IsUpTo}
 use Rattle.ti_cert.specs.declared.faults.CertFaultKind.{CertFaultKind}
 use Rattle.ti_cert.specs.declared.faults.CertFaultKind.TheVariants.{BadLine, Missing, OutOfOrder}
 use Rattle.ti_cert.proofs.Ranges.{in_range, is_allowed}

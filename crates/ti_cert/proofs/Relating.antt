@@ -11,11 +11,11 @@ use Rattle.ti_cert.specs.Clashes.{ClashesBy, ByActive, ByLook, ByResync}
 use Rattle.ti_cert.specs.Certificates.{Said, Nothing, Sized, Listing, Ended, Mislooks, Misdoes, JudgesRow, NotAllowed, TooLate, TooEarly, Cut, Wild, Untrue, Unasked, Stands, JudgesLast, Lacks, Clashes, Closes, JudgesLater, IsLast, IsRow, IsMisplaced, IsNone, HasPairs, HasNoPairs, HasSize, HasNoSize, JudgesLine, JudgesEnd, rules_of, limit, IsAnswer}
 use Rattle.ti_cert.specs.Table.{Content}
 use Rattle.ti_cert.specs.Strings.{string_in, total}
-use Rattle.ti_cert.specs.Audit.{Known}
+use Rattle.ti_cert.specs.Known.{Known}
 use Rattle.ti_cert.specs.Texts.{IsTableOf, IsRefused, IsCertRefused, IsLineRead, Takes}
 use Rattle.ti_cert.specs.declared.faults.VerifyFault.{VerifyFault}
 use Rattle.ti_cert.specs.declared.faults.VerifyFault.TheVariants.{Cert, Agree}
-use Rattle.ti_cert.specs.Good.{TellsNow, Steps, AnswersEnd, progress_rules, Starts, IsWholeRead, IsTableMade}
+use Rattle.ti_cert.specs.Audits.{TellsNow, Steps, AnswersEnd, progress_rules, Starts, IsWholeRead, IsTableMade}
 use Rattle.ti_cert.specs.declared.audits.Progress.{Progress}
 use Rattle.ti_cert.specs.declared.faults.CertFault.{CertFault}
 use Rattle.ti_cert.specs.declared.faults.CertFaultKind.{CertFaultKind}

@@ -12,7 +12,7 @@ use Rattle.ti_rows.specs.declared.rows.Row.{Row}
 use Rattle.ti_rows.specs.declared.rows.Row.TheVariants.{Smacs, Rmacs, Smcup, Enacs, Sgr0, Clear, Csr}
 use Rattle.ti_rows.specs.Asked.{start_of}
 use Rattle.ti_rows.specs.Lists.{IsInRange}
-use Rattle.ti_conforms.specs.Table.{Table, or_nothing, part, widening, resync, resync_front}
+use Rattle.ti_conforms.specs.Table.{Table, or_nothing, text_of, widening, resync, resync_front, resync_of}
 use Rattle.ti_conforms.specs.Sets.{CanHave, AtReset, AfterToken, LeadsBy, CanSettle, AfterResync, AfterLine, has_sets}
 use Rattle.ti_lines.specs.declared.row_lines.RowLine.{RowLine}
 use Rattle.ti_lines.specs.Heads.{IsAcscText, acsc_in, is_end}
@@ -24,7 +24,7 @@ use Rattle.ti_lines.specs.declared.judging.LineFault.{LineFault}
 use Rattle.ti_cert.specs.Strings.{string_in}
 use Rattle.ti_cert.specs.Order.{Precedes, HasBytes, IsFirstLacking, IsComplete, IsLate, IsBehind}
 use Rattle.ti_cert.specs.Clashes.{Misswitches, LeavesPlain, LeavesGraphic, StaysGraphic, Misresyncs, BeginsOpen, ResyncsGraphic, ClashesBy, ByActive, ByLook, ByResync, GoesTogether, OfLines}
-use Rattle.ti_cert.specs.Certificates.{Said, Nothing, Sized, Listing, Ended, IsWhole, HasEffect, HasNoEffect, IsMisfit, Mislooks, Misdoes, IsAskedFor, JudgesRow, NotAllowed, TooLate, TooEarly, Cut, Wild, Untrue, Unasked, Stands, JudgesLast, Lacks, Clashes, Closes, JudgesLater, IsLast, IsRow, IsMisplaced, IsNone, JudgesSecond, HasPairs, HasNoPairs, JudgesFirst, HasSize, HasNoSize, JudgesLine, JudgesEnd, rules_of, limit, IsAnswer}
+use Rattle.ti_cert.specs.Certificates.{Said, Nothing, Sized, Listing, Ended, IsWholeText, HasEffect, HasNoEffect, IsMisfit, Mislooks, Misdoes, IsAskedFor, JudgesRow, NotAllowed, TooLate, TooEarly, Cut, Wild, Untrue, Unasked, Stands, JudgesLast, Lacks, Clashes, Closes, JudgesLater, IsLast, IsRow, IsMisplaced, IsNone, JudgesSecond, HasPairs, HasNoPairs, JudgesFirst, HasSize, HasNoSize, JudgesLine, JudgesEnd, rules_of, limit, IsAnswer}
 use Rattle.ti_cert.specs.Texts.{OneTable, OneFault, NoOther}
 use Rattle.ti_cert.specs.declared.faults.CertFault.{CertFault}
 use Rattle.ti_cert.specs.declared.faults.CertFaultKind.{CertFaultKind}
@@ -124,7 +124,7 @@ abbrev FromRecord : ℕ → ℕ → List RowLine → RowLine → Said → Result
 FromRecord rows cols lines line after = Else (λ a. HasNoEffect rows cols line × (a ≡ Err NotTame)) (HasSomeEffect rows cols line) (FromStated rows cols lines line after)
 
 abbrev FromTokens : ℕ → ℕ → List RowLine → RowLine → Said → Result Said CertFaultKind → Type 0
-FromTokens rows cols lines line after = Else (λ a. (IsWhole line.bytes → ⊥) × (a ≡ Err NotWhole)) (IsWhole line.bytes) (FromRecord rows cols lines line after)
+FromTokens rows cols lines line after = Else (λ a. (IsWholeText line.bytes → ⊥) × (a ≡ Err NotWhole)) (IsWholeText line.bytes) (FromRecord rows cols lines line after)
 
 abbrev FromPlace : ℕ → ℕ → List RowLine → RowLine → Said → Result Said CertFaultKind → Type 0
 FromPlace rows cols lines line after = Else (Lacking rows cols lines (Some line.row)) (IsComplete rows cols lines (Some line.row)) (FromTokens rows cols lines line after)
@@ -135,7 +135,7 @@ FromOrder rows cols lines line after = Else (λ a. IsLate rows cols lines line.r
 abbrev FromRange : ℕ → ℕ → List RowLine → RowLine → Said → Result Said CertFaultKind → Type 0
 FromRange rows cols lines line after = Else (λ a. (IsInRange rows cols line.row → ⊥) × (a ≡ Err BadLine)) (IsInRange rows cols line.row) (FromOrder rows cols lines line after)
 
-whole_of : (rows cols : ℕ) (line : RowLine) (effect : Effect) → HasEffect rows cols line effect → IsWhole line.bytes
+whole_of : (rows cols : ℕ) (line : RowLine) (effect : Effect) → HasEffect rows cols line effect → IsWholeText line.bytes
 whole_of rows cols line effect h = record { tokens = h.tokens; splits = h.splits }
 
 case_of : (rows cols : ℕ) (lines : List RowLine) (line : RowLine) (after : Said) (a : Result Said CertFaultKind) → JudgesRow rows cols lines line after a → FromRange rows cols lines line after a
@@ -168,8 +168,8 @@ one_row rows cols lines line after a b p q = from_range a b (case_of rows cols l
         (equal_to (HasNoEffect rows cols line) (Err NotTame)) (λ x none has. never_unrecorded rows cols line has.0 none.0 has.1) from_stated
 
     from_tokens : Single (FromTokens rows cols lines line after)
-    from_tokens = either (λ x. (IsWhole line.bytes → ⊥) × (x ≡ Err NotWhole)) (IsWhole line.bytes) (FromRecord rows cols lines line after)
-        (equal_to (IsWhole line.bytes → ⊥) (Err NotWhole)) (λ x never whole. never.0 whole) from_record
+    from_tokens = either (λ x. (IsWholeText line.bytes → ⊥) × (x ≡ Err NotWhole)) (IsWholeText line.bytes) (FromRecord rows cols lines line after)
+        (equal_to (IsWholeText line.bytes → ⊥) (Err NotWhole)) (λ x never whole. never.0 whole) from_record
 
     from_place : Single (FromPlace rows cols lines line after)
     from_place = either (Lacking rows cols lines (Some line.row)) (IsComplete rows cols lines (Some line.row)) (FromTokens rows cols lines line after)
@@ -210,22 +210,22 @@ alike rows cols lines Is Has p q = record {
     back : (row : Row) (b : List ℕ) → HasBytes lines row b → p.table.line_of row ≡ Some b
     back row b h = ap (λ (r : Row). p.table.line_of r) (sym h.of_row) ∙ (p.kept h.line h.among ∙ ap (λ (x : List ℕ). Some x) h.bytes_are)
 
-part_alike : (t u : Table) → IsAlike t u → (row : Row) → part t row ≡ part u row
+part_alike : (t u : Table) → IsAlike t u → (row : Row) → text_of t row ≡ text_of u row
 part_alike t u a row = ap (λ (o : Option (List ℕ)). or_nothing o) (a.line_is row)
 
-widened_alike : (t u : Table) → IsAlike t u → part t (widening t) ≡ part u (widening u)
-widened_alike t u a = part_alike t u a (widening t) ∙ ap (λ (n : ℕ). part u (Csr 0 (n - 1))) a.rows_are
+widened_alike : (t u : Table) → IsAlike t u → text_of t (widening t) ≡ text_of u (widening u)
+widened_alike t u a = part_alike t u a (widening t) ∙ ap (λ (n : ℕ). text_of u (Csr 0 (n - 1))) a.rows_are
 
 two : (a b c d : List ℕ) → a ≡ c → b ≡ d → a ++ b ≡ c ++ d
 two a b c d e f = ap (λ (x : List ℕ). x ++ b) e ∙ ap (λ (x : List ℕ). c ++ x) f
 
 resync_alike : (t u : Table) → IsAlike t u → resync t ≡ resync u
-unfolding resync
-resync_alike t u a = two (resync_front t) (part t (widening t) ++ part t Clear) (resync_front u) (part u (widening u) ++ part u Clear)
-    (two (part t Smcup ++ part t Enacs) (part t Sgr0 ++ part t Rmacs) (part u Smcup ++ part u Enacs) (part u Sgr0 ++ part u Rmacs)
-    (two (part t Smcup) (part t Enacs) (part u Smcup) (part u Enacs) (part_alike t u a Smcup) (part_alike t u a Enacs))
-    (two (part t Sgr0) (part t Rmacs) (part u Sgr0) (part u Rmacs) (part_alike t u a Sgr0) (part_alike t u a Rmacs)))
-    (two (part t (widening t)) (part t Clear) (part u (widening u)) (part u Clear) (widened_alike t u a) (part_alike t u a Clear))
+unfolding resync_of
+resync_alike t u a = two (resync_front t) (text_of t (widening t) ++ text_of t Clear) (resync_front u) (text_of u (widening u) ++ text_of u Clear)
+    (two (text_of t Smcup ++ text_of t Enacs) (text_of t Sgr0 ++ text_of t Rmacs) (text_of u Smcup ++ text_of u Enacs) (text_of u Sgr0 ++ text_of u Rmacs)
+    (two (text_of t Smcup) (text_of t Enacs) (text_of u Smcup) (text_of u Enacs) (part_alike t u a Smcup) (part_alike t u a Enacs))
+    (two (text_of t Sgr0) (text_of t Rmacs) (text_of u Sgr0) (text_of u Rmacs) (part_alike t u a Sgr0) (part_alike t u a Rmacs)))
+    (two (text_of t (widening t)) (text_of t Clear) (text_of u (widening u)) (text_of u Clear) (widened_alike t u a) (part_alike t u a Clear))
 
 had_alike : (t u : Table) → IsAlike t u → (c : Charset) → CanHave t c → CanHave u c
 had_alike t u a c (AtReset _ e) = AtReset c e

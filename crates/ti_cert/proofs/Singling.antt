@@ -9,8 +9,9 @@ use Rattle.ti_rows.specs.declared.rows.Row.TheVariants.{Sgr, Smul, Rev, Blink, D
 use Rattle.ti_rows.specs.Names.{order, no_attributes}
 use Rattle.ti_rows.specs.Looks.{learned}
 use Rattle.ti_cert.specs.Strings.{Strings, group_at, has_group, string_in, Adds}
-use Rattle.ti_cert.specs.Audit.{Known, rival, looks_with}
-use Rattle.ti_cert.specs.Singles.{SingleLooks, LooksAlone}
+use Rattle.ti_cert.specs.Known.{Known, looks_with}
+use Rattle.ti_cert.specs.Certificates.{rival}
+use Rattle.ti_conforms.specs.Looks.{SingleLooks, LooksAlone}
 use Rattle.ti_cert.proofs.Grouping.{not_zero}
 
 -- the capability of a row joins those that have strings

@@ -10,9 +10,9 @@ use Rattle.ti_rows.specs.Right.{sets_visible}
 use Rattle.ti_conforms.specs.Table as strings
 use Rattle.ti_cert.specs.Certificates.{limit}
 use Rattle.ti_cert.specs.Strings.{Strings, group_at, string_in, total}
-use Rattle.ti_cert.specs.Table.{Content, table_of}
+use Rattle.ti_cert.specs.Table.{Content, table_of, certified}
 use Rattle.ti_conforms.specs.Certified.{IsSmall, cell_limit, or_nothing}
-use Rattle.ti_cert.specs.Contents.{greatest, longest_line, longest_change, singly, certified}
+use Rattle.ti_cert.specs.Lengths.{greatest, longest_line, longest_change, singly, longest_in}
 use Rattle.ti_cert.proofs.Lengths.{within}
 
 abbrev all_of : List (List ℕ) → ℕ
@@ -47,7 +47,7 @@ sent_few s row None e few = omega arith
 sent_few s row (Some x) e few = omega (arith, within s row x e, longest_few s row few)
 
 -- so where the row's string is a part of a resynchronization
-resync_part_few : (c : Content) (row : Row) → total c.known.strings < limit → length (strings.part (table_of c) row) < 2 ^ 26
+resync_part_few : (c : Content) (row : Row) → total c.known.strings < limit → length (strings.text_of (table_of c) row) < 2 ^ 26
 resync_part_few c row few = sent_few c.known.strings row (string_in c.known.strings row) refl few
 
 held_back : (b : Bool) (o : Option (List ℕ)) (n : ℕ) → length (or_nothing o) < n → length (or_nothing (if b then None else o)) < n
@@ -58,14 +58,15 @@ either : (b : Bool) (m n k : ℕ) → m < k → n < k → (if b then m else n) <
 either true m n k h j = h
 either false m n k h j = j
 
-change_few : (c : Content) → total c.known.strings < limit → longest_change c < 2 ^ 30
+change_few : (c : Content) → total c.known.strings < limit → longest_change c.known.strings < 2 ^ 30
 change_few c few =
     let line : longest_line c.known.strings (Sgr no_attributes) < 2 ^ 26 = longest_few c.known.strings (Sgr no_attributes) few in
     let plain : longest_line c.known.strings Sgr0 < 2 ^ 26 = longest_few c.known.strings Sgr0 few in
-    either (strings.has (table_of c) (Sgr no_attributes)) (max (longest_line c.known.strings (Sgr no_attributes)) (longest_line c.known.strings Sgr0)) (singly (table_of c)) (2 ^ 30) (omega (arith, line, plain))
+    either (strings.has (table_of c) (Sgr no_attributes)) (max (longest_line c.known.strings (Sgr no_attributes)) (longest_line c.known.strings Sgr0)) (singly c.known.strings) (2 ^ 30) (omega (arith, line, plain))
     (omega (arith, string_few c Sgr0 few, string_few c Smul few, string_few c Rev few, string_few c Blink few, string_few c Dim few, string_few c Bold few, string_few c Invis few, string_few c Smso few))
 
 cell_few : (c : Content) → total c.known.strings < limit → cell_limit (certified c) < 2 ^ 31
+unfolding longest_in
 cell_few c few =
     let s : Strings = c.known.strings in
     let cup : longest_line s (Cup 0 0) < 2 ^ 26 = longest_few s (Cup 0 0) few in
@@ -84,22 +85,22 @@ cell_few c few =
     let civis : longest_line s Civis < 2 ^ 26 = longest_few s Civis few in
     let cnorm : longest_line s Cnorm < 2 ^ 26 = longest_few s Cnorm few in
     let cvvis : longest_line s Cvvis < 2 ^ 26 = longest_few s Cvvis few in
-    let change : longest_change c < 2 ^ 30 = change_few c few in
+    let change : longest_change c.known.strings < 2 ^ 30 = change_few c few in
     let sets : max (longest_line s Smacs) (longest_line s Rmacs) < 2 ^ 26 = omega (arith, smacs, rmacs) in
     let erasure : max (max (longest_line s El) (longest_line s El1)) (max (longest_line s Ed) (longest_line s (Ech 1))) < 2 ^ 26 = omega (arith, el, el1, ed, ech) in
     let scroll : max (longest_line s (Csr 0 1)) (max (longest_line s Ind) (longest_line s Ri)) < 2 ^ 26 = omega (arith, csr, ind, ri) in
     omega (arith, cup, setaf, setab, op, sets, erasure, scroll, civis, cnorm, cvvis, change)
 
 resync_few : (c : Content) → total c.known.strings < limit → length (strings.resync (table_of c)) < 2 ^ 29
-unfolding strings.resync
+unfolding strings.resync_of
 resync_few c few =
     let t : strings.Table = table_of c in
-    let a = strings.part t Smcup in
-    let b = strings.part t Enacs in
-    let d = strings.part t Sgr0 in
-    let e = strings.part t Rmacs in
-    let w = strings.part t (strings.widening t) in
-    let x = strings.part t Clear in
+    let a = strings.text_of t Smcup in
+    let b = strings.text_of t Enacs in
+    let d = strings.text_of t Sgr0 in
+    let e = strings.text_of t Rmacs in
+    let w = strings.text_of t (strings.widening t) in
+    let x = strings.text_of t Clear in
     omega (
       arith,
       length-append ((a ++ b) ++ (d ++ e)) (w ++ x),

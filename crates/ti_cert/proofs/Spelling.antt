@@ -19,7 +19,7 @@ use Rattle.ti_lines.specs.Judging.{Passes, Fails, TooLong, JudgedLine, JudgedLin
 use Rattle.ti_lines.specs.declared.judging.LineFault.{LineFault}
 use Rattle.ti_cert.specs.Order.{IsComplete}
 use Rattle.ti_cert.specs.Certificates.{Said, Nothing, Sized, Listing, Ended, JudgesRow, NotAllowed, TooLate, TooEarly, Cut, Wild, Untrue, Unasked, Stands, JudgesLast, Lacks, Clashes, Closes, JudgesLater, IsLast, IsRow, IsMisplaced, IsNone, JudgesSecond, HasPairs, HasNoPairs, JudgesFirst, HasSize, HasNoSize, JudgesLine, rules_of, limit, IsAnswer}
-use Rattle.ti_cert.specs.Good.{all_bytes}
+use Rattle.ti_cert.specs.Audits.{all_bytes}
 use Rattle.ti_cert.specs.Texts.{StandsNext, StandInOrder, IsCertificate, IsThatOfCertificate}
 use Rattle.ti_cert.specs.declared.faults.CertFaultKind.{CertFaultKind}
 

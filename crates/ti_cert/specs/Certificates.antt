@@ -6,8 +6,7 @@ use Rattle.vt_effects.specs.declared.effects.Effect.{Effect}
 use Rattle.vt_effects.specs.Record.{record_of}
 use Rattle.ti_rows.specs.declared.rows.Looks.{Looks}
 use Rattle.ti_rows.specs.declared.rows.Row.{Row}
-use Rattle.ti_rows.specs.declared.rows.Row.TheVariants.{Sgr}
-use Rattle.ti_rows.specs.Bits.{number_of}
+use Rattle.ti_rows.specs.declared.rows.Row.TheVariants.{Sgr, Smso}
 use Rattle.ti_rows.specs.Names.{order, no_attributes}
 use Rattle.ti_rows.specs.Lists.{IsInRange}
 use Rattle.ti_rows.specs.Looks.{learned}
@@ -17,7 +16,7 @@ use Rattle.ti_lines.specs.Heads.{IsSizeText, IsAcscText, is_end}
 use Rattle.ti_lines.specs.RowLines.{IsTextOf}
 use Rattle.ti_lines.specs.Judging.{Rules, Judged}
 use Rattle.ti_lines.specs.declared.judging.LineFault.{LineFault}
-use Rattle.ti_cert.specs.Singles.{no_looks, rival}
+use Rattle.ti_conforms.specs.Looks.{no_looks, is_alone, IsSomeLook}
 use Rattle.ti_cert.specs.Clashes.{ClashesBy, GoesTogether, OfLines}
 use Rattle.ti_cert.specs.Order.{IsFirstLacking, IsComplete, IsLate, IsBehind, IsInPlace}
 use Rattle.ti_cert.specs.declared.faults.CertFaultKind.{CertFaultKind}
@@ -36,13 +35,18 @@ abbrev pub speaks_of : List RowLine → Row → Bool
 speaks_of [] row = false
 speaks_of (line ∷ lines) row = order row == order line.row || speaks_of lines row
 
+-- looks come from `sgr`, or else from the strings of single attributes
+abbrev pub rival : Row → Row
+rival (Sgr a) = Smso
+rival _ = Sgr no_attributes
+
 -- how attributes look by these lines: by those of `sgr` for one attribute alone, or else by those of single attributes
 abbrev pub looks_of : List RowLine → Looks
 looks_of [] = no_looks
 looks_of (line ∷ lines) = if speaks_of lines (rival line.row) then looks_of lines else learned line.row line.effect (looks_of lines)
 
 -- the bytes are whole control functions
-pub record IsWhole (bytes : List ℕ) : Type 0 where
+pub record IsWholeText (bytes : List ℕ) : Type 0 where
   pub tokens : List (List ℕ)
   pub splits : Splits bytes tokens []
 
@@ -58,21 +62,6 @@ pub record HasNoEffect (rows cols : ℕ) (line : RowLine) : Type 0 where
   pub splits : Splits line.bytes tokens []
   pub unrecorded : record_of rows cols (start_of rows cols line.row) tokens ≡ None
 
--- one attribute other than standout
-abbrev pub is_single : ℕ → Bool
-is_single n = n == 1 || (n == 2 || (n == 4 || (n == 8 || (n == 16 || n == 32))))
-
-abbrev pub is_alone : Row → Bool
-is_alone (Sgr a) = is_single (number_of a)
-is_alone _ = false
-
-abbrev pub standout : Row
-standout = Sgr (record no_attributes { standout = true })
-
--- the effect is of the form that `sgr` has for one attribute that may look like anything
-abbrev pub IsSomeLook : Effect → Type 0
-IsSomeLook effect = effect ≡ asked (learned standout effect no_looks) standout effect
-
 -- the fault of a line whose effect isn't the one that is asked for: an attribute of its own that looks like others, or any
 pub data IsMisfit (row : Row) (effect : Effect) (kind : CertFaultKind) : Type 0 where
   Mislooks : is_alone row ≡ true → IsSomeLook effect → kind ≡ BadLook → IsMisfit row effect kind
@@ -87,7 +76,7 @@ pub data JudgesRow (rows cols : ℕ) (lines : List RowLine) (line : RowLine) (af
   TooLate : IsInRange rows cols line.row → IsLate rows cols lines line.row → answer ≡ Err OutOfOrder → JudgesRow rows cols lines line after answer
   TooEarly : IsInRange rows cols line.row → IsBehind rows cols lines line.row → (row : Row) → IsFirstLacking rows cols lines (Some line.row) row → answer ≡ Err (Missing row)
       → JudgesRow rows cols lines line after answer
-  Cut : IsInPlace rows cols lines line.row → (IsWhole line.bytes → ⊥) → answer ≡ Err NotWhole → JudgesRow rows cols lines line after answer
+  Cut : IsInPlace rows cols lines line.row → (IsWholeText line.bytes → ⊥) → answer ≡ Err NotWhole → JudgesRow rows cols lines line after answer
   Wild : IsInPlace rows cols lines line.row → HasNoEffect rows cols line → answer ≡ Err NotTame → JudgesRow rows cols lines line after answer
   Untrue : IsInPlace rows cols lines line.row → (effect : Effect) → HasEffect rows cols line effect → (effect ≡ line.effect → ⊥) → answer ≡ Err NotShown → JudgesRow rows cols lines line after answer
   Unasked : IsInPlace rows cols lines line.row → HasEffect rows cols line line.effect → (IsAskedFor lines line → ⊥) → (kind : CertFaultKind) → IsMisfit line.row line.effect kind → answer ≡ Err kind

@@ -1,7 +1,6 @@
 -- The table that a certificate makes, and what is known of it.
 use Rattle.std.specs.Prelude.{ℕ, ◌-◌, ◌≡◌, Bool, true, List, [], ◌∷◌, Option, Some, None}
 use Rattle.vt_effects.specs.declared.effects.Sets.{Sets}
-use Rattle.vt_effects.specs.declared.effects.Switch.TheVariants as switches
 use Rattle.vt_effects.specs.Effect.{designated}
 use Rattle.vt_effects.specs.Record.{record_of}
 use Rattle.vt_effects.specs.declared.effects.Effect.{Effect}
@@ -10,12 +9,15 @@ use Rattle.vt_term.specs.Text.{Splits}
 use Rattle.ti_conforms.specs.declared.closing.Charsets.{Charsets}
 use Rattle.ti_conforms.specs.Charsets.{can_have}
 use Rattle.ti_conforms.specs.Closing as closing
+use Rattle.ti_conforms.specs.Closing.{or_kept}
 use Rattle.ti_rows.specs.declared.rows.Row.{Row}
 use Rattle.ti_rows.specs.declared.rows.Row.TheVariants.{Clear, Sgr0, Csr, Rmacs, Smcup, Enacs}
 use Rattle.ti_rows.specs.Asked.{start_of}
-use Rattle.ti_conforms.specs.Table as checked
+use Rattle.ti_conforms.specs.Certified.{sendable}
+use Rattle.ti_conforms.specs.Table.{Table, resync_of}
 use Rattle.ti_cert.specs.Strings.{Strings, string_in}
-use Rattle.ti_cert.specs.Audit.{Known}
+use Rattle.ti_cert.specs.Known.{Known}
+use Rattle.ti_cert.specs.Lengths.{longest_in}
 
 -- the strings with what tells how they may be used
 pub record Content : Type 0 where
@@ -24,7 +26,7 @@ pub record Content : Type 0 where
   pub settled : Charsets
 
 -- the same as a driver of a terminal sees it
-abbrev pub checked_of : Known → Charsets → checked.Table
+abbrev pub checked_of : Known → Charsets → Table
 checked_of k settled = record {
   rows = k.strings.rows;
   cols = k.strings.cols;
@@ -32,10 +34,16 @@ checked_of k settled = record {
   looks = k.looks;
   reached = λ c. can_have k.reach c;
   settled = λ c. closing.has settled c;
+  resync = resync_of k.strings.rows (λ row. string_in k.strings row);
+  longest = longest_in k.strings;
 }
 
-abbrev pub table_of : Content → checked.Table
+abbrev pub table_of : Content → Table
 table_of c = checked_of c.known c.settled
+
+-- what a painter sends of it
+abbrev pub certified : Content → Table
+certified c = sendable (table_of c)
 
 -- the first byte of a string that is there, or else this one
 abbrev pub first_or : Option (List ℕ) → Option ℕ → Option ℕ
@@ -52,13 +60,6 @@ pub data Changes (s : Strings) (row : Row) : Option Sets → Type 0 where
   NoString : string_in s row ≡ None → Changes s row None
   OfString : (bytes : List ℕ) → string_in s row ≡ Some bytes → (tokens : List (List ℕ)) → Splits bytes tokens [] → (effect : Effect)
       → record_of s.rows s.cols (start_of s.rows s.cols row) tokens ≡ Some effect → Changes s row (Some effect.charset)
-
-abbrev pub kept : Sets
-kept = record { g0_graphic = switches.Kept; g1_graphic = switches.Kept; shifted_out = switches.Kept }
-
-abbrev pub or_kept : Option Sets → Sets
-or_kept None = kept
-or_kept (Some sets) = sets
 
 abbrev pub changes_of : Option Sets → Option Sets → Option Sets → Option Sets → List Sets
 changes_of smcup enacs sgr0 rmacs = or_kept smcup ∷ or_kept enacs ∷ or_kept sgr0 ∷ or_kept rmacs ∷ []

@@ -6,9 +6,9 @@ use Rattle.ti_conforms.specs.Alternates.{partner_of}
 use Rattle.ti_rows.specs.declared.rows.Row.TheVariants.{Smacs, Rmacs}
 use Rattle.vt_term.specs.Ends.{Ends}
 use Rattle.ti_conforms.specs.Table.{Table, has, resync, IsLost}
-use Rattle.ti_conforms.specs.Checked.{IsChecked, IsResynced}
+use Rattle.ti_conforms.specs.Holds.{TableHolds, IsResynced}
 use Rattle.ti_conforms.specs.Together.{StandTogether}
-use Rattle.ti_cert.specs.Singles.{LooksStand}
+use Rattle.ti_conforms.specs.Looks.{LooksStand}
 use Rattle.ti_cert.specs.Strings.{total}
 use Rattle.ti_cert.specs.Certificates.{limit}
 use Rattle.ti_cert.specs.Table.{Content, table_of}
@@ -18,7 +18,7 @@ pub record IsVerified (c : Content) : Type 0 where
   -- all strings together have fewer bytes than a certificate may have, 2^26
   pub few : total c.known.strings < limit
   -- where the lines' runs end, whole and cut off, and where a resynchronization leads
-  pub checked : IsChecked (table_of c)
+  pub holds : TableHolds (table_of c)
   -- which lines there are beside each other
   pub together : StandTogether (table_of c)
   -- how attributes look where no line sets all of them

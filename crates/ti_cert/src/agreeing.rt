@@ -29,7 +29,8 @@ fn has_pairs(table: &Table, entry: &Entry) -> bool
 
 /// Whether the lines are those of an entry.
 fn lines_agree(alloc: Global, table: &Table, entry: &Entry) -> Result<(), AgreeFault>
-    ensures lines { OnOk result (entries.EntryAgrees table.now.known.strings.rows table.now.known.strings.cols entry.now (λ row. string_in table.now.known.strings row)) }
+    ensures lines { OnOk result (entries.EntryAgrees table.now.known.strings.rows table.now.known.strings.cols entry.now
+        (λ row. string_in table.now.known.strings row)) }
     ensures disagrees { IfErr result (spec.IsDisagreeing table.now entry.now) }
 {
     match entry_agrees(alloc, table.size(), entry, table) {
@@ -70,7 +71,8 @@ fn at_cap(cap: Cap) -> AgreeFault
 pub fn agrees(alloc: Global, table: &Table, entry: &Entry) -> Result<(), AgreeFault>
     ensures fit { OnOk result (conforms.IsFit entry.now) }
     ensures acsc { OnOk result (table.now.acsc ≡ string_at entry.now entries.acsc) }
-    ensures lines { OnOk result (entries.EntryAgrees table.now.known.strings.rows table.now.known.strings.cols entry.now (λ row. string_in table.now.known.strings row)) }
+    ensures lines { OnOk result (entries.EntryAgrees table.now.known.strings.rows table.now.known.strings.cols entry.now
+        (λ row. string_in table.now.known.strings row)) }
     ensures disagrees { IfErr result (spec.IsDisagreeing table.now entry.now) }
     ensures basic { IsBasicTable entry.now table.now → IfErr result (λ fault. fault ≡ AgreeFault.NoMemory) }
 {

@@ -5,9 +5,9 @@ ghost use Rattle.ti_conforms.specs.Judged.{IsJudged};
 ghost use Rattle.ti_lines.specs.Heads.{IsSizeText};
 ghost use Rattle.ti_lines.specs.Reader.{Rose};
 ghost use Rattle.ti_cert.specs.Basic.{IsStopped, basic_text};
-ghost use Rattle.ti_cert.specs.Good as spec;
+ghost use Rattle.ti_cert.specs.Audits as spec;
 ghost use Rattle.ti_cert.specs.Certificates.{limit};
-ghost use Rattle.ti_cert.specs.Singles.{LooksStand};
+ghost use Rattle.ti_conforms.specs.Looks.{LooksStand};
 ghost use Rattle.ti_cert.specs.Strings.{total};
 ghost use Rattle.ti_cert.specs.Table.{table_of};
 ghost use Rattle.ti_cert.specs.Texts.{IsTableOf, IsRefused, IsLineRead, Takes};
@@ -191,7 +191,8 @@ impl Progress {
     /// The table of a text that was read to its end.
     fn into_table(self) -> Table
         requires { spec.IsWholeRead self }
-        ensures { spec.IsTableMade self result }
+        ensures made { spec.IsTableMade self result }
+        ensures judged { IsJudged (table_of result) }
     {
         let settled = self.awaited.settled().unwrap();
         Table::new(self.known, self.acsc, settled)
@@ -199,7 +200,7 @@ impl Progress {
 }
 
 impl Judge for Progress {
-    ghost use Rattle.ti_cert.specs.Good.{progress_rules};
+    ghost use Rattle.ti_cert.specs.Audits.{progress_rules};
 
     type Fault = CertFaultKind;
 
@@ -262,8 +263,10 @@ pub fn audit_from<R: Reader>(alloc: Global, reader: &mut R, size: Size) -> Resul
     ensures cols { IfOk result (λ table. table.known.strings.cols ≡ size.cols) }
     ensures few { IfOk result (λ table. total table.known.strings < limit) }
     ensures accepted { (text : List ℕ) → R.left reader.old text → IfOk result (IsTableOf size.rows size.cols text) }
-    ensures refused { (text : List ℕ) → R.left reader.old text → IfErr result (IsRefused size.rows size.cols text (Rose (R.failures reader.old) (R.failures reader.new))) }
-    ensures basic { (home el : Bool) → R.left reader.old (basic_text size.rows size.cols home el) → IfErr result (IsStopped (Rose (R.failures reader.old) (R.failures reader.new))) }
+    ensures refused { (text : List ℕ) → R.left reader.old text
+        → IfErr result (IsRefused size.rows size.cols text (Rose (R.failures reader.old) (R.failures reader.new))) }
+    ensures basic { (home el : Bool) → R.left reader.old (basic_text size.rows size.cols home el)
+        → IfErr result (IsStopped (Rose (R.failures reader.old) (R.failures reader.new))) }
     ensures takes { Takes R.left R.failures reader.old reader.new (λ number. IfErr result (IsLineRead number)) }
 {
     let mut progress = started(alloc, size)?;
@@ -288,7 +291,8 @@ pub fn audit(alloc: Global, text: &[u8], size: Size) -> Result<Table, CertFault>
     ensures few { IfOk result (λ table. total table.known.strings < limit) }
     ensures accepted { IfOk result (IsTableOf size.rows size.cols text.now) }
     ensures refused { IfErr result (IsRefused size.rows size.cols text.now ⊥) }
-    ensures basic { (home el : Bool) → text.now ≡ basic_text size.rows size.cols home el → IfErr result (λ fault. fault.kind ≡ CertFaultKind.NoMemory) }
+    ensures basic { (home el : Bool) → text.now ≡ basic_text size.rows size.cols home el
+        → IfErr result (λ fault. fault.kind ≡ CertFaultKind.NoMemory) }
 {
     let mut reader = text;
     audit_from(alloc, &mut reader, size)

@@ -1,7 +1,7 @@
 //! A verified certificate, as a painter's.
 ghost use Rattle.std.specs.Prelude.{◌≡◌, ◌&&◌, not};
 ghost use Rattle.ti_rows.specs.Right.{sets_visible};
-ghost use Rattle.ti_cert.specs.Contents.{certified};
+ghost use Rattle.ti_cert.specs.Table.{certified};
 
 use crate::verifying::Checked;
 use ti_conforms::Certificate;
@@ -15,7 +15,7 @@ fn sets_visible(row: Row) -> bool
 }
 
 impl Certificate for Checked {
-    ghost use Rattle.ti_cert.specs.Contents.{certified};
+    ghost use Rattle.ti_cert.specs.Table.{certified};
     ghost use Rattle.ti_cert.specs.Verified.{partner_in};
 
     ghost table = { λ c. certified c };

@@ -1,8 +1,8 @@
 //! What is judged at the end of a certificate: charsets, and the strings that lead out of any state.
 
 ghost use Rattle.std.specs.Prelude.{◌≡◌, ◌⊎◌, ◌-◌, ◌&&◌, IfOk, IfErr, OnOk, Some, true, false, is_some};
-ghost use Rattle.ti_cert.specs.Good.{LacksRecord, LacksNeeded, Misleads, FailsTogether, IsConcluded, ConcludesBy};
-ghost use Rattle.ti_cert.specs.Audit.{Holds};
+ghost use Rattle.ti_cert.specs.Audits.{LacksRecord, LacksNeeded, Misleads, FailsTogether, IsConcluded, ConcludesBy};
+ghost use Rattle.ti_cert.specs.Known.{Holds};
 ghost use Rattle.ti_cert.specs.Strings.{has_group, string_in};
 ghost use Rattle.ti_cert.specs.Table as spec;
 ghost use Rattle.ti_conforms.specs.Closing as closing;
@@ -15,17 +15,10 @@ use crate::known::Known;
 use crate::strings::Strings;
 use crate::tokenizing::row_effect;
 use std::alloc::Global;
-use ti_conforms::{Charsets, Reach};
+use ti_conforms::{Charsets, KEPT, Reach, or_kept};
 use ti_rows::Row;
-use vt_effects::{Sets, Switch};
+use vt_effects::Sets;
 use vt_term::Scanner;
-
-/// Nothing changes.
-const KEPT: Sets = Sets {
-    g0_graphic: Switch::Kept,
-    g1_graphic: Switch::Kept,
-    shifted_out: Switch::Kept,
-};
 
 /// What leads a terminal out of a state that isn't known does this to the charsets, string by string.
 #[derive(Clone, Copy)]
@@ -100,7 +93,8 @@ fn check_needed(strings: &Strings) -> Result<(), CertFaultKind>
     ensures fails { IfErr result (LacksNeeded strings.now) }
     ensures clear { OnOk result (is_some (string_in strings.now rows.Clear) ≡ true) }
     ensures sgr0 { OnOk result (is_some (string_in strings.now rows.Sgr0) ≡ true) }
-    ensures csr { OnOk result (has_group strings.now (rows.Csr 0 1) ≡ true → is_some (string_in strings.now (rows.Csr 0 (strings.now.rows - 1))) ≡ true) }
+    ensures csr { OnOk result (has_group strings.now (rows.Csr 0 1) ≡ true
+        → is_some (string_in strings.now (rows.Csr 0 (strings.now.rows - 1))) ≡ true) }
 {
     let whole = Row::Csr(0, (strings.size().rows - 1) as u16);
     if strings.get(Row::Clear).is_none() {
@@ -115,16 +109,13 @@ fn check_needed(strings: &Strings) -> Result<(), CertFaultKind>
     Ok(())
 }
 
-fn or_kept(change: Option<Sets>) -> Sets
-    ensures { result ≡ spec.or_kept change }
-{
-    change.unwrap_or(KEPT)
-}
-
 /// What is left of each charset that can be had.
 fn first_settled(resync: &Resync, reach: Reach) -> Charsets
-    ensures sound { (d : Charset) → closing.has result d ≡ true → closing.Leaves reach (spec.changes_of resync.now.smcup resync.now.enacs resync.now.sgr0 resync.now.rmacs) d }
-    ensures complete { (d : Charset) → closing.Leaves reach (spec.changes_of resync.now.smcup resync.now.enacs resync.now.sgr0 resync.now.rmacs) d → closing.has result d ≡ true }
+    ensures sound { (d : Charset) → closing.has result d ≡ true
+        → closing.Leaves reach (spec.changes_of resync.now.smcup resync.now.enacs resync.now.sgr0 resync.now.rmacs) d }
+    ensures complete { (d : Charset)
+        → closing.Leaves reach (spec.changes_of resync.now.smcup resync.now.enacs resync.now.sgr0 resync.now.rmacs) d
+        → closing.has result d ≡ true }
 {
     let changes = [
         or_kept(resync.smcup),
@@ -137,8 +128,11 @@ fn first_settled(resync: &Resync, reach: Reach) -> Charsets
 
 /// The first charsets, and all to which strings lead from them.
 fn settled_from(first: Charsets, changes: &[Sets]) -> Charsets
-    ensures sound { (c : Charset) → closing.has result c ≡ true → closing.Settled (λ d. closing.has first d ≡ true) (closing.SomeLeads changes.now) c }
-    ensures complete { (c : Charset) → closing.Settled (λ d. closing.has first d ≡ true) (closing.SomeLeads changes.now) c → closing.has result c ≡ true }
+    ensures sound { (c : Charset) → closing.has result c ≡ true
+        → closing.Settled (λ d. closing.has first d ≡ true) (closing.SomeLeads changes.now) c }
+    ensures complete { (c : Charset)
+        → closing.Settled (λ d. closing.has first d ≡ true) (closing.SomeLeads changes.now) c
+        → closing.has result c ≡ true }
 {
     let mut settled = first;
     settled.close(changes);
@@ -210,8 +204,8 @@ fn check_together(
 ) -> Result<(), CertFaultKind>
     ensures graphic { OnOk result (spec.Leads settled.now smacs true) }
     ensures plain { OnOk result (spec.Leads settled.now rmacs false) }
-    ensures unsent { OnOk result (has_sets ≡ false → spec.Leads settled.now (Some spec.kept) false) }
-    ensures resync { OnOk result (spec.Leads first.now (Some spec.kept) false) }
+    ensures unsent { OnOk result (has_sets ≡ false → spec.Leads settled.now (Some closing.kept) false) }
+    ensures resync { OnOk result (spec.Leads first.now (Some closing.kept) false) }
     ensures escape { OnOk result (spec.first_of_resync strings.now ≡ Some 27) }
     ensures fails { IfErr result (FailsTogether settled.now first.now smacs rmacs has_sets strings.now) }
 {
@@ -230,8 +224,9 @@ fn all_there(has_acsc: bool, smacs: Option<Sets>, rmacs: Option<Sets>) -> bool
 
 /// Without strings that switch sets every settled charset is plain.
 fn check_plain(settled: &Charsets, has_sets: bool) -> Result<(), CertFaultKind>
-    ensures plain { OnOk result (has_sets ≡ false → spec.Leads settled.now (Some spec.kept) false) }
-    ensures fails { IfErr result (λ kind. (kind ≡ CertFaultKind.BadLook) × (has_sets ≡ false) × Misleads settled.now (Some spec.kept) false) }
+    ensures plain { OnOk result (has_sets ≡ false → spec.Leads settled.now (Some closing.kept) false) }
+    ensures fails { IfErr result (λ kind. (kind ≡ CertFaultKind.BadLook) × (has_sets ≡ false)
+        × Misleads settled.now (Some closing.kept) false) }
 {
     if has_sets {
         return Ok(());
@@ -244,9 +239,10 @@ fn check_plain(settled: &Charsets, has_sets: bool) -> Result<(), CertFaultKind>
 
 /// What leads out of any state begins with ESC and leaves the plain set active.
 fn check_resync(first: &Charsets, strings: &Strings) -> Result<(), CertFaultKind>
-    ensures plain { OnOk result (spec.Leads first.now (Some spec.kept) false) }
+    ensures plain { OnOk result (spec.Leads first.now (Some closing.kept) false) }
     ensures escape { OnOk result (spec.first_of_resync strings.now ≡ Some 27) }
-    ensures fails { IfErr result (λ kind. (kind ≡ CertFaultKind.NoResync) × (Misleads first.now (Some spec.kept) false ⊎ (spec.first_of_resync strings.now ≡ Some 27 → ⊥))) }
+    ensures fails { IfErr result (λ kind. (kind ≡ CertFaultKind.NoResync)
+        × (Misleads first.now (Some closing.kept) false ⊎ (spec.first_of_resync strings.now ≡ Some 27 → ⊥))) }
 {
     if misleads(first, KEPT, false) {
         return Err(CertFaultKind::NoResync);

@@ -3,20 +3,20 @@
 ghost use Rattle.std.specs.Prelude.{◌≡◌, [], length, replicate, IfOk, IfErr, OnOk, IsTrue, true, List, ℕ};
 ghost use Rattle.ti_rows.specs.Lists.{rank};
 ghost use Rattle.ti_rows.specs.Names.{order};
-ghost use Rattle.ti_conforms.specs.Table.{keeps_settled};
+ghost use Rattle.ti_conforms.specs.Table.{settles};
 ghost use Rattle.ti_cert.specs.Strings.{Adds, allows, group_at};
-ghost use Rattle.ti_cert.specs.Singles.{no_looks};
+ghost use Rattle.ti_conforms.specs.Looks.{no_looks};
 ghost use Rattle.ti_cert.specs.Certificates as certificates;
-ghost use Rattle.ti_cert.specs.Good.{IsTokenFault, Misshows};
-ghost use Rattle.ti_cert.specs.Audit as spec;
+ghost use Rattle.ti_cert.specs.Audits.{IsTokenFault, Misshows};
+ghost use Rattle.ti_cert.specs.Known as spec;
 
 use crate::faults::CertFaultKind;
 use crate::strings::Strings;
 use crate::tokenizing::not_whole;
 use std::alloc::{AllocError, Global};
 use std::marker::Model;
-use ti_conforms::Reach;
-use ti_rows::{Attributes, Looks, NO_ATTRIBUTES, NO_MARKS, Row};
+use ti_conforms::{NO_LOOKS, Reach, is_alone, is_some_look, settles};
+use ti_rows::{Looks, NO_ATTRIBUTES, Row};
 use vt_effects::{Effect, Sets};
 use vt_term::{Scanner, Size};
 
@@ -30,33 +30,16 @@ pub(crate) struct Known {
 }
 
 impl Model for Known {
-    ghost use Rattle.ti_cert.specs.Audit.{Known, Holds};
+    ghost use Rattle.ti_cert.specs.Known.{Known, Holds};
 
     ghost Value = { Known };
 
     ghost view = { λ k. record { strings = k.strings; looks = k.looks; reach = k.reach; changes = k.changes.items } };
 }
 
-/// Standout alone.
-const STANDOUT: Attributes = Attributes {
-    standout: true,
-    ..NO_ATTRIBUTES
-};
-
-/// Attributes that can't be seen.
-const NO_LOOKS: Looks = Looks {
-    standout: NO_MARKS,
-    underline: false,
-    reverse: false,
-    blink: false,
-    dim: false,
-    bold: false,
-    invisible: false,
-};
-
 /// The capability that tells the same attributes in another way.
 fn rival(row: Row) -> Row
-    ensures { result ≡ spec.rival row }
+    ensures { result ≡ certificates.rival row }
 {
     match row {
         Row::Sgr(_) => Row::Smso,
@@ -64,47 +47,14 @@ fn rival(row: Row) -> Row
     }
 }
 
-/// Whether strings of this row leave the charset as whole strings do.
-fn keeps_settled(row: Row) -> bool
-    ensures { result ≡ keeps_settled row }
-{
-    !matches!(row, Row::Smcup | Row::Rmcup)
-}
-
 /// Adds what a string of this row does to the charsets, where that counts.
 fn push_change(changes: &mut Vec<Sets>, row: Row, change: Sets) -> Result<(), AllocError>
-    ensures { OnOk result (changes.new.items ≡ spec.with_change (keeps_settled row) changes.old.items change) }
+    ensures { OnOk result (changes.new.items ≡ spec.with_change (settles row) changes.old.items change) }
 {
-    if keeps_settled(row) {
+    if settles(row) {
         changes.push(change)?;
     }
     Ok(())
-}
-
-/// Whether a number of `sgr` is that of one attribute other than standout.
-fn is_single(number: usize) -> bool
-    ensures { result ≡ certificates.is_single number }
-{
-    number == 1 || number == 2 || number == 4 || number == 8 || number == 16 || number == 32
-}
-
-/// Whether one attribute other than standout is asked for.
-fn is_alone(row: Row) -> bool
-    ensures { result ≡ certificates.is_alone row }
-{
-    match row {
-        Row::Sgr(attributes) => is_single(attributes.number()),
-        _ => false,
-    }
-}
-
-/// Whether an effect is of the form that `sgr` has for one attribute that may look like anything.
-fn is_some_look(effect: &Effect) -> bool
-    ensures yes { IsTrue result → certificates.IsSomeLook effect.now }
-    ensures no { certificates.IsSomeLook effect.now → IsTrue result }
-{
-    let alone = Row::Sgr(STANDOUT);
-    alone.asks_for(NO_LOOKS.learned(alone, effect), effect)
 }
 
 /// The fault of an effect that isn't the one asked for: an attribute that looks like others, or any.
@@ -125,7 +75,8 @@ fn misfit(row: Row, effect: &Effect) -> CertFaultKind
 impl Known {
     pub fn new(alloc: Global, size: Size) -> Result<Known, AllocError>
         ensures holds { IfOk result (λ known. spec.Holds known) }
-        ensures strings { IfOk result (λ known. known.strings ≡ record { rows = size.rows; cols = size.cols; groups = replicate 42 [] }) }
+        ensures strings { IfOk result (λ known. known.strings
+            ≡ record { rows = size.rows; cols = size.cols; groups = replicate 42 [] }) }
         ensures looks { IfOk result (λ known. known.looks ≡ no_looks) }
     {
         Ok(Known {
@@ -155,9 +106,11 @@ impl Known {
         found: Option<Effect>,
     ) -> Result<(Effect, Looks), CertFaultKind>
         ensures looks { IfOk result (λ r. r.1 ≡ spec.looks_with self.now row r.0) }
-        ensures record { IfOk result (λ r. (tokens : List (List ℕ)) → spec.IsRecord self.now row tokens found → spec.HasRecord self.now.strings.rows self.now.strings.cols r.1 row tokens r.0) }
+        ensures record { IfOk result (λ r. (tokens : List (List ℕ)) → spec.IsRecord self.now row tokens found
+            → spec.HasRecord self.now.strings.rows self.now.strings.cols r.1 row tokens r.0) }
         ensures stated { IfOk result (λ r. r.0 ≡ stated.now) }
-        ensures fails { IfErr result (λ kind. (tokens : List (List ℕ)) → spec.IsRecord self.now row tokens found → Misshows self.now row stated.now tokens kind) }
+        ensures fails { IfErr result (λ kind. (tokens : List (List ℕ)) → spec.IsRecord self.now row tokens found
+            → Misshows self.now row stated.now tokens kind) }
     {
         let Some(effect) = found else {
             return Err(CertFaultKind::NotTame);
@@ -183,7 +136,8 @@ impl Known {
         looks: Looks,
     ) -> Result<(), CertFaultKind>
         requires range { allows self.old.strings.rows self.old.strings.cols row ≡ true }
-        requires place { rank self.old.strings.rows self.old.strings.cols row ≡ length (group_at self.old.strings (order row)) }
+        requires place { rank self.old.strings.rows self.old.strings.cols row
+            ≡ length (group_at self.old.strings (order row)) }
         requires looks { looks ≡ spec.looks_with self.old row effect.now }
         requires record { spec.TellsRecord self.old.strings.rows self.old.strings.cols looks row bytes.now effect.now }
         ensures holds { OnOk result (spec.Holds self.old → spec.Holds self.new) }

@@ -130,10 +130,13 @@ impl Place {
 
     /// The fault of a line of this row here, behind these.
     pub fn check(&self, row: Row, strings: &Strings) -> Result<(), CertFaultKind>
-        ensures passes { OnOk result (spec.place_fault strings.now.rows strings.now.cols self.now.last (length (group_at strings.now (order row))) row ≡ None) }
-        ensures fails { IfErr result (λ kind. spec.place_fault strings.now.rows strings.now.cols self.now.last (length (group_at strings.now (order row))) row ≡ Some kind) }
+        ensures passes { OnOk result (spec.place_fault strings.now.rows strings.now.cols self.now.last
+            (length (group_at strings.now (order row))) row ≡ None) }
+        ensures fails { IfErr result (λ kind. spec.place_fault strings.now.rows strings.now.cols self.now.last
+            (length (group_at strings.now (order row))) row ≡ Some kind) }
         ensures range { OnOk result (allows strings.now.rows strings.now.cols row ≡ true) }
-        ensures place { OnOk result (rank strings.now.rows strings.now.cols row ≡ length (group_at strings.now (order row))) }
+        ensures place { OnOk result (rank strings.now.rows strings.now.cols row
+            ≡ length (group_at strings.now (order row))) }
     {
         let size = strings.size();
         if !allows(size, row) {

@@ -58,7 +58,8 @@ pub(crate) fn allows(size: Size, row: Row) -> bool
 impl Strings {
     /// No strings. The error is out of memory.
     pub fn new(alloc: Global, size: Size) -> Result<Strings, AllocError>
-        ensures { IfOk result (λ strings. strings ≡ record { rows = size.rows; cols = size.cols; groups = replicate 42 [] }) }
+        ensures { IfOk result (λ strings. strings
+            ≡ record { rows = size.rows; cols = size.cols; groups = replicate 42 [] }) }
     {
         Ok(Strings {
             size,
@@ -88,7 +89,8 @@ impl Strings {
     pub fn has(&self, row: Row) -> bool
         ensures value { result ≡ spec.has_group self.now row }
         ensures some { result ≡ true → SomeLine (λ r. spec.string_in self.now r) (order row) }
-        ensures none { result ≡ false → (other : rows.Row) → order other ≡ order row → spec.string_in self.now other ≡ None }
+        ensures none { result ≡ false → (other : rows.Row) → order other ≡ order row
+            → spec.string_in self.now other ≡ None }
     {
         let _ = &self.size;
         self.count(row) != 0

@@ -2,7 +2,7 @@
 
 ghost use Rattle.std.specs.Prelude.{◌≡◌, option_copied};
 ghost use Rattle.ti_conforms.specs.Judged.{IsJudged};
-ghost use Rattle.ti_cert.specs.Singles.{LooksStand};
+ghost use Rattle.ti_conforms.specs.Looks.{LooksStand};
 ghost use Rattle.ti_cert.specs.Strings.{string_in};
 ghost use Rattle.ti_cert.specs.Table as spec;
 
@@ -23,7 +23,7 @@ pub struct Table {
 
 impl Model for Table {
     ghost use Rattle.ti_conforms.specs.Judged.{IsJudged};
-    ghost use Rattle.ti_cert.specs.Singles.{LooksStand};
+    ghost use Rattle.ti_conforms.specs.Looks.{LooksStand};
     ghost use Rattle.ti_cert.specs.Table.{Content, checked_of};
 
     ghost Value = { Content };

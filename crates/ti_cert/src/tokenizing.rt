@@ -4,7 +4,7 @@ ghost use Rattle.std.specs.Prelude.{IfOk, IfErr, List, ℕ};
 ghost use Rattle.vt_effects.specs.Record.{IsRecordOf};
 ghost use Rattle.vt_term.specs.Scanned.{HasFault};
 ghost use Rattle.ti_rows.specs.Asked.{start_of};
-ghost use Rattle.ti_cert.specs.Good.{IsTokenFault};
+ghost use Rattle.ti_cert.specs.Audits.{IsTokenFault};
 
 use crate::faults::CertFaultKind;
 use ti_rows::Row;

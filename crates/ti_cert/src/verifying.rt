@@ -6,8 +6,8 @@ ghost use Rattle.ti_cert.specs.Texts.{IsCertRefused, IsCertLineRead, Takes};
 ghost use Rattle.ti_cert.specs.Basic.{IsBasic, IsVerifyStopped, basic_text_of};
 ghost use Rattle.ti_cert.specs.Disagreeing.{IsAgreeRefused};
 ghost use Rattle.ti_caps.specs.Entry.{string_at};
-ghost use Rattle.ti_conforms.specs.Checked.{IsLine};
-ghost use Rattle.ti_conforms.specs.Table.{part, resync, widening};
+ghost use Rattle.ti_conforms.specs.Holds.{LineHolds};
+ghost use Rattle.ti_conforms.specs.Table.{text_of, resync, widening};
 ghost use Rattle.ti_conforms.specs.Conforms.{Conforms};
 ghost use Rattle.ti_conforms.specs.Entries.{EntryAgrees, acsc};
 ghost use Rattle.ti_cert.specs.Table.{table_of};
@@ -45,7 +45,7 @@ impl Model for Checked {
 
 /// Adds the bytes of the row's line, where there is one.
 fn add(text: &mut Vec<u8>, table: &Table, row: Row) -> Result<(), AllocError>
-    ensures { OnOk result (text.new.items ≡ text.old.items ++ part (table_of table.now) row) }
+    ensures { OnOk result (text.new.items ≡ text.old.items ++ text_of (table_of table.now) row) }
 {
     match table.bytes(row) {
         Some(bytes) => text.extend_from_slice(bytes),
@@ -97,7 +97,7 @@ impl Checked {
     /// the row its run ends as is wanted, and cut off anywhere it leaves a lost state.
     pub fn bytes(&self, row: Row) -> Option<&[u8]>
         ensures line { option_copied result ≡ (table_of self.now).line_of row }
-        ensures right { IfSome result (λ bytes. IsLine (table_of self.now) row bytes.now) }
+        ensures right { IfSome result (λ bytes. LineHolds (table_of self.now) row bytes.now) }
     {
         self.table.bytes(row)
     }
@@ -149,9 +149,13 @@ pub fn verify_from<R: Reader>(
     size: Size,
     reader: &mut R,
 ) -> Result<Checked, VerifyFault>
-    ensures refused { (text : List ℕ) → R.left reader.old text → IfErr result (IsCertRefused size.rows size.cols text (Rose (R.failures reader.old) (R.failures reader.new))) }
-    ensures disagrees { (text : List ℕ) → R.left reader.old text → IfErr result (IsAgreeRefused size.rows size.cols text entry.now) }
-    ensures basic { IsBasic entry.now size.rows size.cols → R.left reader.old (basic_text_of entry.now size.rows size.cols) → IfErr result (IsVerifyStopped (Rose (R.failures reader.old) (R.failures reader.new))) }
+    ensures refused { (text : List ℕ) → R.left reader.old text
+        → IfErr result (IsCertRefused size.rows size.cols text (Rose (R.failures reader.old) (R.failures reader.new))) }
+    ensures disagrees { (text : List ℕ) → R.left reader.old text
+        → IfErr result (IsAgreeRefused size.rows size.cols text entry.now) }
+    ensures basic { IsBasic entry.now size.rows size.cols
+        → R.left reader.old (basic_text_of entry.now size.rows size.cols)
+        → IfErr result (IsVerifyStopped (Rose (R.failures reader.old) (R.failures reader.new))) }
     ensures takes { Takes R.left R.failures reader.old reader.new (λ number. IfErr result (IsCertLineRead number)) }
     ensures conforms { IfOk result (λ _. Conforms entry.now size.rows size.cols) }
     ensures rows { IfOk result (λ checked. checked.known.strings.rows ≡ size.rows) }
@@ -178,7 +182,8 @@ pub fn verify_from<R: Reader>(
 pub fn verify(alloc: Global, entry: &Entry, size: Size, text: &[u8]) -> Result<Checked, VerifyFault>
     ensures refused { IfErr result (IsCertRefused size.rows size.cols text.now ⊥) }
     ensures disagrees { IfErr result (IsAgreeRefused size.rows size.cols text.now entry.now) }
-    ensures basic { IsBasic entry.now size.rows size.cols → text.now ≡ basic_text_of entry.now size.rows size.cols → IfErr result (IsVerifyStopped ⊥) }
+    ensures basic { IsBasic entry.now size.rows size.cols → text.now ≡ basic_text_of entry.now size.rows size.cols
+        → IfErr result (IsVerifyStopped ⊥) }
     ensures conforms { IfOk result (λ _. Conforms entry.now size.rows size.cols) }
     ensures rows { IfOk result (λ checked. checked.known.strings.rows ≡ size.rows) }
     ensures cols { IfOk result (λ checked. checked.known.strings.cols ≡ size.cols) }

@@ -25,7 +25,7 @@ use Rattle.ti_conforms.specs.Conforms.{IsFit}
 use Rattle.ti_cert.specs.Basic.{basic_bytes, basic_effect, basic_line, basic_rows, basic_text, basic_text_of, IsBasic}
 use Rattle.ti_cert.specs.Certificates.{Ended, IsAnswer}
 use Rattle.ti_cert.specs.Order.{Precedes}
-use Rattle.ti_cert.specs.Singles.{no_looks}
+use Rattle.ti_conforms.specs.Looks.{no_looks}
 use Rattle.ti_cert.proofs.BasicAgreeing.{among_checked, checked_kind, some_string}
 use Rattle.ti_cert.proofs.BasicLines.{HasTokens, tokens_of, has_tokens, has_effect}
 use Rattle.ti_cert.proofs.BasicOrder.{Rises, Kind, IsClear, IsCup, IsEl, IsHome, IsSgr0, kind_of, in_range, rows_rise}

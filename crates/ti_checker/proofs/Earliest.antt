@@ -27,7 +27,7 @@ use Rattle.ti_checker.specs.declared.causes.Cause.TheVariants.{FlagOut, Absent, 
 use Rattle.ti_checker.specs.declared.causes.No.{No}
 use Rattle.ti_checker.proofs.Ordering.{order_end}
 use Rattle.ti_checker.proofs.Passing.{front_end, text_length}
-use Rattle.ti_checker.proofs.Walking.{same_checked}
+use Rattle.ti_conforms.proofs.Matching.{same_checked}
 
 abbrev IsBefore : ℕ → ℕ → Row → Row → Type 0
 IsBefore rows cols row other = Precedes rows cols other row

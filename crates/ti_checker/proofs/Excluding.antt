@@ -17,9 +17,9 @@ use Rattle.ti_rows.specs.declared.rows.Row.{Row}
 use Rattle.ti_rows.specs.Lists.{IsInRange}
 use Rattle.ti_rows.specs.Right.{IsRight}
 use Rattle.ti_rows.specs.Wants.{Wants}
-use Rattle.ti_probes.specs.Breaking.{Breaks}
-use Rattle.ti_probes.specs.Probe.{screen_of}
-use Rattle.ti_probes.specs.declared.probes.Probe.{Probe}
+use Rattle.ti_checker.specs.Breaking.{Breaks}
+use Rattle.ti_checker.specs.Probes.{screen_of}
+use Rattle.ti_checker.specs.declared.probes.Probe.{Probe}
 use Rattle.ti_conforms.specs.Sends.{Sends, values}
 use Rattle.ti_conforms.specs.Entries.{is_checked, string_of}
 use Rattle.ti_conforms.specs.Conforms.{Conforms, IsFit}

@@ -17,3 +17,6 @@ pub mod Excluding
 pub mod Certifying
 pub mod BasicCertificates
 pub mod BasicDrafts
+pub mod Placing
+pub mod Wanted
+pub mod Showing

@@ -6,7 +6,7 @@ use Rattle.vt_effects.specs.declared.effects.Effect.{Effect}
 use Rattle.ti_rows.specs.Asked.{start_of}
 use Rattle.ti_rows.specs.declared.rows.Row.{Row}
 use Rattle.ti_conforms.specs.Sends.{Sends}
-use Rattle.ti_probes.proofs.Showing.{shown_breaks}
+use Rattle.ti_checker.proofs.Showing.{shown_breaks}
 use Rattle.ti_checker.specs.No.{IsFaulty, IsMisfit, IsMisjudged}
 use Rattle.ti_checker.specs.declared.causes.Cause.{Cause}
 use Rattle.ti_checker.specs.declared.causes.Cause.TheVariants.{FlagOut, Absent, AcsByte, Parm, StaticRead, Unfinished, Stuck, NotTame, BadLook, WrongEffect, NotShown, TooLong, NoResync, NoMemory}

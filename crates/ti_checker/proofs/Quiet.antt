@@ -27,7 +27,7 @@ use Rattle.ti_rows.specs.Starts.{Starts, IsAny, IsFree}
 use Rattle.ti_rows.specs.Wants.{Wants}
 use Rattle.ti_conforms.specs.Entries.{acsc, has_string, is_checked, meets}
 use Rattle.ti_conforms.specs.declared.entries.Group.TheVariants as groups
-use Rattle.ti_conforms.specs.Table.{Table, or_nothing, part, widening, resync}
+use Rattle.ti_conforms.specs.Table.{Table, or_nothing, text_of, widening, resync}
 use Rattle.ti_conforms.specs.Sets.{CanHave, LeadsBy, AfterResync}
 use Rattle.ti_conforms.proofs.Judging.{over_steps}
 use Rattle.ti_checker.specs.First.{EachStands, SendsRight}
@@ -146,7 +146,7 @@ line_at entry rows cols stands t h row range checked =
 
 record Part (t : Table) (row : Row) : Type 0 where
   tokens : List (List ℕ)
-  whole : Splits (part t row) tokens []
+  whole : Splits (text_of t row) tokens []
 
 part_of : (entry : Content) (rows cols : ℕ) → EachStands entry rows cols → (t : Table) → HasSent entry rows cols t → (row : Row) → IsInRange rows cols row → Part t row
 part_of entry rows cols stands t h row range = elim (cases_Bool (is_checked entry row)) [
@@ -155,7 +155,7 @@ part_of entry rows cols stands t h row range = elim (cases_Bool (is_checked entr
   | inr unchecked ↦ record { tokens = []; whole = subst (λ (b : List ℕ). Splits b [] []) (sym (ap or_nothing ((h.sends row range).unchecked unchecked))) empty_splits }
 ]
 
-part_leads : (t : Table) (row : Row) (p : Part t row) (c : Charset) → LeadsBy (part t row) c (charset_over p.tokens c)
+part_leads : (t : Table) (row : Row) (p : Part t row) (c : Charset) → LeadsBy (text_of t row) c (charset_over p.tokens c)
 part_leads t row p c = record { tokens = p.tokens; whole = p.whole; is = refl }
 
 line_keeps : (rows cols : ℕ) (t : Table) (row : Row) (l : Line rows cols t row) (c : Charset) → Starts rows cols row (start rows cols c).screen
@@ -168,7 +168,7 @@ line_keeps rows cols t row l c starts keeps =
     sym (over_steps l.right.tokens s.screen) ∙ (ap (λ (x : State). x.screen.charset) (sym same) ∙ keeps s.screen e.after.screen e.wanted)
 
 part_keeps : (entry : Content) (rows cols : ℕ) → EachStands entry rows cols → (t : Table) → HasSent entry rows cols t → (row : Row) → IsInRange rows cols row → (c : Charset) → Starts rows cols row (start rows cols c).screen
-    → ((l : Looks) (s u : Screen) → Wants l row s u → u.charset ≡ s.charset) → LeadsBy (part t row) c c
+    → ((l : Looks) (s u : Screen) → Wants l row s u → u.charset ≡ s.charset) → LeadsBy (text_of t row) c c
 part_keeps entry rows cols stands t h row range c starts keeps = elim (cases_Bool (is_checked entry row)) [
   | inl checked ↦ (let l = line_at entry rows cols stands t h row range checked in
       record {
@@ -203,10 +203,10 @@ switched_back entry rows cols size stands settles checked t h c d can leads =
     let d2 : Charset = charset_over p2.tokens d1 in
     let d3 : Charset = charset_over p3.tokens d2 in
     let d4 : Charset = charset_over l.right.tokens d3 in
-    let wide : LeadsBy (part t (widening t)) d4 d4 =
-    subst (λ (n : ℕ). LeadsBy (part t (Csr 0 (n - 1))) d4 d4) (sym h.rows_are)
+    let wide : LeadsBy (text_of t (widening t)) d4 d4 =
+    subst (λ (n : ℕ). LeadsBy (text_of t (Csr 0 (n - 1))) d4 d4) (sym h.rows_are)
     (part_keeps entry rows cols stands t h (Csr 0 (rows - 1)) (whole_screen rows cols size) d4 (starts_any rows cols d4 size) (λ l s u w. ap (λ (x : Screen). x.charset) w)) in
-    let cleared : LeadsBy (part t Clear) d4 d4 = part_keeps entry rows cols stands t h Clear tt d4 (starts_free rows cols d4 size) (λ l s u w. ap (λ (x : Screen). x.charset) w) in
+    let cleared : LeadsBy (text_of t Clear) d4 d4 = part_keeps entry rows cols stands t h Clear tt d4 (starts_free rows cols d4 size) (λ l s u w. ap (λ (x : Screen). x.charset) w) in
     let is : d ≡ d4 = same_end (resync t) c d d4 leads
     (resync_parts t c d1 d2 d3 d4 d4 d4 (part_leads t Smcup p1 c) (part_leads t Enacs p2 d1) (part_leads t Sgr0 p3 d2) (part_leads t Rmacs p4 d3) wide cleared) in
     let s : State = start rows cols d in

@@ -17,14 +17,14 @@ use Rattle.ti_parm.specs.Meaning.{sent}
 use Rattle.ti_parm.specs.declared.fault.ParmFault.{ParmFault}
 use Rattle.ti_conforms.specs.Sends.{Sends, values}
 use Rattle.ti_conforms.specs.Entries.{acsc, is_checked, string_of, meets, group_of, EntryAgrees, LineAgrees}
-use Rattle.ti_conforms.specs.Table.{Table, or_nothing, part, widening, resync, Activates}
+use Rattle.ti_conforms.specs.Table.{Table, no_lengths, or_nothing, text_of, widening, resync, Activates, resync_of}
 use Rattle.ti_conforms.specs.Sets.{CanHave, AtReset, AfterToken, LeadsBy, CanSettle, AfterResync, AfterLine}
 use Rattle.ti_conforms.specs.Conforms.{Conforms, IsFit}
-use Rattle.ti_cert.specs.Singles.{no_looks}
+use Rattle.ti_conforms.specs.Looks.{no_looks}
 use Rattle.ti_cert.specs.Strings.{allows}
 use Rattle.ti_cert.proofs.Ranges.{in_range, is_allowed}
-use Rattle.ti_probes.specs.Probe.{screen_of}
-use Rattle.ti_probes.specs.declared.probes.Probe.{Probe}
+use Rattle.ti_checker.specs.Probes.{screen_of}
+use Rattle.ti_checker.specs.declared.probes.Probe.{Probe}
 use Rattle.ti_checker.specs.First.{EachStands, EachWritten, SendsRight, IsFirstSwitch, IsFirstBy}
 use Rattle.ti_checker.specs.Last.{OfAllSent, SwitchesRight, SwitchRight}
 use Rattle.ti_checker.specs.No.{IsSoBy, IsFirstCause, IsOfAll}
@@ -47,19 +47,19 @@ same_line entry row a b f g = elim (cases_Bool (is_checked entry row)) [
   | inr unchecked ↦ f.unchecked unchecked ∙ sym (g.unchecked unchecked)
 ]
 
-same_resync : (a b : Table) → part a Smcup ≡ part b Smcup → part a Enacs ≡ part b Enacs → part a Sgr0 ≡ part b Sgr0 → part a Rmacs ≡ part b Rmacs → part a (widening a) ≡ part b (widening b) → part a Clear ≡ part b Clear
+same_resync : (a b : Table) → text_of a Smcup ≡ text_of b Smcup → text_of a Enacs ≡ text_of b Enacs → text_of a Sgr0 ≡ text_of b Sgr0 → text_of a Rmacs ≡ text_of b Rmacs → text_of a (widening a) ≡ text_of b (widening b) → text_of a Clear ≡ text_of b Clear
     → resync a ≡ resync b
-unfolding resync
+unfolding resync_of
 same_resync a b p q r s t u = cc (p, q, r, s, t, u)
 
 resync_same : (entry : Content) (rows cols : ℕ) (a b : Table) → HasSent entry rows cols a → b.rows ≡ rows → EntryAgrees rows cols entry b.line_of → resync a ≡ resync b
 resync_same entry rows cols a b h size sends = same_resync a b (same Smcup tt) (same Enacs tt) (same Sgr0 tt) (same Rmacs tt) wide (same Clear tt)
   where
-    same : (row : Row) → IsInRange rows cols row → part a row ≡ part b row
+    same : (row : Row) → IsInRange rows cols row → text_of a row ≡ text_of b row
     same row range = ap or_nothing (same_line entry row (a.line_of row) (b.line_of row) (h.sends row range) (sends row range))
 
-    wide : part a (widening a) ≡ part b (widening b)
-    wide = ap (λ (n : ℕ). part a (Csr 0 (n - 1))) h.rows_are ∙ (same (Csr 0 (rows - 1)) (whole_screen rows cols h.size) ∙ ap (λ (n : ℕ). part b (Csr 0 (n - 1))) (sym size))
+    wide : text_of a (widening a) ≡ text_of b (widening b)
+    wide = ap (λ (n : ℕ). text_of a (Csr 0 (n - 1))) h.rows_are ∙ (same (Csr 0 (rows - 1)) (whole_screen rows cols h.size) ∙ ap (λ (n : ℕ). text_of b (Csr 0 (n - 1))) (sym size))
 
 line_there : (entry : Content) (rows cols : ℕ) (a b : Table) → HasSent entry rows cols a → EntryAgrees rows cols entry b.line_of → (row : Row) (bytes : List ℕ) → a.line_of row ≡ Some bytes → b.line_of row ≡ Some bytes
 line_there entry rows cols a b h sends row bytes there =
@@ -149,6 +149,8 @@ table_for entry rows cols = record {
   looks = no_looks;
   reached = λ c. false;
   settled = λ c. false;
+  resync = [];
+  longest = no_lengths;
 }
 
 of_sent : (entry : Content) (rows cols : ℕ) (Is : Table → Type 0) → IsSize rows cols → EachStands entry rows cols → ((t : Table) → HasSent entry rows cols t → Is t) → OfSent entry rows cols Is

@@ -1,6 +1,6 @@
 -- What was seen of an entry's strings is so in every table of what it sends; and there is one where each row stands.
-use Rattle.std.proofs.Common.{◌≡◌, ◌⊎◌, inl, inr, ◌&&◌, ℕ, ◌+◌, ◌-◌, ◌<◌, not, Bool, true, false, List, [], ◌∷◌, ◌++◌, Option, None, Some, refl, sym, ap, subst, ◌∙◌, arith, below_more}
-use Rattle.std.specs.Prelude.{IfNone, IfSome, is_some}
+use Rattle.std.proofs.Common.{◌≡◌, ◌⊎◌, inl, inr, ℕ, ◌+◌, ◌-◌, ◌<◌, not, Bool, true, false, List, [], ◌∷◌, ◌++◌, Option, None, Some, refl, sym, ap, subst, ◌∙◌, arith, below_more}
+use Rattle.std.specs.Prelude.{IfNone, IfSome}
 use Rattle.std.proofs.lemmas.Bool.{true≢false, false≢true, cases_Bool}
 use Rattle.std.proofs.lemmas.Option.{same_Some, none-some}
 use Rattle.vt_term.specs.Size.{IsSize}
@@ -29,14 +29,14 @@ use Rattle.ti_rows.proofs.Listing.{last_is_last, ranks_below, one_of_rank}
 use Rattle.ti_rows.proofs.Naming.{orders_small}
 use Rattle.ti_parm.specs.Meaning.{sent}
 use Rattle.ti_conforms.specs.Sends.{Sends}
-use Rattle.ti_conforms.specs.Entries.{is_checked, string_of, meets, group_of}
+use Rattle.ti_conforms.specs.Entries.{is_checked, string_of}
 use Rattle.ti_conforms.proofs.Walking.{same_count}
-use Rattle.ti_conforms.specs.Table.{Table, or_nothing, part, widening, resync, keeps_settled, Activates}
+use Rattle.ti_conforms.specs.Table.{Table, or_nothing, text_of, widening, resync, settles, Activates, resync_of}
 use Rattle.ti_conforms.specs.Sets.{CanHave, AtReset, AfterToken, LeadsBy, CanSettle, AfterResync, AfterLine, Occurs}
 use Rattle.ti_conforms.proofs.Judging.{over_steps}
-use Rattle.ti_cert.specs.Audit.{with_change}
-use Rattle.ti_probes.specs.Probe.{screen_of}
-use Rattle.ti_probes.specs.declared.probes.Probe.{Probe}
+use Rattle.ti_cert.specs.Known.{with_change}
+use Rattle.ti_checker.specs.Probes.{screen_of}
+use Rattle.ti_checker.specs.declared.probes.Probe.{Probe}
 use Rattle.ti_checker.specs.Switching.{HasSent, switching, AlwaysSettles, AlwaysMisswitches, AlwaysGraphic, IsChangeOf, LeadsAs, IsOfLine, IsBefore, IsCounted, IsSeen, PartLeads, IsLeft, HasLeft, HasSettled, IsMisled}
 use Rattle.ti_checker.specs.Last.{OfAllSent, SwitchesRight, SwitchRight, SettleRight}
 
@@ -106,18 +106,18 @@ step_before rows cols row other r o (inr p) =
 
 now_counted : (entry : Content) (rows cols : ℕ) (row : Row) (tokens : List (List ℕ)) (change : Sets) (ts : List (List ℕ)) (cs : List Sets) → IsChangeOf entry row tokens change → (other : Row)
     → (IsBefore rows cols (order row) (rank rows cols row) other → IsCounted entry ts cs other) → IsBefore rows cols (order row) (rank rows cols row) other ⊎ (row ≡ other)
-    → IsCounted entry (ts ++ tokens) (with_change (keeps_settled row) cs change) other
-now_counted entry rows cols row tokens change ts cs k other before (inl b) = counted_more entry ts tokens (keeps_settled row) cs change other (before b)
-now_counted entry rows cols row tokens change ts cs k other before (inr e) = subst (λ (x : Row). IsCounted entry (ts ++ tokens) (with_change (keeps_settled row) cs change) x) e (record {
+    → IsCounted entry (ts ++ tokens) (with_change (settles row) cs change) other
+now_counted entry rows cols row tokens change ts cs k other before (inl b) = counted_more entry ts tokens (settles row) cs change other (before b)
+now_counted entry rows cols row tokens change ts cs k other before (inr e) = subst (λ (x : Row). IsCounted entry (ts ++ tokens) (with_change (settles row) cs change) x) e (record {
   tokens = tokens;
   change = change;
   of_row = k;
   reached = λ token a. among_back ts tokens token a;
-  settled = λ keeps. change_added (keeps_settled row) cs change keeps;
+  settled = λ keeps. change_added (settles row) cs change keeps;
 })
 
 pub seen_more : (entry : Content) (rows cols : ℕ) (row : Row) (tokens : List (List ℕ)) (change : Sets) (old new : Reach) (before after : List Sets) → IsInRange rows cols row → IsChangeOf entry row tokens change
-    → new ≡ joined old (reach_of tokens) → after ≡ with_change (keeps_settled row) before change
+    → new ≡ joined old (reach_of tokens) → after ≡ with_change (settles row) before change
     → IsSeen entry rows cols old before (order row) (rank rows cols row) → IsSeen entry rows cols new after (order row) (rank rows cols row + 1)
 seen_more entry rows cols row tokens change old new before after range of_row reach changes s =
     let k = of_row.is in
@@ -127,7 +127,7 @@ seen_more entry rows cols row tokens change old new before after range of_row re
       occurs = λ t h token among. among_both (λ x. Occurs t x) s.tokens tokens token (s.occurs t h)
           (λ x a. record { row = row; bytes = k.bytes; there = sent_line entry rows cols t h row of_row.string k.bytes range of_row.checked of_row.there k.sends; tokens = tokens; whole = k.whole; among = a })
           among;
-      told = λ t h x among. one_change (λ c. IsOfLine t c) (keeps_settled row) before change x (s.told t h)
+      told = λ t h x among. one_change (λ c. IsOfLine t c) (settles row) before change x (s.told t h)
           (λ keeps. record {
             row = row;
             bytes = k.bytes;
@@ -200,17 +200,14 @@ kept_leads c = record { tokens = []; whole = empty_splits; is = refl }
 pub unchecked_leads : (entry : Content) (rows cols : ℕ) (row : Row) (change : Sets) → IsInRange rows cols row → is_checked entry row ≡ false → change ≡ record { g0_graphic = switches.Kept; g1_graphic = switches.Kept; shifted_out = switches.Kept }
     → PartLeads entry rows cols row change
 unchecked_leads entry rows cols row change range unchecked is t h c =
-    let none : part t row ≡ [] = ap or_nothing ((h.sends row range).unchecked unchecked) in
+    let none : text_of t row ≡ [] = ap or_nothing ((h.sends row range).unchecked unchecked) in
     let same : designated change c ≡ c = ap (λ (x : Sets). designated x c) is in
     subst (λ (b : List ℕ). LeadsBy b c (designated change c)) (sym none) (subst (λ (d : Charset). LeadsBy [] c d) (sym same) (kept_leads c))
 
 pub checked_leads : (entry : Content) (rows cols : ℕ) (row : Row) (tokens : List (List ℕ)) (change : Sets) → IsInRange rows cols row → IsChangeOf entry row tokens change → PartLeads entry rows cols row change
 checked_leads entry rows cols row tokens change range k t h c =
-    let is : part t row ≡ k.is.bytes = ap or_nothing (sent_line entry rows cols t h row k.string k.is.bytes range k.checked k.there k.is.sends) in
+    let is : text_of t row ≡ k.is.bytes = ap or_nothing (sent_line entry rows cols t h row k.string k.is.bytes range k.checked k.there k.is.sends) in
     subst (λ (b : List ℕ). LeadsBy b c (designated change c)) (sym is) (record { tokens = tokens; whole = k.is.whole; is = sym (k.is.leads c) })
-
-pub absent_string : (entry : Content) (row : Row) → string_of entry row ≡ None → is_checked entry row ≡ false
-absent_string entry row e = ap (λ (o : Option (List ℕ)). is_some o && meets entry (group_of row)) e
 
 over_append : (ts us : List (List ℕ)) (c : Charset) → charset_over (ts ++ us) c ≡ charset_over us (charset_over ts c)
 over_append [] us c = refl
@@ -223,13 +220,13 @@ led_on a b c d e p q = record {
   is = q.is ∙ (ap (λ (x : Charset). charset_over q.tokens x) p.is ∙ sym (over_append p.tokens q.tokens c));
 }
 
-pub resync_parts : (t : Table) (c d1 d2 d3 d4 d5 d6 : Charset) → LeadsBy (part t Smcup) c d1 → LeadsBy (part t Enacs) d1 d2 → LeadsBy (part t Sgr0) d2 d3 → LeadsBy (part t Rmacs) d3 d4 → LeadsBy (part t (widening t)) d4 d5
-    → LeadsBy (part t Clear) d5 d6 → LeadsBy (resync t) c d6
-unfolding resync
+pub resync_parts : (t : Table) (c d1 d2 d3 d4 d5 d6 : Charset) → LeadsBy (text_of t Smcup) c d1 → LeadsBy (text_of t Enacs) d1 d2 → LeadsBy (text_of t Sgr0) d2 d3 → LeadsBy (text_of t Rmacs) d3 d4 → LeadsBy (text_of t (widening t)) d4 d5
+    → LeadsBy (text_of t Clear) d5 d6 → LeadsBy (resync t) c d6
+unfolding resync_of
 resync_parts t c d1 d2 d3 d4 d5 d6 p1 p2 p3 p4 p5 p6 =
-    led_on ((part t Smcup ++ part t Enacs) ++ (part t Sgr0 ++ part t Rmacs)) (part t (widening t) ++ part t Clear) c d4 d6
-    (led_on (part t Smcup ++ part t Enacs) (part t Sgr0 ++ part t Rmacs) c d2 d4 (led_on (part t Smcup) (part t Enacs) c d1 d2 p1 p2) (led_on (part t Sgr0) (part t Rmacs) d2 d3 d4 p3 p4))
-    (led_on (part t (widening t)) (part t Clear) d4 d5 d6 p5 p6)
+    led_on ((text_of t Smcup ++ text_of t Enacs) ++ (text_of t Sgr0 ++ text_of t Rmacs)) (text_of t (widening t) ++ text_of t Clear) c d4 d6
+    (led_on (text_of t Smcup ++ text_of t Enacs) (text_of t Sgr0 ++ text_of t Rmacs) c d2 d4 (led_on (text_of t Smcup) (text_of t Enacs) c d1 d2 p1 p2) (led_on (text_of t Sgr0) (text_of t Rmacs) d2 d3 d4 p3 p4))
+    (led_on (text_of t (widening t)) (text_of t Clear) d4 d5 d6 p5 p6)
 
 resync_led : (entry : Content) (rows cols : ℕ) (smcup enacs sgr0 rmacs csr clear : Sets) → PartLeads entry rows cols Smcup smcup → PartLeads entry rows cols Enacs enacs → PartLeads entry rows cols Sgr0 sgr0
     → PartLeads entry rows cols Rmacs rmacs → PartLeads entry rows cols (Csr 0 (rows - 1)) csr → PartLeads entry rows cols Clear clear
@@ -241,7 +238,7 @@ resync_led entry rows cols smcup enacs sgr0 rmacs csr clear p1 p2 p3 p4 p5 p6 t 
     let d4 : Charset = designated rmacs d3 in
     let d5 : Charset = designated csr d4 in
     let d6 : Charset = designated clear d5 in
-    let wide : LeadsBy (part t (widening t)) d4 d5 = subst (λ (n : ℕ). LeadsBy (part t (Csr 0 (n - 1))) d4 d5) (sym h.rows_are) (p5 t h d4) in
+    let wide : LeadsBy (text_of t (widening t)) d4 d5 = subst (λ (n : ℕ). LeadsBy (text_of t (Csr 0 (n - 1))) d4 d5) (sym h.rows_are) (p5 t h d4) in
     resync_parts t c d1 d2 d3 d4 d5 d6 (p1 t h c) (p2 t h d1) (p3 t h d2) (p4 t h d3) wide (p6 t h d5)
 
 pub is_left : (entry : Content) (rows cols : ℕ) (reach : Reach) (smcup enacs sgr0 rmacs csr clear : Sets) → PartLeads entry rows cols Smcup smcup → PartLeads entry rows cols Enacs enacs → PartLeads entry rows cols Sgr0 sgr0
@@ -293,7 +290,7 @@ record IsLineSeen (all : List (List ℕ)) (changes : List Sets) (row : Row) (byt
   whole : Splits bytes tokens []
   leads : (c : Charset) → charset_over tokens c ≡ designated change c
   reached : (token : List ℕ) → IsAmong tokens token → IsAmong all token
-  settled : keeps_settled row ≡ true → IsAmong changes change
+  settled : settles row ≡ true → IsAmong changes change
 
 line_seen : (entry : Content) (rows cols : ℕ) (reach : Reach) (changes : List Sets) (s : IsSeen entry rows cols reach changes 42 0) (t : Table) → HasSent entry rows cols t → (row : Row) (bytes : List ℕ) → t.line_of row ≡ Some bytes
     → IsLineSeen s.tokens changes row bytes

@@ -7,7 +7,7 @@ use Rattle.ti_rows.specs.declared.rows.Row.TheVariants.{Clear, Csr, Smcup, Enacs
 use Rattle.ti_rows.specs.Lists.{IsInRange}
 use Rattle.ti_conforms.specs.Sends.{Sends}
 use Rattle.ti_conforms.specs.Entries.{is_checked, string_of, EntryAgrees}
-use Rattle.ti_conforms.specs.Table.{Table, or_nothing, part, widening, resync}
+use Rattle.ti_conforms.specs.Table.{Table, or_nothing, text_of, widening, resync, resync_of}
 use Rattle.ti_conforms.specs.Conforms.{Conforms, IsFit}
 use Rattle.ti_rows.specs.Names.{cap_of}
 use Rattle.ti_rows.specs.Params.{params}
@@ -87,7 +87,7 @@ unsendable rows cols string row NotShown h = absurd h
 unsendable rows cols string row NoResync h = absurd h
 unsendable rows cols string row TooLong h = absurd h
 
-same_part : (entry : Content) (rows cols : ℕ) (t : Table) → EntryAgrees rows cols entry t.line_of → (row : Row) → IsInRange rows cols row → (bytes : List ℕ) → IsPart entry row bytes → part t row ≡ bytes
+same_part : (entry : Content) (rows cols : ℕ) (t : Table) → EntryAgrees rows cols entry t.line_of → (row : Row) → IsInRange rows cols row → (bytes : List ℕ) → IsPart entry row bytes → text_of t row ≡ bytes
 same_part entry rows cols t agrees row range bytes p = elim (cases_Bool (is_checked entry row)) [
   | inl checked ↦ (let s = (agrees row range).checked checked in
       let own = p.checked checked in
@@ -104,15 +104,15 @@ flat a b c d e f =
     ∙ (append_assoc a b ((c ++ d) ++ (e ++ f))
     ∙ ap (λ (x : List ℕ). a ++ (b ++ x)) (append_assoc c d (e ++ f)))
 
-resync_is : (t : Table) (a b c d e f : List ℕ) → part t Smcup ≡ a → part t Enacs ≡ b → part t Sgr0 ≡ c → part t Rmacs ≡ d → part t (widening t) ≡ e → part t Clear ≡ f
+resync_is : (t : Table) (a b c d e f : List ℕ) → text_of t Smcup ≡ a → text_of t Enacs ≡ b → text_of t Sgr0 ≡ c → text_of t Rmacs ≡ d → text_of t (widening t) ≡ e → text_of t Clear ≡ f
     → resync t ≡ a ++ (b ++ (c ++ (d ++ (e ++ f))))
-unfolding resync
+unfolding resync_of
 resync_is t a b c d e f pa pb pc pd pe pf =
-    flat (part t Smcup) (part t Enacs) (part t Sgr0) (part t Rmacs) (part t (widening t)) (part t Clear) ∙ cc (pa, pb, pc, pd, pe, pf)
+    flat (text_of t Smcup) (text_of t Enacs) (text_of t Sgr0) (text_of t Rmacs) (text_of t (widening t)) (text_of t Clear) ∙ cc (pa, pb, pc, pd, pe, pf)
 
 resync_text : (entry : Content) (rows cols : ℕ) (t : Table) → EntryAgrees rows cols entry t.line_of → t.rows ≡ rows → IsInRange rows cols (Csr 0 (rows - 1)) → (text : List ℕ) → SendsResync entry rows text → resync t ≡ text
 resync_text entry rows cols t agrees rows_are tall text p =
-    let csr : part t (widening t) ≡ p.csr = ap (λ (n : ℕ). part t (Csr 0 (n - 1))) rows_are ∙ same_part entry rows cols t agrees (Csr 0 (rows - 1)) tall p.csr p.widens in
+    let csr : text_of t (widening t) ≡ p.csr = ap (λ (n : ℕ). text_of t (Csr 0 (n - 1))) rows_are ∙ same_part entry rows cols t agrees (Csr 0 (rows - 1)) tall p.csr p.widens in
     resync_is t p.smcup p.enacs p.sgr0 p.rmacs p.csr p.clear
     (same_part entry rows cols t agrees Smcup tt p.smcup p.enters)
     (same_part entry rows cols t agrees Enacs tt p.enacs p.enables)

@@ -1,57 +1,18 @@
 -- What is wrong with a row of a checked capability is wrong with the entry.
-use Rattle.std.proofs.Common.{◌≡◌, inl, ◌+◌, ◌==◌, ◌&&◌, ℕ, true, List, Option, Some, if◌then◌else◌, refl, sym, ap, ◌∙◌}
-use Rattle.std.specs.Prelude.{is_some, Result, Ok, Err, IfErr}
+use Rattle.std.proofs.Common.{◌≡◌, inl, ◌+◌, ℕ, true, List, Some, ap, ◌∙◌}
+use Rattle.std.specs.Prelude.{Result, Ok, Err, IfErr}
 use Rattle.ti_caps.specs.Entry.{Content, string_at}
 use Rattle.ti_rows.specs.declared.rows.Row.{Row}
-use Rattle.ti_rows.specs.declared.rows.Row.TheVariants.{Setaf, Setab, Op, Smul, Rev, Blink, Dim, Bold, Invis, Smso, Smacs, Rmacs}
 use Rattle.ti_rows.specs.Names.{order, string_in_order}
-use Rattle.ti_conforms.specs.declared.entries.Group.{Group}
-use Rattle.ti_conforms.specs.declared.entries.Group.TheVariants.{Colors, Single, Sets, Alone}
-use Rattle.ti_conforms.specs.Entries.{group_of, string_of, has_string, meets, is_checked}
+use Rattle.ti_conforms.specs.Entries.{string_of, is_checked}
+use Rattle.ti_conforms.proofs.Matching.{same_checked}
 use Rattle.ti_checker.specs.No.{HasFaulty, IsFaulty, IsFaultyOf, IsSo, IsSoBy}
 use Rattle.ti_checker.specs.declared.causes.Cause.{Cause}
 use Rattle.ti_checker.specs.declared.causes.Cause.TheVariants.{FlagOut, Absent, AcsByte, Parm, StaticRead, Unfinished, Stuck, NotTame, BadLook, WrongEffect, NotShown, TooLong, NoResync, NoMemory}
 use Rattle.ti_checker.specs.declared.causes.No.{No}
 
-group_at : ℕ → Group
-group_at n =
-    if n == 34 then Colors else
-    (if n == 33 then Colors else
-    (if n == 28 then Colors else
-    (if n == 40 then Single else
-    (if n == 29 then Single else
-    (if n == 1 then Single else
-    (if n == 18 then Single else
-    (if n == 2 then Single else
-    (if n == 27 then Single else
-    (if n == 39 then Single else
-    (if n == 37 then Sets else
-    (if n == 31 then Sets else
-    Alone)))))))))))
-
-grouped : (row : Row) → group_of row ≡ group_at (order row)
-unfolding group_at
-grouped (Setaf c) = refl
-grouped (Setab c) = refl
-grouped Op = refl
-grouped Smul = refl
-grouped Rev = refl
-grouped Blink = refl
-grouped Dim = refl
-grouped Bold = refl
-grouped Invis = refl
-grouped Smso = refl
-grouped Smacs = refl
-grouped Rmacs = refl
-grouped _ = refl
-
 pub same_string : (entry : Content) (row other : Row) → order row ≡ order other → string_of entry row ≡ string_of entry other
 same_string entry row other e = ap (λ (n : ℕ). string_at entry (83 + string_in_order n)) e
-
-pub same_checked : (entry : Content) (row other : Row) → order row ≡ order other → is_checked entry row ≡ is_checked entry other
-same_checked entry row other e =
-    ap (λ (s : Option (List ℕ)). is_some s && meets entry (group_of row)) (same_string entry row other e)
-    ∙ ap (λ (g : Group). has_string entry other && meets entry g) (grouped row ∙ (ap group_at e ∙ sym (grouped other)))
 
 faulty_of : (entry : Content) (rows cols : ℕ) (string : List ℕ) (first : Row) (refusal : No) → is_checked entry first ≡ true → string_of entry first ≡ Some string → IsFaultyOf rows cols string first refusal → HasFaulty entry rows cols refusal
 faulty_of entry rows cols string first refusal checked there f = record {

@@ -1,3 +1,5 @@
+pub mod Breaking
+pub mod Cells
 pub mod Certificate
 pub mod First
 pub mod Ignored
@@ -5,5 +7,6 @@ pub mod Last
 pub mod Limit
 pub mod No
 pub mod Notes
+pub mod Probes
 pub mod Resync
 pub mod Switching

@@ -1,6 +1,6 @@
 -- When a no is so.
-use Rattle.std.specs.Prelude.{ℕ, ◌≡◌, ◌⊎◌, ◌==◌, ◌||◌, Bool, true, false, List, [], Some, None, Err}
-use Rattle.ti_caps.specs.Entry.{Content, flag_at, number_at}
+use Rattle.std.specs.Prelude.{ℕ, ◌≡◌, ◌⊎◌, true, List, [], Some, None, Err}
+use Rattle.ti_caps.specs.Entry.{Content}
 use Rattle.ti_parm.specs.Meaning.{meaning}
 use Rattle.ti_parm.specs.Value.{zeros}
 use Rattle.vt_term.specs.Text.{IsStuck, IsUnfinished, Splits}
@@ -11,16 +11,16 @@ use Rattle.vt_effects.specs.Record.{record_of}
 use Rattle.ti_rows.specs.Asked.{start_of, asked}
 use Rattle.ti_rows.specs.declared.rows.Looks.{Looks}
 use Rattle.ti_rows.specs.declared.rows.Row.{Row}
-use Rattle.ti_rows.specs.declared.rows.Row.TheVariants.{Clear, Cup, Sgr0, Sgr}
-use Rattle.ti_rows.specs.Bits.{number_of}
+use Rattle.ti_rows.specs.declared.rows.Row.TheVariants.{Clear}
 use Rattle.ti_rows.specs.Names.{cap_of, order}
 use Rattle.ti_rows.specs.Params.{params}
 use Rattle.ti_rows.specs.Lists.{IsInRange}
+use Rattle.ti_conforms.specs.Looks.{is_alone}
 use Rattle.ti_conforms.specs.Sends.{Sends, ReadsStatic, values}
-use Rattle.ti_conforms.specs.Entries.{acsc, has_string, is_checked, string_of}
-use Rattle.ti_conforms.specs.Conforms.{IsFit, xmc, hc, gn, os}
-use Rattle.ti_probes.specs.declared.probes.Probe.{Probe}
-use Rattle.ti_probes.specs.Breaking.{Breaks, IsShown}
+use Rattle.ti_conforms.specs.Entries.{acsc, is_checked, string_of}
+use Rattle.ti_conforms.specs.Conforms.{IsFit}
+use Rattle.ti_checker.specs.declared.probes.Probe.{Probe}
+use Rattle.ti_checker.specs.Breaking.{Breaks, IsShown}
 use Rattle.ti_conforms.specs.Unfit.{HasMisfit, LacksCap, is_flag_out, HasNoFlagOut, HasRequired}
 use Rattle.ti_cert.specs.declared.faults.AgreeFault.TheVariants as agreeing
 use Rattle.ti_cert.specs.declared.faults.CertFaultKind.TheVariants as kinds_of_cert
@@ -54,11 +54,6 @@ pub record SendsSome (string : List ℕ) (row : Row) (Holds : List ℕ → Type 
   pub sends : Sends string row bytes
   pub holds : Holds bytes
 
--- a parameter list of `sgr` with one attribute other than standout
-abbrev pub is_single : Row → Bool
-is_single (Sgr a) = (number_of a == 1) || ((number_of a == 2) || ((number_of a == 4) || ((number_of a == 8) || ((number_of a == 16) || (number_of a == 32)))))
-is_single _ = false
-
 -- whole control functions without one effect from all starts of the row
 pub record IsUntamed (rows cols : ℕ) (row : Row) (bytes : List ℕ) : Type 0 where
   pub tokens : List (List ℕ)
@@ -86,7 +81,7 @@ IsFaulty rows cols string row (Parm fault) = meaning string (values row) zeros �
 IsFaulty rows cols string row StaticRead = ReadsStatic string row
 IsFaulty rows cols string row Unfinished = SendsSome string row (λ bytes. (at : ℕ) × IsUnfinished bytes at)
 IsFaulty rows cols string row Stuck = SendsSome string row (λ bytes. (at : ℕ) × IsStuck bytes at)
-IsFaulty rows cols string row BadLook = (is_single row ≡ true) × SendsSome string row (λ bytes. (p : Probe) × Breaks rows cols row bytes p)
+IsFaulty rows cols string row BadLook = (is_alone row ≡ true) × SendsSome string row (λ bytes. (p : Probe) × Breaks rows cols row bytes p)
 IsFaulty rows cols string row (WrongEffect p) = SendsSome string row (λ bytes. Breaks rows cols row bytes p)
 IsFaulty rows cols string row NotTame = SendsSome string row (λ bytes. IsUntamed rows cols row bytes)
 IsFaulty rows cols string row NotShown = SendsSome string row (λ bytes. HasUnasked rows cols row bytes)
@@ -112,7 +107,7 @@ IsNotWhole bytes NoMemory = Unit {0}
 IsNotWhole bytes _ = ⊥
 
 abbrev pub IsMisfit : ℕ → ℕ → Row → Effect → Cause → Type 0
-IsMisfit rows cols row e BadLook = (is_single row ≡ true) × ((p : Probe) × IsShown rows cols row e p)
+IsMisfit rows cols row e BadLook = (is_alone row ≡ true) × ((p : Probe) × IsShown rows cols row e p)
 IsMisfit rows cols row e (WrongEffect p) = IsShown rows cols row e p
 IsMisfit rows cols row e NotShown = IsUnasked row e
 IsMisfit rows cols row e _ = ⊥

@@ -19,10 +19,10 @@ use Rattle.ti_rows.specs.Names.{order}
 use Rattle.ti_rows.specs.Starts.{Starts}
 use Rattle.ti_conforms.specs.Sends.{Sends}
 use Rattle.ti_conforms.specs.Entries.{is_checked, string_of, EntryAgrees}
-use Rattle.ti_conforms.specs.Table.{Table, part, resync, keeps_settled, Activates}
+use Rattle.ti_conforms.specs.Table.{Table, text_of, resync, settles, Activates}
 use Rattle.ti_conforms.specs.Sets.{CanSettle, LeadsBy, Occurs}
-use Rattle.ti_probes.specs.Probe.{screen_of}
-use Rattle.ti_probes.specs.declared.probes.Probe.{Probe}
+use Rattle.ti_checker.specs.Probes.{screen_of}
+use Rattle.ti_checker.specs.declared.probes.Probe.{Probe}
 
 -- the table has just what the entry sends for the checked rows of a size
 pub record HasSent (entry : Content) (rows cols : ℕ) (t : Table) : Type 0 where
@@ -94,7 +94,7 @@ pub record IsOfLine (t : Table) (change : Sets) : Type 0 where
   pub row : Row
   pub bytes : List ℕ
   pub there : t.line_of row ≡ Some bytes
-  pub keeps : keeps_settled row ≡ true
+  pub keeps : settles row ≡ true
   pub leads : LeadsAs bytes (λ c. designated change c)
 
 -- rows of capabilities before the one at this place, and rows of that one before this rank
@@ -107,7 +107,7 @@ pub record IsCounted (entry : Content) (all : List (List ℕ)) (changes : List S
   pub change : Sets
   pub of_row : IsChangeOf entry row tokens change
   pub reached : (token : List ℕ) → IsAmong tokens token → IsAmong all token
-  pub settled : keeps_settled row ≡ true → IsAmong changes change
+  pub settled : settles row ≡ true → IsAmong changes change
 
 -- what was seen of an entry's strings: marks that tokens turn on, and changes, which are those of strings, and of all strings
 -- for rows so far
@@ -120,7 +120,7 @@ pub record IsSeen (entry : Content) (rows cols : ℕ) (reach : Reach) (changes :
 
 -- the row's bytes, nothing where it has none, change charsets so
 abbrev pub PartLeads : Content → ℕ → ℕ → Row → Sets → Type 0
-PartLeads entry rows cols row change = (t : Table) → HasSent entry rows cols t → LeadsAs (part t row) (λ c. designated change c)
+PartLeads entry rows cols row change = (t : Table) → HasSent entry rows cols t → LeadsAs (text_of t row) (λ c. designated change c)
 
 -- from a charset with marks that can be had, what leads out of an unknown state leaves this one
 pub record IsLeft (entry : Content) (rows cols : ℕ) (reach : Reach) (d : Charset) : Type 0 where

@@ -4,11 +4,11 @@ ghost use Rattle.std.specs.Prelude.{◌≡◌, []};
 ghost use Rattle.ti_rows.specs.Names.{cap_of};
 ghost use Rattle.ti_rows.specs.Params.{params};
 
+use crate::probes::Probe;
 use std::alloc::AllocError;
 use std::fmt;
 use ti_caps::Cap;
 use ti_parm::ParmFault;
-use ti_probes::Probe;
 use ti_rows::{Params, Row};
 use vt_term::{TokenFault, TokenFaultKind};
 

@@ -23,7 +23,8 @@ use vt_term::Size;
 fn judge_text(alloc: Global, entry: &Entry, size: Size, text: &[u8]) -> Result<(), VerifyFault>
     ensures conforms { OnOk result (Conforms entry.now size.rows size.cols) }
     ensures certificate { OnOk result (IsCertificateOf entry.now size.rows size.cols text.now) }
-    ensures basic { IsBasic entry.now size.rows size.cols → text.now ≡ basic_text_of entry.now size.rows size.cols → IfErr result spec.IsOutOfMemory }
+    ensures basic { IsBasic entry.now size.rows size.cols → text.now ≡ basic_text_of entry.now size.rows size.cols
+        → IfErr result spec.IsOutOfMemory }
 {
     let table = match audit(alloc, text, size) {
         Ok(table) => table,
@@ -94,8 +95,10 @@ fn unverified(alloc: Global, entry: &Entry, size: Size, fault: &VerifyFault) -> 
 pub fn check(alloc: Global, entry: &Entry, size: Size) -> Result<Vec<u8>, No>
     ensures conforms { IfOk result (λ text. Conforms entry.now size.rows size.cols) }
     ensures certificate { IfOk result (λ text. IsCertificateOf entry.now size.rows size.cols text.items) }
-    ensures basic { IsBasic entry.now size.rows size.cols → IfOk result (λ text. text.items ≡ basic_text_of entry.now size.rows size.cols) }
-    ensures basic_refused { IsBasic entry.now size.rows size.cols → IfErr result (λ refusal. refusal.cause ≡ Cause.NoMemory) }
+    ensures basic { IsBasic entry.now size.rows size.cols
+        → IfOk result (λ text. text.items ≡ basic_text_of entry.now size.rows size.cols) }
+    ensures basic_refused { IsBasic entry.now size.rows size.cols
+        → IfErr result (λ refusal. refusal.cause ≡ Cause.NoMemory) }
     ensures refused { IfErr result (λ refusal. spec.IsSo entry.now size.rows size.cols refusal) }
     ensures order { IfErr result (λ refusal. spec.IsFirstCause entry.now refusal.cause) }
     ensures first { IfErr result (IsFirstTold entry.now size.rows size.cols) }

@@ -13,30 +13,26 @@ ghost use Rattle.ti_lines.specs.Texts.{acsc_lines, ended};
 ghost use Rattle.ti_rows.specs.Lists.{IsFirst, IsInRange};
 ghost use Rattle.ti_rows.specs.Names.{order};
 ghost use Rattle.ti_conforms.specs.Entries as entries;
-ghost use Rattle.ti_conforms.specs.Entries.{string_of};
 
 use crate::causes::{Cause, No};
-use crate::judging::{NO_LOOKS, judge_row};
+use crate::judging::Judge;
+use crate::sending::checked_string;
 use std::alloc::{AllocError, Global};
 use ti_caps::Entry;
-use ti_conforms::{acsc, is_checked};
+use ti_conforms::acsc;
 use ti_lines::{push_hex, push_row_line};
-use ti_rows::{Looks, Row};
+use ti_rows::Row;
 use vt_effects::Effect;
-use vt_term::{Scanner, Size};
+use vt_term::Size;
 
 /// A certificate's text so far, and what its lines are made in.
 #[derive(Drop)]
 struct Draft {
     text: Vec<u8>,
-    /// How attributes look.
-    looks: Looks,
-    /// What the present row's string sends.
-    bytes: Vec<u8>,
-    /// The words of its effect.
+    /// What the rows are judged in.
+    judge: Judge,
+    /// The words of the present row's effect.
     words: Vec<u8>,
-    /// Reads what it sends.
-    scanner: Scanner,
 }
 
 /// The most bytes of a certificate before its last line.
@@ -67,7 +63,8 @@ fn push_pairs(pairs: &[u8], text: &mut Vec<u8>) -> Result<(), AllocError>
 
 /// Adds the lines before those of the capabilities.
 fn push_head(alloc: Global, entry: &Entry, size: Size, text: &mut Vec<u8>) -> Result<(), AllocError>
-    ensures { OnOk result (text.new.items ≡ text.old.items ++ ended (size_text size.rows size.cols ∷ acsc_lines (string_at entry.now entries.acsc))) }
+    ensures { OnOk result (text.new.items ≡ text.old.items
+        ++ ended (size_text size.rows size.cols ∷ acsc_lines (string_at entry.now entries.acsc))) }
 {
     push_size(alloc, size, text)?;
     match entry.get_string(acsc()) {
@@ -79,27 +76,27 @@ fn push_head(alloc: Global, entry: &Entry, size: Size, text: &mut Vec<u8>) -> Re
 impl Draft {
     /// The lines before those of the capabilities.
     fn new(alloc: Global, entry: &Entry, size: Size) -> Result<Draft, AllocError>
-        ensures { IfOk result (λ draft. told.IsDrafted entry.now size.rows size.cols (λ row. order row < 0) draft.text.items) }
+        ensures { IfOk result (λ draft. told.IsDrafted entry.now size.rows size.cols (λ row. order row < 0)
+            draft.text.items) }
     {
         let _ = entry.names();
         let mut text = Vec::with_capacity(alloc, ROOM)?;
         push_head(alloc, entry, size, &mut text)?;
         Ok(Draft {
             text,
-            looks: NO_LOOKS,
-            bytes: Vec::new(alloc),
+            judge: Judge::new(alloc)?,
             words: Vec::new(alloc),
-            scanner: Scanner::new(alloc)?,
         })
     }
 
     /// Adds the line of a row whose bytes were judged.
     fn push_line(&mut self, row: Row, effect: &Effect) -> Result<(), AllocError>
-        ensures { OnOk result (self.new.text.items ≡ self.old.text.items ++ (line_text (record { row = row; bytes = self.old.bytes.items; effect = effect.now }) ++ 10 ∷ [])) }
+        ensures { OnOk result (self.new.text.items ≡ self.old.text.items
+            ++ (line_text (record { row = row; bytes = self.old.judge.bytes.items; effect = effect.now }) ++ 10 ∷ [])) }
     {
         push_row_line(
             row,
-            self.bytes.as_slice(),
+            self.judge.bytes(),
             effect,
             &mut self.words,
             &mut self.text,
@@ -133,33 +130,13 @@ fn push_row(
     ensures right { OnOk result (told.SendsRight size.rows size.cols string.now row) }
     ensures adds { OnOk result (AddsLine size.rows size.cols string.now row draft.old.text.items draft.new.text.items) }
     ensures short { OnOk result (length draft.new.text.items ≤ most) }
-    ensures refused { IfErr result (λ cause. spec.IsRowRefused size.rows size.cols string.now row draft.old.text.items cause) }
+    ensures refused { IfErr result (λ cause. spec.IsRowRefused size.rows size.cols string.now row draft.old.text.items
+        cause) }
 {
-    let effect = judge_row(
-        alloc,
-        string,
-        row,
-        size,
-        &mut draft.scanner,
-        &mut draft.looks,
-        &mut draft.bytes,
-    )?;
+    let effect = draft.judge.judge_row(alloc, string, row, size)?;
     match draft.push_line(row, &effect) {
         Ok(()) => draft.check_length(),
         Err(_) => Err(Cause::NoMemory),
-    }
-}
-
-/// The entry's string for a row, where the entry has it and it is checked.
-fn checked_string(entry: &Entry, row: Row) -> Option<&[u8]>
-    ensures checked { IfSome result (λ string. entries.is_checked entry.now row ≡ true) }
-    ensures there { IfSome result (λ string. string_of entry.now row ≡ Some string.now) }
-    ensures none { IfNone result (entries.is_checked entry.now row ≡ false) }
-{
-    if is_checked(entry, row) {
-        entry.get_string(row.cap())
-    } else {
-        None
     }
 }
 
@@ -172,8 +149,10 @@ fn push_cap(
     draft: &mut Draft,
 ) -> Result<(), No>
     requires first { IsFirst size.rows size.cols first }
-    requires drafted { told.IsDrafted entry.now size.rows size.cols (λ row. order row < order first) draft.old.text.items }
-    ensures drafted { OnOk result (told.IsDrafted entry.now size.rows size.cols (λ row. order row < order first + 1) draft.new.text.items) }
+    requires drafted { told.IsDrafted entry.now size.rows size.cols (λ row. order row < order first)
+        draft.old.text.items }
+    ensures drafted { OnOk result (told.IsDrafted entry.now size.rows size.cols (λ row. order row < order first + 1)
+        draft.new.text.items) }
     ensures fault { IfErr result (λ refusal. spec.IsRowFault entry.now size.rows size.cols refusal refusal.cause) }
     ensures first { IfErr result (told.IsFirstRow entry.now size.rows size.cols) }
 {
@@ -203,7 +182,8 @@ fn push_at(
 ) -> Result<(), No>
     requires place { place < 42 }
     requires drafted { told.IsDrafted entry.now size.rows size.cols (λ row. order row < place) draft.old.text.items }
-    ensures drafted { OnOk result (told.IsDrafted entry.now size.rows size.cols (λ row. order row < place + 1) draft.new.text.items) }
+    ensures drafted { OnOk result (told.IsDrafted entry.now size.rows size.cols (λ row. order row < place + 1)
+        draft.new.text.items) }
     ensures fault { IfErr result (λ refusal. spec.IsRowFault entry.now size.rows size.cols refusal refusal.cause) }
     ensures first { IfErr result (told.IsFirstRow entry.now size.rows size.cols) }
 {
@@ -216,7 +196,8 @@ fn push_at(
 /// Adds the lines of all checked capabilities of the entry.
 fn push_caps(alloc: Global, entry: &Entry, size: Size, draft: &mut Draft) -> Result<(), No>
     requires { told.IsDrafted entry.now size.rows size.cols (λ row. order row < 0) draft.old.text.items }
-    ensures drafted { OnOk result (told.IsDrafted entry.now size.rows size.cols (λ row. order row < 42) draft.new.text.items) }
+    ensures drafted { OnOk result (told.IsDrafted entry.now size.rows size.cols (λ row. order row < 42)
+        draft.new.text.items) }
     ensures fault { IfErr result (λ refusal. spec.IsRowFault entry.now size.rows size.cols refusal refusal.cause) }
     ensures first { IfErr result (told.IsFirstRow entry.now size.rows size.cols) }
 {
@@ -240,7 +221,8 @@ fn finished(draft: Draft) -> Result<Vec<u8>, AllocError>
 pub(crate) fn draft_of(alloc: Global, entry: &Entry, size: Size) -> Result<Vec<u8>, No>
     ensures written { IfOk result (λ _. told.EachWritten entry.now size.rows size.cols) }
     ensures within { IfOk result (λ text. length text.items ≤ limit) }
-    ensures basic_text { IsBasic entry.now size.rows size.cols → IfOk result (λ text. text.items ≡ basic_text_of entry.now size.rows size.cols) }
+    ensures basic_text { IsBasic entry.now size.rows size.cols
+        → IfOk result (λ text. text.items ≡ basic_text_of entry.now size.rows size.cols) }
     ensures basic { IsBasic entry.now size.rows size.cols → IfErr result (λ refusal. refusal.cause ≡ Cause.NoMemory) }
     ensures so { IfErr result (λ refusal. spec.IsSo entry.now size.rows size.cols refusal) }
     ensures first { IfErr result (told.IsFirstTold entry.now size.rows size.cols) }

@@ -13,59 +13,12 @@ ghost use Rattle.vt_term.specs.Text.{Splits};
 
 use crate::causes::Cause;
 use crate::sending::sent_into;
-use std::alloc::Global;
-use ti_probes::probe_for;
-use ti_rows::{Attributes, Looks, Marks, Row};
+use crate::trying::probe_for;
+use std::alloc::{AllocError, Global};
+use ti_conforms::{NO_LOOKS, is_alone, is_some_look};
+use ti_rows::{Looks, Row};
 use vt_effects::{Effect, effect_of_text};
 use vt_term::{Scanner, Size, TextFault, TextFaultKind, Token, TokenFault, TokenFaultKind, tokens};
-
-/// No mark.
-const NO_MARKS: Marks = Marks {
-    bold: false,
-    faint: false,
-    underline: false,
-    blink: false,
-    negative: false,
-    concealed: false,
-};
-
-/// Attributes that can't be seen.
-pub(crate) const NO_LOOKS: Looks = Looks {
-    standout: NO_MARKS,
-    underline: false,
-    reverse: false,
-    blink: false,
-    dim: false,
-    bold: false,
-    invisible: false,
-};
-
-/// Standout alone, which any marks may show.
-const STANDOUT: Attributes = Attributes {
-    standout: true,
-    underline: false,
-    reverse: false,
-    blink: false,
-    dim: false,
-    bold: false,
-    invisible: false,
-};
-
-/// Whether the row asks `sgr` for one attribute other than standout.
-fn is_single(row: Row) -> bool
-    ensures { result ≡ spec.is_single row }
-{
-    match row {
-        Row::Sgr(attributes) => matches!(attributes.number(), 1 | 2 | 4 | 8 | 16 | 32),
-        _ => false,
-    }
-}
-
-/// Whether the effect shows marks as standout may, so that only the marks are wrong.
-fn shows_marks(effect: &Effect) -> bool {
-    let alone = Row::Sgr(STANDOUT);
-    alone.asks_for(NO_LOOKS.learned(alone, effect), effect)
-}
 
 /// What is wrong with an effect that isn't the one that is asked for.
 fn misfit(row: Row, effect: &Effect, size: Size) -> Cause
@@ -76,7 +29,7 @@ fn misfit(row: Row, effect: &Effect, size: Size) -> Cause
     match probe_for(row, effect, size) {
         None => Cause::NotShown,
         Some(probe) => {
-            if is_single(row) && shows_marks(effect) {
+            if is_alone(row) && is_some_look(effect) {
                 Cause::BadLook
             } else {
                 Cause::WrongEffect(probe)
@@ -138,9 +91,13 @@ fn row_effect(
 #[tactic(auto, using(crate::proofs::Misjudging::misfit_misjudged))]
 fn judged(row: Row, found: Option<Effect>, size: Size, looks: &mut Looks) -> Result<Effect, Cause>
     requires { IsInRange size.rows size.cols row }
-    ensures right { IfOk result (λ _. (bytes : List ℕ) → IsRecordOf size.rows size.cols (start_of size.rows size.cols row) bytes found → IsRight size.rows size.cols looks.new row bytes) }
+    ensures right { IfOk result (λ _. (bytes : List ℕ)
+        → IsRecordOf size.rows size.cols (start_of size.rows size.cols row) bytes found
+        → IsRight size.rows size.cols looks.new row bytes) }
     ensures found { IfOk result (λ effect. found ≡ Some effect) }
-    ensures misjudged { IfErr result (λ cause. (tokens : List (List ℕ)) → found ≡ record_of size.rows size.cols (start_of size.rows size.cols row) tokens → spec.IsMisjudged size.rows size.cols row tokens cause) }
+    ensures misjudged { IfErr result (λ cause. (tokens : List (List ℕ))
+        → found ≡ record_of size.rows size.cols (start_of size.rows size.cols row) tokens
+        → spec.IsMisjudged size.rows size.cols row tokens cause) }
 {
     let Some(effect) = found else {
         return Err(Cause::NotTame);
@@ -153,22 +110,50 @@ fn judged(row: Row, found: Option<Effect>, size: Size, looks: &mut Looks) -> Res
     }
 }
 
-/// The effect of what the entry's string sends for a row. The bytes that it sends are left in `bytes`.
-pub(crate) fn judge_row(
-    alloc: Global,
-    string: &[u8],
-    row: Row,
-    size: Size,
-    scanner: &mut Scanner,
-    looks: &mut Looks,
-    bytes: &mut Vec<u8>,
-) -> Result<Effect, Cause>
-    requires { IsInRange size.rows size.cols row }
-    ensures right { IfOk result (λ _. SendsRight size.rows size.cols string.now row) }
-    ensures line { IfOk result (λ effect. IsLineFor size.rows size.cols string.now (record { row = row; bytes = bytes.new.items; effect = effect })) }
-    ensures faulty { IfErr result (λ cause. spec.IsFaulty size.rows size.cols string.now row cause) }
-{
-    sent_into(alloc, string, row, bytes)?;
-    let found = row_effect(scanner, bytes, row, size)?;
-    judged(row, found, size, looks)
+/// What rows are judged in, one after another.
+#[derive(Drop)]
+pub(crate) struct Judge {
+    /// How attributes look.
+    looks: Looks,
+    /// What the string of the row that was judged last sends.
+    bytes: Vec<u8>,
+    /// Reads what it sends.
+    scanner: Scanner,
+}
+
+impl Judge {
+    /// No row is judged yet. The error is out of memory.
+    pub fn new(alloc: Global) -> Result<Judge, AllocError> {
+        Ok(Judge {
+            looks: NO_LOOKS,
+            bytes: Vec::new(alloc),
+            scanner: Scanner::new(alloc)?,
+        })
+    }
+
+    /// What the string of the row that was judged last sends.
+    pub fn bytes(&self) -> &[u8]
+        ensures { result.now ≡ self.now.bytes.items }
+    {
+        self.bytes.as_slice()
+    }
+
+    /// The effect of what the entry's `string` sends for `row`. The bytes that it sends are kept.
+    pub fn judge_row(
+        &mut self,
+        alloc: Global,
+        string: &[u8],
+        row: Row,
+        size: Size,
+    ) -> Result<Effect, Cause>
+        requires { IsInRange size.rows size.cols row }
+        ensures right { IfOk result (λ _. SendsRight size.rows size.cols string.now row) }
+        ensures line { IfOk result (λ effect. IsLineFor size.rows size.cols string.now
+            (record { row = row; bytes = self.new.bytes.items; effect = effect })) }
+        ensures faulty { IfErr result (λ cause. spec.IsFaulty size.rows size.cols string.now row cause) }
+    {
+        sent_into(alloc, string, row, &mut self.bytes)?;
+        let found = row_effect(&mut self.scanner, &self.bytes, row, size)?;
+        judged(row, found, size, &mut self.looks)
+    }
 }

@@ -4,6 +4,7 @@
 ghost use Rattle.std.specs.Option.{unwrap_or};
 ghost use Rattle.std.specs.Prelude.{◌≡◌, ◌≢◌, ℕ, Bool, List, Option, true, false};
 ghost use Rattle.ti_caps.specs.Entry.{Content};
+ghost use Rattle.ti_checker.specs.Breaking.{ShownBreaks};
 ghost use Rattle.ti_checker.specs.Certificate.{BasicCertificate, IsCertificateOf};
 ghost use Rattle.ti_checker.specs.Ignored.{is_unknown_mode, is_unknown_rendition, is_whole_sequence};
 ghost use Rattle.ti_checker.specs.No.{ClaimsNothing, IsSo};
@@ -29,30 +30,42 @@ pub fn sequences_told_apart()
 
 /// An unknown number of SGR changes no rendition, and each other number changes some.
 pub fn unknown_renditions_change_nothing()
-    ensures unknown { (number : Option ℕ) (rendition : Rendition) → is_unknown_rendition number ≡ true → rendered (unwrap_or number 0) rendition ≡ rendition }
-    ensures known { (number : Option ℕ) → is_unknown_rendition number ≡ false → (rendition : Rendition) × (rendered (unwrap_or number 0) rendition ≢ rendition) }
+    ensures unknown { (number : Option ℕ) (rendition : Rendition) → is_unknown_rendition number ≡ true
+        → rendered (unwrap_or number 0) rendition ≡ rendition }
+    ensures known { (number : Option ℕ) → is_unknown_rendition number ≡ false
+        → (rendition : Rendition) × (rendered (unwrap_or number 0) rendition ≢ rendition) }
 {}
 
 /// To set or reset an unknown mode changes no screen, and each other mode changes some.
 pub fn unknown_modes_change_nothing()
-    ensures unknown { (kind : ModeKind) (on : Bool) (number : Option ℕ) (screen : Screen) → is_unknown_mode kind number ≡ true → mode_set kind on (unwrap_or number 0) screen ≡ screen }
-    ensures known { (kind : ModeKind) (number : Option ℕ) → is_unknown_mode kind number ≡ false → (on : Bool) × (screen : Screen) × (mode_set kind on (unwrap_or number 0) screen ≢ screen) }
+    ensures unknown { (kind : ModeKind) (on : Bool) (number : Option ℕ) (screen : Screen)
+        → is_unknown_mode kind number ≡ true → mode_set kind on (unwrap_or number 0) screen ≡ screen }
+    ensures known { (kind : ModeKind) (number : Option ℕ) → is_unknown_mode kind number ≡ false
+        → (on : Bool) × (screen : Screen) × (mode_set kind on (unwrap_or number 0) screen ≢ screen) }
 {}
 
 /// An entry has one list of notes at most.
 pub fn one_list_of_notes()
-    ensures { (entry : Content) (notes others : List CheckNote) → EntryNotes entry notes → EntryNotes entry others → others ≡ notes }
+    ensures { (entry : Content) (notes others : List CheckNote) → EntryNotes entry notes → EntryNotes entry others
+        → others ≡ notes }
 {}
 
 /// An entry of which a no is so doesn't conform, unless the no claims nothing: its cause is
 /// `NotTame`, `NotShown` or `NoMemory`. `TooLong` says nothing of what the entry's strings do, but that
 /// there is no certificate of it.
 pub fn no_excludes_yes()
-    ensures conforms { (entry : Content) (rows cols : ℕ) (refusal : No) → IsSo entry rows cols refusal → refusal.cause ≢ TooLong → Conforms entry rows cols → ClaimsNothing refusal.cause }
-    ensures too_long { (entry : Content) (rows cols : ℕ) (refusal : No) (text : List ℕ) → IsSo entry rows cols refusal → refusal.cause ≡ TooLong → IsCertificateOf entry rows cols text → ⊥ }
+    ensures conforms { (entry : Content) (rows cols : ℕ) (refusal : No) → IsSo entry rows cols refusal
+        → refusal.cause ≢ TooLong → Conforms entry rows cols → ClaimsNothing refusal.cause }
+    ensures too_long { (entry : Content) (rows cols : ℕ) (refusal : No) (text : List ℕ) → IsSo entry rows cols refusal
+        → refusal.cause ≡ TooLong → IsCertificateOf entry rows cols text → ⊥ }
 {}
 
 /// The certificate of a basic entry is its basic text.
 pub fn basic_certificate()
     ensures { BasicCertificate }
+{}
+
+/// From a probe that shows an effect wrong, the run of every text with that effect ends as isn't wanted.
+pub fn shown_breaks()
+    ensures { ShownBreaks }
 {}

@@ -4,15 +4,13 @@ ghost use Rattle.std.specs.Prelude.{◌≡◌, ◌++◌, ◌∷◌, [], IfErr, I
 ghost use Rattle.ti_checker.specs.No.{IsSo};
 ghost use Rattle.ti_checker.specs.Notes as spec;
 ghost use Rattle.ti_rows.specs.Names.{cap_of};
-ghost use Rattle.ti_conforms.specs.Entries as entries;
 
 use crate::causes::{Cause, No};
-use crate::ignoring::is_ignored;
+use crate::ignored::is_ignored;
 use crate::judging::tokens_of;
-use crate::sending::sent;
+use crate::sending::{checked_string, sent};
 use std::alloc::{AllocError, Global};
 use ti_caps::{Bytes, Cap, Entry};
-use ti_conforms::is_checked;
 use ti_rows::Row;
 use vt_term::{Size, Token};
 
@@ -95,10 +93,7 @@ fn push_notes_at(
     let Some(row) = Row::first(place) else {
         return Ok(());
     };
-    if !is_checked(entry, row) {
-        return Ok(());
-    }
-    match entry.get_string(row.cap()) {
+    match checked_string(entry, row) {
         Some(string) => match push_string_notes(alloc, string, row, notes) {
             Ok(()) => Ok(()),
             Err(cause) => Err(No::at(row, cause)),

@@ -9,10 +9,9 @@ ghost use Rattle.ti_conforms.specs.Conforms.{IsFit};
 ghost use Rattle.ti_rows.specs.Lists.{IsInRange};
 
 use crate::causes::{Cause, No};
-use crate::sending::sent;
+use crate::sending::{checked_string, sent};
 use std::alloc::Global;
 use ti_caps::Entry;
-use ti_conforms::is_checked;
 use ti_rows::Row;
 use vt_term::Size;
 
@@ -24,10 +23,7 @@ fn sent_for(alloc: Global, entry: &Entry, row: Row, size: Size) -> Result<Vec<u8
     ensures part { IfOk result (λ bytes. spec.IsPart entry.now row bytes.items) }
     ensures refused { IfErr result (IsOfAll entry.now size.rows size.cols) }
 {
-    if !is_checked(entry, row) {
-        return Ok(Vec::new(alloc));
-    }
-    match entry.get_string(row.cap()) {
+    match checked_string(entry, row) {
         Some(string) => match sent(alloc, string, row) {
             Ok(bytes) => Ok(bytes),
             Err(cause) => Err(No::at(row, cause)),

@@ -1,41 +1,26 @@
 //! What a string sends for a row, or which fault it has.
 
-ghost use Rattle.std.specs.Prelude.{◌≡◌, Err, IfErr, IfOk, OnOk};
+ghost use Rattle.std.specs.Prelude.{◌≡◌, IfErr, IfNone, IfOk, IfSome, OnOk, Some, false, true};
 ghost use Rattle.ti_checker.specs.No as spec;
-ghost use Rattle.ti_parm.specs.Meaning.{meaning};
-ghost use Rattle.ti_parm.specs.Value.{values_of, zeros};
-ghost use Rattle.ti_parm.specs.declared.fault.ParmFault.{ParmFault};
+ghost use Rattle.ti_conforms.specs.Entries as entries;
 ghost use Rattle.ti_conforms.specs.Sends as sends;
 
 use crate::causes::Cause;
-use arrayvec::ArrayVec;
 use std::alloc::Global;
-use ti_conforms::{Unsent, send_into};
-use ti_parm::{Param, ParmFault, reads_unset};
+use ti_caps::Entry;
+use ti_conforms::{Unsent, is_checked, send_into};
 use ti_rows::Row;
 
-/// The row's parameters, as a string takes them.
-fn values(row: Row) -> ArrayVec<Param<'static>, 9>
-    ensures { values_of result.items ≡ sends.values row }
+/// The entry's string for `row`, where the entry has it and it is checked.
+pub(crate) fn checked_string(entry: &Entry, row: Row) -> Option<&[u8]>
+    ensures checked { IfSome result (λ string. entries.is_checked entry.now row ≡ true) }
+    ensures there { IfSome result (λ string. entries.string_of entry.now row ≡ Some string.now) }
+    ensures none { IfNone result (entries.is_checked entry.now row ≡ false) }
 {
-    let params = row.params();
-    let mut values = ArrayVec::new();
-    for number in params.as_slice() {
-        values.push(Param::Number(i32::from(*number)));
-    }
-    values
-}
-
-/// The fault of a string's run for a row.
-fn fault_of(alloc: Global, string: &[u8], row: Row) -> Cause
-    requires { (fault : ParmFault) × (meaning string.now (sends.values row) zeros ≡ Err fault) }
-    ensures { spec.IsUnsendable string.now row result }
-{
-    let values = values(row);
-    match reads_unset(alloc, string, values.as_slice()) {
-        Ok(_) => unreachable!(),
-        Err(ParmFault::NoMemory) => Cause::NoMemory,
-        Err(fault) => Cause::Parm(fault),
+    if is_checked(entry, row) {
+        entry.get_string(row.cap())
+    } else {
+        None
     }
 }
 
@@ -53,7 +38,7 @@ pub(crate) fn sent_into(
         Ok(()) => Ok(()),
         Err(Unsent::NoMemory) => Err(Cause::NoMemory),
         Err(Unsent::StaticRead) => Err(Cause::StaticRead),
-        Err(Unsent::Fault) => Err(fault_of(alloc, string, row)),
+        Err(Unsent::Fault(fault)) => Err(Cause::Parm(fault)),
     }
 }
 

@@ -1,7 +1,7 @@
 //! Which character set the strings of an entry leave active, all of them together.
 
 ghost use Rattle.std.specs.Prelude.{◌≡◌, ◌+◌, [], IfErr, IfNone, IfOk, IfSome, OnOk, false, true};
-ghost use Rattle.ti_cert.specs.Audit.{with_change};
+ghost use Rattle.ti_cert.specs.Known.{with_change};
 ghost use Rattle.ti_conforms.specs.Charsets.{joined, reach_of};
 ghost use Rattle.ti_conforms.specs.Closing as closing;
 ghost use Rattle.ti_conforms.specs.Table as checked;
@@ -10,7 +10,7 @@ ghost use Rattle.ti_checker.specs.Last as last;
 ghost use Rattle.ti_checker.specs.No.{IsFaulty, IsOfAll};
 ghost use Rattle.ti_checker.specs.Switching as spec;
 ghost use Rattle.ti_conforms.specs.Conforms.{IsFit};
-ghost use Rattle.ti_probes.specs.Probe.{screen_of};
+ghost use Rattle.ti_checker.specs.Probes.{screen_of};
 ghost use Rattle.ti_rows.specs.Lists.{IsFirst, IsInRange, rank};
 ghost use Rattle.ti_rows.specs.Names.{order};
 ghost use Rattle.ti_rows.specs.Starts.{IsFree};
@@ -21,21 +21,14 @@ ghost use Rattle.vt_term.specs.Screen.{Charset, is_graphic};
 
 use crate::causes::{Cause, No};
 use crate::judging::tokens_of;
-use crate::sending::sent;
+use crate::probes::Probe;
+use crate::sending::{checked_string, sent};
 use std::alloc::{AllocError, Global};
 use ti_caps::Entry;
-use ti_conforms::{Charsets, Reach, acsc, is_checked};
-use ti_probes::Probe;
+use ti_conforms::{Charsets, KEPT, Reach, acsc, is_checked, settles};
 use ti_rows::{NO_MARKS, Row};
-use vt_effects::{Sets, Switch, effect_of};
+use vt_effects::{Sets, effect_of};
 use vt_term::{Charset, Size, Token};
-
-/// Nothing changes.
-const KEPT: Sets = Sets {
-    g0_graphic: Switch::Kept,
-    g1_graphic: Switch::Kept,
-    shifted_out: Switch::Kept,
-};
 
 /// What an entry's strings do to the charsets: marks that their tokens turn on, and what whole strings
 /// leave.
@@ -43,13 +36,6 @@ const KEPT: Sets = Sets {
 struct Seen {
     reach: Reach,
     changes: Vec<Sets>,
-}
-
-/// Whether strings of this row leave the charset as whole strings do.
-fn keeps_settled(row: Row) -> bool
-    ensures { result ≡ checked.keeps_settled row }
-{
-    !matches!(row, Row::Smcup | Row::Rmcup)
 }
 
 /// The tokens that a string sends for a row, and what they leave of each charset.
@@ -80,14 +66,12 @@ fn change_at(
     requires fit { IsFit entry.now }
     requires written { EachWritten entry.now size.rows size.cols }
     requires range { IsInRange size.rows size.cols row }
-    ensures some { IfOk result (λ found. IfSome found (λ change. spec.IsChangeOf entry.now row change.0.items change.1)) }
+    ensures some { IfOk result (λ found. IfSome found (λ change. spec.IsChangeOf entry.now row change.0.items
+        change.1)) }
     ensures none { IfOk result (λ found. IfNone found (entries.is_checked entry.now row ≡ false)) }
     ensures refused { IfErr result (IsOfAll entry.now size.rows size.cols) }
 {
-    if !is_checked(entry, row) {
-        return Ok(None);
-    }
-    match entry.get_string(row.cap()) {
+    match checked_string(entry, row) {
         Some(string) => match change_by(alloc, string, row, size) {
             Ok(change) => Ok(Some(change)),
             Err(cause) => Err(No::at(row, cause)),
@@ -124,9 +108,10 @@ impl Seen {
     /// Adds the tokens of a row, and their change.
     fn add(&mut self, row: Row, tokens: &[Token], change: Sets) -> Result<(), AllocError>
         ensures reach { OnOk result (self.new.reach ≡ joined self.old.reach (reach_of tokens.now)) }
-        ensures changes { OnOk result (self.new.changes.items ≡ with_change (checked.keeps_settled row) self.old.changes.items change) }
+        ensures changes { OnOk result (self.new.changes.items
+            ≡ with_change (checked.settles row) self.old.changes.items change) }
     {
-        if keeps_settled(row) {
+        if settles(row) {
             self.changes.push(change)?;
         }
         self.reach.learn_all(tokens);
@@ -138,7 +123,10 @@ impl Seen {
         requires fit { IsFit entry.now }
         requires written { EachWritten entry.now size.rows size.cols }
         requires range { IsInRange size.rows size.cols row }
-        ensures seen { OnOk result (spec.IsSeen entry.now size.rows size.cols self.old.reach self.old.changes.items (order row) (rank size.rows size.cols row) → spec.IsSeen entry.now size.rows size.cols self.new.reach self.new.changes.items (order row) (rank size.rows size.cols row + 1)) }
+        ensures seen { OnOk result (spec.IsSeen entry.now size.rows size.cols self.old.reach self.old.changes.items
+            (order row) (rank size.rows size.cols row)
+            → spec.IsSeen entry.now size.rows size.cols self.new.reach self.new.changes.items
+            (order row) (rank size.rows size.cols row + 1)) }
         ensures refused { IfErr result (IsOfAll entry.now size.rows size.cols) }
     {
         if let Some((tokens, change)) = change_at(alloc, entry, row, size)? {
@@ -152,7 +140,9 @@ impl Seen {
         requires fit { IsFit entry.now }
         requires written { EachWritten entry.now size.rows size.cols }
         requires first { IsFirst size.rows size.cols first }
-        ensures seen { OnOk result (spec.IsSeen entry.now size.rows size.cols self.old.reach self.old.changes.items (order first) 0 → spec.IsSeen entry.now size.rows size.cols self.new.reach self.new.changes.items (order first + 1) 0) }
+        ensures seen { OnOk result (spec.IsSeen entry.now size.rows size.cols self.old.reach self.old.changes.items
+            (order first) 0
+            → spec.IsSeen entry.now size.rows size.cols self.new.reach self.new.changes.items (order first + 1) 0) }
         ensures refused { IfErr result (IsOfAll entry.now size.rows size.cols) }
     {
         let mut row = first;
@@ -186,7 +176,8 @@ fn seen_of(alloc: Global, entry: &Entry, size: Size) -> Result<Seen, No>
 fn first_settled(alloc: Global, entry: &Entry, size: Size, reach: Reach) -> Result<Charsets, No>
     requires fit { IsFit entry.now }
     requires written { EachWritten entry.now size.rows size.cols }
-    ensures sound { IfOk result (λ first. (d : Charset) → closing.has first d ≡ true → spec.IsLeft entry.now size.rows size.cols reach d) }
+    ensures sound { IfOk result (λ first. (d : Charset) → closing.has first d ≡ true
+        → spec.IsLeft entry.now size.rows size.cols reach d) }
     ensures complete { IfOk result (spec.HasLeft entry.now size.rows size.cols reach) }
     ensures refused { IfErr result (IsOfAll entry.now size.rows size.cols) }
 {
@@ -205,7 +196,8 @@ fn first_settled(alloc: Global, entry: &Entry, size: Size, reach: Reach) -> Resu
 fn settled_of(alloc: Global, entry: &Entry, size: Size) -> Result<Charsets, No>
     requires fit { IsFit entry.now }
     requires written { EachWritten entry.now size.rows size.cols }
-    ensures sound { IfOk result (λ settled. (c : Charset) → closing.has settled c ≡ true → spec.AlwaysSettles entry.now size.rows size.cols c) }
+    ensures sound { IfOk result (λ settled. (c : Charset) → closing.has settled c ≡ true
+        → spec.AlwaysSettles entry.now size.rows size.cols c) }
     ensures complete { IfOk result (spec.HasSettled entry.now size.rows size.cols) }
     ensures refused { IfErr result (IsOfAll entry.now size.rows size.cols) }
 {
@@ -245,7 +237,8 @@ fn probe_with(charset: Charset, size: Size) -> Probe
 /// A start with one of these charsets, from which the change activates the other set.
 fn probe_of(settled: &Charsets, change: Sets, graphic: bool, size: Size) -> Option<Probe>
     ensures some { IfSome result (spec.IsMisled settled.now change graphic size.rows size.cols) }
-    ensures none { IfNone result ((c : Charset) → closing.has settled.now c ≡ true → is_graphic (designated change c) ≡ graphic) }
+    ensures none { IfNone result ((c : Charset) → closing.has settled.now c ≡ true
+        → is_graphic (designated change c) ≡ graphic) }
 {
     let charset = settled.misled(change, graphic)?;
     Some(probe_with(charset, size))
@@ -261,10 +254,12 @@ fn misswitched(
 ) -> Result<Option<Probe>, No>
     requires fit { IsFit entry.now }
     requires written { EachWritten entry.now size.rows size.cols }
-    requires sound { (c : Charset) → closing.has settled.now c ≡ true → spec.AlwaysSettles entry.now size.rows size.cols c }
+    requires sound { (c : Charset) → closing.has settled.now c ≡ true
+        → spec.AlwaysSettles entry.now size.rows size.cols c }
     requires complete { spec.HasSettled entry.now size.rows size.cols settled.now }
     ensures some { IfOk result (λ found. IfSome found (spec.AlwaysMisswitches entry.now size.rows size.cols graphic)) }
-    ensures none { IfOk result (λ found. IfNone found (last.OfAllSent entry.now size.rows size.cols (last.SwitchesRight (spec.switching graphic)))) }
+    ensures none { IfOk result (λ found. IfNone found (last.OfAllSent entry.now size.rows size.cols
+        (last.SwitchesRight (spec.switching graphic)))) }
     ensures refused { IfErr result (IsOfAll entry.now size.rows size.cols) }
 {
     match change_at(alloc, entry, switching(graphic), size)? {
@@ -284,10 +279,12 @@ fn check_switch(
 ) -> Result<(), No>
     requires fit { IsFit entry.now }
     requires written { EachWritten entry.now size.rows size.cols }
-    requires sound { (c : Charset) → closing.has settled.now c ≡ true → spec.AlwaysSettles entry.now size.rows size.cols c }
+    requires sound { (c : Charset) → closing.has settled.now c ≡ true
+        → spec.AlwaysSettles entry.now size.rows size.cols c }
     requires complete { spec.HasSettled entry.now size.rows size.cols settled.now }
     requires earlier { graphic ≡ false → last.OfAllSent entry.now size.rows size.cols (last.SwitchesRight rows.Smacs) }
-    ensures right { OnOk result (last.OfAllSent entry.now size.rows size.cols (last.SwitchesRight (spec.switching graphic))) }
+    ensures right { OnOk result (last.OfAllSent entry.now size.rows size.cols
+        (last.SwitchesRight (spec.switching graphic))) }
     ensures refused { IfErr result (IsOfAll entry.now size.rows size.cols) }
 {
     match misswitched(alloc, entry, size, settled, graphic)? {
@@ -300,7 +297,8 @@ fn check_switch(
 fn check_plain(entry: &Entry, size: Size, settled: &Charsets) -> Result<(), No>
     requires fit { IsFit entry.now }
     requires written { EachWritten entry.now size.rows size.cols }
-    requires sound { (c : Charset) → closing.has settled.now c ≡ true → spec.AlwaysSettles entry.now size.rows size.cols c }
+    requires sound { (c : Charset) → closing.has settled.now c ≡ true
+        → spec.AlwaysSettles entry.now size.rows size.cols c }
     requires complete { spec.HasSettled entry.now size.rows size.cols settled.now }
     requires switches { last.SwitchRight entry.now size.rows size.cols }
     ensures right { OnOk result (last.SettleRight entry.now size.rows size.cols) }

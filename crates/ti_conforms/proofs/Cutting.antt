@@ -18,9 +18,9 @@ use Rattle.ti_conforms.specs.Lines.{MayBeCut}
 use Rattle.ti_conforms.specs.Resync.{IsLostAndClosed}
 use Rattle.ti_conforms.proofs.Dropping.{escape_drops}
 use Rattle.ti_conforms.proofs.Fronting.{fronts_stay, wholes_stay}
-use Rattle.ti_conforms.specs.Table.{Table, has, or_nothing, part, widening, resync, resync_front, IsLost}
+use Rattle.ti_conforms.specs.Table.{Table, has, or_nothing, text_of, widening, resync, resync_front, IsLost, resync_of}
 use Rattle.ti_conforms.specs.Judged.{IsJudged}
-use Rattle.ti_conforms.specs.Checked.{IsResynced, JudgedIsChecked}
+use Rattle.ti_conforms.specs.Holds.{IsResynced, JudgedHolds}
 use Rattle.ti_conforms.proofs.Judging.{over_steps, may_be_cut, line}
 use Rattle.ti_conforms.proofs.Resyncing.{resyncs}
 use Rattle.ti_conforms.proofs.Holding.{leads_resync, sets_hold}
@@ -36,8 +36,8 @@ front_of_nothing (x ∷ front) back e = cc
 
 passes_nothing : (t : Table) → Passes t []
 passes_nothing t = record {
-  fronts = λ s rest lost front back parts. record { after = s; runs = subst (λ (l : List ℕ). Runs s l s) (sym (front_of_nothing front back parts)) (runs_nothing s lost.size.state.rest); there = lost };
-  whole = λ s rest lost. record { after = s; runs = runs_nothing s lost.size.state.rest; there = record { rest = rest; lost = lost } };
+  fronts = λ s rest lost front back parts. record { after = s; runs = subst (λ (l : List ℕ). Runs s l s) (sym (front_of_nothing front back parts)) (runs_nothing s lost.sized.state.rest); there = lost };
+  whole = λ s rest lost. record { after = s; runs = runs_nothing s lost.sized.state.rest; there = record { rest = rest; lost = lost } };
 }
 
 front_then : (t : Table) (a b : List ℕ) → Passes t a → Passes t b → (s : State) → s.rest ≡ [] → IsLost t s → (front back : List ℕ) → Compared a b front back → Ends s front (IsLost t)
@@ -65,29 +65,29 @@ passes_line t j row keeps (Some bytes) e =
       whole = λ s rest lost. wholes_stay t.rows t.cols (has t (widening t)) (has t Cnorm) t.reached bytes m s rest lost;
     }
 
-passes_part : (t : Table) → IsJudged t → (row : Row) → sets_visible row ≡ false → Passes t (part t row)
+passes_part : (t : Table) → IsJudged t → (row : Row) → sets_visible row ≡ false → Passes t (text_of t row)
 passes_part t j row keeps = passes_line t j row keeps (t.line_of row) refl
 
 passes_resync : (t : Table) → IsJudged t → Passes t (resync t)
-unfolding resync
-passes_resync t j = passes_then t (resync_front t) (part t (widening t) ++ part t Clear)
-    (passes_then t (part t Smcup ++ part t Enacs) (part t Sgr0 ++ part t Rmacs)
-    (passes_then t (part t Smcup) (part t Enacs) (passes_part t j Smcup refl) (passes_part t j Enacs refl))
-    (passes_then t (part t Sgr0) (part t Rmacs) (passes_part t j Sgr0 refl) (passes_part t j Rmacs refl)))
-    (passes_then t (part t (widening t)) (part t Clear) (passes_part t j (widening t) refl) (passes_part t j Clear refl))
+unfolding resync_of
+passes_resync t j = passes_then t (resync_front t) (text_of t (widening t) ++ text_of t Clear)
+    (passes_then t (text_of t Smcup ++ text_of t Enacs) (text_of t Sgr0 ++ text_of t Rmacs)
+    (passes_then t (text_of t Smcup) (text_of t Enacs) (passes_part t j Smcup refl) (passes_part t j Enacs refl))
+    (passes_then t (text_of t Sgr0) (text_of t Rmacs) (passes_part t j Sgr0 refl) (passes_part t j Rmacs refl)))
+    (passes_then t (text_of t (widening t)) (text_of t Clear) (passes_part t j (widening t) refl) (passes_part t j Clear refl))
 
 resync_cut : (t : Table) → IsJudged t → (text more : List ℕ) → text ≡ 27 ∷ more → Passes t text → (s : State) → IsLost t s → (front back : List ℕ) → text ≡ front ++ back → Ends s front (IsLost t)
-resync_cut t j text more begins p s lost [] back parts = record { after = s; runs = runs_nothing s lost.size.state.rest; there = lost }
+resync_cut t j text more begins p s lost [] back parts = record { after = s; runs = runs_nothing s lost.sized.state.rest; there = lost }
 resync_cut t j text more begins p s lost (x ∷ front) back parts =
     let empty : State = record s { rest = [] } in
-    let sized : IsOfSize t.rows t.cols empty = record { state = record { screen = lost.size.state.screen; rest = empty_open }; rows = lost.size.rows; cols = lost.size.cols } in
-    let cleared : IsLost t empty = record { size = sized; tame = lost.tame; charset = lost.charset; margins = lost.margins; visible = lost.visible } in
+    let sized : IsOfSize t.rows t.cols empty = record { state = record { screen = lost.sized.state.screen; rest = empty_open }; rows = lost.sized.rows; cols = lost.sized.cols } in
+    let cleared : IsLost t empty = record { sized = sized; tame = lost.tame; reached = lost.reached; margins = lost.margins; visible = lost.visible } in
     let y = p.fronts empty refl cleared (x ∷ front) back parts in
     let same : 27 ∷ more ≡ x ∷ (front ++ back) = sym begins ∙ parts in
     let is : x ≡ 27 = cc in
     record {
       after = y.after;
-      runs = subst (λ (b : ℕ). Runs s (b ∷ front) y.after) (sym is) (escape_drops s y.after front lost.size.state.rest (subst (λ (b : ℕ). Runs empty (b ∷ front) y.after) is y.runs));
+      runs = subst (λ (b : ℕ). Runs s (b ∷ front) y.after) (sym is) (escape_drops s y.after front lost.sized.state.rest (subst (λ (b : ℕ). Runs empty (b ∷ front) y.after) is y.runs));
       there = y.there;
     }
 
@@ -109,13 +109,13 @@ resynced t j shows s known =
       after = e.after;
       runs = e.runs;
       there = record {
-        blank = e.there;
-        settled = ap (λ (c : Charset). t.settled c) (led_to s e.after (resync t) j.rest l.tokens j.escapes l.whole known.size.state.rest e.runs ∙ l.leads s.screen.charset) ∙ j.first_settled s.screen.charset known.charset;
+        cleared = e.there;
+        settled = ap (λ (c : Charset). t.settled c) (led_to s e.after (resync t) j.rest l.tokens j.escapes l.whole known.sized.state.rest e.runs ∙ l.leads s.screen.charset) ∙ j.first_settled s.screen.charset known.reached;
       };
     }
 
-pub judged_is_checked : JudgedIsChecked
-judged_is_checked t j = record {
+pub judged_holds : JudgedHolds
+judged_holds t j = record {
   lines = line t j;
   resyncs = resynced t j;
   resync_fronts = λ s lost front back parts. resync_cut t j (resync t) j.rest j.escapes (passes_resync t j) s lost front back parts;

@@ -12,7 +12,7 @@ use Rattle.vt_screen.proofs.Keeps.{Kept}
 use Rattle.vt_term.proofs.Keeps.{steps_kept}
 use Rattle.vt_term.proofs.Running.{run_keeps}
 use Rattle.vt_effects.specs.Settings.{IsTame, EachTame, EachKeepsMargins, EachKeepsVisible, SameMargins}
-use Rattle.ti_conforms.specs.Lost.{HasWholeMargins, IsLost}
+use Rattle.ti_conforms.specs.Lost.{IsWhole, IsLost}
 use Rattle.vt_term.specs.Ends.{Ends}
 use Rattle.ti_conforms.specs.Lines.{StaysIn}
 use Rattle.ti_conforms.specs.Resync.{FrontsStay, WholesStay}
@@ -30,7 +30,7 @@ reached_steps : (reached : Charset → Bool) (tokens : List (List ℕ)) (s : Scr
 reached_steps reached [] s h k = k
 reached_steps reached (t ∷ ts) s h k = reached_steps reached ts (step t s) h.1 (ap (λ (c : Charset). reached c) (act_charset (function_of t) s) ∙ h.0 s.charset k)
 
-margins_steps : (rows : ℕ) (tokens : List (List ℕ)) (s : Screen) → IsScreen s → s.rows ≡ rows → EachKeepsMargins rows tokens → HasWholeMargins s → HasWholeMargins (steps tokens s)
+margins_steps : (rows : ℕ) (tokens : List (List ℕ)) (s : Screen) → IsScreen s → s.rows ≡ rows → EachKeepsMargins rows tokens → IsWhole s → IsWhole (steps tokens s)
 margins_steps rows [] s screen height h k = k
 margins_steps rows (t ∷ ts) s screen height h k =
     let m : SameMargins s (step t s) = h.0 s height in
@@ -53,10 +53,10 @@ stay rows cols sets_margins shows reached tokens rest bytes s tame stays margins
       there = (
         refl,
         record {
-          size = run_keeps rows cols s t bytes lost.size runs;
+          sized = run_keeps rows cols s t bytes lost.sized runs;
           tame = tame_steps tokens s.screen tame lost.tame;
-          charset = reached_steps reached tokens s.screen stays lost.charset;
-          margins = λ none. margins_steps rows tokens s.screen lost.size.state.screen lost.size.rows (margins none) (lost.margins none);
+          reached = reached_steps reached tokens s.screen stays lost.reached;
+          margins = λ none. margins_steps rows tokens s.screen lost.sized.state.screen lost.sized.rows (margins none) (lost.margins none);
           visible = λ none. visible_steps tokens s.screen (visible none) ∙ lost.visible none;
         },
       );

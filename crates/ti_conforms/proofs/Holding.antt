@@ -15,7 +15,7 @@ use Rattle.ti_conforms.specs.Charsets.{charset_after, charset_over, IsAmong}
 use Rattle.ti_rows.specs.declared.rows.Row.{Row}
 use Rattle.ti_rows.specs.declared.rows.Row.TheVariants.{Clear, Smcup, Enacs, Sgr0, Rmacs}
 use Rattle.ti_rows.specs.Asked.{start_of}
-use Rattle.ti_conforms.specs.Table.{Table, or_nothing, part, widening, resync, resync_front}
+use Rattle.ti_conforms.specs.Table.{Table, or_nothing, text_of, widening, resync, resync_front, resync_of}
 use Rattle.ti_conforms.specs.Sets.{CanHave, AtReset, AfterToken, LeadsBy, CanSettle, AfterResync, AfterLine, SetsHold}
 use Rattle.ti_conforms.specs.Judged.{JudgedLine, ChangesSets, NoLine, ByLine, changed, left_of, IsJudged}
 use Rattle.ti_conforms.proofs.Judging.{over_steps}
@@ -63,11 +63,11 @@ leads_nothing = record { tokens = []; whole = empty_splits; leads = λ c. refl }
 leads_line : (t : Table) (row : Row) (bytes : List ℕ) (l : JudgedLine t row bytes) → Leads bytes (λ c. designated l.effect.charset c)
 leads_line t row bytes l = record { tokens = l.tokens; whole = l.whole; leads = line_sets t row bytes l }
 
-leads_part : (t : Table) (row : Row) (change : Option Sets) → ChangesSets t row change → Leads (part t row) (λ c. changed change c)
+leads_part : (t : Table) (row : Row) (change : Option Sets) → ChangesSets t row change → Leads (text_of t row) (λ c. changed change c)
 leads_part t row change (NoLine none is) =
-    subst (λ (o : Option Sets). Leads (part t row) (λ c. changed o c)) (sym is) (subst (λ (b : List ℕ). Leads b (λ c. c)) (sym (ap or_nothing none)) leads_nothing)
+    subst (λ (o : Option Sets). Leads (text_of t row) (λ c. changed o c)) (sym is) (subst (λ (b : List ℕ). Leads b (λ c. c)) (sym (ap or_nothing none)) leads_nothing)
 leads_part t row change (ByLine bytes there l is) =
-    subst (λ (o : Option Sets). Leads (part t row) (λ c. changed o c)) (sym is) (subst (λ (b : List ℕ). Leads b (λ c. designated l.effect.charset c)) (sym (ap or_nothing there)) (leads_line t row bytes l))
+    subst (λ (o : Option Sets). Leads (text_of t row) (λ c. changed o c)) (sym is) (subst (λ (b : List ℕ). Leads b (λ c. designated l.effect.charset c)) (sym (ap or_nothing there)) (leads_line t row bytes l))
 
 leads_kept : (bytes : List ℕ) (f : Charset → Charset) → Leads bytes f → ((c : Charset) → f c ≡ c) → Leads bytes (λ c. c)
 leads_kept bytes f p same = record { tokens = p.tokens; whole = p.whole; leads = λ c. p.leads c ∙ same c }
@@ -83,12 +83,12 @@ clear_keeps t j (Some bytes) e = let l : JudgedLine t Clear bytes = j.lines Clea
     leads_kept bytes (λ c. designated l.effect.charset c) (leads_line t Clear bytes l) (λ c. ap (λ (x : Effect). designated x.charset c) l.asked_for)
 
 pub leads_resync : (t : Table) (j : IsJudged t) → Leads (resync t) (λ c. left_of j.changes c)
-unfolding resync
-leads_resync t j = leads_joined (resync_front t) (part t (widening t) ++ part t Clear) (λ c. left_of j.changes c) (λ c. c)
-    (leads_joined (part t Smcup ++ part t Enacs) (part t Sgr0 ++ part t Rmacs) (λ c. changed j.changes.enacs (changed j.changes.smcup c)) (λ c. changed j.changes.rmacs (changed j.changes.sgr0 c))
-    (leads_joined (part t Smcup) (part t Enacs) (λ c. changed j.changes.smcup c) (λ c. changed j.changes.enacs c) (leads_part t Smcup j.changes.smcup j.smcup) (leads_part t Enacs j.changes.enacs j.enacs))
-    (leads_joined (part t Sgr0) (part t Rmacs) (λ c. changed j.changes.sgr0 c) (λ c. changed j.changes.rmacs c) (leads_part t Sgr0 j.changes.sgr0 j.sgr0) (leads_part t Rmacs j.changes.rmacs j.rmacs)))
-    (leads_joined (part t (widening t)) (part t Clear) (λ c. c) (λ c. c) (widen_keeps t j (t.line_of (widening t)) refl) (clear_keeps t j (t.line_of Clear) refl))
+unfolding resync_of
+leads_resync t j = leads_joined (resync_front t) (text_of t (widening t) ++ text_of t Clear) (λ c. left_of j.changes c) (λ c. c)
+    (leads_joined (text_of t Smcup ++ text_of t Enacs) (text_of t Sgr0 ++ text_of t Rmacs) (λ c. changed j.changes.enacs (changed j.changes.smcup c)) (λ c. changed j.changes.rmacs (changed j.changes.sgr0 c))
+    (leads_joined (text_of t Smcup) (text_of t Enacs) (λ c. changed j.changes.smcup c) (λ c. changed j.changes.enacs c) (leads_part t Smcup j.changes.smcup j.smcup) (leads_part t Enacs j.changes.enacs j.enacs))
+    (leads_joined (text_of t Sgr0) (text_of t Rmacs) (λ c. changed j.changes.sgr0 c) (λ c. changed j.changes.rmacs c) (leads_part t Sgr0 j.changes.sgr0 j.sgr0) (leads_part t Rmacs j.changes.rmacs j.rmacs)))
+    (leads_joined (text_of t (widening t)) (text_of t Clear) (λ c. c) (λ c. c) (widen_keeps t j (t.line_of (widening t)) refl) (clear_keeps t j (t.line_of Clear) refl))
 
 -- there is one splitting, so there is one such charset
 led : (bytes : List ℕ) (f : Charset → Charset) (c d : Charset) → Leads bytes f → LeadsBy bytes c d → d ≡ f c

@@ -21,12 +21,12 @@ use Rattle.ti_rows.specs.Right.{IsRight, sets_margins, sets_visible}
 use Rattle.ti_rows.proofs.Starting.{starts_allowed}
 use Rattle.ti_rows.proofs.Wanting.{asked_is_wanted}
 use Rattle.ti_rows.proofs.Righting.{recorded_is_right}
-use Rattle.vt_term.specs.Ends.{Ends}
+use Rattle.vt_term.specs.Ends.{Closed, Ends}
 use Rattle.ti_conforms.specs.Lines.{StaysIn, MayBeCut}
 use Rattle.ti_conforms.proofs.Fronting.{fronts_stay}
-use Rattle.ti_conforms.specs.Table.{Table, has, widening, Activates}
+use Rattle.ti_conforms.specs.Table.{Table, has, widening, Activates, Ended}
 use Rattle.ti_conforms.specs.Judged.{JudgedLine, IsJudged}
-use Rattle.ti_conforms.specs.Checked.{IsEnd, IsLine}
+use Rattle.ti_conforms.specs.Holds.{LineHolds}
 
 pub over_steps : (ts : List (List ℕ)) (s : Screen) → (steps ts s).charset ≡ charset_over ts s.charset
 over_steps [] s = refl
@@ -42,7 +42,7 @@ right t row bytes l = recorded_is_right t.rows t.cols t.looks row bytes l.tokens
 activates_as : (row : Row) (c d : Charset) → d ≡ c → Activates row c → Activates row d
 activates_as row c d e h = subst (λ (x : Charset). Activates row x) (sym e) h
 
-pub ends : (t : Table) (row : Row) (bytes : List ℕ) → JudgedLine t row bytes → (s : State) → s.rest ≡ [] → Starts t.rows t.cols row s.screen → Ends s bytes (IsEnd t row s.screen)
+pub ends : (t : Table) (row : Row) (bytes : List ℕ) → JudgedLine t row bytes → (s : State) → s.rest ≡ [] → Starts t.rows t.cols row s.screen → Ends s bytes (Closed (Ended t row s.screen))
 ends t row bytes l s rest start =
     let same : steps l.tokens s.screen ≡ applied l.effect s.screen = record_right t.rows t.cols (start_of t.rows t.cols row) l.tokens l.effect l.recorded s.screen (starts_allowed t.rows t.cols row s.screen start) in
     let charset : (steps l.tokens s.screen).charset ≡ designated l.effect.charset s.screen.charset = ap (λ (x : Screen). x.charset) same in
@@ -51,10 +51,12 @@ ends t row bytes l s rest start =
       runs = text_runs s bytes l.tokens rest l.whole;
       there = record {
         rest = refl;
-        wanted = subst (λ (x : Screen). Wants t.looks row s.screen x) (sym same) (asked_is_wanted t.rows t.cols t.looks row l.effect l.asked_for s.screen start);
-        settled = λ k h. ap (λ (c : Charset). t.settled c) charset ∙ l.settles k s.screen.charset h;
-        active = λ h. activates_as row (designated l.effect.charset s.screen.charset) _ charset (l.active s.screen.charset h);
-        reached = λ h. ap (λ (c : Charset). t.reached c) (over_steps l.tokens s.screen) ∙ over_stays t.reached l.tokens s.screen.charset l.stays h;
+        screen = record {
+          wants = subst (λ (x : Screen). Wants t.looks row s.screen x) (sym same) (asked_is_wanted t.rows t.cols t.looks row l.effect l.asked_for s.screen start);
+          settled = λ k h. ap (λ (c : Charset). t.settled c) charset ∙ l.settles k s.screen.charset h;
+          active = λ h. activates_as row (designated l.effect.charset s.screen.charset) _ charset (l.active s.screen.charset h);
+          reached = λ h. ap (λ (c : Charset). t.reached c) (over_steps l.tokens s.screen) ∙ over_stays t.reached l.tokens s.screen.charset l.stays h;
+        };
       };
     }
 
@@ -84,7 +86,7 @@ may_be_cut t row bytes j there l shows =
       visible = kept_visible t row r.tokens (sets_visible row) refl r.visible shows;
     }
 
-pub line : (t : Table) → IsJudged t → (row : Row) (bytes : List ℕ) → t.line_of row ≡ Some bytes → IsLine t row bytes
+pub line : (t : Table) → IsJudged t → (row : Row) (bytes : List ℕ) → t.line_of row ≡ Some bytes → LineHolds t row bytes
 line t j row bytes there =
     let l : JudgedLine t row bytes = j.lines row bytes there in
     record {

@@ -21,7 +21,7 @@ use Rattle.vt_effects.specs.Effect.{rendered, designated, switched, top_of, bott
 use Rattle.vt_effects.specs.Start.{Allows}
 use Rattle.vt_effects.proofs.Sounding.{record_right}
 use Rattle.vt_effects.specs.Settings.{IsTame, SetsAs}
-use Rattle.ti_conforms.specs.Lost.{HasWholeMargins, IsBlank}
+use Rattle.ti_conforms.specs.Lost.{IsWhole, IsCleared}
 use Rattle.vt_term.specs.Ends.{Ends}
 use Rattle.ti_conforms.specs.Lines.{HasLine, free_start, IsQuiet, Clears, MayWiden, Absent, Present}
 use Rattle.ti_conforms.specs.Resync.{Settled, Settles, ResyncLeads}
@@ -93,12 +93,12 @@ pub record IsReady (rows cols : ℕ) (c : Charset) (visible : Bool) (t : State) 
   pub rendition : t.screen.rendition ≡ plain
   pub charset : t.screen.charset ≡ c
   pub visible_is : t.screen.visible ≡ visible
-  pub margins : HasWholeMargins t.screen
+  pub margins : IsWhole t.screen
 
-widened : (rows cols : ℕ) (sets_margins : Bool) (csr : List ℕ) → MayWiden rows cols csr sets_margins → (s x : State) (r : Rendition) (c : Charset) → (sets_margins ≡ false → HasWholeMargins s.screen) → s.screen.rows ≡ rows
+widened : (rows cols : ℕ) (sets_margins : Bool) (csr : List ℕ) → MayWiden rows cols csr sets_margins → (s x : State) (r : Rendition) (c : Charset) → (sets_margins ≡ false → IsWhole s.screen) → s.screen.rows ≡ rows
     → r ≡ plain → Settled rows cols r c s x → Ends x csr (IsReady rows cols c s.screen.visible)
 widened rows cols _ csr (Absent none) s x r c whole height makes_plain k =
-    let w : HasWholeMargins s.screen = whole refl in
+    let w : IsWhole s.screen = whole refl in
     record {
       after = x;
       runs = subst (λ (l : List ℕ). Runs x l x) (sym none) (runs_nothing x k.size.state.rest);
@@ -142,7 +142,7 @@ all_blank rows cols e t h r c clears p i j li lj =
     ∙ cell_at-drawn (λ i j old. if true then blank t.rendition else old) space t.grid i j (omega (arith, h.columns i (omega (arith, r)), c))
     ∙ ap (λ (x : Rendition). blank x) p
 
-free_allows : (rows cols : ℕ) (t : State) → IsOfSize rows cols t → IsTame t.screen → HasWholeMargins t.screen → Allows rows cols (free_start rows cols) t.screen
+free_allows : (rows cols : ℕ) (t : State) → IsOfSize rows cols t → IsTame t.screen → IsWhole t.screen → Allows rows cols (free_start rows cols) t.screen
 free_allows rows cols t size tame whole = record {
   screen = size.state.screen;
   rows = size.rows;
@@ -158,7 +158,7 @@ free_allows rows cols t size tame whole = record {
 }
 
 cleared : (rows cols : ℕ) (clear : List ℕ) (e : Effect) (l : HasLine rows cols (free_start rows cols) clear e) → Clears e → (c : Charset) (visible : Bool) (t : State) → is_graphic c ≡ false → IsReady rows cols c visible t
-    → Ends t clear (IsBlank rows cols visible)
+    → Ends t clear (IsCleared rows cols visible)
 cleared rows cols clear e l clears c visible t quiet k =
     let u : State = record { screen = steps l.tokens t.screen; rest = [] } in
     let same : steps l.tokens t.screen ≡ applied e t.screen = record_right rows cols (free_start rows cols) l.tokens e l.recorded t.screen (free_allows rows cols t k.size k.tame k.margins) in
@@ -169,7 +169,7 @@ cleared rows cols clear e l clears c visible t quiet k =
       after = u;
       runs = line_runs rows cols (free_start rows cols) clear e l t k.rest;
       there = record {
-        size = sized;
+        sized = sized;
         rest = record {
           rest = refl;
           autowrap = sets.tame.autowrap;
@@ -183,19 +183,19 @@ cleared rows cols clear e l clears c visible t quiet k =
         col = ap (λ (z : Screen). z.col) same ∙ ap (λ (w : Move). moved w t.screen.col) clears.col;
         pending = ap (λ (z : Screen). z.pending) same ∙ ap (λ (b : Bool). if b then false else t.screen.pending) clears.pending;
         rendition = sets.rendition ∙ (ap (λ (r : Rendering). rendered r t.screen.rendition) clears.rendition ∙ k.rendition);
-        visible_is = sets.visible ∙ (ap (λ (v : Switch). switched v t.screen.visible) clears.visible ∙ k.visible_is);
+        visible = sets.visible ∙ (ap (λ (v : Switch). switched v t.screen.visible) clears.visible ∙ k.visible_is);
       };
     }
 
 pub resync_leads : ResyncLeads
 resync_leads rows cols sets_margins shows front csr clear more R C reached e begins f makes_plain quiet widens l clears s lost =
     let empty : State = record s { rest = [] } in
-    let sized : IsOfSize rows cols empty = record { state = record { screen = lost.size.state.screen; rest = empty_open }; rows = lost.size.rows; cols = lost.size.cols } in
+    let sized : IsOfSize rows cols empty = record { state = record { screen = lost.sized.state.screen; rest = empty_open }; rows = lost.sized.rows; cols = lost.sized.cols } in
     let x = f empty refl sized lost.tame in
-    let y = widened rows cols sets_margins csr widens empty x.after (R s.screen.rendition) (C s.screen.charset) lost.margins lost.size.rows (makes_plain s.screen.rendition) x.there in
-    let z = cleared rows cols clear e l clears (C s.screen.charset) s.screen.visible y.after (quiet s.screen.charset lost.charset) y.there in
+    let y = widened rows cols sets_margins csr widens empty x.after (R s.screen.rendition) (C s.screen.charset) lost.margins lost.sized.rows (makes_plain s.screen.rendition) x.there in
+    let z = cleared rows cols clear e l clears (C s.screen.charset) s.screen.visible y.after (quiet s.screen.charset lost.reached) y.there in
     let whole : Runs empty (front ++ (csr ++ clear)) z.after = runs_append empty x.after z.after front (csr ++ clear) x.runs (runs_append x.after y.after z.after csr clear y.runs z.runs) in
-    let escaped : Runs s (27 ∷ more) z.after = escape_drops s z.after more lost.size.state.rest (subst (λ (l : List ℕ). Runs empty l z.after) begins whole) in
+    let escaped : Runs s (27 ∷ more) z.after = escape_drops s z.after more lost.sized.state.rest (subst (λ (l : List ℕ). Runs empty l z.after) begins whole) in
     record {
       after = z.after;
       runs = subst (λ (l : List ℕ). Runs s l z.after) (sym begins) escaped;

@@ -14,3 +14,4 @@ pub mod Cutting
 pub mod Valuing
 pub mod Walking
 pub mod Matching
+pub mod Sendable

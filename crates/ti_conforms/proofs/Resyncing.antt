@@ -9,38 +9,38 @@ use Rattle.vt_effects.specs.Effect.{rendered, designated}
 use Rattle.ti_rows.specs.declared.rows.Row.{Row}
 use Rattle.ti_rows.specs.declared.rows.Row.TheVariants.{Clear, Smcup, Enacs, Sgr0, Rmacs}
 use Rattle.ti_rows.specs.Asked.{start_of}
-use Rattle.ti_conforms.specs.Lost.{IsBlank}
+use Rattle.ti_conforms.specs.Lost.{IsCleared}
 use Rattle.vt_term.specs.Ends.{Ends}
 use Rattle.ti_conforms.specs.Lost as lost
 use Rattle.ti_conforms.specs.Lines.{HasLine, free_start, IsQuiet, SetsMargins, Clears, MayWiden, Absent, Present}
 use Rattle.ti_conforms.specs.Resync.{Settles}
 use Rattle.ti_conforms.proofs.Leading.{quiet_settles, nothing_settles, settles_then, resync_leads}
-use Rattle.ti_conforms.specs.Table.{Table, has, or_nothing, part, widening, resync, resync_front}
+use Rattle.ti_conforms.specs.Table.{Table, has, or_nothing, text_of, widening, resync, resync_front, resync_of}
 use Rattle.ti_conforms.specs.Judged.{JudgedLine, ChangesSets, NoLine, ByLine, changed, left_of, IsJudged}
 
 -- a line of one of the four rows, or none, with what it does to the rendition
 record SettlesBy (t : Table) (row : Row) (change : Option Sets) : Type 0 where
   render : Rendition → Rendition
-  settles : Settles t.rows t.cols (part t row) render (changed change)
+  settles : Settles t.rows t.cols (text_of t row) render (changed change)
 
 has_line : (t : Table) (row : Row) (bytes : List ℕ) (l : JudgedLine t row bytes) → HasLine t.rows t.cols (start_of t.rows t.cols row) bytes l.effect
 has_line t row bytes l = record { tokens = l.tokens; whole = l.whole; recorded = l.recorded }
 
-part_is : (t : Table) (row : Row) (o : Option (List ℕ)) → t.line_of row ≡ o → part t row ≡ or_nothing o
+part_is : (t : Table) (row : Row) (o : Option (List ℕ)) → t.line_of row ≡ o → text_of t row ≡ or_nothing o
 part_is t row o e = ap or_nothing e
 
 by_line : (t : Table) (row : Row) (change : Option Sets) (bytes : List ℕ) (l : JudgedLine t row bytes) → IsQuiet l.effect → t.line_of row ≡ Some bytes → change ≡ Some l.effect.charset
-    → Settles t.rows t.cols (part t row) (λ r. rendered l.effect.rendition r) (changed change)
+    → Settles t.rows t.cols (text_of t row) (λ r. rendered l.effect.rendition r) (changed change)
 by_line t row change bytes l q there is =
     let s : Settles t.rows t.cols bytes (λ r. rendered l.effect.rendition r) (λ c. designated l.effect.charset c) = quiet_settles t.rows t.cols (start_of t.rows t.cols row) bytes l.effect (has_line t row bytes l) q in
-    let moved : Settles t.rows t.cols (part t row) (λ r. rendered l.effect.rendition r) (λ c. designated l.effect.charset c) =
+    let moved : Settles t.rows t.cols (text_of t row) (λ r. rendered l.effect.rendition r) (λ c. designated l.effect.charset c) =
     subst (λ (b : List ℕ). Settles t.rows t.cols b (λ r. rendered l.effect.rendition r) (λ c. designated l.effect.charset c)) (sym (part_is t row (Some bytes) there)) s in
-    subst (λ (o : Option Sets). Settles t.rows t.cols (part t row) (λ r. rendered l.effect.rendition r) (changed o)) (sym is) moved
+    subst (λ (o : Option Sets). Settles t.rows t.cols (text_of t row) (λ r. rendered l.effect.rendition r) (changed o)) (sym is) moved
 
-no_line : (t : Table) (row : Row) (change : Option Sets) → t.line_of row ≡ None → change ≡ None → Settles t.rows t.cols (part t row) (λ r. r) (changed change)
+no_line : (t : Table) (row : Row) (change : Option Sets) → t.line_of row ≡ None → change ≡ None → Settles t.rows t.cols (text_of t row) (λ r. r) (changed change)
 no_line t row change none is =
-    let moved : Settles t.rows t.cols (part t row) (λ r. r) (λ c. c) = subst (λ (b : List ℕ). Settles t.rows t.cols b (λ r. r) (λ c. c)) (sym (part_is t row None none)) (nothing_settles t.rows t.cols) in
-    subst (λ (o : Option Sets). Settles t.rows t.cols (part t row) (λ r. r) (changed o)) (sym is) moved
+    let moved : Settles t.rows t.cols (text_of t row) (λ r. r) (λ c. c) = subst (λ (b : List ℕ). Settles t.rows t.cols b (λ r. r) (λ c. c)) (sym (part_is t row None none)) (nothing_settles t.rows t.cols) in
+    subst (λ (o : Option Sets). Settles t.rows t.cols (text_of t row) (λ r. r) (changed o)) (sym is) moved
 
 settles_by : (t : Table) (row : Row) (change : Option Sets) → ((bytes : List ℕ) (l : JudgedLine t row bytes) → IsQuiet l.effect) → ChangesSets t row change → SettlesBy t row change
 settles_by t row change quiet (NoLine none is) = record { render = λ r. r; settles = no_line t row change none is }
@@ -62,7 +62,7 @@ quiet_rmacs t bytes l = record { margins = ap (λ (e : Effect). e.margins) l.ask
 record MakesPlain (t : Table) (sgr0 rmacs : Option Sets) : Type 0 where
   render : Rendition → Rendition
   makes : (r : Rendition) → render r ≡ plain
-  settles : Settles t.rows t.cols (part t Sgr0 ++ part t Rmacs) render (λ c. changed rmacs (changed sgr0 c))
+  settles : Settles t.rows t.cols (text_of t Sgr0 ++ text_of t Rmacs) render (λ c. changed rmacs (changed sgr0 c))
 
 sgr0_plain : (t : Table) (bytes : List ℕ) (l : JudgedLine t Sgr0 bytes) (r : Rendition) → rendered l.effect.rendition r ≡ plain
 sgr0_plain t bytes l r = ap (λ (e : Effect). rendered e.rendition r) l.asked_for
@@ -70,16 +70,16 @@ sgr0_plain t bytes l r = ap (λ (e : Effect). rendered e.rendition r) l.asked_fo
 rmacs_keeps : (t : Table) (bytes : List ℕ) (l : JudgedLine t Rmacs bytes) (r : Rendition) → rendered l.effect.rendition r ≡ r
 rmacs_keeps t bytes l r = ap (λ (e : Effect). rendered e.rendition r) l.asked_for
 
-with_rmacs : (t : Table) (bytes : List ℕ) (l : JudgedLine t Sgr0 bytes) (sgr0 rmacs : Option Sets) → Settles t.rows t.cols (part t Sgr0) (λ r. rendered l.effect.rendition r) (changed sgr0) → ChangesSets t Rmacs rmacs → MakesPlain t sgr0 rmacs
+with_rmacs : (t : Table) (bytes : List ℕ) (l : JudgedLine t Sgr0 bytes) (sgr0 rmacs : Option Sets) → Settles t.rows t.cols (text_of t Sgr0) (λ r. rendered l.effect.rendition r) (changed sgr0) → ChangesSets t Rmacs rmacs → MakesPlain t sgr0 rmacs
 with_rmacs t bytes l sgr0 rmacs first (NoLine none is) = record {
   render = λ r. rendered l.effect.rendition r;
   makes = sgr0_plain t bytes l;
-  settles = settles_then t.rows t.cols (part t Sgr0) (part t Rmacs) (λ r. rendered l.effect.rendition r) (λ r. r) (changed sgr0) (changed rmacs) first (no_line t Rmacs rmacs none is);
+  settles = settles_then t.rows t.cols (text_of t Sgr0) (text_of t Rmacs) (λ r. rendered l.effect.rendition r) (λ r. r) (changed sgr0) (changed rmacs) first (no_line t Rmacs rmacs none is);
 }
 with_rmacs t bytes l sgr0 rmacs first (ByLine other there m is) = record {
   render = λ r. rendered m.effect.rendition (rendered l.effect.rendition r);
   makes = λ r. rmacs_keeps t other m (rendered l.effect.rendition r) ∙ sgr0_plain t bytes l r;
-  settles = settles_then t.rows t.cols (part t Sgr0) (part t Rmacs) (λ r. rendered l.effect.rendition r) (λ r. rendered m.effect.rendition r) (changed sgr0) (changed rmacs) first (by_line t Rmacs rmacs other m (quiet_rmacs t other m) there is);
+  settles = settles_then t.rows t.cols (text_of t Sgr0) (text_of t Rmacs) (λ r. rendered l.effect.rendition r) (λ r. rendered m.effect.rendition r) (changed sgr0) (changed rmacs) first (by_line t Rmacs rmacs other m (quiet_rmacs t other m) there is);
 }
 
 makes_plain : (t : Table) (j : IsJudged t) → ChangesSets t Sgr0 j.changes.sgr0 → MakesPlain t j.changes.sgr0 j.changes.rmacs
@@ -111,18 +111,18 @@ clears_all t bytes l = record {
   visible = ap (λ (e : Effect). e.visible) l.asked_for;
 }
 
-pub resyncs : (t : Table) (j : IsJudged t) (shows : Bool) (s : State) → lost.IsLost t.rows t.cols (has t (widening t)) shows t.reached s → Ends s (resync t) (IsBlank t.rows t.cols s.screen.visible)
-unfolding resync
+pub resyncs : (t : Table) (j : IsJudged t) (shows : Bool) (s : State) → lost.IsLost t.rows t.cols (has t (widening t)) shows t.reached s → Ends s (resync t) (IsCleared t.rows t.cols s.screen.visible)
+unfolding resync_of
 resyncs t j shows s known =
     let a = settles_by t Smcup j.changes.smcup (quiet_smcup t) j.smcup in
     let b = settles_by t Enacs j.changes.enacs (quiet_enacs t) j.enacs in
     let p = makes_plain t j j.sgr0 in
-    let first : Settles t.rows t.cols (part t Smcup ++ part t Enacs) (λ r. b.render (a.render r)) (λ c. changed j.changes.enacs (changed j.changes.smcup c)) =
-    settles_then t.rows t.cols (part t Smcup) (part t Enacs) a.render b.render (changed j.changes.smcup) (changed j.changes.enacs) a.settles b.settles in
+    let first : Settles t.rows t.cols (text_of t Smcup ++ text_of t Enacs) (λ r. b.render (a.render r)) (λ c. changed j.changes.enacs (changed j.changes.smcup c)) =
+    settles_then t.rows t.cols (text_of t Smcup) (text_of t Enacs) a.render b.render (changed j.changes.smcup) (changed j.changes.enacs) a.settles b.settles in
     let front : Settles t.rows t.cols (resync_front t) (λ r. p.render (b.render (a.render r))) (λ c. left_of j.changes c) =
-    settles_then t.rows t.cols (part t Smcup ++ part t Enacs) (part t Sgr0 ++ part t Rmacs) (λ r. b.render (a.render r)) p.render (λ c. changed j.changes.enacs (changed j.changes.smcup c)) (λ c. changed j.changes.rmacs (changed j.changes.sgr0 c)) first p.settles in
+    settles_then t.rows t.cols (text_of t Smcup ++ text_of t Enacs) (text_of t Sgr0 ++ text_of t Rmacs) (λ r. b.render (a.render r)) p.render (λ c. changed j.changes.enacs (changed j.changes.smcup c)) (λ c. changed j.changes.rmacs (changed j.changes.sgr0 c)) first p.settles in
     let l : JudgedLine t Clear j.clear_bytes = j.lines Clear j.clear_bytes j.clears in
-    let same : part t Clear ≡ j.clear_bytes = part_is t Clear (Some j.clear_bytes) j.clears in
-    let clear : HasLine t.rows t.cols (free_start t.rows t.cols) (part t Clear) l.effect = subst (λ (x : List ℕ). HasLine t.rows t.cols (free_start t.rows t.cols) x l.effect) (sym same) (has_line t Clear j.clear_bytes l) in
-    resync_leads t.rows t.cols (has t (widening t)) shows (resync_front t) (part t (widening t)) (part t Clear) j.rest (λ r. p.render (b.render (a.render r))) (λ c. left_of j.changes c) t.reached l.effect
+    let same : text_of t Clear ≡ j.clear_bytes = part_is t Clear (Some j.clear_bytes) j.clears in
+    let clear : HasLine t.rows t.cols (free_start t.rows t.cols) (text_of t Clear) l.effect = subst (λ (x : List ℕ). HasLine t.rows t.cols (free_start t.rows t.cols) x l.effect) (sym same) (has_line t Clear j.clear_bytes l) in
+    resync_leads t.rows t.cols (has t (widening t)) shows (resync_front t) (text_of t (widening t)) (text_of t Clear) j.rest (λ r. p.render (b.render (a.render r))) (λ c. left_of j.changes c) t.reached l.effect
     j.escapes front (λ r. p.makes (b.render (a.render r))) j.quiet (may_widen t j (t.line_of (widening t)) refl) clear (clears_all t j.clear_bytes l) s known

@@ -1,76 +1,31 @@
 -- What a painter may know of a verified certificate: its lines, what each does, and what resynchronizes.
-use Rattle.std.specs.Prelude.{ℕ, ◌+◌, ◌-◌, ◌^◌, ◌<◌, ◌≤◌, ◌≡◌, Bool, true, false, List, [], ◌∷◌, ◌++◌, length, sum_by, Option, Some, None, is_some}
+use Rattle.std.specs.Prelude.{ℕ, ◌+◌, ◌^◌, ◌<◌, ◌≤◌, ◌≡◌, ◌&&◌, not, if◌then◌else◌, Bool, true, false, List, [], ◌∷◌, ◌++◌, length, sum_by, Option, Some, None}
 use Rattle.std.specs.List.{AllByRecursion, concat}
 use Rattle.vt_term.specs.Size.{IsSize}
 use Rattle.vt_term.specs.Color.{Color}
-use Rattle.vt_term.specs.Look.{IsPrinted, plain, space}
-use Rattle.vt_term.specs.Grid.{look_at}
-use Rattle.vt_term.specs.Screen.{State, Screen, Charset, IsOfSize, is_graphic}
-use Rattle.vt_term.specs.Ends.{Ends}
-use Rattle.vt_term.specs.Ends.{Drives}
+use Rattle.vt_term.specs.Look.{IsPrinted}
+use Rattle.vt_term.specs.Screen.{State, Charset, IsOfSize, is_graphic}
+use Rattle.vt_term.specs.Ends.{Drives, Ends}
 use Rattle.ti_conforms.specs.Charsets.{reset_charset}
+use Rattle.ti_conforms.specs.Looks.{SingleLooks}
+use Rattle.ti_conforms.specs.Lost.{IsCleared}
+pub use Rattle.ti_conforms.specs.Lost.{IsWhole}
+pub use Rattle.ti_conforms.specs.Table.{Table, Longest, has, or_nothing, text_of, IsLost, settles, Activates, Ended}
 use Rattle.ti_rows.specs.declared.rows.Attributes.{Attributes}
-use Rattle.ti_rows.specs.declared.rows.Looks.{Looks}
 use Rattle.ti_rows.specs.declared.rows.Row.{Row}
-use Rattle.ti_rows.specs.declared.rows.Row.TheVariants.{Clear, Cup, El, El1, Ed, Ech, Sgr, Sgr0, Setaf, Setab, Op, Smul, Rev, Blink, Dim, Bold, Invis, Smso, Smacs, Rmacs, Csr, Ind, Ri, Civis, Cnorm, Cvvis, Smcup, Rmcup}
-use Rattle.ti_rows.specs.Asked.{no_marks}
+use Rattle.ti_rows.specs.declared.rows.Row.TheVariants.{Clear, Cup, El, El1, Ed, Ech, Sgr, Sgr0, Setaf, Setab, Op, Smul, Rev, Blink, Dim, Bold, Invis, Smso, Smacs, Rmacs, Csr, Ind, Ri, Civis, Cnorm, Cvvis}
 use Rattle.ti_rows.specs.Names.{no_attributes}
 use Rattle.ti_rows.specs.Starts.{Starts}
-use Rattle.ti_rows.specs.Wants.{Wants}
+use Rattle.ti_rows.specs.Right.{sets_visible}
 use Rattle.vt_effects.specs.Settings.{IsTame}
 
--- for each group of capabilities the length of its longest line, 0 where it has none
-pub record Longest : Type 0 where
-  pub cup : ℕ
-  pub sgr : ℕ
-  pub setaf : ℕ
-  pub setab : ℕ
-  pub op : ℕ
-  pub sets : ℕ
-  pub erasure : ℕ
-  pub scroll : ℕ
-  pub civis : ℕ
-  pub cnorm : ℕ
-  pub cvvis : ℕ
+-- What may be sent for a row. Without `cnorm` nothing makes the cursor normal again, and so `civis` and `cvvis` are not
+-- sent (terminfo(5), "Highlighting, Underlining, and Visible Bells").
+abbrev pub line_in : Table → Row → Option (List ℕ)
+line_in t row = if sets_visible row && not (has t Cnorm) then None else t.line_of row
 
-pub record Table : Type 0 where
-  pub rows : ℕ
-  pub cols : ℕ
-  -- the bytes of a line with its parameters, where there is one
-  pub line_of : Row → Option (List ℕ)
-  -- how each attribute looks alone
-  pub looks : Looks
-  -- the sets that a cut string may leave, and those that whole strings leave
-  pub reached : Charset → Bool
-  pub settled : Charset → Bool
-  -- what brings a terminal of any state to rest
-  pub resync : List ℕ
-  pub longest : Longest
-
-abbrev pub has : Table → Row → Bool
-has t row = is_some (t.line_of row)
-
-abbrev pub or_nothing : Option (List ℕ) → List ℕ
-or_nothing None = []
-or_nothing (Some l) = l
-
--- the bytes of a row's line, or nothing where there is none
-abbrev pub text_of : Table → Row → List ℕ
-text_of t row = or_nothing (t.line_of row)
-
--- the margins are the whole screen
-pub record IsWhole (s : Screen) : Type 0 where
-  pub top : s.top ≡ 0
-  pub bottom : s.bottom + 1 ≡ s.rows
-
--- Any open rest, cells, cursor, pending, rendition and reached sets. The margins are free where they can be set,
--- and visibility is where it can be turned on.
-pub record IsLost (t : Table) (s : State) : Type 0 where
-  pub sized : IsOfSize t.rows t.cols s
-  pub tame : IsTame s.screen
-  pub reached : t.reached s.screen.charset ≡ true
-  pub margins : has t (Csr 0 (t.rows - 1)) ≡ false → IsWhole s.screen
-  pub visible : has t Cnorm ≡ false → s.screen.visible ≡ true
+abbrev pub sendable : Table → Table
+sendable t = record t { line_of = λ row. line_in t row }
 
 -- nothing is open, the margins are the whole screen, and the sets are settled
 pub record IsReady (t : Table) (s : State) : Type 0 where
@@ -80,24 +35,6 @@ pub record IsReady (t : Table) (s : State) : Type 0 where
   pub whole : IsWhole s.screen
   pub settled : t.settled s.screen.charset ≡ true
   pub visible : has t Cnorm ≡ false → s.screen.visible ≡ true
-
--- all but what begins and ends a program's screen leave settled sets settled
-abbrev pub settles : Row → Bool
-settles Smcup = false
-settles Rmcup = false
-settles _ = true
-
--- what `smacs` and `rmacs` are for
-abbrev pub Activates : Row → Charset → Type 0
-Activates Smacs c = is_graphic c ≡ true
-Activates Rmacs c = is_graphic c ≡ false
-Activates _ c = Unit {0}
-
--- the end of a row's line: as is wanted, and the sets settled if they were
-pub record Ended (t : Table) (row : Row) (s u : Screen) : Type 0 where
-  pub wants : Wants t.looks row s u
-  pub settled : settles row ≡ true → t.settled s.charset ≡ true → t.settled u.charset ≡ true
-  pub active : t.settled s.charset ≡ true → Activates row u.charset
 
 -- the most bytes of a row's line
 abbrev pub limit_of : Table → Row → ℕ
@@ -133,13 +70,9 @@ pub record IsLine (t : Table) (row : Row) (bytes : List ℕ) : Type 0 where
 -- a blank screen at rest, in the default rendition, with the plain set
 pub record IsBlank (t : Table) (seen : Bool) (s : State) : Type 0 where
   pub ready : IsReady t s
-  pub cells : (i j : ℕ) → i < t.rows → j < t.cols → look_at s.screen.grid i j ≡ space
-  pub row : s.screen.row ≡ 0
-  pub col : s.screen.col ≡ 0
-  pub pending : s.screen.pending ≡ false
-  pub rendition : s.screen.rendition ≡ plain
+  pub cleared : IsCleared t.rows t.cols seen s
+  pub open cleared use *
   pub set : is_graphic s.screen.charset ≡ false
-  pub visible : s.screen.visible ≡ seen
 
 -- what a painter sends: lines, and characters
 pub data IsPiece (t : Table) (piece : List ℕ) : Type 0 where
@@ -156,13 +89,8 @@ lengths t rows = sum_by (λ row. length (text_of t row)) rows
 -- Where there is no `sgr`, an attribute is seen exactly if there is a line for it, and a set of attributes takes
 -- `sgr0` and the lines of single attributes (terminfo(5), "Highlighting, Underlining, and Visible Bells").
 pub record HasSingles (t : Table) : Type 0 where
-  pub underline : t.looks.underline ≡ has t Smul
-  pub reverse : t.looks.reverse ≡ has t Rev
-  pub blink : t.looks.blink ≡ has t Blink
-  pub dim : t.looks.dim ≡ has t Dim
-  pub bold : t.looks.bold ≡ has t Bold
-  pub invisible : t.looks.invisible ≡ has t Invis
-  pub standout : has t Smso ≡ false → t.looks.standout ≡ no_marks
+  pub looks : SingleLooks (λ row. has t row) t.looks
+  pub open looks use *
   pub short : length (text_of t Sgr0) + lengths t singles ≤ t.longest.sgr
 
 -- how few bytes a line has, a cell takes and a resynchronization has

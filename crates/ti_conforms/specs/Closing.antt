@@ -1,7 +1,8 @@
 -- The least set of charsets that has these and that no string of these leads out of.
-use Rattle.std.specs.Prelude.{ℕ, ◌+◌, ◌*◌, ◌≡◌, Bool, true, false, List, [], ◌∷◌, not, slice_index_or, sum_by}
+use Rattle.std.specs.Prelude.{ℕ, ◌+◌, ◌*◌, ◌≡◌, Bool, true, false, List, [], ◌∷◌, not, Option, Some, None, slice_index_or, sum_by}
 use Rattle.vt_term.specs.Screen.{Charset}
 use Rattle.vt_effects.specs.declared.effects.Sets.{Sets}
+use Rattle.vt_effects.specs.declared.effects.Switch.TheVariants as switches
 use Rattle.vt_effects.specs.Effect.{designated}
 use Rattle.ti_conforms.specs.Charsets.{IsAmong, can_have}
 use Rattle.ti_conforms.specs.declared.reach.Reach.{Reach}
@@ -32,6 +33,14 @@ has s c = slice_index_or s.members (number_of c) false
 -- how many charsets aren't in the set
 abbrev pub absent : Charsets → ℕ
 absent s = sum_by (λ b. bit (not b)) s.members
+
+-- a string that changes no charset
+abbrev pub kept : Sets
+kept = record { g0_graphic = switches.Kept; g1_graphic = switches.Kept; shifted_out = switches.Kept }
+
+abbrev pub or_kept : Option Sets → Sets
+or_kept None = kept
+or_kept (Some sets) = sets
 
 -- the sets after several strings
 abbrev pub designated_all : List Sets → Charset → Charset

@@ -8,7 +8,7 @@ use Rattle.ti_rows.specs.declared.rows.Row.{Row}
 use Rattle.ti_rows.specs.declared.rows.Row.TheVariants.{Clear, Cup, Sgr0, Smacs}
 use Rattle.ti_rows.specs.Starts.{Starts}
 use Rattle.ti_rows.specs.Right.{IsRight}
-use Rattle.ti_conforms.specs.Lost.{IsBlank, HasWholeMargins}
+use Rattle.ti_conforms.specs.Lost.{IsCleared, IsWhole}
 use Rattle.vt_term.specs.Ends.{Ends}
 use Rattle.ti_conforms.specs.Entries.{acsc, has_string, is_checked, EntryAgrees}
 use Rattle.ti_conforms.specs.Table.{Table, has, widening, resync, Activates}
@@ -51,8 +51,8 @@ Switches t = (row : Row) (bytes : List ℕ) → t.line_of row ≡ Some bytes →
 pub record Resyncs (t : Table) : Type 0 where
   pub rest : List ℕ
   pub escapes : resync t ≡ 27 ∷ rest
-  pub leads : (s : State) → IsOfSize t.rows t.cols s → IsTame s.screen → CanHave t s.screen.charset → (has t (widening t) ≡ false → HasWholeMargins s.screen)
-      → Ends s (resync t) (IsBlank t.rows t.cols s.screen.visible)
+  pub leads : (s : State) → IsOfSize t.rows t.cols s → IsTame s.screen → CanHave t s.screen.charset → (has t (widening t) ≡ false → IsWhole s.screen)
+      → Ends s (resync t) (IsCleared t.rows t.cols s.screen.visible)
 
 pub record Conforms (entry : Content) (rows cols : ℕ) : Type 0 where
   pub fit : IsFit entry

@@ -12,7 +12,7 @@ use Rattle.ti_rows.specs.Asked.{start_of, asked}
 use Rattle.ti_conforms.specs.Lines.{StaysIn}
 use Rattle.ti_conforms.specs.Charsets.{reset_charset}
 use Rattle.ti_conforms.specs.Sets.{has_sets}
-use Rattle.ti_conforms.specs.Table.{Table, has, resync, widening, keeps_settled, Activates}
+use Rattle.ti_conforms.specs.Table.{Table, has, resync, widening, settles, Activates}
 
 -- the record of the bytes from the row's start is the one that the table asks for
 pub record JudgedLine (t : Table) (row : Row) (bytes : List ℕ) : Type 0 where
@@ -22,7 +22,7 @@ pub record JudgedLine (t : Table) (row : Row) (bytes : List ℕ) : Type 0 where
   pub recorded : record_of t.rows t.cols (start_of t.rows t.cols row) tokens ≡ Some effect
   pub asked_for : effect ≡ asked t.looks row effect
   pub stays : StaysIn t.reached tokens
-  pub settles : keeps_settled row ≡ true → (c : Charset) → t.settled c ≡ true → t.settled (designated effect.charset c) ≡ true
+  pub settles : settles row ≡ true → (c : Charset) → t.settled c ≡ true → t.settled (designated effect.charset c) ≡ true
   pub active : (c : Charset) → t.settled c ≡ true → Activates row (designated effect.charset c)
 
 -- what a line does to the sets, nothing where there is no line

@@ -9,9 +9,10 @@ pub mod Resync
 pub mod Table
 pub mod Sets
 pub mod Judged
-pub mod Checked
+pub mod Holds
 pub mod Sends
 pub mod Agreeing
 pub mod Entries
 pub mod Certified
 pub mod Unfit
+pub mod Looks

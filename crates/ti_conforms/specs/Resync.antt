@@ -6,7 +6,7 @@ use Rattle.vt_effects.specs.declared.effects.Effect.{Effect}
 use Rattle.vt_effects.specs.declared.starts.Start.{Start}
 use Rattle.vt_effects.specs.Effect.{rendered, designated}
 use Rattle.vt_effects.specs.Settings.{IsTame, SameMargins}
-use Rattle.ti_conforms.specs.Lost.{IsLost, IsBlank}
+use Rattle.ti_conforms.specs.Lost.{IsLost, IsCleared}
 use Rattle.vt_term.specs.Ends.{Ends}
 use Rattle.ti_conforms.specs.Lines.{HasLine, free_start, IsQuiet, Clears, MayWiden, MayBeCut}
 
@@ -39,7 +39,7 @@ abbrev pub ResyncLeads : Type 0
 ResyncLeads = (rows cols : ℕ) (sets_margins shows : Bool) (front csr clear more : List ℕ) (R : Rendition → Rendition) (C : Charset → Charset) (reached : Charset → Bool) (e : Effect)
     → front ++ (csr ++ clear) ≡ 27 ∷ more → Settles rows cols front R C → ((r : Rendition) → R r ≡ plain) → ((c : Charset) → reached c ≡ true → is_graphic (C c) ≡ false)
     → MayWiden rows cols csr sets_margins → HasLine rows cols (free_start rows cols) clear e → Clears e
-    → (s : State) → IsLost rows cols sets_margins shows reached s → Ends s (front ++ (csr ++ clear)) (IsBlank rows cols s.screen.visible)
+    → (s : State) → IsLost rows cols sets_margins shows reached s → Ends s (front ++ (csr ++ clear)) (IsCleared rows cols s.screen.visible)
 
 -- A line that is cut off anywhere leads from a lost state with nothing open to a lost state; the whole line leaves nothing open.
 abbrev pub FrontsStay : Type 0

@@ -3,7 +3,6 @@
 use Rattle.std.specs.Prelude.{ℕ, ◌≡◌, pos, map, List, Ok, Err}
 use Rattle.ti_parm.specs.Meaning.{State, meaning, sent, ReadsUnset}
 use Rattle.ti_parm.specs.Value.{Value, Number, zeros}
-use Rattle.ti_parm.specs.declared.fault.ParmFault.{ParmFault}
 use Rattle.ti_rows.specs.declared.rows.Row.{Row}
 use Rattle.ti_rows.specs.Params.{params}
 use Rattle.ti_conforms.specs.declared.sending.Unsent.{Unsent}
@@ -28,6 +27,6 @@ pub record ReadsStatic (string : List ℕ) (row : Row) : Type 0 where
 
 -- why nothing is sent
 abbrev pub IsUnsent : List ℕ → Row → Unsent → Type 0
-IsUnsent string row Fault = (fault : ParmFault) × (meaning string (values row) zeros ≡ Err fault)
+IsUnsent string row (Fault fault) = meaning string (values row) zeros ≡ Err fault
 IsUnsent string row StaticRead = ReadsStatic string row
 IsUnsent string row NoMemory = Unit {0}

@@ -6,7 +6,7 @@ use Rattle.vt_term.specs.Screen.{Charset, is_graphic}
 use Rattle.ti_conforms.specs.Charsets.{charset_after, charset_over, IsAmong, reset_charset}
 use Rattle.ti_rows.specs.declared.rows.Row.{Row}
 use Rattle.ti_rows.specs.declared.rows.Row.TheVariants.{Smacs, Rmacs}
-use Rattle.ti_conforms.specs.Table.{Table, has, resync, keeps_settled}
+use Rattle.ti_conforms.specs.Table.{Table, has, resync, settles}
 
 -- the token occurs in a line
 pub record Occurs (t : Table) (token : List ℕ) : Type 0 where
@@ -32,7 +32,7 @@ pub record LeadsBy (bytes : List ℕ) (c d : Charset) : Type 0 where
 -- that begin and end a program's screen leads out of as a whole.
 pub data CanSettle (t : Table) : Charset → Type 0 where
   AfterResync : (c d : Charset) → CanHave t c → LeadsBy (resync t) c d → CanSettle t d
-  AfterLine : (c d : Charset) (row : Row) (bytes : List ℕ) → CanSettle t c → t.line_of row ≡ Some bytes → keeps_settled row ≡ true → LeadsBy bytes c d → CanSettle t d
+  AfterLine : (c d : Charset) (row : Row) (bytes : List ℕ) → CanSettle t c → t.line_of row ≡ Some bytes → settles row ≡ true → LeadsBy bytes c d → CanSettle t d
 
 -- the strings that switch to the graphic set and back are both there
 abbrev pub has_sets : Table → Bool

@@ -1,11 +1,13 @@
 //! Sets of charsets, and what strings lead them to.
 
 ghost use Rattle.std.specs.Prelude.{◌≡◌, ◌⊎◌, ◌<◌, ◌+◌, IfSome, IfNone, ℕ, List, true, false, not};
-ghost use Rattle.ti_conforms.specs.Closing.{Settled, SomeLeads, LeadsOut, Leaves, StaysFrom, absent, designated_all, has, number_of};
+ghost use Rattle.ti_conforms.specs.Closing.{Settled, SomeLeads, LeadsOut, Leaves, StaysFrom, absent, designated_all, has, number_of, or_kept};
+ghost use Rattle.ti_conforms.specs.Table.{settles};
 ghost use Rattle.vt_effects.specs.Effect.{designated, switched};
 ghost use Rattle.vt_term.specs.Screen.{Charset, is_graphic};
 
 use crate::reach::Reach;
+use ti_rows::Row;
 use vt_effects::{Sets, Switch};
 use vt_term::Charset;
 
@@ -35,7 +37,30 @@ fn charset_at(number: usize) -> Charset
     }
 }
 
-fn switched(switch: Switch, on: bool) -> bool
+/// A string that changes no charset.
+pub const KEPT: Sets = Sets {
+    g0_graphic: Switch::Kept,
+    g1_graphic: Switch::Kept,
+    shifted_out: Switch::Kept,
+};
+
+/// What a string does to the charsets, nothing where there is none.
+pub fn or_kept(change: Option<Sets>) -> Sets
+    ensures { result ≡ or_kept change }
+{
+    change.unwrap_or(KEPT)
+}
+
+/// Whether strings of `row` leave charsets as whole strings do: all but what begins and ends a program's
+/// screen.
+pub fn settles(row: Row) -> bool
+    ensures { result ≡ settles row }
+{
+    !matches!(row, Row::Smcup | Row::Rmcup)
+}
+
+/// Whether what was `on` is on after the switch.
+pub fn switched(switch: Switch, on: bool) -> bool
     ensures { result ≡ switched switch on }
 {
     match switch {
@@ -45,8 +70,8 @@ fn switched(switch: Switch, on: bool) -> bool
     }
 }
 
-/// The charset that a string leaves.
-fn designated(change: Sets, charset: Charset) -> Charset
+/// The charset that a string which does `change` leaves of `charset`.
+pub fn designated(change: Sets, charset: Charset) -> Charset
     ensures { result ≡ designated change charset }
 {
     Charset {

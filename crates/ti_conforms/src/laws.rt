@@ -4,7 +4,7 @@ ghost use Rattle.std.specs.Prelude.{◌≡◌, ◌++◌, true, ℕ, List, codes}
 ghost use Rattle.ti_conforms.specs.Charsets.{Reached, can_have, joined, reach_of};
 ghost use Rattle.vt_term.specs.Screen.{Charset};
 ghost use Rattle.ti_conforms.specs.Resync.{QuietSettles, NothingSettles, SettlingJoins, ResyncLeads, FrontsStay, WholesStay};
-ghost use Rattle.ti_conforms.specs.Checked.{JudgedIsChecked};
+ghost use Rattle.ti_conforms.specs.Holds.{JudgedHolds};
 ghost use Rattle.ti_caps.specs.Table.{name_at};
 ghost use Rattle.ti_conforms.specs.Conforms.{AgreedConforms, gn, hc, os, xmc};
 ghost use Rattle.ti_conforms.specs.Together.{AgreedStandTogether};
@@ -46,8 +46,8 @@ pub fn fronts_stay()
 /// the sets are as asked, every line ends as is wanted from each start of its row; cut off anywhere
 /// it leaves a lost state; and from every lost state, whatever is open, the resynchronization leads
 /// to a blank screen at rest.
-pub fn judged_is_checked()
-    ensures { JudgedIsChecked }
+pub fn judged_holds()
+    ensures { JudgedHolds }
 {}
 
 /// Where lines were judged and are just what the entry sends, the entry conforms.

@@ -9,15 +9,17 @@ mod closing;
 mod entries;
 mod fitness;
 pub mod laws;
+mod looks;
 mod partners;
 mod reach;
 mod sending;
 
 pub use agreeing::{AgreeFault, Lines, all_agree};
 pub use certificates::Certificate;
-pub use closing::Charsets;
+pub use closing::{Charsets, KEPT, designated, or_kept, settles, switched};
 pub use entries::{Group, entry_agrees, is_checked};
 pub use fitness::{Unfit, acsc, first_unfit};
+pub use looks::{NO_LOOKS, is_alone, is_some_look};
 pub use partners::{Character, fallback, misfit, partner, shown};
 pub use reach::Reach;
 pub use sending::{Unsent, send, send_into};

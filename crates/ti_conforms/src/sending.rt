@@ -13,7 +13,7 @@ use ti_rows::Row;
 #[derive(Clone, Copy, Debug, PartialEq, Eq)]
 pub enum Unsent {
     /// It can't be expanded for these parameters.
-    Fault,
+    Fault(ParmFault),
     /// It reads a static variable that it has not set before.
     StaticRead,
     /// Out of memory.
@@ -50,7 +50,7 @@ pub fn send_into(alloc: Global, string: &[u8], row: Row, bytes: &mut Vec<u8>) ->
     let reads = match sent_and_reads_unset(alloc, string, values.as_slice(), bytes) {
         Ok(reads) => reads,
         Err(ParmFault::NoMemory) => return Err(Unsent::NoMemory),
-        Err(_) => return Err(Unsent::Fault),
+        Err(fault) => return Err(Unsent::Fault(fault)),
     };
     if reads {
         return Err(Unsent::StaticRead);

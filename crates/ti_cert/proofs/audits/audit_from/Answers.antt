@@ -10,20 +10,20 @@ into_table-requires g c = (whole_read c.in_ok-progress.progress c.judge_lines.ne
 pub returns-in-Ok-clause-rows : goal.returns-in-Ok-clause-rows
 returns-in-Ok-clause-rows g c =
     let w = whole_read c.in_ok-progress.progress c.judge_lines.new.judge c.args.size.rows c.args.size.cols g.R.Reader.left g.R.Reader.failures c.args.reader.now c.judge_lines.new.reader c.in_ok-progress.ensures.ok c.in-Ok.ensures.reports in
-    (sizes_of_table c.judge_lines.new.judge c.args.size.rows c.args.size.cols c.into_table.result w c.into_table.ensures).0
+    (sizes_of_table c.judge_lines.new.judge c.args.size.rows c.args.size.cols c.into_table.result w c.into_table.ensures.made).0
 
 pub returns-in-Ok-clause-cols : goal.returns-in-Ok-clause-cols
 returns-in-Ok-clause-cols g c =
     let w = whole_read c.in_ok-progress.progress c.judge_lines.new.judge c.args.size.rows c.args.size.cols g.R.Reader.left g.R.Reader.failures c.args.reader.now c.judge_lines.new.reader c.in_ok-progress.ensures.ok c.in-Ok.ensures.reports in
-    (sizes_of_table c.judge_lines.new.judge c.args.size.rows c.args.size.cols c.into_table.result w c.into_table.ensures).1
+    (sizes_of_table c.judge_lines.new.judge c.args.size.rows c.args.size.cols c.into_table.result w c.into_table.ensures.made).1
 
 pub returns-in-Ok-clause-few : goal.returns-in-Ok-clause-few
 returns-in-Ok-clause-few g c =
     let w = whole_read c.in_ok-progress.progress c.judge_lines.new.judge c.args.size.rows c.args.size.cols g.R.Reader.left g.R.Reader.failures c.args.reader.now c.judge_lines.new.reader c.in_ok-progress.ensures.ok c.in-Ok.ensures.reports in
-    few_of_table c.judge_lines.new.judge c.args.size.rows c.args.size.cols c.into_table.result w c.into_table.ensures
+    few_of_table c.judge_lines.new.judge c.args.size.rows c.args.size.cols c.into_table.result w c.into_table.ensures.made
 
 pub returns-in-Ok-clause-accepted : goal.returns-in-Ok-clause-accepted
-returns-in-Ok-clause-accepted g c = λ text left. table_of_text c.in_ok-progress.progress c.judge_lines.new.judge c.args.size.rows c.args.size.cols text c.into_table.result c.in_ok-progress.ensures.ok (c.in-Ok.ensures.text text left) c.into_table.ensures
+returns-in-Ok-clause-accepted g c = λ text left. table_of_text c.in_ok-progress.progress c.judge_lines.new.judge c.args.size.rows c.args.size.cols text c.into_table.result c.in_ok-progress.ensures.ok (c.in-Ok.ensures.text text left) c.into_table.ensures.made
 
 pub returns-in-Err-clause-refused : goal.returns-in-Err-clause-refused
 returns-in-Err-clause-refused g c = λ text left. text_refused c.in_ok-progress.progress c.judge_lines.new.judge c.args.size.rows c.args.size.cols text (Rose (g.R.Reader.failures c.args.reader.now) (g.R.Reader.failures c.judge_lines.new.reader)) c.in-Err.fault

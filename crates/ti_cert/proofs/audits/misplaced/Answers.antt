@@ -1,6 +1,6 @@
 use Rattle.std.proofs.Common.{IfSome, refl, subst}
 use Rattle.ti_lines.specs.Heads.{IsAcscText}
-use Rattle.ti_cert.specs.Good.{HasPairs}
+use Rattle.ti_cert.specs.Audits.{HasPairs}
 use Rattle.ti_cert.proofs.audits.misplaced.Goals as goal
 
 pub returns-in-Ok-Some : goal.returns-in-Ok-Some

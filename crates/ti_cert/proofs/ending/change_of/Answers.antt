@@ -1,7 +1,7 @@
 use Rattle.std.proofs.Common.{sym, ◌∙◌}
 use Rattle.std.proofs.lemmas.Result.{err_from_is_err_and}
 use Rattle.ti_cert.specs.Table.{NoString, OfString}
-use Rattle.ti_cert.specs.Good.{NotRecorded}
+use Rattle.ti_cert.specs.Audits.{NotRecorded}
 use Rattle.ti_cert.proofs.Auditing.{not_split, recorded_for}
 use Rattle.ti_cert.proofs.ending.change_of.Goals as goal
 

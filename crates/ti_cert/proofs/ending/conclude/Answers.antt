@@ -3,9 +3,9 @@ use Rattle.vt_term.specs.Screen.{Charset}
 use Rattle.vt_effects.specs.declared.effects.Sets.{Sets}
 use Rattle.ti_conforms.specs.Closing.{Settled, SomeLeads}
 use Rattle.ti_conforms.specs.Closing as closing
-use Rattle.ti_cert.specs.Audit.{Known, Holds}
+use Rattle.ti_cert.specs.Known.{Known, Holds}
 use Rattle.std.proofs.lemmas.Result.{err_from_is_err_and}
-use Rattle.ti_cert.specs.Good.{IsConcluded, ConcludesBy}
+use Rattle.ti_cert.specs.Audits.{IsConcluded, ConcludesBy}
 use Rattle.ti_cert.proofs.Clashing.{concluded, clash}
 use Rattle.ti_cert.proofs.Auditing.{no_lack_at}
 use Rattle.ti_cert.proofs.ending.conclude.Goals as goal

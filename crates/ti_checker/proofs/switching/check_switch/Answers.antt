@@ -1,5 +1,5 @@
 use Rattle.std.proofs.Common.{Option, IfSome, subst}
-use Rattle.ti_probes.specs.declared.probes.Probe.{Probe}
+use Rattle.ti_checker.specs.declared.probes.Probe.{Probe}
 use Rattle.ti_checker.specs.Switching.{AlwaysMisswitches}
 use Rattle.ti_checker.proofs.Sent.{misswitch_so}
 use Rattle.ti_checker.proofs.switching.check_switch.Goals as goal

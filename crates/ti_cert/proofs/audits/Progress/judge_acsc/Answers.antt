@@ -3,7 +3,7 @@ use Rattle.std.specs.Prelude.{option_map}
 use Rattle.std.proofs.lemmas.Result.{on_ok_weaker, IfErr-weaker}
 use Rattle.std.proofs.lemmas.Option.{none-some}
 use Rattle.ti_lines.specs.Heads.{IsAcscText}
-use Rattle.ti_cert.specs.Good.{OrNoMemory, AnswersLater, AnswersLine}
+use Rattle.ti_cert.specs.Audits.{OrNoMemory, AnswersLater, AnswersLine}
 use Rattle.ti_cert.specs.declared.audits.Awaited.TheVariants as lines_awaited
 use Rattle.ti_cert.proofs.Auditing.{second_pairs, second_later, second_refused}
 use Rattle.ti_cert.proofs.audits.Progress.judge_acsc.Goals as goal

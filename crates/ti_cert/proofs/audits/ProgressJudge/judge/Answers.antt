@@ -1,5 +1,5 @@
 use Rattle.std.proofs.lemmas.Result.{on_ok_weaker, IfErr-weaker}
-use Rattle.ti_cert.specs.Good.{OrNoMemory, AnswersLater, AnswersLine}
+use Rattle.ti_cert.specs.Audits.{OrNoMemory, AnswersLater, AnswersLine}
 use Rattle.ti_cert.proofs.Auditing.{later_line, later_refused}
 use Rattle.std.proofs.Common.{Ok}
 use Rattle.ti_cert.proofs.audits.ProgressJudge.judge.Goals as goal

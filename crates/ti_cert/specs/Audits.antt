@@ -1,0 +1,191 @@
+-- (Serves the code alone.) What is known while a certificate is read, and how that stands to what its lines say.
+use Rattle.std.specs.Prelude.{ℕ, ◌+◌, ◌-◌, ◌≡◌, ◌⊎◌, Bool, true, false, not, List, [], ◌∷◌, length, Option, None, Some, Result, Ok, Err}
+use Rattle.vt_effects.specs.declared.effects.Effect.{Effect}
+use Rattle.vt_effects.specs.declared.effects.Sets.{Sets}
+use Rattle.vt_effects.specs.Effect.{designated}
+use Rattle.vt_term.specs.Screen.{Charset, is_graphic}
+use Rattle.ti_conforms.specs.declared.closing.Charsets.{Charsets}
+use Rattle.ti_conforms.specs.Closing as closing
+use Rattle.vt_effects.specs.Record.{record_of}
+use Rattle.vt_term.specs.Text.{Splits}
+use Rattle.ti_conforms.specs.Charsets.{IsAmong}
+use Rattle.ti_conforms.specs.Judged.{IsJudged}
+use Rattle.ti_rows.specs.declared.rows.Row.{Row}
+use Rattle.ti_rows.specs.declared.rows.Row.TheVariants.{Clear, Sgr0, Csr}
+use Rattle.ti_rows.specs.Asked.{start_of, asked}
+use Rattle.ti_rows.specs.Lists.{IsInRange}
+use Rattle.ti_lines.specs.declared.row_lines.RowLine.{RowLine}
+use Rattle.ti_lines.specs.Heads.{IsAcscText}
+use Rattle.ti_lines.specs.Judging.{Rules}
+use Rattle.ti_cert.specs.Known.{Known, Holds, looks_with}
+use Rattle.ti_cert.specs.Certificates.{Said, Nothing, Sized, Listing, Ended, speaks_of, looks_of, IsWholeText, IsMisfit, JudgesRow, JudgesLast, JudgesLater, JudgesLine, JudgesEnd}
+use Rattle.ti_cert.specs.Order.{Precedes, HasLine, HasBytes, IsComplete}
+use Rattle.ti_cert.specs.Clashes.{ClashesBy, GoesTogether}
+use Rattle.ti_cert.specs.Strings.{Strings, string_in, has_group, total}
+use Rattle.ti_cert.specs.Table.{Content, checked_of, first_of_resync, Leads}
+use Rattle.ti_conforms.specs.Closing.{kept}
+use Rattle.ti_cert.specs.declared.audits.Progress.{Progress}
+use Rattle.ti_cert.specs.declared.audits.Awaited.{Awaited}
+use Rattle.ti_cert.specs.declared.audits.Awaited.TheVariants as lines_awaited
+use Rattle.ti_cert.specs.declared.faults.CertFaultKind.{CertFaultKind}
+use Rattle.ti_cert.specs.declared.faults.CertFaultKind.TheVariants.{BadLine, OutOfOrder, NotWhole, NotTame, NotShown, NoResync, BadLook, NoMemory, ReadFailed}
+
+-- how many bytes lines have together
+abbrev pub all_bytes : List RowLine → ℕ
+all_bytes [] = 0
+all_bytes (line ∷ lines) = length line.bytes + all_bytes lines
+
+-- the strings are those of the lines, and attributes look as these tell
+pub record Lists (k : Known) (lines : List RowLine) : Type 0 where
+  pub found : (row : Row) (bytes : List ℕ) → string_in k.strings row ≡ Some bytes → HasBytes lines row bytes
+  pub kept : (line : RowLine) → IsAmong lines line → string_in k.strings line.row ≡ Some line.bytes
+  pub groups : (row : Row) → has_group k.strings row ≡ speaks_of lines row
+  pub looks : k.looks ≡ looks_of lines
+  pub total_is : total k.strings ≡ all_bytes lines
+
+-- the last of these lines is about this row, and nothing is missing before it
+pub record IsLastRow (rows cols : ℕ) (lines : List RowLine) (last : Row) : Type 0 where
+  pub range : IsInRange rows cols last
+  pub there : HasLine lines last
+  pub upper : (line : RowLine) → IsAmong lines line → (line.row ≡ last) ⊎ Precedes rows cols line.row last
+  pub complete : IsComplete rows cols lines (Some last)
+
+abbrev pub IsUpTo : ℕ → ℕ → List RowLine → Option Row → Type 0
+IsUpTo rows cols lines None = (line : RowLine) → IsAmong lines line → ⊥
+IsUpTo rows cols lines (Some last) = IsLastRow rows cols lines last
+
+-- the size and all lines about capabilities
+pub record Stands (p : Progress) (lines : List RowLine) : Type 0 where
+  pub rows : p.known.strings.rows ≡ p.size.rows
+  pub cols : p.known.strings.cols ≡ p.size.cols
+  pub holds : Holds p.known
+  pub lists : Lists p.known lines
+  pub place : IsUpTo p.size.rows p.size.cols lines p.place.last
+
+-- where the last line was read, the strings were judged
+abbrev pub Tells : Progress → Awaited → Said → Type 0
+Tells p lines_awaited.First Nothing = Stands p [] × (p.acsc ≡ None)
+Tells p lines_awaited.Acsc Sized = Stands p [] × (p.acsc ≡ None)
+Tells p lines_awaited.Rows (Listing pairs lines) = Stands p lines × (p.acsc ≡ pairs)
+Tells p (lines_awaited.Ended settled) (Ended pairs lines) = Stands p lines × (p.acsc ≡ pairs) × IsJudged (checked_of p.known settled)
+Tells p awaited said = ⊥
+
+abbrev pub TellsNow : Progress → Said → Type 0
+TellsNow p said = Tells p p.awaited said
+
+-- what is judged here is so of the lines, whatever they are
+pub record Steps (q : Progress) (size_rows size_cols : ℕ) (Judges : Result Said CertFaultKind → Type 0) : Type 0 where
+  pub after : Said
+  pub judges : Judges (Ok after)
+  pub tells : TellsNow q after
+  pub rows : q.size.rows ≡ size_rows
+  pub cols : q.size.cols ≡ size_cols
+
+abbrev pub Becomes : Progress → Result Progress CertFaultKind → (Result Said CertFaultKind → Type 0) → Type 0
+Becomes p (Ok q) Judges = Steps q p.size.rows p.size.cols Judges
+Becomes p (Err kind) Judges = Judges (Err kind)
+
+abbrev pub AnswersLine : Progress → List ℕ → Result Progress CertFaultKind → Type 0
+AnswersLine p text answer = (said : Said) → TellsNow p said → Becomes p answer (JudgesLine p.size.rows p.size.cols said text)
+
+abbrev pub AnswersEnd : Progress → Result Progress CertFaultKind → Type 0
+AnswersEnd p answer = (said : Said) → TellsNow p said → Becomes p answer (JudgesEnd said)
+
+abbrev pub progress_rules : Rules Progress CertFaultKind
+progress_rules = record {
+  line = λ p text answer. AnswersLine p text answer;
+  end = λ p answer. AnswersEnd p answer;
+  no_line = BadLine;
+  no_memory = NoMemory;
+  read_failed = ReadFailed;
+}
+
+-- nothing is read
+pub record Starts (size_rows size_cols : ℕ) (p : Progress) : Type 0 where
+  pub rows : p.size.rows ≡ size_rows
+  pub cols : p.size.cols ≡ size_cols
+  pub tells : TellsNow p Nothing
+
+-- everything is read
+pub record IsWholeRead (p : Progress) : Type 0 where
+  pub pairs : Option (List ℕ)
+  pub lines : List RowLine
+  pub tells : TellsNow p (Ended pairs lines)
+
+abbrev pub settled_of : Awaited → Option Charsets
+settled_of (lines_awaited.Ended settled) = Some settled
+settled_of _ = None
+
+pub record IsTableMade (p : Progress) (table : Content) : Type 0 where
+  pub known : table.known ≡ p.known
+  pub acsc : table.acsc ≡ p.acsc
+
+-- the same of what stands after the first two lines, of a line about a capability, and of the last one
+abbrev pub AnswersLater : Progress → List ℕ → Result Progress CertFaultKind → Type 0
+AnswersLater p text answer = (pairs : Option (List ℕ)) (lines : List RowLine) → Stands p lines → p.acsc ≡ pairs → Becomes p answer (JudgesLater p.size.rows p.size.cols pairs lines text)
+
+abbrev pub AnswersRow : Progress → RowLine → Result Progress CertFaultKind → Type 0
+AnswersRow p line answer = (pairs : Option (List ℕ)) (lines : List RowLine) → Stands p lines → p.acsc ≡ pairs
+    → Becomes p answer (λ said. JudgesRow p.size.rows p.size.cols lines line (Listing pairs (line ∷ lines)) said)
+
+abbrev pub AnswersLast : Progress → Result Progress CertFaultKind → Type 0
+AnswersLast p answer = (pairs : Option (List ℕ)) (lines : List RowLine) → Stands p lines → p.acsc ≡ pairs → Becomes p answer (JudgesLast p.size.rows p.size.cols pairs lines)
+
+-- refused with this fault, or out of memory
+abbrev pub OrNoMemory : CertFaultKind → (Result Progress CertFaultKind → Type 0) → Type 0
+OrNoMemory kind Answers = Answers (Err kind) ⊎ (kind ≡ NoMemory)
+
+-- bytes that are no whole control functions, or out of memory
+abbrev pub IsTokenFault : List ℕ → CertFaultKind → Type 0
+IsTokenFault bytes kind = ((kind ≡ NotWhole) × (IsWholeText bytes → ⊥)) ⊎ (kind ≡ NoMemory)
+
+-- what is wrong with the effect of tokens
+pub data Misshows (k : Known) (row : Row) (stated : Effect) (tokens : List (List ℕ)) (kind : CertFaultKind) : Type 0 where
+  NoRecord : record_of k.strings.rows k.strings.cols (start_of k.strings.rows k.strings.cols row) tokens ≡ None → kind ≡ NotTame → Misshows k row stated tokens kind
+  Another : (effect : Effect) → record_of k.strings.rows k.strings.cols (start_of k.strings.rows k.strings.cols row) tokens ≡ Some effect → (effect ≡ stated → ⊥) → kind ≡ NotShown → Misshows k row stated tokens kind
+  NotAsked : record_of k.strings.rows k.strings.cols (start_of k.strings.rows k.strings.cols row) tokens ≡ Some stated → (stated ≡ asked (looks_with k row stated) row stated → ⊥)
+      → IsMisfit row stated kind → Misshows k row stated tokens kind
+
+-- why a text is none about a capability
+pub data IsMisplacedBy (text : List ℕ) (kind : CertFaultKind) : Type 0 where
+  HasPairs : (bytes : List ℕ) → IsAcscText text bytes → kind ≡ OutOfOrder → IsMisplacedBy text kind
+  HasNoPairs : ((bytes : List ℕ) → IsAcscText text bytes → ⊥) → kind ≡ BadLine → IsMisplacedBy text kind
+  HasNoMemory : kind ≡ NoMemory → IsMisplacedBy text kind
+
+-- a string has no record, or memory ran out
+pub data LacksRecord (s : Strings) (kind : CertFaultKind) : Type 0 where
+  NotSplit : (row : Row) (bytes : List ℕ) → string_in s row ≡ Some bytes → (IsWholeText bytes → ⊥) → LacksRecord s kind
+  NotRecorded : (row : Row) (bytes : List ℕ) → string_in s row ≡ Some bytes → (tokens : List (List ℕ)) → Splits bytes tokens [] → record_of s.rows s.cols (start_of s.rows s.cols row) tokens ≡ None → LacksRecord s kind
+  RanOut : kind ≡ NoMemory → LacksRecord s kind
+
+-- a line that has to be there isn't
+pub data LacksNeeded (s : Strings) (kind : CertFaultKind) : Type 0 where
+  NoClear : string_in s Clear ≡ None → LacksNeeded s kind
+  NoSgr0 : string_in s Sgr0 ≡ None → LacksNeeded s kind
+  NoWidening : has_group s (Csr 0 1) ≡ true → string_in s (Csr 0 (s.rows - 1)) ≡ None → LacksNeeded s kind
+
+-- a charset of these from which a change activates the other set
+pub record Misleads (s : Charsets) (found : Option Sets) (graphic : Bool) : Type 0 where
+  pub change : Sets
+  pub there : found ≡ Some change
+  pub charset : Charset
+  pub settled : closing.has s charset ≡ true
+  pub wrong : is_graphic (designated change charset) ≡ not graphic
+
+-- what is wrong with all lines together by the charsets that were computed: the first that is, in the order in which faults are reported
+pub data FailsTogether (settled first : Charsets) (smacs rmacs : Option Sets) (has_sets : Bool) (s : Strings) (kind : CertFaultKind) : Type 0 where
+  AtActive : Misleads settled smacs true ⊎ Misleads settled rmacs false → kind ≡ NotShown → FailsTogether settled first smacs rmacs has_sets s kind
+  AtLook : Leads settled smacs true → Leads settled rmacs false → has_sets ≡ false → Misleads settled (Some kept) false → kind ≡ BadLook → FailsTogether settled first smacs rmacs has_sets s kind
+  AtResync : Leads settled smacs true → Leads settled rmacs false → (has_sets ≡ false → Leads settled (Some kept) false) → Misleads first (Some kept) false ⊎ (first_of_resync s ≡ Some 27 → ⊥) → kind ≡ NoResync
+      → FailsTogether settled first smacs rmacs has_sets s kind
+
+-- what is known where nothing is wrong with them
+pub record IsConcluded (k : Known) (has_pairs : Bool) (settled : Charsets) : Type 0 where
+  pub judged : IsJudged (checked_of k settled)
+  pub together : GoesTogether has_pairs (checked_of k settled)
+
+-- why lines that were judged one by one can't be concluded
+pub data ConcludesBy (k : Known) (has_pairs : Bool) (kind : CertFaultKind) : Type 0 where
+  Lacking : LacksNeeded k.strings kind → ConcludesBy k has_pairs kind
+  Together : (settled : Charsets) → ClashesBy has_pairs (checked_of k settled) kind → ConcludesBy k has_pairs kind
+  NoRoom : kind ≡ NoMemory → ConcludesBy k has_pairs kind

@@ -1,0 +1,227 @@
+-- What is wanted of an effect's end is the end of the effect that the table asks for.
+use Rattle.std.proofs.Common.{◌≡◌, ℕ, Bool, true, false, ◌&&◌, ◌||◌, if◌then◌else◌, Option, None, ◌⊎◌, inl, inr, refl, sym, ap, ◌∙◌}
+use Rattle.std.proofs.lemmas.Bool.{true≢false}
+use Rattle.vt_term.specs.Color.{Color}
+use Rattle.vt_term.specs.Look.{Rendition}
+use Rattle.vt_term.specs.Screen.{Screen}
+use Rattle.vt_effects.specs.declared.effects.Effect.{Effect}
+use Rattle.vt_effects.specs.declared.effects.Ink.TheVariants as inks
+use Rattle.vt_effects.specs.Effect.{applied, switched, rendered}
+use Rattle.vt_effects.specs.Record.{switch_of}
+use Rattle.ti_rows.specs.declared.rows.Attributes.{Attributes}
+use Rattle.ti_rows.specs.declared.rows.Marks.{Marks}
+use Rattle.ti_rows.specs.declared.rows.Looks.{Looks}
+use Rattle.ti_rows.specs.declared.rows.Row.{Row}
+use Rattle.ti_rows.specs.declared.rows.Row.TheVariants.{Clear, Cup, Home, Cr, Hpa, Vpa, Cub1, Cuf1, Cuu1, Cud1, Cub, Cuf, Cuu, Cud, El, El1, Ed, Ech, Sgr, Sgr0, Setaf, Setab, Op, Smul, Rev, Blink, Dim, Bold, Invis, Smso, Enacs, Smacs, Rmacs, Csr, Ind, Ri, Civis, Cnorm, Cvvis, Smcup, Rmcup, Bel}
+use Rattle.ti_rows.specs.Looks.{shown}
+use Rattle.ti_rows.specs.Starts.{Starts}
+use Rattle.ti_rows.specs.Wants.{Wants, marked}
+use Rattle.ti_rows.specs.Asked.{asked, on_or_kept, just, with_marks_on}
+use Rattle.ti_checker.specs.Probes.{screen_of}
+use Rattle.ti_checker.specs.Breaking.{has_choice, wanted_end, with_defaults, without_defaults, marks_after, looks_of, EndAlike, NotWanted}
+use Rattle.ti_checker.specs.declared.probes.Probe.{Probe}
+
+never : {A : Type 0} → true ≡ false → A
+never h = absurd (true≢false h)
+
+-- ---- marks
+
+same_marks : (a b c d e f a' b' c' d' e' f' : Bool) (x y : Option Color) → a ≡ a' → b ≡ b' → c ≡ c' → d ≡ d' → e ≡ e' → f ≡ f' →
+    marked (record { bold = a; faint = b; underline = c; blink = d; negative = e; concealed = f }) x y ≡ marked (record { bold = a'; faint = b'; underline = c'; blink = d'; negative = e'; concealed = f' }) x y
+same_marks a b c d e f a' b' c' d' e' f' x y p q r s t u =
+    ap (λ (z : Bool). marked (record { bold = z; faint = b; underline = c; blink = d; negative = e; concealed = f }) x y) p
+    ∙ ap (λ (z : Bool). marked (record { bold = a'; faint = z; underline = c; blink = d; negative = e; concealed = f }) x y) q
+    ∙ ap (λ (z : Bool). marked (record { bold = a'; faint = b'; underline = z; blink = d; negative = e; concealed = f }) x y) r
+    ∙ ap (λ (z : Bool). marked (record { bold = a'; faint = b'; underline = c'; blink = z; negative = e; concealed = f }) x y) s
+    ∙ ap (λ (z : Bool). marked (record { bold = a'; faint = b'; underline = c'; blink = d'; negative = z; concealed = f }) x y) t
+    ∙ ap (λ (z : Bool). marked (record { bold = a'; faint = b'; underline = c'; blink = d'; negative = e'; concealed = z }) x y) u
+
+set_mark : (b x : Bool) → b ≡ switched (switch_of b) x
+set_mark true x = refl
+set_mark false x = refl
+
+or_kept : (b x : Bool) → (b || x) ≡ switched (on_or_kept b) x
+or_kept true x = refl
+or_kept false x = refl
+
+absorbed : (m s : Bool) → (m || (s && m)) ≡ m
+absorbed true s = refl
+absorbed false true = refl
+absorbed false false = refl
+
+-- a mark that is shown is shown again where the looks are those that are seen
+shown_mark : (a s x y m : Bool) → m ≡ ((a && x) || (s && y)) → ((a && x) || (s && y)) ≡ ((a && m) || (s && m))
+shown_mark true s x y m h = sym h ∙ sym (absorbed m s)
+shown_mark false true x y m h = sym h
+shown_mark false false x y m h = refl
+
+or_twice : (x b : Bool) → (x || b) ≡ ((x || b) || b)
+or_twice true b = refl
+or_twice false true = refl
+or_twice false false = refl
+
+added_mark : (m x b : Bool) → m ≡ (x || b) → (x || b) ≡ (m || b)
+added_mark m x b h = or_twice x b ∙ ap (λ (z : Bool). z || b) (sym h)
+
+just_shown : (l : Looks) (a : Attributes) (m : Marks) (x y : Option Color)
+    → m.bold ≡ (shown l a).bold → m.faint ≡ (shown l a).faint → m.underline ≡ (shown l a).underline → m.blink ≡ (shown l a).blink → m.negative ≡ (shown l a).negative → m.concealed ≡ (shown l a).concealed
+    → (r : Rendition) → marked (shown l a) x y ≡ record (rendered (just (shown (looks_of m) a) inks.Kept) r) { foreground = x; background = y }
+just_shown l a m x y b f u k n c r = same_marks _ _ _ _ _ _ _ _ _ _ _ _ x y
+    (shown_mark a.bold a.standout l.bold l.standout.bold m.bold b ∙ set_mark (shown (looks_of m) a).bold r.bold)
+    (shown_mark a.dim a.standout l.dim l.standout.faint m.faint f ∙ set_mark (shown (looks_of m) a).faint r.faint)
+    (shown_mark a.underline a.standout l.underline l.standout.underline m.underline u ∙ set_mark (shown (looks_of m) a).underline r.underline)
+    (shown_mark a.blink a.standout l.blink l.standout.blink m.blink k ∙ set_mark (shown (looks_of m) a).blink r.blink)
+    (shown_mark a.reverse a.standout l.reverse l.standout.negative m.negative n ∙ set_mark (shown (looks_of m) a).negative r.negative)
+    (shown_mark a.invisible a.standout l.invisible l.standout.concealed m.concealed c ∙ set_mark (shown (looks_of m) a).concealed r.concealed)
+
+just_added : (l m : Marks) (r : Rendition) (x y : Option Color)
+    → m.bold ≡ (l.bold || r.bold) → m.faint ≡ (l.faint || r.faint) → m.underline ≡ (l.underline || r.underline) → m.blink ≡ (l.blink || r.blink) → m.negative ≡ (l.negative || r.negative) → m.concealed ≡ (l.concealed || r.concealed)
+    → marked (record { bold = l.bold || r.bold; faint = l.faint || r.faint; underline = l.underline || r.underline; blink = l.blink || r.blink; negative = l.negative || r.negative; concealed = l.concealed || r.concealed }) x y
+    ≡ record (rendered (with_marks_on m) r) { foreground = x; background = y }
+just_added l m r x y b f u k n c = same_marks _ _ _ _ _ _ _ _ _ _ _ _ x y
+    (added_mark m.bold l.bold r.bold b ∙ or_kept m.bold r.bold) (added_mark m.faint l.faint r.faint f ∙ or_kept m.faint r.faint)
+    (added_mark m.underline l.underline r.underline u ∙ or_kept m.underline r.underline) (added_mark m.blink l.blink r.blink k ∙ or_kept m.blink r.blink)
+    (added_mark m.negative l.negative r.negative n ∙ or_kept m.negative r.negative) (added_mark m.concealed l.concealed r.concealed c ∙ or_kept m.concealed r.concealed)
+
+-- ---- a row of one end
+
+calm_end : (b p : Bool) → p ≡ false → p ≡ (if b then false else p)
+calm_end true p h = h
+calm_end false p h = refl
+
+-- the looks that the probe shows after the effect
+abbrev pub seen_by : Effect → Probe → Looks
+seen_by e p = looks_of (marks_after e.rendition p.look)
+
+standout_asked : (rows cols : ℕ) (l : Looks) (e : Effect) (p : Probe) → Wants l Smso (screen_of rows cols p) (applied e (screen_of rows cols p)) → EndAlike e (asked (seen_by e p) Smso e) (screen_of rows cols p)
+standout_asked rows cols l e p h =
+    let s : Screen = screen_of rows cols p in
+    let m : Marks = marks_after e.rendition p.look in
+    h ∙ ap (λ (r : Rendition). record s { rendition = r; charset = (applied e s).charset })
+    (just_added l.standout m s.rendition p.foreground p.background (ap (λ (t : Screen). t.rendition.bold) h) (ap (λ (t : Screen). t.rendition.faint) h) (ap (λ (t : Screen). t.rendition.underline) h)
+    (ap (λ (t : Screen). t.rendition.blink) h) (ap (λ (t : Screen). t.rendition.negative) h) (ap (λ (t : Screen). t.rendition.concealed) h))
+
+one_end : (rows cols : ℕ) (l : Looks) (row : Row) (e : Effect) (p : Probe) → has_choice row ≡ false → Starts rows cols row (screen_of rows cols p)
+    → Wants l row (screen_of rows cols p) (applied e (screen_of rows cols p)) → EndAlike e (wanted_end (seen_by e p) row e) (screen_of rows cols p)
+one_end rows cols l Clear e p one st h = h
+one_end rows cols l (Cup row col) e p one st h = h
+one_end rows cols l Home e p one st h = h
+one_end rows cols l Cr e p one st h = h
+one_end rows cols l (Hpa col) e p one st h = h
+one_end rows cols l (Vpa row) e p one st h = h
+one_end rows cols l Cub1 e p one st h = h ∙ ap (λ (z : Bool). record (screen_of rows cols p) { col = (applied (asked (seen_by e p) Cub1 e) (screen_of rows cols p)).col; pending = z }) (calm_end e.ends_pending p.pending st.0.pending)
+one_end rows cols l Cuf1 e p one st h = h ∙ ap (λ (z : Bool). record (screen_of rows cols p) { col = (applied (asked (seen_by e p) Cuf1 e) (screen_of rows cols p)).col; pending = z }) (calm_end e.ends_pending p.pending st.0.pending)
+one_end rows cols l Cuu1 e p one st h = h ∙ ap (λ (z : Bool). record (screen_of rows cols p) { row = (applied (asked (seen_by e p) Cuu1 e) (screen_of rows cols p)).row; pending = z }) (calm_end e.ends_pending p.pending st.0.pending)
+one_end rows cols l Cud1 e p one st h = h ∙ ap (λ (z : Bool). record (screen_of rows cols p) { row = (applied (asked (seen_by e p) Cud1 e) (screen_of rows cols p)).row; pending = z }) (calm_end e.ends_pending p.pending st.0.pending)
+one_end rows cols l (Cub n) e p one st h = h ∙ ap (λ (z : Bool). record (screen_of rows cols p) { col = (applied (asked (seen_by e p) (Cub n) e) (screen_of rows cols p)).col; pending = z }) (calm_end e.ends_pending p.pending st.0.pending)
+one_end rows cols l (Cuf n) e p one st h = h ∙ ap (λ (z : Bool). record (screen_of rows cols p) { col = (applied (asked (seen_by e p) (Cuf n) e) (screen_of rows cols p)).col; pending = z }) (calm_end e.ends_pending p.pending st.0.pending)
+one_end rows cols l (Cuu n) e p one st h = h ∙ ap (λ (z : Bool). record (screen_of rows cols p) { row = (applied (asked (seen_by e p) (Cuu n) e) (screen_of rows cols p)).row; pending = z }) (calm_end e.ends_pending p.pending st.0.pending)
+one_end rows cols l (Cud n) e p one st h = h ∙ ap (λ (z : Bool). record (screen_of rows cols p) { row = (applied (asked (seen_by e p) (Cud n) e) (screen_of rows cols p)).row; pending = z }) (calm_end e.ends_pending p.pending st.0.pending)
+one_end rows cols l El e p one st h = h ∙ ap (λ (z : Bool). record (screen_of rows cols p) { grid = (applied (asked (seen_by e p) El e) (screen_of rows cols p)).grid; pending = z }) (calm_end e.ends_pending p.pending st.pending)
+one_end rows cols l El1 e p one st h = h ∙ ap (λ (z : Bool). record (screen_of rows cols p) { grid = (applied (asked (seen_by e p) El1 e) (screen_of rows cols p)).grid; pending = z }) (calm_end e.ends_pending p.pending st.pending)
+one_end rows cols l Ed e p one st h = h ∙ ap (λ (z : Bool). record (screen_of rows cols p) { grid = (applied (asked (seen_by e p) Ed e) (screen_of rows cols p)).grid; pending = z }) (calm_end e.ends_pending p.pending st.pending)
+one_end rows cols l (Ech n) e p one st h = h ∙ ap (λ (z : Bool). record (screen_of rows cols p) { grid = (applied (asked (seen_by e p) (Ech n) e) (screen_of rows cols p)).grid; pending = z }) (calm_end e.ends_pending p.pending st.pending)
+one_end rows cols l (Sgr a) e p one st h = never one
+one_end rows cols l Sgr0 e p one st h = h
+one_end rows cols l (Setaf c) e p one st h = h
+one_end rows cols l (Setab c) e p one st h = h
+one_end rows cols l Op e p one st h = h
+one_end rows cols l Smul e p one st h = h
+one_end rows cols l Rev e p one st h = h
+one_end rows cols l Blink e p one st h = h
+one_end rows cols l Dim e p one st h = h
+one_end rows cols l Bold e p one st h = h
+one_end rows cols l Invis e p one st h = h
+one_end rows cols l Smso e p one st h = standout_asked rows cols l e p h
+one_end rows cols l Enacs e p one st h = h
+one_end rows cols l Smacs e p one st h = h
+one_end rows cols l Rmacs e p one st h = h
+one_end rows cols l (Csr top bottom) e p one st h = h
+one_end rows cols l Ind e p one st h = h ∙ ap (λ (z : Bool). record (screen_of rows cols p) { grid = (applied (asked (seen_by e p) Ind e) (screen_of rows cols p)).grid; pending = z }) (calm_end e.ends_pending p.pending st.0.pending)
+one_end rows cols l Ri e p one st h = h ∙ ap (λ (z : Bool). record (screen_of rows cols p) { grid = (applied (asked (seen_by e p) Ri e) (screen_of rows cols p)).grid; pending = z }) (calm_end e.ends_pending p.pending st.0.pending)
+one_end rows cols l Civis e p one st h = h
+one_end rows cols l Cnorm e p one st h = h
+one_end rows cols l Cvvis e p one st h = never one
+one_end rows cols l Smcup e p one st h = h
+one_end rows cols l Rmcup e p one st h = h
+one_end rows cols l Bel e p one st h = h
+
+-- what is wanted of a row of one end fails where the ends differ
+pub one_end_missed : (rows cols : ℕ) (row : Row) (e : Effect) (p : Probe) → has_choice row ≡ false → Starts rows cols row (screen_of rows cols p)
+    → (EndAlike e (wanted_end (seen_by e p) row e) (screen_of rows cols p) → ⊥) → NotWanted rows cols row e p
+one_end_missed rows cols row e p one st apart l h = apart (one_end rows cols l row e p one st h)
+
+-- ---- a row of two ends
+
+abbrev pub TwoEnds : ℕ → ℕ → Row → Effect → Probe → Type 0
+TwoEnds rows cols row e p = EndAlike e (asked (seen_by e p) row (with_defaults e)) (screen_of rows cols p) ⊎ EndAlike e (asked (seen_by e p) row (without_defaults e)) (screen_of rows cols p)
+
+two_inks : (rows cols : ℕ) (l : Looks) (a : Attributes) (e : Effect) (p : Probe) → Wants l (Sgr a) (screen_of rows cols p) (applied e (screen_of rows cols p)) → TwoEnds rows cols (Sgr a) e p
+two_inks rows cols l a e p (inl h) =
+    let s : Screen = screen_of rows cols p in
+    let m : Marks = marks_after e.rendition p.look in
+    inr (h ∙ ap (λ (r : Rendition). record s { rendition = r; charset = (applied e s).charset })
+    (just_shown l a m p.foreground p.background (ap (λ (t : Screen). t.rendition.bold) h) (ap (λ (t : Screen). t.rendition.faint) h) (ap (λ (t : Screen). t.rendition.underline) h)
+    (ap (λ (t : Screen). t.rendition.blink) h) (ap (λ (t : Screen). t.rendition.negative) h) (ap (λ (t : Screen). t.rendition.concealed) h) s.rendition))
+two_inks rows cols l a e p (inr h) =
+    let s : Screen = screen_of rows cols p in
+    let m : Marks = marks_after e.rendition p.look in
+    inl (h ∙ ap (λ (r : Rendition). record s { rendition = r; charset = (applied e s).charset })
+    (just_shown l a m None None (ap (λ (t : Screen). t.rendition.bold) h) (ap (λ (t : Screen). t.rendition.faint) h) (ap (λ (t : Screen). t.rendition.underline) h)
+    (ap (λ (t : Screen). t.rendition.blink) h) (ap (λ (t : Screen). t.rendition.negative) h) (ap (λ (t : Screen). t.rendition.concealed) h) s.rendition))
+
+appeared : (rows cols : ℕ) (l : Looks) (e : Effect) (p : Probe) → Wants l Cvvis (screen_of rows cols p) (applied e (screen_of rows cols p)) → TwoEnds rows cols Cvvis e p
+appeared rows cols l e p (inl h) = inl h
+appeared rows cols l e p (inr h) = inr h
+
+two_ends : (rows cols : ℕ) (l : Looks) (row : Row) (e : Effect) (p : Probe) → has_choice row ≡ true → Wants l row (screen_of rows cols p) (applied e (screen_of rows cols p)) → TwoEnds rows cols row e p
+two_ends rows cols l Clear e p choice h = never (sym choice)
+two_ends rows cols l (Cup row col) e p choice h = never (sym choice)
+two_ends rows cols l Home e p choice h = never (sym choice)
+two_ends rows cols l Cr e p choice h = never (sym choice)
+two_ends rows cols l (Hpa col) e p choice h = never (sym choice)
+two_ends rows cols l (Vpa row) e p choice h = never (sym choice)
+two_ends rows cols l Cub1 e p choice h = never (sym choice)
+two_ends rows cols l Cuf1 e p choice h = never (sym choice)
+two_ends rows cols l Cuu1 e p choice h = never (sym choice)
+two_ends rows cols l Cud1 e p choice h = never (sym choice)
+two_ends rows cols l (Cub n) e p choice h = never (sym choice)
+two_ends rows cols l (Cuf n) e p choice h = never (sym choice)
+two_ends rows cols l (Cuu n) e p choice h = never (sym choice)
+two_ends rows cols l (Cud n) e p choice h = never (sym choice)
+two_ends rows cols l El e p choice h = never (sym choice)
+two_ends rows cols l El1 e p choice h = never (sym choice)
+two_ends rows cols l Ed e p choice h = never (sym choice)
+two_ends rows cols l (Ech n) e p choice h = never (sym choice)
+two_ends rows cols l (Sgr a) e p choice h = two_inks rows cols l a e p h
+two_ends rows cols l Sgr0 e p choice h = never (sym choice)
+two_ends rows cols l (Setaf c) e p choice h = never (sym choice)
+two_ends rows cols l (Setab c) e p choice h = never (sym choice)
+two_ends rows cols l Op e p choice h = never (sym choice)
+two_ends rows cols l Smul e p choice h = never (sym choice)
+two_ends rows cols l Rev e p choice h = never (sym choice)
+two_ends rows cols l Blink e p choice h = never (sym choice)
+two_ends rows cols l Dim e p choice h = never (sym choice)
+two_ends rows cols l Bold e p choice h = never (sym choice)
+two_ends rows cols l Invis e p choice h = never (sym choice)
+two_ends rows cols l Smso e p choice h = never (sym choice)
+two_ends rows cols l Enacs e p choice h = never (sym choice)
+two_ends rows cols l Smacs e p choice h = never (sym choice)
+two_ends rows cols l Rmacs e p choice h = never (sym choice)
+two_ends rows cols l (Csr top bottom) e p choice h = never (sym choice)
+two_ends rows cols l Ind e p choice h = never (sym choice)
+two_ends rows cols l Ri e p choice h = never (sym choice)
+two_ends rows cols l Civis e p choice h = never (sym choice)
+two_ends rows cols l Cnorm e p choice h = never (sym choice)
+two_ends rows cols l Cvvis e p choice h = appeared rows cols l e p h
+two_ends rows cols l Smcup e p choice h = never (sym choice)
+two_ends rows cols l Rmcup e p choice h = never (sym choice)
+two_ends rows cols l Bel e p choice h = never (sym choice)
+
+neither : {A B : Type 0} → (A → ⊥) → (B → ⊥) → A ⊎ B → ⊥
+neither f g (inl h) = f h
+neither f g (inr h) = g h
+
+pub two_ends_missed : (rows cols : ℕ) (row : Row) (e : Effect) (p : Probe) → has_choice row ≡ true
+    → (EndAlike e (asked (seen_by e p) row (with_defaults e)) (screen_of rows cols p) → ⊥) → (EndAlike e (asked (seen_by e p) row (without_defaults e)) (screen_of rows cols p) → ⊥) → NotWanted rows cols row e p
+two_ends_missed rows cols row e p choice apart off l h = neither apart off (two_ends rows cols l row e p choice h)

@@ -1,0 +1,90 @@
+-- What a string wrongly does, seen from a probe.
+use Rattle.std.specs.Prelude.{ℕ, ◌≡◌, Bool, true, false, if◌then◌else◌, List, [], Some, None}
+use Rattle.vt_term.specs.Screen.{Screen}
+use Rattle.vt_effects.specs.declared.effects.Effect.{Effect}
+use Rattle.vt_effects.specs.declared.effects.Rendering.{Rendering}
+use Rattle.vt_effects.specs.declared.effects.Ink.TheVariants as inks
+use Rattle.vt_effects.specs.declared.effects.Switch.TheVariants as switches
+use Rattle.vt_effects.specs.Effect.{applied, switched}
+use Rattle.vt_effects.specs.Record.{record_of}
+use Rattle.vt_term.specs.Run.{Runs}
+use Rattle.vt_term.specs.Text.{Splits}
+use Rattle.ti_rows.specs.declared.rows.Looks.{Looks}
+use Rattle.ti_rows.specs.declared.rows.Marks.{Marks}
+use Rattle.ti_rows.specs.declared.rows.Row.{Row}
+use Rattle.ti_rows.specs.declared.rows.Row.TheVariants.{Sgr, Cvvis, Smcup, Rmcup}
+use Rattle.ti_rows.specs.Asked.{start_of, asked}
+use Rattle.ti_rows.specs.Starts.{Starts}
+use Rattle.ti_rows.specs.Wants.{Wants}
+use Rattle.ti_checker.specs.Probes.{screen_of}
+use Rattle.ti_checker.specs.declared.probes.Probe.{Probe}
+
+-- the probe is a start of the row, and the run of the bytes from it ends as is not wanted, however attributes look
+pub record Breaks (rows cols : ℕ) (row : Row) (bytes : List ℕ) (p : Probe) : Type 0 where
+  pub starts : Starts rows cols row (screen_of rows cols p)
+  pub after : Screen
+  pub runs : Runs (record { screen = screen_of rows cols p; rest = [] }) bytes (record { screen = after; rest = [] })
+  pub unwanted : (looks : Looks) → Wants looks row (screen_of rows cols p) after → ⊥
+
+-- (Serves the code alone.) The rows of which two ends are wanted: both colours stay or become default, the cursor
+-- becomes visible or all stays.
+abbrev pub has_choice : Row → Bool
+has_choice (Sgr a) = true
+has_choice Cvvis = true
+has_choice _ = false
+
+-- those of which cells, cursor, rendition and sets are free in the end
+abbrev pub is_free : Row → Bool
+is_free Smcup = true
+is_free Rmcup = true
+is_free _ = false
+
+abbrev pub wanted_end : Looks → Row → Effect → Effect
+wanted_end l row e = if is_free row then record e { margins = None; visible = switches.Kept } else asked l row e
+
+-- the two ends
+abbrev pub with_defaults : Effect → Effect
+with_defaults e = record e { rendition = record e.rendition { foreground = inks.Default; background = inks.Default }; visible = switches.On }
+
+abbrev pub without_defaults : Effect → Effect
+without_defaults e = record e { rendition = record e.rendition { foreground = inks.Kept; background = inks.Kept }; visible = switches.Kept }
+
+-- the marks after an effect, and the looks of which each is seen where all these marks are on
+abbrev pub marks_after : Rendering → Marks → Marks
+marks_after e m = record {
+  bold = switched e.bold m.bold;
+  faint = switched e.faint m.faint;
+  underline = switched e.underline m.underline;
+  blink = switched e.blink m.blink;
+  negative = switched e.negative m.negative;
+  concealed = switched e.concealed m.concealed;
+}
+
+abbrev pub looks_of : Marks → Looks
+looks_of m = record {
+  standout = m;
+  underline = m.underline;
+  reverse = m.negative;
+  blink = m.blink;
+  dim = m.faint;
+  bold = m.bold;
+  invisible = m.concealed;
+}
+
+-- two effects have one end
+abbrev pub EndAlike : Effect → Effect → Screen → Type 0
+EndAlike e f s = applied e s ≡ applied f s
+
+-- whatever attributes look like, the end of the effect isn't wanted
+abbrev pub NotWanted : ℕ → ℕ → Row → Effect → Probe → Type 0
+NotWanted rows cols row e p = (looks : Looks) → Wants looks row (screen_of rows cols p) (applied e (screen_of rows cols p)) → ⊥
+
+-- the probe is a start of the row, and from it the end of the effect isn't wanted
+pub record IsShown (rows cols : ℕ) (row : Row) (e : Effect) (p : Probe) : Type 0 where
+  pub starts : Starts rows cols row (screen_of rows cols p)
+  pub unwanted : NotWanted rows cols row e p
+
+-- so that the run of bytes of such an effect breaks what is wanted
+abbrev pub ShownBreaks : Type 0
+ShownBreaks = (rows cols : ℕ) (row : Row) (bytes : List ℕ) (tokens : List (List ℕ)) (e : Effect) (p : Probe) → Splits bytes tokens []
+    → record_of rows cols (start_of rows cols row) tokens ≡ Some e → IsShown rows cols row e p → Breaks rows cols row bytes p

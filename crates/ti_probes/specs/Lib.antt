@@ -1,3 +1,0 @@
-pub mod Probe
-pub mod Cells
-pub mod Breaking
