@@ -1,16 +1,17 @@
 -- How `play` and `show` end.
-use Rattle.std.proofs.Common.{◌≡◌, ℕ, List, Ok, subst, sym, ap, ◌∙◌}
+use Rattle.std.proofs.Common.{◌≡◌, ℕ, List, Ok, refl, subst, sym, ap, ◌∙◌}
 use Rattle.std.proofs.Common.{[], ◌++◌}
-use Rattle.std.specs.Prelude.{Option, Some}
-use Rattle.std.specs.Io.KnownBytes.{Appends}
-use Rattle.ti_commands.specs.Feeding.{IsStuckFailure, ShowsAfter}
-use Rattle.ti_commands.specs.declared.failure.Failure.TheVariants.{Refused, RefusedUnwritten, Usage, File, Output, NoMemory}
-use Rattle.ti_commands.specs.declared.failure.Refusal.TheVariants as refusals
+use Rattle.std.specs.Prelude.{Option, Some, Result, Err, IfErr, IsOk}
+use Rattle.vt_term.specs.Run.{Runs, Sticks}
+use Rattle.vt_term.specs.Screen.{State, reset}
+use Rattle.vt_term.specs.declared.terminals.Stuck.{Stuck}
+use Rattle.vt_term.proofs.Running.{runs_or_sticks}
+use Rattle.ti_commands.specs.Feeding.{ShowsAfter}
 use Rattle.ti_conforms.specs.Certified.{Table}
 use Rattle.cur_play.specs.Log.{Ran}
 use Rattle.cur_play.specs.declared.runs.Entry.{Entry}
-use Rattle.cur_commands.specs.Showing.{IsUnshown, RanWhole, ShowsRun, refusals_text}
-use Rattle.cur_commands.specs.Through.{AreThrough}
+use Rattle.cur_commands.specs.Showing.{IsTaken, RanWhole, ShowsRun, refusals_text}
+use Rattle.cur_commands.specs.Through.{AreThrough, unfailing}
 use Rattle.ti_cert.specs.Table.{Content as Strings}
 use Rattle.ti_commands.specs.Holding.{Held}
 use Rattle.ti_commands.specs.declared.failure.Failure.{Failure}
@@ -42,12 +43,12 @@ ready_for held words height width checked text slice calls lent prepared same re
       subst Q (sym lends) (subst P same reads);
 }
 
-pub ran_whole : (t : Table) (partners : ℕ → Option ℕ) (calls : List Call) (before bytes : List ℕ) (log : List Entry) → Ran Appends (Some before) (Some bytes) t partners calls log → before ≡ [] → AreThrough log → RanWhole t partners calls bytes
+pub ran_whole : (t : Table) (partners : ℕ → Option ℕ) (calls : List Call) (before bytes : List ℕ) (log : List Entry) → Ran (unfailing t partners) (Some before) (Some bytes) calls log → before ≡ [] → AreThrough log → RanWhole t partners calls bytes
 ran_whole t partners calls before bytes log ran none through =
-    let P : List ℕ → Type 0 = λ b. Ran Appends (Some b) (Some bytes) t partners calls log in
+    let P : List ℕ → Type 0 = λ b. Ran (unfailing t partners) (Some b) (Some bytes) calls log in
     record { log = log; ran = subst P none ran; through = through }
 
-pub shows_run : (t : Table) (partners : ℕ → Option ℕ) (rows cols : ℕ) (calls : List Call) (before bytes slice text lines screen : List ℕ) (log lent : List Entry) → Ran Appends (Some before) (Some bytes) t partners calls log → before ≡ [] → AreThrough log
+pub shows_run : (t : Table) (partners : ℕ → Option ℕ) (rows cols : ℕ) (calls : List Call) (before bytes slice text lines screen : List ℕ) (log lent : List Entry) → Ran (unfailing t partners) (Some before) (Some bytes) calls log → before ≡ [] → AreThrough log
     → slice ≡ bytes → ShowsAfter rows cols slice screen → lines ≡ refusals_text 0 lent → lent ≡ log → text ≡ lines ++ screen → ShowsRun t partners rows cols calls text
 unfolding ran_whole
 shows_run t partners rows cols calls before bytes slice text lines screen log lent ran none through same shows told lends joined =
@@ -61,21 +62,14 @@ shows_run t partners rows cols calls before bytes slice text lines screen log le
       spelled = joined ∙ ap (λ (l : List ℕ). l ++ screen) (told ∙ ap (λ (l : List Entry). refusals_text 0 l) lends) ∙ ap (λ (l : List ℕ). refusals_text 0 log ++ l) here.spelled;
     }
 
-pub sticks_in_run : (t : Table) (partners : ℕ → Option ℕ) (rows cols : ℕ) (calls : List Call) (bytes slice : List ℕ) (e : Failure) → RanWhole t partners calls bytes → slice ≡ bytes → IsStuckFailure rows cols slice e → IsUnshown t partners rows cols calls e
-sticks_in_run t partners rows cols calls bytes slice (Refused (refusals.Stuck stuck)) whole same h =
-    let P : List ℕ → Type 0 = λ b. IsStuckFailure rows cols b (Refused (refusals.Stuck stuck)) in
-    let here = subst P same h in
-    record { bytes = bytes; whole = whole; after = here.after; sticks = here.sticks }
-sticks_in_run t partners rows cols calls bytes slice (Refused refusals.Size) whole same h = absurd h
-sticks_in_run t partners rows cols calls bytes slice (Refused (refusals.Escape fault)) whole same h = absurd h
-sticks_in_run t partners rows cols calls bytes slice (Refused (refusals.Parm fault)) whole same h = absurd h
-sticks_in_run t partners rows cols calls bytes slice (Refused (refusals.Token fault)) whole same h = absurd h
-sticks_in_run t partners rows cols calls bytes slice (Refused (refusals.Source fault)) whole same h = absurd h
-sticks_in_run t partners rows cols calls bytes slice (Refused (refusals.Resolve fault)) whole same h = absurd h
-sticks_in_run t partners rows cols calls bytes slice (Refused (refusals.Pack fault)) whole same h = absurd h
-sticks_in_run t partners rows cols calls bytes slice (Refused (refusals.Verdict words)) whole same h = absurd h
-sticks_in_run t partners rows cols calls bytes slice (RefusedUnwritten refusal) whole same h = absurd h
-sticks_in_run t partners rows cols calls bytes slice (Usage text) whole same h = absurd h
-sticks_in_run t partners rows cols calls bytes slice (File told) whole same h = absurd h
-sticks_in_run t partners rows cols calls bytes slice Output whole same h = absurd h
-sticks_in_run t partners rows cols calls bytes slice NoMemory whole same h = tt
+-- the same terminal, its size by another name
+pub shown_at : (t : Table) (partners : ℕ → Option ℕ) (rows cols height width : ℕ) (calls : List Call) (text : List ℕ) → rows ≡ height → cols ≡ width → ShowsRun t partners rows cols calls text → ShowsRun t partners height width calls text
+shown_at t partners rows cols height width calls text high wide h =
+    let P : ℕ → Type 0 = λ n. ShowsRun t partners n cols calls text in
+    let Q : ℕ → Type 0 = λ n. ShowsRun t partners height n calls text in
+    subst Q wide (subst P high h)
+
+-- what is taken doesn't stick
+pub taken_ok : (s u : State) (bytes : List ℕ) (fed : Result (Unit {0}) Stuck) (rows cols : ℕ) → s ≡ reset rows cols → IsTaken rows cols bytes → IfErr fed (λ e. Sticks s bytes e.at u) → IsOk fed
+taken_ok s u bytes (Ok x) rows cols e h k = refl
+taken_ok s u bytes (Err x) rows cols e h k = let P : State → Type 0 = λ y. Runs y bytes h.after in absurd (runs_or_sticks s h.after u bytes x.at (subst P (sym e) h.runs) k)

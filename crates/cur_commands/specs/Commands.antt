@@ -1,11 +1,11 @@
 -- What `play` and `show` reply, by what their files hold. `table` and `partners` are what a painter may know of the
 -- strings of a verified entry.
 use Rattle.std.specs.Prelude.{◌≡◌, ◌⊎◌, ℕ, Bool, List, Option, Ok}
-use Rattle.std.specs.Io.KnownBytes.{Appends}
 use Rattle.ti_cert.specs.Table.{Content as Strings}
 use Rattle.ti_commands.specs.Holding.{Held}
 use Rattle.ti_commands.specs.Replying.{IsText}
 use Rattle.ti_commands.specs.declared.failure.Failure.{Failure}
+use Rattle.ti_commands.specs.declared.failure.Failure.TheVariants.{NoMemory}
 use Rattle.ti_commands.specs.declared.failure.Reply.{Reply}
 use Rattle.ti_conforms.specs.Certified.{Table}
 use Rattle.cur_calls.specs.declared.calls.Call.{Call}
@@ -14,8 +14,8 @@ use Rattle.cur_play.specs.Log.{Ran}
 use Rattle.cur_play.specs.declared.runs.Entry.{Entry}
 use Rattle.cur_commands.specs.Preparing.{FailsToPrepare, Prepared}
 use Rattle.cur_commands.specs.Scripts.{IsScriptFailure}
-use Rattle.cur_commands.specs.Showing.{IsUnshown, ShowsRun}
-use Rattle.cur_commands.specs.Through.{AreThrough, IsUnplayed}
+use Rattle.cur_commands.specs.Showing.{ShowsRun}
+use Rattle.cur_commands.specs.Through.{AreThrough, IsUnplayed, unfailing}
 use Rattle.ti_requests.specs.declared.request.ScriptWords.{ScriptWords}
 
 -- the words give a size, an entry that conforms at it and has these strings, and these calls
@@ -32,7 +32,7 @@ pub record IsPlayed (table : Strings → Table) (partners : Strings → ℕ → 
   pub calls : List Call
   pub ready : IsReady held words height width checked calls
   pub log : List Entry
-  pub ran : Ran Appends old new (table checked) (partners checked) calls log
+  pub ran : Ran (unfailing (table checked) (partners checked)) old new calls log
   pub through : AreThrough log
 
 -- the reply tells of a run of the script's calls and of the screen that it leaves
@@ -64,18 +64,19 @@ pub record FailsInRun {O : Type 0} (held : Held) (words : ScriptWords) (has_fail
   pub ready : IsReady held words height width checked calls
   pub unplayed : IsUnplayed has_failed old new failure
 
--- the same of a run on the terminal
-pub record FailsOnTerminal (table : Strings → Table) (partners : Strings → ℕ → Option ℕ) (held : Held) (words : ScriptWords) (failure : Failure) : Type 0 where
+-- all is right, and there is no memory for the run or its reply
+pub record FailsForMemory (held : Held) (words : ScriptWords) (failure : Failure) : Type 0 where
   pub height : ℕ
   pub width : ℕ
   pub checked : Strings
   pub calls : List Call
   pub ready : IsReady held words height width checked calls
-  pub unshown : IsUnshown (table checked) (partners checked) height width calls failure
+  pub lacks : failure ≡ NoMemory
 
 -- the words come first, then the files in their order, then the run
 abbrev pub FailsToPlay : {O : Type 0} → Held → ScriptWords → (O → Bool) → O → O → Failure → Type 0
 FailsToPlay held words has_failed old new failure = FailsToPrepare held words failure ⊎ FailsAtScript held words failure ⊎ FailsInRun held words has_failed old new failure
 
-abbrev pub FailsToShow : (Strings → Table) → (Strings → ℕ → Option ℕ) → Held → ScriptWords → Failure → Type 0
-FailsToShow table partners held words failure = FailsToPrepare held words failure ⊎ FailsAtScript held words failure ⊎ FailsOnTerminal table partners held words failure
+-- whatever the terminal is sent, it gets stuck in none of it
+abbrev pub FailsToShow : Held → ScriptWords → Failure → Type 0
+FailsToShow held words failure = FailsToPrepare held words failure ⊎ FailsAtScript held words failure ⊎ FailsForMemory held words failure

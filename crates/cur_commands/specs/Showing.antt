@@ -1,13 +1,9 @@
 -- What `show` tells: a line for each call that was refused, and then the screen of the terminal.
 use Rattle.std.specs.Prelude.{◌≡◌, ℕ, ◌+◌, List, [], ◌∷◌, ◌++◌, Option, Some, codes}
 use Rattle.std.specs.Fmt.{decimal}
-use Rattle.std.specs.Io.KnownBytes.{Appends}
 use Rattle.vt_term.specs.Printed.{screen_text}
-use Rattle.vt_term.specs.Run.{Runs, Sticks}
+use Rattle.vt_term.specs.Run.{Runs}
 use Rattle.vt_term.specs.Screen.{State, reset}
-use Rattle.ti_commands.specs.declared.failure.Failure.{Failure}
-use Rattle.ti_commands.specs.declared.failure.Failure.TheVariants.{Refused, NoMemory}
-use Rattle.ti_commands.specs.declared.failure.Refusal.TheVariants.{Stuck}
 use Rattle.cur_drawing.specs.declared.refusals.Refusal.{Refusal}
 use Rattle.cur_drawing.specs.declared.refusals.Refusal.TheVariants as refusals
 use Rattle.ti_conforms.specs.Certified.{Table}
@@ -16,7 +12,7 @@ use Rattle.cur_play.specs.Log.{Ran}
 use Rattle.cur_play.specs.declared.answers.Answer.{Answer}
 use Rattle.cur_play.specs.declared.answers.Answer.TheVariants as answers
 use Rattle.cur_play.specs.declared.runs.Entry.{Entry}
-use Rattle.cur_commands.specs.Through.{AreThrough}
+use Rattle.cur_commands.specs.Through.{AreThrough, unfailing}
 
 abbrev pub refusal_name : Refusal → List ℕ
 refusal_name refusals.NoWindow = codes "NoWindow"
@@ -53,7 +49,7 @@ refusals_text n (e ∷ log) = answer_line (n + 1) e.answer ++ refusals_text (n +
 -- A run of these calls, of which none was cut short, and the bytes that it sent in all.
 pub record RanWhole (t : Table) (partners : ℕ → Option ℕ) (calls : List Call) (bytes : List ℕ) : Type 0 where
   pub log : List Entry
-  pub ran : Ran Appends (Some []) (Some bytes) t partners calls log
+  pub ran : Ran (unfailing t partners) (Some []) (Some bytes) calls log
   pub through : AreThrough log
 
 -- the text tells of a run and of the screen that a terminal in its reset state shows after the bytes
@@ -64,14 +60,7 @@ pub record ShowsRun (t : Table) (partners : ℕ → Option ℕ) (rows cols : ℕ
   pub runs : Runs (reset rows cols) bytes after
   pub spelled : text ≡ refusals_text 0 whole.log ++ screen_text after.screen
 
--- the terminal takes no byte at this place of what a run of the calls sent
-pub record SticksInRun (t : Table) (partners : ℕ → Option ℕ) (rows cols : ℕ) (calls : List Call) (at : ℕ) : Type 0 where
-  pub bytes : List ℕ
-  pub whole : RanWhole t partners calls bytes
+-- a terminal in its reset state takes all these bytes
+pub record IsTaken (rows cols : ℕ) (bytes : List ℕ) : Type 0 where
   pub after : State
-  pub sticks : Sticks (reset rows cols) bytes at after
-
-abbrev pub IsUnshown : Table → (ℕ → Option ℕ) → ℕ → ℕ → List Call → Failure → Type 0
-IsUnshown t partners rows cols calls (Refused (Stuck stuck)) = SticksInRun t partners rows cols calls stuck.at
-IsUnshown t partners rows cols calls NoMemory = Unit {0}
-IsUnshown t partners rows cols calls _ = ⊥
+  pub runs : Runs (reset rows cols) bytes after

@@ -1,10 +1,17 @@
 -- How a run over an output ends.
-use Rattle.std.specs.Prelude.{◌≡◌, Bool, true, List}
+use Rattle.std.specs.Prelude.{◌≡◌, ℕ, Bool, true, List, Option}
+use Rattle.std.specs.Io.KnownBytes.{Appends}
 use Rattle.std.specs.List.{AllByRecursion}
 use Rattle.ti_commands.specs.declared.failure.Failure.{Failure}
 use Rattle.ti_commands.specs.declared.failure.Failure.TheVariants.{Output, NoMemory}
+use Rattle.ti_conforms.specs.Certified.{Table}
+use Rattle.cur_play.specs.Log.{Subject, subject_of}
 use Rattle.cur_play.specs.declared.answers.Answer.TheVariants.{WireFailed}
 use Rattle.cur_play.specs.declared.runs.Entry.{Entry}
+
+-- what a run is about over an output that didn't fail, where its bytes are known
+abbrev pub unfailing : Table → (ℕ → Option ℕ) → Subject (Option (List ℕ))
+unfailing t partners = subject_of Appends (λ output. 0) t partners
 
 -- no call was cut short
 abbrev pub IsThrough : Entry → Type 0

@@ -39,11 +39,11 @@ pub fn show_script<F: Files>(
     remarks: &mut Remarks,
 ) -> Result<Reply, Failure>
     ensures reply { IfOk result (λ reply. IsShown ⟦<Checked as Certificate>⟧.table ⟦<Checked as Certificate>⟧.partners (F.holds files.old) words.now reply) }
-    ensures failure { IfErr result (λ e. FailsToShow ⟦<Checked as Certificate>⟧.table ⟦<Checked as Certificate>⟧.partners (F.holds files.old) words.now e) }
+    ensures failure { IfErr result (λ e. FailsToShow (F.holds files.old) words.now e) }
     ensures kept { F.holds files.new ≡ F.holds files.old }
 {
     let ready = prepare(alloc, words, files, remarks)?;
     let calls = calls_of(alloc, words.script, ready.text.as_slice(), remarks)?;
-    let text = show_calls(alloc, ready.size, &ready.checked, calls.as_slice())?;
+    let text = show_calls(alloc, &ready.checked, calls.as_slice())?;
     Ok(Reply::of_text(alloc, text))
 }

@@ -4,7 +4,7 @@ ghost use Rattle.cur_wires.specs.Wire.{Rose};
 ghost use Rattle.cur_commands.specs.Holding.{Holds};
 
 use crate::buffers::Buffer;
-use crate::paced::Paced;
+use cur_play::Paced;
 use cur_wires::{Wire, WireFault};
 use ti_commands::Output;
 

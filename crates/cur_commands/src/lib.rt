@@ -4,7 +4,6 @@
 mod buffers;
 mod commands;
 mod held;
-mod paced;
 mod playing;
 mod preparing;
 mod reading;

@@ -1,43 +1,55 @@
-//! An output in memory.
-ghost use Rattle.std.specs.Prelude.{◌≡◌, [], Some};
+//! A wire in memory.
+ghost use Rattle.std.specs.Prelude.{◌≡◌, ◌<◌, ◌≤◌, [], length, take, IfOk, OnErr};
+ghost use Rattle.cur_wires.specs.Wire.{Rose};
+ghost use Rattle.cur_commands.specs.Taking.{Takes};
 
+use cur_wires::{Wire, WireFault};
 use std::alloc::Global;
-use ti_commands::{Output, Unwritten};
 
-/// An output that keeps its bytes in memory, and fails where there is none.
+/// A wire that keeps its bytes in memory, and fails where there is none.
 #[derive(Drop)]
 pub struct Taken {
     /// What it has taken.
     pub bytes: Vec<u8>,
-    has_failed: bool,
+    /// How often there was no memory.
+    pub failures: u128,
 }
 
 impl Taken {
     /// It has taken nothing yet.
     pub fn new(alloc: Global) -> Taken
-        ensures { result.bytes.items ≡ [] }
+        ensures bytes { result.bytes.items ≡ [] }
+        ensures failures { result.failures ≡ 0 }
     {
         Taken {
             bytes: Vec::new(alloc),
-            has_failed: false,
+            failures: 0,
         }
     }
 }
 
-impl Output for Taken {
-    ghost use Rattle.std.specs.Prelude.{Some};
+impl Wire for Taken {
+    ghost use Rattle.cur_commands.specs.Taking.{Takes, takes_lawful};
 
-    ghost contents = { λ taken. Some taken.bytes.items };
+    ghost went = { λ a b x. Takes a.bytes.items b.bytes.items a.failures b.failures x };
 
-    ghost has_failed = { λ taken. taken.has_failed };
+    ghost failures = { λ a. a.failures };
 
-    fn put(&mut self, bytes: &[u8]) -> Result<(), Unwritten> {
-        match self.bytes.extend_from_slice(bytes) {
-            Ok(()) => Ok(()),
-            Err(_) => {
-                self.has_failed = true;
-                Err(Unwritten)
-            }
+    /// Takes the whole piece, or nothing where there is no memory.
+    fn send(&mut self, piece: &[u8]) -> Result<usize, WireFault>
+        requires { 0 < length piece.now }
+        ensures some { IfOk result (λ n. 0 < n) }
+        ensures within { IfOk result (λ n. n ≤ length piece.now) }
+        ensures sent { IfOk result (λ n. Takes self.old.bytes.items self.new.bytes.items self.old.failures self.new.failures (take n piece.now)) }
+        ensures unsent { OnErr result (Takes self.old.bytes.items self.new.bytes.items self.old.failures self.new.failures []) }
+        ensures failed { OnErr result (Rose self.old.failures self.new.failures) }
+    {
+        if self.bytes.extend_from_slice(piece).is_err() {
+            self.failures = self.failures.saturating_add(1);
+            return Err(WireFault);
         }
+        Ok(piece.len())
     }
+
+    ghost lawful = { takes_lawful (λ a. a.bytes.items) (λ a. a.failures) };
 }

@@ -24,7 +24,7 @@ use Rattle.cur_update.specs.Differ.{in_lines}
 use Rattle.cur_update.specs.Inks.{ink_at}
 use Rattle.cur_update.specs.Painters.{Painted, place_of, wanted_of}
 use Rattle.cur_play.proofs.Fewness.{finish_few, front_few, line_few, refresh_few}
-use Rattle.cur_play.specs.Bounds.{is_shown, last_after, mode_after, most}
+use Rattle.cur_play.specs.Log.{is_shown, last_after, mode_after, most}
 use Rattle.cur_play.specs.Carrying.{FitsIn, IsLast, IsSettled, Carries}
 use Rattle.cur_play.specs.Outputs.{IsQuiet, Showed, ShowedShort, Puts}
 use Rattle.cur_play.specs.declared.answers.Answer.{Answer}
@@ -101,11 +101,18 @@ none_of laws t partners shown v Known b mode false last rows cols h k n p m c =
     let P : (ℕ → ℕ → Ink) → Type 0 = λ g. paint_limit t g (ink_at t partners v) b (place_of v.cursor) mode ≡ 0 in
     subst P (sym (h refl)) (laws.none t partners last v b (place_of v.cursor) mode rows cols n p m)
 
-pub quietly : {W C : Type 0} (went : W → W → List ℕ → Type 0) (failures : W → ℕ) → IsWire went failures → (old new : W) (t : Table) (partners : ℕ → Option ℕ) (v : Screen) (o : Output) (answer : Answer) (before after : Painted C)
-    → is_shown o answer ≡ false → ((last : Screen) → last_after o answer last v ≡ last) → IsQuiet old new before after → Carries went old new t partners v o answer before after
-quietly {W} went failures laws old new t partners v o answer before after none same q = record {
+-- the bytes by another name
+puts_as : {W C : Type 0} (went : W → W → List ℕ → Type 0) (failures : W → ℕ) (old new : W) (t : Table) (partners : ℕ → Option ℕ) (v : Screen) (o : Output) (answer : Answer) (x y : List ℕ) (before after : Painted C)
+    → x ≡ y → Puts went failures old new t partners v o answer x before after → Puts went failures old new t partners v o answer y before after
+puts_as {W} {C} went failures old new t partners v o answer x y before after e p = let P : List ℕ → Type 0 = λ b. Puts went failures old new t partners v o answer b before after in subst P e p
+
+quietly : {W C : Type 0} (went : W → W → List ℕ → Type 0) (failures : W → ℕ) → IsWire went failures → (old new : W) (t : Table) (partners : ℕ → Option ℕ) (v : Screen) (o : Output) (answer : Answer) (bytes : List ℕ) (before after : Painted C)
+    → is_shown o answer ≡ false → ((last : Screen) → last_after o answer last v ≡ last) → IsQuiet old new bytes before after → Puts went failures old new t partners v o answer bytes before after
+    → Carries went failures old new t partners v o answer before after
+quietly {W} went failures laws old new t partners v o answer bytes before after none same q puts = record {
   bytes = [];
   sent = (let P : W → Type 0 = λ w. went old w [] in subst P (sym q.wire) (laws.nothing old));
+  puts = puts_as went failures old new t partners v o answer bytes [] before after q.none puts;
   fits = stays t partners before after q.session q.shown;
   shows = λ e. absurd (cc);
   last = λ last h. (let P : Screen → Type 0 = λ x. IsLast t partners after x in
@@ -118,13 +125,14 @@ quietly {W} went failures laws old new t partners v o answer before after none s
 }
 
 -- all went out, or a front of it, without showing the screen
-otherwise : {W C : Type 0} (went : W → W → List ℕ → Type 0) (old new : W) (t : Table) (partners : ℕ → Option ℕ) (v : Screen) (o : Output) (answer : Answer) (before after : Painted C) (bytes : List ℕ)
+otherwise : {W C : Type 0} (went : W → W → List ℕ → Type 0) (failures : W → ℕ) (old new : W) (t : Table) (partners : ℕ → Option ℕ) (v : Screen) (o : Output) (answer : Answer) (before after : Painted C) (bytes : List ℕ)
     → is_shown o answer ≡ false → ((last : Screen) → last_after o answer last v ≡ last) → (o ≡ Update → ⊥) → (o ≡ Nothing → ⊥)
     → went old new bytes → ((s : State) → FitsIn t partners before s → Ends s bytes (FitsIn t partners after)) → (after.session.status ≡ Known → after.session ≡ before.session) → after.shown ≡ before.shown → length bytes < 2 ^ 60
-    → Carries went old new t partners v o answer before after
-otherwise went old new t partners v o answer before after bytes none same other some sent fits kept same_screen few = record {
+    → Puts went failures old new t partners v o answer bytes before after → Carries went failures old new t partners v o answer before after
+otherwise went failures old new t partners v o answer before after bytes none same other some sent fits kept same_screen few puts = record {
   bytes = bytes;
   sent = sent;
+  puts = puts;
   fits = fits;
   shows = λ e. absurd (cc);
   last = λ last h. (let P : Screen → Type 0 = λ x. IsLast t partners after x in subst P (sym (same last)) (keeps_last t partners before after last (λ k. ap (λ (x : Session). x.status) (sym (kept k)) ∙ k) same_screen h));
@@ -142,15 +150,16 @@ refit t g h a b k bytes s e f x =
     let Q : Status → Type 0 = λ y. Fits t g y k x.after in
     record { after = x.after; runs = x.runs; there = subst P (sym e) (subst Q (sym f) x.there) }
 
-showed : {W C : Type 0} (went : W → W → List ℕ → Type 0) (old new : W) (t : Table) (partners : ℕ → Option ℕ) (v : Screen) (before after : Painted C) → IsBound → IsSize t.rows t.cols → IsSmall t → v.rows ≡ t.rows → v.cols ≡ t.cols
-    → Showed went old new t partners v before after → Carries went old new t partners v Update Done before after
-showed went old new t partners v before after laws size small high wide p =
+showed : {W C : Type 0} (went : W → W → List ℕ → Type 0) (failures : W → ℕ) (old new : W) (t : Table) (partners : ℕ → Option ℕ) (v : Screen) (bytes : List ℕ) (before after : Painted C) → IsBound → IsSize t.rows t.cols → IsSmall t → v.rows ≡ t.rows → v.cols ≡ t.cols
+    → Showed went old new t partners v bytes before after → Carries went failures old new t partners v Update Done before after
+showed went failures old new t partners v bytes before after laws size small high wide p =
     let r = p.refreshed in
     let limit : ℕ = refresh_limit t (ink_at t partners before.shown) (ink_at t partners v) before.session.status before.session.belief (wanted_of v before.mode) in
     let le : length r.bytes ≤ limit = r.bound in
     record {
       bytes = r.bytes;
       sent = r.sent;
+      puts = puts_as went failures old new t partners v Update Done bytes r.bytes before after p.all p;
       fits = λ s f. refit t (ink_at t partners v) (ink_at t partners after.shown) Known after.session.status after.session.belief r.bytes s (ap (ink_at t partners) p.shown) r.known (r.fits s f);
       shows = λ e s f. r.lawful.shows s f;
       last = λ last h k. ap (ink_at t partners) p.shown;
@@ -161,15 +170,16 @@ showed went old new t partners v before after laws size small high wide p =
       few = (let f = refresh_few t (ink_at t partners before.shown) (ink_at t partners v) before.session.status before.session.belief (wanted_of v before.mode) size small in omega (arith, le, f));
     }
 
-showed_short : {W C : Type 0} (went : W → W → List ℕ → Type 0) (failures : W → ℕ) (old new : W) (t : Table) (partners : ℕ → Option ℕ) (v : Screen) (before after : Painted C) → IsBound → IsSize t.rows t.cols → IsSmall t → v.rows ≡ t.rows → v.cols ≡ t.cols
-    → ShowedShort went failures old new t partners v before after → Carries went old new t partners v Update WireFailed before after
-showed_short went failures old new t partners v before after laws size small high wide p =
+showed_short : {W C : Type 0} (went : W → W → List ℕ → Type 0) (failures : W → ℕ) (old new : W) (t : Table) (partners : ℕ → Option ℕ) (v : Screen) (bytes : List ℕ) (before after : Painted C) → IsBound → IsSize t.rows t.cols → IsSmall t → v.rows ≡ t.rows → v.cols ≡ t.cols
+    → ShowedShort went failures old new t partners v bytes before after → Carries went failures old new t partners v Update WireFailed before after
+showed_short went failures old new t partners v bytes before after laws size small high wide p =
     let r = p.cut in
     let limit : ℕ = refresh_limit t (ink_at t partners before.shown) (ink_at t partners v) before.session.status before.session.belief (wanted_of v before.mode) in
     let le : length r.front ≤ limit = r.bound in
     record {
       bytes = r.front;
       sent = r.sent;
+      puts = puts_as went failures old new t partners v Update WireFailed bytes r.front before after p.all p;
       fits = λ s f. refit t (ink_at t partners after.shown) (ink_at t partners after.shown) Lost after.session.status after.session.belief r.front s refl r.lost (r.fits s f);
       shows = λ e. absurd (cc);
       last = λ last h k. absurd (lost_unknown after.session.status r.lost k);
@@ -190,30 +200,34 @@ same_session t partners before after bytes s e f x =
     let Q : Screen → Type 0 = λ d. Fits t (ink_at t partners d) before.session.status before.session.belief x.after in
     record { after = x.after; runs = x.runs; there = subst P (sym e) (subst Q (sym f) x.there) }
 
-pub carries : {W C : Type 0} (went : W → W → List ℕ → Type 0) (failures : W → ℕ) → IsWire went failures → IsBound → (old new : W) (t : Table) (partners : ℕ → Option ℕ) (v : Screen) (o : Output) (answer : Answer) (before after : Painted C) → IsSize t.rows t.cols → IsSmall t → v.rows ≡ t.rows → v.cols ≡ t.cols
-    → Puts went failures old new t partners v o answer before after → Carries went old new t partners v o answer before after
-carries went failures wire laws old new t partners v Nothing answer before after size small high wide p = quietly went failures wire old new t partners v Nothing answer before after refl (λ l. refl) p
-carries went failures wire laws old new t partners v Update Done before after size small high wide p = showed went old new t partners v before after laws size small high wide p
-carries went failures wire laws old new t partners v Update WireFailed before after size small high wide p = showed_short went failures old new t partners v before after laws size small high wide p
-carries went failures wire laws old new t partners v Update (Was n) before after size small high wide p = quietly went failures wire old new t partners v Update (Was n) before after refl (λ l. refl) p
-carries went failures wire laws old new t partners v Update (Refused r) before after size small high wide p = quietly went failures wire old new t partners v Update (Refused r) before after refl (λ l. refl) p
-carries went failures wire laws old new t partners v Bell (Was n) before after size small high wide p = quietly went failures wire old new t partners v Bell (Was n) before after refl (λ l. refl) p
-carries went failures wire laws old new t partners v Bell (Refused r) before after size small high wide p = quietly went failures wire old new t partners v Bell (Refused r) before after refl (λ l. refl) p
-carries went failures wire laws old new t partners v End (Was n) before after size small high wide p = quietly went failures wire old new t partners v End (Was n) before after refl (λ l. refl) p
-carries went failures wire laws old new t partners v End (Refused r) before after size small high wide p = quietly went failures wire old new t partners v End (Refused r) before after refl (λ l. refl) p
-carries went failures wire laws old new t partners v Bell Done before after size small high wide p =
+pub carries : {W C : Type 0} (went : W → W → List ℕ → Type 0) (failures : W → ℕ) → IsWire went failures → IsBound → (old new : W) (t : Table) (partners : ℕ → Option ℕ) (v : Screen) (o : Output) (answer : Answer) (bytes : List ℕ) (before after : Painted C) → IsSize t.rows t.cols → IsSmall t → v.rows ≡ t.rows → v.cols ≡ t.cols
+    → Puts went failures old new t partners v o answer bytes before after → Carries went failures old new t partners v o answer before after
+carries went failures wire laws old new t partners v Nothing answer bytes before after size small high wide p = quietly went failures wire old new t partners v Nothing answer bytes before after refl (λ l. refl) p p
+carries went failures wire laws old new t partners v Update Done bytes before after size small high wide p = showed went failures old new t partners v bytes before after laws size small high wide p
+carries went failures wire laws old new t partners v Update WireFailed bytes before after size small high wide p = showed_short went failures old new t partners v bytes before after laws size small high wide p
+carries went failures wire laws old new t partners v Update (Was n) bytes before after size small high wide p = quietly went failures wire old new t partners v Update (Was n) bytes before after refl (λ l. refl) p p
+carries went failures wire laws old new t partners v Update (Refused r) bytes before after size small high wide p = quietly went failures wire old new t partners v Update (Refused r) bytes before after refl (λ l. refl) p p
+carries went failures wire laws old new t partners v Bell (Was n) bytes before after size small high wide p = quietly went failures wire old new t partners v Bell (Was n) bytes before after refl (λ l. refl) p p
+carries went failures wire laws old new t partners v Bell (Refused r) bytes before after size small high wide p = quietly went failures wire old new t partners v Bell (Refused r) bytes before after refl (λ l. refl) p p
+carries went failures wire laws old new t partners v End (Was n) bytes before after size small high wide p = quietly went failures wire old new t partners v End (Was n) bytes before after refl (λ l. refl) p p
+carries went failures wire laws old new t partners v End (Refused r) bytes before after size small high wide p = quietly went failures wire old new t partners v End (Refused r) bytes before after refl (λ l. refl) p p
+carries went failures wire laws old new t partners v Bell Done bytes before after size small high wide p =
     let r = p.sends in
-    otherwise went old new t partners v Bell Done before after r.line refl (λ l. refl) (λ e. cc) (λ e. cc) r.sent
+    otherwise went failures old new t partners v Bell Done before after r.line refl (λ l. refl) (λ e. cc) (λ e. cc) r.sent
     (λ s f. same_session t partners before after r.line s r.same p.shown (r.fits (ink_at t partners before.shown) s f)) (λ k. r.same) p.shown (line_few t Bel r.line r.is small)
-carries went failures wire laws old new t partners v Bell WireFailed before after size small high wide p =
+    (puts_as went failures old new t partners v Bell Done bytes r.line before after p.all p)
+carries went failures wire laws old new t partners v Bell WireFailed bytes before after size small high wide p =
     let r = p.sends in
-    otherwise went old new t partners v Bell WireFailed before after r.front refl (λ l. refl) (λ e. cc) (λ e. cc) r.sent
+    otherwise went failures old new t partners v Bell WireFailed before after r.front refl (λ l. refl) (λ e. cc) (λ e. cc) r.sent
     (λ s f. to_lost t partners after r.front s r.lost (r.fits (ink_at t partners before.shown) s f)) (λ k. absurd (lost_unknown after.session.status r.lost k)) p.shown (front_few r.line r.front r.back r.parts (line_few t Bel r.line r.is small))
-carries went failures wire laws old new t partners v End Done before after size small high wide p =
+    (puts_as went failures old new t partners v Bell WireFailed bytes r.front before after p.all p)
+carries went failures wire laws old new t partners v End Done bytes before after size small high wide p =
     let r = p.sends in
-    otherwise went old new t partners v End Done before after _ refl (λ l. refl) (λ e. cc) (λ e. cc) r.sent
+    otherwise went failures old new t partners v End Done before after (finish_text t before.session.status) refl (λ l. refl) (λ e. cc) (λ e. cc) r.sent
     (λ s f. refit t (ink_at t partners after.shown) (ink_at t partners after.shown) Fresh after.session.status after.session.belief _ s refl r.fresh (r.fits (ink_at t partners before.shown) s f)) (λ k. absurd (fresh_unknown after.session.status r.fresh k)) p.shown (finish_few t before.session.status small)
-carries went failures wire laws old new t partners v End WireFailed before after size small high wide p =
+    (puts_as went failures old new t partners v End Done bytes (finish_text t before.session.status) before after p.all p)
+carries went failures wire laws old new t partners v End WireFailed bytes before after size small high wide p =
     let r = p.sends in
-    otherwise went old new t partners v End WireFailed before after r.front refl (λ l. refl) (λ e. cc) (λ e. cc) r.sent
+    otherwise went failures old new t partners v End WireFailed before after r.front refl (λ l. refl) (λ e. cc) (λ e. cc) r.sent
     (λ s f. to_lost t partners after r.front s r.lost (r.fits (ink_at t partners before.shown) s f)) (λ k. absurd (lost_unknown after.session.status r.lost k)) p.shown (front_few (finish_text t before.session.status) r.front r.back r.parts (finish_few t before.session.status small))
+    (puts_as went failures old new t partners v End WireFailed bytes r.front before after p.all p)

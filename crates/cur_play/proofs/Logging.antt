@@ -1,31 +1,34 @@
 -- One call after another, with what went out so far and the log so far.
-use Rattle.std.proofs.Common.{◌≡◌, ℕ, ◌+◌, ◌*◌, ◌^◌, ◌<◌, ◌≤◌, true, List, [], ◌∷◌, ◌++◌, length, take, drop, Option, refl, sym, ap, subst, ◌∙◌, arith, append_assoc, length-append, get_or, add-one, Some, None}
+use Rattle.std.proofs.Common.{◌≡◌, ℕ, ◌+◌, ◌*◌, ◌^◌, ◌<◌, ◌≤◌, true, List, [], ◌∷◌, ◌++◌, length, drop, Option, refl, sym, ap, subst, ◌∙◌, arith, append_assoc, length-append, get_or, add-one, Some, None}
 use Rattle.std.specs.Prelude.{suc}
 use Rattle.std.specs.Borrow.{MutBor}
-use Rattle.std.proofs.Math.Seq.{drop-cons, drop-length, take-append_seam}
+use Rattle.std.proofs.Math.Seq.{drop-cons, drop-length}
 use Rattle.std.proofs.lemmas.List.{append-nil}
 use Rattle.vt_term.specs.Screen.{State}
 use Rattle.vt_term.specs.Text.{IsOpen}
-use Rattle.vt_term.proofs.Running.{runs_nothing}
+use Rattle.vt_term.proofs.Running.{runs_nothing, runs_once}
 use Rattle.cur_windows.specs.Desks.{State as Desk}
 use Rattle.cur_windows.specs.VirtualScreen.{Screen, new_screen, refreshed}
 use Rattle.cur_wires.specs.Wire.{IsWire}
 use Rattle.cur_wires.specs.Counted.{Counts, counts_joins}
 use Rattle.vt_term.specs.Ends.{Ends}
 use Rattle.cur_wires.proofs.Leading.{ends_then}
-use Rattle.ti_conforms.specs.Certified.{Table}
+use Rattle.ti_conforms.specs.Certified.{Table, IsChecked, IsLost}
+use Rattle.cur_looks.proofs.Doing.{agrees_lost}
+use Rattle.cur_looks.specs.declared.beliefs.Belief.{Belief}
+use Rattle.cur_looks.specs.declared.inks.Ink.{Ink}
 use Rattle.cur_looks.specs.declared.beliefs.Mode.{Mode}
 use Rattle.cur_looks.specs.declared.beliefs.Place.{Place}
 use Rattle.cur_paint.specs.Limits.{IsPlaced}
 use Rattle.cur_paint.specs.Update.{Fits, IsFresh, Shows}
 use Rattle.cur_paint.specs.declared.updates.Status.{Status}
-use Rattle.cur_paint.specs.declared.updates.Status.TheVariants.{Fresh, Known}
+use Rattle.cur_paint.specs.declared.updates.Status.TheVariants.{Fresh, Known, Lost}
 use Rattle.cur_update.specs.Inks.{ink_at}
 use Rattle.cur_update.specs.Painters.{Painted, place_of, wanted_of}
 use Rattle.cur_calls.specs.declared.calls.Call.{Call}
-use Rattle.cur_play.specs.Bounds.{is_shown, last_after, mode_after, most}
+use Rattle.cur_play.proofs.Failing.{call_rose, emitted, rose_sooner}
 use Rattle.cur_play.specs.Carrying.{Carries, FitsIn, IsLast, IsSettled, IsShown}
-use Rattle.cur_play.specs.Log.{Plays, Tells}
+use Rattle.cur_play.specs.Log.{IsAfter, Moment, Plays, Subject, Tells, is_shown, last_after, mode_after, start, subject_of}
 use Rattle.cur_play.specs.Outputs.{poised}
 use Rattle.cur_play.specs.Running.{RanOn}
 use Rattle.cur_play.specs.Scenes.{IsStage, Scene, Stage, first, scene_of}
@@ -83,22 +86,24 @@ shows_after t partners d a s e h =
 
 -- ---- the calls so far
 
--- whatever is played from here on, with more bytes: the whole is played from the start
-pub record Logged {W C : Type 0} (went : W → W → List ℕ → Type 0) (old new : MutBor W) (count : ℕ) (t : Table) (partners : ℕ → Option ℕ) (calls : List Call) (i : ℕ) (stage : Stage C) (log : List Entry) : Type 0 where
+abbrev pub moment : {W : Type 0} → W → List ℕ → Scene → Screen → Mode → Moment W
+moment wire bytes scene last last_mode = record { wire = wire; bytes = bytes; scene = scene; last = last; last_mode = last_mode }
+
+-- whatever is played from here on: the whole is played from the start
+pub record Logged {W C : Type 0} (about : Subject W) (old new : MutBor W) (count : ℕ) (calls : List Call) (i : ℕ) (stage : Stage C) (log : List Entry) : Type 0 where
   pub bytes : List ℕ
-  pub out : Counts went old new 0 count bytes
-  pub fits : (s : State) → IsFresh t s → Ends s bytes (FitsIn t partners stage.painter)
-  pub sized : IsStage t stage.desk stage.screen
+  pub out : Counts about.went old new 0 count bytes
+  pub fits : (s : State) → IsFresh about.table s → Ends s bytes (FitsIn about.table about.partners stage.painter)
+  pub sized : IsStage about.table stage.desk stage.screen
   pub last : Screen
-  pub rows : last.rows ≡ t.rows
-  pub cols : last.cols ≡ t.cols
-  pub is_last : IsLast t partners stage.painter last
+  pub rows : last.rows ≡ about.table.rows
+  pub cols : last.cols ≡ about.table.cols
+  pub is_last : IsLast about.table about.partners stage.painter last
   pub last_mode : Mode
   pub settled : IsSettled stage.painter last last_mode
   pub counted : length log ≡ i
   pub few : length bytes ≤ i * 2 ^ 60
-  pub plays : (more : List ℕ) (rest : List Entry) → length (bytes ++ more) < 2 ^ 128 → Plays t partners (bytes ++ more) count last last_mode (scene_of stage) (drop i calls) rest
-      → Plays t partners (bytes ++ more) 0 (new_screen t.rows t.cols) (first t).mode (first t) calls (log ++ rest)
+  pub plays : (rest : List Entry) (to : W) (all : List ℕ) → Plays about (moment new.now bytes (scene_of stage) last last_mode) (drop i calls) rest to all → Plays about (start about old.now) calls (log ++ rest) to all
 
 last_sized : (o : Output) (answer : Answer) (last v : Screen) (n : ℕ) (f : Screen → ℕ) → f last ≡ n → f v ≡ n → f (last_after o answer last v) ≡ n
 last_sized Update Done last v n f e h = h
@@ -140,102 +145,121 @@ placed_still : (want last now : Option Place) → IsPlaced want last → IsPlace
 placed_still None last now h k = tt
 placed_still (Some p) last now h k = let P : Option Place → Type 0 = λ x. IsPlaced x now in subst P h k
 
-pub log_more : {W C : Type 0} (went : W → W → List ℕ → Type 0) (failures : W → ℕ) → IsWire went failures → (a m z : MutBor W) (to upto : ℕ) (t : Table) (partners : ℕ → Option ℕ) (calls : List Call) (i : ℕ) (call : Call) (before after : Stage C) (log : List Entry) (answer : Answer)
-    (b : List ℕ) → Logged went a m to t partners calls i before log → drop i calls ≡ call ∷ drop (i + 1) calls
-    → CallStep t (scene_of before) call answer (scene_of after) → IsStage t after.desk after.screen → Counts went m z to upto b
-    → ((s : State) → FitsIn t partners before.painter s → Ends s b (FitsIn t partners after.painter))
-    → (is_shown (output_of call) answer ≡ true → (s : State) → FitsIn t partners before.painter s → Ends s b (Shows t (ink_at t partners (drawn t (scene_of before) call).0.screen) (wanted_of (drawn t (scene_of before) call).0.screen (drawn t (scene_of before) call).0.mode)))
-    → ((last : Screen) → IsLast t partners before.painter last → IsLast t partners after.painter (last_after (output_of call) answer last (drawn t (scene_of before) call).0.screen))
-    → (output_of call ≡ Update → (last : Screen) → last.rows ≡ t.rows → last.cols ≡ t.cols → IsLast t partners before.painter last → length b ≤ most t before.painter.session.status (drawn t (scene_of before) call).0.screen.clearok last (drawn t (scene_of before) call).0.screen)
-    → (output_of call ≡ Nothing → length b ≡ 0)
-    → ((last : Screen) (last_mode : Mode) → IsSettled before.painter last last_mode → IsSettled after.painter (last_after (output_of call) answer last (drawn t (scene_of before) call).0.screen) (mode_after (output_of call) answer last_mode (drawn t (scene_of before) call).0.mode))
-    → length b < 2 ^ 60
-    → (output_of call ≡ Update → (last : Screen) → last.rows ≡ t.rows → last.cols ≡ t.cols → IsLast t partners before.painter last → IsShown t (drawn t (scene_of before) call).0.screen (poised t before call) last → length b ≡ 0)
-    → Logged went a z upto t partners calls (i + 1) after (log ++ record { answer = answer; sent = upto } ∷ [])
-log_more {W} {C} went failures laws a m z to upto t partners calls i call before after log answer b l left step sized c fits shows last bound quiet settled few idle =
-    let e : Entry = record { answer = answer; sent = upto } in
+-- ---- one call more
+
+fits_lost : (t : Table) → IsChecked t → (g : ℕ → ℕ → Ink) (status : Status) (b : Belief) (s : State) → Fits t g status b s → IsLost t s
+fits_lost t checked g Fresh b s f = f.lost
+fits_lost t checked g Known b s f = agrees_lost t checked g b s f
+fits_lost t checked g Lost b s f = f
+
+empty_list : {X : Type 0} (xs : List X) → length xs ≡ 0 → xs ≡ []
+empty_list [] e = refl
+empty_list (x ∷ xs) e = absurd (omega (arith, e))
+
+-- what a call on counted wires promises of the bytes
+abbrev pub CarriesOn : {W V C : Type 0} → Subject W → (V → MutBor W) → (V → ℕ) → V → V → Call → Answer → Stage C → Painted C → Type 0
+CarriesOn {W} {V} {C} about wire count old new call answer before after =
+    Carries {W = V} (λ x y b. Counts about.went (wire x) (wire y) (count x) (count y) b) (λ x. about.failures (wire x).now) old new about.table about.partners
+    (drawn about.table (scene_of before) call).0.screen (output_of call) answer (poised about.table before call) after
+
+-- one call, and then what its wire held back is passed on
+log_more : {W V C : Type 0} (about : Subject W) → IsWire about.went about.failures → (wire : V → MutBor W) (count : V → ℕ) (a : MutBor W) (m n z : V) (calls : List Call) (i : ℕ) (call : Call) (before after : Stage C) (log : List Entry) (answer : Answer)
+    → IsChecked about.table → i < 2 ^ 64 → Logged about a (wire m) (count m) calls i before log → drop i calls ≡ call ∷ drop (i + 1) calls
+    → CallStep about.table (scene_of before) call answer (scene_of after) → IsStage about.table after.desk after.screen
+    → CarriesOn about wire count m n call answer before after.painter → Counts about.went (wire n) (wire z) (count n) (count z) []
+    → Logged about a (wire z) (count z) calls (i + 1) after (log ++ record { answer = answer; sent = count z } ∷ [])
+log_more {W} {V} {C} about laws wire count a m n z calls i call before after log answer checked small l left step sized carries passed =
+    let t : Table = about.table in
+    let e : Entry = record { answer = answer; sent = count z } in
     let d : Scene = (drawn t (scene_of before) call).0 in
-    let A : State → Type 0 = FitsIn t partners before.painter in
+    let b : List ℕ = carries.bytes in
+    let A : State → Type 0 = FitsIn t about.partners before.painter in
+    let B : State → Type 0 = FitsIn t about.partners after.painter in
     let bytes : List ℕ = l.bytes ++ b in
-    let out : Counts went a z 0 upto bytes = counts_joins went failures laws a m z 0 to upto l.bytes b l.out c in
+    let both : Counts about.went (wire m) (wire z) (count m) (count z) (b ++ []) = counts_joins about.went about.failures laws (wire m) (wire n) (wire z) (count m) (count n) (count z) b [] carries.sent passed in
+    let C1 : List ℕ → Type 0 = λ x. Counts about.went (wire m) (wire z) (count m) (count z) x in
+    let sent : Counts about.went (wire m) (wire z) (count m) (count z) b = subst C1 (append-nil b) both in
+    let out : Counts about.went a (wire z) 0 (count z) bytes = counts_joins about.went about.failures laws a (wire m) (wire z) 0 (count m) (count z) l.bytes b l.out sent in
     let there : is_shown (output_of call) answer ≡ true → scene_of after ≡ shown_scene d = λ k. scene_shown t (scene_of before) call answer (scene_of after) k step in
-    let now : Screen = last_after (output_of call) answer l.last after.screen in
+    let last : Screen = last_after (output_of call) answer l.last after.screen in
+    let last_mode : Mode = mode_after (output_of call) answer l.last_mode after.painter.mode in
+    let few : length bytes ≤ (i + 1) * 2 ^ 60 = omega (arith, l.few, carries.few, length-append l.bytes b) in
+    let ends : (s : State) → IsFresh t s → Ends s bytes B = λ s f. ends_then A B s l.bytes b (l.fits s f) carries.fits in
+    let known : (s : State) → IsAfter t l.bytes s → A s = λ s h. (let x = l.fits h.begun h.fresh in subst A (sym (runs_once h.begun x.after s l.bytes x.runs h.runs)) x.there) in
+    let was : Moment W = moment (wire m).now l.bytes (scene_of before) l.last l.last_mode in
+    let next : Moment W = moment (wire z).now bytes (scene_of after) last last_mode in
+    let tells : Tells about was call e next = record {
+      step = step;
+      piece = b;
+      went = sent.inner;
+      bytes = refl;
+      counted = (let exact : count z ≡ 0 + length bytes = out.counted (omega (arith, few, small)) in omega (arith, exact));
+      emits = emitted {W = V} (λ x y c. Counts about.went (wire x) (wire y) (count x) (count y) c) (λ x. about.failures (wire x).now) m n t about.partners d.screen (output_of call) answer b (poised t before call) after.painter
+          (IsAfter t l.bytes) known carries.puts;
+      failed = λ k. rose_sooner (about.failures (wire m).now) (about.failures (wire n).now) (about.failures (wire z).now)
+          (call_rose {W = V} (λ x y c. Counts about.went (wire x) (wire y) (count x) (count y) c) (λ x. about.failures (wire x).now) m n t about.partners d.screen call (scene_of before) (scene_of after) answer b (poised t before call) after.painter step carries.puts k)
+          (laws.counts (wire n).now (wire z).now [] passed.inner);
+      takes = λ s f. (let x = ends s f in record {
+        after = x.after;
+        runs = x.runs;
+        there = fits_lost t checked (ink_at t about.partners after.painter.shown) after.painter.session.status after.painter.session.belief x.after x.there;
+      });
+      shows = λ k s f. (
+          let S : State → Type 0 = Shows t (ink_at t about.partners d.screen) (wanted_of d.screen d.mode) in
+          let x : Ends s bytes S = ends_then A S s l.bytes b (l.fits s f) (carries.shows k) in
+          record { after = x.after; runs = x.runs; there = shows_after t about.partners d (scene_of after) x.after (there k) x.there });
+      bound = λ k. carries.bound k l.last l.rows l.cols l.is_last;
+      idle = λ k status u. (
+          let at : IsPlaced (place_of l.last.cursor) before.painter.session.belief.place × (before.painter.session.belief.mode ≡ Some l.last_mode) = l.settled status in
+          let shown : IsShown t d.screen (poised t before call) l.last = record {
+            known = status;
+            same = u.same;
+            placed = placed_still (place_of d.screen.cursor) (place_of l.last.cursor) before.painter.session.belief.place u.placed at.0;
+            mode = at.1 ∙ ap (λ (m : Mode). Some m) (sym u.mode);
+            clear = u.clear;
+          } in
+          empty_list b (carries.idle k l.last l.rows l.cols l.is_last shown));
+      last = refl;
+      last_mode = refl;
+    } in
     record {
       bytes = bytes;
       out = out;
-      fits = λ s f. ends_then A (FitsIn t partners after.painter) s l.bytes b (l.fits s f) fits;
+      fits = ends;
       sized = sized;
-      last = now;
+      last = last;
       rows = last_sized (output_of call) answer l.last after.screen t.rows (λ x. x.rows) l.rows sized.rows;
       cols = last_sized (output_of call) answer l.last after.screen t.cols (λ x. x.cols) l.cols sized.cols;
-      is_last = last_same t partners (output_of call) answer after.painter l.last d (scene_of after) there (last l.last l.is_last);
-      last_mode = mode_after (output_of call) answer l.last_mode after.painter.mode;
-      settled = settled_same (output_of call) answer after.painter l.last l.last_mode d (scene_of after) there (settled l.last l.last_mode l.settled);
+      is_last = last_same t about.partners (output_of call) answer after.painter l.last d (scene_of after) there (carries.last l.last l.is_last);
+      last_mode = last_mode;
+      settled = settled_same (output_of call) answer after.painter l.last l.last_mode d (scene_of after) there (carries.settled l.last l.last_mode l.settled);
       counted = omega (arith, l.counted, length-append log (e ∷ []));
-      few = omega (arith, l.few, few, length-append l.bytes b);
-      plays = λ more rest small h. (
-          let whole : bytes ++ more ≡ l.bytes ++ (b ++ more) = append_assoc l.bytes b more in
-          let size : length (bytes ++ more) ≡ length l.bytes + length b + length more = omega (arith, length-append bytes more, length-append l.bytes b) in
-          let first_count : to ≡ length l.bytes = l.out.counted (omega (arith, small, size)) ∙ omega arith in
-          let last_count : upto ≡ length bytes = out.counted (omega (arith, small, size, length-append l.bytes b)) ∙ omega arith in
-          let sum : length bytes ≡ length l.bytes + length b = length-append l.bytes b in
-          let seam : take upto (bytes ++ more) ≡ bytes = ap (λ (n : ℕ). take n (bytes ++ more)) last_count ∙ take-append_seam bytes more in
-          let tells : Tells t partners (bytes ++ more) to l.last l.last_mode (scene_of before) call e (scene_of after) = record {
-            step = step;
-            later = omega (arith, first_count, last_count, sum);
-            within = omega (arith, last_count, size, sum);
-            shows = λ k s f. (
-                let S : State → Type 0 = Shows t (ink_at t partners d.screen) (wanted_of d.screen d.mode) in
-                let T : State → Type 0 = Shows t (ink_at t partners after.screen) (wanted_of after.screen after.painter.mode) in
-                let x : Ends s bytes S = ends_then A S s l.bytes b (l.fits s f) (shows k) in
-                let P : List ℕ → Type 0 = λ y. Ends s y T in
-                subst P (sym seam) (record { after = x.after; runs = x.runs; there = shows_after t partners d (scene_of after) x.after (there k) x.there }));
-            bound = λ k. (let most_now = bound k l.last l.rows l.cols l.is_last in omega (arith, first_count, last_count, sum, most_now));
-            idle = λ k known u. (
-                let at : IsPlaced (place_of l.last.cursor) before.painter.session.belief.place × (before.painter.session.belief.mode ≡ Some l.last_mode) = l.settled known in
-                let shown : IsShown t d.screen (poised t before call) l.last = record {
-                  known = known;
-                  same = u.same;
-                  placed = placed_still (place_of d.screen.cursor) (place_of l.last.cursor) before.painter.session.belief.place u.placed at.0;
-                  mode = at.1 ∙ ap (λ (m : Mode). Some m) (sym u.mode);
-                  clear = u.clear;
-                } in
-                let none = idle k l.last l.rows l.cols l.is_last shown in
-                omega (arith, first_count, last_count, sum, none));
-            quiet = λ k. (let none = quiet k in omega (arith, first_count, last_count, sum, none));
-          } in
-          let P : List ℕ → Type 0 = λ y. Plays t partners y 0 (new_screen t.rows t.cols) (first t).mode (first t) calls (log ++ e ∷ rest) in
-          let Q : List ℕ → Type 0 = λ y. Plays t partners y to l.last l.last_mode (scene_of before) (drop i calls) (e ∷ rest) in
-          let R : List Call → Type 0 = λ y. Plays t partners (bytes ++ more) to l.last l.last_mode (scene_of before) y (e ∷ rest) in
-          let T : List Entry → Type 0 = λ y. Plays t partners (bytes ++ more) 0 (new_screen t.rows t.cols) (first t).mode (first t) calls y in
-          let here : Plays t partners (bytes ++ more) to l.last l.last_mode (scene_of before) (call ∷ drop (i + 1) calls) (e ∷ rest) = (scene_of after, tells, h) in
-          let small_too : length (l.bytes ++ (b ++ more)) < 2 ^ 128 = subst (λ (y : List ℕ). length y < 2 ^ 128) whole small in
-          let all : Plays t partners (l.bytes ++ (b ++ more)) 0 (new_screen t.rows t.cols) (first t).mode (first t) calls (log ++ e ∷ rest) =
-          l.plays (b ++ more) (e ∷ rest) small_too (subst Q whole (subst R (sym left) here)) in
-          subst T (sym (append_assoc log (e ∷ []) rest)) (subst P (sym whole) all));
+      few = few;
+      plays = λ rest to all h. (
+          let R : List Call → Type 0 = λ y. Plays about was y (e ∷ rest) to all in
+          let T : List Entry → Type 0 = λ y. Plays about (start about a.now) calls y to all in
+          let here : Plays about was (call ∷ drop (i + 1) calls) (e ∷ rest) to all = (next, tells, h) in
+          subst T (sym (append_assoc log (e ∷ []) rest)) (l.plays (e ∷ rest) to all (subst R (sym left) here)));
     }
 
 fresh_known : (s : Status) → s ≡ Fresh → s ≡ Known → ⊥
 fresh_known s e f = cc
 
-empty_log : (log : List Entry) → length log ≡ 0 → log ≡ []
-empty_log [] e = refl
-empty_log (x ∷ xs) e = absurd (omega (arith, e))
-
 nothing_open : (t : Table) (s : State) → IsFresh t s → IsOpen s.rest
 nothing_open t s f = f.lost.sized.state.rest
 
-pub log_none : {W C : Type 0} (went : W → W → List ℕ → Type 0) (failures : W → ℕ) → IsWire went failures → (a : MutBor W) (to : ℕ) (t : Table) (partners : ℕ → Option ℕ) (calls : List Call) (stage : Stage C) (log : List Entry)
-    → to ≡ 0 → scene_of stage ≡ first t → length log ≡ 0 → Logged went a a to t partners calls 0 stage log
-log_none went failures laws a to t partners calls stage log none begins empty =
+pub log_none : {W C : Type 0} (about : Subject W) → IsWire about.went about.failures → (a : MutBor W) (to : ℕ) (calls : List Call) (stage : Stage C) (log : List Entry)
+    → to ≡ 0 → scene_of stage ≡ first about.table → length log ≡ 0 → Logged about a a to calls 0 stage log
+log_none {W} about laws a to calls stage log none begins empty =
+    let t : Table = about.table in
     let status : stage.painter.session.status ≡ Fresh = ap (λ (x : Scene). x.status) begins in
     let desk : stage.desk ≡ (first t).desk = ap (λ (x : Scene). x.desk) begins in
     let screen : stage.screen ≡ (first t).screen = ap (λ (x : Scene). x.screen) begins in
-    let nil : log ≡ [] = empty_log log empty in
+    let nil : log ≡ [] = empty_list log empty in
     record {
       bytes = [];
       out = record { inner = laws.nothing a.now; counted = λ lt. omega (arith, none); same = refl };
-      fits = λ s f. (let P : Status → Type 0 = λ x. Fits t (ink_at t partners stage.painter.shown) x stage.painter.session.belief s in
+      fits = λ s f. (let P : Status → Type 0 = λ x. Fits t (ink_at t about.partners stage.painter.shown) x stage.painter.session.belief s in
           record { after = s; runs = runs_nothing s (nothing_open t s f); there = subst P (sym status) f });
       sized = record {
         rows = ap (λ (x : Screen). x.rows) screen;
@@ -251,45 +275,44 @@ log_none went failures laws a to t partners calls stage log none begins empty =
       settled = λ k. absurd (fresh_known stage.painter.session.status status k);
       counted = empty;
       few = omega arith;
-      plays = λ more rest small h. (
-          let P : Scene → Type 0 = λ x. Plays t partners more to (new_screen t.rows t.cols) (first t).mode x calls rest in
-          let Q : ℕ → Type 0 = λ n. Plays t partners more n (new_screen t.rows t.cols) (first t).mode (first t) calls rest in
-          let R : List Entry → Type 0 = λ l. Plays t partners more 0 (new_screen t.rows t.cols) (first t).mode (first t) calls (l ++ rest) in
-          subst R (sym nil) (subst Q none (subst P begins h)));
+      plays = λ rest last_wire all h. (
+          let P : Scene → Type 0 = λ x. Plays about (moment a.now [] x (new_screen t.rows t.cols) (first t).mode) calls rest last_wire all in
+          let R : List Entry → Type 0 = λ l. Plays about (start about a.now) calls (l ++ rest) last_wire all in
+          subst R (sym nil) (subst P begins h));
     }
 
-pub log_whole : {W C : Type 0} (went : W → W → List ℕ → Type 0) (a z : MutBor W) (to : ℕ) (t : Table) (partners : ℕ → Option ℕ) (calls : List Call) (i : ℕ) (stage : Stage C) (log : List Entry)
-    → i ≡ length calls → i < 2 ^ 64 → Logged went a z to t partners calls i stage log → RanOn went a z t partners calls log
-log_whole went a z to t partners calls i stage log all many l = record {
+pub log_whole : {W C : Type 0} (about : Subject W) → IsWire about.went about.failures → (a z : MutBor W) (to : ℕ) (calls : List Call) (i : ℕ) (stage : Stage C) (log : List Entry)
+    → i ≡ length calls → Logged about a z to calls i stage log → RanOn about a z calls log
+log_whole {W} about laws a z to calls i stage log all l = record {
   ran = record {
     bytes = l.bytes;
     sent = l.out.inner;
     counted = l.counted ∙ all;
     plays = (
         let none : drop i calls ≡ [] = ap (λ (n : ℕ). drop n calls) all ∙ drop-length calls in
-        let P : List Call → Type 0 = λ x. Plays t partners (l.bytes ++ []) to l.last l.last_mode (scene_of stage) x [] in
-        let Q : List ℕ → Type 0 = λ x. Plays t partners x 0 (new_screen t.rows t.cols) (first t).mode (first t) calls (log ++ []) in
-        let R : List Entry → Type 0 = λ x. Plays t partners l.bytes 0 (new_screen t.rows t.cols) (first t).mode (first t) calls x in
-        let few : length (l.bytes ++ []) < 2 ^ 128 = omega (arith, l.few, many, ap length (append-nil l.bytes)) in
-        subst R (append-nil log) (subst Q (append-nil l.bytes) (l.plays [] [] few (subst P (sym none) tt))));
+        let P : List Call → Type 0 = λ x. Plays about (moment z.now l.bytes (scene_of stage) l.last l.last_mode) x [] z.now l.bytes in
+        let R : List Entry → Type 0 = λ x. Plays about (start about a.now) calls x z.now l.bytes in
+        let over : P [] = (laws.nothing z.now, refl) in
+        subst R (append-nil log) (l.plays [] z.now l.bytes (subst P (sym none) over)));
   };
   same = l.out.same;
 }
 
 -- the same, of what the certificates in the session say
-pub log_call : {W V C : Type 0} (went : W → W → List ℕ → Type 0) (failures : W → ℕ) → IsWire went failures → (wire : V → MutBor W) (count : V → ℕ) (a : MutBor W) (m z : V) (table : C → Table) (partners : C → ℕ → Option ℕ) (given : C) (calls : List Call) (i : ℕ) (call : Call) (before after : Stage C) (log : List Entry) (answer : Answer)
-    → Logged went a (wire m) (count m) (table given) (partners given) calls i before log → drop i calls ≡ call ∷ drop (i + 1) calls
+pub log_call : {W V C : Type 0} (went : W → W → List ℕ → Type 0) (failures : W → ℕ) → IsWire went failures → (wire : V → MutBor W) (count : V → ℕ) (a : MutBor W) (m n z : V) (table : C → Table) (partners : C → ℕ → Option ℕ) (given : C) (calls : List Call) (i : ℕ) (call : Call) (before after : Stage C) (log : List Entry) (answer : Answer)
+    → Logged (subject_of went failures (table given) (partners given)) a (wire m) (count m) calls i before log → i < 2 ^ 64 → drop i calls ≡ call ∷ drop (i + 1) calls
     → before.painter.checked ≡ given → after.painter.checked ≡ before.painter.checked
-    → CallStep (table before.painter.checked) (scene_of before) call answer (scene_of after) → IsStage (table after.painter.checked) after.desk after.screen
-    → Carries {W = V} (λ x y b. Counts went (wire x) (wire y) (count x) (count y) b) m z (table before.painter.checked) (partners before.painter.checked) (drawn (table before.painter.checked) (scene_of before) call).0.screen (output_of call) answer
-    (poised (table before.painter.checked) before call) after.painter
-    → Logged went a (wire z) (count z) (table given) (partners given) calls (i + 1) after (log ++ record { answer = answer; sent = count z } ∷ [])
-log_call {W} {V} {C} went failures laws wire count a m z table partners given calls i call before after log answer l left same kept step sized carries =
+    → CallStep (table before.painter.checked) (scene_of before) call answer (scene_of after) → IsStage (table after.painter.checked) after.desk after.screen → IsChecked (table after.painter.checked)
+    → CarriesOn (subject_of went failures (table before.painter.checked) (partners before.painter.checked)) wire count m n call answer before after.painter
+    → Counts went (wire n) (wire z) (count n) (count z) []
+    → Logged (subject_of went failures (table given) (partners given)) a (wire z) (count z) calls (i + 1) after (log ++ record { answer = answer; sent = count z } ∷ [])
+log_call {W} {V} {C} went failures laws wire count a m n z table partners given calls i call before after log answer l small left same kept step sized checked carries passed =
     let S : C → Type 0 = λ y. CallStep (table y) (scene_of before) call answer (scene_of after) in
     let G : C → Type 0 = λ y. IsStage (table y) after.desk after.screen in
-    let K : C → Type 0 = λ y. Carries {W = V} (λ x z b. Counts went (wire x) (wire z) (count x) (count z) b) m z (table y) (partners y) (drawn (table y) (scene_of before) call).0.screen (output_of call) answer (poised (table y) before call) after.painter in
-    let c : K given = subst K same carries in
-    log_more went failures laws a (wire m) (wire z) (count m) (count z) (table given) (partners given) calls i call before after log answer c.bytes l left (subst S same step) (subst G (kept ∙ same) sized) c.sent c.fits c.shows c.last c.bound c.quiet c.settled c.few c.idle
+    let H : C → Type 0 = λ y. IsChecked (table y) in
+    let K : C → Type 0 = λ y. CarriesOn (subject_of went failures (table y) (partners y)) wire count m n call answer before after.painter in
+    log_more (subject_of went failures (table given) (partners given)) laws wire count a m n z calls i call before after log answer (subst H (kept ∙ same) checked) small l left
+    (subst S same step) (subst G (kept ∙ same) sized) (subst K same carries) passed
 
 pub next_call : (calls : List Call) (i : ℕ) (call : Call) → i < length calls → call ≡ get_or calls i call → drop i calls ≡ call ∷ drop (i + 1) calls
 next_call calls i call lt e =

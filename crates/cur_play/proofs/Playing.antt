@@ -1,5 +1,5 @@
 -- From what a call draws and what is sent to the whole call.
-use Rattle.std.proofs.Common.{◌≡◌, ℕ, List, true, false, Option, refl, sym, ◌∙◌, ap, subst}
+use Rattle.std.proofs.Common.{◌≡◌, ℕ, List, [], true, false, Option, refl, sym, ◌∙◌, ap, subst}
 use Rattle.cur_drawing.specs.declared.refusals.Refusal.{Refusal}
 use Rattle.cur_drawing.specs.declared.refusals.Refusal.TheVariants.{NoMemory}
 use Rattle.cur_windows.specs.Desks.{State}
@@ -111,17 +111,17 @@ call_refused t s call a mid h (NoSpace takes done r same) =
 pub poised_is : {C : Type 0} (t : Table) (p : Stage C) (call : Call) (mid : Scene) (q : Painted C) → q ≡ record p.painter { mode = q.mode } → mid ≡ (drawn t (scene_of p) call).0 → q.mode ≡ mid.mode → q ≡ poised t p call
 poised_is t p call mid q e f g = e ∙ ap (λ (m : Mode). record p.painter { mode = m }) (g ∙ ap (λ (y : Scene). y.mode) f)
 
-pub puts_done : {W C : Type 0} (went : W → W → List ℕ → Type 0) (failures : W → ℕ) (old new : W) (t : Table) (partners : ℕ → Option ℕ) (p : Stage C) (call : Call) (mid : Scene) (a : Answer) (q r : Painted C)
+pub puts_done : {W C : Type 0} (went : W → W → List ℕ → Type 0) (failures : W → ℕ) (old new : W) (t : Table) (partners : ℕ → Option ℕ) (p : Stage C) (call : Call) (mid : Scene) (a : Answer) (bytes : List ℕ) (q r : Painted C)
     → Draws t (scene_of p) call Done mid → q ≡ record p.painter { mode = q.mode } → q.mode ≡ mid.mode
-    → Puts went failures old new t partners mid.screen (output_of call) a q r → Puts went failures old new t partners (drawn t (scene_of p) call).0.screen (output_of call) a (poised t p call) r
-puts_done {W} {C} went failures old new t partners p call mid a q r h e g k =
+    → Puts went failures old new t partners mid.screen (output_of call) a bytes q r → Puts went failures old new t partners (drawn t (scene_of p) call).0.screen (output_of call) a bytes (poised t p call) r
+puts_done {W} {C} went failures old new t partners p call mid a bytes q r h e g k =
     let f = drawn_scene t (scene_of p) call mid h in
-    let P : Painted C → Type 0 = λ y. Puts went failures old new t partners mid.screen (output_of call) a y r in
-    let Q : Scene → Type 0 = λ y. Puts went failures old new t partners y.screen (output_of call) a (poised t p call) r in
+    let P : Painted C → Type 0 = λ y. Puts went failures old new t partners mid.screen (output_of call) a bytes y r in
+    let Q : Scene → Type 0 = λ y. Puts went failures old new t partners y.screen (output_of call) a bytes (poised t p call) r in
     subst Q f (subst P (poised_is t p call mid q e f g) k)
 
 quiet_puts : {W C : Type 0} (went : W → W → List ℕ → Type 0) (failures : W → ℕ) (old new : W) (t : Table) (partners : ℕ → Option ℕ) (v : Screen) (o : Output) (a : Answer) (q r : Painted C)
-    → (a ≡ Done → ⊥) → (a ≡ WireFailed → ⊥) → IsQuiet old new q r → Puts went failures old new t partners v o a q r
+    → (a ≡ Done → ⊥) → (a ≡ WireFailed → ⊥) → IsQuiet old new [] q r → Puts went failures old new t partners v o a [] q r
 quiet_puts went failures old new t partners v o Done q r h k w = absurd (h refl)
 quiet_puts went failures old new t partners v o WireFailed q r h k w = absurd (k refl)
 quiet_puts went failures old new t partners v Nothing (Was n) q r h k w = w
@@ -135,10 +135,10 @@ quiet_puts went failures old new t partners v End (Refused x) q r h k w = w
 
 pub puts_refused : {W C : Type 0} (went : W → W → List ℕ → Type 0) (failures : W → ℕ) (w : W) (t : Table) (partners : ℕ → Option ℕ) (p : Stage C) (call : Call) (a : Answer) (q : Painted C)
     → (a ≡ Done → ⊥) → (a ≡ WireFailed → ⊥) → q ≡ record p.painter { mode = q.mode }
-    → Puts went failures w w t partners (drawn t (scene_of p) call).0.screen (output_of call) a (poised t p call) q
+    → Puts went failures w w t partners (drawn t (scene_of p) call).0.screen (output_of call) a [] (poised t p call) q
 puts_refused {W} {C} went failures w t partners p call a q h k e =
     quiet_puts went failures w w t partners (drawn t (scene_of p) call).0.screen (output_of call) a (poised t p call) q h k
-    (record { wire = refl; session = ap (λ (y : Painted C). y.session) e; shown = ap (λ (y : Painted C). y.shown) e })
+    (record { none = refl; wire = refl; session = ap (λ (y : Painted C). y.session) e; shown = ap (λ (y : Painted C). y.shown) e })
 
 pub stage_kept : {C : Type 0} (table : C → Table) (p q : Painted C) (d e : State) (v w : Screen) → IsStage (table p.checked) d v → SameSizes d v e w → q.checked ≡ p.checked → IsStage (table q.checked) e w
 stage_kept {C} table p q d e v w h k f =
@@ -171,30 +171,29 @@ screen_sizes t End v w status after WireFailed h = (ap (λ (y : Screen). y.rows)
 
 pub record Played {W C : Type 0} (went : W → W → List ℕ → Type 0) (failures : W → ℕ) (old new : W) (table : C → Table) (partners : C → ℕ → Option ℕ) (p : Stage C) (call : Call) (a : Answer) (q : Stage C) : Type 0 where
   pub step : CallStep (table p.painter.checked) (scene_of p) call a (scene_of q)
-  pub puts : Puts went failures old new (table p.painter.checked) (partners p.painter.checked) (drawn (table p.painter.checked) (scene_of p) call).0.screen (output_of call) a (poised (table p.painter.checked) p call) q.painter
-  pub carries : Carries went old new (table p.painter.checked) (partners p.painter.checked) (drawn (table p.painter.checked) (scene_of p) call).0.screen (output_of call) a (poised (table p.painter.checked) p call) q.painter
+  pub carries : Carries went failures old new (table p.painter.checked) (partners p.painter.checked) (drawn (table p.painter.checked) (scene_of p) call).0.screen (output_of call) a (poised (table p.painter.checked) p call) q.painter
   pub sizes : SameSizes p.desk p.screen q.desk q.screen
   pub certificate : q.painter.checked ≡ p.painter.checked
 
-carried : {W C : Type 0} (went : W → W → List ℕ → Type 0) (failures : W → ℕ) → IsWire went failures → IsBound → (old new : W) (t : Table) (partners : ℕ → Option ℕ) (p : Stage C) (call : Call) (a : Answer) (r : Painted C)
+carried : {W C : Type 0} (went : W → W → List ℕ → Type 0) (failures : W → ℕ) → IsWire went failures → IsBound → (old new : W) (t : Table) (partners : ℕ → Option ℕ) (p : Stage C) (call : Call) (a : Answer) (bytes : List ℕ) (r : Painted C)
     → IsChecked t → p.screen.rows ≡ t.rows → p.screen.cols ≡ t.cols
-    → Puts went failures old new t partners (drawn t (scene_of p) call).0.screen (output_of call) a (poised t p call) r
-    → Carries went old new t partners (drawn t (scene_of p) call).0.screen (output_of call) a (poised t p call) r
-carried went failures laws bound old new t partners p call a r checked rows cols h =
+    → Puts went failures old new t partners (drawn t (scene_of p) call).0.screen (output_of call) a bytes (poised t p call) r
+    → Carries went failures old new t partners (drawn t (scene_of p) call).0.screen (output_of call) a (poised t p call) r
+carried went failures laws bound old new t partners p call a bytes r checked rows cols h =
     let k = drawn_sizes t (scene_of p) call in
-    carries went failures laws bound old new t partners (drawn t (scene_of p) call).0.screen (output_of call) a (poised t p call) r checked.size checked.small (k.rows ∙ rows) (k.cols ∙ cols) h
+    carries went failures laws bound old new t partners (drawn t (scene_of p) call).0.screen (output_of call) a bytes (poised t p call) r checked.size checked.small (k.rows ∙ rows) (k.cols ∙ cols) h
 
 pub played_done : {W C : Type 0} (went : W → W → List ℕ → Type 0) (failures : W → ℕ) → IsWire went failures → IsBound → (old new : W) (table : C → Table) (partners : C → ℕ → Option ℕ) (d : State) (v : Screen) (p : Painted C) (call : Call)
-    (mid_desk : State) (mid_screen : Screen) (q : Painted C) (drawn_answer : Answer) (a : Answer) (o : Output) (w : Screen) (r : Painted C)
+    (mid_desk : State) (mid_screen : Screen) (q : Painted C) (drawn_answer : Answer) (a : Answer) (o : Output) (bytes : List ℕ) (w : Screen) (r : Painted C)
     → IsChecked (table p.checked) → v.rows ≡ (table p.checked).rows → v.cols ≡ (table p.checked).cols
     → drawn_answer ≡ Done
     → Draws (table p.checked) (scene_of (stage_of d v p)) call drawn_answer (record { desk = mid_desk; screen = mid_screen; mode = q.mode; status = p.session.status })
     → SameSizes d v mid_desk mid_screen → q ≡ record p { mode = q.mode } → o ≡ output_of call
     → Delivers (table q.checked) o mid_screen q.session.status a w r.session.status
-    → Puts went failures old new (table q.checked) (partners q.checked) mid_screen o a q r
+    → Puts went failures old new (table q.checked) (partners q.checked) mid_screen o a bytes q r
     → r.checked ≡ q.checked → r.mode ≡ q.mode
     → Played went failures old new table partners (stage_of d v p) call a (stage_of mid_desk w r)
-played_done {W} {C} went failures laws bound old new table partners d v p call md mv q da a o w r verified rows cols done draws sizes poised_q out delivers puts checked mode =
+played_done {W} {C} went failures laws bound old new table partners d v p call md mv q da a o bytes w r verified rows cols done draws sizes poised_q out delivers puts checked mode =
     let t = table p.checked in
     let st = stage_of d v p in
     let mid : Scene = record { desk = md; screen = mv; mode = q.mode; status = p.session.status } in
@@ -205,17 +204,16 @@ played_done {W} {C} went failures laws bound old new table partners d v p call m
     let E : Status → Type 0 = λ y. Delivers t o mv y a w r.session.status in
     let F : Output → Type 0 = λ y. Delivers t y mv p.session.status a w r.session.status in
     let sent : Delivers t (output_of call) mv p.session.status a w r.session.status = subst F out (subst E status (subst D same delivers)) in
-    let G : C → Type 0 = λ y. Puts went failures old new (table y) (partners y) mv o a q r in
-    let H : Output → Type 0 = λ y. Puts went failures old new t (partners p.checked) mv y a q r in
-    let goes : Puts went failures old new t (partners p.checked) (drawn t (scene_of st) call).0.screen (output_of call) a (poised t st call) r =
-    puts_done went failures old new t (partners p.checked) st call mid a q r drawn_done poised_q refl (subst H out (subst G same puts)) in
+    let G : C → Type 0 = λ y. Puts went failures old new (table y) (partners y) mv o a bytes q r in
+    let H : Output → Type 0 = λ y. Puts went failures old new t (partners p.checked) mv y a bytes q r in
+    let goes : Puts went failures old new t (partners p.checked) (drawn t (scene_of st) call).0.screen (output_of call) a bytes (poised t st call) r =
+    puts_done went failures old new t (partners p.checked) st call mid a bytes q r drawn_done poised_q refl (subst H out (subst G same puts)) in
     let step : CallStep t (scene_of st) call a (record mid { screen = w; status = r.session.status }) = call_done t (scene_of st) call mid a w r.session.status drawn_done sent in
     let M : Mode → Type 0 = λ m. CallStep t (scene_of st) call a (record { desk = md; screen = w; mode = m; status = r.session.status }) in
     let left = screen_sizes t (output_of call) mv w p.session.status r.session.status a sent in
     record {
       step = subst M (sym mode) step;
-      puts = goes;
-      carries = carried went failures laws bound old new t (partners p.checked) st call a r verified rows cols goes;
+      carries = carried went failures laws bound old new t (partners p.checked) st call a bytes r verified rows cols goes;
       sizes = record { desk_rows = sizes.desk_rows; desk_cols = sizes.desk_cols; rows = left.0 ∙ sizes.rows; cols = left.1 ∙ sizes.cols };
       certificate = checked ∙ same;
     }
@@ -233,12 +231,11 @@ played_refused {W} {C} went failures laws bound wire table partners d v p call m
     let mid : Scene = record { desk = md; screen = mv; mode = q.mode; status = p.session.status } in
     let status : q.session.status ≡ p.session.status = ap (λ (y : Painted C). y.session.status) poised_q in
     let M : Status → Type 0 = λ m. CallStep t (scene_of st) call a (record { desk = md; screen = mv; mode = q.mode; status = m }) in
-    let goes : Puts went failures wire wire t (partners p.checked) (drawn t (scene_of st) call).0.screen (output_of call) a (poised t st call) q =
+    let goes : Puts went failures wire wire t (partners p.checked) (drawn t (scene_of st) call).0.screen (output_of call) a [] (poised t st call) q =
     puts_refused went failures wire t (partners p.checked) st call a q other (draws_answer t (scene_of st) call a mid draws) poised_q in
     record {
       step = subst M (sym status) (call_refused t (scene_of st) call a mid other draws);
-      puts = goes;
-      carries = carried went failures laws bound wire wire t (partners p.checked) st call a q verified rows cols goes;
+      carries = carried went failures laws bound wire wire t (partners p.checked) st call a [] q verified rows cols goes;
       sizes = sizes;
       certificate = ap (λ (y : Painted C). y.checked) poised_q;
     }

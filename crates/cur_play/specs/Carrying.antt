@@ -11,7 +11,8 @@ use Rattle.cur_paint.specs.declared.updates.Status.TheVariants.{Known}
 use Rattle.cur_update.specs.Differ.{in_lines}
 use Rattle.cur_update.specs.Inks.{ink_at}
 use Rattle.cur_update.specs.Painters.{Painted, place_of, wanted_of}
-use Rattle.cur_play.specs.Bounds.{is_shown, last_after, mode_after, most}
+use Rattle.cur_play.specs.Log.{is_shown, last_after, mode_after, most}
+use Rattle.cur_play.specs.Outputs.{Puts}
 use Rattle.cur_play.specs.declared.answers.Answer.{Answer}
 use Rattle.cur_play.specs.declared.sending.Output.{Output}
 use Rattle.cur_play.specs.declared.sending.Output.TheVariants.{Nothing, Update}
@@ -37,9 +38,11 @@ pub record IsShown {C : Type 0} (t : Table) (v : Screen) (p : Painted C) (last :
   pub clear : v.clearok ≡ false
 
 -- v is the virtual screen when the sending begins, and the painter before has the cursor's mode at that time
-pub record Carries {W C : Type 0} (went : W → W → List ℕ → Type 0) (old new : W) (t : Table) (partners : ℕ → Option ℕ) (v : Screen) (o : Output) (answer : Answer) (before after : Painted C) : Type 0 where
+pub record Carries {W C : Type 0} (went : W → W → List ℕ → Type 0) (failures : W → ℕ) (old new : W) (t : Table) (partners : ℕ → Option ℕ) (v : Screen) (o : Output) (answer : Answer) (before after : Painted C) : Type 0 where
   pub bytes : List ℕ
   pub sent : went old new bytes
+  -- they are what the call sends, by its answer
+  pub puts : Puts went failures old new t partners v o answer bytes before after
   -- every state that fits before, run over the bytes, fits after
   pub fits : (s : State) → FitsIn t partners before s → Ends s bytes (FitsIn t partners after)
   -- and after a refresh that was done it shows the virtual screen

@@ -6,7 +6,7 @@ pub mod Groups
 pub mod Outputs
 pub mod Drawing
 pub mod Sending
-pub mod Bounds
-pub mod Carrying
 pub mod Log
+pub mod Carrying
 pub mod Running
+pub mod Passing

@@ -1,48 +1,163 @@
--- Playing a list of calls, any of which may be refused or cut short (X/Open Curses Issue 7, refresh, doupdate).
-use Rattle.std.specs.Prelude.{ℕ, ◌-◌, ◌≤◌, ◌≡◌, true, List, [], ◌∷◌, length, take, Option}
+-- What the log of a run says, wherever the wire failed: what each call did and what it sent, what the terminal then shows, and
+-- the most that a refresh sends (X/Open Curses Issue 7, refresh, doupdate, beep, endwin).
+use Rattle.std.specs.Prelude.{ℕ, ◌+◌, ◌*◌, ◌≤◌, ◌≡◌, Bool, true, false, List, [], ◌∷◌, ◌++◌, length, Option, Some}
 use Rattle.vt_term.specs.Screen.{State}
-use Rattle.cur_windows.specs.VirtualScreen.{Screen, new_screen}
+use Rattle.vt_term.specs.Run.{Runs}
 use Rattle.vt_term.specs.Ends.{Ends}
-use Rattle.ti_conforms.specs.Certified.{Table}
+use Rattle.ti_rows.specs.declared.rows.Row.TheVariants.{Bel}
+use Rattle.ti_conforms.specs.Certified.{Table, IsLost, cell_limit}
+use Rattle.cur_windows.specs.VirtualScreen.{Screen, new_screen}
+use Rattle.cur_wires.specs.Wire.{Rose}
 use Rattle.cur_looks.specs.declared.beliefs.Mode.{Mode}
-use Rattle.cur_paint.specs.Update.{IsFresh, Shows}
+use Rattle.cur_paint.specs.Finish.{finish_text}
+use Rattle.cur_paint.specs.Limits.{IsPlaced, fresh_limit}
+use Rattle.cur_paint.specs.Update.{IsFresh, Lawful, Shows}
+use Rattle.cur_paint.specs.declared.updates.Status.{Status}
 use Rattle.cur_paint.specs.declared.updates.Status.TheVariants.{Known}
+use Rattle.cur_update.specs.Differ.{in_lines}
 use Rattle.cur_update.specs.Inks.{ink_at}
-use Rattle.cur_update.specs.Painters.{wanted_of}
+use Rattle.cur_update.specs.Painters.{place_of, wanted_of}
 use Rattle.cur_calls.specs.declared.calls.Call.{Call}
 use Rattle.cur_play.specs.Scenes.{Scene, first}
 use Rattle.cur_play.specs.Steps.{CallStep, drawn, output_of}
-use Rattle.cur_play.specs.Bounds.{IsUnchanged, is_shown, last_after, mode_after, most}
+use Rattle.cur_play.specs.declared.answers.Answer.{Answer}
+use Rattle.cur_play.specs.declared.answers.Answer.TheVariants.{Done, WireFailed}
 use Rattle.cur_play.specs.declared.runs.Entry.{Entry}
-use Rattle.cur_play.specs.declared.sending.Output.TheVariants.{Nothing, Update}
+use Rattle.cur_play.specs.declared.sending.Output.{Output}
+use Rattle.cur_play.specs.declared.sending.Output.TheVariants.{Nothing, Update, Bell, End}
 
--- One call of a run and its entry in the log. `bytes` went out in the whole run, `past` of them before the call; `last` is
--- the screen that was shown last, and `last_mode` the cursor's mode then.
-pub record Tells (t : Table) (partners : ℕ → Option ℕ) (bytes : List ℕ) (past : ℕ) (last : Screen) (last_mode : Mode) (before : Scene) (call : Call) (e : Entry) (after : Scene) : Type 0 where
-  pub step : CallStep t before call e.answer after
-  pub later : past ≤ e.sent
-  pub within : e.sent ≤ length bytes
-  -- a refresh that was done: the first bytes, as many as the entry tells, lead a terminal in its first state to the virtual screen
-  pub shows : is_shown (output_of call) e.answer ≡ true → (s : State) → IsFresh t s → Ends s (take e.sent bytes) (Shows t (ink_at t partners after.screen) (wanted_of after.screen after.mode))
-  -- a refresh keeps its bound, done or cut short
-  pub bound : output_of call ≡ Update → e.sent - past ≤ most t before.status (drawn t before call).0.screen.clearok last (drawn t before call).0.screen
-  -- it sends nothing where the terminal is known and nothing differs from what was shown last
-  pub idle : output_of call ≡ Update → before.status ≡ Known → IsUnchanged t last last_mode (drawn t before call).0.screen (drawn t before call).0.mode → e.sent ≡ past
-  -- the calls that send nothing
-  pub quiet : output_of call ≡ Nothing → e.sent ≡ past
+-- ---- what a run is about, and a moment of it
 
--- each call in turn, with one entry for each
-abbrev pub Plays : Table → (ℕ → Option ℕ) → List ℕ → ℕ → Screen → Mode → Scene → List Call → List Entry → Type 0
-Plays t partners bytes past last last_mode before [] [] = Unit {0}
-Plays t partners bytes past last last_mode before [] (e ∷ log) = ⊥
-Plays t partners bytes past last last_mode before (call ∷ calls) [] = ⊥
-Plays t partners bytes past last last_mode before (call ∷ calls) (e ∷ log) =
-    (after : Scene) × Tells t partners bytes past last last_mode before call e after
-    × Plays t partners bytes e.sent (last_after (output_of call) e.answer last after.screen) (mode_after (output_of call) e.answer last_mode after.mode) after calls log
+-- the wire, by what went out between two moments and how often it has failed, and the terminal, by its certificate
+pub record Subject (W : Type 0) : Type 1 where
+  pub went : W → W → List ℕ → Type 0
+  pub failures : W → ℕ
+  pub table : Table
+  pub partners : ℕ → Option ℕ
 
--- a run: what went out, and the log, whose counts are those of the bytes
-pub record Ran {W : Type 0} (went : W → W → List ℕ → Type 0) (old new : W) (t : Table) (partners : ℕ → Option ℕ) (calls : List Call) (log : List Entry) : Type 0 where
+abbrev pub subject_of : {W : Type 0} → (W → W → List ℕ → Type 0) → (W → ℕ) → Table → (ℕ → Option ℕ) → Subject W
+subject_of went failures t partners = record { went = went; failures = failures; table = t; partners = partners }
+
+-- where a run stands between two calls
+pub record Moment (W : Type 0) : Type 0 where
+  pub wire : W
+  -- all that went out since the run began
   pub bytes : List ℕ
-  pub sent : went old new bytes
+  pub scene : Scene
+  -- the screen that was shown last, and the cursor's mode then
+  pub last : Screen
+  pub last_mode : Mode
+
+abbrev pub start : {W : Type 0} → Subject W → W → Moment W
+start about wire = record {
+  wire = wire;
+  bytes = [];
+  scene = first about.table;
+  last = new_screen about.table.rows about.table.cols;
+  last_mode = (first about.table).mode;
+}
+
+-- a terminal in a first state becomes this one over the bytes
+pub record IsAfter (t : Table) (bytes : List ℕ) (s : State) : Type 0 where
+  pub begun : State
+  pub fresh : IsFresh t begun
+  pub runs : Runs begun bytes s
+
+-- ---- what a call sends
+
+-- What it is to send where nothing fails. The terminal is in a state of the kind, and the session has this status; the virtual
+-- screen and the cursor's mode are those when the sending begins.
+abbrev pub Says : Table → (ℕ → Option ℕ) → (State → Type 0) → Status → Screen → Mode → Output → List ℕ → Type 0
+Says t partners kind status v m Nothing bytes = bytes ≡ []
+Says t partners kind status v m Update bytes = Lawful t kind status bytes (ink_at t partners v) (wanted_of v m)
+Says t partners kind status v m Bell bytes = t.line_of Bel ≡ Some bytes
+Says t partners kind status v m End bytes = bytes ≡ finish_text t status
+
+-- the first bytes of something that is so
+pub record IsFront (whole : List ℕ → Type 0) (bytes : List ℕ) : Type 0 where
+  pub back : List ℕ
+  pub is : whole (bytes ++ back)
+
+-- by the answer: all of it, or a front of it, and nothing where the call was refused
+abbrev pub Emits : (List ℕ → Type 0) → Answer → List ℕ → Type 0
+Emits says Done bytes = says bytes
+Emits says WireFailed bytes = IsFront says bytes
+Emits says answer bytes = bytes ≡ []
+
+-- ---- what was shown last, and the most that a refresh sends
+
+-- the virtual screen was shown
+abbrev pub is_shown : Output → Answer → Bool
+is_shown Update Done = true
+is_shown _ _ = false
+
+-- the screen that was shown last
+abbrev pub last_after : Output → Answer → Screen → Screen → Screen
+last_after Update Done last v = v
+last_after _ _ last v = last
+
+-- the mode in which the cursor was shown last
+abbrev pub mode_after : Output → Answer → Mode → Mode → Mode
+mode_after Update Done last m = m
+mode_after _ _ last m = last
+
+-- where the terminal is known and isn't to be cleared: once more than there are cells that differ from the screen that was
+-- shown last, times the bytes of a cell; else all anew
+abbrev pub most : Table → Status → Bool → Screen → Screen → ℕ
+most t Known false last v = (in_lines last v t.cols t.rows + 1) * cell_limit t
+most t Known true last v = fresh_limit t
+most t _ clear last v = fresh_limit t
+
+-- No cell of the virtual screen differs from what was shown last, nor does the cursor's mode, and the cursor is wanted where it was
+-- wanted then, or nowhere. Nothing is to be cleared.
+pub record IsUnchanged (t : Table) (last : Screen) (last_mode : Mode) (v : Screen) (m : Mode) : Type 0 where
+  pub same : in_lines last v t.cols t.rows ≡ 0
+  pub placed : IsPlaced (place_of v.cursor) (place_of last.cursor)
+  pub mode : m ≡ last_mode
+  pub clear : v.clearok ≡ false
+
+-- ---- the log
+
+-- the scene when the sending begins
+abbrev pub drawing : {W : Type 0} → Subject W → Moment W → Call → Scene
+drawing about before call = (drawn about.table before.scene call).0
+
+-- One call of a run, from one moment to the next, and its entry in the log.
+pub record Tells {W : Type 0} (about : Subject W) (before : Moment W) (call : Call) (e : Entry) (after : Moment W) : Type 0 where
+  -- the call was done as it is defined, with the answer of the log
+  pub step : CallStep about.table before.scene call e.answer after.scene
+  -- what went out in it; the log's number is that of all bytes since the run began
+  pub piece : List ℕ
+  pub went : about.went before.wire after.wire piece
+  pub bytes : after.bytes ≡ before.bytes ++ piece
+  pub counted : e.sent ≡ length after.bytes
+  -- that is what the call sends, a front of it where it was cut short, and nothing where it was refused
+  pub emits : Emits (Says about.table about.partners (IsAfter about.table before.bytes) before.scene.status (drawing about before call).screen (drawing about before call).mode (output_of call)) e.answer piece
+  -- no call is cut short but by a wire that failed in it
+  pub failed : e.answer ≡ WireFailed → Rose (about.failures before.wire) (about.failures after.wire)
+  -- a terminal that began in a first state takes all that went out so far, and is one from which the next refresh can go on
+  pub takes : (s : State) → IsFresh about.table s → Ends s after.bytes (IsLost about.table)
+  -- after a refresh that was done it shows the virtual screen
+  pub shows : is_shown (output_of call) e.answer ≡ true → (s : State) → IsFresh about.table s → Ends s after.bytes (Shows about.table (ink_at about.table about.partners after.scene.screen) (wanted_of after.scene.screen after.scene.mode))
+  -- a refresh keeps its bound, done or cut short
+  pub bound : output_of call ≡ Update → length piece ≤ most about.table before.scene.status (drawing about before call).screen.clearok before.last (drawing about before call).screen
+  -- it sends nothing where the terminal is known and nothing differs from what was shown last
+  pub idle : output_of call ≡ Update → before.scene.status ≡ Known → IsUnchanged about.table before.last before.last_mode (drawing about before call).screen (drawing about before call).mode → piece ≡ []
+  -- what was shown last
+  pub last : after.last ≡ last_after (output_of call) e.answer before.last after.scene.screen
+  pub last_mode : after.last_mode ≡ mode_after (output_of call) e.answer before.last_mode after.scene.mode
+
+-- Each call in turn, with one entry for each, from this moment on. After the last one nothing more goes out up to the wire `new`, and
+-- these are all the bytes.
+abbrev pub Plays : {W : Type 0} → Subject W → Moment W → List Call → List Entry → W → List ℕ → Type 0
+Plays about before [] [] new bytes = about.went before.wire new [] × (bytes ≡ before.bytes)
+Plays about before [] (e ∷ log) new bytes = ⊥
+Plays about before (call ∷ calls) [] new bytes = ⊥
+Plays {W} about before (call ∷ calls) (e ∷ log) new bytes = (after : Moment W) × Tells about before call e after × Plays about after calls log new bytes
+
+-- a run: all that went out, and one entry for each call
+pub record Ran {W : Type 0} (about : Subject W) (old new : W) (calls : List Call) (log : List Entry) : Type 0 where
+  pub bytes : List ℕ
+  pub sent : about.went old new bytes
   pub counted : length log ≡ length calls
-  pub plays : Plays t partners bytes 0 (new_screen t.rows t.cols) (first t).mode (first t) calls log
+  pub plays : Plays about (start about old) calls log new bytes

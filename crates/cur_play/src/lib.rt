@@ -5,6 +5,7 @@ mod answers;
 mod changing;
 mod drawing;
 mod making;
+mod paced;
 mod runs;
 mod sending;
 mod sessions;
@@ -15,5 +16,6 @@ pub use cur_calls::{
     NumbersCall, PadCall, PartCall, PlainCall, Put, ScreenCall, ScriptFault, ScriptFaultKind,
     ShowCall, Text, read_script,
 };
-pub use runs::{Entry, Log, run};
+pub use paced::Paced;
+pub use runs::{Entry, Log, run, run_paced};
 pub use sessions::Session;

@@ -1,10 +1,12 @@
 //! Runs of many calls.
 ghost use Rattle.std.specs.Prelude.{◌≡◌, ◌≤◌, [], length, vec_capacity, vec_len, IfOk, OnErr};
-ghost use Rattle.cur_play.specs.Log.{Ran};
+ghost use Rattle.cur_wires.specs.Counted.{Counts};
+ghost use Rattle.cur_play.specs.Log.{Ran, subject_of};
 ghost use Rattle.cur_play.specs.Running.{RanOn};
 ghost use Rattle.cur_play.specs.Scenes.{first, scene_of};
 
 use crate::answers::Answer;
+use crate::paced::{Direct, Paced};
 use crate::sessions::Session;
 use cur_calls::Call;
 use cur_update::Wire;
@@ -25,17 +27,47 @@ pub struct Log {
     pub entries: Vec<Entry>,
 }
 
-/// Plays calls, one after another, in a session of their own. Whatever they are, and wherever the wire fails: each call
-/// is done as it is defined; and each refresh that was done has made a terminal in its first state, fed with the first
-/// bytes of the run, as many as its entry tells, show the virtual screen. An error where there was no memory for the
-/// session or the log; then nothing was sent.
+/// Plays `calls`, one after another, on `wire`, in a session of their own on the terminal of `checked`. Whatever they
+/// are, and wherever the wire fails: each call is done as it is defined and sends what it is to send, or a front of
+/// that where the wire failed in it; the terminal takes all of it; and each refresh that was done has made a terminal
+/// in its first state show the virtual screen, fed with the first bytes of the run, as many as its entry tells. An
+/// error where there was no memory for the session or the log; then nothing was sent.
 pub fn run<C: Certificate, W: Wire>(
     alloc: Global,
     checked: &C,
     calls: &[Call<'_>],
     wire: &mut W,
 ) -> Result<Log, AllocError>
-    ensures ran { IfOk result (λ log. Ran W.went wire.old wire.new (C.table checked.now) (C.partners checked.now) calls.now log.entries.items) }
+    ensures ran { IfOk result (λ log. Ran (subject_of W.went W.failures (C.table checked.now) (C.partners checked.now)) wire.old wire.new calls.now log.entries.items) }
+    ensures refused { OnErr result (wire.new ≡ wire.old) }
+{
+    let mut direct = Direct { wire };
+    run_direct(alloc, checked, calls, &mut direct)
+}
+
+/// A run on a wire behind a reference.
+fn run_direct<C: Certificate, W: Wire>(
+    alloc: Global,
+    checked: &C,
+    calls: &[Call<'_>],
+    direct: &mut Direct<'_, W>,
+) -> Result<Log, AllocError>
+    ensures ran { IfOk result (λ log. Ran (subject_of W.went W.failures (C.table checked.now) (C.partners checked.now)) direct.old.wire.now direct.new.wire.now calls.now log.entries.items) }
+    ensures refused { OnErr result (direct.new.wire.now ≡ direct.old.wire.now) }
+    ensures same { direct.new.wire.ghost_name ≡ direct.old.wire.ghost_name }
+{
+    run_paced(alloc, checked, calls, direct)
+}
+
+/// The same as `run`, on a wire that may hold back what it took: what a call has sent is passed on before the next
+/// call, and after the last one.
+pub fn run_paced<C: Certificate, W: Paced>(
+    alloc: Global,
+    checked: &C,
+    calls: &[Call<'_>],
+    wire: &mut W,
+) -> Result<Log, AllocError>
+    ensures ran { IfOk result (λ log. Ran (subject_of W.went W.failures (C.table checked.now) (C.partners checked.now)) wire.old wire.new calls.now log.entries.items) }
     ensures refused { OnErr result (wire.new ≡ wire.old) }
 {
     let entries = Vec::with_capacity(alloc, calls.len())?;
@@ -46,8 +78,8 @@ pub fn run<C: Certificate, W: Wire>(
     })
 }
 
-/// Plays the calls, with an entry for each.
-fn play_all<C: Certificate, W: Wire>(
+/// Plays the calls, with an entry for each. What each has sent is passed on before the next one.
+fn play_all<C: Certificate, W: Paced>(
     session: Session<'_, C>,
     calls: &[Call<'_>],
     log: Vec<Entry>,
@@ -58,12 +90,13 @@ fn play_all<C: Certificate, W: Wire>(
     requires empty { log.items ≡ [] }
     requires len { vec_len log ≡ 0 }
     requires none { wire.old.sent ≡ 0 }
-    ensures ran { RanOn W.went wire.old.wire wire.new.wire (C.table session.entry.painter.checked) (C.partners session.entry.painter.checked) calls.now result.items }
+    ensures ran { RanOn (subject_of W.went W.failures (C.table session.entry.painter.checked) (C.partners session.entry.painter.checked)) wire.old.wire wire.new.wire calls.now result.items }
 {
     let mut session = session;
     let mut log = log;
     for call in calls {
         let answer = session.call(call, wire);
+        pass_on(wire);
         log.push(Entry {
             answer,
             sent: wire.sent,
@@ -71,4 +104,11 @@ fn play_all<C: Certificate, W: Wire>(
         .unwrap();
     }
     log
+}
+
+/// Passes on what a counted wire holds back.
+fn pass_on<W: Paced>(wire: &mut Counted<'_, W>)
+    ensures { Counts W.went wire.old.wire wire.new.wire wire.old.sent wire.new.sent [] }
+{
+    wire.wire.pass_on();
 }

@@ -1,5 +1,5 @@
 //! What calls send.
-ghost use Rattle.std.specs.Prelude.{◌≡◌};
+ghost use Rattle.std.specs.Prelude.{◌≡◌, ℕ, List};
 ghost use Rattle.cur_windows.specs.VirtualScreen.{Screen};
 ghost use Rattle.cur_play.specs.Outputs.{Puts};
 ghost use Rattle.cur_play.specs.Sending.{Delivers};
@@ -54,7 +54,7 @@ pub(crate) fn send<C: Certificate, W: Wire>(
     requires rows { (screen.old).rows ≡ (C.table painter.old.checked).rows }
     requires cols { (screen.old).cols ≡ (C.table painter.old.checked).cols }
     ensures delivers { Delivers (C.table painter.old.checked) output screen.old painter.old.session.status result screen.new painter.new.session.status }
-    ensures puts { Puts W.went W.failures wire.old wire.new (C.table painter.old.checked) (C.partners painter.old.checked) screen.old output result painter.old painter.new }
+    ensures puts { (bytes : List ℕ) × Puts W.went W.failures wire.old wire.new (C.table painter.old.checked) (C.partners painter.old.checked) screen.old output result bytes painter.old painter.new }
     ensures certificate { painter.new.checked ≡ painter.old.checked }
     ensures mode { painter.new.mode ≡ painter.old.mode }
 {
@@ -75,7 +75,7 @@ fn update<C: Certificate, W: Wire>(
     requires rows { (screen.old).rows ≡ (C.table painter.old.checked).rows }
     requires cols { (screen.old).cols ≡ (C.table painter.old.checked).cols }
     ensures delivers { Delivers (C.table painter.old.checked) Output.Update screen.old painter.old.session.status result screen.new painter.new.session.status }
-    ensures puts { Puts W.went W.failures wire.old wire.new (C.table painter.old.checked) (C.partners painter.old.checked) screen.old Output.Update result painter.old painter.new }
+    ensures puts { (bytes : List ℕ) × Puts W.went W.failures wire.old wire.new (C.table painter.old.checked) (C.partners painter.old.checked) screen.old Output.Update result bytes painter.old painter.new }
     ensures certificate { painter.new.checked ≡ painter.old.checked }
     ensures mode { painter.new.mode ≡ painter.old.mode }
 {
@@ -91,7 +91,7 @@ fn update<C: Certificate, W: Wire>(
 /// Rings the bell.
 fn ring<C: Certificate, W: Wire>(painter: &mut Painter<'_, C>, wire: &mut W) -> Answer
     ensures delivers { (screen : Screen) → Delivers (C.table painter.old.checked) Output.Bell screen painter.old.session.status result screen painter.new.session.status }
-    ensures puts { (screen : Screen) → Puts W.went W.failures wire.old wire.new (C.table painter.old.checked) (C.partners painter.old.checked) screen Output.Bell result painter.old painter.new }
+    ensures puts { (screen : Screen) → (bytes : List ℕ) × Puts W.went W.failures wire.old wire.new (C.table painter.old.checked) (C.partners painter.old.checked) screen Output.Bell result bytes painter.old painter.new }
     ensures certificate { painter.new.checked ≡ painter.old.checked }
     ensures mode { painter.new.mode ≡ painter.old.mode }
 {
@@ -105,7 +105,7 @@ fn ring<C: Certificate, W: Wire>(painter: &mut Painter<'_, C>, wire: &mut W) -> 
 /// Ends the program's screen.
 fn finish<C: Certificate, W: Wire>(painter: &mut Painter<'_, C>, wire: &mut W) -> Answer
     ensures delivers { (screen : Screen) → Delivers (C.table painter.old.checked) Output.End screen painter.old.session.status result screen painter.new.session.status }
-    ensures puts { (screen : Screen) → Puts W.went W.failures wire.old wire.new (C.table painter.old.checked) (C.partners painter.old.checked) screen Output.End result painter.old painter.new }
+    ensures puts { (screen : Screen) → (bytes : List ℕ) × Puts W.went W.failures wire.old wire.new (C.table painter.old.checked) (C.partners painter.old.checked) screen Output.End result bytes painter.old painter.new }
     ensures certificate { painter.new.checked ≡ painter.old.checked }
     ensures mode { painter.new.mode ≡ painter.old.mode }
 {

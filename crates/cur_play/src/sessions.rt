@@ -3,7 +3,7 @@ ghost use Rattle.std.specs.Prelude.{◌≡◌, IfOk};
 ghost use Rattle.ti_conforms.specs.Certified.{IsChecked};
 ghost use Rattle.cur_play.specs.Carrying.{Carries};
 ghost use Rattle.cur_play.specs.Drawing.{SameSizes};
-ghost use Rattle.cur_play.specs.Outputs.{Puts, poised};
+ghost use Rattle.cur_play.specs.Outputs.{poised};
 ghost use Rattle.cur_play.specs.Scenes.{IsStage, first, scene_of, stage_of};
 ghost use Rattle.cur_play.specs.Steps.{CallStep, drawn, output_of};
 
@@ -58,11 +58,10 @@ impl<'a, C: Certificate> Session<'a, C> {
     /// screen stands, and the session is lost.
     pub fn call<W: Wire>(&mut self, call: &Call<'_>, wire: &mut W) -> Answer
         ensures step { CallStep (C.table self.old.painter.checked) (scene_of self.old) call.now result (scene_of self.new) }
-        ensures puts { Puts W.went W.failures wire.old wire.new (C.table self.old.painter.checked) (C.partners self.old.painter.checked) (drawn (C.table self.old.painter.checked) (scene_of self.old) call.now).0.screen
-            (output_of call.now) result (poised (C.table self.old.painter.checked) self.old call.now) self.new.painter }
-        ensures carries { Carries W.went wire.old wire.new (C.table self.old.painter.checked) (C.partners self.old.painter.checked) (drawn (C.table self.old.painter.checked) (scene_of self.old) call.now).0.screen
+        ensures carries { Carries W.went W.failures wire.old wire.new (C.table self.old.painter.checked) (C.partners self.old.painter.checked) (drawn (C.table self.old.painter.checked) (scene_of self.old) call.now).0.screen
             (output_of call.now) result (poised (C.table self.old.painter.checked) self.old call.now) self.new.painter }
         ensures stage { IsStage (C.table self.new.painter.checked) self.new.desk self.new.screen }
+        ensures checked { IsChecked (C.table self.new.painter.checked) }
         ensures certificate { self.new.painter.checked ≡ self.old.painter.checked }
     {
         play(
@@ -89,9 +88,7 @@ fn play<C: Certificate, W: Wire>(
     requires desk_rows { (desk.old).rows ≡ (C.table painter.old.checked).rows }
     requires desk_cols { (desk.old).cols ≡ (C.table painter.old.checked).cols }
     ensures step { CallStep (C.table painter.old.checked) (scene_of (stage_of desk.old screen.old painter.old)) call.now result (scene_of (stage_of desk.new screen.new painter.new)) }
-    ensures puts { Puts W.went W.failures wire.old wire.new (C.table painter.old.checked) (C.partners painter.old.checked) (drawn (C.table painter.old.checked) (scene_of (stage_of desk.old screen.old painter.old)) call.now).0.screen
-        (output_of call.now) result (poised (C.table painter.old.checked) (stage_of desk.old screen.old painter.old) call.now) painter.new }
-    ensures carries { Carries W.went wire.old wire.new (C.table painter.old.checked) (C.partners painter.old.checked) (drawn (C.table painter.old.checked) (scene_of (stage_of desk.old screen.old painter.old)) call.now).0.screen
+    ensures carries { Carries W.went W.failures wire.old wire.new (C.table painter.old.checked) (C.partners painter.old.checked) (drawn (C.table painter.old.checked) (scene_of (stage_of desk.old screen.old painter.old)) call.now).0.screen
         (output_of call.now) result (poised (C.table painter.old.checked) (stage_of desk.old screen.old painter.old) call.now) painter.new }
     ensures sizes { SameSizes desk.old screen.old desk.new screen.new }
     ensures certificate { painter.new.checked ≡ painter.old.checked }

@@ -1,12 +1,13 @@
 use Rattle.std.proofs.Common.{◌∙◌, length, refl, ap, arith}
 use Rattle.cur_play.proofs.Logging.{log_call, log_none, log_whole, next_call}
+use Rattle.cur_play.specs.Log.{subject_of}
 use Rattle.cur_play.proofs.runs.play_all.Goals as goal
 
 pub loop-call-init : goal.loop-call-init
 loop-call-init g c =
     let given = c.args.session.painter.checked in
     record {
-      played = log_none g.W.Wire.went g.W.Wire.failures g.met.W.Wire.lawful c.args.wire.now.wire c.args.wire.now.sent (g.C.Certificate.table given) (g.C.Certificate.partners given) c.args.calls.now c.args.session c.args.log.items
+      played = log_none (subject_of g.W.Wire.went g.W.Wire.failures (g.C.Certificate.table given) (g.C.Certificate.partners given)) g.met.W.Wire.lawful c.args.wire.now.wire c.args.wire.now.sent c.args.calls.now c.args.session c.args.log.items
           c.requires.none c.requires.scene (ap length c.requires.empty);
       room = c.requires.room;
       count = c.requires.len;
@@ -19,10 +20,11 @@ loop-call-preserved g c =
     let len = rw c.unwrap.ensures at c.push.ensures.len in
     let before = c.loop-call.invariant in
     record {
-      played = rw items (log_call g.W.Wire.went g.W.Wire.failures g.met.W.Wire.lawful (λ x. x.wire) (λ x. x.sent) c.args.wire.now.wire c.loop-call.wire c.call-answer.new.wire g.C.Certificate.table g.C.Certificate.partners
+      played = rw items (log_call g.W.Wire.went g.W.Wire.failures g.met.W.Wire.lawful (λ x. x.wire) (λ x. x.sent) c.args.wire.now.wire c.loop-call.wire c.call-answer.new.wire c.pass_on.new.wire g.C.Certificate.table g.C.Certificate.partners
           c.args.session.painter.checked c.args.calls.now c.loop-call.call-index c.call-item.result c.loop-call.session c.call-answer.new.self c.loop-call.log.items c.call-answer.result
-          before.played (next_call c.args.calls.now c.loop-call.call-index c.call-item.result c.loop-call-test.true c.call-item.is) before.certificate c.call-answer.ensures.certificate
-          c.call-answer.ensures.step c.call-answer.ensures.stage c.call-answer.ensures.carries);
+          before.played (omega (arith, c.loop-call.log.small, c.loop-call.log.ok, before.room, c.loop-call-test.true))
+          (next_call c.args.calls.now c.loop-call.call-index c.call-item.result c.loop-call-test.true c.call-item.is) before.certificate c.call-answer.ensures.certificate
+          c.call-answer.ensures.step c.call-answer.ensures.stage c.call-answer.ensures.checked c.call-answer.ensures.carries c.pass_on.ensures);
       room = omega (arith, before.room, c.push.ensures.capacity);
       count = omega (arith, len, before.count);
       certificate = c.call-answer.ensures.certificate ∙ before.certificate;
@@ -32,6 +34,6 @@ pub returns : goal.returns
 returns g c =
     let given = c.args.session.painter.checked in
     record {
-      ran = log_whole g.W.Wire.went c.args.wire.now.wire c.loop-call.wire.wire c.loop-call.wire.sent (g.C.Certificate.table given) (g.C.Certificate.partners given) c.args.calls.now c.loop-call.call-index c.loop-call.session c.loop-call.log.items
-          (omega (arith, c.loop-call-test.false, c.loop-call.auto.call-index-end)) (omega (arith, c.loop-call.log.small, c.loop-call.log.ok, c.loop-call.invariant.room, c.loop-call.auto.call-index-end)) c.loop-call.invariant.played;
+      ran = log_whole (subject_of g.W.Wire.went g.W.Wire.failures (g.C.Certificate.table given) (g.C.Certificate.partners given)) g.met.W.Wire.lawful c.args.wire.now.wire c.loop-call.wire.wire c.loop-call.wire.sent c.args.calls.now c.loop-call.call-index c.loop-call.session c.loop-call.log.items
+          (omega (arith, c.loop-call-test.false, c.loop-call.auto.call-index-end)) c.loop-call.invariant.played;
     }

@@ -6,9 +6,9 @@ pub returns-in-Done : goal.returns-in-Done
 returns-in-Done g c =
     let bound : IsBound = record { most = c.cells_bounded.ensures.most; none = c.cells_bounded.ensures.none } in
     let all = played_done g.W.Wire.went g.W.Wire.failures g.met.W.Wire.lawful bound c.args.wire.now c.send.new.wire g.C.Certificate.table g.C.Certificate.partners
-    c.args.desk.now c.args.screen.now c.args.painter.now c.args.call.now c.draw.new.desk c.draw.new.screen c.draw.new.painter c.draw.result c.send.result c.output_of.result c.send.new.screen c.send.new.painter
-    c.requires.checked c.requires.rows c.requires.cols c.in-Done.is c.draw.ensures.draws c.draw.ensures.sizes c.draw.ensures.painter c.output_of.ensures c.send.ensures.delivers c.send.ensures.puts c.send.ensures.certificate c.send.ensures.mode in
-    record { step = all.step; puts = all.puts; carries = all.carries; sizes = all.sizes; certificate = all.certificate }
+    c.args.desk.now c.args.screen.now c.args.painter.now c.args.call.now c.draw.new.desk c.draw.new.screen c.draw.new.painter c.draw.result c.send.result c.output_of.result c.send.ensures.puts.0 c.send.new.screen c.send.new.painter
+    c.requires.checked c.requires.rows c.requires.cols c.in-Done.is c.draw.ensures.draws c.draw.ensures.sizes c.draw.ensures.painter c.output_of.ensures c.send.ensures.delivers c.send.ensures.puts.1 c.send.ensures.certificate c.send.ensures.mode in
+    record { step = all.step; carries = all.carries; sizes = all.sizes; certificate = all.certificate }
 
 pub returns-in_default : goal.returns-in_default
 returns-in_default g c =
@@ -16,4 +16,4 @@ returns-in_default g c =
     let all = played_refused g.W.Wire.went g.W.Wire.failures g.met.W.Wire.lawful bound c.args.wire.now g.C.Certificate.table g.C.Certificate.partners
     c.args.desk.now c.args.screen.now c.args.painter.now c.args.call.now c.draw.new.desk c.draw.new.screen c.draw.new.painter c.draw.result
     c.requires.checked c.requires.rows c.requires.cols c.in_default.not-Done c.draw.ensures.draws c.draw.ensures.sizes c.draw.ensures.painter in
-    record { step = all.step; puts = all.puts; carries = all.carries; sizes = all.sizes; certificate = all.certificate }
+    record { step = all.step; carries = all.carries; sizes = all.sizes; certificate = all.certificate }
