@@ -20,8 +20,8 @@ use Rattle.vt_term.proofs.Moving.{move_function, move_token, move_short, spells}
 use Rattle.vt_effects.specs.Basic.{home_text, clear_text, el_text, sgr0_text}
 use Rattle.vt_effects.specs.Record.{record_of}
 use Rattle.vt_effects.proofs.Basics.{clear_record, cup_record, sgr0_record, home_record, el_record}
-use Rattle.vt_notation.specs.Text.{spelled, row_name, col_name}
-use Rattle.vt_notation.proofs.Digits.{decimal_lacks}
+use Rattle.ti_lines.specs.EffectText.{spelled, row_name, col_name}
+use Rattle.ti_lines.proofs.Digits.{decimal_lacks}
 use Rattle.ti_conforms.specs.Charsets.{IsAmong, charset_after}
 use Rattle.ti_rows.specs.declared.rows.Row.{Row}
 use Rattle.ti_rows.specs.declared.rows.Row.TheVariants.{Clear, Cup, Home, El, Sgr0}

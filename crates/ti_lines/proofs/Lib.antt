@@ -1,3 +1,12 @@
+pub mod TextCuts
+pub mod Digits
+pub mod Forms
+pub mod Glyphs
+pub mod Joins
+pub mod Orders
+pub mod Plains
+pub mod Recorded
+pub mod EffectTexts
 pub mod Cutting
 pub mod Hexing
 pub mod NumbersRead

@@ -12,10 +12,10 @@ use Rattle.std.proofs.lemmas.Map.Text.{is_eq-slice_cmp}
 use Rattle.std.proofs.lemmas.Slice.Eq.{bytes_eq-Decides}
 use Rattle.std.proofs.lemmas.Option.{same_Some, none-some, option_and_then_some}
 use Rattle.hex.specs.Hex.{encode_with, encode_lower, lower_digits, IsBytes}
-use Rattle.vt_notation.specs.Text.{spelled, IsPlain}
-use Rattle.vt_notation.specs.Reading.{number_at, effect_in}
-use Rattle.vt_notation.proofs.Digits.{number_reads, number_written, IsNumber, decimal_lacks}
-use Rattle.vt_notation.proofs.Texts.{reads_spelled, reads_plain, spelled_reads}
+use Rattle.ti_lines.specs.EffectText.{spelled, IsPlain}
+use Rattle.ti_lines.specs.EffectReading.{number_at, effect_in}
+use Rattle.ti_lines.proofs.Digits.{number_reads, number_written, IsNumber, decimal_lacks}
+use Rattle.ti_lines.proofs.EffectTexts.{reads_spelled, reads_plain, spelled_reads}
 use Rattle.vt_effects.specs.declared.effects.Effect.{Effect}
 use Rattle.ti_rows.specs.declared.rows.Row.{Row}
 use Rattle.ti_rows.specs.Names.{order, name_of, name_in_order}

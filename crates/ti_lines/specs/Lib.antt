@@ -1,3 +1,7 @@
+pub mod EffectLaws
+pub mod EffectReading
+pub mod EffectText
+pub mod EffectWriting
 pub mod Cut
 pub mod Hex
 pub mod RowLines

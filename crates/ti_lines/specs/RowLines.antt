@@ -4,8 +4,8 @@ use Rattle.std.specs.Fmt.{decimal}
 use Rattle.std.specs.List.{AllByRecursion}
 use Rattle.std.specs.Option.{option_map, option_and_then}
 use Rattle.hex.specs.Hex.{IsBytes}
-use Rattle.vt_notation.specs.Text.{spelled, IsPlain}
-use Rattle.vt_notation.specs.Reading.{number_at, effect_in}
+use Rattle.ti_lines.specs.EffectText.{spelled, IsPlain}
+use Rattle.ti_lines.specs.EffectReading.{number_at, effect_in}
 use Rattle.ti_rows.specs.Names.{name_of}
 use Rattle.ti_rows.specs.Params.{params, with_params}
 use Rattle.ti_rows.specs.declared.rows.Row.{Row}

@@ -4,8 +4,8 @@ ghost use Rattle.ti_lines.specs.Heads as spec;
 
 use crate::cuts::cut;
 use crate::hexes::hex_at;
+use crate::numbers::number_at;
 use std::alloc::{AllocError, Global};
-use vt_notation::number_at;
 
 /// The rows and columns of a certificate's first line, `ticert 2 R C`, given without its LF. `None` for
 /// any other text.

@@ -1,5 +1,6 @@
-//! Laws of a certificate's lines, and of how a text is cut into lines.
+//! Laws of effects' texts, of a certificate's lines, and of how a text is cut into lines.
 
+ghost use Rattle.ti_lines.specs.EffectLaws.{OneText, ComposedPlain, RecordedPlain};
 ghost use Rattle.ti_lines.specs.Texts.{OneLine};
 ghost use Rattle.std.specs.Prelude.{ℕ, List, ◌≡◌};
 ghost use Rattle.ti_lines.specs.Text.{IsText, cut_of};
@@ -14,4 +15,20 @@ pub fn one_line()
 pub fn text_is_cut()
     ensures is { (text : List ℕ) → IsText (cut_of text).lines (cut_of text).last text }
     ensures only { (text last : List ℕ) (lines : List (List ℕ)) → IsText lines last text → cut_of text ≡ record { lines = lines; last = last } }
+{}
+
+/// No two effects in their one form have one text. So what `read` makes of the text of such an
+/// effect is that effect.
+pub fn one_text()
+    ensures { OneText }
+{}
+
+/// Two effects in their one form make one in its one form, if they make one.
+pub fn composed_plain()
+    ensures { ComposedPlain }
+{}
+
+/// The effect of a string is in its one form, so its text is read back as that effect.
+pub fn recorded_plain()
+    ensures { RecordedPlain }
 {}

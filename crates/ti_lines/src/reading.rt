@@ -4,12 +4,13 @@ ghost use Rattle.ti_lines.specs.declared.row_lines.RowLine as declared;
 ghost use Rattle.ti_lines.specs.RowLines as spec;
 
 use crate::cuts::cut;
+use crate::effects::read_effect;
 use crate::hexes::hex_at;
+use crate::numbers::number_at;
 use crate::row_lines::RowLine;
 use std::alloc::AllocError;
 use ti_caps::Bytes;
 use ti_rows::{Params, Row};
-use vt_notation::{number_at, read};
 
 /// The line about a checked capability that has this text, without its LF. `None` if there is none:
 /// for another name than that of a checked capability, another number of parameters than it has,
@@ -71,7 +72,7 @@ fn line_behind(row: Row, text: &[u8], room: Vec<u8>) -> Result<Option<RowLine>, 
 {
     match cut(b' ', text) {
         None => Ok(None),
-        Some((word, rest)) => match read(rest) {
+        Some((word, rest)) => match read_effect(rest) {
             None => Ok(None),
             Some(effect) => match hex_at(word, room)? {
                 None => Ok(None),

@@ -5,10 +5,11 @@ ghost use Rattle.hex.specs.Hex.{encode_lower};
 ghost use Rattle.ti_lines.specs.Hex.{hex_text};
 ghost use Rattle.ti_lines.specs.RowLines as spec;
 
+use crate::numbers::push_number;
+use crate::spelling::push_effect;
 use std::alloc::AllocError;
 use ti_rows::Row;
 use vt_effects::Effect;
-use vt_notation::{push_number, text_into};
 
 /// Appends the text of a line about a checked capability, without its LF: with these parameters its
 /// string is these bytes, and their effect is this one. `words` hold the effect's text for the while.
@@ -27,7 +28,7 @@ pub fn push_row_line(
     push_numbers(row.params().as_slice(), text)?;
     push_hex(bytes, text)?;
     text.push(b' ')?;
-    text_into(effect, words)?;
+    push_effect(effect, words)?;
     text.extend_from_slice(words.as_slice())
 }
 

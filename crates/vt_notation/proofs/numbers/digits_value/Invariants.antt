@@ -1,6 +1,0 @@
-use Rattle.std.proofs.Common.{◌≡◌, drop}
-use Rattle.vt_notation.specs.Reading as spec
-use Rattle.vt_notation.proofs.numbers.digits_value.Given as goal
-
-abbrev pub invariant-loop-digit : goal.invariant-loop-digit
-invariant-loop-digit l = spec.digits_from l.number (drop l.digit-index l.digits) ≡ spec.digits_from 0 l.digits
