@@ -8,9 +8,10 @@ use crate::reading::calls_of;
 use crate::showing::show_calls;
 use std::alloc::Global;
 use ti_cert::Checked;
-use ti_commands::{Failure, Files, Output, Remarks, Reply};
+use ti_commands::{Failure, Files, Output, Reply};
 use ti_conforms::Certificate;
 use ti_requests::ScriptWords;
+use ti_words::Remarks;
 
 /// Plays the script on a terminal that the entry drives, and writes what its calls send.
 pub fn play_script<F: Files, O: Output>(

@@ -5,7 +5,8 @@ ghost use Rattle.cur_commands.specs.Scripts as spec;
 
 use cur_calls::{Call, ScriptFault, ScriptFaultKind, read_script};
 use std::alloc::{AllocError, Global};
-use ti_commands::{Failure, Refusal, Remarks};
+use ti_commands::{Failure, Refusal};
+use ti_words::Remarks;
 
 /// How much of a line is shown.
 const SHOWN: usize = 200;

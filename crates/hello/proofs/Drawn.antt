@@ -2,20 +2,18 @@
 use Rattle.std.proofs.Common.{◌≡◌, ℕ, ◌+◌, ◌-◌, ◌<◌, ◌≤◌, nat_lt, nat_le, [], List, Bool, true, false, Option, Some, None, Result, Ok, Err, pos, length, zero, suc, get_or, refl, sym, ap, ◌∙◌, subst, arith, if◌then◌else◌}
 use Rattle.std.specs.Prelude.{replicate, slice_set}
 use Rattle.std.proofs.lemmas.List.{get_or-replicate}
-use Rattle.grids.specs.declared.areas.Area.{Area}
-use Rattle.cur_drawing.specs.declared.refusals.Refusal.{Refusal}
-use Rattle.cur_drawing.specs.declared.refusals.Refusal.TheVariants.{OutOfScreen}
-use Rattle.cur_drawing.specs.declared.spans.Span.{Span}
-use Rattle.cur_drawing.specs.Cells.{Content, space}
-use Rattle.cur_drawing.specs.Grids.{blank, cell_at, is_in, line_at}
-use Rattle.cur_drawing.specs.Calls.{place}
-use Rattle.cur_drawing.specs.Windows.{fresh}
-use Rattle.cur_drawing.specs.Spans.{area_within, rectangle, span_within}
-use Rattle.cur_windows.specs.Desks.{State, DeskStep, after, new_desk, on_screen, whole_area, new_slot}
-use Rattle.cur_windows.specs.Making.{newwin, root_added}
-use Rattle.cur_windows.specs.VirtualScreen.{Screen, new_screen, Refresh, noutrefresh, refresh, shown}
-use Rattle.cur_drawing.proofs.ByPlace.{copied_by_place}
-use Rattle.cur_windows.proofs.Adding.{blank_line}
+use Rattle.curses.specs.Windows.{Area, Refusal, Span}
+use Rattle.curses.specs.Windows.refusals.{OutOfScreen}
+use Rattle.curses.specs.Windows.Cells.{Content, space}
+use Rattle.curses.specs.Windows.Grids.{blank, cell_at, is_in, line_at}
+use Rattle.curses.specs.Windows.Calls.{place}
+use Rattle.curses.specs.Windows.Options.{fresh}
+use Rattle.curses.specs.Windows.Spans.{area_within, rectangle, span_within}
+use Rattle.curses.specs.Windows.Desks.{State, DeskStep, after, new_desk, on_screen, whole_area, new_slot}
+use Rattle.curses.specs.Windows.Making.{newwin, root_added}
+use Rattle.curses.specs.Windows.VirtualScreen.{Screen, new_screen, Refresh, noutrefresh, refresh, shown}
+use Rattle.curses.proofs.ByPlace.{copied_by_place}
+use Rattle.curses.proofs.Adding.{blank_line}
 use Rattle.hello.specs.Calls.{and_then, greeting, written}
 use Rattle.hello.specs.Greeting.{IsGreeting, picture, frame}
 

@@ -1,18 +1,14 @@
 -- The first refresh shows the greeting.
 use Rattle.std.proofs.Common.{◌≡◌, ℕ, List, Option, sym, subst}
-use Rattle.vt_term.specs.Screen.{State}
-use Rattle.cur_windows.specs.VirtualScreen.{Screen}
-use Rattle.ti_conforms.specs.Certified.{Table}
-use Rattle.cur_looks.specs.declared.beliefs.Belief.{Belief}
-use Rattle.cur_looks.specs.declared.beliefs.Mode.{Mode}
-use Rattle.cur_looks.specs.declared.beliefs.Mode.TheVariants.{Normal}
-use Rattle.cur_looks.specs.declared.inks.Ink.{Ink}
-use Rattle.cur_paint.specs.Update.{Fits, IsFresh, Refreshed}
-use Rattle.cur_paint.specs.declared.updates.Session.{Session}
-use Rattle.cur_paint.specs.declared.updates.Status.{Status}
-use Rattle.cur_paint.specs.declared.updates.Status.TheVariants.{Fresh}
-use Rattle.cur_update.specs.Inks.{ink_at}
-use Rattle.cur_update.specs.Painters.{Painted, wanted_of}
+use Rattle.curses.specs.Terminals.Screen.{State}
+use Rattle.curses.specs.Windows.VirtualScreen.{Screen}
+use Rattle.curses.specs.Terminals.Certified.{Table}
+use Rattle.curses.specs.Painting.{Belief, Ink, Mode, Session, Status}
+use Rattle.curses.specs.Painting.modes.{Normal}
+use Rattle.curses.specs.Painting.Update.{Fits, IsFresh, Refreshed}
+use Rattle.curses.specs.Painting.statuses.{Fresh}
+use Rattle.curses.specs.Painting.Inks.{ink_at}
+use Rattle.curses.specs.Painting.Painters.{Painted, wanted_of}
 use Rattle.hello.specs.Greeting.{IsGreeting}
 use Rattle.hello.specs.Showing.{Greets}
 

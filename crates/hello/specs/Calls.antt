@@ -1,9 +1,9 @@
 -- (Serves the code alone.) The calls that draw the greeting.
 use Rattle.std.specs.Prelude.{Ok, Err, codes, pos}
-use Rattle.cur_drawing.specs.Calls.{added_all, bordered, box_of, drawn_line}
-use Rattle.cur_drawing.specs.Windows.{move_to}
-use Rattle.cur_windows.specs.Desks.{State, DeskStep, on_cursor, on_grid, on_window}
-use Rattle.cur_windows.specs.Making.{newwin}
+use Rattle.curses.specs.Windows.Calls.{added_all, bordered, box_of, drawn_line}
+use Rattle.curses.specs.Windows.Options.{move_to}
+use Rattle.curses.specs.Windows.Desks.{State, DeskStep, on_cursor, on_grid, on_window}
+use Rattle.curses.specs.Windows.Making.{newwin}
 
 -- what follows is done only if nothing was refused
 abbrev pub and_then : DeskStep → (State → DeskStep) → DeskStep

@@ -1,10 +1,10 @@
 -- The greeting, place by place (X/Open Curses Issue 7, newwin, box, wmove, waddstr, wnoutrefresh).
 use Rattle.std.specs.Prelude.{◌≡◌, ◌-◌, ◌<◌, ℕ, List, [], ◌∷◌, ◌++◌, false, if◌then◌else◌, Some, codes, map, replicate}
-use Rattle.grids.specs.declared.areas.Area.{Area}
-use Rattle.cur_drawing.specs.Calls.{place}
-use Rattle.cur_drawing.specs.Cells.{Content, pair_count, space}
-use Rattle.cur_drawing.specs.Grids.{Grid, cell_at, is_in}
-use Rattle.cur_windows.specs.VirtualScreen.{Screen, default_colors}
+use Rattle.curses.specs.Windows.{Area}
+use Rattle.curses.specs.Windows.Calls.{place}
+use Rattle.curses.specs.Windows.Cells.{Content, pair_count, space}
+use Rattle.curses.specs.Windows.Grids.{Grid, cell_at, is_in}
+use Rattle.curses.specs.Windows.VirtualScreen.{Screen, default_colors}
 
 -- characters, and characters of the alternate set, in which there are lines
 abbrev pub letters : List ℕ → List Content

@@ -1,13 +1,13 @@
 -- A terminal that shows the greeting (X/Open Curses Issue 7, refresh).
 use Rattle.std.specs.Prelude.{ℕ, List, Option}
-use Rattle.vt_term.specs.Screen.{State}
-use Rattle.cur_windows.specs.VirtualScreen.{Screen}
-use Rattle.vt_term.specs.Ends.{Ends}
-use Rattle.ti_conforms.specs.Certified.{Table}
-use Rattle.cur_looks.specs.declared.beliefs.Mode.TheVariants.{Normal}
-use Rattle.cur_paint.specs.Update.{IsFresh, Shows}
-use Rattle.cur_update.specs.Inks.{ink_at}
-use Rattle.cur_update.specs.Painters.{wanted_of}
+use Rattle.curses.specs.Terminals.Screen.{State}
+use Rattle.curses.specs.Windows.VirtualScreen.{Screen}
+use Rattle.curses.specs.Terminals.Ends.{Ends}
+use Rattle.curses.specs.Terminals.Certified.{Table}
+use Rattle.curses.specs.Painting.modes.{Normal}
+use Rattle.curses.specs.Painting.Update.{IsFresh, Shows}
+use Rattle.curses.specs.Painting.Inks.{ink_at}
+use Rattle.curses.specs.Painting.Painters.{wanted_of}
 use Rattle.hello.specs.Greeting.{IsGreeting}
 
 -- What went out makes every terminal that a session may begin with show the greeting: its cells, and a visible cursor in its place.

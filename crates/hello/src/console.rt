@@ -1,9 +1,9 @@
 //! A writer, such as standard output, as a wire.
 ghost use Rattle.std.specs.Prelude.{◌≡◌, ◌<◌, ◌≤◌, length, take, IfOk, OnErr};
-ghost use Rattle.cur_wires.specs.Wire.{Rose};
+ghost use Rattle.curses.specs.Painting.Wire.{Rose};
 ghost use Rattle.hello.specs.Console.{Wrote};
 
-use cur_update::{Wire, WireFault};
+use curses::{Wire, WireFault};
 use std::io;
 use std::io::Write;
 

@@ -5,11 +5,8 @@ ghost use Rattle.hello.specs.Greeting.{IsGreeting};
 ghost use Rattle.hello.specs.Showing.{Greets};
 
 use anyhow::Result;
-use cur_update::{Painter, Wire};
-use cur_windows::{Desk, Put, Refusal, Virtual};
+use curses::{Certificate, Desk, Painter, Put, Refusal, Size, Virtual, Wire};
 use std::alloc::Global;
-use ti_conforms::Certificate;
-use vt_term::Size;
 
 /// The number of the greeting's window.
 const GREETING: usize = 1;

@@ -1,5 +1,5 @@
-//! `hello SOURCE NAME ROWS COLS CERTIFICATE` shows a greeting in a window, by the strings of an entry of a source file that the
-//! certificate is for; waits for a line on standard input; and ends the screen.
+//! `hello SOURCE NAME ROWS COLS CERTIFICATE` shows a greeting in a window, by the strings of an entry of a source file
+//! that the certificate is for; waits for a line on standard input; and ends the screen.
 #![tactic(auto)]
 
 mod console;
@@ -7,14 +7,11 @@ mod greeting;
 
 use anyhow::{Result, anyhow, bail};
 use console::Console;
+use curses::{Checked, Size, read, resolve, verify};
 use greeting::greet;
 use std::io::BufWriter;
 use std::rt::{Env, Files};
 use std::{env, fs};
-use ti_cert::{Checked, verify};
-use ti_resolve::resolve;
-use ti_source::read;
-use vt_term::Size;
 
 fn main(rt: HostRuntime) -> Result<()> {
     let words: Vec<String> = env::args(&rt)?.skip(1).collect(rt.alloc())?;

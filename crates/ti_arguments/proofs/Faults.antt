@@ -40,7 +40,7 @@ no_memory : {A : Type 0} (k : ErrorKind) → k ≡ kind.OutOfMemory → (k ≡ k
 no_memory k e (inl h) = cc
 no_memory k e (inr h) = cc
 
--- so what it is told as is an answer
+-- so there is an answer for it
 pub answered : (words : List Text) (e : Error) (r : Result Answer LineFault) → HasKind (fault_of line words) e → IfOk r (λ a. IsTold (kind_of e) a) → IfOk r (λ a. IsAnswer words a)
 answered words e (Err fault) h t = tt
 answered words e (Ok (answers.Request request)) h t = absurd t

@@ -69,7 +69,7 @@ abbrev pub IsAnswer : List Text → Answer → Type 0
 IsAnswer words (answers.Request request) = Asks (subcommand_of line words) request
 IsAnswer words (answers.Text text) = IsAmong kind.DisplayHelp (fault_of line words) ⊎ IsAmong kind.DisplayVersion (fault_of line words)
 
--- what the parser's error is told as
+-- the answer that the parser's error is
 abbrev pub IsTold : ErrorKind → Answer → Type 0
 IsTold told (answers.Request request) = ⊥
 IsTold told (answers.Text text) = (told ≡ kind.DisplayHelp) ⊎ (told ≡ kind.DisplayVersion)

@@ -19,16 +19,17 @@ pub fn command_line<'a>(alloc: Global) -> Result<Command<'a>, AllocError>
     with_script_commands(alloc, command)
 }
 
-/// The command, and those that show what a terminal does.
+/// `command` with those that show what a terminal does.
 fn with_screen_commands<'a>(alloc: Global, command: Command<'a>) -> Result<Command<'a>, AllocError>
-    ensures { IfOk result (λ c. app_of c ≡ with_subcommand (with_subcommand (app_of command.entry) expand_rules.top) feed_rules.top) }
+    ensures { IfOk result (λ c. app_of c
+        ≡ with_subcommand (with_subcommand (app_of command.entry) expand_rules.top) feed_rules.top) }
 {
     let expand = expand_command(alloc)?;
     let feed = feed_command(alloc)?;
     command.subcommand(expand)?.subcommand(feed)
 }
 
-/// The command, and those that judge entries.
+/// `command` with those that judge entries.
 fn with_verdict_commands<'a>(alloc: Global, command: Command<'a>) -> Result<Command<'a>, AllocError>
     ensures { IfOk result (λ c. app_of c ≡ with_verdicts (app_of command.entry)) }
 {
@@ -41,7 +42,7 @@ fn with_verdict_commands<'a>(alloc: Global, command: Command<'a>) -> Result<Comm
         .subcommand(survey)
 }
 
-/// The command, and those that play scripts.
+/// `command` with those that play scripts.
 fn with_script_commands<'a>(alloc: Global, command: Command<'a>) -> Result<Command<'a>, AllocError>
     ensures { IfOk result (λ c. app_of c ≡ with_plays (app_of command.entry)) }
 {
@@ -50,9 +51,10 @@ fn with_script_commands<'a>(alloc: Global, command: Command<'a>) -> Result<Comma
     command.subcommand(play)?.subcommand(show)
 }
 
-/// The command, and those whose words are entries.
+/// `command` with those whose words are entries.
 fn with_entry_commands<'a>(alloc: Global, command: Command<'a>) -> Result<Command<'a>, AllocError>
-    ensures { IfOk result (λ c. app_of c ≡ with_subcommand (with_subcommand (app_of command.entry) tic_rules.top) infocmp_rules.top) }
+    ensures { IfOk result (λ c. app_of c
+        ≡ with_subcommand (with_subcommand (app_of command.entry) tic_rules.top) infocmp_rules.top) }
 {
     let tic = tic_command(alloc)?;
     let infocmp = infocmp_command(alloc)?;
@@ -92,7 +94,7 @@ fn expand_command<'a>(alloc: Global) -> Result<Command<'a>, AllocError>
     with_size(alloc, command)?.arg(parameters(alloc))
 }
 
-/// The command, and the two words of a terminal's size.
+/// `command` with the two words of a terminal's size.
 fn with_size<'a>(alloc: Global, command: Command<'a>) -> Result<Command<'a>, AllocError>
     requires { (out-Command command).has_globals ≡ false }
     ensures shape { IfOk result (λ c. app_of c ≡ with_size_rules (app_of command.entry)) }
@@ -193,7 +195,7 @@ fn show_command<'a>(alloc: Global) -> Result<Command<'a>, AllocError>
     with_script(alloc, command)
 }
 
-/// The command, and the words of a run of a script.
+/// `command` with the words of a run of a script.
 fn with_script<'a>(alloc: Global, command: Command<'a>) -> Result<Command<'a>, AllocError>
     requires { (out-Command command).has_globals ≡ false }
     ensures shape { IfOk result (λ c. app_of c ≡ with_script_rules (app_of command.entry)) }

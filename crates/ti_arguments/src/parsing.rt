@@ -36,7 +36,7 @@ impl From<AllocError> for LineFault {
     }
 }
 
-/// What the words after the program's own name ask for.
+/// What the `words` after the program's own name ask for.
 pub fn parse_line<'a>(alloc: Global, words: &'a [String]) -> Result<Answer<'a>, LineFault>
     ensures { IfOk result (λ answer. IsAnswer (map (λ w. string_bytes w) words.entry.now) answer) }
 {
@@ -50,7 +50,7 @@ pub fn parse_line<'a>(alloc: Global, words: &'a [String]) -> Result<Answer<'a>, 
     }
 }
 
-/// Help and version are answers; any other error of the parser's is a usage error.
+/// The answer that `error` is: help and version are answers, and any other error of the parser is a usage error.
 fn explain<'a>(alloc: Global, error: &Error) -> Result<Answer<'a>, LineFault>
     ensures { IfOk result (λ answer. IsTold (kind_of error.now) answer) }
 {
@@ -63,7 +63,7 @@ fn explain<'a>(alloc: Global, error: &Error) -> Result<Answer<'a>, LineFault>
     }
 }
 
-/// The request of a line with a command.
+/// The request of a line with a command, whose words are `matches`.
 fn request_of<'a>(alloc: Global, matches: &ArgMatches<'a>) -> Result<Request<'a>, LineFault>
     ensures { IfOk result (λ request. Asks (subcommand_rows_of matches.now) request) }
 {
@@ -136,7 +136,7 @@ fn verify_request<'a>(words: &ArgMatches<'a>) -> Request<'a>
     })
 }
 
-/// The words of `play` and `show`.
+/// The `words` of `play` or `show`.
 fn scripted<'a>(words: &ArgMatches<'a>) -> ScriptWords<'a>
     ensures { Plays (rows_of (found_of words.now)) result }
 {
@@ -181,7 +181,7 @@ fn infocmp_request<'a>(alloc: Global, words: &ArgMatches<'a>) -> Result<Request<
     }
 }
 
-/// The word for this argument, if there is one.
+/// The one of the `words` for the argument `id`, if there is one.
 #[tactic(auto, using(crate::proofs::Rows::first_in_rows))]
 fn first_word<'a>(words: &ArgMatches<'a>, id: &str) -> Option<&'a str>
     ensures { option_map (λ w. w.now) result ≡ first_of id.now (rows_of (found_of words.now)) }
@@ -189,14 +189,14 @@ fn first_word<'a>(words: &ArgMatches<'a>, id: &str) -> Option<&'a str>
     words.get_str(id)
 }
 
-/// The word for an argument that the line has.
+/// The one of the `words` for the argument `id`, which the line has.
 fn word<'a>(words: &ArgMatches<'a>, id: &str) -> &'a str
     ensures { result.now ≡ word_of id.now (rows_of (found_of words.now)) }
 {
     first_word(words, id).unwrap_or("")
 }
 
-/// Whether the line has this switch.
+/// Whether the line has the switch `id`.
 fn is_on(words: &ArgMatches<'_>, id: &str) -> bool
     ensures { result ≡ is_on id.now (rows_of (found_of words.now)) }
 {

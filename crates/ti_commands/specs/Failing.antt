@@ -1,4 +1,4 @@
--- What is told of a word that is wrong, and of a file. Running out of memory can come at any time and says nothing.
+-- What is said of a word that is wrong, and of a file. Running out of memory can come at any time and says nothing.
 use Rattle.std.specs.Prelude.{◌≡◌, ◌⊎◌, ℕ, List, ◌∷◌, ◌++◌, codes}
 use Rattle.std.specs.String.{string_bytes}
 use Rattle.ti_parm.specs.Value.{Value}
@@ -18,7 +18,7 @@ IsFileFailure path (File told) = string_bytes told ≡ path
 IsFileFailure path NoMemory = Unit {0}
 IsFileFailure path _ = ⊥
 
--- what a word is told that stands where a number belongs, or a parameter
+-- what is said of a word that stands where a number belongs, or a parameter
 abbrev pub number_usage : List ℕ → List ℕ → List ℕ
 number_usage name word =
     codes "error: invalid value '" ++ (word ++ (codes "' for " ++ (name ++ codes ": a decimal number up to 2147483647 is wanted\n\nFor more information, try '--help'.\n")))

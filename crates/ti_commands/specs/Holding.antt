@@ -13,7 +13,7 @@ AreBytesOf known bytes = IfSome known (λ held. bytes ≡ held)
 abbrev pub IsLeft : Option (List ℕ) → Option (List ℕ) → Type 0
 IsLeft known left = IfSome known (λ held. left ≡ Some held)
 
--- these are the first bytes, so many at most
+-- these are the first bytes, at most `count` of them
 abbrev pub AreFirstBytesOf : Option (List ℕ) → ℕ → List ℕ → Type 0
 AreFirstBytesOf known count bytes = IfSome known (λ held. bytes ≡ take count held)
 
@@ -21,7 +21,7 @@ AreFirstBytesOf known count bytes = IfSome known (λ held. bytes ≡ take count 
 abbrev pub longest_file : ℕ
 longest_file = 16777216
 
--- a file's bytes, of at most so many, of which this holds
+-- a file's bytes, at most `limit` of them, of which this holds
 pub record HasBytes (held : Option (List ℕ)) (limit : ℕ) (P : List ℕ → Type 0) : Type 0 where
   pub bytes : List ℕ
   pub whole : AreBytesOf held bytes

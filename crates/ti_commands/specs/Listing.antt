@@ -12,7 +12,7 @@ use Rattle.ti_caps.specs.Table.{is_kind, kind_of, name_at, place_of_rank}
 use Rattle.ti_commands.specs.declared.describing.Comparison.{Comparison}
 use Rattle.ti_commands.specs.declared.describing.Comparison.TheVariants.{Common, Neither}
 
--- the first so many capabilities in the order of their names as bytes
+-- the first `count` capabilities in the order of their names as bytes
 unfoldable pub caps_by_name : ℕ → List ℕ
 caps_by_name count = map place_of_rank (range_with_len 0 count)
 
@@ -32,7 +32,7 @@ is_listed _ _ _ = false
 abbrev pub is_listed_at : Comparison → Content → Content → Kind → ℕ → Bool
 is_listed_at comparison first second kind cap = is_kind (kind_of cap) kind && is_listed comparison (value_at first cap) (value_at second cap)
 
--- the listed ones of a kind among the first so many
+-- the listed ones of a kind among the first `count`
 unfoldable pub listed : Comparison → Content → Content → Kind → ℕ → List ℕ
 listed comparison first second kind count = filter (is_listed_at comparison first second kind) (caps_by_name count)
 

@@ -11,14 +11,14 @@ use crate::entries::{Found, find_entry, note_lines};
 use crate::failure::{Failure, Refusal, Reply};
 use crate::files::{FileFault, Files};
 use crate::reading::file_fault;
-use crate::remarks::Remarks;
-use crate::unknown_names::unknown_names;
 use std::alloc::{AllocError, Global};
 use ti_caps::{CAPABILITIES, Cap, Entry, Kind, Value, at_rank, is_kind, name};
 use ti_compiled::{PackFault, encode};
 use ti_source::print;
+use ti_words::{Remarks, explain_large, unknown_names};
 
-/// Reports the notes of a source file, and writes the entry's compiled form to the file at `out` if there is one.
+/// Reports the notes of the source file that `word` names, and writes the compiled form of the entry that `word` gives
+/// to the file at `out`, if there is an `out`. Further lines go to `remarks`.
 pub fn compile_entry<F: Files>(
     alloc: Global,
     word: &str,
@@ -42,7 +42,7 @@ pub fn compile_entry<F: Files>(
     })
 }
 
-/// Writes the compiled form of an entry if there is a path for it, or answers the entry's refusal.
+/// Writes the compiled form of `entry` to the file at `out`, if there is an `out`, or answers the entry's refusal.
 fn stored<F: Files>(
     alloc: Global,
     files: &mut F,
@@ -60,11 +60,7 @@ fn stored<F: Files>(
     }
 }
 
-/// What is said of a path whose compiled file would be too large.
-const TOO_LARGE: &[u8] =
-    b": the compiled file would have more than 4096 bytes, or than 32768 where a number is above 32767";
-
-/// Writes the compiled form of an entry to the file at `path`.
+/// Writes the compiled form of `entry` to the file at `path`.
 fn store_entry<F: Files>(
     alloc: Global,
     files: &mut F,
@@ -72,14 +68,15 @@ fn store_entry<F: Files>(
     entry: &Entry,
     remarks: &mut Remarks,
 ) -> Result<Option<Failure>, AllocError>
-    ensures outcome { IfOk result (λ failure. Stores entry.now path.now (F.holds files.old) (F.holds files.new) failure) }
+    ensures outcome { IfOk result
+        (λ failure. Stores entry.now path.now (F.holds files.old) (F.holds files.new) failure) }
     ensures kept { OnErr result (F.holds files.new ≡ F.holds files.old) }
 {
     let file = match encode(alloc, entry) {
         Ok(file) => file,
         Err(PackFault::NoMemory) => return Err(AllocError),
         Err(fault) => {
-            remarks.add(path.as_bytes(), TOO_LARGE);
+            explain_large(path, remarks);
             return Ok(Some(Failure::Refused(Refusal::Pack(fault))));
         }
     };
@@ -90,7 +87,7 @@ fn store_entry<F: Files>(
     }
 }
 
-/// Prints an entry.
+/// Prints the entry that `word` gives.
 pub fn print_entry<F: Files>(
     alloc: Global,
     word: &str,
@@ -115,7 +112,8 @@ pub enum Comparison {
     Neither,
 }
 
-/// Lists the capabilities of two entries, a line for each name.
+/// Lists the capabilities of the entries that the words `first` and `second` give, a line for each name that the
+/// `comparison` asks for.
 pub fn compare_entries<F: Files>(
     alloc: Global,
     first: &str,
@@ -125,7 +123,8 @@ pub fn compare_entries<F: Files>(
     remarks: &mut Remarks,
 ) -> Result<Reply, Failure>
     ensures reply { IfOk result (λ reply. IsCompared (F.holds files.old) first.now second.now comparison reply) }
-    ensures failure { IfErr result (λ e. LacksEntry (F.holds files.old) first.now e ⊎ LacksSecond (F.holds files.old) first.now second.now e ⊎ (e ≡ Failure.NoMemory)) }
+    ensures failure { IfErr result (λ e. LacksEntry (F.holds files.old) first.now e
+        ⊎ LacksSecond (F.holds files.old) first.now second.now e ⊎ (e ≡ Failure.NoMemory)) }
     ensures kept { F.holds files.new ≡ F.holds files.old }
 {
     let one = entry_of(alloc, files, first, remarks)?;
@@ -134,7 +133,7 @@ pub fn compare_entries<F: Files>(
     Ok(Reply::of_text(alloc, text))
 }
 
-/// The entry that the word gives.
+/// The entry that `word` gives.
 pub fn entry_of<F: Files>(
     alloc: Global,
     files: &mut F,
@@ -156,8 +155,8 @@ pub fn entry_of<F: Files>(
     }
 }
 
-/// The names of the capabilities that both entries have with equal values, or that neither has: the
-/// flags, the numbers and the strings, each kind in the order of names.
+/// The names of the capabilities of `first` and `second` that the `comparison` asks for: the flags, the numbers and the
+/// strings, each kind in the order of names.
 fn compare(
     alloc: Global,
     first: &Entry,
@@ -173,7 +172,7 @@ fn compare(
     Ok(lines)
 }
 
-/// The names of one kind.
+/// Appends the names of the `wanted` kind to `lines`.
 fn push_kind(
     first: &Entry,
     second: &Entry,
@@ -189,7 +188,7 @@ fn push_kind(
     Ok(())
 }
 
-/// The name of this rank, if its capability is of the kind and listed.
+/// Appends the name of the rank `rank` to `lines`, if its capability is of the `wanted` kind and listed.
 #[tactic(auto, unfolding(ti_caps::specs::Table::place_ranked))]
 fn push_rank(
     first: &Entry,
@@ -200,7 +199,8 @@ fn push_rank(
     lines: &mut Vec<u8>,
 ) -> Result<(), AllocError>
     requires { rank < 497 }
-    ensures { let cap = place_of_rank rank in OnOk result (lines.new.items ≡ lines.old.items ++ (if is_listed_at comparison first.now second.now wanted cap then name_line cap else [])) }
+    ensures { let cap = place_of_rank rank in OnOk result (lines.new.items ≡ lines.old.items
+        ++ (if is_listed_at comparison first.now second.now wanted cap then name_line cap else [])) }
 {
     match at_rank(rank) {
         Some(cap) if is_kind(cap, wanted) && is_listed(first, second, comparison, cap) => {
@@ -210,6 +210,7 @@ fn push_rank(
     }
 }
 
+/// Appends the name of `cap` and an LF to `lines`.
 fn push_name(cap: Cap, lines: &mut Vec<u8>) -> Result<(), AllocError>
     ensures { OnOk result (lines.new.items ≡ lines.old.items ++ name_line cap) }
 {
@@ -218,7 +219,7 @@ fn push_name(cap: Cap, lines: &mut Vec<u8>) -> Result<(), AllocError>
     Ok(())
 }
 
-/// Whether both entries have the capability with equal values, or neither has it.
+/// Whether `first` and `second` both have `cap` with equal values, or neither has it, as the `comparison` asks.
 fn is_listed(first: &Entry, second: &Entry, comparison: Comparison, cap: Cap) -> bool
     ensures { result ≡ is_listed comparison (value_at first.now cap) (value_at second.now cap) }
 {

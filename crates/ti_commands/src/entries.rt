@@ -6,16 +6,15 @@ ghost use Rattle.ti_source.specs.Raw.{IsRaw};
 ghost use Rattle.ti_commands.specs.Holding.{HasBytes, longest_file};
 ghost use Rattle.ti_commands.specs.Finding.{FailsInFile, FailsInSource, FailsToFind, Finds, FitsTo, IsOfFile, IsOfSource, IsPath, IsPathAndName, ResolvesTo, IsPackFailure, IsSourceFailure, note_line, note_name, notes_text};
 
-use crate::explaining::{explain_packed, explain_source, explain_unread};
 use crate::failure::{Failure, Refusal};
 use crate::files::Files;
 use crate::reading::{LONGEST_FILE, read_whole};
-use crate::remarks::Remarks;
 use std::alloc::{AllocError, Global};
 use ti_caps::Entry;
 use ti_compiled::{PackFault, Packed, decode};
 use ti_resolve::{ResolveFault, resolve};
 use ti_source::{FaultKind, Note, NoteKind, RawEntry, read};
+use ti_words::{Remarks, explain_packed, explain_resolving, explain_source, hint_carets};
 
 /// The most bytes of a compiled file.
 const COMPILED_LIMIT: u32 = 131_072;
@@ -31,14 +30,15 @@ pub struct Found {
     pub entry: Result<Entry, Refusal>,
 }
 
-/// Reads the file that the word names, and finds or unpacks its entry.
+/// Reads the file that `word` names, and finds or unpacks its entry.
 pub fn find_entry<F: Files>(
     alloc: Global,
     files: &mut F,
     word: &str,
     remarks: &mut Remarks,
 ) -> Result<Found, Failure>
-    ensures found { IfOk result (λ found. Finds (F.holds files.old) word.now (notes_text found.raws.items) found.entry) }
+    ensures found { IfOk result
+        (λ found. Finds (F.holds files.old) word.now (notes_text found.raws.items) found.entry) }
     ensures failure { IfErr result (λ e. FailsToFind (F.holds files.old) word.now e) }
     ensures kept { F.holds files.new ≡ F.holds files.old }
 {
@@ -48,7 +48,7 @@ pub fn find_entry<F: Files>(
     }
 }
 
-/// The parts of FILE:NAME, split at its last colon.
+/// The parts of `word`, as FILE:NAME, split at its last colon.
 fn path_and_name(word: &str) -> Option<(&str, &str)>
     ensures parts { IfSome result (λ parts. IsPathAndName word.now parts.0.now parts.1.now) }
     ensures whole { IfNone result (IsPath word.now) }
@@ -56,6 +56,7 @@ fn path_and_name(word: &str) -> Option<(&str, &str)>
     word.rsplit_once(':')
 }
 
+/// Reads the source file at `path`, and finds the entry `name` in it.
 fn find_in_source<F: Files>(
     alloc: Global,
     files: &mut F,
@@ -63,24 +64,30 @@ fn find_in_source<F: Files>(
     name: &str,
     remarks: &mut Remarks,
 ) -> Result<Found, Failure>
-    ensures found { IfOk result (λ found. HasBytes (F.holds files.old path.now) longest_file (λ bytes. IsOfSource bytes name.now (notes_text found.raws.items) found.entry)) }
+    ensures found { IfOk result (λ found. HasBytes (F.holds files.old path.now) longest_file
+        (λ bytes. IsOfSource bytes name.now (notes_text found.raws.items) found.entry)) }
     ensures failure { IfErr result (λ e. FailsInSource (F.holds files.old) path.now e) }
     ensures kept { F.holds files.new ≡ F.holds files.old }
 {
     let text = read_whole(alloc, files, path, LONGEST_FILE, remarks)?;
     match find_in_text(alloc, text.as_slice(), name) {
         Ok((raws, entry)) => {
-            explain_source(alloc, path, text.as_slice(), &entry, remarks);
+            if let Err(Refusal::Resolve(fault)) = &entry {
+                explain_resolving(alloc, path, fault, remarks);
+            }
+            hint_carets(alloc, text.as_slice(), remarks);
             Ok(Found { text, raws, entry })
         }
         Err(failure) => {
-            explain_unread(alloc, path, text.as_slice(), &failure, remarks);
+            if let Failure::Refused(Refusal::Source(fault)) = &failure {
+                explain_source(alloc, path, text.as_slice(), *fault, remarks);
+            }
             Err(failure)
         }
     }
 }
 
-/// The entries of a source text, and the one of this name or why it can't be had.
+/// The entries of the source text `text`, and the one of the name `name` or why it can't be had.
 fn find_in_text(
     alloc: Global,
     text: &[u8],
@@ -91,7 +98,7 @@ fn find_in_text(
 {
     match read(alloc, text) {
         Ok(raws) => {
-            let entry = resolved(alloc, raws.as_slice(), name)?;
+            let entry = resolved_entry(alloc, raws.as_slice(), name.as_bytes())?;
             Ok((raws, entry))
         }
         Err(fault) => match fault.kind {
@@ -101,23 +108,23 @@ fn find_in_text(
     }
 }
 
-/// The entry of this name, or why it can't be had.
-fn resolved(
+/// The entry `name` of those in `raws`, or why it can't be had.
+pub fn resolved_entry(
     alloc: Global,
     raws: &[RawEntry],
-    name: &str,
+    name: &[u8],
 ) -> Result<Result<Entry, Refusal>, AllocError>
     requires { AllByRecursion IsRaw raws.now }
     ensures { IfOk result (λ entry. ResolvesTo raws.now name.now entry) }
 {
-    match resolve(alloc, raws, name.as_bytes()) {
+    match resolve(alloc, raws, name) {
         Ok(entry) => Ok(Ok(entry)),
         Err(ResolveFault::NoMemory) => Err(AllocError),
         Err(fault) => Ok(Err(Refusal::Resolve(fault))),
     }
 }
 
-/// A line for each note, in the order of the file.
+/// A line for each note of `raws`, in the order of the file.
 pub fn note_lines(alloc: Global, raws: &[RawEntry]) -> Result<Vec<u8>, AllocError>
     ensures { IfOk result (λ lines. lines.items ≡ notes_text raws.now) }
 {
@@ -128,6 +135,7 @@ pub fn note_lines(alloc: Global, raws: &[RawEntry]) -> Result<Vec<u8>, AllocErro
     Ok(lines)
 }
 
+/// Appends a line for each of the `notes` to `lines`.
 fn push_notes(alloc: Global, notes: &[Note], lines: &mut Vec<u8>) -> Result<(), AllocError>
     ensures { OnOk result (lines.new.items ≡ lines.old.items ++ flat_map note_line notes.now) }
 {
@@ -157,19 +165,23 @@ fn note_name(kind: NoteKind) -> &'static str
     }
 }
 
+/// Reads the compiled file at `path`, and unpacks its entry.
 fn unpack<F: Files>(
     alloc: Global,
     files: &mut F,
     path: &str,
     remarks: &mut Remarks,
 ) -> Result<Found, Failure>
-    ensures found { IfOk result (λ found. HasBytes (F.holds files.old path.now) 131072 (λ bytes. IsOfFile bytes (notes_text found.raws.items) found.entry)) }
+    ensures found { IfOk result (λ found. HasBytes (F.holds files.old path.now) 131072
+        (λ bytes. IsOfFile bytes (notes_text found.raws.items) found.entry)) }
     ensures failure { IfErr result (λ e. FailsInFile (F.holds files.old) path.now e) }
     ensures kept { F.holds files.new ≡ F.holds files.old }
 {
     let file = read_whole(alloc, files, path, COMPILED_LIMIT, remarks)?;
     let entry = unpack_file(alloc, file.as_slice());
-    explain_packed(path, file.as_slice(), &entry, remarks);
+    if let Some(fault) = pack_fault(&entry) {
+        explain_packed(path, file.as_slice(), fault, remarks);
+    }
     Ok(Found {
         text: Vec::new(alloc),
         raws: Vec::new(alloc),
@@ -177,19 +189,30 @@ fn unpack<F: Files>(
     })
 }
 
-/// The entry of a compiled file, or why it can't be had.
+/// The fault of a compiled file for which there is this answer `entry`, if it has one.
+fn pack_fault(entry: &Result<Result<Entry, Refusal>, Failure>) -> Option<PackFault> {
+    match entry {
+        Err(Failure::Refused(Refusal::Pack(fault))) | Ok(Err(Refusal::Pack(fault))) => Some(*fault),
+        _ => None,
+    }
+}
+
+/// The entry of the compiled file `file`, or why it can't be had.
 fn unpack_file(alloc: Global, file: &[u8]) -> Result<Result<Entry, Refusal>, Failure>
     ensures found { IfOk result (λ entry. IsOfFile file.now [] entry) }
     ensures failure { IfErr result (λ e. IsPackFailure file.now e) }
 {
     match decode(file) {
-        Ok(packed) => Ok(unpacked(alloc, &packed)?),
+        Ok(packed) => Ok(unpacked_entry(alloc, &packed)?),
         Err(fault) => Err(Failure::Refused(Refusal::Pack(fault))),
     }
 }
 
-/// The entry of a file that was read, or why it can't be had.
-fn unpacked(alloc: Global, packed: &Packed<'_>) -> Result<Result<Entry, Refusal>, AllocError>
+/// The entry of `packed`, or why it can't be had.
+pub fn unpacked_entry(
+    alloc: Global,
+    packed: &Packed<'_>,
+) -> Result<Result<Entry, Refusal>, AllocError>
     ensures { IfOk result (λ entry. FitsTo packed.now entry) }
 {
     match packed.to_entry(alloc) {

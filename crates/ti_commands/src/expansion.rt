@@ -10,9 +10,7 @@ ghost use Rattle.ti_commands.specs.Failing.{IsUsageError, WrongParam, param_usag
 ghost use Rattle.ti_commands.specs.Words.{GiveParams, GivesParam, texts_of};
 
 use crate::decimal::decimal_number;
-use crate::explaining::{explain_escape, explain_parm, explain_token};
 use crate::failure::{Failure, Refusal, Reply};
-use crate::remarks::Remarks;
 use crate::sizes::{number_word, size_of};
 use smallvec::SmallVec;
 use std::alloc::{AllocError, Global};
@@ -20,12 +18,14 @@ use ti_parm::{Param, ParmFault};
 use ti_reach::{MissKind, reach_cup};
 use ti_requests::ExpandWords;
 use ti_source::{EscapeFault, unescape};
+use ti_words::{Remarks, explain_escape, explain_parm, explain_token};
 use vt_term::{Size, Terminal, TokenFaultKind, tokens};
 
 /// The parameters of one string: nine and fewer take no memory.
 type Params<'a> = SmallVec<Param<'a>, 9>;
 
-/// Expands the string and shows where it leaves the cursor of a blank terminal.
+/// Expands the string of the `words` and shows where it leaves the cursor of a blank terminal. Further lines go to
+/// `remarks`.
 pub fn expand_string(
     alloc: Global,
     words: &ExpandWords<'_>,
@@ -57,7 +57,7 @@ pub fn expand_string(
     Ok(shown)
 }
 
-/// What is said of the bytes that a string sent.
+/// The reply about the bytes `sent` by `string`.
 fn show(
     alloc: Global,
     size: Size,
@@ -84,7 +84,7 @@ fn show(
     }
 }
 
-/// The lines for a whole text.
+/// The lines about the bytes `sent` by `string`, which are a whole text; the last one is there where `judges_cup`.
 fn whole_text(
     alloc: Global,
     size: Size,
@@ -105,7 +105,7 @@ fn whole_text(
     Ok(text)
 }
 
-/// The bytes in hexadecimal, on a line.
+/// The bytes `sent` in hexadecimal, on a line.
 fn hex_line(alloc: Global, sent: &[u8]) -> Result<Vec<u8>, AllocError>
     ensures { IfOk result (λ text. text.items ≡ hex_line sent.now) }
 {
@@ -114,7 +114,7 @@ fn hex_line(alloc: Global, sent: &[u8]) -> Result<Vec<u8>, AllocError>
     Ok(text.into_bytes())
 }
 
-/// What the string sends: its expansion without delays.
+/// What `string` sends: its expansion with `params`, without delays.
 fn send(
     alloc: Global,
     string: &[u8],
@@ -135,7 +135,7 @@ fn send(
     }
 }
 
-/// The line that says where the bytes leave the cursor.
+/// The line that says where the bytes `sent` leave the cursor.
 fn cursor_line(alloc: Global, size: Size, sent: &[u8]) -> Result<String, AllocError>
     requires { IsWhole sent.now }
     ensures { IfOk result (λ line. ShowsCursor size.rows size.cols sent.now (string_bytes line)) }
@@ -152,7 +152,7 @@ fn place_line(alloc: Global, row: usize, col: usize) -> Result<String, AllocErro
     format!(in alloc; "cursor {row} {col}\n")
 }
 
-/// The line that says whether the string serves as `cup`.
+/// The line that says whether `string` serves as `cup`.
 fn cup_line(alloc: Global, string: &[u8], size: Size) -> Result<String, AllocError>
     ensures { IfOk result (λ line. JudgesCup string.now size.rows size.cols (string_bytes line)) }
 {
@@ -180,7 +180,7 @@ fn escape_failure(fault: EscapeFault) -> Failure
     }
 }
 
-/// The parameters that the words give.
+/// The parameters that the `words` give.
 fn read_params<'a>(alloc: Global, words: &[&'a str]) -> Result<Params<'a>, Failure>
     ensures params { IfOk result (λ params. GiveParams (texts_of words.now) (values_of params.items)) }
     ensures failure { IfErr result (λ e. WrongParam (texts_of words.now) e ⊎ (e ≡ Failure.NoMemory)) }
@@ -195,7 +195,7 @@ fn read_params<'a>(alloc: Global, words: &[&'a str]) -> Result<Params<'a>, Failu
     Ok(params)
 }
 
-/// The parameter that a word gives: the text after `s:`, or a decimal number.
+/// The parameter that `word` gives: the text after `s:`, or a decimal number.
 fn parameter<'a>(word: &'a str) -> Option<Param<'a>>
     ensures param { IfSome result (λ param. GivesParam word.now (value_of param)) }
     ensures none { IfNone result ((value : Value) → GivesParam word.now value → ⊥) }
@@ -209,7 +209,7 @@ fn parameter<'a>(word: &'a str) -> Option<Param<'a>>
     }
 }
 
-/// A word that is no parameter.
+/// The failure of `word`, which is no parameter.
 fn not_a_parameter(alloc: Global, word: &str) -> Failure
     ensures { IsUsageError (param_usage word.now) result }
 {

@@ -5,7 +5,6 @@ ghost use Rattle.ti_commands.specs.Status.{status_of};
 ghost use Rattle.ti_commands.specs.Failing.{IsFileFailure, IsUsageError};
 ghost use Rattle.ti_commands.specs.declared.failure.Failure.TheVariants.{NoMemory};
 
-use crate::remarks::{Remarks, write_shown};
 use std::alloc::{AllocError, AllocFailed, Global};
 use std::io;
 use std::io::Write;
@@ -14,6 +13,7 @@ use ti_compiled::PackFault;
 use ti_parm::ParmFault;
 use ti_resolve::ResolveFault;
 use ti_source::{EscapeFault, SourceFault};
+use ti_words::{Remarks, write_shown};
 use vt_term::{Stuck, TokenFault};
 
 /// What a command has to say, and why it stopped if it did.
@@ -28,7 +28,7 @@ pub struct Reply {
 }
 
 impl Reply {
-    /// A reply that is all on standard output.
+    /// A reply with `text`, all of it for standard output.
     pub fn of_text(alloc: Global, text: Vec<u8>) -> Reply
         ensures notes { result.notes.items ≡ [] }
         ensures text { result.text ≡ text }
@@ -131,7 +131,7 @@ pub fn file_failure(alloc: Global, path: &str) -> Failure
     }
 }
 
-/// The failure of a line that can't be understood, as this text says.
+/// The failure of a line that can't be understood, as `text` says.
 pub fn usage_error(alloc: Global, text: &str) -> Failure
     ensures { IsUsageError text.now result }
 {
@@ -141,8 +141,8 @@ pub fn usage_error(alloc: Global, text: &str) -> Failure
     }
 }
 
-/// Writes the failure's line and the further lines to `err`, and answers the exit status. A standard error that
-/// takes nothing changes nothing.
+/// Writes the line of `failure` and the lines of `remarks` to `err`, and answers the exit status. That `err` takes
+/// nothing changes nothing.
 pub fn report<E: Write>(failure: &Failure, remarks: &Remarks, err: &mut E) -> u8
     ensures { result ≡ status_of failure.now }
 {
@@ -173,7 +173,8 @@ fn write_failure<E: Write>(failure: &Failure, remarks: &Remarks, err: &mut E) ->
 const OUTPUT: &[u8] =
     b"output\nstandard output is closed or full: the answer was not written, or only in part\n";
 
-/// A name stands in the line as the source has it, but for bytes that could begin a sequence.
+/// Writes the line of `refusal` to `err`. A name stands in it as the source has it, but for bytes that could begin a
+/// sequence.
 fn write_refusal<E: Write>(refusal: &Refusal, err: &mut E) -> io::Result<()> {
     write!(err, "refused: {refusal}")?;
     match refusal {
@@ -191,7 +192,7 @@ fn write_refusal<E: Write>(refusal: &Refusal, err: &mut E) -> io::Result<()> {
     err.write_all(b"\n")
 }
 
-/// A text of several lines.
+/// Writes `text`, which may have several lines, to `err`.
 fn write_lines<E: Write>(text: &[u8], err: &mut E) -> io::Result<()> {
     let mut rest = text;
     for _ in 0..=text.len() {

@@ -3,17 +3,16 @@
 ghost use Rattle.std.specs.Prelude.{◌≡◌, IfErr, IfOk};
 ghost use Rattle.ti_commands.specs.Feeding.{FailsToFeed, ShowsAfter, ShowsScreen, IsStuckFailure};
 
-use crate::explaining::explain_stuck;
 use crate::failure::{Failure, Refusal, Reply};
 use crate::files::Files;
 use crate::reading::{LONGEST_FILE, read_whole};
-use crate::remarks::Remarks;
 use crate::sizes::size_words;
 use std::alloc::Global;
+use ti_words::{Remarks, explain_stuck};
 use vt_term::{Size, Terminal};
 
-/// Feeds the file at `path` to a terminal in its reset state, and shows its screen. Rows and columns are words of
-/// the line.
+/// Feeds the file at `path` to a terminal in its reset state, and shows its screen. `rows` and `cols` are words of the
+/// line.
 pub fn feed_file<F: Files>(
     alloc: Global,
     rows: &str,
@@ -32,7 +31,7 @@ pub fn feed_file<F: Files>(
     Ok(Reply::of_text(alloc, text))
 }
 
-/// The screen of a terminal after these bytes.
+/// The screen of a terminal after `bytes`, which are those of the file at `path`.
 fn screen_after(
     alloc: Global,
     size: Size,

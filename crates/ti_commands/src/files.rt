@@ -23,6 +23,20 @@ pub enum Cause {
     Other,
 }
 
+impl Cause {
+    /// What is said of a path that the system refused for this cause.
+    pub fn words(self) -> &'static [u8] {
+        match self {
+            Cause::Missing => b": there is no such file or folder",
+            Cause::Directory => b" is a folder",
+            Cause::Denied => b": permission denied",
+            Cause::Full => b": there is no space left for it",
+            Cause::Source => b" is the file that the entry is read from",
+            Cause::Other => b" could not be read or written",
+        }
+    }
+}
+
 /// Why a file could not be read or written.
 #[derive(Clone, Copy, Debug, PartialEq, Eq)]
 pub enum FileFault {
@@ -39,7 +53,7 @@ impl From<io::Error> for FileFault {
 }
 
 impl FileFault {
-    /// The fault that an error of the system's files is.
+    /// The fault that an error of this `kind` is.
     fn of_kind(kind: ErrorKind) -> FileFault {
         match kind {
             ErrorKind::OutOfMemory => FileFault::NoMemory,
@@ -67,10 +81,11 @@ pub trait Files {
         ensures bytes { IfOk result (λ file. IsLeft (holds self.old path.now) (Self.File.remaining file)) }
         ensures kept { holds self.new ≡ holds self.old };
 
-    /// Makes the file at `path` hold just these bytes, and no other path anything else. After an error
-    /// each file is as before.
+    /// Makes the file at `path` hold just `bytes`, and no other path anything else. After an error each file is as
+    /// before.
     fn store(&mut self, path: &str, bytes: &[u8]) -> Result<(), FileFault>
         ensures stored { OnOk result (AreBytesOf (holds self.new path.now) bytes.now) }
-        ensures others { OnOk result ((other : List ℕ) → other ≢ path.now → holds self.new other ≡ holds self.old other) }
+        ensures others { OnOk result ((other : List ℕ) → other ≢ path.now
+            → holds self.new other ≡ holds self.old other) }
         ensures kept { OnErr result (holds self.new ≡ holds self.old) };
 }

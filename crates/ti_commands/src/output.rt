@@ -17,7 +17,7 @@ pub trait Output {
     /// Whether a call has failed.
     ghost has_failed: { Self → Bool };
 
-    /// Takes all the bytes and passes them on. After an error any number of them may have been taken.
+    /// Takes all of `bytes` and passes them on. After an error any number of them may have been taken.
     fn put(&mut self, bytes: &[u8]) -> Result<(), Unwritten>
         ensures written { OnOk result (Appends (contents self.old) (contents self.new) bytes.now) }
         ensures kept { OnOk result (has_failed self.new ≡ has_failed self.old) }
@@ -32,7 +32,7 @@ pub struct Written<W> {
 }
 
 impl<W: Write> Written<W> {
-    /// The output that this writer is.
+    /// The output that `writer` is.
     pub fn new(writer: W) -> Written<W>
         ensures { result.has_failed ≡ false }
     {

@@ -6,9 +6,9 @@ ghost use Rattle.ti_commands.specs.Holding.{AreBytesOf, AreFirstBytesOf};
 
 use crate::failure::{Failure, file_failure};
 use crate::files::{FileFault, Files};
-use crate::remarks::{Remarks, file_remark, too_long_remark};
 use std::alloc::Global;
 use std::io::Read;
+use ti_words::{Remarks, explain_length};
 
 /// The most bytes of a source file, of a file that is fed, and of one in a survey.
 pub const LONGEST_FILE: u32 = 16_777_216;
@@ -30,7 +30,7 @@ pub fn read_whole<F: Files>(
     match read_up_to(alloc, files, path, u64::from(limit) + 1) {
         Ok(bytes) if bytes.len() <= limit as usize => Ok(bytes),
         Ok(_) => {
-            too_long_remark(alloc, path, limit, remarks);
+            explain_length(alloc, path, limit, remarks);
             Err(file_failure(alloc, path))
         }
         Err(fault) => Err(file_fault(alloc, path, fault, remarks)),
@@ -55,14 +55,14 @@ fn read_up_to<F: Files>(
     }
 }
 
-/// The failure of the file at `path` that has this fault.
+/// The failure of the file at `path`, which `fault` is about.
 pub fn file_fault(alloc: Global, path: &str, fault: FileFault, remarks: &mut Remarks) -> Failure
     ensures { IsFileFailure path.now result }
 {
     match fault {
         FileFault::NoMemory => Failure::NoMemory,
         FileFault::Failed(cause) => {
-            file_remark(path, cause, remarks);
+            remarks.add(path.as_bytes(), cause.words());
             file_failure(alloc, path)
         }
     }

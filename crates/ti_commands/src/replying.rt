@@ -7,12 +7,13 @@ ghost use Rattle.ti_commands.specs.Status.{EndsAs, IsUnwritten};
 use crate::failure::{Failure, Reply};
 use crate::output::Output;
 
-/// Writes what a reply has for standard output, also where the reply failed: then its failure comes
-/// before that of the output.
+/// Writes what `reply` has for standard output to `out`, also where the reply failed: then its failure comes before
+/// that of the output.
 pub fn write_reply<O: Output>(out: &mut O, reply: Reply) -> Result<(), Failure>
     ensures done { OnOk result (reply.failure ≡ None) }
     ensures written { OnOk result (Appends (O.contents out.old) (O.contents out.new) reply.text.items) }
-    ensures failure { IfErr result (λ failure. EndsAs reply.failure (Appends (O.contents out.old) (O.contents out.new) reply.text.items) (O.has_failed out.new) failure) }
+    ensures failure { IfErr result (λ failure. EndsAs reply.failure
+        (Appends (O.contents out.old) (O.contents out.new) reply.text.items) (O.has_failed out.new) failure) }
 {
     let Reply {
         notes: _notes,
@@ -26,7 +27,7 @@ pub fn write_reply<O: Output>(out: &mut O, reply: Reply) -> Result<(), Failure>
     }
 }
 
-/// The failure, which also says whether the output failed.
+/// The failure `failure`, with the word that the output failed too where `is_unwritten`.
 fn unwritten(failure: Failure, is_unwritten: bool) -> Failure
     ensures { IsUnwritten failure is_unwritten result }
 {
@@ -36,7 +37,7 @@ fn unwritten(failure: Failure, is_unwritten: bool) -> Failure
     }
 }
 
-/// Writes all the bytes, or answers that the output failed.
+/// Writes all of `bytes` to `out`, or answers that the output failed.
 pub fn write_text<O: Output>(out: &mut O, bytes: &[u8]) -> Result<(), Failure>
     ensures written { OnOk result (Appends (O.contents out.old) (O.contents out.new) bytes.now) }
     ensures failure { IfErr result (λ failure. failure ≡ Failure.Output) }

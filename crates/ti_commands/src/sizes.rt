@@ -7,13 +7,12 @@ ghost use Rattle.ti_commands.specs.Sizes.{LacksSize, SizeGiven};
 ghost use Rattle.ti_commands.specs.Words.{GivesNumber};
 
 use crate::decimal::decimal_number;
-use crate::explaining::explain_size;
 use crate::failure::{Failure, Refusal};
-use crate::remarks::Remarks;
 use std::alloc::Global;
+use ti_words::{Remarks, explain_size};
 use vt_term::Size;
 
-/// The number that a word gives, or why it is none; `name` is what the word stands for.
+/// The number that `word` gives, or why it is none; `name` is what the word stands for.
 pub fn number_word(alloc: Global, name: &str, word: &str) -> Result<u32, Failure>
     ensures number { IfOk result (λ n. GivesNumber word.now n) }
     ensures failure { IfErr result (λ e. WrongNumber name.now word.now e) }
@@ -24,7 +23,7 @@ pub fn number_word(alloc: Global, name: &str, word: &str) -> Result<u32, Failure
     }
 }
 
-/// A size of a terminal, or its refusal.
+/// The size of a terminal with `rows` and `cols`, or its refusal.
 pub fn size_of(alloc: Global, rows: u32, cols: u32, remarks: &mut Remarks) -> Result<Size, Failure>
     ensures size { IfOk result (λ size. (size.rows ≡ rows) × (size.cols ≡ cols)) }
     ensures within { IsOk result ↔ IsSize rows cols }
@@ -39,7 +38,7 @@ pub fn size_of(alloc: Global, rows: u32, cols: u32, remarks: &mut Remarks) -> Re
     }
 }
 
-/// The terminal's size that the words ROWS and COLS of a line give.
+/// The terminal's size that `rows` and `cols` give, the words ROWS and COLS of a line.
 pub fn size_words(
     alloc: Global,
     rows: &str,
@@ -54,7 +53,7 @@ pub fn size_words(
     size_of(alloc, height, width, remarks)
 }
 
-/// A word that stands where a number belongs.
+/// The failure of `word`, which stands where the number `name` belongs.
 fn not_a_number(alloc: Global, name: &str, word: &str) -> Failure
     ensures { IsUsageError (number_usage name.now word.now) result }
 {

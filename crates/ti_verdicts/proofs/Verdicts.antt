@@ -1,4 +1,4 @@
--- How a fault is told.
+-- The failure of a fault.
 use Rattle.std.proofs.Common.{◌≢◌, ℕ, List, refl}
 use Rattle.ti_cert.specs.declared.faults.CertFaultKind.{CertFaultKind}
 use Rattle.ti_cert.specs.declared.faults.CertFaultKind.TheVariants.{BadLine, Missing, OutOfOrder, NotWhole, NotTame, NotShown, NoResync, BadLook, NoMemory, ReadFailed}
@@ -7,7 +7,7 @@ use Rattle.ti_checker.specs.declared.causes.Cause.{Cause}
 use Rattle.ti_checker.specs.declared.causes.Cause.TheVariants as causes
 use Rattle.ti_verdicts.specs.Telling.{IsOfCause, IsOfKind, IsVerdict}
 
--- every kind but two is told by its words
+-- every kind but two has its words
 pub told_by_words : (path text : List ℕ) (kind : CertFaultKind) (failure : Failure) → kind ≢ NoMemory → kind ≢ ReadFailed → IsVerdict text failure → IsOfKind path text kind failure
 told_by_words path text BadLine failure m r h = h
 told_by_words path text (Missing row) failure m r h = h
@@ -20,7 +20,7 @@ told_by_words path text BadLook failure m r h = h
 told_by_words path text NoMemory failure m r h = absurd (m refl)
 told_by_words path text ReadFailed failure m r h = absurd (r refl)
 
--- every cause but one is told by its words
+-- every cause but one has its words
 pub no_told : (text : List ℕ) (cause : Cause) (failure : Failure) → cause ≢ causes.NoMemory → IsVerdict text failure → IsOfCause text cause failure
 no_told text causes.FlagOut failure m h = h
 no_told text causes.Absent failure m h = h

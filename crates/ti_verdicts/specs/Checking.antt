@@ -51,7 +51,7 @@ pub record DeliversSome (Certifies : List ℕ → Type 0) (out : Option (Bor (Li
   pub certified : Certifies text
   pub delivers : Delivers text out before after reply
 
--- the failure tells a no that is so of an entry
+-- the failure is that of a no which is so of an entry
 pub record TellsSome (Refuses : No → Type 0) (failure : Failure) : Type 0 where
   pub refusal : No
   pub refuses : Refuses refusal
@@ -61,7 +61,7 @@ abbrev pub EndsInNo : (No → Type 0) → Option Failure → Type 0
 EndsInNo Refuses (Some failure) = TellsSome Refuses failure
 EndsInNo Refuses None = ⊥
 
--- a no is told, and all files are as before
+-- the reply fails with a no, and all files are as before
 abbrev pub Denies : (No → Type 0) → Held → Held → Reply → Type 0
 Denies Refuses before after reply = IsSilent reply (EndsInNo Refuses) × (after ≡ before)
 
@@ -81,8 +81,8 @@ pub record LacksNotes (entry : Content) (lines : List ℕ) : Type 0 where
 abbrev pub TellsNotes : Content → List ℕ → Type 0
 TellsNotes entry lines = HasNotes entry lines ⊎ LacksNotes entry lines
 
--- The entry that the word gives, at the size that the words give: its notes are told, also where it is refused, and its
--- certificate is delivered, or a no is told.
+-- The entry that the word gives, at the size that the words give: the reply has its notes, also where it is refused, and
+-- its certificate is delivered, or the reply fails with a no.
 pub record IsChecked (certifies : Content → ℕ → ℕ → List ℕ → Type 0) (refuses : Content → ℕ → ℕ → No → Type 0) (before after : Held) (words : CheckWords) (reply : Reply) : Type 0 where
   pub height : ℕ
   pub width : ℕ

@@ -1,6 +1,6 @@
--- The words in which a refusal is told: a certificate's by its line, its kind, and a capability with its parameters; an
+-- The words of a refusal: a certificate's by its line, its kind, and a capability with its parameters; an
 -- entry's by a capability, its parameters and the cause.
-use Rattle.std.specs.Prelude.{◌≡◌, ℕ, List, [], ◌∷◌, ◌++◌, codes}
+use Rattle.std.specs.Prelude.{◌≡◌, ℕ, List, [], ◌++◌, codes}
 use Rattle.std.specs.Fmt.{decimal}
 use Rattle.ti_caps.specs.Table.{name_at}
 use Rattle.ti_rows.specs.Names.{name_of}
@@ -16,15 +16,11 @@ use Rattle.ti_checker.specs.declared.causes.Cause.TheVariants as causes
 use Rattle.ti_checker.specs.declared.causes.No.{No}
 use Rattle.ti_parm.specs.declared.fault.ParmFault.{ParmFault}
 use Rattle.ti_parm.specs.declared.fault.ParmFault.TheVariants as parm_faults
+use Rattle.ti_words.specs.Numbers.{numbers_text}
 use Rattle.ti_commands.specs.Failing.{IsFileFailure}
 use Rattle.ti_commands.specs.declared.failure.Failure.{Failure}
 use Rattle.ti_commands.specs.declared.failure.Failure.TheVariants as failures
 use Rattle.ti_commands.specs.declared.failure.Refusal.TheVariants.{Verdict}
-
--- each number in decimal, and a space before it
-abbrev pub numbers_text : List ℕ → List ℕ
-numbers_text [] = []
-numbers_text (n ∷ ns) = 32 ∷ decimal n ++ numbers_text ns
 
 -- what of a kind's words comes before its capability
 abbrev pub kind_name : CertFaultKind → List ℕ
@@ -51,7 +47,7 @@ fault_text fault = codes "line " ++ (decimal fault.line ++ (codes ": " ++ (kind_
 abbrev pub disagreement_text : ℕ → List ℕ → List ℕ
 disagreement_text cap numbers = codes "Disagree " ++ (name_at cap ++ numbers_text numbers)
 
--- the verdict is told in these words
+-- the verdict has these words
 abbrev pub IsVerdict : List ℕ → Failure → Type 0
 IsVerdict text (failures.Refused (Verdict words)) = words.items ≡ text
 IsVerdict text failures.NoMemory = Unit {0}
@@ -63,7 +59,7 @@ IsOfKind path text NoMemory failure = failure ≡ failures.NoMemory
 IsOfKind path text ReadFailed failure = IsFileFailure path failure
 IsOfKind path text _ failure = IsVerdict text failure
 
--- the failure with which this fault of a path's certificate is told
+-- the failure of this fault of a path's certificate
 abbrev pub TellsFault : List ℕ → VerifyFault → Failure → Type 0
 TellsFault path (Cert fault) failure = IsOfKind path (fault_text fault) fault.kind failure
 TellsFault path (Agree (agree_faults.Disagree cap numbers)) failure = IsVerdict (disagreement_text cap numbers.items) failure
@@ -105,6 +101,6 @@ abbrev pub IsOfCause : List ℕ → Cause → Failure → Type 0
 IsOfCause text causes.NoMemory failure = failure ≡ failures.NoMemory
 IsOfCause text _ failure = IsVerdict text failure
 
--- the failure with which a no is told
+-- the failure of a no
 abbrev pub TellsNo : No → Failure → Type 0
 TellsNo refusal failure = IsOfCause (no_text refusal) refusal.cause failure

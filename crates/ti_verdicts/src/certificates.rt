@@ -2,11 +2,11 @@
 
 ghost use Rattle.std.specs.Prelude.{◌≡◌, ℕ, List, Some};
 
-use crate::seen::Seen;
 use std::alloc::Global;
 use std::io::Read;
 use ti_commands::{Cause, FileFault};
 use ti_lines::{ReadFault, Reader};
+use ti_words::Seen;
 
 /// A file that gives a certificate. It remembers the lines that it gave last, and why it failed.
 #[derive(Drop)]
@@ -18,7 +18,7 @@ pub struct CertificateFile<R> {
 }
 
 impl<R: Read> CertificateFile<R> {
-    /// The certificate that this file has left.
+    /// The certificate that `file` has left.
     pub fn new(alloc: Global, file: R) -> CertificateFile<R>
         ensures { result.file ≡ file }
     {

@@ -13,13 +13,13 @@ use vt_term::Size;
 
 /// Writes the certificates of entries.
 pub trait Certifier {
-    /// What holds of the text that it writes for an entry and a number of rows and columns.
+    /// What holds of the text that it writes for an entry, rows and columns.
     ghost certifies: { Self → Content → ℕ → ℕ → List ℕ → Type 0 };
 
-    /// What holds of its no for an entry and a number of rows and columns.
+    /// What holds of its no for an entry, rows and columns.
     ghost refuses: { Self → Content → ℕ → ℕ → No → Type 0 };
 
-    /// The certificate of an entry for a size.
+    /// The certificate of `entry` for `size`.
     ///
     /// # Errors
     /// The capability, the parameters and the cause for which there is none.
@@ -28,7 +28,7 @@ pub trait Certifier {
         ensures refuses { IfErr result (λ refusal. refuses self.now entry.now size.rows size.cols refusal) };
 }
 
-/// The checker: an entry that it writes a certificate for conforms, and each of its noes is so.
+/// The checker: an entry for which it writes a certificate conforms, and each of its noes is true.
 #[derive(Clone, Copy)]
 pub struct Checker;
 

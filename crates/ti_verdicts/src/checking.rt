@@ -9,12 +9,13 @@ use crate::telling::no_failure;
 use std::alloc::{AllocError, Global};
 use ti_caps::Entry;
 use ti_checker::{Cause, No, note_lines, notes};
-use ti_commands::{Failure, Files, Remarks, Reply, entry_of, file_fault, size_words};
+use ti_commands::{Failure, Files, Reply, entry_of, file_fault, size_words};
 use ti_requests::CheckWords;
+use ti_words::Remarks;
 use vt_term::Size;
 
-/// Replies with the notes on the entry and with its certificate, which goes to its path or to standard
-/// output, or with why there is none.
+/// Replies with the notes on the entry that the `words` give and with the certificate that the `certifier` writes of
+/// it, which goes to its path or to standard output, or with why there is none. Further lines go to `remarks`.
 pub fn check_entry<C: Certifier, F: Files>(
     alloc: Global,
     certifier: &C,
@@ -22,7 +23,8 @@ pub fn check_entry<C: Certifier, F: Files>(
     files: &mut F,
     remarks: &mut Remarks,
 ) -> Result<Reply, Failure>
-    ensures reply { IfOk result (λ reply. IsChecked (C.certifies certifier.now) (C.refuses certifier.now) (F.holds files.old) (F.holds files.new) words.now reply) }
+    ensures reply { IfOk result (λ reply. IsChecked (C.certifies certifier.now) (C.refuses certifier.now)
+        (F.holds files.old) (F.holds files.new) words.now reply) }
     ensures failure { IfErr result (λ e. FailsToCheck (F.holds files.old) words.now e) }
     ensures kept { OnErr result (F.holds files.new ≡ F.holds files.old) }
 {
@@ -39,7 +41,7 @@ pub fn check_entry<C: Certifier, F: Files>(
     }
 }
 
-/// The lines of the notes on an entry; none where one of its strings sends no whole tokens.
+/// The lines of the notes on `entry`; none where one of its strings sends no whole tokens.
 fn notes_on(alloc: Global, entry: &Entry, size: Size) -> Result<Vec<u8>, AllocError>
     ensures { IfOk result (λ lines. TellsNotes entry.now lines.items) }
 {
@@ -55,7 +57,7 @@ fn notes_on(alloc: Global, entry: &Entry, size: Size) -> Result<Vec<u8>, AllocEr
     }
 }
 
-/// The certificate that the certifier writes.
+/// The certificate of `entry` for `size` that the `certifier` writes.
 fn certificate_of<C: Certifier>(
     alloc: Global,
     certifier: &C,
@@ -75,8 +77,8 @@ fn certificate_of<C: Certifier>(
     }
 }
 
-/// The reply with these notes, and with a text for a path, where it is stored whole or not at all, or
-/// for standard output.
+/// The reply with `notes` and with `text`, which goes to the path `out`, where it is stored whole or not at all, or to
+/// standard output.
 fn deliver<F: Files>(
     alloc: Global,
     notes: Vec<u8>,
@@ -102,7 +104,7 @@ fn deliver<F: Files>(
     }
 }
 
-/// Stores a text at a path, or answers why not.
+/// Stores `text` at `path`, or answers why not.
 fn store_text<F: Files>(
     alloc: Global,
     files: &mut F,

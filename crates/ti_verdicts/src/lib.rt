@@ -1,20 +1,22 @@
-//! What the program's commands about certificates reply.
+//! What the program's commands about certificates reply: `check`, `verify` and `survey`.
 #![tactic(auto)]
 
+mod asked;
 mod certificates;
 mod certifiers;
 mod checking;
-mod explaining;
-mod outcomes;
-mod probing;
+mod faults;
+mod lines;
 mod reasons;
-mod seen;
-mod spelling;
+mod starts;
+mod surveying;
+mod tallies;
 mod telling;
 mod verifying;
-mod wanted;
+mod watchers;
 
 pub use certifiers::{Certifier, Checker};
 pub use checking::check_entry;
-pub use telling::no_words;
+pub use surveying::survey_files;
 pub use verifying::{checked_at, verify_certificate};
+pub use watchers::Watcher;

@@ -1,7 +1,6 @@
-//! The words of the line that tells why a certificate is refused, or why an entry has none.
+//! The fixed line that says why a certificate is refused, or why an entry has none.
 
-ghost use Rattle.std.specs.Prelude.{◌≡◌, ◌++◌, ◌∷◌, ℕ, List, IfOk, OnOk};
-ghost use Rattle.std.specs.Fmt.{decimal};
+ghost use Rattle.std.specs.Prelude.{◌≡◌, ◌++◌, ℕ, List, IfOk, OnOk};
 ghost use Rattle.ti_verdicts.specs.Telling as spec;
 
 use std::alloc::{AllocError, Global};
@@ -10,8 +9,9 @@ use ti_cert::{CertFault, CertFaultKind};
 use ti_checker::{Cause, No};
 use ti_commands::{Failure, Refusal};
 use ti_parm::ParmFault;
+use ti_words::push_numbers;
 
-/// `line N: KIND`, and the capability that the kind has.
+/// `line N: KIND` of `fault`, and the capability that the kind has.
 pub fn fault_words(alloc: Global, fault: CertFault) -> Result<Vec<u8>, AllocError>
     ensures { IfOk result (λ words. words.items ≡ spec.fault_text fault) }
 {
@@ -23,7 +23,7 @@ pub fn fault_words(alloc: Global, fault: CertFault) -> Result<Vec<u8>, AllocErro
     Ok(words)
 }
 
-/// `Disagree CAP P..`
+/// `Disagree CAP P..`, with the name of `cap` and the `numbers`.
 pub fn disagreement_words(alloc: Global, cap: Cap, numbers: &[u16]) -> Result<Vec<u8>, AllocError>
     ensures { IfOk result (λ words. words.items ≡ spec.disagreement_text cap numbers.now) }
 {
@@ -34,7 +34,7 @@ pub fn disagreement_words(alloc: Global, cap: Cap, numbers: &[u16]) -> Result<Ve
     Ok(words)
 }
 
-/// `no CAP P..: CAUSE`
+/// `no CAP P..: CAUSE` of `no`.
 pub fn no_words(alloc: Global, no: &No) -> Result<Vec<u8>, AllocError>
     ensures { IfOk result (λ words. words.items ≡ spec.no_text no.now) }
 {
@@ -47,7 +47,7 @@ pub fn no_words(alloc: Global, no: &No) -> Result<Vec<u8>, AllocError>
     Ok(words)
 }
 
-/// The failure that a no is.
+/// The failure that `no` is.
 pub fn no_failure(alloc: Global, no: &No) -> Failure
     ensures { spec.TellsNo no.now result }
 {
@@ -57,7 +57,7 @@ pub fn no_failure(alloc: Global, no: &No) -> Failure
     }
 }
 
-/// The refusal in these words.
+/// The refusal in `words`, or what is left if there was no memory for them.
 pub fn verdict(words: Result<Vec<u8>, AllocError>) -> Failure
     ensures { (text : List ℕ) → IfOk words (λ words. words.items ≡ text) → spec.IsVerdict text result }
 {
@@ -119,7 +119,7 @@ fn kind_name(kind: CertFaultKind) -> &'static [u8]
     }
 }
 
-/// The capability that a kind has.
+/// Appends the capability that `kind` has, with its parameters, to `words`.
 fn push_cap(alloc: Global, kind: CertFaultKind, words: &mut Vec<u8>) -> Result<(), AllocError>
     ensures { OnOk result (words.new.items ≡ words.old.items ++ spec.kind_cap kind) }
 {
@@ -130,21 +130,4 @@ fn push_cap(alloc: Global, kind: CertFaultKind, words: &mut Vec<u8>) -> Result<(
         }
         _ => Ok(()),
     }
-}
-
-/// Each number in decimal, and a space before it.
-pub fn push_numbers(alloc: Global, numbers: &[u16], words: &mut Vec<u8>) -> Result<(), AllocError>
-    ensures { OnOk result (words.new.items ≡ words.old.items ++ spec.numbers_text numbers.now) }
-{
-    for number in numbers {
-        push_number(alloc, *number, words)?;
-    }
-    Ok(())
-}
-
-fn push_number(alloc: Global, number: u16, words: &mut Vec<u8>) -> Result<(), AllocError>
-    ensures { OnOk result (words.new.items ≡ words.old.items ++ (32 ∷ decimal number)) }
-{
-    let digits = format!(in alloc; " {number}")?;
-    words.extend_from_slice(digits.as_bytes())
 }

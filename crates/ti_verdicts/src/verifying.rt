@@ -6,17 +6,19 @@ ghost use Rattle.ti_verdicts.specs.Telling.{TellsFault};
 ghost use Rattle.ti_verdicts.specs.Verifying.{FailsToVerify, HandsOut, IsVerified, LacksCertificate};
 
 use crate::certificates::CertificateFile;
-use crate::explaining::{explain_disagreement, explain_fault};
+use crate::faults::explain_fault;
 use crate::telling::{disagreement_words, fault_words, verdict};
 use std::alloc::Global;
 use std::io::Read;
 use ti_caps::Entry;
 use ti_cert::{AgreeFault, CertFault, CertFaultKind, Checked, VerifyFault, verify_from};
-use ti_commands::{Failure, Files, Remarks, Reply, entry_of, file_fault, size_words};
+use ti_commands::{Failure, Files, Reply, entry_of, file_fault, size_words};
 use ti_requests::VerifyWords;
+use ti_words::{Remarks, explain_disagreement};
 use vt_term::Size;
 
-/// Says yes if the certificate shows that the entry conforms at this size.
+/// Says yes if the certificate that the `words` name shows that their entry conforms at their size. Further lines go to
+/// `remarks`.
 pub fn verify_certificate<F: Files>(
     alloc: Global,
     words: &VerifyWords<'_>,
@@ -34,7 +36,7 @@ pub fn verify_certificate<F: Files>(
     Ok(Reply::of_text(alloc, text))
 }
 
-/// What the certificate at a path shows of an entry. It is judged as it is read.
+/// What the certificate at `path` shows of `entry` for `size`. It is judged as it is read.
 pub fn checked_at<F: Files>(
     alloc: Global,
     entry: &Entry,
@@ -59,7 +61,7 @@ pub fn checked_at<F: Files>(
     }
 }
 
-/// The failure that a fault of the certificate at a path is.
+/// The failure that `fault` of the certificate at `path` is.
 fn failure_of<R: Read>(
     alloc: Global,
     path: &str,
@@ -76,6 +78,7 @@ fn failure_of<R: Read>(
     }
 }
 
+/// The failure of the certificate at `path`, with which the entry doesn't agree, as `fault` says.
 fn agree_failure(alloc: Global, path: &str, fault: &AgreeFault, remarks: &mut Remarks) -> Failure
     ensures { TellsFault path.now (VerifyFault.Agree fault.now) result }
 {
@@ -88,6 +91,7 @@ fn agree_failure(alloc: Global, path: &str, fault: &AgreeFault, remarks: &mut Re
     }
 }
 
+/// The failure of the certificate at `path`, whose text has `fault`.
 fn cert_failure<R: Read>(
     alloc: Global,
     path: &str,
@@ -102,7 +106,7 @@ fn cert_failure<R: Read>(
         CertFaultKind::NoMemory => Failure::NoMemory,
         CertFaultKind::ReadFailed => file_fault(alloc, path, reader.fault(), remarks),
         _ => {
-            let _ = explain_fault(alloc, path, size, fault, reader.seen(), remarks);
+            explain_fault(alloc, path, size, fault, reader.seen(), remarks);
             verdict(fault_words(alloc, fault))
         }
     }

@@ -10,7 +10,8 @@ use std::io::ErrorKind;
 use std::process::ExitCode;
 use std::rt::Env;
 use stored::Stored;
-use ti_commands::{Failure, Remarks, report, usage_error};
+use ti_commands::{Failure, report, usage_error};
+use ti_words::Remarks;
 
 /// `command` over the words of the line, the system's files, standard output and standard error.
 fn main(rt: HostRuntime) -> ExitCode {

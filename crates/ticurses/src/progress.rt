@@ -1,8 +1,8 @@
-//! The line that tells how far a survey has come.
+//! The line that shows how far a survey has come.
 
 use std::alloc::{AllocError, Global};
 use std::io::{IsTerminal, Write};
-use ti_surveys::Watcher;
+use ti_verdicts::Watcher;
 
 /// The most bytes of the line, so that it is one row of all but the narrowest terminals.
 const WIDTH: usize = 60;
@@ -13,12 +13,12 @@ pub struct ProgressLine<'a, E> {
     alloc: Global,
     err: &'a mut E,
     is_seen: bool,
-    /// How many bytes of it stand there.
+    /// The number of its bytes that stand there.
     len: usize,
 }
 
 impl<'a, E: Write + IsTerminal> ProgressLine<'a, E> {
-    /// A line of which nothing is written yet.
+    /// A line on `err` of which nothing is written yet.
     pub fn new(alloc: Global, err: &'a mut E) -> ProgressLine<'a, E> {
         let is_seen = err.is_terminal();
         ProgressLine {
@@ -31,7 +31,7 @@ impl<'a, E: Write + IsTerminal> ProgressLine<'a, E> {
 }
 
 impl<E: Write> ProgressLine<'_, E> {
-    /// Writes these bytes over the line, as far as there is memory, and blanks what they leave of it.
+    /// Writes `text` over the line, as far as there is memory, and blanks what it leaves of the line.
     fn show(&mut self, text: &[u8]) -> Result<(), AllocError> {
         let mut row = Vec::from_slice(self.alloc, b"\r")?;
         row.extend_from_slice(text)?;
@@ -61,8 +61,8 @@ impl<E: Write> Watcher for ProgressLine<'_, E> {
     }
 }
 
-/// The numbers and the name, cut where the line ends. A byte that a terminal might take for a sequence is a question
-/// mark.
+/// The numbers `done` and `all` and the `name`, cut where the line ends. A byte that a terminal might take for a
+/// sequence is a question mark.
 fn text_of(alloc: Global, done: usize, all: usize, name: &[u8]) -> Result<Vec<u8>, AllocError> {
     let mut text = format!(in alloc; "{done} of {all}: ")?.into_bytes();
     for byte in name {

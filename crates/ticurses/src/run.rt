@@ -8,14 +8,14 @@ use std::alloc::Global;
 use std::io::{IsTerminal, Write};
 use ti_arguments::{Answer, LineFault, parse_line};
 use ti_commands::{
-    Comparison, Failure, Files, Output, Remarks, Reply, Written, compare_entries, compile_entry,
+    Comparison, Failure, Files, Output, Reply, Written, compare_entries, compile_entry,
     expand_string, feed_file, print_entry, report, write_reply, write_text,
 };
 use ti_requests::Request;
-use ti_surveys::survey_files;
-use ti_verdicts::{Checker, check_entry, verify_certificate};
+use ti_verdicts::{Checker, check_entry, survey_files, verify_certificate};
+use ti_words::Remarks;
 
-/// Does what the words after the program's own name ask for: the answer goes to `out`, notes and a
+/// Does what the `words` after the program's own name ask for: the answer goes to `out`, notes and a
 /// failure's lines to `err`, and the result is the exit status: 0 done, 1 refused, 2 a usage error,
 /// 3 a file or the output failed, 4 out of memory. Files are reached through `files` alone.
 pub fn command<F: Files, O: Write, E: Write + IsTerminal>(
@@ -44,6 +44,7 @@ pub fn command<F: Files, O: Write, E: Write + IsTerminal>(
     }
 }
 
+/// Does what the `words` ask for, with the further lines in `remarks`.
 fn perform<F: Files, O: Output, E: Write + IsTerminal>(
     alloc: Global,
     words: &[String],
@@ -64,7 +65,8 @@ fn perform<F: Files, O: Output, E: Write + IsTerminal>(
     }
 }
 
-/// What the command answers. What `play` sends goes to `out` as it comes, and its reply has nothing more.
+/// What the command answers that the `request` names. What `play` sends goes to `out` as it comes, and its reply has
+/// nothing more.
 fn reply_to<F: Files, O: Output, E: Write + IsTerminal>(
     alloc: Global,
     request: &Request<'_>,

@@ -20,7 +20,7 @@ pub struct Stored<'a, R> {
 }
 
 impl<'a, R: rt::Files> Stored<'a, R> {
-    /// The files that the runtime reaches.
+    /// The files that `rt` reaches.
     pub fn new(alloc: Global, rt: &'a R) -> Stored<'a, R> {
         Stored {
             alloc,
@@ -29,7 +29,7 @@ impl<'a, R: rt::Files> Stored<'a, R> {
         }
     }
 
-    /// Fills a new file beside `path` and renames it, so that `path` has all the bytes or is as before.
+    /// Fills a new file beside `path` and renames it, so that `path` has all of `bytes` or is as before.
     fn replace(
         &self,
         path: &str,
@@ -49,6 +49,7 @@ impl<'a, R: rt::Files> Stored<'a, R> {
         Err(FileFault::Failed(Cause::Other))
     }
 
+    /// Writes `bytes` to the file `file`, whose name is `temporary`, and renames it as `path`.
     fn fill(
         &self,
         file: R::File,
@@ -71,7 +72,7 @@ impl<'a, R: rt::Files> Stored<'a, R> {
     }
 }
 
-/// Writes the bytes to an empty file, until the device has them.
+/// Writes `bytes` to the empty file `file`, until the device has them.
 fn write_synced<F: Write + OpenFile + Drop>(
     mut file: F,
     permissions: Option<Permissions>,

@@ -1,0 +1,3 @@
+-- Lemmas about the words of specs/.
+pub use Rattle.cur_drawing.proofs.ByPlace
+pub use Rattle.cur_windows.proofs.Adding

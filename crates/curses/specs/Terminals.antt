@@ -1,0 +1,6 @@
+-- The terminal, and what a certificate shows of an entry.
+pub use Rattle.vt_term.specs.Ends
+pub use Rattle.vt_term.specs.Screen
+pub use Rattle.vt_term.specs.Size
+pub use Rattle.ti_conforms.specs.Certified
+pub use Rattle.ti_conforms.specs.Conforms

@@ -1,0 +1,28 @@
+//! The library for programs that draw: windows, pads and the virtual screen; a terminal's entry and its verified
+//! certificate; the painter and the wire that its bytes go out on; sessions, and calls as values.
+#![tactic(auto)]
+
+// A terminal: its size, its entry from a source text, and what a certificate shows of the entry.
+pub use ti_caps::Entry;
+pub use ti_cert::{AgreeFault, CertFault, CertFaultKind, Checked, VerifyFault, verify};
+pub use ti_conforms::Certificate;
+pub use ti_resolve::{ResolveFault, resolve};
+pub use ti_source::{RawEntry, SourceFault, read};
+pub use vt_term::Size;
+
+// Windows and pads, what is drawn in them, and the virtual screen.
+pub use cur_drawing::{Attrs, Border, Cell, Put, Refusal, Window};
+pub use cur_pads::{newpad, pnoutrefresh, subpad};
+pub use cur_windows::{Desk, RowMut, View, Virtual, WINDOWS, WindowView};
+pub use grids::{Area, Place};
+
+// The painter, and where its bytes go.
+pub use cur_update::{Painter, Unsent};
+pub use cur_wires::{Fuse, Tape, Wire, WireFault};
+
+// Sessions, calls as values, and texts of calls.
+pub use cur_calls::{
+    AttrsCall, Call, CellCall, FlagCall, LayCall, LineCall, NumberCall, NumbersCall, PadCall,
+    PartCall, PlainCall, ScreenCall, ScriptFault, ScriptFaultKind, ShowCall, Text, read_script,
+};
+pub use cur_play::{Answer, Log, Session, run};

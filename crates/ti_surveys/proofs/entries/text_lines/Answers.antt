@@ -1,8 +1,0 @@
-use Rattle.std.proofs.Common.{inr}
-use Rattle.std.proofs.lemmas.Result.{IfOk-weaker}
-use Rattle.ti_commands.specs.declared.failure.Refusal.TheVariants.{Source}
-use Rattle.ti_surveys.proofs.entries.text_lines.Goals as goal
-
-pub returns-in_ok-told-in_default : goal.returns-in_ok-told-in_default
-returns-in_ok-told-in_default g c =
-    IfOk-weaker c.path_line.result _ _ (λ lines told. inr (record { refusal = Source c.in-Err.fault; faulty = (c.in-Err.ensures.fault, c.in_default.not-NoMemory); told = told })) c.path_line.ensures

@@ -1,0 +1,103 @@
+-- One more part, and the line of an entry.
+use Rattle.std.proofs.Common.{◌≡◌, ◌<◌, ℕ, zero, suc, ◌+◌, List, [], ◌∷◌, ◌++◌, length, take, get_or, Option, Some, None, Result, refl, sym, ap, subst, ◌∙◌, inl, inr, append_assoc, add-one, arith}
+use Rattle.std.proofs.lemmas.List.{append-nil}
+use Rattle.ti_caps.specs.Entry.{Content}
+use Rattle.ti_source.specs.declared.types.RawEntry.{RawEntry}
+use Rattle.ti_commands.specs.Finding.{ResolvesTo}
+use Rattle.ti_commands.specs.Holding.{Held}
+use Rattle.ti_commands.specs.Words.{texts_of}
+use Rattle.ti_commands.specs.declared.failure.Failure.{Failure}
+use Rattle.ti_commands.specs.declared.failure.Refusal.{Refusal}
+use Rattle.ti_verdicts.specs.Lines.{HasParts, IsSourceLine, IsTold, first_name, line_of}
+use Rattle.ti_verdicts.specs.Surveying.{EndsPath, EndsPaths, HasLines, MayHaveLines, Misses, first_failure}
+use denote.Ref.{Bor}
+
+-- ---- parts
+
+pub no_parts : {X : Type 0} (P : X → List ℕ → Type 0) → HasParts P [] []
+unfolding HasParts
+no_parts P = refl
+
+parts_end : {X : Type 0} (P : X → List ℕ → Type 0) (xs : List X) (x : X) (text own : List ℕ) → HasParts P xs text → P x own → HasParts P (xs ++ x ∷ []) (text ++ own)
+unfolding HasParts
+parts_end P [] x text own h p = (own, [], ap (λ (t : List ℕ). t ++ own) h ∙ sym (append-nil own), p, refl)
+parts_end P (first ∷ xs) x text own h p =
+    (h.0, h.1 ++ own, ap (λ (t : List ℕ). t ++ own) h.2 ∙ append_assoc h.0 h.1 own, h.3, parts_end P xs x h.1 own h.4 p)
+
+parts_as : {X : Type 0} (P Q : X → List ℕ → Type 0) → ((x : X) (own : List ℕ) → P x own → Q x own) → (xs : List X) (text : List ℕ) → HasParts P xs text → HasParts Q xs text
+unfolding HasParts
+parts_as P Q f [] text h = h
+parts_as P Q f (x ∷ xs) text h = (h.0, h.1, h.2, f x h.0 h.3, parts_as P Q f xs h.1 h.4)
+
+taken : {X : Type 0} (xs : List X) (n : ℕ) (d : X) → n < length xs → take (suc n) xs ≡ take n xs ++ get_or xs n d ∷ []
+taken [] n d h = absurd (omega (arith, h))
+taken (x ∷ xs) zero d h = refl
+taken (x ∷ xs) (suc n) d h = ap (λ (l : List _). x ∷ l) (taken xs n d (omega (arith, h)))
+
+pub parts_more : {X : Type 0} (P : X → List ℕ → Type 0) (xs : List X) (n : ℕ) (d : X) (text own : List ℕ) → n < length xs → HasParts P (take n xs) text → P (get_or xs n d) own → HasParts P (take (n + 1) xs) (text ++ own)
+parts_more P xs n d text own l h p =
+    subst (λ (m : ℕ). HasParts P (take m xs) (text ++ own)) (sym (add-one n))
+    (subst (λ (ys : List _). HasParts P ys (text ++ own)) (sym (taken xs n d l)) (parts_end P (take n xs) (get_or xs n d) text own h p))
+
+-- one more part, of an element that is at that place
+pub parts_step : {X : Type 0} (P : X → List ℕ → Type 0) (xs : List X) (n : ℕ) (x : X) (text own more : List ℕ) → n < length xs → x ≡ get_or xs n x → more ≡ text ++ own → HasParts P (take n xs) text → P x own → HasParts P (take (n + 1) xs) more
+parts_step P xs n x text own more l is spelled h p =
+    subst (λ (t : List ℕ). HasParts P (take (n + 1) xs) t) (sym spelled) (parts_more P xs n x text own l h (subst (λ (y : _). P y own) is p))
+
+-- ---- paths
+
+missed_first : (paths : List (List ℕ)) (path : List ℕ) (failure : Failure) → Misses paths failure → Misses (paths ++ path ∷ []) failure
+missed_first paths path failure m = record {
+  front = m.front;
+  path = m.path;
+  behind = m.behind ++ path ∷ [];
+  spelled = ap (λ (l : List (List ℕ)). l ++ path ∷ []) m.spelled ∙ append_assoc m.front (m.path ∷ m.behind) (path ∷ []);
+  fails = m.fails;
+}
+
+may_have : (Says : Content → List ℕ → Type 0) (held : Held) (path lines : List ℕ) (failure : Option Failure) → EndsPath Says held path lines failure → MayHaveLines Says held path lines
+may_have Says held path lines None h = inl h
+may_have Says held path lines (Some failure) h = inr h.0
+
+ends_end : (Says : Content → List ℕ → Type 0) (held : Held) (paths : List (List ℕ)) (path lines own : List ℕ) (failure told : Option Failure) → EndsPaths Says held paths lines failure → EndsPath Says held path own told
+    → EndsPaths Says held (paths ++ path ∷ []) (lines ++ own) (first_failure failure told)
+ends_end Says held paths path lines own None None h p = parts_end (HasLines Says held) paths path lines own h p
+ends_end Says held paths path lines own None (Some told) h p = (
+  parts_end (MayHaveLines Says held) paths path lines own (parts_as (HasLines Says held) (MayHaveLines Says held) (λ x part q. inl q) paths lines h) (inr p.0),
+  record { front = paths; path = path; behind = []; spelled = refl; fails = p.1 },
+)
+ends_end Says held paths path lines own (Some failure) told h p =
+    (parts_end (MayHaveLines Says held) paths path lines own h.0 (may_have Says held path own told p), missed_first paths path failure h.1)
+
+taken_text : (words : List (Bor (List ℕ))) (n : ℕ) (d : Bor (List ℕ)) → n < length words → take (suc n) (texts_of words) ≡ take n (texts_of words) ++ (get_or words n d).now ∷ []
+taken_text [] n d h = absurd (omega (arith, h))
+taken_text (word ∷ words) zero d h = refl
+taken_text (word ∷ words) (suc n) d h = ap (λ (l : List (List ℕ)). word.now ∷ l) (taken_text words n d (omega (arith, h)))
+
+pub ends_more : (Says : Content → List ℕ → Type 0) (held : Held) (words : List (Bor (List ℕ))) (n : ℕ) (d : Bor (List ℕ)) (lines own : List ℕ) (failure told : Option Failure) → n < length words
+    → EndsPaths Says held (take n (texts_of words)) lines failure → EndsPath Says held (get_or words n d).now own told → EndsPaths Says held (take (n + 1) (texts_of words)) (lines ++ own) (first_failure failure told)
+ends_more Says held words n d lines own failure told l h p =
+    subst (λ (m : ℕ). EndsPaths Says held (take m (texts_of words)) (lines ++ own) (first_failure failure told)) (sym (add-one n))
+    (subst (λ (ys : List (List ℕ)). EndsPaths Says held ys (lines ++ own) (first_failure failure told)) (sym (taken_text words n d l)) (ends_end Says held (take n (texts_of words)) (get_or words n d).now lines own failure told h p))
+
+-- one more path, of files that hold what they held
+pub ends_step : (Says : Content → List ℕ → Type 0) (held now : Held) (words : List (Bor (List ℕ))) (n : ℕ) (d : Bor (List ℕ)) (lines own more : List ℕ) (failure told both : Option Failure) → n < length words → now ≡ held → more ≡ lines ++ own
+    → both ≡ first_failure failure told → EndsPaths Says held (take n (texts_of words)) lines failure → EndsPath Says now (get_or words n d).now own told → EndsPaths Says held (take (n + 1) (texts_of words)) more both
+ends_step Says held now words n d lines own more failure told both l same spelled first h p =
+    subst (λ (b : Option Failure). EndsPaths Says held (take (n + 1) (texts_of words)) more b) (sym first)
+    (subst (λ (t : List ℕ). EndsPaths Says held (take (n + 1) (texts_of words)) t (first_failure failure told)) (sym spelled)
+    (ends_more Says held words n d lines own failure told l h (subst (λ (k : Held). EndsPath Says k (get_or words n d).now own told) same p)))
+
+-- ---- lines
+
+pub source_line_of : (Says : Content → List ℕ → Type 0) (raws : List RawEntry) (raw : RawEntry) (entry : Result Content Refusal) (names name words said line : List ℕ) → names ≡ raw.names → name ≡ first_name names → said ≡ words
+    → ResolvesTo raws name entry → IsTold Says entry words → line ≡ line_of name said → IsSourceLine Says raws raw line
+source_line_of Says raws raw entry names name words said line a b c r t e =
+    let named : name ≡ first_name raw.names = b ∙ ap first_name a in
+    record {
+      entry = entry;
+      resolves = subst (λ (n : List ℕ). ResolvesTo raws n entry) named r;
+      words = words;
+      told = t;
+      spelled = e ∙ (ap (λ (n : List ℕ). line_of n said) named ∙ ap (λ (w : List ℕ). line_of (first_name raw.names) w) c);
+    }

@@ -1,7 +1,0 @@
-use Rattle.std.proofs.Common.{◌≡◌, ◌++◌, drop}
-use Rattle.ti_verdicts.specs.Telling as spec
-use Rattle.ti_verdicts.proofs.telling.push_numbers.Given as goal
-
--- the words have the numbers so far, and those ahead make them the whole
-abbrev pub invariant-loop-number : goal.invariant-loop-number
-invariant-loop-number l = l.words.items ++ spec.numbers_text (drop l.number-index l.numbers) ≡ l.initial.words.items ++ spec.numbers_text l.numbers

@@ -1,0 +1,119 @@
+-- The lines of a survey: one for each entry of a file, in order.
+use Rattle.std.specs.Prelude.{◌≡◌, ◌⊎◌, ◌==◌, ◌&&◌, ◌||◌, ℕ, Bool, true, false, List, [], ◌∷◌, ◌++◌, Result, Ok, Err, codes}
+use Rattle.std.specs.List.{before_first}
+use Rattle.ti_caps.specs.Entry.{Content}
+use Rattle.ti_checker.specs.declared.causes.No.{No}
+use Rattle.ti_compiled.specs.Contents.{read_of}
+use Rattle.ti_compiled.specs.declared.types.PackFault.{PackFault}
+use Rattle.ti_source.specs.Source.{source_of}
+use Rattle.ti_source.specs.declared.types.RawEntry.{RawEntry}
+use Rattle.ti_commands.specs.Finding.{FitsTo, IsSourceFailure, ResolvesTo}
+use Rattle.ti_commands.specs.declared.failure.Failure.TheVariants.{Refused}
+use Rattle.ti_commands.specs.declared.failure.Refusal.{Refusal}
+use Rattle.ti_verdicts.specs.Telling.{no_text}
+use Rattle.ti_verdicts.specs.declared.asked.Asked.{Asked}
+
+-- a text that has a part for each item, one after another
+unfoldable pub HasParts : {X : Type 0} → (X → List ℕ → Type 0) → List X → List ℕ → Type 0
+HasParts P [] text = text ≡ []
+HasParts P (x ∷ xs) text = (own : List ℕ) × (later : List ℕ) × (text ≡ own ++ later) × P x own × HasParts P xs later
+
+-- an entry's first name
+abbrev pub first_name : List ℕ → List ℕ
+first_name names = before_first (λ b. b == 124) names
+
+-- a name, and what is said of it
+abbrev pub line_of : List ℕ → List ℕ → List ℕ
+line_of name words = name ++ (words ++ 10 ∷ [])
+
+-- ---- what is said
+
+-- there is a certificate
+pub record HasYes (Certifies : List ℕ → Type 0) (words : List ℕ) : Type 0 where
+  pub text : List ℕ
+  pub certified : Certifies text
+  pub says : words ≡ codes " yes"
+
+-- there is a no
+pub record HasNo (Refuses : No → Type 0) (words : List ℕ) : Type 0 where
+  pub refusal : No
+  pub refused : Refuses refusal
+  pub says : words ≡ codes " " ++ no_text refusal
+
+-- what a certifier says of an entry for rows and columns
+abbrev pub Answers : (Content → ℕ → ℕ → List ℕ → Type 0) → (Content → ℕ → ℕ → No → Type 0) → ℕ → ℕ → Content → List ℕ → Type 0
+Answers certifies refuses height width entry words = HasYes (certifies entry height width) words ⊎ HasNo (refuses entry height width) words
+
+-- what it says of an entry, as it is asked
+abbrev pub AnswersTo : {C : Type 0} → (C → Content → ℕ → ℕ → List ℕ → Type 0) → (C → Content → ℕ → ℕ → No → Type 0) → Asked C → Content → List ℕ → Type 0
+AnswersTo certifies refuses asked = Answers (certifies asked.certifier.now) (refuses asked.certifier.now) asked.size.rows asked.size.cols
+
+-- what can't be had is refused, in free words
+abbrev pub IsRefused : List ℕ → Type 0
+IsRefused words = (told : List ℕ) × (words ≡ codes " refused: " ++ told)
+
+-- the words of an entry that is there, or of one that can't be had
+abbrev pub IsTold : (Content → List ℕ → Type 0) → Result Content Refusal → List ℕ → Type 0
+IsTold Says (Ok entry) words = Says entry words
+IsTold Says (Err refusal) words = IsRefused words
+
+-- ---- lines
+
+-- the line of an entry of a source text
+pub record IsSourceLine (Says : Content → List ℕ → Type 0) (raws : List RawEntry) (raw : RawEntry) (line : List ℕ) : Type 0 where
+  pub entry : Result Content Refusal
+  pub resolves : ResolvesTo raws (first_name raw.names) entry
+  pub words : List ℕ
+  pub told : IsTold Says entry words
+  pub spelled : line ≡ line_of (first_name raw.names) words
+
+-- the line of the entry of a compiled file
+pub record IsFileLine (Says : Content → List ℕ → Type 0) (packed : Content) (line : List ℕ) : Type 0 where
+  pub entry : Result Content Refusal
+  pub fits : FitsTo packed entry
+  pub words : List ℕ
+  pub told : IsTold Says entry words
+  pub spelled : line ≡ line_of (first_name packed.names) words
+
+-- the line of a path whose file has no entries
+abbrev pub IsPathLine : List ℕ → List ℕ → Type 0
+IsPathLine path line = (words : List ℕ) × IsRefused words × (line ≡ line_of path words)
+
+-- ---- a file
+
+-- it begins as a compiled file does
+abbrev pub is_compiled : List ℕ → Bool
+is_compiled (first ∷ second ∷ rest) = ((first == 0x1a) && (second == 0x01)) || ((first == 0x1e) && (second == 0x02))
+is_compiled _ = false
+
+-- the entry of a compiled file
+pub record HasEntry (Says : Content → List ℕ → Type 0) (bytes line : List ℕ) : Type 0 where
+  pub packed : Content
+  pub reads : read_of bytes ≡ Ok packed
+  pub told : IsFileLine Says packed line
+
+-- or it has a fault
+pub record LacksEntry (path bytes line : List ℕ) : Type 0 where
+  pub fault : PackFault
+  pub faulty : read_of bytes ≡ Err fault
+  pub told : IsPathLine path line
+
+-- the entries of a source text
+pub record HasEntries (Says : Content → List ℕ → Type 0) (bytes lines : List ℕ) : Type 0 where
+  pub raws : List RawEntry
+  pub reads : source_of bytes ≡ Ok raws
+  pub each : HasParts (IsSourceLine Says raws) raws lines
+
+-- or it has a fault
+pub record LacksEntries (path bytes line : List ℕ) : Type 0 where
+  pub refusal : Refusal
+  pub faulty : IsSourceFailure bytes (Refused refusal)
+  pub told : IsPathLine path line
+
+abbrev pub AreLinesBy : Bool → (Content → List ℕ → Type 0) → List ℕ → List ℕ → List ℕ → Type 0
+AreLinesBy true Says path bytes lines = HasEntry Says bytes lines ⊎ LacksEntry path bytes lines
+AreLinesBy false Says path bytes lines = HasEntries Says bytes lines ⊎ LacksEntries path bytes lines
+
+-- the lines of a file: its first bytes show whether it is compiled
+abbrev pub AreLines : (Content → List ℕ → Type 0) → List ℕ → List ℕ → List ℕ → Type 0
+AreLines Says path bytes lines = AreLinesBy (is_compiled bytes) Says path bytes lines

@@ -1,0 +1,10 @@
+//! What a survey asks of each entry.
+
+use vt_term::Size;
+
+/// Whether the `certifier` writes a certificate for the `size`.
+#[derive(Drop)]
+pub struct Asked<'a, C> {
+    pub certifier: &'a C,
+    pub size: Size,
+}

@@ -1,0 +1,2 @@
+-- Numbers in messages.
+pub mod Numbers

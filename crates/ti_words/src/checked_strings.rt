@@ -1,0 +1,283 @@
+//! Why an entry gets no certificate: what a checked string sends, what is wanted of it, and what it does.
+
+use crate::numbers::push_numbers;
+use crate::remarks::Remarks;
+use crate::spelling::push_spelled;
+use crate::states::{push_rendition, seen_words, start_words};
+use crate::strings::parm_words;
+use crate::wanted::wanted_words;
+use std::alloc::{AllocError, Global};
+use ti_caps::{Cap, Entry, name};
+use ti_conforms::{Unsent, is_checked, misfit, send};
+use ti_parm::ParmFault;
+use ti_rows::{Looks, NO_MARKS, Row};
+use vt_effects::effect_of;
+use vt_term::{Size, Terminal, tokens};
+
+/// Said of a string that reads a static variable.
+pub const STATIC_READ: &[u8] =
+    b" reads a static variable, %gA to %gZ, before it sets it: what it sends depends on what a program has sent \
+      before";
+
+/// Said where no effect describes what a string sends.
+pub const NOT_TAME: &[u8] =
+    b"the string may be right: no single effect describes what it sends from every state in which programs send it, \
+      so it was not judged (what prints, inserts, deletes, or erases after a change of the background has none, nor \
+      have moves that only some edges of the screen cut short)";
+
+/// Said where a certificate would be too long.
+pub const TOO_LONG: &[u8] =
+    b"the strings up to this one may be right: a certificate has a line for each list of parameters, with what is \
+      sent in hexadecimal, and it may have 67108864 bytes; with this line and the last it would be longer, so a \
+      shorter string or a smaller size of the screen is needed";
+
+/// Said of the first string that is sent in an unknown state.
+pub const NO_RESYNC: &[u8] =
+    b"smcup, enacs, sgr0, rmacs, csr of the whole screen and clear, sent one after another, are to lead a terminal \
+      out of any state, so they have to begin with ESC: a sequence that was cut off would take any other first byte \
+      as part of it";
+
+/// Said where the line drawing set can stay active.
+pub const STAYS_GRAPHIC: &[u8] =
+    b"each string is right by itself, but they can leave the line drawing set active, and a program switches sets \
+      only where acsc, smacs and rmacs are all there: its letters would show as lines";
+
+const NOT_SHOWN: &[u8] =
+    b"the string may be right: its effect is not the one that is wanted, but it goes wrong from none of the states \
+      that were tried";
+
+const LED_THERE: &[u8] = b"the entry's other strings lead to these character sets";
+
+const NOT_TOGETHER: &[u8] =
+    b"each string is right by itself, and nothing is wrong with all of them together: smacs and rmacs switch the \
+      sets in every state that the other strings leave, and what leads out of an unknown state begins with ESC; but \
+      no certificate could be made of them";
+
+/// Explains why no entry with the flag or number `cap` has a certificate.
+pub fn explain_flag(cap: Cap, remarks: &mut Remarks) {
+    let words: &[u8] = match name(cap) {
+        b"xmc" =>
+            b" is in the entry: attributes take up cells of the screen, so that a program can't know where its text \
+              stands",
+        b"hc" => b" is in the entry: on paper nothing can be erased or replaced",
+        b"gn" =>
+            b" is in the entry: it describes a kind of line, so that a program can't know what the terminal does",
+        _ =>
+            b" is in the entry: a character is printed over the one before, so that a program can't replace any",
+    };
+    remarks.add(name(cap), words);
+}
+
+/// Explains why no entry without the string `cap` has a certificate.
+pub fn explain_absent(cap: Cap, remarks: &mut Remarks) {
+    let words: &[u8] = match name(cap) {
+        b"clear" =>
+            b" is not in the entry: without it a program can't bring the screen into a known state",
+        b"cup" => b" is not in the entry: without it a program can't reach a place of the screen",
+        _ => b" is not in the entry: without it a program can't turn attributes off",
+    };
+    remarks.add(name(cap), words);
+}
+
+/// Explains which letter of line drawing gets a character from `pairs`, which are those of `acsc`, that can't be
+/// printed.
+pub fn explain_pairs(
+    alloc: Global,
+    pairs: Option<&[u8]>,
+    remarks: &mut Remarks,
+) -> Result<(), AllocError> {
+    let Some(letter) = misfit(pairs.unwrap_or(&[])) else {
+        return Ok(());
+    };
+    let mut words = Vec::from_slice(alloc, b" gives the line drawing letter ")?;
+    words.extend_from_slice(&[letter])?;
+    words.extend_from_slice(
+        b" a character outside 32 to 126: a program that draws lines would send the terminal a control or a byte \
+          without meaning",
+    )?;
+    remarks.add(b"acsc", words.as_slice());
+    Ok(())
+}
+
+/// The first row whose string the entry sends to lead a terminal of `size` out of an unknown state.
+pub fn first_of_resync(alloc: Global, entry: &Entry, size: Size) -> Option<Row> {
+    let csr = Row::Csr(0, (size.rows - 1) as u16);
+    for row in [
+        Row::Smcup,
+        Row::Enacs,
+        Row::Sgr0,
+        Row::Rmacs,
+        csr,
+        Row::Clear,
+    ] {
+        if sends_some(alloc, entry, row) {
+            return Some(row);
+        }
+    }
+    None
+}
+
+/// Whether the entry sends anything for `row`.
+fn sends_some(alloc: Global, entry: &Entry, row: Row) -> bool {
+    if !is_checked(entry, row) {
+        return false;
+    }
+    match send(alloc, entry.get_string(row.cap()).unwrap_or(&[]), row) {
+        Ok(bytes) => !bytes.is_empty(),
+        Err(_) => false,
+    }
+}
+
+/// Adds a line with the entry's string for `row` and what it sends, and hands that out; or with `unsent`, where it
+/// can't be expanded.
+pub fn explain_field(
+    alloc: Global,
+    entry: &Entry,
+    row: Row,
+    unsent: &[u8],
+    remarks: &mut Remarks,
+) -> Result<Option<Vec<u8>>, AllocError> {
+    let Some(string) = entry.get_string(row.cap()) else {
+        return Ok(None);
+    };
+    let field = field_words(alloc, row, string)?;
+    let mut words = place_words(alloc, entry.names(), row)?;
+    match send(alloc, string, row) {
+        Ok(bytes) => {
+            words.extend_from_slice(b" sends '")?;
+            push_spelled(&mut words, bytes.as_slice())?;
+            words.extend_from_slice(b"'")?;
+            remarks.add(field.as_slice(), words.as_slice());
+            Ok(Some(bytes))
+        }
+        Err(Unsent::NoMemory) => Err(AllocError),
+        Err(_) => {
+            words.extend_from_slice(unsent)?;
+            remarks.add(field.as_slice(), words.as_slice());
+            Ok(None)
+        }
+    }
+}
+
+/// The field of a source text that has `string` for `row`.
+fn field_words(alloc: Global, row: Row, string: &[u8]) -> Result<Vec<u8>, AllocError> {
+    let mut words = Vec::from_slice(alloc, row.name())?;
+    words.extend_from_slice(b"=")?;
+    push_spelled(&mut words, string)?;
+    Ok(words)
+}
+
+/// The first of the entry's `names`, and the parameters of `row`.
+fn place_words(alloc: Global, names: &[u8], row: Row) -> Result<Vec<u8>, AllocError> {
+    let mut words = Vec::from_slice(alloc, b" of ")?;
+    words.extend_from_slice(first_name(names))?;
+    match row.param_count() {
+        0 => {}
+        1 => words.extend_from_slice(b" with the parameter")?,
+        _ => words.extend_from_slice(b" with the parameters")?,
+    }
+    push_numbers(alloc, row.params().as_slice(), &mut words)?;
+    Ok(words)
+}
+
+/// The first of an entry's `names`.
+fn first_name(names: &[u8]) -> &[u8] {
+    match names.iter().position(|byte| *byte == b'|') {
+        Some(end) => &names[..end],
+        None => names,
+    }
+}
+
+/// Why a checked string can't be expanded: all its parameters are numbers.
+pub fn unsent_words(fault: ParmFault) -> &'static [u8] {
+    match fault {
+        ParmFault::WrongKind => b" takes a number for a text",
+        other => parm_words(other),
+    }
+}
+
+/// Explains that `bytes`, which a string sends for `row`, could not be shown right: that string alone, or all strings
+/// of the entry together.
+pub fn explain_unshown(
+    alloc: Global,
+    size: Size,
+    row: Row,
+    bytes: &[u8],
+    remarks: &mut Remarks,
+) -> Result<(), AllocError> {
+    if row == Row::Clear && does_its_own(alloc, size, row, bytes) {
+        remarks.add_words(NOT_TOGETHER);
+        return Ok(());
+    }
+    remarks.add_words(wanted_words(alloc, row)?.as_slice());
+    remarks.add_words(NOT_SHOWN);
+    Ok(())
+}
+
+/// Whether the effect of `bytes` is the one that is wanted of `row`, where attributes can't be seen. Which set `smacs`
+/// and `rmacs` leave active is no part of it.
+fn does_its_own(alloc: Global, size: Size, row: Row, bytes: &[u8]) -> bool {
+    let Ok(found) = tokens(alloc, bytes) else {
+        return false;
+    };
+    match effect_of(found.as_slice(), size, &row.start(size)) {
+        Some(effect) => effect == row.asked(NO_LOOKS, &effect),
+        None => false,
+    }
+}
+
+/// Attributes that can't be seen.
+const NO_LOOKS: Looks = Looks {
+    standout: NO_MARKS,
+    underline: false,
+    reverse: false,
+    blink: false,
+    dim: false,
+    bold: false,
+    invisible: false,
+};
+
+/// Explains which renditions `bytes` turn on, which a string sends for `row`, a single attribute.
+pub fn explain_look(
+    alloc: Global,
+    size: Size,
+    row: Row,
+    bytes: &[u8],
+    remarks: &mut Remarks,
+) -> Result<(), AllocError> {
+    let mut terminal = Terminal::new(alloc, size)?;
+    let _ = terminal.feed(bytes);
+    let wanted = wanted_words(alloc, row)?;
+    let mut words = Vec::from_slice(alloc, b"seen: sent after a reset, it makes the rendition")?;
+    push_rendition(terminal.rendition(), &mut words)?;
+    remarks.add_words(wanted.as_slice());
+    remarks.add_words(words.as_slice());
+    remarks.add_words(b"an attribute other than standout is shown by its own rendition or by none");
+    Ok(())
+}
+
+/// Explains by a run that `bytes`, which a string sends for `row`, do something wrong on `terminal`, whose cells all
+/// show the character `fill`.
+pub fn explain_run(
+    alloc: Global,
+    row: Row,
+    bytes: &[u8],
+    mut terminal: Terminal,
+    fill: u8,
+    remarks: &mut Remarks,
+) -> Result<(), AllocError> {
+    let size = terminal.size();
+    let start = terminal.settings();
+    if terminal.feed(bytes).is_err() {
+        return Ok(());
+    }
+    let wanted = wanted_words(alloc, row)?;
+    let seen = seen_words(alloc, &start, &terminal, fill)?;
+    remarks.add_words(start_words(alloc, size, &start, fill)?.as_slice());
+    if does_its_own(alloc, size, row, bytes) {
+        remarks.add_words(LED_THERE);
+    }
+    remarks.add_words(wanted.as_slice());
+    remarks.add_words(seen.as_slice());
+    Ok(())
+}

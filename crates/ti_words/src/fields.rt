@@ -1,0 +1,138 @@
+//! The fields of a line of source text, for messages.
+
+use ti_caps::{Kind, by_name, kind};
+use ti_source::FaultKind;
+
+/// A field as a line has it.
+#[derive(Clone, Copy)]
+pub struct Field<'a> {
+    /// The whole field without its comma.
+    pub text: &'a [u8],
+    /// What stands before its mark.
+    pub name: &'a [u8],
+    /// The first `@`, `#` or `=`, if it has one.
+    mark: Option<u8>,
+    /// What follows the mark.
+    value: &'a [u8],
+}
+
+impl Field<'_> {
+    /// Whether it has the form of a number.
+    pub fn is_number(&self) -> bool {
+        self.mark == Some(b'#')
+    }
+
+    /// Whether it is no capability's and includes no entry.
+    pub fn is_unknown(&self) -> bool {
+        let is_use = self.name == b"use".as_slice()
+            && self.mark == Some(b'=')
+            && !self.value.is_empty();
+        let is_left_out = self.text.is_empty() || self.text.first() == Some(&b'.');
+        !is_use && !is_left_out && by_name(self.name).is_none()
+    }
+
+    /// Whether it has the fault `fault`.
+    fn has(&self, fault: FaultKind) -> bool {
+        let Some(cap) = by_name(self.name) else {
+            return false;
+        };
+        match (fault, self.mark) {
+            (FaultKind::WrongKind, Some(b'#')) => kind(cap) != Kind::Number,
+            (FaultKind::WrongKind, Some(b'=')) => kind(cap) != Kind::String,
+            (FaultKind::WrongKind, None) => kind(cap) != Kind::Flag,
+            (FaultKind::BadNumber, Some(b'#')) => number_of(self.value).is_none(),
+            (FaultKind::NumberRange, Some(b'#')) => {
+                number_of(self.value).is_some_and(|number| number > 2_147_483_647)
+            }
+            _ => false,
+        }
+    }
+}
+
+/// The line `number` of `text`, counted from 1; nothing where there is no such line.
+pub fn line_of(text: &[u8], number: u32) -> &[u8] {
+    let mut rest = text;
+    for _ in 1..number {
+        match rest.iter().position(|byte| *byte == b'\n') {
+            Some(end) => rest = &rest[end + 1..],
+            None => return &[],
+        }
+    }
+    match rest.iter().position(|byte| *byte == b'\n') {
+        Some(end) => &rest[..end],
+        None => rest,
+    }
+}
+
+/// The first field of `line` that has the fault `fault`, if that is one that a single field shows.
+pub fn faulty_field(line: &[u8], fault: FaultKind) -> Option<Field<'_>> {
+    let mut rest = line;
+    for _ in 0..=line.len() {
+        let (field, after) = next_field(rest);
+        if field.has(fault) {
+            return Some(field);
+        }
+        if after.is_empty() {
+            return None;
+        }
+        rest = after;
+    }
+    None
+}
+
+/// The first field of `rest`, which is what is left of a line, and what follows its comma.
+pub fn next_field(rest: &[u8]) -> (Field<'_>, &[u8]) {
+    let mut is_escaped = false;
+    for (at, byte) in rest.iter().enumerate() {
+        if is_escaped {
+            is_escaped = false;
+        } else if *byte == b'\\' {
+            is_escaped = true;
+        } else if *byte == b',' {
+            return (split(&rest[..at]), &rest[at + 1..]);
+        }
+    }
+    (split(rest), &[])
+}
+
+/// The parts of `field`.
+fn split(field: &[u8]) -> Field<'_> {
+    let text = field.trim_ascii();
+    match text
+        .iter()
+        .position(|byte| matches!(*byte, b'@' | b'#' | b'='))
+    {
+        Some(at) => Field {
+            text,
+            name: &text[..at],
+            mark: Some(text[at]),
+            value: &text[at + 1..],
+        },
+        None => Field {
+            text,
+            name: text,
+            mark: None,
+            value: &[],
+        },
+    }
+}
+
+/// The value of the number `text`, which stops at the greatest of 64 bits; `None` for a text that is no number.
+fn number_of(text: &[u8]) -> Option<u64> {
+    let (digits, radix) = match text {
+        [b'0', b'x', digits @ ..] => (digits, 16),
+        [b'0', _, ..] => (text, 8),
+        _ => (text, 10),
+    };
+    if digits.is_empty() {
+        return None;
+    }
+    let mut number: u64 = 0;
+    for byte in digits {
+        let digit = char::from(*byte).to_digit(radix)?;
+        number = number
+            .saturating_mul(u64::from(radix))
+            .saturating_add(u64::from(digit));
+    }
+    Some(number)
+}

@@ -1,0 +1,32 @@
+//! Words for people: what went wrong and where, in plain words, for the further lines below a message's fixed one.
+#![tactic(auto)]
+
+mod certificates;
+mod changes;
+mod checked_strings;
+mod fields;
+mod names;
+mod numbers;
+mod remarks;
+mod seen;
+mod sources;
+mod spelling;
+mod states;
+mod strings;
+mod wanted;
+
+pub use certificates::{explain_disagreement, explain_line, first_line_words, missing_line_words};
+pub use checked_strings::{
+    NO_RESYNC, NOT_TAME, STATIC_READ, STAYS_GRAPHIC, TOO_LONG, explain_absent, explain_field,
+    explain_flag, explain_look, explain_pairs, explain_run, explain_unshown, first_of_resync,
+    unsent_words,
+};
+pub use names::unknown_names;
+pub use numbers::push_numbers;
+pub use remarks::{Remarks, write_shown};
+pub use seen::Seen;
+pub use sources::{explain_large, explain_packed, explain_resolving, explain_source, hint_carets};
+pub use strings::{
+    explain_escape, explain_length, explain_parm, explain_size, explain_stuck, explain_token,
+    explain_whole,
+};
