@@ -48,7 +48,8 @@ fn row_agrees<L: Lines>(
 ) -> Result<(), AgreeFault>
     requires { IsInRange size.rows size.cols row }
     ensures sends { OnOk result (spec.LineSends string.now (L.line_of lines.now row) row) }
-    ensures fault { IfErr result (spec.IsDisagreement size.rows size.cols string.now (L.line_of lines.now) (order row)) }
+    ensures fault { IfErr result (spec.IsDisagreement size.rows size.cols string.now (L.line_of lines.now)
+        (order row)) }
 {
     match send_into(alloc, string, row, bytes) {
         Ok(()) => {}
@@ -75,7 +76,8 @@ pub fn all_agree<L: Lines>(
 ) -> Result<(), AgreeFault>
     requires { IsFirst size.rows size.cols first }
     ensures sends { OnOk result (spec.AllSend size.rows size.cols string.now (L.line_of lines.now) (order first)) }
-    ensures fault { IfErr result (spec.IsDisagreement size.rows size.cols string.now (L.line_of lines.now) (order first)) }
+    ensures fault { IfErr result (spec.IsDisagreement size.rows size.cols string.now (L.line_of lines.now)
+        (order first)) }
 {
     let mut bytes = Vec::new(alloc);
     let mut row = first;

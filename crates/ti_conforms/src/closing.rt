@@ -166,8 +166,10 @@ impl Charsets {
 
     /// Adds each charset to which the changes lead from the set, in any number of steps.
     pub fn close(&mut self, changes: &[Sets])
-        ensures sound { (c : Charset) → has self.new c ≡ true → Settled (λ d. has self.old d ≡ true) (SomeLeads changes.now) c }
-        ensures complete { (c : Charset) → Settled (λ d. has self.old d ≡ true) (SomeLeads changes.now) c → has self.new c ≡ true }
+        ensures sound { (c : Charset) → has self.new c ≡ true
+            → Settled (λ d. has self.old d ≡ true) (SomeLeads changes.now) c }
+        ensures complete { (c : Charset) → Settled (λ d. has self.old d ≡ true) (SomeLeads changes.now) c
+            → has self.new c ≡ true }
     {
         while let Some(charset) = self.outside(changes) {
             self.add(charset);
@@ -177,7 +179,8 @@ impl Charsets {
     /// A member from which the change leads to a charset whose active set isn't of this kind.
     pub fn misled(&self, change: Sets, graphic: bool) -> Option<Charset>
         ensures some { IfSome result (λ c. (has self.now c ≡ true) × (is_graphic (designated change c) ≡ not graphic)) }
-        ensures none { IfNone result ((c : Charset) → has self.now c ≡ true → is_graphic (designated change c) ≡ graphic) }
+        ensures none { IfNone result ((c : Charset) → has self.now c ≡ true
+            → is_graphic (designated change c) ≡ graphic) }
     {
         for number in 0..8 {
             let charset = charset_at(number);

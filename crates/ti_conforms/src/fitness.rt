@@ -97,7 +97,8 @@ pub fn acsc() -> Cap
 /// Whether `acsc` lists a letter of line graphics with a partner that can't be printed.
 fn has_misfit(entry: &Entry) -> bool
     ensures some { result ≡ true → spec.HasMisfit entry.now }
-    ensures none { result ≡ false → (pairs : List ℕ) → string_at entry.now entries.acsc ≡ Some pairs → (letter : ℕ) → letter < 256 → is_misfit pairs letter ≡ false }
+    ensures none { result ≡ false → (pairs : List ℕ) → string_at entry.now entries.acsc ≡ Some pairs → (letter : ℕ)
+        → letter < 256 → is_misfit pairs letter ≡ false }
 {
     match entry.get_string(acsc()) {
         Some(pairs) => misfit(pairs).is_some(),

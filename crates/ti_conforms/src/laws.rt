@@ -16,7 +16,8 @@ ghost use Rattle.ti_conforms.specs.Entries.{acsc};
 pub fn reach_is_exact()
     ensures sound { (tokens : List (List ℕ)) (c : Charset) → can_have (reach_of tokens) c ≡ true → Reached tokens c }
     ensures complete { (tokens : List (List ℕ)) (c : Charset) → Reached tokens c → can_have (reach_of tokens) c ≡ true }
-    ensures joins { (first second : List (List ℕ)) → reach_of (first ++ second) ≡ joined (reach_of first) (reach_of second) }
+    ensures joins { (first second : List (List ℕ)) → reach_of (first ++ second)
+        ≡ joined (reach_of first) (reach_of second) }
 {}
 
 /// A line that sets no margins and doesn't show or hide the cursor settles rendition and sets from

@@ -93,7 +93,8 @@ impl Reach {
     /// The first fault of the text; the marks of the tokens before it are added.
     pub fn learn_text(&mut self, scanner: &mut Scanner, text: &[u8]) -> Result<(), TextFault>
         ensures whole { OnOk result ((tokens : List (List ℕ)) × Splits text.now tokens []) }
-        ensures learned { OnOk result ((tokens : List (List ℕ)) → Splits text.now tokens [] → self.new ≡ joined self.old (reach_of tokens)) }
+        ensures learned { OnOk result ((tokens : List (List ℕ)) → Splits text.now tokens []
+            → self.new ≡ joined self.old (reach_of tokens)) }
         ensures fault { IfErr result (HasFault text.now) }
     {
         let mut at = 0;
