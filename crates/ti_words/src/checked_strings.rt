@@ -8,9 +8,9 @@ use crate::strings::parm_words;
 use crate::wanted::wanted_words;
 use std::alloc::{AllocError, Global};
 use ti_caps::{Cap, Entry, name};
-use ti_conforms::{Unsent, is_checked, misfit, send};
+use ti_conforms::{NO_LOOKS, Unsent, is_checked, misfit, send};
 use ti_parm::ParmFault;
-use ti_rows::{Looks, NO_MARKS, Row};
+use ti_rows::Row;
 use vt_effects::effect_of;
 use vt_term::{Size, Terminal, tokens};
 
@@ -225,17 +225,6 @@ fn does_its_own(alloc: Global, size: Size, row: Row, bytes: &[u8]) -> bool {
         None => false,
     }
 }
-
-/// Attributes that can't be seen.
-const NO_LOOKS: Looks = Looks {
-    standout: NO_MARKS,
-    underline: false,
-    reverse: false,
-    blink: false,
-    dim: false,
-    bold: false,
-    invisible: false,
-};
 
 /// Explains which renditions `bytes` turn on, which a string sends for `row`, a single attribute.
 pub fn explain_look(
