@@ -14,7 +14,7 @@ use Rattle.cur_play.specs.Log.{Ran, subject_of}
 use Rattle.cur_play.specs.declared.runs.Entry.{Entry}
 use Rattle.cur_commands.specs.Holding.{Holds, HoldsOf, holds_lawful}
 use Rattle.cur_commands.specs.Showing.{IsTaken}
-use Rattle.cur_commands.specs.Taking.{TakesOf}
+use Rattle.cur_commands.specs.Storing.{StoresOf}
 use Rattle.cur_commands.specs.Through.{AreThrough, unfailing}
 
 pub through : (t : Table) (partners : ℕ → Option ℕ) (old new : Option (List ℕ)) (calls : List Call) (log : List Entry) → Ran (unfailing t partners) old new calls log → AreThrough log
@@ -50,7 +50,7 @@ held_over {O} {C} contents has_failed output held failures t partners a b c call
 
 -- ---- bytes in memory
 
-taken_follows : {C : Type 0} (taken : C → List ℕ) (failures : C → ℕ) → Follows (TakesOf taken failures) failures Appends (λ known. 0) (λ w. Some (taken w)) (λ w. failures w ≡ 0)
+taken_follows : {C : Type 0} (taken : C → List ℕ) (failures : C → ℕ) → Follows (StoresOf taken failures) failures Appends (λ known. 0) (λ w. Some (taken w)) (λ w. failures w ≡ 0)
 taken_follows taken failures = record {
   sooner = λ a b x h none. (let risen = h.risen in omega (arith, risen, none));
   goes = λ a b x h none. h.grows;
@@ -58,9 +58,9 @@ taken_follows taken failures = record {
 }
 
 pub taken_over : {C : Type 0} (taken : C → List ℕ) (failures : C → ℕ) (t : Table) (partners : ℕ → Option ℕ) (a b : C) (calls : List Call) (log : List Entry)
-    → Ran (subject_of (TakesOf taken failures) failures t partners) a b calls log → failures b ≡ 0 → Ran (unfailing t partners) (Some (taken a)) (Some (taken b)) calls log
+    → Ran (subject_of (StoresOf taken failures) failures t partners) a b calls log → failures b ≡ 0 → Ran (unfailing t partners) (Some (taken a)) (Some (taken b)) calls log
 taken_over taken failures t partners a b calls log r none =
-    ran_over (TakesOf taken failures) failures Appends (λ known. 0) (λ w. Some (taken w)) (λ w. failures w ≡ 0) (taken_follows taken failures) t partners a b calls log r none
+    ran_over (StoresOf taken failures) failures Appends (λ known. 0) (λ w. Some (taken w)) (λ w. failures w ≡ 0) (taken_follows taken failures) t partners a b calls log r none
 
 -- a terminal in its reset state takes all that a run has sent
 pub run_taken : (t : Table) (partners : ℕ → Option ℕ) → IsChecked t → (rows cols : ℕ) → rows ≡ t.rows → cols ≡ t.cols → (before bytes slice : List ℕ) (calls : List Call) (log : List Entry)

@@ -1,6 +1,6 @@
 -- The definitions of the commands about scripts of calls.
 pub mod Holding
-pub mod Taking
+pub mod Storing
 pub mod Through
 pub mod Showing
 pub mod Preparing

@@ -1,7 +1,7 @@
 //! A wire in memory.
 ghost use Rattle.std.specs.Prelude.{◌≡◌, ◌<◌, ◌≤◌, [], length, take, IfOk, OnErr};
 ghost use Rattle.cur_wires.specs.Wire.{Rose};
-ghost use Rattle.cur_commands.specs.Taking.{Takes};
+ghost use Rattle.cur_commands.specs.Storing.{Stores};
 
 use cur_wires::{Wire, WireFault};
 use std::alloc::Global;
@@ -29,9 +29,9 @@ impl Taken {
 }
 
 impl Wire for Taken {
-    ghost use Rattle.cur_commands.specs.Taking.{Takes, takes_lawful};
+    ghost use Rattle.cur_commands.specs.Storing.{Stores, stores_lawful};
 
-    ghost went = { λ a b x. Takes a.bytes.items b.bytes.items a.failures b.failures x };
+    ghost went = { λ a b x. Stores a.bytes.items b.bytes.items a.failures b.failures x };
 
     ghost failures = { λ a. a.failures };
 
@@ -40,8 +40,8 @@ impl Wire for Taken {
         requires { 0 < length piece.now }
         ensures some { IfOk result (λ n. 0 < n) }
         ensures within { IfOk result (λ n. n ≤ length piece.now) }
-        ensures sent { IfOk result (λ n. Takes self.old.bytes.items self.new.bytes.items self.old.failures self.new.failures (take n piece.now)) }
-        ensures unsent { OnErr result (Takes self.old.bytes.items self.new.bytes.items self.old.failures self.new.failures []) }
+        ensures sent { IfOk result (λ n. Stores self.old.bytes.items self.new.bytes.items self.old.failures self.new.failures (take n piece.now)) }
+        ensures unsent { OnErr result (Stores self.old.bytes.items self.new.bytes.items self.old.failures self.new.failures []) }
         ensures failed { OnErr result (Rose self.old.failures self.new.failures) }
     {
         if self.bytes.extend_from_slice(piece).is_err() {
@@ -51,5 +51,5 @@ impl Wire for Taken {
         Ok(piece.len())
     }
 
-    ghost lawful = { takes_lawful (λ a. a.bytes.items) (λ a. a.failures) };
+    ghost lawful = { stores_lawful (λ a. a.bytes.items) (λ a. a.failures) };
 }

@@ -1,4 +1,4 @@
--- What the log of a run says, wherever the wire failed: what each call did and what it sent, what the terminal then shows, and
+-- What the log of a run says, wherever the wire failed: what each call did and sent, what the terminal then shows, and
 -- the most that a refresh sends (X/Open Curses Issue 7, refresh, doupdate, beep, endwin).
 use Rattle.std.specs.Prelude.{ℕ, ◌+◌, ◌*◌, ◌≤◌, ◌≡◌, Bool, true, false, List, [], ◌∷◌, ◌++◌, length, Option, Some}
 use Rattle.vt_term.specs.Screen.{State}
@@ -65,8 +65,8 @@ pub record IsAfter (t : Table) (bytes : List ℕ) (s : State) : Type 0 where
 
 -- ---- what a call sends
 
--- What it is to send where nothing fails. The terminal is in a state of the kind, and the session has this status; the virtual
--- screen and the cursor's mode are those when the sending begins.
+-- What it is to send where nothing fails. The terminal is in a state of the kind, and the session has this status; the
+-- virtual screen and the cursor's mode are those when the sending begins.
 abbrev pub Says : Table → (ℕ → Option ℕ) → (State → Type 0) → Status → Screen → Mode → Output → List ℕ → Type 0
 Says t partners kind status v m Nothing bytes = bytes ≡ []
 Says t partners kind status v m Update bytes = Lawful t kind status bytes (ink_at t partners v) (wanted_of v m)
@@ -101,15 +101,15 @@ abbrev pub mode_after : Output → Answer → Mode → Mode → Mode
 mode_after Update Done last m = m
 mode_after _ _ last m = last
 
--- where the terminal is known and isn't to be cleared: once more than there are cells that differ from the screen that was
--- shown last, times the bytes of a cell; else all anew
+-- where the terminal is known and isn't to be cleared: once more than there are cells that differ from the screen that
+-- was shown last, times the bytes of a cell; else all anew
 abbrev pub most : Table → Status → Bool → Screen → Screen → ℕ
 most t Known false last v = (in_lines last v t.cols t.rows + 1) * cell_limit t
 most t Known true last v = fresh_limit t
 most t _ clear last v = fresh_limit t
 
--- No cell of the virtual screen differs from what was shown last, nor does the cursor's mode, and the cursor is wanted where it was
--- wanted then, or nowhere. Nothing is to be cleared.
+-- No cell of the virtual screen differs from what was shown last, nor does the cursor's mode, and the cursor is wanted
+-- where it was wanted then, or nowhere. Nothing is to be cleared.
 pub record IsUnchanged (t : Table) (last : Screen) (last_mode : Mode) (v : Screen) (m : Mode) : Type 0 where
   pub same : in_lines last v t.cols t.rows ≡ 0
   pub placed : IsPlaced (place_of v.cursor) (place_of last.cursor)
@@ -119,8 +119,37 @@ pub record IsUnchanged (t : Table) (last : Screen) (last_mode : Mode) (v : Scree
 -- ---- the log
 
 -- the scene when the sending begins
-abbrev pub drawing : {W : Type 0} → Subject W → Moment W → Call → Scene
-drawing about before call = (drawn about.table before.scene call).0
+abbrev pub scene_at : {W : Type 0} → Subject W → Moment W → Call → Scene
+scene_at about before call = (drawn about.table before.scene call).0
+
+-- what the call is to send, whichever state the terminal is in after all that went out before
+abbrev pub Due : {W : Type 0} → Subject W → Moment W → Call → List ℕ → Type 0
+Due about before call =
+    let t = about.table in
+    let d = scene_at about before call in
+    Says t about.partners (IsAfter t before.bytes) before.scene.status d.screen d.mode (output_of call)
+
+-- the most that a refresh sends then
+abbrev pub most_at : {W : Type 0} → Subject W → Moment W → Call → ℕ
+most_at about before call =
+    let v = (scene_at about before call).screen in
+    most about.table before.scene.status v.clearok before.last v
+
+-- nothing differs from what was shown last
+abbrev pub IsUnchangedAt : {W : Type 0} → Subject W → Moment W → Call → Type 0
+IsUnchangedAt about before call =
+    let d = scene_at about before call in
+    IsUnchanged about.table before.last before.last_mode d.screen d.mode
+
+-- every terminal that begins in a first state is so after the bytes, and takes all of them
+abbrev pub FromFresh : {W : Type 0} → Subject W → List ℕ → (State → Type 0) → Type 0
+FromFresh about bytes kind = (s : State) → IsFresh about.table s → Ends s bytes kind
+
+-- it shows the virtual screen of the scene
+abbrev pub ShowsScene : {W : Type 0} → Subject W → Scene → State → Type 0
+ShowsScene about scene =
+    let t = about.table in
+    Shows t (ink_at t about.partners scene.screen) (wanted_of scene.screen scene.mode)
 
 -- One call of a run, from one moment to the next, and its entry in the log.
 pub record Tells {W : Type 0} (about : Subject W) (before : Moment W) (call : Call) (e : Entry) (after : Moment W) : Type 0 where
@@ -131,29 +160,30 @@ pub record Tells {W : Type 0} (about : Subject W) (before : Moment W) (call : Ca
   pub went : about.went before.wire after.wire piece
   pub bytes : after.bytes ≡ before.bytes ++ piece
   pub counted : e.sent ≡ length after.bytes
-  -- that is what the call sends, a front of it where it was cut short, and nothing where it was refused
-  pub emits : Emits (Says about.table about.partners (IsAfter about.table before.bytes) before.scene.status (drawing about before call).screen (drawing about before call).mode (output_of call)) e.answer piece
+  -- that is what the call is to send, a front of it where it was cut short, and nothing where it was refused
+  pub emits : Emits (Due about before call) e.answer piece
   -- no call is cut short but by a wire that failed in it
   pub failed : e.answer ≡ WireFailed → Rose (about.failures before.wire) (about.failures after.wire)
-  -- a terminal that began in a first state takes all that went out so far, and is one from which the next refresh can go on
-  pub takes : (s : State) → IsFresh about.table s → Ends s after.bytes (IsLost about.table)
+  -- the terminal takes all that went out so far, and is one from which the next refresh can go on
+  pub takes : FromFresh about after.bytes (IsLost about.table)
   -- after a refresh that was done it shows the virtual screen
-  pub shows : is_shown (output_of call) e.answer ≡ true → (s : State) → IsFresh about.table s → Ends s after.bytes (Shows about.table (ink_at about.table about.partners after.scene.screen) (wanted_of after.scene.screen after.scene.mode))
+  pub shows : is_shown (output_of call) e.answer ≡ true → FromFresh about after.bytes (ShowsScene about after.scene)
   -- a refresh keeps its bound, done or cut short
-  pub bound : output_of call ≡ Update → length piece ≤ most about.table before.scene.status (drawing about before call).screen.clearok before.last (drawing about before call).screen
+  pub bound : output_of call ≡ Update → length piece ≤ most_at about before call
   -- it sends nothing where the terminal is known and nothing differs from what was shown last
-  pub idle : output_of call ≡ Update → before.scene.status ≡ Known → IsUnchanged about.table before.last before.last_mode (drawing about before call).screen (drawing about before call).mode → piece ≡ []
+  pub idle : output_of call ≡ Update → before.scene.status ≡ Known → IsUnchangedAt about before call → piece ≡ []
   -- what was shown last
   pub last : after.last ≡ last_after (output_of call) e.answer before.last after.scene.screen
   pub last_mode : after.last_mode ≡ mode_after (output_of call) e.answer before.last_mode after.scene.mode
 
--- Each call in turn, with one entry for each, from this moment on. After the last one nothing more goes out up to the wire `new`, and
--- these are all the bytes.
+-- Each call in turn, with one entry for each, from this moment on. After the last one nothing more goes out up to the
+-- wire `new`, and these are all the bytes.
 abbrev pub Plays : {W : Type 0} → Subject W → Moment W → List Call → List Entry → W → List ℕ → Type 0
 Plays about before [] [] new bytes = about.went before.wire new [] × (bytes ≡ before.bytes)
 Plays about before [] (e ∷ log) new bytes = ⊥
 Plays about before (call ∷ calls) [] new bytes = ⊥
-Plays {W} about before (call ∷ calls) (e ∷ log) new bytes = (after : Moment W) × Tells about before call e after × Plays about after calls log new bytes
+Plays {W} about before (call ∷ calls) (e ∷ log) new bytes =
+    (after : Moment W) × Tells about before call e after × Plays about after calls log new bytes
 
 -- a run: all that went out, and one entry for each call
 pub record Ran {W : Type 0} (about : Subject W) (old new : W) (calls : List Call) (log : List Entry) : Type 0 where

@@ -6,16 +6,16 @@ use Rattle.std.proofs.lemmas.List.{append-nil}
 use Rattle.cur_wires.specs.Wire.{IsWire}
 
 -- these bytes were added at the end
-pub record Takes (old new : List ℕ) (failed failures : ℕ) (bytes : List ℕ) : Type 0 where
+pub record Stores (old new : List ℕ) (failed failures : ℕ) (bytes : List ℕ) : Type 0 where
   pub grows : new ≡ old ++ bytes
   pub risen : failed ≤ failures
 
-abbrev pub TakesOf : {C : Type 0} → (C → List ℕ) → (C → ℕ) → C → C → List ℕ → Type 0
-TakesOf taken failures a b x = Takes (taken a) (taken b) (failures a) (failures b) x
+abbrev pub StoresOf : {C : Type 0} → (C → List ℕ) → (C → ℕ) → C → C → List ℕ → Type 0
+StoresOf taken failures a b x = Stores (taken a) (taken b) (failures a) (failures b) x
 
 -- The proof stands here since an impl's law can name nothing of proofs/.
-pub takes_lawful : {C : Type 0} (taken : C → List ℕ) (failures : C → ℕ) → IsWire (TakesOf taken failures) failures
-takes_lawful taken failures = record {
+pub stores_lawful : {C : Type 0} (taken : C → List ℕ) (failures : C → ℕ) → IsWire (StoresOf taken failures) failures
+stores_lawful taken failures = record {
   nothing = λ w. record { grows = sym (append-nil (taken w)); risen = le_refl (failures w) };
   joins = λ a b c x y p q. record {
     grows = q.grows ∙ ap (λ (l : List ℕ). l ++ y) p.grows ∙ append_assoc (taken a) x y;
