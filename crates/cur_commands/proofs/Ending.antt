@@ -9,7 +9,7 @@ use Rattle.vt_term.proofs.Running.{runs_or_sticks}
 use Rattle.ti_commands.specs.Feeding.{ShowsAfter}
 use Rattle.ti_conforms.specs.Certified.{Table}
 use Rattle.cur_play.specs.Log.{Ran}
-use Rattle.cur_play.specs.declared.runs.Entry.{Entry}
+use Rattle.cur_play.specs.declared.runs.LogEntry.{LogEntry}
 use Rattle.cur_commands.specs.Showing.{IsTaken, RanWhole, ShowsRun, refusals_text}
 use Rattle.cur_commands.specs.Through.{AreThrough, unfailing}
 use Rattle.ti_cert.specs.Table.{Content as Strings}
@@ -43,12 +43,12 @@ ready_for held words height width checked text slice calls lent prepared same re
       subst Q (sym lends) (subst P same reads);
 }
 
-pub ran_whole : (t : Table) (partners : ℕ → Option ℕ) (calls : List Call) (before bytes : List ℕ) (log : List Entry) → Ran (unfailing t partners) (Some before) (Some bytes) calls log → before ≡ [] → AreThrough log → RanWhole t partners calls bytes
+pub ran_whole : (t : Table) (partners : ℕ → Option ℕ) (calls : List Call) (before bytes : List ℕ) (log : List LogEntry) → Ran (unfailing t partners) (Some before) (Some bytes) calls log → before ≡ [] → AreThrough log → RanWhole t partners calls bytes
 ran_whole t partners calls before bytes log ran none through =
     let P : List ℕ → Type 0 = λ b. Ran (unfailing t partners) (Some b) (Some bytes) calls log in
     record { log = log; ran = subst P none ran; through = through }
 
-pub shows_run : (t : Table) (partners : ℕ → Option ℕ) (rows cols : ℕ) (calls : List Call) (before bytes slice text lines screen : List ℕ) (log lent : List Entry) → Ran (unfailing t partners) (Some before) (Some bytes) calls log → before ≡ [] → AreThrough log
+pub shows_run : (t : Table) (partners : ℕ → Option ℕ) (rows cols : ℕ) (calls : List Call) (before bytes slice text lines screen : List ℕ) (log lent : List LogEntry) → Ran (unfailing t partners) (Some before) (Some bytes) calls log → before ≡ [] → AreThrough log
     → slice ≡ bytes → ShowsAfter rows cols slice screen → lines ≡ refusals_text 0 lent → lent ≡ log → text ≡ lines ++ screen → ShowsRun t partners rows cols calls text
 unfolding ran_whole
 shows_run t partners rows cols calls before bytes slice text lines screen log lent ran none through same shows told lends joined =
@@ -59,7 +59,7 @@ shows_run t partners rows cols calls before bytes slice text lines screen log le
       whole = ran_whole t partners calls before bytes log ran none through;
       after = here.after;
       runs = here.runs;
-      spelled = joined ∙ ap (λ (l : List ℕ). l ++ screen) (told ∙ ap (λ (l : List Entry). refusals_text 0 l) lends) ∙ ap (λ (l : List ℕ). refusals_text 0 log ++ l) here.spelled;
+      spelled = joined ∙ ap (λ (l : List ℕ). l ++ screen) (told ∙ ap (λ (l : List LogEntry). refusals_text 0 l) lends) ∙ ap (λ (l : List ℕ). refusals_text 0 log ++ l) here.spelled;
     }
 
 -- the same terminal, its size by another name

@@ -11,13 +11,13 @@ use Rattle.cur_paint.proofs.Starting.{reset_fresh}
 use Rattle.cur_play.proofs.Failing.{none_rose}
 use Rattle.cur_play.proofs.Rewiring.{Follows, ran_further, ran_over, ran_taken, ran_through}
 use Rattle.cur_play.specs.Log.{Ran, subject_of}
-use Rattle.cur_play.specs.declared.runs.Entry.{Entry}
+use Rattle.cur_play.specs.declared.runs.LogEntry.{LogEntry}
 use Rattle.cur_commands.specs.Holding.{Holds, HoldsOf, holds_lawful}
 use Rattle.cur_commands.specs.Showing.{IsTaken}
 use Rattle.cur_commands.specs.Storing.{StoresOf}
 use Rattle.cur_commands.specs.Through.{AreThrough, unfailing}
 
-pub through : (t : Table) (partners : ℕ → Option ℕ) (old new : Option (List ℕ)) (calls : List Call) (log : List Entry) → Ran (unfailing t partners) old new calls log → AreThrough log
+pub through : (t : Table) (partners : ℕ → Option ℕ) (old new : Option (List ℕ)) (calls : List Call) (log : List LogEntry) → Ran (unfailing t partners) old new calls log → AreThrough log
 through t partners old new calls log r = ran_through (unfailing t partners) (λ a b rose. none_rose 0 0 refl rose) old new calls log r
 
 -- ---- bytes that are held back
@@ -35,7 +35,7 @@ held_follows contents has_failed output held failures = record {
 }
 
 -- a run, and then what is left is handed on, where nothing failed
-pub held_over : {O C : Type 0} (contents : O → Option (List ℕ)) (has_failed : O → Bool) (output : C → MutBor O) (held : C → List ℕ) (failures : C → ℕ) (t : Table) (partners : ℕ → Option ℕ) (a b c : C) (calls : List Call) (log : List Entry)
+pub held_over : {O C : Type 0} (contents : O → Option (List ℕ)) (has_failed : O → Bool) (output : C → MutBor O) (held : C → List ℕ) (failures : C → ℕ) (t : Table) (partners : ℕ → Option ℕ) (a b c : C) (calls : List Call) (log : List LogEntry)
     → Ran (subject_of (HoldsOf contents has_failed output held failures) failures t partners) a b calls log → Holds contents has_failed (output b) (output c) (held b) (held c) (failures b) (failures c) []
     → failures c ≡ 0 → held a ≡ [] → held c ≡ [] → Ran (unfailing t partners) (contents (output a).now) (contents (output c).now) calls log
 held_over {O} {C} contents has_failed output held failures t partners a b c calls log r passed none first last =
@@ -57,13 +57,13 @@ taken_follows taken failures = record {
   rises = λ a b none rose. absurd (none_rose (failures a) (failures b) none rose);
 }
 
-pub taken_over : {C : Type 0} (taken : C → List ℕ) (failures : C → ℕ) (t : Table) (partners : ℕ → Option ℕ) (a b : C) (calls : List Call) (log : List Entry)
+pub taken_over : {C : Type 0} (taken : C → List ℕ) (failures : C → ℕ) (t : Table) (partners : ℕ → Option ℕ) (a b : C) (calls : List Call) (log : List LogEntry)
     → Ran (subject_of (StoresOf taken failures) failures t partners) a b calls log → failures b ≡ 0 → Ran (unfailing t partners) (Some (taken a)) (Some (taken b)) calls log
 taken_over taken failures t partners a b calls log r none =
     ran_over (StoresOf taken failures) failures Appends (λ known. 0) (λ w. Some (taken w)) (λ w. failures w ≡ 0) (taken_follows taken failures) t partners a b calls log r none
 
 -- a terminal in its reset state takes all that a run has sent
-pub run_taken : (t : Table) (partners : ℕ → Option ℕ) → IsChecked t → (rows cols : ℕ) → rows ≡ t.rows → cols ≡ t.cols → (before bytes slice : List ℕ) (calls : List Call) (log : List Entry)
+pub run_taken : (t : Table) (partners : ℕ → Option ℕ) → IsChecked t → (rows cols : ℕ) → rows ≡ t.rows → cols ≡ t.cols → (before bytes slice : List ℕ) (calls : List Call) (log : List LogEntry)
     → Ran (unfailing t partners) (Some before) (Some bytes) calls log → before ≡ [] → slice ≡ bytes → IsTaken rows cols slice
 run_taken t partners checked rows cols high wide before bytes slice calls log r none same =
     let x = ran_taken (unfailing t partners) (Some before) (Some bytes) calls log r (reset t.rows t.cols) (reset_fresh t checked) in

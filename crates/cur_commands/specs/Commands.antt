@@ -11,7 +11,7 @@ use Rattle.ti_conforms.specs.Certified.{Table}
 use Rattle.cur_calls.specs.declared.calls.Call.{Call}
 use Rattle.cur_calls.specs.Texts.{script_of}
 use Rattle.cur_play.specs.Log.{Ran}
-use Rattle.cur_play.specs.declared.runs.Entry.{Entry}
+use Rattle.cur_play.specs.declared.runs.LogEntry.{LogEntry}
 use Rattle.cur_commands.specs.Preparing.{FailsToPrepare, Prepared}
 use Rattle.cur_commands.specs.Scripts.{IsScriptFailure}
 use Rattle.cur_commands.specs.Showing.{ShowsRun}
@@ -31,7 +31,7 @@ pub record IsPlayed (table : Strings → Table) (partners : Strings → ℕ → 
   pub checked : Strings
   pub calls : List Call
   pub ready : IsReady held words height width checked calls
-  pub log : List Entry
+  pub log : List LogEntry
   pub ran : Ran (unfailing (table checked) (partners checked)) old new calls log
   pub through : AreThrough log
 

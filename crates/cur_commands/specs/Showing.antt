@@ -11,7 +11,7 @@ use Rattle.cur_calls.specs.declared.calls.Call.{Call}
 use Rattle.cur_play.specs.Log.{Ran}
 use Rattle.cur_play.specs.declared.answers.Answer.{Answer}
 use Rattle.cur_play.specs.declared.answers.Answer.TheVariants as answers
-use Rattle.cur_play.specs.declared.runs.Entry.{Entry}
+use Rattle.cur_play.specs.declared.runs.LogEntry.{LogEntry}
 use Rattle.cur_commands.specs.Through.{AreThrough, unfailing}
 
 abbrev pub refusal_name : Refusal → List ℕ
@@ -42,13 +42,13 @@ answer_line n (answers.Refused refusal) = refusal_line n refusal
 answer_line n _ = []
 
 -- the lines of the calls after the first n
-abbrev pub refusals_text : ℕ → List Entry → List ℕ
+abbrev pub refusals_text : ℕ → List LogEntry → List ℕ
 refusals_text n [] = []
 refusals_text n (e ∷ log) = answer_line (n + 1) e.answer ++ refusals_text (n + 1) log
 
 -- A run of these calls, of which none was cut short, and the bytes that it sent in all.
 pub record RanWhole (t : Table) (partners : ℕ → Option ℕ) (calls : List Call) (bytes : List ℕ) : Type 0 where
-  pub log : List Entry
+  pub log : List LogEntry
   pub ran : Ran (unfailing t partners) (Some []) (Some bytes) calls log
   pub through : AreThrough log
 

@@ -7,17 +7,17 @@ use Rattle.ti_commands.specs.declared.failure.Failure.TheVariants.{Output, NoMem
 use Rattle.ti_conforms.specs.Certified.{Table}
 use Rattle.cur_play.specs.Log.{Subject, subject_of}
 use Rattle.cur_play.specs.declared.answers.Answer.TheVariants.{WireFailed}
-use Rattle.cur_play.specs.declared.runs.Entry.{Entry}
+use Rattle.cur_play.specs.declared.runs.LogEntry.{LogEntry}
 
 -- what a run is about over an output that didn't fail, where its bytes are known
 abbrev pub unfailing : Table → (ℕ → Option ℕ) → Subject (Option (List ℕ))
 unfailing t partners = subject_of Appends (λ output. 0) t partners
 
 -- no call was cut short
-abbrev pub IsThrough : Entry → Type 0
+abbrev pub IsThrough : LogEntry → Type 0
 IsThrough e = e.answer ≡ WireFailed → ⊥
 
-abbrev pub AreThrough : List Entry → Type 0
+abbrev pub AreThrough : List LogEntry → Type 0
 AreThrough log = AllByRecursion IsThrough log
 
 -- there was no memory, and nothing was written; or the output has failed

@@ -2,13 +2,13 @@
 ghost use Rattle.std.specs.Prelude.{◌≡◌, ◌++◌, IfOk, OnOk};
 ghost use Rattle.cur_commands.specs.Showing as spec;
 
-use cur_play::{Answer, Entry};
+use cur_play::{Answer, LogEntry};
 use cur_windows::Refusal;
 use std::alloc::{AllocError, Global};
 
 /// A line for each call that was refused; calls are counted from 1.
 #[tactic(auto, using(crate::proofs::Telling::lines_more))]
-pub fn refusal_lines(alloc: Global, log: &[Entry]) -> Result<Vec<u8>, AllocError>
+pub fn refusal_lines(alloc: Global, log: &[LogEntry]) -> Result<Vec<u8>, AllocError>
     ensures { IfOk result (λ lines. lines.items ≡ spec.refusals_text 0 log.now) }
 {
     let mut lines = Vec::new(alloc);

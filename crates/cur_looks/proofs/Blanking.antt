@@ -11,26 +11,26 @@ use Rattle.cur_looks.specs.declared.inks.Ink.{Ink}
 use Rattle.ti_conforms.specs.Certified.{Table, limit_of}
 use Rattle.cur_looks.specs.Inks.{rendition_of, blank_ink, plain_brush}
 use Rattle.cur_looks.specs.Beliefs.{Agrees, Belief, Place, Turns, IsHere}
-use Rattle.cur_looks.specs.Erasures.{Erasure, Head, Part, Rest, erasure_row, is_erased, erased}
+use Rattle.cur_looks.specs.Erasures.{ErasedPart, Head, Part, Rest, erasure_row, is_erased, erased}
 use Rattle.cur_looks.proofs.Turning.{look_at-drawn, free_of, by_screen, calmly, drawn_look}
 
-starts_calmly : (e : Erasure) (rows cols : ℕ) (s : Screen) → IsCalm rows cols s → Starts rows cols (erasure_row e) s
+starts_calmly : (e : ErasedPart) (rows cols : ℕ) (s : Screen) → IsCalm rows cols s → Starts rows cols (erasure_row e) s
 starts_calmly Head rows cols s h = h
 starts_calmly (Part n) rows cols s h = h
 starts_calmly Rest rows cols s h = h
 
-blanks : (l : Looks) (e : Erasure) (s u : Screen) → Wants l (erasure_row e) s u → Blanks (is_erased e s.row s.col) s u
+blanks : (l : Looks) (e : ErasedPart) (s u : Screen) → Wants l (erasure_row e) s u → Blanks (is_erased e s.row s.col) s u
 blanks l Head s u h = h
 blanks l (Part n) s u h = h
 blanks l Rest s u h = h
 
-pub erasure_limit : (t : Table) (e : Erasure) → limit_of t (erasure_row e) ≤ t.longest.erasure
+pub erasure_limit : (t : Table) (e : ErasedPart) → limit_of t (erasure_row e) ≤ t.longest.erasure
 erasure_limit t Head = omega arith
 erasure_limit t (Part n) = omega arith
 erasure_limit t Rest = omega arith
 
 -- erased from where the cursor is known to be, in the plain brush
-pub turns_erased : (t : Table) (g : ℕ → ℕ → Ink) (b : Belief) (e : Erasure) (r c : ℕ) → c < t.cols → b.place ≡ Some (record { row = r; col = c }) → b.brush ≡ plain_brush → Turns t (erasure_row e) g b (erased e r c g) b
+pub turns_erased : (t : Table) (g : ℕ → ℕ → Ink) (b : Belief) (e : ErasedPart) (r c : ℕ) → c < t.cols → b.place ≡ Some (record { row = r; col = c }) → b.brush ≡ plain_brush → Turns t (erasure_row e) g b (erased e r c g) b
 turns_erased t g b e r c lc p q = record {
   starts = λ s h. (let at : (s.screen.row ≡ r) × (s.screen.col ≡ c) × (s.screen.pending ≡ false) = calmly t.cols (record { row = r; col = c }) s.screen.row s.screen.col s.screen.pending lc (subst (λ (o : Option Place). IsHere t.cols o s.screen.row s.screen.col s.screen.pending) p h.place) in
       starts_calmly e t.rows t.cols s.screen (record { free = free_of t s h.ready; pending = at.2 }));

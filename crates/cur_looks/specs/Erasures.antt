@@ -4,20 +4,20 @@ use Rattle.ti_rows.specs.declared.rows.Row.{Row}
 use Rattle.ti_rows.specs.declared.rows.Row.TheVariants.{El1, Ed, Ech}
 use Rattle.cur_looks.specs.Inks.{blank_ink}
 use Rattle.cur_looks.specs.declared.inks.Ink.{Ink}
-pub use Rattle.cur_looks.specs.declared.erasing.Erasure.{Erasure}
-pub use Rattle.cur_looks.specs.declared.erasing.Erasure.TheVariants.{Head, Part, Rest}
+pub use Rattle.cur_looks.specs.declared.erasing.ErasedPart.{ErasedPart}
+pub use Rattle.cur_looks.specs.declared.erasing.ErasedPart.TheVariants.{Head, Part, Rest}
 
 -- the row whose line erases it
-abbrev pub erasure_row : Erasure → Row
+abbrev pub erasure_row : ErasedPart → Row
 erasure_row Head = El1
 erasure_row (Part n) = Ech n
 erasure_row Rest = Ed
 
 -- the places that become blank where the cursor is at (r, c)
-abbrev pub is_erased : Erasure → ℕ → ℕ → ℕ → ℕ → Bool
+abbrev pub is_erased : ErasedPart → ℕ → ℕ → ℕ → ℕ → Bool
 is_erased Head r c i j = (i == r) && nat_le j c
 is_erased (Part n) r c i j = (i == r) && (nat_le c j && nat_lt j (c + n))
 is_erased Rest r c i j = nat_lt r i || ((i == r) && nat_le c j)
 
-abbrev pub erased : Erasure → ℕ → ℕ → (ℕ → ℕ → Ink) → ℕ → ℕ → Ink
+abbrev pub erased : ErasedPart → ℕ → ℕ → (ℕ → ℕ → Ink) → ℕ → ℕ → Ink
 erased e r c g i j = if is_erased e r c i j then blank_ink else g i j

@@ -7,7 +7,7 @@ ghost use Rattle.cur_looks.specs.Beliefs.{IsNext, plain_limit, colors_limit, bru
 ghost use Rattle.cur_looks.specs.Steps.{IsGoal, Keeps, KeepsFrom, Makes, MakesFrom};
 
 use crate::beliefs::{Belief, Place};
-use crate::inks::{Brush, Ink, View, same_attributes};
+use crate::inks::{Brush, Ink, Picture, same_attributes};
 use crate::reaching::reach;
 use crate::routes::is_alike;
 use crate::steps::{
@@ -105,7 +105,7 @@ pub(crate) fn brush_as<C: Certificate, W: Wire>(
 }
 
 /// Moves the cursor to `at`, in a line that is shown as far as that place, and makes the brush `wanted`.
-pub(crate) fn reach_in_brush<C: Certificate, N: View, W: Wire>(
+pub(crate) fn reach_in_brush<C: Certificate, N: Picture, W: Wire>(
     target: &Target<'_, C, N>,
     belief: &mut Belief,
     wire: &mut W,
@@ -154,7 +154,7 @@ fn wraps_to(place: Option<Place>, cols: usize, at: Place) -> bool
 }
 
 /// Takes the next character to `at`, in a line that is shown as far as that place.
-fn approach<C: Certificate, N: View, W: Wire>(
+fn approach<C: Certificate, N: Picture, W: Wire>(
     target: &Target<'_, C, N>,
     belief: &mut Belief,
     wire: &mut W,
@@ -197,7 +197,7 @@ fn put_here<C: Certificate, W: Wire>(
 }
 
 /// Prints `ink` at `at`, in a line that is shown as far as that place.
-pub fn put_cell<C: Certificate, N: View, W: Wire>(
+pub fn put_cell<C: Certificate, N: Picture, W: Wire>(
     target: &Target<'_, C, N>,
     belief: &mut Belief,
     wire: &mut W,
@@ -219,7 +219,7 @@ pub fn put_cell<C: Certificate, N: View, W: Wire>(
 }
 
 /// Makes a line that is shown as far as `at` blank from there on, by the string `tail`.
-pub fn blank_tail<C: Certificate, N: View, W: Wire>(
+pub fn blank_tail<C: Certificate, N: Picture, W: Wire>(
     target: &Target<'_, C, N>,
     belief: &mut Belief,
     wire: &mut W,

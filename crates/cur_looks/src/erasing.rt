@@ -8,7 +8,7 @@ ghost use Rattle.cur_looks.specs.Steps.{IsGoal, Keeps, Makes, MakesFrom};
 
 use crate::beliefs::{Belief, Place};
 use crate::cells::{brush_as, reach_in_brush};
-use crate::inks::{Brush, View};
+use crate::inks::{Brush, Picture};
 use crate::lines::send_line;
 use crate::reaching::reach_by_line;
 use crate::targets::Target;
@@ -18,7 +18,7 @@ use ti_rows::Row;
 
 /// What is erased.
 #[derive(Clone, Copy)]
-pub enum Erasure {
+pub enum ErasedPart {
     /// The cursor's line as far as the cursor, its place included.
     Head,
     /// This many cells of the cursor's line, from the cursor on.
@@ -28,18 +28,18 @@ pub enum Erasure {
 }
 
 /// The row whose line erases `erasure`.
-fn row_of_erasure(erasure: Erasure) -> Row
+fn row_of_erasure(erasure: ErasedPart) -> Row
     ensures { result ≡ erasure_row erasure }
 {
     match erasure {
-        Erasure::Head => Row::El1,
-        Erasure::Part(count) => Row::Ech(count),
-        Erasure::Rest => Row::Ed,
+        ErasedPart::Head => Row::El1,
+        ErasedPart::Part(count) => Row::Ech(count),
+        ErasedPart::Rest => Row::Ed,
     }
 }
 
 /// The line that erases `erasure`, if there is one.
-pub fn erasing_line<C: Certificate>(checked: &C, erasure: Erasure) -> Option<&[u8]>
+pub fn erasing_line<C: Certificate>(checked: &C, erasure: ErasedPart) -> Option<&[u8]>
     ensures value { IfSome result (λ b. (C.table checked.now).line_of (erasure_row erasure) ≡ Some b.now) }
     ensures none { result ≡ None → (C.table checked.now).line_of (erasure_row erasure) ≡ None }
 {
@@ -53,7 +53,7 @@ fn erase_here<C: Certificate, W: Wire>(
     belief: &Belief,
     wire: &mut W,
     at: Place,
-    erasure: Erasure,
+    erasure: ErasedPart,
 ) -> Result<(), WireFault>
     requires checked { IsChecked (C.table checked.now) }
     requires col { at.col < (C.table checked.now).cols }
@@ -84,12 +84,12 @@ fn reach_plainly<C: Certificate, W: Wire>(
 }
 
 /// Erases `erasure` by its string `line`, from the place `at` of a line that is shown as far as that place.
-pub fn erase_from<C: Certificate, N: View, W: Wire>(
+pub fn erase_from<C: Certificate, N: Picture, W: Wire>(
     target: &Target<'_, C, N>,
     belief: &mut Belief,
     wire: &mut W,
     at: Place,
-    erasure: Erasure,
+    erasure: ErasedPart,
     line: &[u8],
 ) -> Result<(), WireFault>
     requires drawable { CanShow (C.table target.now.checked.now) (N.cells target.now.shown.now) }
@@ -112,7 +112,7 @@ pub fn erase_at<C: Certificate, W: Wire>(
     belief: &mut Belief,
     wire: &mut W,
     at: Place,
-    erasure: Erasure,
+    erasure: ErasedPart,
     line: &[u8],
 ) -> Result<(), WireFault>
     requires row { at.row < (C.table checked.now).rows }

@@ -22,7 +22,7 @@ pub struct Ink {
 }
 
 /// A screen by its places.
-pub trait View {
+pub trait Picture {
     ghost use Rattle.cur_looks.specs.Inks.{byte_as, same, blank_ink};
     ghost use Rattle.cur_looks.specs.declared.inks.Ink.{Ink};
 
@@ -58,7 +58,7 @@ pub trait View {
 /// A blank screen.
 pub struct Blank;
 
-impl View for Blank {
+impl Picture for Blank {
     ghost use Rattle.cur_looks.specs.Inks.{blank_ink};
 
     ghost cells = { λ b i j. blank_ink };

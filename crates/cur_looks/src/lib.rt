@@ -18,8 +18,8 @@ mod texts;
 
 pub use beliefs::{Belief, Mode, Place};
 pub use cells::{blank_tail, put_cell};
-pub use erasing::{Erasure, erase_at, erase_from, erasing_line};
-pub use inks::{Blank, Brush, Ink, View, byte_as, is_same};
+pub use erasing::{ErasedPart, erase_at, erase_from, erasing_line};
+pub use inks::{Blank, Brush, Ink, Picture, byte_as, is_same};
 pub use modes::show_as;
 pub use reaching::{line_bytes, reach};
 pub use targets::Target;

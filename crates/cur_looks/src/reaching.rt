@@ -9,7 +9,7 @@ ghost use Rattle.cur_looks.specs.Routes.{IsLeg, IsStop, IsRoute, leg_bytes, at_s
 ghost use Rattle.cur_looks.specs.Steps.{IsGoal, Keeps, KeepsFrom};
 
 use crate::beliefs::{Belief, Place};
-use crate::inks::View;
+use crate::inks::Picture;
 use crate::lines::send_line;
 use crate::moves::shortest;
 use crate::routes::{Leg, Route, Stop, route_to};
@@ -19,7 +19,7 @@ use cur_wires::{Wire, WireFault};
 use ti_conforms::Certificate;
 
 /// Prints once more the `count` cells from `from` on, where the cursor is known to be.
-fn reprint<C: Certificate, N: View, W: Wire>(
+fn reprint<C: Certificate, N: Picture, W: Wire>(
     target: &Target<'_, C, N>,
     belief: &mut Belief,
     wire: &mut W,
@@ -48,7 +48,7 @@ fn reprint<C: Certificate, N: View, W: Wire>(
 }
 
 /// Goes to `at` by the last leg `leg` of a way.
-fn follow_leg<C: Certificate, N: View, W: Wire>(
+fn follow_leg<C: Certificate, N: Picture, W: Wire>(
     target: &Target<'_, C, N>,
     belief: &mut Belief,
     wire: &mut W,
@@ -101,7 +101,7 @@ fn go_to_stop<C: Certificate, W: Wire>(
 }
 
 /// Goes to `at` by the way `route`.
-fn follow_route<C: Certificate, N: View, W: Wire>(
+fn follow_route<C: Certificate, N: Picture, W: Wire>(
     target: &Target<'_, C, N>,
     belief: &mut Belief,
     wire: &mut W,
@@ -126,7 +126,7 @@ fn follow_route<C: Certificate, N: View, W: Wire>(
 }
 
 /// Moves the cursor to `at`, in a line that is shown as far as that place.
-pub fn reach<C: Certificate, N: View, W: Wire>(
+pub fn reach<C: Certificate, N: Picture, W: Wire>(
     target: &Target<'_, C, N>,
     belief: &mut Belief,
     wire: &mut W,

@@ -9,7 +9,7 @@ ghost use Rattle.cur_looks.specs.Routes.{IsLeg, IsRoute, leg_bytes};
 ghost use Rattle.cur_looks.specs.Steps.{IsGoal};
 
 use crate::beliefs::{Belief, Place};
-use crate::inks::{Ink, View, same_brush};
+use crate::inks::{Ink, Picture, same_brush};
 use crate::moves::shortest;
 use crate::steps::is_active;
 use crate::targets::Target;
@@ -56,7 +56,7 @@ pub(crate) fn is_alike(belief: &Belief, ink: Ink) -> bool
 }
 
 /// Whether the `count` cells from `from` on are printed in the brush and the set that are known.
-fn are_alike<N: View>(belief: &Belief, shown: &N, from: Place, count: usize) -> bool
+fn are_alike<N: Picture>(belief: &Belief, shown: &N, from: Place, count: usize) -> bool
     requires { from.col + count ≤ 1000 }
     ensures { result ≡ true → (k : ℕ) → k < count → IsAlike belief.now (N.cells shown.now from.row (from.col + k)) }
 {
@@ -70,7 +70,7 @@ fn are_alike<N: View>(belief: &Belief, shown: &N, from: Place, count: usize) -> 
 
 /// The column where the cursor stands in the line of `at`, if the cells from there to `at` are fewer than the bytes of
 /// the move, `bytes`, and are printed like this now.
-fn gap_start<C: Certificate, N: View>(
+fn gap_start<C: Certificate, N: Picture>(
     target: &Target<'_, C, N>,
     belief: &Belief,
     at: Place,
@@ -96,7 +96,7 @@ fn gap_start<C: Certificate, N: View>(
 }
 
 /// A leg to `at` from where the cursor is believed to be.
-fn leg_to<C: Certificate, N: View>(
+fn leg_to<C: Certificate, N: Picture>(
     target: &Target<'_, C, N>,
     belief: &Belief,
     at: Place,
@@ -120,7 +120,11 @@ fn leg_to<C: Certificate, N: View>(
 }
 
 /// A way to `at` without a stop.
-fn direct<C: Certificate, N: View>(target: &Target<'_, C, N>, belief: &Belief, at: Place) -> Route
+fn direct<C: Certificate, N: Picture>(
+    target: &Target<'_, C, N>,
+    belief: &Belief,
+    at: Place,
+) -> Route
     requires goal { IsGoal (C.table target.now.checked.now) at }
     ensures route { IsRoute (C.table target.now.checked.now) belief.now (N.cells target.now.shown.now)
         at.row at.col result }
@@ -134,7 +138,7 @@ fn direct<C: Certificate, N: View>(target: &Target<'_, C, N>, belief: &Belief, a
 }
 
 /// The way to `at` with the stop `stop`, if it is shorter than `best`.
-fn with_stop<C: Certificate, N: View>(
+fn with_stop<C: Certificate, N: Picture>(
     target: &Target<'_, C, N>,
     belief: &Belief,
     at: Place,
@@ -213,7 +217,7 @@ fn same_column<C: Certificate>(checked: &C, from: Place, row: usize) -> Stop
 
 /// A way of few bytes to `at`: without a stop, or with one in the corner, at the start of the cursor's line, or in the
 /// line of `at`. A stop from which `cup` alone leads on is left out.
-pub(crate) fn route_to<C: Certificate, N: View>(
+pub(crate) fn route_to<C: Certificate, N: Picture>(
     target: &Target<'_, C, N>,
     belief: &Belief,
     at: Place,
@@ -232,7 +236,7 @@ pub(crate) fn route_to<C: Certificate, N: View>(
 }
 
 /// The way by the corner, if it is shorter than `best`: to a place of the first line or the first column.
-fn by_corner<C: Certificate, N: View>(
+fn by_corner<C: Certificate, N: Picture>(
     target: &Target<'_, C, N>,
     belief: &Belief,
     at: Place,
@@ -252,7 +256,7 @@ fn by_corner<C: Certificate, N: View>(
 
 /// The way by the start of the line of `from`, where the cursor is, if it is shorter than `best`: to a place of that
 /// line or of the first column.
-fn by_line_start<C: Certificate, N: View>(
+fn by_line_start<C: Certificate, N: Picture>(
     target: &Target<'_, C, N>,
     belief: &Belief,
     at: Place,
@@ -273,7 +277,7 @@ fn by_line_start<C: Certificate, N: View>(
 }
 
 /// The way by the column of `from`, where the cursor is, if it is shorter than `best`: to a place of another line.
-fn by_column<C: Certificate, N: View>(
+fn by_column<C: Certificate, N: Picture>(
     target: &Target<'_, C, N>,
     belief: &Belief,
     at: Place,

@@ -6,7 +6,7 @@ ghost use Rattle.cur_looks.specs.Steps.{Acts};
 ghost use Rattle.cur_looks.specs.declared.inks.Ink.{Ink};
 
 use crate::beliefs::{Belief, Place};
-use crate::inks::{Ink, View};
+use crate::inks::{Ink, Picture};
 use crate::routes::is_alike;
 use crate::steps::stands;
 use crate::targets::Target;
@@ -24,7 +24,7 @@ pub fn goes_on(belief: &Belief, at: Place, ink: Ink) -> bool
 
 /// Prints the first `count` bytes of `text`, which are the characters of the target's line from `at` on, where the
 /// cursor is known to be. All of them are printed in the brush and the set that are known.
-pub fn print_text<C: Certificate, N: View, W: Wire>(
+pub fn print_text<C: Certificate, N: Picture, W: Wire>(
     target: &Target<'_, C, N>,
     belief: &mut Belief,
     wire: &mut W,

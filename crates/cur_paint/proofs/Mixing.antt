@@ -5,7 +5,7 @@ use Rattle.std.proofs.lemmas.Bool.{cases_lt}
 use Rattle.cur_looks.specs.Inks.{same, mixed, put_at, tail_blank, blank_ink}
 use Rattle.cur_looks.specs.Gaps.{BeginsAs, IsAlike}
 use Rattle.cur_looks.specs.Erasures.{erased}
-use Rattle.cur_looks.specs.declared.erasing.Erasure.TheVariants.{Head, Part, Rest}
+use Rattle.cur_looks.specs.declared.erasing.ErasedPart.TheVariants.{Head, Part, Rest}
 use Rattle.cur_paint.specs.Differ.{differs, span, all_differ}
 use Rattle.cur_paint.specs.Blanks.{IsBlankFrom}
 use Rattle.ti_conforms.specs.Certified.{Table, cell_limit}

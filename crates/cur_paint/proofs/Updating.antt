@@ -14,12 +14,12 @@ use Rattle.cur_looks.specs.Beliefs.{CanHide}
 use Rattle.cur_paint.specs.Limits.{IsWithin}
 use Rattle.cur_paint.specs.Update.{Draws, Shows, Lawful, Begins, BeginsWith, Fits, Refreshed, CutShort}
 use Rattle.cur_paint.specs.declared.updates.Wanted.{Wanted}
-use Rattle.cur_paint.specs.declared.updates.Session.{Session}
+use Rattle.cur_paint.specs.declared.updates.Knowledge.{Knowledge}
 use Rattle.cur_paint.specs.declared.updates.Status.{Status}
 use Rattle.cur_paint.specs.declared.updates.Status.TheVariants.{Fresh, Known, Lost}
 use Rattle.cur_paint.proofs.Reaching.{anywhere_shows, agrees_shows}
 
-pub refreshed : {W T E : Type 0} (went : W → W → List ℕ → Type 0) (failures : W → ℕ) (a z : W) (v : T) (t : Table) (shown g : ℕ → ℕ → Ink) (w : Wanted) (before : Session) (after : Belief)
+pub refreshed : {W T E : Type 0} (went : W → W → List ℕ → Type 0) (failures : W → ℕ) (a z : W) (v : T) (t : Table) (shown g : ℕ → ℕ → Ink) (w : Wanted) (before : Knowledge) (after : Belief)
     → IsWithin t w.cursor → Draws {T = T} {E = E} went failures a z (Ok v) t shown g w before.status before.belief after → Refreshed went a z t shown g w before (record { status = Known; belief = after })
 refreshed went failures a z v t shown g w before after within d = record {
   bytes = d.step.bytes;
@@ -60,7 +60,7 @@ completed t A status bytes front back g w pieces made each begins ends k parts =
       shows = λ s f. ends_then (IsLost t) (Shows t g w) s bytes k.bytes (ends s f) k.ends;
     })
 
-pub cut_short : {W T E : Type 0} (went : W → W → List ℕ → Type 0) (failures : W → ℕ) (a z : W) (v : E) (t : Table) (shown g : ℕ → ℕ → Ink) (w : Wanted) (before : Session) (after : Belief)
+pub cut_short : {W T E : Type 0} (went : W → W → List ℕ → Type 0) (failures : W → ℕ) (a z : W) (v : E) (t : Table) (shown g : ℕ → ℕ → Ink) (w : Wanted) (before : Knowledge) (after : Belief)
     → IsChecked t → CanShow t g → IsWithin t w.cursor → CanHide t w.mode
     → Draws {T = T} {E = E} went failures a z (Err v) t shown g w before.status before.belief after → CutShort went failures a z t shown g w before (record { status = Lost; belief = after })
 cut_short went failures a z v t shown g w before after checked fit within can d =

@@ -7,7 +7,7 @@ use Rattle.ti_rows.specs.declared.rows.Row.TheVariants.{Cup, Sgr0, Rmacs, Cnorm,
 use Rattle.ti_conforms.specs.Certified.{Table, IsLost, text_of}
 use Rattle.cur_looks.specs.declared.inks.Ink.{Ink}
 use Rattle.cur_paint.specs.Update.{Fits, IsFresh}
-use Rattle.cur_paint.specs.declared.updates.Session.{Session}
+use Rattle.cur_paint.specs.declared.updates.Knowledge.{Knowledge}
 use Rattle.cur_paint.specs.declared.updates.Status.{Status}
 use Rattle.cur_paint.specs.declared.updates.Status.TheVariants.{Fresh, Known, Lost}
 
@@ -30,12 +30,12 @@ finish_text t Fresh = []
 finish_text t Known = end_text t
 finish_text t Lost = t.resync ++ end_text t
 
-pub record Finished {W : Type 0} (went : W → W → List ℕ → Type 0) (old new : W) (t : Table) (before after : Session) : Type 0 where
+pub record Finished {W : Type 0} (went : W → W → List ℕ → Type 0) (old new : W) (t : Table) (before after : Knowledge) : Type 0 where
   pub sent : went old new (finish_text t before.status)
   pub fits : (g : ℕ → ℕ → Ink) (s : State) → Fits t g before.status before.belief s → Ends s (finish_text t before.status) (IsFresh t)
   pub fresh : after.status ≡ Fresh
 
-pub record FinishedShort {W : Type 0} (went : W → W → List ℕ → Type 0) (failures : W → ℕ) (old new : W) (t : Table) (before after : Session) : Type 0 where
+pub record FinishedShort {W : Type 0} (went : W → W → List ℕ → Type 0) (failures : W → ℕ) (old new : W) (t : Table) (before after : Knowledge) : Type 0 where
   pub front : List ℕ
   pub back : List ℕ
   pub parts : finish_text t before.status ≡ front ++ back
@@ -44,6 +44,6 @@ pub record FinishedShort {W : Type 0} (went : W → W → List ℕ → Type 0) (
   pub fits : (g : ℕ → ℕ → Ink) (s : State) → Fits t g before.status before.belief s → Ends s front (IsLost t)
   pub lost : after.status ≡ Lost
 
-abbrev pub Finishes : {W T E : Type 0} → (W → W → List ℕ → Type 0) → (W → ℕ) → W → W → Result T E → Table → Session → Session → Type 0
+abbrev pub Finishes : {W T E : Type 0} → (W → W → List ℕ → Type 0) → (W → ℕ) → W → W → Result T E → Table → Knowledge → Knowledge → Type 0
 Finishes went failures old new (Ok x) t before after = Finished went old new t before after
 Finishes went failures old new (Err e) t before after = FinishedShort went failures old new t before after

@@ -15,7 +15,7 @@ use Rattle.cur_looks.specs.declared.beliefs.Place.{Place}
 use Rattle.cur_looks.specs.declared.inks.Ink.{Ink}
 use Rattle.cur_paint.specs.Limits.{paint_limit, fresh_limit, IsPlaced}
 use Rattle.cur_paint.specs.declared.updates.Wanted.{Wanted}
-use Rattle.cur_paint.specs.declared.updates.Session.{Session}
+use Rattle.cur_paint.specs.declared.updates.Knowledge.{Knowledge}
 use Rattle.cur_paint.specs.declared.updates.Status.{Status}
 use Rattle.cur_paint.specs.declared.updates.Status.TheVariants.{Fresh, Known, Lost}
 
@@ -84,7 +84,7 @@ pub record Anew {W T E : Type 0} (went : W → W → List ℕ → Type 0) (failu
 
 -- A refresh that was done: every state that fits before, run over what went out, shows the screen and fits after. The bytes are lawful
 -- and keep the bound.
-pub record Refreshed {W : Type 0} (went : W → W → List ℕ → Type 0) (old new : W) (t : Table) (shown g : ℕ → ℕ → Ink) (w : Wanted) (before after : Session) : Type 0 where
+pub record Refreshed {W : Type 0} (went : W → W → List ℕ → Type 0) (old new : W) (t : Table) (shown g : ℕ → ℕ → Ink) (w : Wanted) (before after : Knowledge) : Type 0 where
   pub bytes : List ℕ
   pub sent : went old new bytes
   pub bound : length bytes ≤ refresh_limit t shown g before.status before.belief w
@@ -95,7 +95,7 @@ pub record Refreshed {W : Type 0} (went : W → W → List ℕ → Type 0) (old 
   pub mode : after.belief.mode ≡ Some w.mode
 
 -- A refresh that the wire cut short: a front of lawful bytes went out, and the terminal may be in any state that fits a lost session.
-pub record CutShort {W : Type 0} (went : W → W → List ℕ → Type 0) (failures : W → ℕ) (old new : W) (t : Table) (shown g : ℕ → ℕ → Ink) (w : Wanted) (before after : Session) : Type 0 where
+pub record CutShort {W : Type 0} (went : W → W → List ℕ → Type 0) (failures : W → ℕ) (old new : W) (t : Table) (shown g : ℕ → ℕ → Ink) (w : Wanted) (before after : Knowledge) : Type 0 where
   pub front : List ℕ
   pub back : List ℕ
   pub sent : went old new front
@@ -105,6 +105,6 @@ pub record CutShort {W : Type 0} (went : W → W → List ℕ → Type 0) (failu
   pub fits : (s : State) → Fits t shown before.status before.belief s → Ends s front (IsLost t)
   pub lost : after.status ≡ Lost
 
-abbrev pub Refreshes : {W T E : Type 0} → (W → W → List ℕ → Type 0) → (W → ℕ) → W → W → Result T E → Table → (ℕ → ℕ → Ink) → (ℕ → ℕ → Ink) → Wanted → Session → Session → Type 0
+abbrev pub Refreshes : {W T E : Type 0} → (W → W → List ℕ → Type 0) → (W → ℕ) → W → W → Result T E → Table → (ℕ → ℕ → Ink) → (ℕ → ℕ → Ink) → Wanted → Knowledge → Knowledge → Type 0
 Refreshes went failures old new (Ok x) t shown g w before after = Refreshed went old new t shown g w before after
 Refreshes went failures old new (Err e) t shown g w before after = CutShort went failures old new t shown g w before after

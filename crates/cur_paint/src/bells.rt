@@ -3,14 +3,14 @@ ghost use Rattle.std.specs.Prelude.{◌≡◌, ◌↔◌, true};
 ghost use Rattle.cur_paint.specs.declared.updates.Status.TheVariants.{Lost};
 ghost use Rattle.cur_paint.specs.Beep.{Beeps};
 
-use crate::updates::{Session, Status};
+use crate::updates::{Knowledge, Status};
 use cur_looks::Row;
 use cur_wires::{Wire, WireFault, send_all};
 use ti_conforms::Certificate;
 
 /// Why nothing, or not all, was sent.
 #[derive(Clone, Copy)]
-pub enum Unsent {
+pub enum BellFault {
     /// The entry has no string for it.
     NoCap,
     /// An output failed, and no refresh was done since.
@@ -23,24 +23,24 @@ pub enum Unsent {
 /// fault a front of the string went out, and the session is lost.
 pub fn beep<C: Certificate, W: Wire>(
     checked: &C,
-    session: &mut Session,
+    session: &mut Knowledge,
     wire: &mut W,
-) -> Result<(), Unsent>
+) -> Result<(), BellFault>
     ensures beeps { Beeps W.went W.failures wire.old wire.new result (C.table checked.now) session.old session.new }
 {
     // only this call's contract says that the certificate is verified
     let _ = checked.rows();
     let Some(line) = checked.line(Row::Bel) else {
-        return Err(Unsent::NoCap);
+        return Err(BellFault::NoCap);
     };
     if is_lost(session.status) {
-        return Err(Unsent::Stray);
+        return Err(BellFault::Stray);
     }
     match send_all(wire, line) {
         Ok(()) => Ok(()),
         Err(fault) => {
             session.status = Status::Lost;
-            Err(Unsent::Wire(fault))
+            Err(BellFault::Wire(fault))
         }
     }
 }

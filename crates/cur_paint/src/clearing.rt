@@ -5,14 +5,14 @@ ghost use Rattle.cur_paint.specs.Differ.{differs, span, all_differ};
 use crate::changes::Changes;
 use crate::parts::are_blank;
 use crate::rows::may_differ;
-use cur_looks::{Row, View};
+use cur_looks::{Picture, Row};
 use ti_conforms::Certificate;
 
 /// What a move and a look take at least once more in a line of which cells are printed again.
 const AGAIN: usize = 8;
 
 /// 1 if the place in line `row` and column `col` differs, else 0.
-fn differing<O: View, N: View>(old: &O, new: &N, row: usize, col: usize) -> usize
+fn differing<O: Picture, N: Picture>(old: &O, new: &N, row: usize, col: usize) -> usize
     ensures value { result ≡ differs (O.cells old.now) (N.cells new.now) row col }
     ensures few { result ≤ 1 }
 {
@@ -24,7 +24,7 @@ fn differing<O: View, N: View>(old: &O, new: &N, row: usize, col: usize) -> usiz
 }
 
 /// In how many of its first `cols` cells the line `row` differs.
-fn count_line<O: View, N: View>(old: &O, new: &N, row: usize, cols: usize) -> usize
+fn count_line<O: Picture, N: Picture>(old: &O, new: &N, row: usize, cols: usize) -> usize
     requires { cols ≤ 1000 }
     ensures value { result ≡ span (O.cells old.now) (N.cells new.now) row 0 cols }
     ensures few { result ≤ cols }
@@ -37,7 +37,7 @@ fn count_line<O: View, N: View>(old: &O, new: &N, row: usize, cols: usize) -> us
 }
 
 /// In how many of their first `cols` cells the first `rows` lines differ.
-fn count_lines<O: View, N: View>(old: &O, new: &N, rows: usize, cols: usize) -> usize
+fn count_lines<O: Picture, N: Picture>(old: &O, new: &N, rows: usize, cols: usize) -> usize
     requires rows { rows ≤ 1000 }
     requires cols { cols ≤ 1000 }
     ensures value { result ≡ all_differ (O.cells old.now) (N.cells new.now) cols rows }
@@ -51,7 +51,7 @@ fn count_lines<O: View, N: View>(old: &O, new: &N, rows: usize, cols: usize) -> 
 }
 
 /// Whether fewer cells of `new` differ from `blank` than from `old`, by more than `by`.
-pub(crate) fn leaves_fewer<B: View, O: View, N: View>(
+pub(crate) fn leaves_fewer<B: Picture, O: Picture, N: Picture>(
     blank: &B,
     old: &O,
     new: &N,
@@ -95,7 +95,7 @@ fn with_cell(tally: Tally, is_blank: bool, stays: bool) -> Tally {
 }
 
 /// The tally of the line `row`.
-fn tally_of<B: View, O: View, N: View>(
+fn tally_of<B: Picture, O: Picture, N: Picture>(
     blank: &B,
     old: &O,
     new: &N,
@@ -154,7 +154,7 @@ fn bytes_within<C: Certificate>(checked: &C, row: Row, most: usize) -> usize {
 }
 
 /// Whether clearing, by `clear` bytes, is likely to take fewer bytes than erasing line by line.
-pub(crate) fn saves<C: Certificate, B: View, O: View, N: View>(
+pub(crate) fn saves<C: Certificate, B: Picture, O: Picture, N: Picture>(
     checked: &C,
     blank: &B,
     old: &O,
@@ -180,7 +180,7 @@ pub(crate) fn saves<C: Certificate, B: View, O: View, N: View>(
 }
 
 /// Whether the line `row` becomes blank, as far as a cheap look shows.
-fn may_become_blank<N: View, D: Changes>(
+fn may_become_blank<N: Picture, D: Changes>(
     new: &N,
     changes: &D,
     row: usize,
@@ -191,7 +191,7 @@ fn may_become_blank<N: View, D: Changes>(
 }
 
 /// Whether two of three lines become blank, so that it is worth a look at all of them.
-pub(crate) fn may_become_blanks<N: View, D: Changes>(
+pub(crate) fn may_become_blanks<N: Picture, D: Changes>(
     new: &N,
     changes: &D,
     rows: usize,

@@ -5,7 +5,7 @@ ghost use Rattle.ti_conforms.specs.Certified.{text_of};
 ghost use Rattle.cur_paint.specs.declared.updates.Status.TheVariants.{Lost};
 ghost use Rattle.cur_paint.specs.Finish.{Finishes, end_text, finish_text, from_cnorm_text, from_cup_text, from_rmacs_text};
 
-use crate::updates::{Session, Status};
+use crate::updates::{Knowledge, Status};
 use cur_looks::Row;
 use cur_wires::{Wire, WireFault, send_all};
 use ti_conforms::Certificate;
@@ -81,7 +81,7 @@ fn send_finish<C: Certificate, W: Wire>(
 /// fresh. Then it is fresh. On a wire's fault a front of that went out, and the session is lost.
 pub fn finish<C: Certificate, W: Wire>(
     checked: &C,
-    session: &mut Session,
+    session: &mut Knowledge,
     wire: &mut W,
 ) -> Result<(), WireFault>
     ensures finishes { Finishes W.went W.failures wire.old wire.new result (C.table checked.now)

@@ -13,9 +13,9 @@ mod screens;
 mod spans;
 mod updates;
 
-pub use bells::{Unsent, beep};
+pub use bells::{BellFault, beep};
 pub use changes::{Changes, Columns};
 pub use endings::finish;
 pub use laws::{bounded, reset_is_fresh};
 pub use screens::Screens;
-pub use updates::{Session, Status, Wanted, update};
+pub use updates::{Knowledge, Status, Wanted, update};

@@ -9,12 +9,12 @@ use crate::changes::Changes;
 use crate::rows::mend_screen;
 use crate::screens::Screens;
 use crate::updates::Wanted;
-use cur_looks::{Belief, Place, Target, View, reach, show_as};
+use cur_looks::{Belief, Picture, Place, Target, reach, show_as};
 use cur_wires::{Wire, WireFault};
 use ti_conforms::Certificate;
 
 /// Moves the cursor to the place `cursor`, if there is one.
-fn place_cursor<C: Certificate, O: View, N: View, W: Wire>(
+fn place_cursor<C: Certificate, O: Picture, N: Picture, W: Wire>(
     screens: &Screens<'_, C, O, N>,
     belief: &mut Belief,
     wire: &mut W,
@@ -41,7 +41,7 @@ fn place_cursor<C: Certificate, O: View, N: View, W: Wire>(
 }
 
 /// Gives the cursor its mode, and moves it to its place, both as `wanted` says.
-fn set_cursor<C: Certificate, O: View, N: View, W: Wire>(
+fn set_cursor<C: Certificate, O: Picture, N: Picture, W: Wire>(
     screens: &Screens<'_, C, O, N>,
     belief: &mut Belief,
     wire: &mut W,
@@ -61,7 +61,7 @@ fn set_cursor<C: Certificate, O: View, N: View, W: Wire>(
 }
 
 /// Mends all that differs, in the columns that may by `changes`, and then sets the cursor as `wanted` says.
-pub(crate) fn paint<C: Certificate, O: View, N: View, D: Changes, W: Wire>(
+pub(crate) fn paint<C: Certificate, O: Picture, N: Picture, D: Changes, W: Wire>(
     screens: &Screens<'_, C, O, N>,
     belief: &mut Belief,
     wire: &mut W,

@@ -8,7 +8,7 @@ ghost use Rattle.cur_paint.specs.Scenes.{IsIdle, IsOn, IsPaintable, MendsCells, 
 use crate::screens::{Cells, Screens};
 use crate::spans::{differs_in, mend_span};
 use cur_looks::{
-    Belief, Erasure, Place, Target, View, erase_at, erase_from, erasing_line, line_bytes,
+    Belief, ErasedPart, Picture, Place, Target, erase_at, erase_from, erasing_line, line_bytes,
 };
 use cur_wires::{Wire, WireFault};
 use ti_conforms::Certificate;
@@ -29,7 +29,7 @@ struct Run {
 #[derive(Clone, Copy)]
 struct Part {
     count: usize,
-    erasure: Option<Erasure>,
+    erasure: Option<ErasedPart>,
 }
 
 /// The run `run`, and its next cell, which differs.
@@ -55,7 +55,7 @@ fn with_different(run: Run) -> Run
 }
 
 /// The run of blanks with which the `cells` begin.
-fn run_at<O: View, N: View>(old: &O, new: &N, cells: Cells) -> Run
+fn run_at<O: Picture, N: Picture>(old: &O, new: &N, cells: Cells) -> Run
     requires { cells.from + cells.count ≤ 1000 }
     ensures order { result.start ≤ result.end }
     ensures within { result.end ≤ result.len }
@@ -85,7 +85,7 @@ fn run_at<O: View, N: View>(old: &O, new: &N, cells: Cells) -> Run
 /// there to the column `to`.
 fn pays<C: Certificate>(
     checked: &C,
-    erasure: Erasure,
+    erasure: ErasedPart,
     row: usize,
     from: usize,
     to: usize,
@@ -112,7 +112,7 @@ fn pays<C: Certificate>(
 }
 
 /// Whether the line `row` is blank from the column `from` to the one before `end`.
-pub(crate) fn are_blank<N: View>(new: &N, row: usize, from: usize, end: usize) -> bool
+pub(crate) fn are_blank<N: Picture>(new: &N, row: usize, from: usize, end: usize) -> bool
     ensures { result ≡ true → (k : ℕ) → from ≤ k → k < end → N.cells new.now row k ≡ blank_ink }
 {
     for col in from..end {
@@ -125,13 +125,13 @@ pub(crate) fn are_blank<N: View>(new: &N, row: usize, from: usize, end: usize) -
 
 /// How the run `run`, which begins in line `row` and column `from`, is erased, if that takes fewer bytes than printing
 /// it.
-fn erasure_of<C: Certificate, N: View>(
+fn erasure_of<C: Certificate, N: Picture>(
     checked: &C,
     new: &N,
     row: usize,
     from: usize,
     run: Run,
-) -> Option<Erasure>
+) -> Option<ErasedPart>
     requires checked { IsChecked (C.table checked.now) }
     requires row { row < (C.table checked.now).rows }
     requires order { run.start ≤ run.end }
@@ -143,22 +143,22 @@ fn erasure_of<C: Certificate, N: View>(
     }
     let start = from + run.start;
     let end = from + run.end;
-    let part = Erasure::Part((end - start) as u16);
+    let part = ErasedPart::Part((end - start) as u16);
     if pays(checked, part, row, start, end, run.differing) {
         return Some(part);
     }
     let last = Place { row, col: end - 1 };
     let cup = line_bytes(checked, None, last);
     let rest = run.differing.saturating_sub(cup);
-    if pays(checked, Erasure::Head, row, end - 1, end, rest) && are_blank(new, row, 0, start) {
-        return Some(Erasure::Head);
+    if pays(checked, ErasedPart::Head, row, end - 1, end, rest) && are_blank(new, row, 0, start) {
+        return Some(ErasedPart::Head);
     }
     None
 }
 
 /// The first of two parts: the `before` cells ahead of the run `run` and those of it that stay blank, or else the run
 /// itself, which is erased by `erasure`.
-fn cut(before: usize, run: Run, erasure: Erasure) -> Part
+fn cut(before: usize, run: Run, erasure: ErasedPart) -> Part
     requires order { run.start < run.end }
     requires few { before + run.end ≤ 1000 }
     ensures some { 0 < result.count }
@@ -178,7 +178,10 @@ fn cut(before: usize, run: Run, erasure: Erasure) -> Part
 }
 
 /// The part with which the `cells` begin.
-fn next_part<C: Certificate, O: View, N: View>(screens: &Screens<'_, C, O, N>, cells: Cells) -> Part
+fn next_part<C: Certificate, O: Picture, N: Picture>(
+    screens: &Screens<'_, C, O, N>,
+    cells: Cells,
+) -> Part
     requires scene { IsPaintable (scene C.table O.cells N.cells screens.now) }
     requires cells { IsOn (C.table screens.now.checked.now) cells }
     requires some { 0 < cells.count }
@@ -211,7 +214,7 @@ fn next_part<C: Certificate, O: View, N: View>(screens: &Screens<'_, C, O, N>, c
 }
 
 /// Whether some of the `cells` differ, and their line is blank from the column `first` to the last of them.
-fn is_run<O: View, N: View>(old: &O, new: &N, first: usize, cells: Cells) -> bool
+fn is_run<O: Picture, N: Picture>(old: &O, new: &N, first: usize, cells: Cells) -> bool
     requires { cells.from + cells.count ≤ 1000 }
     ensures some { result ≡ true → 0 < cells.count }
     ensures differs { result ≡ true
@@ -225,7 +228,7 @@ fn is_run<O: View, N: View>(old: &O, new: &N, first: usize, cells: Cells) -> boo
 }
 
 /// Erases the `cells` if they are blank and some differ, else mends them one after another.
-fn mend_run<C: Certificate, O: View, N: View, W: Wire>(
+fn mend_run<C: Certificate, O: Picture, N: Picture, W: Wire>(
     screens: &Screens<'_, C, O, N>,
     belief: &mut Belief,
     wire: &mut W,
@@ -240,7 +243,7 @@ fn mend_run<C: Certificate, O: View, N: View, W: Wire>(
     if !is_run(screens.old, screens.new, cells.from, cells) {
         return mend_span(screens, belief, wire, cells);
     }
-    let part = Erasure::Part(cells.count as u16);
+    let part = ErasedPart::Part(cells.count as u16);
     match erasing_line(screens.checked, part) {
         Some(line) => {
             let target = Target {
@@ -259,7 +262,7 @@ fn mend_run<C: Certificate, O: View, N: View, W: Wire>(
 
 /// Erases the `cells` with the front of their line if all of that is blank and some of them differ, else mends them one
 /// after another.
-fn mend_head<C: Certificate, O: View, N: View, W: Wire>(
+fn mend_head<C: Certificate, O: Picture, N: Picture, W: Wire>(
     screens: &Screens<'_, C, O, N>,
     belief: &mut Belief,
     wire: &mut W,
@@ -274,25 +277,25 @@ fn mend_head<C: Certificate, O: View, N: View, W: Wire>(
     if !is_run(screens.old, screens.new, 0, cells) {
         return mend_span(screens, belief, wire, cells);
     }
-    match erasing_line(screens.checked, Erasure::Head) {
+    match erasing_line(screens.checked, ErasedPart::Head) {
         Some(line) => {
             let last = Place {
                 row: cells.row,
                 col: cells.from + cells.count - 1,
             };
-            erase_at(screens.checked, belief, wire, last, Erasure::Head, line)
+            erase_at(screens.checked, belief, wire, last, ErasedPart::Head, line)
         }
         None => mend_span(screens, belief, wire, cells),
     }
 }
 
 /// Mends the `cells`, by `erasure` where there is one.
-fn mend_part<C: Certificate, O: View, N: View, W: Wire>(
+fn mend_part<C: Certificate, O: Picture, N: Picture, W: Wire>(
     screens: &Screens<'_, C, O, N>,
     belief: &mut Belief,
     wire: &mut W,
     cells: Cells,
-    erasure: Option<Erasure>,
+    erasure: Option<ErasedPart>,
 ) -> Result<(), WireFault>
     requires scene { IsPaintable (scene C.table O.cells N.cells screens.now) }
     requires cells { IsOn (C.table screens.now.checked.now) cells }
@@ -301,7 +304,7 @@ fn mend_part<C: Certificate, O: View, N: View, W: Wire>(
         cells belief.old belief.new }
 {
     match erasure {
-        Some(Erasure::Head) => mend_head(screens, belief, wire, cells),
+        Some(ErasedPart::Head) => mend_head(screens, belief, wire, cells),
         Some(_) => mend_run(screens, belief, wire, cells),
         None => mend_span(screens, belief, wire, cells),
     }
@@ -309,12 +312,12 @@ fn mend_part<C: Certificate, O: View, N: View, W: Wire>(
 
 /// Whether there are lines that erase runs.
 fn erases_runs<C: Certificate>(checked: &C) -> bool {
-    erasing_line(checked, Erasure::Part(1)).is_some()
-        || erasing_line(checked, Erasure::Head).is_some()
+    erasing_line(checked, ErasedPart::Part(1)).is_some()
+        || erasing_line(checked, ErasedPart::Head).is_some()
 }
 
 /// Mends the `cells`, with runs of blanks erased where that takes fewer bytes.
-pub(crate) fn mend_parts<C: Certificate, O: View, N: View, W: Wire>(
+pub(crate) fn mend_parts<C: Certificate, O: Picture, N: Picture, W: Wire>(
     screens: &Screens<'_, C, O, N>,
     belief: &mut Belief,
     wire: &mut W,

@@ -11,12 +11,14 @@ use crate::changes::{Changes, Columns};
 use crate::parts::{are_blank, mend_parts};
 use crate::screens::{Cells, Screens};
 use crate::spans::{differs_in, mend_span};
-use cur_looks::{Belief, Erasure, Place, Row, Target, View, blank_tail, erase_from, erasing_line};
+use cur_looks::{
+    Belief, ErasedPart, Picture, Place, Row, Target, blank_tail, erase_from, erasing_line,
+};
 use cur_wires::{Wire, WireFault};
 use ti_conforms::Certificate;
 
 /// The column from which on the line `row` of `cols` columns is blank.
-fn blank_from<N: View>(new: &N, row: usize, cols: usize) -> usize
+fn blank_from<N: Picture>(new: &N, row: usize, cols: usize) -> usize
     ensures within { result ≤ cols }
     ensures blank { (k : ℕ) → result ≤ k → k < cols → N.cells new.now row k ≡ blank_ink }
 {
@@ -31,7 +33,7 @@ fn blank_from<N: View>(new: &N, row: usize, cols: usize) -> usize
 }
 
 /// The column from which on the line `row` of `cols` columns is blank, if the last of the `columns` is; else their end.
-fn tail_from<N: View>(new: &N, row: usize, columns: Columns, cols: usize) -> usize
+fn tail_from<N: Picture>(new: &N, row: usize, columns: Columns, cols: usize) -> usize
     requires order { columns.from ≤ columns.end }
     requires within { columns.end ≤ cols }
     ensures within { result ≤ columns.end }
@@ -60,7 +62,7 @@ fn short_tail<C: Certificate>(checked: &C, count: usize) -> Option<&[u8]>
 
 /// Mends the line `row` from the first of the `columns` on, after which it is as it was. If there are any, the line is
 /// to be blank from there on: it is erased where it can be and that takes few bytes, else mended cell by cell.
-fn mend_tail<C: Certificate, O: View, N: View, W: Wire>(
+fn mend_tail<C: Certificate, O: Picture, N: Picture, W: Wire>(
     screens: &Screens<'_, C, O, N>,
     belief: &mut Belief,
     wire: &mut W,
@@ -116,7 +118,7 @@ fn lesser(a: usize, b: usize) -> usize
 
 /// Mends the line `row`, which may differ in the `columns`, and is to be blank from the column `tail` on if that is one
 /// of them.
-fn mend_line<C: Certificate, O: View, N: View, W: Wire>(
+fn mend_line<C: Certificate, O: Picture, N: Picture, W: Wire>(
     screens: &Screens<'_, C, O, N>,
     belief: &mut Belief,
     wire: &mut W,
@@ -152,7 +154,7 @@ fn mend_line<C: Certificate, O: View, N: View, W: Wire>(
 
 /// Mends the `columns` of the line `row`, before which it is as it was, and erases by the string `line` all from their
 /// end on, lines below it too.
-fn mend_bottom<C: Certificate, O: View, N: View, W: Wire>(
+fn mend_bottom<C: Certificate, O: Picture, N: Picture, W: Wire>(
     screens: &Screens<'_, C, O, N>,
     belief: &mut Belief,
     wire: &mut W,
@@ -187,11 +189,11 @@ fn mend_bottom<C: Certificate, O: View, N: View, W: Wire>(
         row,
         col: columns.end,
     };
-    erase_from(&target, belief, wire, at, Erasure::Rest, line)
+    erase_from(&target, belief, wire, at, ErasedPart::Rest, line)
 }
 
 /// The first of the lines from `from` to the one before `rows` that isn't blank, or else the one after them.
-fn first_solid<N: View>(new: &N, from: usize, rows: usize, cols: usize) -> usize
+fn first_solid<N: Picture>(new: &N, from: usize, rows: usize, cols: usize) -> usize
     ensures blank { (i j : ℕ) → from ≤ i → i < result → j < cols → N.cells new.now i j ≡ blank_ink }
     ensures within { from ≤ rows → result ≤ rows }
 {
@@ -220,7 +222,7 @@ fn tail_bytes<C: Certificate>(checked: &C, count: usize) -> usize {
 }
 
 /// Whether it takes at least `bytes` bytes to make the lines from `from` on blank one by one, those that differ.
-fn lines_take<C: Certificate, O: View, N: View>(
+fn lines_take<C: Certificate, O: Picture, N: Picture>(
     screens: &Screens<'_, C, O, N>,
     from: usize,
     bytes: usize,
@@ -247,7 +249,7 @@ fn lines_take<C: Certificate, O: View, N: View>(
 }
 
 /// Whether erasing all from the line `row` and the column `tail` on takes no more bytes than line by line.
-fn rest_is_short<C: Certificate, O: View, N: View>(
+fn rest_is_short<C: Certificate, O: Picture, N: Picture>(
     screens: &Screens<'_, C, O, N>,
     row: usize,
     tail: usize,
@@ -257,7 +259,7 @@ fn rest_is_short<C: Certificate, O: View, N: View>(
     requires tail { tail ≤ (C.table screens.now.checked.now).cols }
 {
     let end = tail_bytes(screens.checked, screens.checked.cols() - tail);
-    match erasing_line(screens.checked, Erasure::Rest) {
+    match erasing_line(screens.checked, ErasedPart::Rest) {
         Some(rest) => rest.len() <= end || lines_take(screens, row + 1, rest.len() - end),
         None => false,
     }
@@ -265,7 +267,7 @@ fn rest_is_short<C: Certificate, O: View, N: View>(
 
 /// Where the screen is blank from the column `tail` of the line `row` on, that end, which ends the `columns`, and the
 /// next line may differ, and erasing all at once takes no more bytes. The line `solid`, if it is below, isn't blank.
-fn bottom_from<C: Certificate, O: View, N: View, D: Changes>(
+fn bottom_from<C: Certificate, O: Picture, N: Picture, D: Changes>(
     screens: &Screens<'_, C, O, N>,
     changes: &D,
     row: usize,
@@ -313,7 +315,7 @@ pub(crate) fn may_differ<D: Changes>(changes: &D, row: usize, rows: usize, cols:
 }
 
 /// Mends all lines, in the columns that may differ by `changes`.
-pub(crate) fn mend_screen<C: Certificate, O: View, N: View, D: Changes, W: Wire>(
+pub(crate) fn mend_screen<C: Certificate, O: Picture, N: Picture, D: Changes, W: Wire>(
     screens: &Screens<'_, C, O, N>,
     belief: &mut Belief,
     wire: &mut W,
@@ -325,7 +327,7 @@ pub(crate) fn mend_screen<C: Certificate, O: View, N: View, D: Changes, W: Wire>
     ensures step { MendsAll W.went W.failures wire.old wire.new result (scene C.table O.cells N.cells screens.now)
         belief.old belief.new }
 {
-    let rest = erasing_line(screens.checked, Erasure::Rest);
+    let rest = erasing_line(screens.checked, ErasedPart::Rest);
     let rows = screens.checked.rows();
     let cols = screens.checked.cols();
     let mut solid = if rest.is_some() { 0 } else { rows };

@@ -5,7 +5,7 @@ ghost use Rattle.cur_paint.specs.Differ.{differs, span, IsLike};
 ghost use Rattle.cur_paint.specs.Scenes.{IsIdle, IsOn, IsPaintable, MendsCell, MendsCells, changed, scene};
 
 use crate::screens::{Cells, Screens};
-use cur_looks::{Belief, Ink, Place, Target, View, goes_on, print_text, put_cell};
+use cur_looks::{Belief, Ink, Picture, Place, Target, goes_on, print_text, put_cell};
 use cur_wires::{Wire, WireFault};
 use ti_conforms::Certificate;
 
@@ -13,7 +13,7 @@ use ti_conforms::Certificate;
 const TEXT: usize = 64;
 
 /// Prints the cell in line `row` and column `col`, which differs, as `ink`.
-fn print_cell<C: Certificate, O: View, N: View, W: Wire>(
+fn print_cell<C: Certificate, O: Picture, N: Picture, W: Wire>(
     screens: &Screens<'_, C, O, N>,
     belief: &mut Belief,
     wire: &mut W,
@@ -37,7 +37,7 @@ fn print_cell<C: Certificate, O: View, N: View, W: Wire>(
 }
 
 /// Prints the `cells`, which all differ, one by one.
-fn print_each<C: Certificate, O: View, N: View, W: Wire>(
+fn print_each<C: Certificate, O: Picture, N: Picture, W: Wire>(
     screens: &Screens<'_, C, O, N>,
     belief: &mut Belief,
     wire: &mut W,
@@ -61,7 +61,7 @@ fn print_each<C: Certificate, O: View, N: View, W: Wire>(
 
 /// The character in line `row` and column `col`, if it is printed in the set and the brush of `ink`, which is what
 /// the line has in the column `like`.
-fn like_byte<N: View>(new: &N, row: usize, col: usize, like: usize, ink: Ink) -> Option<u8>
+fn like_byte<N: Picture>(new: &N, row: usize, col: usize, like: usize, ink: Ink) -> Option<u8>
     requires ink { ink ≡ N.cells new.now row like }
     ensures value { IfSome result (λ b. N.cells new.now row col ≡ record ink { byte = b }) }
 {
@@ -70,7 +70,7 @@ fn like_byte<N: View>(new: &N, row: usize, col: usize, like: usize, ink: Ink) ->
 
 /// How many of the first `cells` differ and are printed in the set and the brush of `ink`, which is what their line
 /// has in the column `like`; no more than there is room for in `text`. It gets their characters.
-fn like_cells<O: View, N: View>(
+fn like_cells<O: Picture, N: Picture>(
     old: &O,
     new: &N,
     cells: Cells,
@@ -112,7 +112,7 @@ fn is_led_on(belief: &Belief, row: usize, col: usize, ink: Ink, count: usize) ->
 
 /// Prints the `cells`, which all differ and have the characters of `text` in the set and the brush of `ink`: in one
 /// piece where the terminal is known to print them so, else one by one.
-fn print_alike<C: Certificate, O: View, N: View, W: Wire>(
+fn print_alike<C: Certificate, O: Picture, N: Picture, W: Wire>(
     screens: &Screens<'_, C, O, N>,
     belief: &mut Belief,
     wire: &mut W,
@@ -144,7 +144,7 @@ fn print_alike<C: Certificate, O: View, N: View, W: Wire>(
 }
 
 /// Prints those of the `cells` that differ: in one piece those that follow one another and are printed alike.
-pub(crate) fn mend_span<C: Certificate, O: View, N: View, W: Wire>(
+pub(crate) fn mend_span<C: Certificate, O: Picture, N: Picture, W: Wire>(
     screens: &Screens<'_, C, O, N>,
     belief: &mut Belief,
     wire: &mut W,
@@ -183,7 +183,7 @@ pub(crate) fn mend_span<C: Certificate, O: View, N: View, W: Wire>(
 }
 
 /// Whether any of the `cells` differs.
-pub(crate) fn differs_in<O: View, N: View>(old: &O, new: &N, cells: Cells) -> bool
+pub(crate) fn differs_in<O: Picture, N: Picture>(old: &O, new: &N, cells: Cells) -> bool
     requires { cells.from + cells.count ≤ 1000 }
     ensures { result ≡ true → 0 < span (O.cells old.now) (N.cells new.now) cells.row cells.from cells.count }
 {

@@ -15,7 +15,7 @@ use crate::changes::{Changes, Whole};
 use crate::clearing::{leaves_fewer, may_become_blanks, saves};
 use crate::painting::paint;
 use crate::screens::Screens;
-use cur_looks::{Belief, Blank, Brush, Ink, Mode, Place, Row, View};
+use cur_looks::{Belief, Blank, Brush, Ink, Mode, Picture, Place, Row};
 use cur_wires::{Wire, WireFault, send_all};
 use ti_conforms::Certificate;
 use vt_term::Color;
@@ -33,7 +33,7 @@ pub enum Status {
 
 /// What is known of the terminal.
 #[derive(Clone, Copy)]
-pub struct Session {
+pub struct Knowledge {
     pub status: Status,
     pub belief: Belief,
 }
@@ -47,12 +47,12 @@ pub struct Wanted {
     pub clear: bool,
 }
 
-impl Session {
+impl Knowledge {
     /// Nothing is known yet.
-    pub fn new() -> Session
+    pub fn new() -> Knowledge
         ensures fresh { result.status ≡ Fresh }
     {
-        Session {
+        Knowledge {
             status: Status::Fresh,
             belief: start_belief(None),
         }
@@ -77,7 +77,7 @@ struct Cleared {
     background: Option<Color>,
 }
 
-impl View for Cleared {
+impl Picture for Cleared {
     ghost use Rattle.cur_paint.specs.Cleared.{cleared};
 
     ghost cells = { λ c. cleared c.background };
@@ -92,7 +92,7 @@ impl View for Cleared {
 }
 
 /// From any lost state in which the cursor is shown in the mode `shown_as`, if that is known: paints all anew.
-fn repaint<C: Certificate, O: View, N: View, W: Wire>(
+fn repaint<C: Certificate, O: Picture, N: Picture, W: Wire>(
     screens: &Screens<'_, C, O, N>,
     belief: &mut Belief,
     wire: &mut W,
@@ -120,7 +120,7 @@ fn repaint<C: Certificate, O: View, N: View, W: Wire>(
 }
 
 /// From a known state: clears all, and paints it anew.
-fn clear_first<C: Certificate, O: View, N: View, W: Wire>(
+fn clear_first<C: Certificate, O: Picture, N: Picture, W: Wire>(
     screens: &Screens<'_, C, O, N>,
     belief: &mut Belief,
     wire: &mut W,
@@ -153,7 +153,7 @@ fn clear_first<C: Certificate, O: View, N: View, W: Wire>(
 
 /// Whether it is likely to take fewer bytes to clear all to `background` and paint it than to mend what differs, and
 /// whether that keeps within the bound.
-fn is_better_cleared<C: Certificate, O: View, N: View, D: Changes>(
+fn is_better_cleared<C: Certificate, O: Picture, N: Picture, D: Changes>(
     screens: &Screens<'_, C, O, N>,
     background: Option<Color>,
     changes: &D,
@@ -176,7 +176,7 @@ fn is_better_cleared<C: Certificate, O: View, N: View, D: Changes>(
 }
 
 /// From a known state: mends what differs, or clears all and paints it, where that is likely to take fewer bytes.
-fn mend<C: Certificate, O: View, N: View, D: Changes, W: Wire>(
+fn mend<C: Certificate, O: Picture, N: Picture, D: Changes, W: Wire>(
     screens: &Screens<'_, C, O, N>,
     belief: &mut Belief,
     wire: &mut W,
@@ -199,7 +199,7 @@ fn mend<C: Certificate, O: View, N: View, D: Changes, W: Wire>(
 }
 
 /// What differs where the terminal is known by `status` and isn't to be cleared, else all.
-fn draw<C: Certificate, O: View, N: View, D: Changes, W: Wire>(
+fn draw<C: Certificate, O: Picture, N: Picture, D: Changes, W: Wire>(
     screens: &Screens<'_, C, O, N>,
     status: Status,
     belief: &mut Belief,
@@ -225,9 +225,9 @@ fn draw<C: Certificate, O: View, N: View, D: Changes, W: Wire>(
 /// Makes the terminal show the new one of the `screens`, with the cursor as `wanted` says. The old one is what it
 /// shows, where that is known by `session`; only the columns that may differ by `changes` are looked at, unless much
 /// of the screen becomes blank. On `WireFault` a front of lawful bytes went out, and the session is lost.
-pub fn update<C: Certificate, O: View, N: View, D: Changes, W: Wire>(
+pub fn update<C: Certificate, O: Picture, N: Picture, D: Changes, W: Wire>(
     screens: &Screens<'_, C, O, N>,
-    session: &mut Session,
+    session: &mut Knowledge,
     wire: &mut W,
     changes: &D,
     wanted: Wanted,

@@ -17,7 +17,7 @@ use Rattle.cur_looks.specs.declared.inks.Ink.{Ink}
 use Rattle.cur_paint.specs.Finish.{finish_text}
 use Rattle.cur_paint.specs.Limits.{IsPlaced, paint_limit, fresh_limit}
 use Rattle.cur_paint.specs.Update.{Fits, refresh_limit}
-use Rattle.cur_paint.specs.declared.updates.Session.{Session}
+use Rattle.cur_paint.specs.declared.updates.Knowledge.{Knowledge}
 use Rattle.cur_paint.specs.declared.updates.Status.{Status}
 use Rattle.cur_paint.specs.declared.updates.Status.TheVariants.{Fresh, Known, Lost}
 use Rattle.cur_update.specs.Differ.{in_lines}
@@ -29,8 +29,8 @@ use Rattle.cur_play.specs.Carrying.{FitsIn, IsLast, IsSettled, Carries}
 use Rattle.cur_play.specs.Outputs.{IsQuiet, Showed, ShowedShort, Puts}
 use Rattle.cur_play.specs.declared.answers.Answer.{Answer}
 use Rattle.cur_play.specs.declared.answers.Answer.TheVariants.{Done, Was, Refused, WireFailed}
-use Rattle.cur_play.specs.declared.sending.Output.{Output}
-use Rattle.cur_play.specs.declared.sending.Output.TheVariants.{Nothing, Update, Bell, End}
+use Rattle.cur_play.specs.declared.sending.Emission.{Emission}
+use Rattle.cur_play.specs.declared.sending.Emission.TheVariants.{Nothing, Update, Bell, End}
 
 -- the laws of the bound, for virtual screens
 pub record IsBound : Type 0 where
@@ -47,7 +47,7 @@ fits_open t g Lost b s f = f.sized.state.rest
 -- nothing went out
 stays : {C : Type 0} (t : Table) (partners : ℕ → Option ℕ) (before after : Painted C) → after.session ≡ before.session → after.shown ≡ before.shown → (s : State) → FitsIn t partners before s → Ends s [] (FitsIn t partners after)
 stays t partners before after e f s p =
-    let P : Session → Type 0 = λ x. Fits t (ink_at t partners after.shown) x.status x.belief s in
+    let P : Knowledge → Type 0 = λ x. Fits t (ink_at t partners after.shown) x.status x.belief s in
     let Q : Screen → Type 0 = λ d. Fits t (ink_at t partners d) before.session.status before.session.belief s in
     record { after = s; runs = runs_nothing s (fits_open t (ink_at t partners before.shown) before.session.status before.session.belief s p); there = subst P (sym e) (subst Q (sym f) p) }
 
@@ -57,7 +57,7 @@ keeps_last : {C : Type 0} (t : Table) (partners : ℕ → Option ℕ) (before af
 keeps_last t partners before after last known same_screen h e = ap (ink_at t partners) same_screen ∙ h (known e)
 
 -- the mode shown last changes only with what is shown
-mode_kept : (o : Output) (answer : Answer) (last m : Mode) → is_shown o answer ≡ false → mode_after o answer last m ≡ last
+mode_kept : (o : Emission) (answer : Answer) (last m : Mode) → is_shown o answer ≡ false → mode_after o answer last m ≡ last
 mode_kept Update Done last m e = absurd (cc)
 mode_kept Update (Was n) last m e = refl
 mode_kept Update (Refused r) last m e = refl
@@ -66,10 +66,10 @@ mode_kept Nothing answer last m e = refl
 mode_kept Bell answer last m e = refl
 mode_kept End answer last m e = refl
 
-settled_on : {C : Type 0} (before after : Painted C) (v : Screen) (o : Output) (answer : Answer) (last : Screen) (last_mode : Mode) → is_shown o answer ≡ false → ((last : Screen) → last_after o answer last v ≡ last)
+settled_on : {C : Type 0} (before after : Painted C) (v : Screen) (o : Emission) (answer : Answer) (last : Screen) (last_mode : Mode) → is_shown o answer ≡ false → ((last : Screen) → last_after o answer last v ≡ last)
     → (after.session.status ≡ Known → after.session ≡ before.session) → IsSettled before last last_mode → IsSettled after (last_after o answer last v) (mode_after o answer last_mode before.mode)
 settled_on before after v o answer last last_mode none same kept h known =
-    let P : Session → Type 0 = λ x. x.status ≡ Known → IsPlaced (place_of last.cursor) x.belief.place × (x.belief.mode ≡ Some last_mode) in
+    let P : Knowledge → Type 0 = λ x. x.status ≡ Known → IsPlaced (place_of last.cursor) x.belief.place × (x.belief.mode ≡ Some last_mode) in
     let Q : Screen → Type 0 = λ x. IsPlaced (place_of x.cursor) after.session.belief.place × (after.session.belief.mode ≡ Some (mode_after o answer last_mode before.mode)) in
     let R : Mode → Type 0 = λ x. IsPlaced (place_of last.cursor) after.session.belief.place × (after.session.belief.mode ≡ Some x) in
     let here : P after.session = subst P (sym (kept known)) h in
@@ -102,11 +102,11 @@ none_of laws t partners shown v Known b mode false last rows cols h k n p m c =
     subst P (sym (h refl)) (laws.none t partners last v b (place_of v.cursor) mode rows cols n p m)
 
 -- the bytes by another name
-puts_as : {W C : Type 0} (went : W → W → List ℕ → Type 0) (failures : W → ℕ) (old new : W) (t : Table) (partners : ℕ → Option ℕ) (v : Screen) (o : Output) (answer : Answer) (x y : List ℕ) (before after : Painted C)
+puts_as : {W C : Type 0} (went : W → W → List ℕ → Type 0) (failures : W → ℕ) (old new : W) (t : Table) (partners : ℕ → Option ℕ) (v : Screen) (o : Emission) (answer : Answer) (x y : List ℕ) (before after : Painted C)
     → x ≡ y → Puts went failures old new t partners v o answer x before after → Puts went failures old new t partners v o answer y before after
 puts_as {W} {C} went failures old new t partners v o answer x y before after e p = let P : List ℕ → Type 0 = λ b. Puts went failures old new t partners v o answer b before after in subst P e p
 
-quietly : {W C : Type 0} (went : W → W → List ℕ → Type 0) (failures : W → ℕ) → IsWire went failures → (old new : W) (t : Table) (partners : ℕ → Option ℕ) (v : Screen) (o : Output) (answer : Answer) (bytes : List ℕ) (before after : Painted C)
+quietly : {W C : Type 0} (went : W → W → List ℕ → Type 0) (failures : W → ℕ) → IsWire went failures → (old new : W) (t : Table) (partners : ℕ → Option ℕ) (v : Screen) (o : Emission) (answer : Answer) (bytes : List ℕ) (before after : Painted C)
     → is_shown o answer ≡ false → ((last : Screen) → last_after o answer last v ≡ last) → IsQuiet old new bytes before after → Puts went failures old new t partners v o answer bytes before after
     → Carries went failures old new t partners v o answer before after
 quietly {W} went failures laws old new t partners v o answer bytes before after none same q puts = record {
@@ -116,7 +116,7 @@ quietly {W} went failures laws old new t partners v o answer bytes before after 
   fits = stays t partners before after q.session q.shown;
   shows = λ e. absurd (cc);
   last = λ last h. (let P : Screen → Type 0 = λ x. IsLast t partners after x in
-      subst P (sym (same last)) (keeps_last t partners before after last (λ k. ap (λ (x : Session). x.status) (sym q.session) ∙ k) q.shown h));
+      subst P (sym (same last)) (keeps_last t partners before after last (λ k. ap (λ (x : Knowledge). x.status) (sym q.session) ∙ k) q.shown h));
   settled = λ last m h. settled_on before after v o answer last m none same (λ k. q.session) h;
   bound = λ e last rows cols h. omega arith;
   idle = λ e last rows cols h k. refl;
@@ -125,7 +125,7 @@ quietly {W} went failures laws old new t partners v o answer bytes before after 
 }
 
 -- all went out, or a front of it, without showing the screen
-otherwise : {W C : Type 0} (went : W → W → List ℕ → Type 0) (failures : W → ℕ) (old new : W) (t : Table) (partners : ℕ → Option ℕ) (v : Screen) (o : Output) (answer : Answer) (before after : Painted C) (bytes : List ℕ)
+otherwise : {W C : Type 0} (went : W → W → List ℕ → Type 0) (failures : W → ℕ) (old new : W) (t : Table) (partners : ℕ → Option ℕ) (v : Screen) (o : Emission) (answer : Answer) (before after : Painted C) (bytes : List ℕ)
     → is_shown o answer ≡ false → ((last : Screen) → last_after o answer last v ≡ last) → (o ≡ Update → ⊥) → (o ≡ Nothing → ⊥)
     → went old new bytes → ((s : State) → FitsIn t partners before s → Ends s bytes (FitsIn t partners after)) → (after.session.status ≡ Known → after.session ≡ before.session) → after.shown ≡ before.shown → length bytes < 2 ^ 60
     → Puts went failures old new t partners v o answer bytes before after → Carries went failures old new t partners v o answer before after
@@ -135,7 +135,7 @@ otherwise went failures old new t partners v o answer before after bytes none sa
   puts = puts;
   fits = fits;
   shows = λ e. absurd (cc);
-  last = λ last h. (let P : Screen → Type 0 = λ x. IsLast t partners after x in subst P (sym (same last)) (keeps_last t partners before after last (λ k. ap (λ (x : Session). x.status) (sym (kept k)) ∙ k) same_screen h));
+  last = λ last h. (let P : Screen → Type 0 = λ x. IsLast t partners after x in subst P (sym (same last)) (keeps_last t partners before after last (λ k. ap (λ (x : Knowledge). x.status) (sym (kept k)) ∙ k) same_screen h));
   settled = λ last m h. settled_on before after v o answer last m none same kept h;
   bound = λ e last rows cols h. absurd (other e);
   idle = λ e last rows cols h k. absurd (other e);
@@ -196,11 +196,11 @@ to_lost t partners after bytes s e x = refit t (ink_at t partners after.shown) (
 -- the session is the same
 same_session : {C : Type 0} (t : Table) (partners : ℕ → Option ℕ) (before after : Painted C) (bytes : List ℕ) (s : State) → after.session ≡ before.session → after.shown ≡ before.shown → Ends s bytes (FitsIn t partners before) → Ends s bytes (FitsIn t partners after)
 same_session t partners before after bytes s e f x =
-    let P : Session → Type 0 = λ y. Fits t (ink_at t partners after.shown) y.status y.belief x.after in
+    let P : Knowledge → Type 0 = λ y. Fits t (ink_at t partners after.shown) y.status y.belief x.after in
     let Q : Screen → Type 0 = λ d. Fits t (ink_at t partners d) before.session.status before.session.belief x.after in
     record { after = x.after; runs = x.runs; there = subst P (sym e) (subst Q (sym f) x.there) }
 
-pub carries : {W C : Type 0} (went : W → W → List ℕ → Type 0) (failures : W → ℕ) → IsWire went failures → IsBound → (old new : W) (t : Table) (partners : ℕ → Option ℕ) (v : Screen) (o : Output) (answer : Answer) (bytes : List ℕ) (before after : Painted C) → IsSize t.rows t.cols → IsSmall t → v.rows ≡ t.rows → v.cols ≡ t.cols
+pub carries : {W C : Type 0} (went : W → W → List ℕ → Type 0) (failures : W → ℕ) → IsWire went failures → IsBound → (old new : W) (t : Table) (partners : ℕ → Option ℕ) (v : Screen) (o : Emission) (answer : Answer) (bytes : List ℕ) (before after : Painted C) → IsSize t.rows t.cols → IsSmall t → v.rows ≡ t.rows → v.cols ≡ t.cols
     → Puts went failures old new t partners v o answer bytes before after → Carries went failures old new t partners v o answer before after
 carries went failures wire laws old new t partners v Nothing answer bytes before after size small high wide p = quietly went failures wire old new t partners v Nothing answer bytes before after refl (λ l. refl) p p
 carries went failures wire laws old new t partners v Update Done bytes before after size small high wide p = showed went failures old new t partners v bytes before after laws size small high wide p

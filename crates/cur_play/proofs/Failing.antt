@@ -30,8 +30,8 @@ use Rattle.cur_play.specs.Scenes.{Scene}
 use Rattle.cur_play.specs.Steps.{CallStep, Stepped, NoRoom, Failed, Step, drawn, is_sent, output_of, rung, sent, step, then_sent}
 use Rattle.cur_play.specs.declared.answers.Answer.{Answer}
 use Rattle.cur_play.specs.declared.answers.Answer.TheVariants.{Done, Was, Refused, WireFailed}
-use Rattle.cur_play.specs.declared.sending.Output.{Output}
-use Rattle.cur_play.specs.declared.sending.Output.TheVariants.{Nothing, Update, Bell, End}
+use Rattle.cur_play.specs.declared.sending.Emission.{Emission}
+use Rattle.cur_play.specs.declared.sending.Emission.TheVariants.{Nothing, Update, Bell, End}
 
 -- ---- only what is sent can be cut short
 
@@ -44,13 +44,13 @@ rung_whole true Lost e = cc
 rung_whole true Fresh e = cc
 rung_whole true Known e = cc
 
-sent_whole : (t : Table) (o : Output) (s : Scene) → (sent t o s).1 ≡ WireFailed → ⊥
+sent_whole : (t : Table) (o : Emission) (s : Scene) → (sent t o s).1 ≡ WireFailed → ⊥
 sent_whole t Nothing s e = cc
 sent_whole t Update s e = cc
 sent_whole t Bell s e = rung_whole (has t Bel) s.status e
 sent_whole t End s e = cc
 
-then_whole : (t : Table) (o : Output) (x : Step) → (x.1 ≡ WireFailed → ⊥) → (then_sent t o x).1 ≡ WireFailed → ⊥
+then_whole : (t : Table) (o : Emission) (x : Step) → (x.1 ≡ WireFailed → ⊥) → (then_sent t o x).1 ≡ WireFailed → ⊥
 then_whole t o (s, Done) h e = sent_whole t o s e
 then_whole t o (s, Was n) h e = cc
 then_whole t o (s, Refused r) h e = cc
@@ -64,7 +64,7 @@ cut_sends t s call answer a (Stepped f) e = absurd (step_whole t s call (ap (λ 
 cut_sends t s call answer a (NoRoom takes done f same) e = absurd (refused_unlike answer _ e f)
 cut_sends t s call answer a (Failed sent done f same) e = sent
 
-cut_rose : {W C : Type 0} (went : W → W → List ℕ → Type 0) (failures : W → ℕ) (old new : W) (t : Table) (partners : ℕ → Option ℕ) (v : Screen) (o : Output) (bytes : List ℕ) (before after : Painted C)
+cut_rose : {W C : Type 0} (went : W → W → List ℕ → Type 0) (failures : W → ℕ) (old new : W) (t : Table) (partners : ℕ → Option ℕ) (v : Screen) (o : Emission) (bytes : List ℕ) (before after : Painted C)
     → Puts went failures old new t partners v o WireFailed bytes before after → is_sent o ≡ true → Rose (failures old) (failures new)
 cut_rose went failures old new t partners v Nothing bytes before after h k = absurd (cc)
 cut_rose went failures old new t partners v Update bytes before after h k = h.cut.failed
@@ -108,7 +108,7 @@ narrowed t A B status x y g w f e h =
     subst P e (record { pieces = h.pieces; made = h.made; each = h.each; begins = h.begins; shows = λ s b. h.shows s (f s b) })
 
 -- from the states that may be met to some of them
-pub emitted : {W C : Type 0} (went : W → W → List ℕ → Type 0) (failures : W → ℕ) (old new : W) (t : Table) (partners : ℕ → Option ℕ) (v : Screen) (o : Output) (answer : Answer) (bytes : List ℕ) (before after : Painted C)
+pub emitted : {W C : Type 0} (went : W → W → List ℕ → Type 0) (failures : W → ℕ) (old new : W) (t : Table) (partners : ℕ → Option ℕ) (v : Screen) (o : Emission) (answer : Answer) (bytes : List ℕ) (before after : Painted C)
     (kind : State → Type 0) → ((s : State) → kind s → FitsIn t partners before s)
     → Puts went failures old new t partners v o answer bytes before after → Emits (Says t partners kind before.session.status v before.mode o) answer bytes
 emitted went failures old new t partners v Nothing Done bytes before after kind f p = p.none

@@ -35,9 +35,9 @@ use Rattle.cur_play.specs.Scenes.{IsStage, Scene, Stage, first, scene_of}
 use Rattle.cur_play.specs.Steps.{CallStep, Stepped, NoRoom, Failed, Step, drawn, output_of, then_sent}
 use Rattle.cur_play.specs.declared.answers.Answer.{Answer}
 use Rattle.cur_play.specs.declared.answers.Answer.TheVariants.{Done, Was, Refused, WireFailed}
-use Rattle.cur_play.specs.declared.runs.Entry.{Entry}
-use Rattle.cur_play.specs.declared.sending.Output.{Output}
-use Rattle.cur_play.specs.declared.sending.Output.TheVariants.{Nothing, Update, Bell, End}
+use Rattle.cur_play.specs.declared.runs.LogEntry.{LogEntry}
+use Rattle.cur_play.specs.declared.sending.Emission.{Emission}
+use Rattle.cur_play.specs.declared.sending.Emission.TheVariants.{Nothing, Update, Bell, End}
 
 -- ---- the scene after a refresh that was done
 
@@ -50,11 +50,11 @@ done_update t (s, Was n) a e = let f : Done ≡ Was n = ap (λ (y : Step). y.1) 
 done_update t (s, Refused r) a e = let f : Done ≡ Refused r = ap (λ (y : Step). y.1) e in absurd (cc)
 done_update t (s, WireFailed) a e = let f : Done ≡ WireFailed = ap (λ (y : Step). y.1) e in absurd (cc)
 
-pub record IsDone (o : Output) (given : Answer) : Type 0 where
+pub record IsDone (o : Emission) (given : Answer) : Type 0 where
   pub output : o ≡ Update
   pub answer : given ≡ Done
 
-is_done : (o : Output) (answer : Answer) → is_shown o answer ≡ true → IsDone o answer
+is_done : (o : Emission) (answer : Answer) → is_shown o answer ≡ true → IsDone o answer
 is_done Update Done e = record { output = refl; answer = refl }
 is_done Update (Was n) e = absurd (cc)
 is_done Update (Refused r) e = absurd (cc)
@@ -72,7 +72,7 @@ not_failed a e f = cc
 scene_shown : (t : Table) (b : Scene) (call : Call) (answer : Answer) (a : Scene) → is_shown (output_of call) answer ≡ true → CallStep t b call answer a → a ≡ shown_scene (drawn t b call).0
 scene_shown t b call answer a e (Stepped f) =
     let d = is_done (output_of call) answer e in
-    let P : Output → Type 0 = λ o. (a, answer) ≡ then_sent t o (drawn t b call) in
+    let P : Emission → Type 0 = λ o. (a, answer) ≡ then_sent t o (drawn t b call) in
     let Q : Answer → Type 0 = λ x. (a, x) ≡ then_sent t Update (drawn t b call) in
     done_update t (drawn t b call) a (subst Q d.answer (subst P d.output f))
 scene_shown t b call answer a e (NoRoom takes done f same) = absurd (not_refused answer _ (is_done (output_of call) answer e).answer f)
@@ -90,7 +90,7 @@ abbrev pub moment : {W : Type 0} → W → List ℕ → Scene → Screen → Mod
 moment wire bytes scene last last_mode = record { wire = wire; bytes = bytes; scene = scene; last = last; last_mode = last_mode }
 
 -- whatever is played from here on: the whole is played from the start
-pub record Logged {W C : Type 0} (about : Subject W) (old new : MutBor W) (count : ℕ) (calls : List Call) (i : ℕ) (stage : Stage C) (log : List Entry) : Type 0 where
+pub record Logged {W C : Type 0} (about : Subject W) (old new : MutBor W) (count : ℕ) (calls : List Call) (i : ℕ) (stage : Stage C) (log : List LogEntry) : Type 0 where
   pub bytes : List ℕ
   pub out : Counts about.went old new 0 count bytes
   pub fits : (s : State) → IsFresh about.table s → Ends s bytes (FitsIn about.table about.partners stage.painter)
@@ -103,9 +103,9 @@ pub record Logged {W C : Type 0} (about : Subject W) (old new : MutBor W) (count
   pub settled : IsSettled stage.painter last last_mode
   pub counted : length log ≡ i
   pub few : length bytes ≤ i * 2 ^ 60
-  pub plays : (rest : List Entry) (to : W) (all : List ℕ) → Plays about (moment new.now bytes (scene_of stage) last last_mode) (drop i calls) rest to all → Plays about (start about old.now) calls (log ++ rest) to all
+  pub plays : (rest : List LogEntry) (to : W) (all : List ℕ) → Plays about (moment new.now bytes (scene_of stage) last last_mode) (drop i calls) rest to all → Plays about (start about old.now) calls (log ++ rest) to all
 
-last_sized : (o : Output) (answer : Answer) (last v : Screen) (n : ℕ) (f : Screen → ℕ) → f last ≡ n → f v ≡ n → f (last_after o answer last v) ≡ n
+last_sized : (o : Emission) (answer : Answer) (last v : Screen) (n : ℕ) (f : Screen → ℕ) → f last ≡ n → f v ≡ n → f (last_after o answer last v) ≡ n
 last_sized Update Done last v n f e h = h
 last_sized Update (Was k) last v n f e h = e
 last_sized Update (Refused r) last v n f e h = e
@@ -115,7 +115,7 @@ last_sized Bell answer last v n f e h = e
 last_sized End answer last v n f e h = e
 
 -- the last screen by what was drawn, and by what is there after the call
-last_same : {C : Type 0} (t : Table) (partners : ℕ → Option ℕ) (o : Output) (answer : Answer) (p : Painted C) (last : Screen) (d a : Scene) → (is_shown o answer ≡ true → a ≡ shown_scene d)
+last_same : {C : Type 0} (t : Table) (partners : ℕ → Option ℕ) (o : Emission) (answer : Answer) (p : Painted C) (last : Screen) (d a : Scene) → (is_shown o answer ≡ true → a ≡ shown_scene d)
     → IsLast t partners p (last_after o answer last d.screen) → IsLast t partners p (last_after o answer last a.screen)
 last_same t partners Update Done p last d a e h =
     let P : Scene → Type 0 = λ x. ink_at t partners d.screen ≡ ink_at t partners x.screen in
@@ -128,7 +128,7 @@ last_same t partners Bell answer p last d a e h = h
 last_same t partners End answer p last d a e h = h
 
 -- the same of the cursor
-settled_same : {C : Type 0} (o : Output) (answer : Answer) (p : Painted C) (last : Screen) (last_mode : Mode) (d a : Scene) → (is_shown o answer ≡ true → a ≡ shown_scene d)
+settled_same : {C : Type 0} (o : Emission) (answer : Answer) (p : Painted C) (last : Screen) (last_mode : Mode) (d a : Scene) → (is_shown o answer ≡ true → a ≡ shown_scene d)
     → IsSettled p (last_after o answer last d.screen) (mode_after o answer last_mode d.mode) → IsSettled p (last_after o answer last a.screen) (mode_after o answer last_mode a.mode)
 settled_same Update Done p last last_mode d a e h =
     let P : Scene → Type 0 = λ x. IsSettled p x.screen x.mode in
@@ -163,14 +163,14 @@ CarriesOn {W} {V} {C} about wire count old new call answer before after =
     (drawn about.table (scene_of before) call).0.screen (output_of call) answer (poised about.table before call) after
 
 -- one call, and then what its wire held back is passed on
-log_more : {W V C : Type 0} (about : Subject W) → IsWire about.went about.failures → (wire : V → MutBor W) (count : V → ℕ) (a : MutBor W) (m n z : V) (calls : List Call) (i : ℕ) (call : Call) (before after : Stage C) (log : List Entry) (answer : Answer)
+log_more : {W V C : Type 0} (about : Subject W) → IsWire about.went about.failures → (wire : V → MutBor W) (count : V → ℕ) (a : MutBor W) (m n z : V) (calls : List Call) (i : ℕ) (call : Call) (before after : Stage C) (log : List LogEntry) (answer : Answer)
     → IsChecked about.table → i < 2 ^ 64 → Logged about a (wire m) (count m) calls i before log → drop i calls ≡ call ∷ drop (i + 1) calls
     → CallStep about.table (scene_of before) call answer (scene_of after) → IsStage about.table after.desk after.screen
     → CarriesOn about wire count m n call answer before after.painter → Counts about.went (wire n) (wire z) (count n) (count z) []
     → Logged about a (wire z) (count z) calls (i + 1) after (log ++ record { answer = answer; sent = count z } ∷ [])
 log_more {W} {V} {C} about laws wire count a m n z calls i call before after log answer checked small l left step sized carries passed =
     let t : Table = about.table in
-    let e : Entry = record { answer = answer; sent = count z } in
+    let e : LogEntry = record { answer = answer; sent = count z } in
     let d : Scene = (drawn t (scene_of before) call).0 in
     let b : List ℕ = carries.bytes in
     let A : State → Type 0 = FitsIn t about.partners before.painter in
@@ -237,7 +237,7 @@ log_more {W} {V} {C} about laws wire count a m n z calls i call before after log
       few = few;
       plays = λ rest to all h. (
           let R : List Call → Type 0 = λ y. Plays about was y (e ∷ rest) to all in
-          let T : List Entry → Type 0 = λ y. Plays about (start about a.now) calls y to all in
+          let T : List LogEntry → Type 0 = λ y. Plays about (start about a.now) calls y to all in
           let here : Plays about was (call ∷ drop (i + 1) calls) (e ∷ rest) to all = (next, tells, h) in
           subst T (sym (append_assoc log (e ∷ []) rest)) (l.plays (e ∷ rest) to all (subst R (sym left) here)));
     }
@@ -248,7 +248,7 @@ fresh_known s e f = cc
 nothing_open : (t : Table) (s : State) → IsFresh t s → IsOpen s.rest
 nothing_open t s f = f.lost.sized.state.rest
 
-pub log_none : {W C : Type 0} (about : Subject W) → IsWire about.went about.failures → (a : MutBor W) (to : ℕ) (calls : List Call) (stage : Stage C) (log : List Entry)
+pub log_none : {W C : Type 0} (about : Subject W) → IsWire about.went about.failures → (a : MutBor W) (to : ℕ) (calls : List Call) (stage : Stage C) (log : List LogEntry)
     → to ≡ 0 → scene_of stage ≡ first about.table → length log ≡ 0 → Logged about a a to calls 0 stage log
 log_none {W} about laws a to calls stage log none begins empty =
     let t : Table = about.table in
@@ -277,11 +277,11 @@ log_none {W} about laws a to calls stage log none begins empty =
       few = omega arith;
       plays = λ rest last_wire all h. (
           let P : Scene → Type 0 = λ x. Plays about (moment a.now [] x (new_screen t.rows t.cols) (first t).mode) calls rest last_wire all in
-          let R : List Entry → Type 0 = λ l. Plays about (start about a.now) calls (l ++ rest) last_wire all in
+          let R : List LogEntry → Type 0 = λ l. Plays about (start about a.now) calls (l ++ rest) last_wire all in
           subst R (sym nil) (subst P begins h));
     }
 
-pub log_whole : {W C : Type 0} (about : Subject W) → IsWire about.went about.failures → (a z : MutBor W) (to : ℕ) (calls : List Call) (i : ℕ) (stage : Stage C) (log : List Entry)
+pub log_whole : {W C : Type 0} (about : Subject W) → IsWire about.went about.failures → (a z : MutBor W) (to : ℕ) (calls : List Call) (i : ℕ) (stage : Stage C) (log : List LogEntry)
     → i ≡ length calls → Logged about a z to calls i stage log → RanOn about a z calls log
 log_whole {W} about laws a z to calls i stage log all l = record {
   ran = record {
@@ -291,7 +291,7 @@ log_whole {W} about laws a z to calls i stage log all l = record {
     plays = (
         let none : drop i calls ≡ [] = ap (λ (n : ℕ). drop n calls) all ∙ drop-length calls in
         let P : List Call → Type 0 = λ x. Plays about (moment z.now l.bytes (scene_of stage) l.last l.last_mode) x [] z.now l.bytes in
-        let R : List Entry → Type 0 = λ x. Plays about (start about a.now) calls x z.now l.bytes in
+        let R : List LogEntry → Type 0 = λ x. Plays about (start about a.now) calls x z.now l.bytes in
         let over : P [] = (laws.nothing z.now, refl) in
         subst R (append-nil log) (l.plays [] z.now l.bytes (subst P (sym none) over)));
   };
@@ -299,7 +299,7 @@ log_whole {W} about laws a z to calls i stage log all l = record {
 }
 
 -- the same, of what the certificates in the session say
-pub log_call : {W V C : Type 0} (went : W → W → List ℕ → Type 0) (failures : W → ℕ) → IsWire went failures → (wire : V → MutBor W) (count : V → ℕ) (a : MutBor W) (m n z : V) (table : C → Table) (partners : C → ℕ → Option ℕ) (given : C) (calls : List Call) (i : ℕ) (call : Call) (before after : Stage C) (log : List Entry) (answer : Answer)
+pub log_call : {W V C : Type 0} (went : W → W → List ℕ → Type 0) (failures : W → ℕ) → IsWire went failures → (wire : V → MutBor W) (count : V → ℕ) (a : MutBor W) (m n z : V) (table : C → Table) (partners : C → ℕ → Option ℕ) (given : C) (calls : List Call) (i : ℕ) (call : Call) (before after : Stage C) (log : List LogEntry) (answer : Answer)
     → Logged (subject_of went failures (table given) (partners given)) a (wire m) (count m) calls i before log → i < 2 ^ 64 → drop i calls ≡ call ∷ drop (i + 1) calls
     → before.painter.checked ≡ given → after.painter.checked ≡ before.painter.checked
     → CallStep (table before.painter.checked) (scene_of before) call answer (scene_of after) → IsStage (table after.painter.checked) after.desk after.screen → IsChecked (table after.painter.checked)

@@ -23,11 +23,11 @@ use Rattle.cur_play.specs.Steps.{CallStep, Stepped, NoRoom, Failed, Step, drawn,
 use Rattle.cur_play.specs.Windows.{takes_memory}
 use Rattle.cur_play.specs.declared.answers.Answer.{Answer}
 use Rattle.cur_play.specs.declared.answers.Answer.TheVariants.{Done, Was, Refused, WireFailed}
-use Rattle.cur_play.specs.declared.sending.Output.{Output}
-use Rattle.cur_play.specs.declared.sending.Output.TheVariants.{Nothing, Update, Bell, End}
+use Rattle.cur_play.specs.declared.sending.Emission.{Emission}
+use Rattle.cur_play.specs.declared.sending.Emission.TheVariants.{Nothing, Update, Bell, End}
 
 -- all of it went out, or the wire failed
-pub data IsSent (t : Table) (o : Output) (x : Step) (after : Scene) (a : Answer) : Type 0 where
+pub data IsSent (t : Table) (o : Emission) (x : Step) (after : Scene) (a : Answer) : Type 0 where
   All : (after, a) ≡ then_sent t o x → IsSent t o x after a
   Cut : is_sent o ≡ true → (then_sent t o x).1 ≡ Done → a ≡ WireFailed → after ≡ record x.0 { status = Lost } → IsSent t o x after a
 
@@ -38,7 +38,7 @@ left s v w to after h =
 with : (s u : Scene) (a : Answer) → u ≡ s → ◌≡◌ {A = Step} (u, a) (s, a)
 with s u a e = ap (λ (y : Scene). let x : Step = (y, a) in x) e
 
-sent_as : (t : Table) (o : Output) (s : Scene) (a : Answer) (w : Screen) (after : Status) → Delivers t o s.screen s.status a w after → IsSent t o (s, Done) (record s { screen = w; status = after }) a
+sent_as : (t : Table) (o : Emission) (s : Scene) (a : Answer) (w : Screen) (after : Status) → Delivers t o s.screen s.status a w after → IsSent t o (s, Done) (record s { screen = w; status = after }) a
 sent_as t Nothing s Done w after h = All (with s _ Done (left s s.screen w s.status after h))
 sent_as t Nothing s (Was n) w after h = absurd h
 sent_as t Nothing s (Refused r) w after h = absurd h
@@ -77,7 +77,7 @@ call_done t s call mid a w after h k =
     let P : Step → Type 0 = λ x. IsSent t (output_of call) x (record mid { screen = w; status = after }) a in
     step_of t s call a (record mid { screen = w; status = after }) (subst P (drawn_as t s call mid h) (sent_as t (output_of call) mid a w after k))
 
-then_kept : (t : Table) (o : Output) (x : Step) → (x.1 ≡ Done → ⊥) → then_sent t o x ≡ x
+then_kept : (t : Table) (o : Emission) (x : Step) → (x.1 ≡ Done → ⊥) → then_sent t o x ≡ x
 then_kept t o (s, Done) h = absurd (h refl)
 then_kept t o (s, Was n) h = refl
 then_kept t o (s, Refused r) h = refl
@@ -103,7 +103,7 @@ call_refused t s call a mid h (Drawn e) =
     let kept : then_sent t (output_of call) (drawn t s call) ≡ drawn t s call = then_kept t (output_of call) (drawn t s call) (λ d. h (ap (λ (y : Step). y.1) e ∙ d)) in
     Stepped (e ∙ sym kept)
 call_refused t s call a mid h (NoSpace takes done r same) =
-    let P : Output → Type 0 = λ o. (then_sent t o (drawn t s call)).1 ≡ Done in
+    let P : Emission → Type 0 = λ o. (then_sent t o (drawn t s call)).1 ≡ Done in
     NoRoom takes (subst P (sym (makers_send_nothing call takes)) (nothing_sent t (drawn t s call) done)) r same
 
 -- ---- what goes out
@@ -120,7 +120,7 @@ puts_done {W} {C} went failures old new t partners p call mid a bytes q r h e g 
     let Q : Scene → Type 0 = λ y. Puts went failures old new t partners y.screen (output_of call) a bytes (poised t p call) r in
     subst Q f (subst P (poised_is t p call mid q e f g) k)
 
-quiet_puts : {W C : Type 0} (went : W → W → List ℕ → Type 0) (failures : W → ℕ) (old new : W) (t : Table) (partners : ℕ → Option ℕ) (v : Screen) (o : Output) (a : Answer) (q r : Painted C)
+quiet_puts : {W C : Type 0} (went : W → W → List ℕ → Type 0) (failures : W → ℕ) (old new : W) (t : Table) (partners : ℕ → Option ℕ) (v : Screen) (o : Emission) (a : Answer) (q r : Painted C)
     → (a ≡ Done → ⊥) → (a ≡ WireFailed → ⊥) → IsQuiet old new [] q r → Puts went failures old new t partners v o a [] q r
 quiet_puts went failures old new t partners v o Done q r h k w = absurd (h refl)
 quiet_puts went failures old new t partners v o WireFailed q r h k w = absurd (k refl)
@@ -149,7 +149,7 @@ pub checked_kept : {C : Type 0} (table : C → Table) (p q : Painted C) → IsCh
 checked_kept {C} table p q h f = let P : C → Type 0 = λ y. IsChecked (table y) in subst P (sym f) h
 
 -- the sizes after the sending
-screen_sizes : (t : Table) (o : Output) (v w : Screen) (status after : Status) (a : Answer) → Delivers t o v status a w after → (w.rows ≡ v.rows) × (w.cols ≡ v.cols)
+screen_sizes : (t : Table) (o : Emission) (v w : Screen) (status after : Status) (a : Answer) → Delivers t o v status a w after → (w.rows ≡ v.rows) × (w.cols ≡ v.cols)
 screen_sizes t Nothing v w status after Done h = (ap (λ (y : Screen). y.rows) h.screen, ap (λ (y : Screen). y.cols) h.screen)
 screen_sizes t Nothing v w status after (Was n) h = absurd h
 screen_sizes t Nothing v w status after (Refused r) h = absurd h
@@ -184,7 +184,7 @@ carried went failures laws bound old new t partners p call a bytes r checked row
     carries went failures laws bound old new t partners (drawn t (scene_of p) call).0.screen (output_of call) a bytes (poised t p call) r checked.size checked.small (k.rows ∙ rows) (k.cols ∙ cols) h
 
 pub played_done : {W C : Type 0} (went : W → W → List ℕ → Type 0) (failures : W → ℕ) → IsWire went failures → IsBound → (old new : W) (table : C → Table) (partners : C → ℕ → Option ℕ) (d : State) (v : Screen) (p : Painted C) (call : Call)
-    (mid_desk : State) (mid_screen : Screen) (q : Painted C) (drawn_answer : Answer) (a : Answer) (o : Output) (bytes : List ℕ) (w : Screen) (r : Painted C)
+    (mid_desk : State) (mid_screen : Screen) (q : Painted C) (drawn_answer : Answer) (a : Answer) (o : Emission) (bytes : List ℕ) (w : Screen) (r : Painted C)
     → IsChecked (table p.checked) → v.rows ≡ (table p.checked).rows → v.cols ≡ (table p.checked).cols
     → drawn_answer ≡ Done
     → Draws (table p.checked) (scene_of (stage_of d v p)) call drawn_answer (record { desk = mid_desk; screen = mid_screen; mode = q.mode; status = p.session.status })
@@ -202,10 +202,10 @@ played_done {W} {C} went failures laws bound old new table partners d v p call m
     let status : q.session.status ≡ p.session.status = ap (λ (y : Painted C). y.session.status) poised_q in
     let D : C → Type 0 = λ y. Delivers (table y) o mv q.session.status a w r.session.status in
     let E : Status → Type 0 = λ y. Delivers t o mv y a w r.session.status in
-    let F : Output → Type 0 = λ y. Delivers t y mv p.session.status a w r.session.status in
+    let F : Emission → Type 0 = λ y. Delivers t y mv p.session.status a w r.session.status in
     let sent : Delivers t (output_of call) mv p.session.status a w r.session.status = subst F out (subst E status (subst D same delivers)) in
     let G : C → Type 0 = λ y. Puts went failures old new (table y) (partners y) mv o a bytes q r in
-    let H : Output → Type 0 = λ y. Puts went failures old new t (partners p.checked) mv y a bytes q r in
+    let H : Emission → Type 0 = λ y. Puts went failures old new t (partners p.checked) mv y a bytes q r in
     let goes : Puts went failures old new t (partners p.checked) (drawn t (scene_of st) call).0.screen (output_of call) a bytes (poised t st call) r =
     puts_done went failures old new t (partners p.checked) st call mid a bytes q r drawn_done poised_q refl (subst H out (subst G same puts)) in
     let step : CallStep t (scene_of st) call a (record mid { screen = w; status = r.session.status }) = call_done t (scene_of st) call mid a w r.session.status drawn_done sent in

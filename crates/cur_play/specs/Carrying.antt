@@ -14,8 +14,8 @@ use Rattle.cur_update.specs.Painters.{Painted, place_of, wanted_of}
 use Rattle.cur_play.specs.Log.{is_shown, last_after, mode_after, most}
 use Rattle.cur_play.specs.Outputs.{Puts}
 use Rattle.cur_play.specs.declared.answers.Answer.{Answer}
-use Rattle.cur_play.specs.declared.sending.Output.{Output}
-use Rattle.cur_play.specs.declared.sending.Output.TheVariants.{Nothing, Update}
+use Rattle.cur_play.specs.declared.sending.Emission.{Emission}
+use Rattle.cur_play.specs.declared.sending.Emission.TheVariants.{Nothing, Update}
 
 -- the states that the terminal may be in
 abbrev pub FitsIn : {C : Type 0} → Table → (ℕ → Option ℕ) → Painted C → State → Type 0
@@ -38,7 +38,7 @@ pub record IsShown {C : Type 0} (t : Table) (v : Screen) (p : Painted C) (last :
   pub clear : v.clearok ≡ false
 
 -- v is the virtual screen when the sending begins, and the painter before has the cursor's mode at that time
-pub record Carries {W C : Type 0} (went : W → W → List ℕ → Type 0) (failures : W → ℕ) (old new : W) (t : Table) (partners : ℕ → Option ℕ) (v : Screen) (o : Output) (answer : Answer) (before after : Painted C) : Type 0 where
+pub record Carries {W C : Type 0} (went : W → W → List ℕ → Type 0) (failures : W → ℕ) (old new : W) (t : Table) (partners : ℕ → Option ℕ) (v : Screen) (o : Emission) (answer : Answer) (before after : Painted C) : Type 0 where
   pub bytes : List ℕ
   pub sent : went old new bytes
   -- they are what the call sends, by its answer

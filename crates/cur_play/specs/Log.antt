@@ -22,9 +22,9 @@ use Rattle.cur_play.specs.Scenes.{Scene, first}
 use Rattle.cur_play.specs.Steps.{CallStep, drawn, output_of}
 use Rattle.cur_play.specs.declared.answers.Answer.{Answer}
 use Rattle.cur_play.specs.declared.answers.Answer.TheVariants.{Done, WireFailed}
-use Rattle.cur_play.specs.declared.runs.Entry.{Entry}
-use Rattle.cur_play.specs.declared.sending.Output.{Output}
-use Rattle.cur_play.specs.declared.sending.Output.TheVariants.{Nothing, Update, Bell, End}
+use Rattle.cur_play.specs.declared.runs.LogEntry.{LogEntry}
+use Rattle.cur_play.specs.declared.sending.Emission.{Emission}
+use Rattle.cur_play.specs.declared.sending.Emission.TheVariants.{Nothing, Update, Bell, End}
 
 -- ---- what a run is about, and a moment of it
 
@@ -67,7 +67,7 @@ pub record IsAfter (t : Table) (bytes : List ℕ) (s : State) : Type 0 where
 
 -- What it is to send where nothing fails. The terminal is in a state of the kind, and the session has this status; the
 -- virtual screen and the cursor's mode are those when the sending begins.
-abbrev pub Says : Table → (ℕ → Option ℕ) → (State → Type 0) → Status → Screen → Mode → Output → List ℕ → Type 0
+abbrev pub Says : Table → (ℕ → Option ℕ) → (State → Type 0) → Status → Screen → Mode → Emission → List ℕ → Type 0
 Says t partners kind status v m Nothing bytes = bytes ≡ []
 Says t partners kind status v m Update bytes = Lawful t kind status bytes (ink_at t partners v) (wanted_of v m)
 Says t partners kind status v m Bell bytes = t.line_of Bel ≡ Some bytes
@@ -87,17 +87,17 @@ Emits says answer bytes = bytes ≡ []
 -- ---- what was shown last, and the most that a refresh sends
 
 -- the virtual screen was shown
-abbrev pub is_shown : Output → Answer → Bool
+abbrev pub is_shown : Emission → Answer → Bool
 is_shown Update Done = true
 is_shown _ _ = false
 
 -- the screen that was shown last
-abbrev pub last_after : Output → Answer → Screen → Screen → Screen
+abbrev pub last_after : Emission → Answer → Screen → Screen → Screen
 last_after Update Done last v = v
 last_after _ _ last v = last
 
 -- the mode in which the cursor was shown last
-abbrev pub mode_after : Output → Answer → Mode → Mode → Mode
+abbrev pub mode_after : Emission → Answer → Mode → Mode → Mode
 mode_after Update Done last m = m
 mode_after _ _ last m = last
 
@@ -152,7 +152,7 @@ ShowsScene about scene =
     Shows t (ink_at t about.partners scene.screen) (wanted_of scene.screen scene.mode)
 
 -- One call of a run, from one moment to the next, and its entry in the log.
-pub record Tells {W : Type 0} (about : Subject W) (before : Moment W) (call : Call) (e : Entry) (after : Moment W) : Type 0 where
+pub record Tells {W : Type 0} (about : Subject W) (before : Moment W) (call : Call) (e : LogEntry) (after : Moment W) : Type 0 where
   -- the call was done as it is defined, with the answer of the log
   pub step : CallStep about.table before.scene call e.answer after.scene
   -- what went out in it; the log's number is that of all bytes since the run began
@@ -178,7 +178,7 @@ pub record Tells {W : Type 0} (about : Subject W) (before : Moment W) (call : Ca
 
 -- Each call in turn, with one entry for each, from this moment on. After the last one nothing more goes out up to the
 -- wire `new`, and these are all the bytes.
-abbrev pub Plays : {W : Type 0} → Subject W → Moment W → List Call → List Entry → W → List ℕ → Type 0
+abbrev pub Plays : {W : Type 0} → Subject W → Moment W → List Call → List LogEntry → W → List ℕ → Type 0
 Plays about before [] [] new bytes = about.went before.wire new [] × (bytes ≡ before.bytes)
 Plays about before [] (e ∷ log) new bytes = ⊥
 Plays about before (call ∷ calls) [] new bytes = ⊥
@@ -186,7 +186,7 @@ Plays {W} about before (call ∷ calls) (e ∷ log) new bytes =
     (after : Moment W) × Tells about before call e after × Plays about after calls log new bytes
 
 -- a run: all that went out, and one entry for each call
-pub record Ran {W : Type 0} (about : Subject W) (old new : W) (calls : List Call) (log : List Entry) : Type 0 where
+pub record Ran {W : Type 0} (about : Subject W) (old new : W) (calls : List Call) (log : List LogEntry) : Type 0 where
   pub bytes : List ℕ
   pub sent : about.went old new bytes
   pub counted : length log ≡ length calls

@@ -12,8 +12,8 @@ use Rattle.cur_play.specs.Scenes.{Stage, scene_of}
 use Rattle.cur_play.specs.Steps.{drawn}
 use Rattle.cur_play.specs.declared.answers.Answer.{Answer}
 use Rattle.cur_play.specs.declared.answers.Answer.TheVariants.{Done, WireFailed}
-use Rattle.cur_play.specs.declared.sending.Output.{Output}
-use Rattle.cur_play.specs.declared.sending.Output.TheVariants.{Update, Bell, End}
+use Rattle.cur_play.specs.declared.sending.Emission.{Emission}
+use Rattle.cur_play.specs.declared.sending.Emission.TheVariants.{Update, Bell, End}
 
 -- nothing: the wire is as it was, and so is what is known of the terminal
 pub record IsQuiet {W C : Type 0} (old new : W) (bytes : List ℕ) (before after : Painted C) : Type 0 where
@@ -41,7 +41,7 @@ pub record Told {C : Type 0} (Sends : Type 0) (sent : Sends → List ℕ) (bytes
   pub shown : after.shown ≡ before.shown
 
 -- by what is to be sent, and by the answer; v is the virtual screen as it was when the sending began
-abbrev pub Puts : {W C : Type 0} → (W → W → List ℕ → Type 0) → (W → ℕ) → W → W → Table → (ℕ → Option ℕ) → Screen → Output → Answer → List ℕ → Painted C → Painted C → Type 0
+abbrev pub Puts : {W C : Type 0} → (W → W → List ℕ → Type 0) → (W → ℕ) → W → W → Table → (ℕ → Option ℕ) → Screen → Emission → Answer → List ℕ → Painted C → Painted C → Type 0
 Puts went failures old new t partners v Update Done bytes before after = Showed went old new t partners v bytes before after
 Puts went failures old new t partners v Update WireFailed bytes before after = ShowedShort went failures old new t partners v bytes before after
 Puts went failures old new t partners v Bell Done bytes before after = Told (Rang went old new t before.session after.session) (λ x. x.line) bytes before after

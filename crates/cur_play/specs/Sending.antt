@@ -8,8 +8,8 @@ use Rattle.cur_paint.specs.declared.updates.Status.TheVariants.{Fresh, Known, Lo
 use Rattle.cur_play.specs.Steps.{rung}
 use Rattle.cur_play.specs.declared.answers.Answer.{Answer}
 use Rattle.cur_play.specs.declared.answers.Answer.TheVariants.{Done, Refused, WireFailed}
-use Rattle.cur_play.specs.declared.sending.Output.{Output}
-use Rattle.cur_play.specs.declared.sending.Output.TheVariants.{Nothing, Update, Bell, End}
+use Rattle.cur_play.specs.declared.sending.Emission.{Emission}
+use Rattle.cur_play.specs.declared.sending.Emission.TheVariants.{Nothing, Update, Bell, End}
 
 -- the virtual screen and the status after it
 pub record Leaves (v : Screen) (left : Status) (w : Screen) (after : Status) : Type 0 where
@@ -21,7 +21,7 @@ pub record LeavesRung (t : Table) (v : Screen) (before : Status) (a : Answer) (s
   pub answers : rung (has t Bel) before ≡ a
   pub leaves : Leaves v status w after
 
-abbrev pub Delivers : Table → Output → Screen → Status → Answer → Screen → Status → Type 0
+abbrev pub Delivers : Table → Emission → Screen → Status → Answer → Screen → Status → Type 0
 Delivers t Nothing v status Done w after = Leaves v status w after
 Delivers t Update v status Done w after = Leaves (refreshed v) Known w after
 Delivers t Update v status WireFailed w after = Leaves v Lost w after

@@ -20,8 +20,8 @@ use Rattle.cur_play.specs.Scenes.{Scene}
 use Rattle.cur_play.specs.Windows.{making, changing, takes_memory}
 use Rattle.cur_play.specs.declared.answers.Answer.{Answer}
 use Rattle.cur_play.specs.declared.answers.Answer.TheVariants.{Done, Was, Refused, WireFailed}
-use Rattle.cur_play.specs.declared.sending.Output.{Output}
-use Rattle.cur_play.specs.declared.sending.Output.TheVariants.{Nothing, Update, Bell, End}
+use Rattle.cur_play.specs.declared.sending.Emission.{Emission}
+use Rattle.cur_play.specs.declared.sending.Emission.TheVariants.{Nothing, Update, Bell, End}
 
 -- the scene after a call, and its answer
 abbrev pub Step : Type 0
@@ -64,7 +64,7 @@ abbrev pub drawn : Table → Scene → Call → Step
 drawn t s call = or_else s (making s.desk call) (or_else s (changing s.desk call) (showing t s call))
 
 -- what a call sends: what shows the virtual screen, the bell, the end of the program's screen, or nothing
-abbrev pub output_of : Call → Output
+abbrev pub output_of : Call → Emission
 output_of (Show Refresh n) = Update
 output_of (ShowPad Prefresh n row col top left bottom right) = Update
 output_of (Screen Doupdate) = Update
@@ -79,14 +79,14 @@ rung true Lost = Refused IsLost
 rung true _ = Done
 
 -- where all of it goes out
-abbrev pub sent : Table → Output → Scene → Step
+abbrev pub sent : Table → Emission → Scene → Step
 sent t Nothing s = (s, Done)
 sent t Update s = (record s { screen = screens.refreshed s.screen; status = Known }, Done)
 sent t Bell s = (s, rung (has t Bel) s.status)
 sent t End s = (record s { status = Fresh }, Done)
 
 -- what is refused sends nothing
-abbrev pub then_sent : Table → Output → Step → Step
+abbrev pub then_sent : Table → Emission → Step → Step
 then_sent t o (s, Done) = sent t o s
 then_sent t o (s, Was n) = (s, Was n)
 then_sent t o (s, Refused r) = (s, Refused r)
@@ -95,7 +95,7 @@ then_sent t o (s, WireFailed) = (s, WireFailed)
 abbrev pub step : Table → Scene → Call → Step
 step t s call = then_sent t (output_of call) (drawn t s call)
 
-abbrev pub is_sent : Output → Bool
+abbrev pub is_sent : Emission → Bool
 is_sent Nothing = false
 is_sent _ = true
 

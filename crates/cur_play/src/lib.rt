@@ -17,5 +17,5 @@ pub use cur_calls::{
     ShowCall, Text, read_script,
 };
 pub use paced::Paced;
-pub use runs::{Entry, Log, run, run_paced};
+pub use runs::{Log, LogEntry, run, run_paced};
 pub use sessions::Session;

@@ -16,7 +16,7 @@ use ti_conforms::Certificate;
 
 /// What a call of a run answered, and how many bytes the wire had got since the run began.
 #[derive(Clone, Copy)]
-pub struct Entry {
+pub struct LogEntry {
     pub answer: Answer,
     pub sent: u128,
 }
@@ -24,7 +24,7 @@ pub struct Entry {
 /// What was answered and sent in a run: one entry for each call.
 #[derive(Drop)]
 pub struct Log {
-    pub entries: Vec<Entry>,
+    pub entries: Vec<LogEntry>,
 }
 
 /// Plays `calls`, one after another, on `wire`, in a session of their own on the terminal of `checked`. Whatever they
@@ -82,9 +82,9 @@ pub fn run_paced<C: Certificate, W: Paced>(
 fn play_all<C: Certificate, W: Paced>(
     session: Session<'_, C>,
     calls: &[Call<'_>],
-    log: Vec<Entry>,
+    log: Vec<LogEntry>,
     wire: &mut Counted<'_, W>,
-) -> Vec<Entry>
+) -> Vec<LogEntry>
     requires scene { scene_of session ≡ first (C.table session.painter.checked) }
     requires room { length calls.now ≤ vec_capacity log }
     requires empty { log.items ≡ [] }
@@ -97,7 +97,7 @@ fn play_all<C: Certificate, W: Paced>(
     for call in calls {
         let answer = session.call(call, wire);
         pass_on(wire);
-        log.push(Entry {
+        log.push(LogEntry {
             answer,
             sent: wire.sent,
         })

@@ -13,7 +13,7 @@ use ti_conforms::Certificate;
 
 /// What a call sends.
 #[derive(Clone, Copy)]
-pub enum Output {
+pub enum Emission {
     /// Nothing.
     Nothing,
     /// What makes the terminal show the virtual screen.
@@ -25,22 +25,22 @@ pub enum Output {
 }
 
 /// What a call sends, if it isn't refused.
-pub(crate) fn output_of(call: &Call<'_>) -> Output
+pub(crate) fn output_of(call: &Call<'_>) -> Emission
     ensures { result ≡ spec.output_of call.now }
 {
     match call {
         Call::Show {
             call: ShowCall::Refresh,
             ..
-        } => Output::Update,
+        } => Emission::Update,
         Call::ShowPad {
             call: PadCall::Prefresh,
             ..
-        } => Output::Update,
-        Call::Screen(ScreenCall::Doupdate) => Output::Update,
-        Call::Screen(ScreenCall::Beep) => Output::Bell,
-        Call::Screen(ScreenCall::Endwin) => Output::End,
-        _ => Output::Nothing,
+        } => Emission::Update,
+        Call::Screen(ScreenCall::Doupdate) => Emission::Update,
+        Call::Screen(ScreenCall::Beep) => Emission::Bell,
+        Call::Screen(ScreenCall::Endwin) => Emission::End,
+        _ => Emission::Nothing,
     }
 }
 
@@ -48,7 +48,7 @@ pub(crate) fn output_of(call: &Call<'_>) -> Output
 pub(crate) fn send<C: Certificate, W: Wire>(
     screen: &mut Virtual,
     painter: &mut Painter<'_, C>,
-    output: Output,
+    output: Emission,
     wire: &mut W,
 ) -> Answer
     requires rows { (screen.old).rows ≡ (C.table painter.old.checked).rows }
@@ -59,10 +59,10 @@ pub(crate) fn send<C: Certificate, W: Wire>(
     ensures mode { painter.new.mode ≡ painter.old.mode }
 {
     match output {
-        Output::Nothing => Answer::Done,
-        Output::Update => update(screen, painter, wire),
-        Output::Bell => ring(painter, wire),
-        Output::End => finish(painter, wire),
+        Emission::Nothing => Answer::Done,
+        Emission::Update => update(screen, painter, wire),
+        Emission::Bell => ring(painter, wire),
+        Emission::End => finish(painter, wire),
     }
 }
 
@@ -74,8 +74,8 @@ fn update<C: Certificate, W: Wire>(
 ) -> Answer
     requires rows { (screen.old).rows ≡ (C.table painter.old.checked).rows }
     requires cols { (screen.old).cols ≡ (C.table painter.old.checked).cols }
-    ensures delivers { Delivers (C.table painter.old.checked) Output.Update screen.old painter.old.session.status result screen.new painter.new.session.status }
-    ensures puts { (bytes : List ℕ) × Puts W.went W.failures wire.old wire.new (C.table painter.old.checked) (C.partners painter.old.checked) screen.old Output.Update result bytes painter.old painter.new }
+    ensures delivers { Delivers (C.table painter.old.checked) Emission.Update screen.old painter.old.session.status result screen.new painter.new.session.status }
+    ensures puts { (bytes : List ℕ) × Puts W.went W.failures wire.old wire.new (C.table painter.old.checked) (C.partners painter.old.checked) screen.old Emission.Update result bytes painter.old painter.new }
     ensures certificate { painter.new.checked ≡ painter.old.checked }
     ensures mode { painter.new.mode ≡ painter.old.mode }
 {
@@ -90,8 +90,8 @@ fn update<C: Certificate, W: Wire>(
 
 /// Rings the bell.
 fn ring<C: Certificate, W: Wire>(painter: &mut Painter<'_, C>, wire: &mut W) -> Answer
-    ensures delivers { (screen : Screen) → Delivers (C.table painter.old.checked) Output.Bell screen painter.old.session.status result screen painter.new.session.status }
-    ensures puts { (screen : Screen) → (bytes : List ℕ) × Puts W.went W.failures wire.old wire.new (C.table painter.old.checked) (C.partners painter.old.checked) screen Output.Bell result bytes painter.old painter.new }
+    ensures delivers { (screen : Screen) → Delivers (C.table painter.old.checked) Emission.Bell screen painter.old.session.status result screen painter.new.session.status }
+    ensures puts { (screen : Screen) → (bytes : List ℕ) × Puts W.went W.failures wire.old wire.new (C.table painter.old.checked) (C.partners painter.old.checked) screen Emission.Bell result bytes painter.old painter.new }
     ensures certificate { painter.new.checked ≡ painter.old.checked }
     ensures mode { painter.new.mode ≡ painter.old.mode }
 {
@@ -104,8 +104,8 @@ fn ring<C: Certificate, W: Wire>(painter: &mut Painter<'_, C>, wire: &mut W) -> 
 
 /// Ends the program's screen.
 fn finish<C: Certificate, W: Wire>(painter: &mut Painter<'_, C>, wire: &mut W) -> Answer
-    ensures delivers { (screen : Screen) → Delivers (C.table painter.old.checked) Output.End screen painter.old.session.status result screen painter.new.session.status }
-    ensures puts { (screen : Screen) → (bytes : List ℕ) × Puts W.went W.failures wire.old wire.new (C.table painter.old.checked) (C.partners painter.old.checked) screen Output.End result bytes painter.old painter.new }
+    ensures delivers { (screen : Screen) → Delivers (C.table painter.old.checked) Emission.End screen painter.old.session.status result screen painter.new.session.status }
+    ensures puts { (screen : Screen) → (bytes : List ℕ) × Puts W.went W.failures wire.old wire.new (C.table painter.old.checked) (C.partners painter.old.checked) screen Emission.End result bytes painter.old painter.new }
     ensures certificate { painter.new.checked ≡ painter.old.checked }
     ensures mode { painter.new.mode ≡ painter.old.mode }
 {

@@ -12,14 +12,14 @@ use Rattle.cur_looks.specs.Beliefs.{CanHide}
 use Rattle.cur_looks.specs.declared.beliefs.Place.{Place}
 use Rattle.cur_looks.specs.declared.beliefs.Mode.{Mode}
 use Rattle.cur_looks.specs.declared.beliefs.Mode.TheVariants.{Hidden, Normal, Prominent}
-use Rattle.cur_paint.specs.declared.updates.Session.{Session}
+use Rattle.cur_paint.specs.declared.updates.Knowledge.{Knowledge}
 use Rattle.cur_paint.specs.declared.updates.Wanted.{Wanted}
 
 pub record Painted (C : Type 0) : Type 0 where
   pub checked : C
   -- the screen of the last refresh that was done
   pub shown : Screen
-  pub session : Session
+  pub session : Knowledge
   -- the mode that was set last, shown or not
   pub mode : Mode
 

@@ -2,7 +2,7 @@
 ghost use Rattle.cur_update.specs.Beep.{Rings};
 
 use cur_drawing::Refusal;
-use cur_paint::Session;
+use cur_paint::Knowledge;
 use cur_wires::{Wire, WireFault};
 use ti_conforms::Certificate;
 
@@ -18,15 +18,15 @@ pub enum Unsent {
 /// Rings the bell.
 pub(crate) fn ring<C: Certificate, W: Wire>(
     checked: &C,
-    session: &mut Session,
+    session: &mut Knowledge,
     wire: &mut W,
 ) -> Result<(), Unsent>
     ensures { Rings W.went W.failures wire.old wire.new result (C.table checked.now) session.old session.new }
 {
     match cur_paint::beep(checked, session, wire) {
         Ok(()) => Ok(()),
-        Err(cur_paint::Unsent::NoCap) => Err(Unsent::Refused(Refusal::NoCap)),
-        Err(cur_paint::Unsent::Stray) => Err(Unsent::Refused(Refusal::IsLost)),
-        Err(cur_paint::Unsent::Wire(fault)) => Err(Unsent::Wire(fault)),
+        Err(cur_paint::BellFault::NoCap) => Err(Unsent::Refused(Refusal::NoCap)),
+        Err(cur_paint::BellFault::Stray) => Err(Unsent::Refused(Refusal::IsLost)),
+        Err(cur_paint::BellFault::Wire(fault)) => Err(Unsent::Wire(fault)),
     }
 }

@@ -9,7 +9,7 @@ mod painters;
 mod screens;
 
 pub use bells::Unsent;
-pub use cur_paint::{Session, Status};
+pub use cur_paint::{Knowledge, Status};
 pub use cur_wires::{Fuse, Tape, Wire, WireFault};
 pub use laws::cells_bounded;
 pub use painters::Painter;

@@ -15,7 +15,7 @@ use crate::inks::{has_line, means_of};
 use crate::screens::{PrintedScreen, all_cells};
 use cur_drawing::{Refusal, place_below};
 use cur_looks::{Mode, Place, Row};
-use cur_paint::{Screens, Session, Wanted};
+use cur_paint::{Knowledge, Screens, Wanted};
 use cur_windows::{Size, Virtual};
 use cur_wires::{Wire, WireFault};
 use std::alloc::{AllocError, Global};
@@ -27,7 +27,7 @@ use ti_conforms::Certificate;
 pub struct Painter<'a, C: Certificate> {
     checked: &'a C,
     shown: Virtual,
-    session: Session,
+    session: Knowledge,
     mode: Mode,
 }
 
@@ -56,7 +56,7 @@ impl<'a, C: Certificate> Painter<'a, C> {
         Ok(Painter {
             checked,
             shown,
-            session: Session::new(),
+            session: Knowledge::new(),
             mode: Mode::Normal,
         })
     }
@@ -151,7 +151,7 @@ fn wanted_of(screen: &Virtual, mode: Mode) -> Wanted
 fn refresh<C: Certificate, W: Wire>(
     checked: &C,
     shown: &mut Virtual,
-    session: &mut Session,
+    session: &mut Knowledge,
     wire: &mut W,
     screen: &Virtual,
     wanted: Wanted,

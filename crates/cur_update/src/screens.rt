@@ -4,7 +4,7 @@ ghost use Rattle.cur_drawing.specs.Cells.{IsCell};
 ghost use Rattle.cur_update.specs.Inks.{content_at, ink_at_with};
 
 use crate::inks::{Means, ink_of, is_blank_ink, is_other, plain_byte, shows_ink};
-use cur_looks::{Ink, View, byte_as, is_same};
+use cur_looks::{Ink, Picture, byte_as, is_same};
 use cur_windows::Virtual;
 use ti_conforms::Certificate;
 
@@ -16,7 +16,7 @@ pub(crate) struct PrintedScreen<'a, C> {
     pub means: Means,
 }
 
-impl<'a, C: Certificate> View for PrintedScreen<'a, C> {
+impl<'a, C: Certificate> Picture for PrintedScreen<'a, C> {
     ghost use Rattle.cur_update.specs.Inks.{ink_at_with};
 
     ghost cells = { λ s. ink_at_with s.means (C.partners s.checked.now) s.screen.now };

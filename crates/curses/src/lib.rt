@@ -25,4 +25,4 @@ pub use cur_calls::{
     AttrsCall, Call, CellCall, FlagCall, LayCall, LineCall, NumberCall, NumbersCall, PadCall,
     PartCall, PlainCall, ScreenCall, ScriptFault, ScriptFaultKind, ShowCall, Text, read_script,
 };
-pub use cur_play::{Answer, Log, Session, run};
+pub use cur_play::{Answer, Log, LogEntry, Session, run};

@@ -11,9 +11,9 @@ use Rattle.clap.specs.declared.error.kind.ErrorKind.{ErrorKind}
 use Rattle.clap.specs.declared.error.kind.ErrorKind.TheVariants as kind
 use Rattle.ti_arguments.specs.Asking.{Asks, IsAnswer, IsTold}
 use Rattle.ti_arguments.specs.Line.{line}
-use Rattle.ti_arguments.specs.declared.parsing.Answer.{Answer}
-use Rattle.ti_arguments.specs.declared.parsing.Answer.TheVariants as answers
-use Rattle.ti_arguments.specs.declared.parsing.LineFault.{LineFault}
+use Rattle.ti_arguments.specs.declared.parsing.ParsedLine.{ParsedLine}
+use Rattle.ti_arguments.specs.declared.parsing.ParsedLine.TheVariants as answers
+use Rattle.ti_arguments.specs.declared.parsing.UsageFault.{UsageFault}
 use Rattle.ti_requests.specs.declared.request.Request.{Request}
 
 line_is_simple : is_simple_and_free line ≡ true
@@ -41,7 +41,7 @@ no_memory k e (inl h) = cc
 no_memory k e (inr h) = cc
 
 -- so there is an answer for it
-pub answered : (words : List Text) (e : Error) (r : Result Answer LineFault) → HasKind (fault_of line words) e → IfOk r (λ a. IsTold (kind_of e) a) → IfOk r (λ a. IsAnswer words a)
+pub answered : (words : List Text) (e : Error) (r : Result ParsedLine UsageFault) → HasKind (fault_of line words) e → IfOk r (λ a. IsTold (kind_of e) a) → IfOk r (λ a. IsAnswer words a)
 answered words e (Err fault) h t = tt
 answered words e (Ok (answers.Request request)) h t = absurd t
 answered words e (Ok (answers.Text text)) (inl out) t = no_memory (kind_of e) out t

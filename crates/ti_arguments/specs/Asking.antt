@@ -8,8 +8,8 @@ use Rattle.clap.specs.Walk.{Row, Text, all_of, first_of}
 use Rattle.clap.specs.declared.error.kind.ErrorKind.{ErrorKind}
 use Rattle.clap.specs.declared.error.kind.ErrorKind.TheVariants as kind
 use Rattle.ti_arguments.specs.Line.{line}
-use Rattle.ti_arguments.specs.declared.parsing.Answer.{Answer}
-use Rattle.ti_arguments.specs.declared.parsing.Answer.TheVariants as answers
+use Rattle.ti_arguments.specs.declared.parsing.ParsedLine.{ParsedLine}
+use Rattle.ti_arguments.specs.declared.parsing.ParsedLine.TheVariants as answers
 use Rattle.ti_requests.specs.declared.request.Request.{Request}
 use Rattle.ti_requests.specs.declared.request.ScriptWords.{ScriptWords}
 use Rattle.ti_requests.specs.declared.request.Request.TheVariants.{Expand, Feed, Tic, Check, Verify, Play, Show, Survey, Print, Common, Neither}
@@ -65,11 +65,11 @@ Asks None request = ⊥
 Asks (Some chosen) request = AsksFor chosen.0 chosen.1 request
 
 -- the words ask for this
-abbrev pub IsAnswer : List Text → Answer → Type 0
+abbrev pub IsAnswer : List Text → ParsedLine → Type 0
 IsAnswer words (answers.Request request) = Asks (subcommand_of line words) request
 IsAnswer words (answers.Text text) = IsAmong kind.DisplayHelp (fault_of line words) ⊎ IsAmong kind.DisplayVersion (fault_of line words)
 
 -- the answer that the parser's error is
-abbrev pub IsTold : ErrorKind → Answer → Type 0
+abbrev pub IsTold : ErrorKind → ParsedLine → Type 0
 IsTold told (answers.Request request) = ⊥
 IsTold told (answers.Text text) = (told ≡ kind.DisplayHelp) ⊎ (told ≡ kind.DisplayVersion)

@@ -5,4 +5,4 @@ mod commands;
 mod help;
 mod parsing;
 
-pub use parsing::{Answer, LineFault, parse_line};
+pub use parsing::{ParsedLine, UsageFault, parse_line};

@@ -14,7 +14,7 @@ use ti_requests::{CheckWords, ExpandWords, Request, ScriptWords, SurveyWords, Ve
 
 /// What a line that can be understood asks for.
 #[derive(Debug, Drop)]
-pub enum Answer<'a> {
+pub enum ParsedLine<'a> {
     /// A command with its words.
     Request(Request<'a>),
     /// The text of `--help`, `help` or `--version`.
@@ -23,48 +23,48 @@ pub enum Answer<'a> {
 
 /// Why a line has no answer.
 #[derive(Debug, Drop)]
-pub enum LineFault {
+pub enum UsageFault {
     /// A usage error; the text says which and ends with a newline.
     Usage(String),
     /// Out of memory.
     NoMemory,
 }
 
-impl From<AllocError> for LineFault {
-    fn from(_refused: AllocError) -> LineFault {
-        LineFault::NoMemory
+impl From<AllocError> for UsageFault {
+    fn from(_refused: AllocError) -> UsageFault {
+        UsageFault::NoMemory
     }
 }
 
 /// What the `words` after the program's own name ask for.
-pub fn parse_line<'a>(alloc: Global, words: &'a [String]) -> Result<Answer<'a>, LineFault>
+pub fn parse_line<'a>(alloc: Global, words: &'a [String]) -> Result<ParsedLine<'a>, UsageFault>
     ensures { IfOk result (λ answer. IsAnswer (map (λ w. string_bytes w) words.entry.now) answer) }
 {
     let command = command_line(alloc)?;
     match command.try_get_matches_from(words) {
         Ok(matches) => {
             let request = request_of(alloc, &matches)?;
-            Ok(Answer::Request(request))
+            Ok(ParsedLine::Request(request))
         }
         Err(error) => explain(alloc, &error),
     }
 }
 
 /// The answer that `error` is: help and version are answers, and any other error of the parser is a usage error.
-fn explain<'a>(alloc: Global, error: &Error) -> Result<Answer<'a>, LineFault>
+fn explain<'a>(alloc: Global, error: &Error) -> Result<ParsedLine<'a>, UsageFault>
     ensures { IfOk result (λ answer. IsTold (kind_of error.now) answer) }
 {
     match error.kind() {
-        ErrorKind::OutOfMemory => Err(LineFault::NoMemory),
+        ErrorKind::OutOfMemory => Err(UsageFault::NoMemory),
         ErrorKind::DisplayHelp | ErrorKind::DisplayVersion => {
-            Ok(Answer::Text(format!(in alloc; "{error}")?))
+            Ok(ParsedLine::Text(format!(in alloc; "{error}")?))
         }
-        _ => Err(LineFault::Usage(format!(in alloc; "{error}")?)),
+        _ => Err(UsageFault::Usage(format!(in alloc; "{error}")?)),
     }
 }
 
 /// The request of a line with a command, whose words are `matches`.
-fn request_of<'a>(alloc: Global, matches: &ArgMatches<'a>) -> Result<Request<'a>, LineFault>
+fn request_of<'a>(alloc: Global, matches: &ArgMatches<'a>) -> Result<Request<'a>, UsageFault>
     ensures { IfOk result (λ request. Asks (subcommand_rows_of matches.now) request) }
 {
     match matches.subcommand() {
@@ -77,7 +77,7 @@ fn request_of<'a>(alloc: Global, matches: &ArgMatches<'a>) -> Result<Request<'a>
         Some(("play", words)) => Ok(Request::Play(scripted(words))),
         Some(("show", words)) => Ok(Request::Show(scripted(words))),
         Some(("survey", words)) => Ok(survey_request(alloc, words)?),
-        _ => Err(LineFault::Usage(String::new(alloc))),
+        _ => Err(UsageFault::Usage(String::new(alloc))),
     }
 }
 
@@ -163,7 +163,7 @@ fn survey_request<'a>(alloc: Global, words: &ArgMatches<'a>) -> Result<Request<'
 
 /// One entry is printed, two are compared.
 #[tactic(auto, using(crate::proofs::Rows::all_in_rows))]
-fn infocmp_request<'a>(alloc: Global, words: &ArgMatches<'a>) -> Result<Request<'a>, LineFault>
+fn infocmp_request<'a>(alloc: Global, words: &ArgMatches<'a>) -> Result<Request<'a>, UsageFault>
     ensures { IfOk result (λ request. AsksFor (codes "infocmp") (rows_of (found_of words.now)) request) }
 {
     let common = is_on(words, "c");
@@ -173,7 +173,7 @@ fn infocmp_request<'a>(alloc: Global, words: &ArgMatches<'a>) -> Result<Request<
         (false, false, [entry]) => Ok(Request::Print { entry }),
         (true, false, [first, second]) => Ok(Request::Common { first, second }),
         (false, true, [first, second]) => Ok(Request::Neither { first, second }),
-        _ => Err(LineFault::Usage(String::from_str(
+        _ => Err(UsageFault::Usage(String::from_str(
             alloc,
             "error: infocmp prints one ENTRY, or compares two with either -c or -n\n\n\
              For more information, try '--help'.\n",

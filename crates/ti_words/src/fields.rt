@@ -5,7 +5,7 @@ use ti_source::FaultKind;
 
 /// A field as a line has it.
 #[derive(Clone, Copy)]
-pub struct Field<'a> {
+pub struct FieldText<'a> {
     /// The whole field without its comma.
     pub text: &'a [u8],
     /// What stands before its mark.
@@ -16,7 +16,7 @@ pub struct Field<'a> {
     value: &'a [u8],
 }
 
-impl Field<'_> {
+impl FieldText<'_> {
     /// Whether it has the form of a number.
     pub fn is_number(&self) -> bool {
         self.mark == Some(b'#')
@@ -65,7 +65,7 @@ pub fn line_of(text: &[u8], number: u32) -> &[u8] {
 }
 
 /// The first field of `line` that has the fault `fault`, if that is one that a single field shows.
-pub fn faulty_field(line: &[u8], fault: FaultKind) -> Option<Field<'_>> {
+pub fn faulty_field(line: &[u8], fault: FaultKind) -> Option<FieldText<'_>> {
     let mut rest = line;
     for _ in 0..=line.len() {
         let (field, after) = next_field(rest);
@@ -81,7 +81,7 @@ pub fn faulty_field(line: &[u8], fault: FaultKind) -> Option<Field<'_>> {
 }
 
 /// The first field of `rest`, which is what is left of a line, and what follows its comma.
-pub fn next_field(rest: &[u8]) -> (Field<'_>, &[u8]) {
+pub fn next_field(rest: &[u8]) -> (FieldText<'_>, &[u8]) {
     let mut is_escaped = false;
     for (at, byte) in rest.iter().enumerate() {
         if is_escaped {
@@ -96,19 +96,19 @@ pub fn next_field(rest: &[u8]) -> (Field<'_>, &[u8]) {
 }
 
 /// The parts of `field`.
-fn split(field: &[u8]) -> Field<'_> {
+fn split(field: &[u8]) -> FieldText<'_> {
     let text = field.trim_ascii();
     match text
         .iter()
         .position(|byte| matches!(*byte, b'@' | b'#' | b'='))
     {
-        Some(at) => Field {
+        Some(at) => FieldText {
             text,
             name: &text[..at],
             mark: Some(text[at]),
             value: &text[at + 1..],
         },
-        None => Field {
+        None => FieldText {
             text,
             name: text,
             mark: None,

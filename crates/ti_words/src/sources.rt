@@ -1,6 +1,6 @@
 //! Why a file gives no entry: faults of a source text, of resolving, and of a compiled file.
 
-use crate::fields::{Field, faulty_field, line_of};
+use crate::fields::{FieldText, faulty_field, line_of};
 use crate::remarks::Remarks;
 use std::alloc::{AllocError, Global};
 use ti_caps::{Kind, by_name, kind, name};
@@ -76,7 +76,7 @@ fn fault_words(kind: FaultKind) -> &'static str {
 }
 
 /// How the capability of `field` is written, where `field` has the form of another kind.
-fn form_words(field: &Field<'_>) -> &'static str {
+fn form_words(field: &FieldText<'_>) -> &'static str {
     if field.is_number() {
         return "";
     }

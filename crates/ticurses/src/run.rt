@@ -6,7 +6,7 @@ use crate::progress::ProgressLine;
 use cur_commands::{play_script, show_script};
 use std::alloc::Global;
 use std::io::{IsTerminal, Write};
-use ti_arguments::{Answer, LineFault, parse_line};
+use ti_arguments::{ParsedLine, UsageFault, parse_line};
 use ti_commands::{
     Comparison, Failure, Files, Output, Reply, Written, compare_entries, compile_entry,
     expand_string, feed_file, print_entry, report, write_reply, write_text,
@@ -54,14 +54,14 @@ fn perform<F: Files, O: Output, E: Write + IsTerminal>(
     remarks: &mut Remarks,
 ) -> Result<(), Failure> {
     match parse_line(alloc, words) {
-        Ok(Answer::Request(request)) => {
+        Ok(ParsedLine::Request(request)) => {
             let reply = reply_to(alloc, &request, files, out, err, remarks)?;
             let _ = err.write_all(reply.notes.as_slice());
             write_reply(out, reply)
         }
-        Ok(Answer::Text(text)) => write_text(out, text.as_bytes()),
-        Err(LineFault::Usage(text)) => Err(Failure::Usage(text)),
-        Err(LineFault::NoMemory) => Err(Failure::NoMemory),
+        Ok(ParsedLine::Text(text)) => write_text(out, text.as_bytes()),
+        Err(UsageFault::Usage(text)) => Err(Failure::Usage(text)),
+        Err(UsageFault::NoMemory) => Err(Failure::NoMemory),
     }
 }
 

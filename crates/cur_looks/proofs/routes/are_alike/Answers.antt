@@ -6,6 +6,6 @@ use Rattle.cur_looks.proofs.routes.are_alike.Goals as goal
 
 pub loop-n-preserved : goal.loop-n-preserved
 loop-n-preserved g c =
-    let shown = g.N.View.cells c.args.shown.now in
+    let shown = g.N.Picture.cells c.args.shown.now in
     alike_more c.args.belief.now (λ (k : ℕ). shown c.args.from.row (c.args.from.col + k)) c.loop-n.n c.loop-n.invariant
     (subst (λ (x : Ink). IsAlike c.args.belief.now x) c.at.ensures.value (c.if-not-is_alike.ensures.alike refl))

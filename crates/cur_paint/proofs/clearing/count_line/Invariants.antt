@@ -4,6 +4,6 @@ use Rattle.cur_paint.proofs.clearing.count_line.Given as goal
 
 abbrev pub invariant-loop-col : goal.invariant-loop-col
 invariant-loop-col g l = record {
-  count : l.count ≡ span (g.O.View.cells l.old) (g.N.View.cells l.new) l.row 0 l.col;
+  count : l.count ≡ span (g.O.Picture.cells l.old) (g.N.Picture.cells l.new) l.row 0 l.col;
   few : l.count ≤ l.col;
 }

@@ -4,6 +4,6 @@ use Rattle.cur_paint.proofs.clearing.count_lines.Given as goal
 
 abbrev pub invariant-loop-row : goal.invariant-loop-row
 invariant-loop-row g l = record {
-  count : l.count ≡ all_differ (g.O.View.cells l.old) (g.N.View.cells l.new) l.cols l.row;
+  count : l.count ≡ all_differ (g.O.Picture.cells l.old) (g.N.Picture.cells l.new) l.cols l.row;
   few : l.count ≤ l.row * 1000;
 }

@@ -14,8 +14,8 @@ returns-in_err-mend_screen-clause-step g c =
     let e = err_from_is_err_and c.from_residual.result c.from_residual.ensures.1 in
     let t = g.C.Certificate.table c.args.screens.now.checked.now in
     let b = c.args.belief.now in
-    let old = g.O.View.cells c.args.screens.now.old.now in
-    let new = g.N.View.cells c.args.screens.now.new.now in
+    let old = g.O.Picture.cells c.args.screens.now.old.now in
+    let new = g.N.Picture.cells c.args.screens.now.new.now in
     rw e.1 (steps_fail g.W.Wire.went g.W.Wire.failures c.args.wire.now c.mend_screen.new.wire _ _ (IsPiece t) (all_differ old new t.cols t.rows * cell_limit t) (paint_limit t old new b c.args.wanted.cursor c.args.wanted.mode) (IsLost t)
     (Agrees t old b) (Agrees t new c.mend_screen.new.belief) (Agrees t new c.mend_screen.new.belief) (limit_more t old new b c.args.wanted.cursor c.args.wanted.mode) c.in_err-mend_screen.ensures.step)
 
@@ -23,8 +23,8 @@ pub returns-clause-step : goal.returns-clause-step
 returns-clause-step g c =
     let t = g.C.Certificate.table c.args.screens.now.checked.now in
     let b = c.args.belief.now in
-    let old = g.O.View.cells c.args.screens.now.old.now in
-    let new = g.N.View.cells c.args.screens.now.new.now in
+    let old = g.O.Picture.cells c.args.screens.now.old.now in
+    let new = g.N.Picture.cells c.args.screens.now.new.now in
     let a : Belief = c.mend_screen.new.belief in
     steps_next g.W.Wire.went g.W.Wire.failures g.met.W.Wire.lawful c.args.wire.now c.mend_screen.new.wire c.set_cursor.new.wire _ c.set_cursor.result (IsPiece t)
     (all_differ old new t.cols t.rows * cell_limit t) (cursor_limit t a c.args.wanted.cursor c.args.wanted.mode) (paint_limit t old new b c.args.wanted.cursor c.args.wanted.mode) (IsLost t)

@@ -9,7 +9,7 @@ use Rattle.cur_paint.proofs.painting.set_cursor.Goals as goal
 
 pub returns-in_err-show_as-clause-step : goal.returns-in_err-show_as-clause-step
 returns-in_err-show_as-clause-step g c =
-    let h = g.N.View.cells c.args.screens.now.new.now in
+    let h = g.N.Picture.cells c.args.screens.now.new.now in
     let e = err_from_is_err_and c.from_residual.result c.from_residual.ensures.1 in
     let t = g.C.Certificate.table c.args.screens.now.checked.now in
     let b = c.args.belief.now in
@@ -18,7 +18,7 @@ returns-in_err-show_as-clause-step g c =
 
 pub returns-clause-step : goal.returns-clause-step
 returns-clause-step g c =
-    let h = g.N.View.cells c.args.screens.now.new.now in
+    let h = g.N.Picture.cells c.args.screens.now.new.now in
     let t = g.C.Certificate.table c.args.screens.now.checked.now in
     let b = c.args.belief.now in
     steps_next g.W.Wire.went g.W.Wire.failures g.met.W.Wire.lawful c.args.wire.now c.show_as.new.wire c.place_cursor.new.wire _ c.place_cursor.result (IsPiece t)

@@ -4,5 +4,5 @@ use Rattle.cur_paint.proofs.parts.are_blank.Given as goal
 
 abbrev pub invariant-loop-col : goal.invariant-loop-col
 invariant-loop-col g l = record {
-  blank : (k : ℕ) → l.from ≤ k → k < l.col → g.N.View.cells l.new l.row k ≡ blank_ink;
+  blank : (k : ℕ) → l.from ≤ k → k < l.col → g.N.Picture.cells l.new l.row k ≡ blank_ink;
 }

@@ -5,7 +5,7 @@ use Rattle.cur_paint.proofs.rows.blank_from.Given as goal
 abbrev pub invariant-loop-col : goal.invariant-loop-col
 invariant-loop-col g l = record {
   within : l.col ≤ l.cols;
-  blank : (k : ℕ) → l.col ≤ k → k < l.cols → g.N.View.cells l.new l.row k ≡ blank_ink;
+  blank : (k : ℕ) → l.col ≤ k → k < l.cols → g.N.Picture.cells l.new l.row k ≡ blank_ink;
 }
 
 abbrev pub decreases-loop-col : goal.decreases-loop-col

@@ -4,5 +4,5 @@ use Rattle.cur_paint.proofs.rows.first_solid.Given as goal
 
 abbrev pub invariant-loop-row : goal.invariant-loop-row
 invariant-loop-row g l = record {
-  blank : (i j : ℕ) → l.from ≤ i → i < l.row → j < l.cols → g.N.View.cells l.new i j ≡ blank_ink;
+  blank : (i j : ℕ) → l.from ≤ i → i < l.row → j < l.cols → g.N.Picture.cells l.new i j ≡ blank_ink;
 }

@@ -2,7 +2,7 @@ use Rattle.std.proofs.Common.{◌≡◌, ℕ, ◌+◌, ◌-◌, ◌*◌, ◌<◌
 use Rattle.std.proofs.lemmas.Result.{err_from_is_err_and}
 use Rattle.cur_looks.specs.Inks.{mixed}
 use Rattle.cur_looks.specs.Erasures.{erased}
-use Rattle.cur_looks.specs.declared.erasing.Erasure.TheVariants.{Rest}
+use Rattle.cur_looks.specs.declared.erasing.ErasedPart.TheVariants.{Rest}
 use Rattle.cur_paint.specs.Differ.{span}
 use Rattle.ti_conforms.specs.Certified.{IsPiece, IsLost, cell_limit}
 use Rattle.cur_looks.specs.Beliefs.{Agrees}
@@ -19,8 +19,8 @@ returns-in_err-mend_parts g c =
     let e = err_from_is_err_and c.from_residual.result c.from_residual.ensures.1 in
     let t = g.C.Certificate.table c.args.screens.now.checked.now in
     let b = c.args.belief.now in
-    let old = g.O.View.cells c.args.screens.now.old.now in
-    let new = g.N.View.cells c.args.screens.now.new.now in
+    let old = g.O.Picture.cells c.args.screens.now.old.now in
+    let new = g.N.Picture.cells c.args.screens.now.new.now in
     let row = c.args.row in
     let from = c.args.columns.from in
     let col = c.args.columns.end in
@@ -39,8 +39,8 @@ pub returns : goal.returns
 returns g c =
     let t = g.C.Certificate.table c.args.screens.now.checked.now in
     let b = c.args.belief.now in
-    let old = g.O.View.cells c.args.screens.now.old.now in
-    let new = g.N.View.cells c.args.screens.now.new.now in
+    let old = g.O.Picture.cells c.args.screens.now.old.now in
+    let new = g.N.Picture.cells c.args.screens.now.new.now in
     let row = c.args.row in
     let from = c.args.columns.from in
     let col = c.args.columns.end in

@@ -17,8 +17,8 @@ pub loop-row-init : goal.loop-row-init
 loop-row-init g c =
     let t = g.C.Certificate.table c.args.screens.now.checked.now in
     let b = c.args.belief.now in
-    let old = g.O.View.cells c.args.screens.now.old.now in
-    let new = g.N.View.cells c.args.screens.now.new.now in
+    let old = g.O.Picture.cells c.args.screens.now.old.now in
+    let new = g.N.Picture.cells c.args.screens.now.new.now in
     record {
       rest = c.erasing_line-rest.ensures.value;
       idle = λ e. refl;
@@ -30,8 +30,8 @@ pub loop-row-preserved : goal.loop-row-preserved
 loop-row-preserved g c =
     let t = g.C.Certificate.table c.args.screens.now.checked.now in
     let b = c.args.belief.now in
-    let old = g.O.View.cells c.args.screens.now.old.now in
-    let new = g.N.View.cells c.args.screens.now.new.now in
+    let old = g.O.Picture.cells c.args.screens.now.old.now in
+    let new = g.N.Picture.cells c.args.screens.now.new.now in
     let row = c.loop-row.row in
     let more = all_more old new t.cols row in
     record {
@@ -48,8 +48,8 @@ returns-in_err-mend_line-in_default-clause-step g c =
     let e = err_from_is_err_and c.from_residual.result c.from_residual.ensures.1 in
     let t = g.C.Certificate.table c.args.screens.now.checked.now in
     let b = c.args.belief.now in
-    let old = g.O.View.cells c.args.screens.now.old.now in
-    let new = g.N.View.cells c.args.screens.now.new.now in
+    let old = g.O.Picture.cells c.args.screens.now.old.now in
+    let new = g.N.Picture.cells c.args.screens.now.new.now in
     let row = c.loop-row.row in
     rw e.1 (steps_fail g.W.Wire.went g.W.Wire.failures c.args.wire.now c.mend_line.new.wire _ _ (IsPiece t) (all_differ old new t.cols (row + 1) * cell_limit t) (all_differ old new t.cols t.rows * cell_limit t) (IsLost t)
     (Agrees t old b) (Agrees t (mixed old new (row + 1) 0) c.mend_line.new.belief) (Agrees t new c.mend_line.new.belief)
@@ -63,8 +63,8 @@ pub returns-clause-step : goal.returns-clause-step
 returns-clause-step g c =
     let t = g.C.Certificate.table c.args.screens.now.checked.now in
     let b = c.args.belief.now in
-    let old = g.O.View.cells c.args.screens.now.old.now in
-    let new = g.N.View.cells c.args.screens.now.new.now in
+    let old = g.O.Picture.cells c.args.screens.now.old.now in
+    let new = g.N.Picture.cells c.args.screens.now.new.now in
     let all : c.loop-row.row ≡ t.rows = omega (arith, c.rows-rows.ensures.value) in
     let P : ℕ → Type 0 = λ n. Steps {T = Unit {0}} {E = WireFault} g.W.Wire.went g.W.Wire.failures c.args.wire.now c.loop-row.wire (Ok tt) (IsPiece t) (all_differ old new t.cols n * cell_limit t) (IsLost t) (Agrees t old b) (Agrees t (mixed old new n 0) c.loop-row.belief) in
     let limit = all_differ old new t.cols t.rows * cell_limit t in
@@ -81,8 +81,8 @@ always (Err e) A a = tt
 pub returns-in-Some-clause-idle : goal.returns-in-Some-clause-idle
 returns-in-Some-clause-idle g c =
     let t = g.C.Certificate.table c.args.screens.now.checked.now in
-    let old = g.O.View.cells c.args.screens.now.old.now in
-    let new = g.N.View.cells c.args.screens.now.new.now in
+    let old = g.O.Picture.cells c.args.screens.now.old.now in
+    let new = g.N.Picture.cells c.args.screens.now.new.now in
     let row = c.loop-row.row in
     let col = c.bottom_from-bottom.result.col in
     let lt : col < t.cols = omega (arith, c.if-bottom-cols.true, c.cols-cols.ensures.value) in
@@ -96,8 +96,8 @@ pub returns-in-Some-clause-step : goal.returns-in-Some-clause-step
 returns-in-Some-clause-step g c =
     let t = g.C.Certificate.table c.args.screens.now.checked.now in
     let b = c.args.belief.now in
-    let old = g.O.View.cells c.args.screens.now.old.now in
-    let new = g.N.View.cells c.args.screens.now.new.now in
+    let old = g.O.Picture.cells c.args.screens.now.old.now in
+    let new = g.N.Picture.cells c.args.screens.now.new.now in
     let row = c.loop-row.row in
     let sum = sum_limit (all_differ old new t.cols row) (span old new row 0 t.cols) (all_differ old new t.cols (row + 1)) (cell_limit t) (all_more old new t.cols row) in
     let grows = times_grows (all_differ old new t.cols (row + 1)) (all_differ old new t.cols t.rows) (cell_limit t) (all_grows old new t.cols (row + 1) t.rows (omega (arith, c.loop-row-test.true, c.rows-rows.ensures.value))) in

@@ -7,7 +7,7 @@ use Rattle.cur_paint.proofs.rows.mend_screen.Given as goal
 
 abbrev pub invariant-loop-row : goal.invariant-loop-row
 invariant-loop-row g l =
-    let s : Scene = scene g.C.Certificate.table g.O.View.cells g.N.View.cells l.screens in
+    let s : Scene = scene g.C.Certificate.table g.O.Picture.cells g.N.Picture.cells l.screens in
     record {
       rest : IfSome l.rest (λ b. s.table.line_of Ed ≡ Some b.now);
       idle : all_differ s.old s.new s.table.cols l.row ≡ 0 → l.belief ≡ l.fn.belief;

@@ -4,8 +4,8 @@ use Rattle.cur_paint.proofs.spans.differs_in.Goals as goal
 
 pub returns-then-not-shows : goal.returns-then-not-shows
 returns-then-not-shows g c =
-    let old = g.O.View.cells c.args.old.now in
-    let new = g.N.View.cells c.args.new.now in
+    let old = g.O.Picture.cells c.args.old.now in
+    let new = g.N.Picture.cells c.args.new.now in
     let row = c.args.cells.row in
     let col = c.args.cells.from + c.loop-n.n in
     let e = found_different old new row col (old row col) c.at.result refl c.at.ensures.value c.if-not-shows.ensures.value in

@@ -7,7 +7,7 @@ invariant-loop-n g l = record {
   within : l.n ≤ l.cells.count;
   room : l.n ≤ length l.text;
   cells : (k : ℕ) → k < l.n
-      → IsLike (g.O.View.cells l.old) (g.N.View.cells l.new) l.cells.row (l.cells.from + k) l.ink (slice_index_or l.text k 0);
+      → IsLike (g.O.Picture.cells l.old) (g.N.Picture.cells l.new) l.cells.row (l.cells.from + k) l.ink (slice_index_or l.text k 0);
 }
 
 abbrev pub decreases-loop-n : goal.decreases-loop-n

@@ -14,8 +14,8 @@ pub loop-done-init : goal.loop-done-init
 loop-done-init g c =
     let t = g.C.Certificate.table c.args.screens.now.checked.now in
     let b = c.args.belief.now in
-    let old = g.O.View.cells c.args.screens.now.old.now in
-    let new = g.N.View.cells c.args.screens.now.new.now in
+    let old = g.O.Picture.cells c.args.screens.now.old.now in
+    let new = g.N.Picture.cells c.args.screens.now.new.now in
     record {
       within = omega arith;
       idle = λ e. refl;
@@ -27,8 +27,8 @@ pub loop-done-preserved : goal.loop-done-preserved
 loop-done-preserved g c =
     let t = g.C.Certificate.table c.args.screens.now.checked.now in
     let b = c.args.belief.now in
-    let old = g.O.View.cells c.args.screens.now.old.now in
-    let new = g.N.View.cells c.args.screens.now.new.now in
+    let old = g.O.Picture.cells c.args.screens.now.old.now in
+    let new = g.N.Picture.cells c.args.screens.now.new.now in
     let row = c.args.cells.row in
     let from = c.args.cells.from in
     let done = c.loop-done.done in
@@ -54,8 +54,8 @@ loop-done-preserved-then-shows g c =
     let t = g.C.Certificate.table c.args.screens.now.checked.now in
     let b = c.args.belief.now in
     let a = c.loop-done.belief in
-    let old = g.O.View.cells c.args.screens.now.old.now in
-    let new = g.N.View.cells c.args.screens.now.new.now in
+    let old = g.O.Picture.cells c.args.screens.now.old.now in
+    let new = g.N.Picture.cells c.args.screens.now.new.now in
     let row = c.args.cells.row in
     let from = c.args.cells.from in
     let done = c.loop-done.done in
@@ -74,17 +74,17 @@ loop-done-preserved-then-shows g c =
 
 pub print_cell-requires-clause-changed : goal.print_cell-requires-clause-changed
 print_cell-requires-clause-changed g c =
-    let old = g.O.View.cells c.args.screens.now.old.now in
+    let old = g.O.Picture.cells c.args.screens.now.old.now in
     let at = c.args.cells.from + c.loop-done.done in
-    found_different old (g.N.View.cells c.args.screens.now.new.now) c.args.cells.row at (old c.args.cells.row at) c.at-ink.result refl c.at-ink.ensures.value c.if-shows.ensures.value
+    found_different old (g.N.Picture.cells c.args.screens.now.new.now) c.args.cells.row at (old c.args.cells.row at) c.at-ink.result refl c.at-ink.ensures.value c.if-shows.ensures.value
 
 pub returns-in_err-print_cell-clause-step : goal.returns-in_err-print_cell-clause-step
 returns-in_err-print_cell-clause-step g c =
     let e = err_from_is_err_and c.from_residual.result c.from_residual.ensures.1 in
     let t = g.C.Certificate.table c.args.screens.now.checked.now in
     let b = c.args.belief.now in
-    let old = g.O.View.cells c.args.screens.now.old.now in
-    let new = g.N.View.cells c.args.screens.now.new.now in
+    let old = g.O.Picture.cells c.args.screens.now.old.now in
+    let new = g.N.Picture.cells c.args.screens.now.new.now in
     let row = c.args.cells.row in
     let from = c.args.cells.from in
     let done = c.loop-done.done in
@@ -102,8 +102,8 @@ returns-in_err-print_alike-clause-step g c =
     let e = err_from_is_err_and c.from_residual-in_err-print_alike.result c.from_residual-in_err-print_alike.ensures.1 in
     let t = g.C.Certificate.table c.args.screens.now.checked.now in
     let b = c.args.belief.now in
-    let old = g.O.View.cells c.args.screens.now.old.now in
-    let new = g.N.View.cells c.args.screens.now.new.now in
+    let old = g.O.Picture.cells c.args.screens.now.old.now in
+    let new = g.N.Picture.cells c.args.screens.now.new.now in
     let row = c.args.cells.row in
     let from = c.args.cells.from in
     let done = c.loop-done.done in

@@ -6,10 +6,10 @@ use Rattle.cur_paint.proofs.spans.mend_span.Given as goal
 abbrev pub invariant-loop-done : goal.invariant-loop-done
 invariant-loop-done g l = record {
   within : l.done ≤ l.cells.count;
-  idle : changed (scene g.C.Certificate.table g.O.View.cells g.N.View.cells l.screens) (record l.cells { count = l.done }) ≡ 0
+  idle : changed (scene g.C.Certificate.table g.O.Picture.cells g.N.Picture.cells l.screens) (record l.cells { count = l.done }) ≡ 0
       → l.belief ≡ l.fn.belief;
   step : MendsCells {T = Unit {0}} {E = WireFault} g.W.Wire.went g.W.Wire.failures l.fn.wire l.wire (Ok tt)
-      (scene g.C.Certificate.table g.O.View.cells g.N.View.cells l.screens) (record l.cells { count = l.done }) l.fn.belief l.belief;
+      (scene g.C.Certificate.table g.O.Picture.cells g.N.Picture.cells l.screens) (record l.cells { count = l.done }) l.fn.belief l.belief;
 }
 
 abbrev pub decreases-loop-done : goal.decreases-loop-done

@@ -18,7 +18,7 @@ full old new row from n ink text h = span_full old new row from n (λ k lt. (h k
 
 pub print_text-requires-clause-alike : goal.print_text-requires-clause-alike
 print_text-requires-clause-alike g c k lt =
-    let new = g.N.View.cells c.args.screens.now.new.now in
+    let new = g.N.Picture.cells c.args.screens.now.new.now in
     like_alike c.args.belief.now (new c.args.cells.row (c.args.cells.from + k)) c.args.ink _ (c.if-is_led_on.ensures.alike refl) (c.requires.alike k lt).cell
 
 pub print_text-requires-clause-bytes : goal.print_text-requires-clause-bytes
@@ -29,8 +29,8 @@ print_each-requires-clause-changed g c k lt = (c.requires.alike k lt).changed
 
 pub returns-then-is_led_on-clause-idle : goal.returns-then-is_led_on-clause-idle
 returns-then-is_led_on-clause-idle g c =
-    let old = g.O.View.cells c.args.screens.now.old.now in
-    let new = g.N.View.cells c.args.screens.now.new.now in
+    let old = g.O.Picture.cells c.args.screens.now.old.now in
+    let new = g.N.Picture.cells c.args.screens.now.new.now in
     let all = full old new c.args.cells.row c.args.cells.from c.args.cells.count c.args.ink c.args.text.now c.requires.alike in
     always c.print_text.result _ (λ e. absurd (omega (arith, e, all, c.if-is_led_on.ensures.some refl)))
 
@@ -38,8 +38,8 @@ pub returns-then-is_led_on-clause-step : goal.returns-then-is_led_on-clause-step
 returns-then-is_led_on-clause-step g c =
     let t = g.C.Certificate.table c.args.screens.now.checked.now in
     let b = c.args.belief.now in
-    let old = g.O.View.cells c.args.screens.now.old.now in
-    let new = g.N.View.cells c.args.screens.now.new.now in
+    let old = g.O.Picture.cells c.args.screens.now.old.now in
+    let new = g.N.Picture.cells c.args.screens.now.new.now in
     let row = c.args.cells.row in
     let from = c.args.cells.from in
     let count = c.args.cells.count in

@@ -12,8 +12,8 @@ pub returns : goal.returns
 returns g c =
     let t = g.C.Certificate.table c.args.screens.now.checked.now in
     let b = c.args.belief.now in
-    let old = g.O.View.cells c.args.screens.now.old.now in
-    let new = g.N.View.cells c.args.screens.now.new.now in
+    let old = g.O.Picture.cells c.args.screens.now.old.now in
+    let new = g.N.Picture.cells c.args.screens.now.new.now in
     let row = c.args.row in
     let col = c.args.col in
     record {

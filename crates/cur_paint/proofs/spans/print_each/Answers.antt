@@ -13,8 +13,8 @@ pub loop-n-init : goal.loop-n-init
 loop-n-init g c =
     let t = g.C.Certificate.table c.args.screens.now.checked.now in
     let b = c.args.belief.now in
-    let old = g.O.View.cells c.args.screens.now.old.now in
-    let new = g.N.View.cells c.args.screens.now.new.now in
+    let old = g.O.Picture.cells c.args.screens.now.old.now in
+    let new = g.N.Picture.cells c.args.screens.now.new.now in
     record {
       idle = λ e. refl;
       step = steps_nothing g.W.Wire.went g.W.Wire.failures g.met.W.Wire.lawful c.args.wire.now tt (IsPiece t) _ (IsLost t) (Agrees t (mixed old new c.args.cells.row c.args.cells.from) b) (Agrees t (mixed old new c.args.cells.row (c.args.cells.from + 0)) b)
@@ -25,8 +25,8 @@ pub loop-n-preserved : goal.loop-n-preserved
 loop-n-preserved g c =
     let t = g.C.Certificate.table c.args.screens.now.checked.now in
     let b = c.args.belief.now in
-    let old = g.O.View.cells c.args.screens.now.old.now in
-    let new = g.N.View.cells c.args.screens.now.new.now in
+    let old = g.O.Picture.cells c.args.screens.now.old.now in
+    let new = g.N.Picture.cells c.args.screens.now.new.now in
     let row = c.args.cells.row in
     let from = c.args.cells.from in
     let n = c.loop-n.n in
@@ -47,8 +47,8 @@ returns-in_err-print_cell-clause-step g c =
     let e = err_from_is_err_and c.from_residual.result c.from_residual.ensures.1 in
     let t = g.C.Certificate.table c.args.screens.now.checked.now in
     let b = c.args.belief.now in
-    let old = g.O.View.cells c.args.screens.now.old.now in
-    let new = g.N.View.cells c.args.screens.now.new.now in
+    let old = g.O.Picture.cells c.args.screens.now.old.now in
+    let new = g.N.Picture.cells c.args.screens.now.new.now in
     let row = c.args.cells.row in
     let from = c.args.cells.from in
     let n = c.loop-n.n in

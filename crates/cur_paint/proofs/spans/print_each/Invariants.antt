@@ -5,8 +5,8 @@ use Rattle.cur_paint.proofs.spans.print_each.Given as goal
 
 abbrev pub invariant-loop-n : goal.invariant-loop-n
 invariant-loop-n g l = record {
-  idle : changed (scene g.C.Certificate.table g.O.View.cells g.N.View.cells l.screens) (record l.cells { count = l.n }) ≡ 0
+  idle : changed (scene g.C.Certificate.table g.O.Picture.cells g.N.Picture.cells l.screens) (record l.cells { count = l.n }) ≡ 0
       → l.belief ≡ l.fn.belief;
   step : MendsCells {T = Unit {0}} {E = WireFault} g.W.Wire.went g.W.Wire.failures l.fn.wire l.wire (Ok tt)
-      (scene g.C.Certificate.table g.O.View.cells g.N.View.cells l.screens) (record l.cells { count = l.n }) l.fn.belief l.belief;
+      (scene g.C.Certificate.table g.O.Picture.cells g.N.Picture.cells l.screens) (record l.cells { count = l.n }) l.fn.belief l.belief;
 }

@@ -10,8 +10,8 @@ use Rattle.cur_paint.proofs.updates.draw.Goals as goal
 pub returns-in-Known-true : goal.returns-in-Known-true
 returns-in-Known-true g c =
     let t = g.C.Certificate.table c.args.screens.now.checked.now in
-    let old = g.O.View.cells c.args.screens.now.old.now in
-    let new = g.N.View.cells c.args.screens.now.new.now in
+    let old = g.O.Picture.cells c.args.screens.now.old.now in
+    let new = g.N.Picture.cells c.args.screens.now.new.now in
     let k : IsThere (t.line_of Clear) = there (t.line_of Clear) c.requires.scene.checked.clears in
     let b = c.args.belief.now in
     let w = c.args.wanted in
@@ -25,8 +25,8 @@ returns-in-Known-true g c =
 pub returns-in-Known-false : goal.returns-in-Known-false
 returns-in-Known-false g c =
     let t = g.C.Certificate.table c.args.screens.now.checked.now in
-    let old = g.O.View.cells c.args.screens.now.old.now in
-    let new = g.N.View.cells c.args.screens.now.new.now in
+    let old = g.O.Picture.cells c.args.screens.now.old.now in
+    let new = g.N.Picture.cells c.args.screens.now.new.now in
     record {
       draws = draws_known g.W.Wire.went g.W.Wire.failures c.args.wire.now c.mend.new.wire c.mend.result t old new c.args.wanted c.args.status c.args.belief.now c.mend.new.belief
           c.in-Known-false.is-0 c.in-Known-false.is-1 c.mend.ensures.step c.mend.ensures.there c.mend.ensures.mode;
@@ -35,8 +35,8 @@ returns-in-Known-false g c =
 pub returns-in-Fresh-default : goal.returns-in-Fresh-default
 returns-in-Fresh-default g c =
     let t = g.C.Certificate.table c.args.screens.now.checked.now in
-    let old = g.O.View.cells c.args.screens.now.old.now in
-    let new = g.N.View.cells c.args.screens.now.new.now in
+    let old = g.O.Picture.cells c.args.screens.now.old.now in
+    let new = g.N.Picture.cells c.args.screens.now.new.now in
     record {
       draws = draws_fresh g.W.Wire.went g.W.Wire.failures c.args.wire.now c.repaint.new.wire c.repaint.result t old new c.args.wanted c.args.status c.args.belief.now c.repaint.new.belief
           c.in-Fresh-default.is-0 c.repaint.ensures.step c.repaint.ensures.there c.repaint.ensures.mode;
@@ -45,8 +45,8 @@ returns-in-Fresh-default g c =
 pub returns-in-Lost-default : goal.returns-in-Lost-default
 returns-in-Lost-default g c =
     let t = g.C.Certificate.table c.args.screens.now.checked.now in
-    let old = g.O.View.cells c.args.screens.now.old.now in
-    let new = g.N.View.cells c.args.screens.now.new.now in
+    let old = g.O.Picture.cells c.args.screens.now.old.now in
+    let new = g.N.Picture.cells c.args.screens.now.new.now in
     record {
       draws = draws_lost g.W.Wire.went g.W.Wire.failures c.args.wire.now c.repaint-in-Lost-default.new.wire c.repaint-in-Lost-default.result t old new c.args.wanted c.args.status c.args.belief.now c.repaint-in-Lost-default.new.belief
           c.in-Lost-default.is-0 c.repaint-in-Lost-default.ensures.step c.repaint-in-Lost-default.ensures.there c.repaint-in-Lost-default.ensures.mode;

@@ -13,8 +13,8 @@ pub returns-then-is_better_cleared-clause-step : goal.returns-then-is_better_cle
 returns-then-is_better_cleared-clause-step g c =
     let t = g.C.Certificate.table c.args.screens.now.checked.now in
     let b = c.args.belief.now in
-    let old = g.O.View.cells c.args.screens.now.old.now in
-    let new = g.N.View.cells c.args.screens.now.new.now in
+    let old = g.O.Picture.cells c.args.screens.now.old.now in
+    let new = g.N.Picture.cells c.args.screens.now.new.now in
     let w = c.args.wanted in
     let k : IsThere (t.line_of Clear) = there (t.line_of Clear) c.requires.scene.checked.clears in
     let blank = cleared b.brush.background in

@@ -14,7 +14,7 @@ pub returns-in_err-send_all-clause-step : goal.returns-in_err-send_all-clause-st
 returns-in_err-send_all-clause-step g c =
     let e = err_from_is_err_and c.from_residual.result c.from_residual.ensures.1 in
     let t = g.C.Certificate.table c.args.screens.now.checked.now in
-    let new = g.N.View.cells c.args.screens.now.new.now in
+    let new = g.N.Picture.cells c.args.screens.now.new.now in
     let blank : ℕ → ℕ → Ink = λ i j. blank_ink in
     let sends = rw c.resync.ensures.value at c.in_err-send_all.ensures.sends in
     rw e.1 (anew_failed g.W.Wire.went g.W.Wire.failures c.args.wire.now c.send_all.new.wire _ t (fresh_limit t) (IsLeft t c.args.shown_as) (Agrees t blank (at_start c.args.shown_as)) (Agrees t new c.start_belief.result) t.resync (agrees_lost t c.requires.scene.checked blank (at_start c.args.shown_as)) (omega arith)
@@ -23,7 +23,7 @@ returns-in_err-send_all-clause-step g c =
 pub returns-clause-step : goal.returns-clause-step
 returns-clause-step g c =
     let t = g.C.Certificate.table c.args.screens.now.checked.now in
-    let new = g.N.View.cells c.args.screens.now.new.now in
+    let new = g.N.Picture.cells c.args.screens.now.new.now in
     let blank : ℕ → ℕ → Ink = λ i j. blank_ink in
     let w = c.args.wanted in
     let start = at_start c.args.shown_as in
