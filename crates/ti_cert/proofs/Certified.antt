@@ -8,7 +8,8 @@ use Rattle.ti_conforms.specs.Certified.{IsLine, IsChecked, HasSingles, text_of, 
 use Rattle.ti_conforms.specs.Looks.{SingleLooks}
 use Rattle.ti_conforms.specs.Sets.{AtReset}
 use Rattle.ti_conforms.specs.Table.{has}
-use Rattle.ti_conforms.proofs.Sendable.{drives, resyncs, resync_fronts, pieces_of, resync_rows, each_piece, line_there, made}
+use Rattle.ti_conforms.specs.Resync.{resync_rows}
+use Rattle.ti_conforms.proofs.Sendable.{drives, resyncs, resync_fronts, pieces_of, each_piece, line_there, made}
 use Rattle.ti_cert.specs.Lengths.{longest_line, longest_change, longest_in, singly}
 use Rattle.ti_cert.specs.Table.{Content, table_of, certified}
 use Rattle.ti_cert.specs.Verified.{IsVerified}

@@ -7,7 +7,8 @@ ghost use Rattle.ti_cert.specs.Basic.{IsBasic, IsVerifyStopped, basic_text_of};
 ghost use Rattle.ti_cert.specs.Disagreeing.{IsAgreeRefused};
 ghost use Rattle.ti_caps.specs.Entry.{string_at};
 ghost use Rattle.ti_conforms.specs.Holds.{LineHolds};
-ghost use Rattle.ti_conforms.specs.Table.{text_of, resync, widening};
+ghost use Rattle.ti_conforms.specs.Resync.{texts_of};
+ghost use Rattle.ti_conforms.specs.Table.{text_of, resync};
 ghost use Rattle.ti_conforms.specs.Conforms.{Conforms};
 ghost use Rattle.ti_conforms.specs.Entries.{EntryAgrees, acsc};
 ghost use Rattle.ti_cert.specs.Table.{table_of};
@@ -20,7 +21,7 @@ use crate::table::Table;
 use std::alloc::{AllocError, Global};
 use std::marker::Model;
 use ti_caps::{Bytes, Entry};
-use ti_conforms::partner;
+use ti_conforms::{partner, resync_rows};
 use ti_lines::Reader;
 use ti_rows::Row;
 use vt_term::Size;
@@ -53,11 +54,14 @@ fn add(text: &mut Vec<u8>, table: &Table, row: Row) -> Result<(), AllocError>
     }
 }
 
-/// The row that makes the margins the whole screen.
-fn whole(table: &Table) -> Row
-    ensures { result ≡ widening (table_of table.now) }
+/// Adds the bytes of these rows' lines, those that there are.
+fn add_all(text: &mut Vec<u8>, table: &Table, rows: &[Row]) -> Result<(), AllocError>
+    ensures { OnOk result (text.new.items ≡ text.old.items ++ texts_of (table_of table.now).line_of rows.now) }
 {
-    Row::Csr(0, (table.size().rows - 1) as u16)
+    for row in rows {
+        add(text, table, *row)?;
+    }
+    Ok(())
 }
 
 /// What leads a terminal out of any state to a blank screen at rest.
@@ -65,12 +69,7 @@ fn resync_of(alloc: Global, table: &Table) -> Result<Bytes, AllocError>
     ensures { IfOk result (λ text. text ≡ resync (table_of table.now)) }
 {
     let mut text = Vec::new(alloc);
-    add(&mut text, table, Row::Smcup)?;
-    add(&mut text, table, Row::Enacs)?;
-    add(&mut text, table, Row::Sgr0)?;
-    add(&mut text, table, Row::Rmacs)?;
-    add(&mut text, table, whole(table))?;
-    add(&mut text, table, Row::Clear)?;
+    add_all(&mut text, table, &resync_rows(table.size()))?;
     Ok(Bytes::from_vec(text))
 }
 

@@ -1,15 +1,17 @@
 -- What a painter relies on holds of what may be sent of lines that hold.
-use Rattle.std.proofs.Common.{◌≡◌, ◌-◌, ◌&&◌, ℕ, not, Bool, true, false, if◌then◌else◌, List, [], ◌∷◌, ◌++◌, append_assoc, append-nil, Option, Some, None, refl, sym, ap, subst, ◌∙◌}
+use Rattle.std.proofs.Common.{◌≡◌, ◌+◌, ◌<◌, ◌&&◌, ℕ, not, get_or, length, take, Bool, true, false, if◌then◌else◌, List, [], ◌∷◌, ◌++◌, append_assoc, append-nil, Option, Some, None, refl, sym, ap, subst, ◌∙◌}
 use Rattle.std.specs.Prelude.{is_some}
 use Rattle.std.specs.List.{AllByRecursion, concat}
+use Rattle.std.proofs.lemmas.List.{take_more}
 use Rattle.vt_term.specs.Screen.{State}
 use Rattle.vt_term.specs.Ends.{Closed, Drives, Ends}
 use Rattle.ti_rows.specs.declared.rows.Row.{Row}
-use Rattle.ti_rows.specs.declared.rows.Row.TheVariants.{Clear, Sgr0, Enacs, Rmacs, Csr, Cnorm, Smcup}
+use Rattle.ti_rows.specs.declared.rows.Row.TheVariants.{Clear, Sgr0, Enacs, Rmacs, Cnorm, Smcup}
 use Rattle.ti_rows.specs.Right.{sets_visible}
 use Rattle.ti_rows.specs.Starts.{Starts}
 use Rattle.ti_conforms.specs.Lost as lost
 use Rattle.ti_conforms.specs.Table.{Table, has, or_nothing, text_of, widening, resync, resync_of, IsLost, Ended}
+use Rattle.ti_conforms.specs.Resync.{resync_rows, texts_of}
 use Rattle.ti_conforms.specs.Holds.{LineHolds, IsResynced, TableHolds}
 use Rattle.ti_conforms.specs.Certified.{IsBlank, IsPiece, Line, line_in, sendable}
 
@@ -102,10 +104,6 @@ abbrev pub pieces_of : Table → List Row → List (List ℕ)
 pieces_of t [] = []
 pieces_of t (row ∷ rows) = with_piece (t.line_of row) (pieces_of t rows)
 
-abbrev texts_of : Table → List Row → List ℕ
-texts_of t [] = []
-texts_of t (row ∷ rows) = text_of t row ++ texts_of t rows
-
 one_more : (t : Table) (row : Row) (pieces : List (List ℕ)) → AllByRecursion (IsPiece t) pieces → (o : Option (List ℕ)) → t.line_of row ≡ o → AllByRecursion (IsPiece t) (with_piece o pieces)
 one_more t row pieces h None e = h
 one_more t row pieces h (Some x) e = (Line row e, h)
@@ -118,20 +116,33 @@ cut_off : (o : Option (List ℕ)) (pieces : List (List ℕ)) → concat (with_pi
 cut_off None pieces = refl
 cut_off (Some x) pieces = refl
 
-all_joined : (t : Table) (rows : List Row) → concat (pieces_of t rows) ≡ texts_of t rows
+all_joined : (t : Table) (rows : List Row) → concat (pieces_of t rows) ≡ texts_of t.line_of rows
 all_joined t [] = refl
 all_joined t (row ∷ rows) = cut_off (t.line_of row) (pieces_of t rows) ∙ ap (λ (x : List ℕ). text_of t row ++ x) (all_joined t rows)
 
 six : (a b c d e f : List ℕ) → ((a ++ b) ++ (c ++ d)) ++ (e ++ f) ≡ a ++ (b ++ (c ++ (d ++ (e ++ (f ++ [])))))
 six a b c d e f = simp (append_assoc, append-nil)
 
-abbrev pub resync_rows : ℕ → List Row
-resync_rows rows = Smcup ∷ Enacs ∷ Sgr0 ∷ Rmacs ∷ Csr 0 (rows - 1) ∷ Clear ∷ []
-
--- a resynchronization is made of lines
-pub made : (t : Table) → resync t ≡ concat (pieces_of (sendable t) (resync_rows t.rows))
+-- a resynchronization is its strings, one after another
+pub in_order : (t : Table) → resync t ≡ texts_of t.line_of (resync_rows t.rows)
 unfolding resync_of
-made t =
-    let parts : resync t ≡ texts_of (sendable t) (resync_rows t.rows)
-    = six (text_of t Smcup) (text_of t Enacs) (text_of t Sgr0) (text_of t Rmacs) (text_of t (widening t)) (text_of t Clear) in
-    parts ∙ sym (all_joined (sendable t) (resync_rows t.rows))
+in_order t = six (text_of t Smcup) (text_of t Enacs) (text_of t Sgr0) (text_of t Rmacs) (text_of t (widening t)) (text_of t Clear)
+
+-- and made of lines
+pub made : (t : Table) → resync t ≡ concat (pieces_of (sendable t) (resync_rows t.rows))
+made t = in_order t ∙ sym (all_joined (sendable t) (resync_rows t.rows))
+
+texts-append : (line_of : Row → Option (List ℕ)) (a b : List Row) → texts_of line_of (a ++ b) ≡ texts_of line_of a ++ texts_of line_of b
+texts-append line_of [] b = refl
+texts-append line_of (row ∷ a) b =
+    ap (λ (x : List ℕ). or_nothing (line_of row) ++ x) (texts-append line_of a b) ∙ sym (append_assoc (or_nothing (line_of row)) (texts_of line_of a) (texts_of line_of b))
+
+-- one line more
+pub texts_more : (line_of : Row → Option (List ℕ)) (old now new : List ℕ) (rows : List Row) (i : ℕ) (d row : Row) → i < length rows → row ≡ get_or rows i d → new ≡ now ++ or_nothing (line_of row)
+    → now ≡ old ++ texts_of line_of (take i rows) → new ≡ old ++ texts_of line_of (take (i + 1) rows)
+texts_more line_of old now new rows i d row lt is e h =
+    let last : texts_of line_of (take (i + 1) rows) ≡ texts_of line_of (take i rows) ++ (or_nothing (line_of row) ++ [])
+    = ap (λ (l : List Row). texts_of line_of l) (take_more rows i d lt) ∙ (texts-append line_of (take i rows) (get_or rows i d ∷ [])
+    ∙ ap (λ (r : Row). texts_of line_of (take i rows) ++ (or_nothing (line_of r) ++ [])) (sym is)) in
+    e ∙ (ap (λ (l : List ℕ). l ++ or_nothing (line_of row)) h ∙ (append_assoc old (texts_of line_of (take i rows)) (or_nothing (line_of row))
+    ∙ ap (λ (l : List ℕ). old ++ l) (ap (λ (l : List ℕ). texts_of line_of (take i rows) ++ l) (sym (append-nil (or_nothing (line_of row)))) ∙ sym last)))

@@ -1,11 +1,14 @@
 -- Laws of strings that lead a terminal out of a state that isn't known, and of strings that are cut off.
-use Rattle.std.specs.Prelude.{ℕ, ◌≡◌, Bool, true, false, List, [], ◌∷◌, ◌++◌}
+use Rattle.std.specs.Prelude.{ℕ, ◌-◌, ◌≡◌, Bool, true, false, List, [], ◌∷◌, ◌++◌, Option}
 use Rattle.vt_term.specs.Look.{Rendition, plain}
 use Rattle.vt_term.specs.Screen.{State, IsOfSize, Charset, is_graphic}
 use Rattle.vt_effects.specs.declared.effects.Effect.{Effect}
 use Rattle.vt_effects.specs.declared.starts.Start.{Start}
 use Rattle.vt_effects.specs.Effect.{rendered, designated}
 use Rattle.vt_effects.specs.Settings.{IsTame, SameMargins}
+use Rattle.ti_rows.specs.declared.rows.Row.{Row}
+use Rattle.ti_rows.specs.declared.rows.Row.TheVariants.{Clear, Csr, Enacs, Rmacs, Sgr0, Smcup}
+use Rattle.ti_conforms.specs.Table.{or_nothing}
 use Rattle.ti_conforms.specs.Lost.{IsLost, IsCleared}
 use Rattle.vt_term.specs.Ends.{Ends}
 use Rattle.ti_conforms.specs.Lines.{HasLine, free_start, IsQuiet, Clears, MayWiden, MayBeCut}
@@ -53,3 +56,13 @@ pub record IsLostAndClosed (rows cols : ℕ) (sets_margins shows : Bool) (reache
 abbrev pub WholesStay : Type 0
 WholesStay = (rows cols : ℕ) (sets_margins shows : Bool) (reached : Charset → Bool) (bytes : List ℕ) → MayBeCut rows sets_margins shows reached bytes
     → (s : State) → s.rest ≡ [] → IsLost rows cols sets_margins shows reached s → Ends s bytes (IsLostAndClosed rows cols sets_margins shows reached)
+
+-- The strings of a resynchronization, in the order in which they are sent, those that there are (terminfo(5),
+-- "Initialization" and "Line Graphics").
+abbrev pub resync_rows : ℕ → List Row
+resync_rows rows = Smcup ∷ Enacs ∷ Sgr0 ∷ Rmacs ∷ Csr 0 (rows - 1) ∷ Clear ∷ []
+
+-- the lines of these rows, one after another
+abbrev pub texts_of : (Row → Option (List ℕ)) → List Row → List ℕ
+texts_of line_of [] = []
+texts_of line_of (row ∷ rows) = or_nothing (line_of row) ++ texts_of line_of rows

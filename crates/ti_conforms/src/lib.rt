@@ -12,6 +12,7 @@ pub mod laws;
 mod looks;
 mod partners;
 mod reach;
+mod resync;
 mod sending;
 
 pub use agreeing::{AgreeFault, Lines, all_agree};
@@ -22,4 +23,5 @@ pub use fitness::{Unfit, acsc, first_unfit};
 pub use looks::{NO_LOOKS, is_alone, is_some_look};
 pub use partners::{Character, fallback, misfit, partner, shown};
 pub use reach::Reach;
+pub use resync::resync_rows;
 pub use sending::{Unsent, send, send_into};
