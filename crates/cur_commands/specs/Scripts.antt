@@ -3,7 +3,7 @@ use Rattle.std.specs.Prelude.{◌≡◌, List, ℕ, ◌++◌, Err, codes}
 use Rattle.std.specs.Fmt.{decimal}
 use Rattle.ti_commands.specs.declared.failure.Failure.{Failure}
 use Rattle.ti_commands.specs.declared.failure.Failure.TheVariants.{Refused, NoMemory}
-use Rattle.ti_commands.specs.declared.failure.Refusal.TheVariants.{Verdict}
+use Rattle.ti_commands.specs.declared.failure.CommandRefusal.TheVariants.{Verdict}
 use Rattle.cur_calls.specs.Texts.{script_of}
 use Rattle.cur_calls.specs.declared.faults.ScriptFault.{ScriptFault}
 use Rattle.cur_calls.specs.declared.faults.ScriptFaultKind.{ScriptFaultKind}

@@ -5,7 +5,7 @@ ghost use Rattle.cur_commands.specs.Scripts as spec;
 
 use cur_calls::{Call, ScriptFault, ScriptFaultKind, read_script};
 use std::alloc::{AllocError, Global};
-use ti_commands::{Failure, Refusal};
+use ti_commands::{CommandRefusal, Failure};
 use ti_words::Remarks;
 
 /// How much of a line is shown.
@@ -37,7 +37,7 @@ fn failure_of(alloc: Global, fault: ScriptFault) -> Failure
     match fault.kind {
         ScriptFaultKind::NoMemory => Failure::NoMemory,
         ScriptFaultKind::BadLine | ScriptFaultKind::TooLong => match fault_words(alloc, fault) {
-            Ok(words) => Failure::Refused(Refusal::Verdict(words)),
+            Ok(words) => Failure::Refused(CommandRefusal::Verdict(words)),
             Err(_) => Failure::NoMemory,
         },
     }

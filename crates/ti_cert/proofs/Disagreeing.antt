@@ -12,8 +12,8 @@ use Rattle.ti_rows.specs.Lists.{IsFirst, IsInRange, rank}
 use Rattle.ti_rows.specs.Names.{order}
 use Rattle.ti_conforms.specs.Agreeing.{SomeLine}
 use Rattle.ti_conforms.specs.Entries.{acsc, is_checked, has_string, EntrySends, LineAgrees, EntryAgrees, IsNotAgreed}
-use Rattle.ti_conforms.specs.declared.agreeing.AgreeFault as sends
-use Rattle.ti_conforms.specs.declared.agreeing.AgreeFault.TheVariants as other
+use Rattle.ti_conforms.specs.declared.agreeing.Disagreement as sends
+use Rattle.ti_conforms.specs.declared.agreeing.Disagreement.TheVariants as other
 use Rattle.ti_conforms.specs.Conforms.{IsFit, xmc, hc, gn, os}
 use Rattle.ti_cert.specs.Strings.{Strings, allows, group_at, has_group, string_in}
 use Rattle.ti_cert.specs.Table.{Content}

@@ -9,7 +9,7 @@ ghost use Rattle.ti_cert.specs.Table as spec;
 use crate::known::Known;
 use std::marker::Model;
 use ti_caps::Bytes;
-use ti_conforms::{Charsets, Lines};
+use ti_conforms::{Charsets, LinesByRow};
 use ti_rows::Row;
 use vt_term::Size;
 
@@ -77,7 +77,7 @@ impl Table {
     }
 }
 
-impl Lines for Table {
+impl LinesByRow for Table {
     ghost use Rattle.ti_cert.specs.Strings.{string_in};
 
     ghost line_of = { λ t row. string_in t.known.strings row };

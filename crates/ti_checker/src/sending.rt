@@ -8,7 +8,7 @@ ghost use Rattle.ti_conforms.specs.Sends as sends;
 use crate::causes::Cause;
 use std::alloc::Global;
 use ti_caps::Entry;
-use ti_conforms::{Unsent, is_checked, send_into};
+use ti_conforms::{SendFault, is_checked, send_into};
 use ti_rows::Row;
 
 /// The entry's string for `row`, where the entry has it and it is checked.
@@ -36,9 +36,9 @@ pub(crate) fn sent_into(
 {
     match send_into(alloc, string, row, bytes) {
         Ok(()) => Ok(()),
-        Err(Unsent::NoMemory) => Err(Cause::NoMemory),
-        Err(Unsent::StaticRead) => Err(Cause::StaticRead),
-        Err(Unsent::Fault(fault)) => Err(Cause::Parm(fault)),
+        Err(SendFault::NoMemory) => Err(Cause::NoMemory),
+        Err(SendFault::StaticRead) => Err(Cause::StaticRead),
+        Err(SendFault::Fault(fault)) => Err(Cause::Parm(fault)),
     }
 }
 

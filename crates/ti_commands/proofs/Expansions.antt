@@ -19,7 +19,7 @@ use Rattle.ti_commands.specs.Expanding.{Asked, FailsToExpand, IsExpanded, Judges
 use Rattle.ti_requests.specs.declared.request.ExpandWords.{ExpandWords}
 use Rattle.ti_commands.specs.declared.failure.Failure.{Failure}
 use Rattle.ti_commands.specs.declared.failure.Failure.TheVariants.{Refused, RefusedUnwritten, Usage, File, Output, NoMemory}
-use Rattle.ti_commands.specs.declared.failure.Refusal.TheVariants as refusals
+use Rattle.ti_commands.specs.declared.failure.CommandRefusal.TheVariants as refusals
 use Rattle.ti_commands.specs.declared.failure.Reply.{Reply}
 use denote.Ref.{Bor}
 

@@ -6,7 +6,7 @@ use Rattle.ti_commands.specs.Sizes.{LacksSize, SizeGiven}
 use Rattle.ti_commands.specs.Feeding.{FailsToFeed, ShowsAfter, ShowsScreen, IsStuckFailure}
 use Rattle.ti_commands.specs.declared.failure.Failure.{Failure}
 use Rattle.ti_commands.specs.declared.failure.Failure.TheVariants.{Refused, RefusedUnwritten, Usage, File, Output, NoMemory}
-use Rattle.ti_commands.specs.declared.failure.Refusal.TheVariants as refusals
+use Rattle.ti_commands.specs.declared.failure.CommandRefusal.TheVariants as refusals
 use Rattle.ti_commands.specs.declared.failure.Reply.{Reply}
 
 pub size_told : (held : Held) (rows cols path : List ℕ) (e : Failure) → LacksSize rows cols e → FailsToFeed held rows cols path e

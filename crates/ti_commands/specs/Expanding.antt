@@ -21,8 +21,8 @@ use Rattle.ti_commands.specs.Words.{GivesNumber, GiveParams, IsNumberWord, texts
 use Rattle.ti_requests.specs.declared.request.ExpandWords.{ExpandWords}
 use Rattle.ti_commands.specs.declared.failure.Failure.{Failure}
 use Rattle.ti_commands.specs.declared.failure.Failure.TheVariants.{Refused, Usage, NoMemory}
-use Rattle.ti_commands.specs.declared.failure.Refusal.{Refusal}
-use Rattle.ti_commands.specs.declared.failure.Refusal.TheVariants.{Size, Escape, Parm, Token}
+use Rattle.ti_commands.specs.declared.failure.CommandRefusal.{CommandRefusal}
+use Rattle.ti_commands.specs.declared.failure.CommandRefusal.TheVariants.{Size, Escape, Parm, Token}
 use Rattle.ti_commands.specs.declared.failure.Reply.{Reply}
 
 -- the words of the line can be read: they give numbers for the size, and values for the parameters
@@ -114,7 +114,7 @@ abbrev pub WrongWords : ExpandWords → Failure → Type 0
 WrongWords words failure = WrongSize words.rows.now words.cols.now failure ⊎ (IsNumberWord words.rows.now × IsNumberWord words.cols.now × WrongParam (texts_of words.params.items) failure)
 
 -- what is refused, in this order
-abbrev pub RefusesExpansion : ExpandWords → Refusal → Type 0
+abbrev pub RefusesExpansion : ExpandWords → CommandRefusal → Type 0
 RefusesExpansion words Size = (asked : Asked words) × (IsSize asked.rows asked.cols → ⊥)
 RefusesExpansion words (Escape fault) = (asked : Asked words) × IsSize asked.rows asked.cols × (unescaped words.string.now ≡ Err fault)
 RefusesExpansion words (Parm fault) = (asked : Asked words) × IsSize asked.rows asked.cols × ((string : List ℕ) × (unescaped words.string.now ≡ Ok string) × (sent string asked.values ≡ Err fault))

@@ -8,7 +8,7 @@ use Rattle.ti_commands.specs.Holding.{HasBytes, Held, longest_file}
 use Rattle.ti_commands.specs.Sizes.{HasSize, LacksSize, SizeGiven}
 use Rattle.ti_commands.specs.declared.failure.Failure.{Failure}
 use Rattle.ti_commands.specs.declared.failure.Failure.TheVariants.{Refused, File, NoMemory}
-use Rattle.ti_commands.specs.declared.failure.Refusal.TheVariants.{Stuck}
+use Rattle.ti_commands.specs.declared.failure.CommandRefusal.TheVariants.{Stuck}
 use Rattle.ti_commands.specs.declared.failure.Reply.{Reply}
 
 -- the text is the screen after the run of these bytes from the reset state

@@ -17,8 +17,8 @@ use Rattle.ti_commands.specs.Failing.{IsFileFailure}
 use Rattle.ti_commands.specs.Holding.{HasBytes, Held, longest_file}
 use Rattle.ti_commands.specs.declared.failure.Failure.{Failure}
 use Rattle.ti_commands.specs.declared.failure.Failure.TheVariants.{Refused, NoMemory}
-use Rattle.ti_commands.specs.declared.failure.Refusal.{Refusal}
-use Rattle.ti_commands.specs.declared.failure.Refusal.TheVariants.{Source, Resolve, Pack}
+use Rattle.ti_commands.specs.declared.failure.CommandRefusal.{CommandRefusal}
+use Rattle.ti_commands.specs.declared.failure.CommandRefusal.TheVariants.{Source, Resolve, Pack}
 
 abbrev pub note_name : NoteKind → List ℕ
 note_name UnknownName = codes "UnknownName"
@@ -42,32 +42,32 @@ pub record IsPathAndName (word path name : List ℕ) : Type 0 where
   pub last : IsPath name
 
 -- the entry of this name, or why it can't be had
-abbrev pub ResolvesTo : List RawEntry → List ℕ → Result Content Refusal → Type 0
+abbrev pub ResolvesTo : List RawEntry → List ℕ → Result Content CommandRefusal → Type 0
 ResolvesTo raws name (Ok entry) = IsResolved raws name entry
 ResolvesTo raws name (Err (Resolve fault)) = (walk_of raws name ≡ Err fault) × (fault ≢ resolve_faults.NoMemory)
 ResolvesTo raws name (Err _) = ⊥
 
-abbrev pub FitsTo : Content → Result Content Refusal → Type 0
+abbrev pub FitsTo : Content → Result Content CommandRefusal → Type 0
 FitsTo packed (Ok entry) = fit_of packed ≡ Ok entry
 FitsTo packed (Err (Pack fault)) = fit_of packed ≡ Err fault
 FitsTo packed (Err _) = ⊥
 
 -- the entry of this name in a source text, and the notes of the whole text
-pub record IsOfSource (bytes name notes : List ℕ) (entry : Result Content Refusal) : Type 0 where
+pub record IsOfSource (bytes name notes : List ℕ) (entry : Result Content CommandRefusal) : Type 0 where
   pub raws : List RawEntry
   pub reads : source_of bytes ≡ Ok raws
   pub tells : notes ≡ notes_text raws
   pub gives : ResolvesTo raws name entry
 
 -- the entry of a compiled file
-pub record IsOfFile (bytes notes : List ℕ) (entry : Result Content Refusal) : Type 0 where
+pub record IsOfFile (bytes notes : List ℕ) (entry : Result Content CommandRefusal) : Type 0 where
   pub packed : Content
   pub reads : read_of bytes ≡ Ok packed
   pub tells : notes ≡ []
   pub gives : FitsTo packed entry
 
 -- the word's notes, and its entry or the entry's refusal
-abbrev pub Finds : Held → List ℕ → List ℕ → Result Content Refusal → Type 0
+abbrev pub Finds : Held → List ℕ → List ℕ → Result Content CommandRefusal → Type 0
 Finds held word notes entry =
     ((path : List ℕ) × (name : List ℕ) × IsPathAndName word path name × HasBytes (held path) longest_file (λ bytes. IsOfSource bytes name notes entry))
     ⊎ (IsPath word × HasBytes (held word) 131072 (λ bytes. IsOfFile bytes notes entry))
@@ -96,4 +96,4 @@ FailsToFind held word failure = ((path : List ℕ) × (name : List ℕ) × IsPat
 
 -- the word has no entry, as this failure says
 abbrev pub LacksEntry : Held → List ℕ → Failure → Type 0
-LacksEntry held word failure = FailsToFind held word failure ⊎ ((refusal : Refusal) × (notes : List ℕ) × (failure ≡ Refused refusal) × Finds held word notes (Err refusal))
+LacksEntry held word failure = FailsToFind held word failure ⊎ ((refusal : CommandRefusal) × (notes : List ℕ) × (failure ≡ Refused refusal) × Finds held word notes (Err refusal))

@@ -10,8 +10,8 @@ use Rattle.ti_commands.specs.Listing.{comparison_text}
 use Rattle.ti_commands.specs.declared.describing.Comparison.{Comparison}
 use Rattle.ti_commands.specs.declared.failure.Failure.{Failure}
 use Rattle.ti_commands.specs.declared.failure.Failure.TheVariants.{Refused, File, NoMemory}
-use Rattle.ti_commands.specs.declared.failure.Refusal.{Refusal}
-use Rattle.ti_commands.specs.declared.failure.Refusal.TheVariants.{Pack}
+use Rattle.ti_commands.specs.declared.failure.CommandRefusal.{CommandRefusal}
+use Rattle.ti_commands.specs.declared.failure.CommandRefusal.TheVariants.{Pack}
 use Rattle.ti_commands.specs.declared.failure.Reply.{Reply}
 use denote.Ref.{Bor}
 
@@ -66,14 +66,14 @@ Stores entry path before after (Some NoMemory) = after ≡ before
 Stores entry path before after (Some _) = ⊥
 
 -- how a command ends that was to compile an entry: it may not have one, or not want its file
-abbrev pub Outcome : Result Content Refusal → Option (Bor (List ℕ)) → Held → Held → Option Failure → Type 0
+abbrev pub Outcome : Result Content CommandRefusal → Option (Bor (List ℕ)) → Held → Held → Option Failure → Type 0
 Outcome (Err refusal) out before after failure = (failure ≡ Some (Refused refusal)) × (after ≡ before)
 Outcome (Ok entry) None before after failure = (failure ≡ None) × (after ≡ before)
 Outcome (Ok entry) (Some path) before after failure = Stores entry path.now before after failure
 
 -- the notes of what the word gives, and its outcome
 pub record IsCompiled (word : List ℕ) (out : Option (Bor (List ℕ))) (before after : Held) (reply : Reply) : Type 0 where
-  pub entry : Result Content Refusal
+  pub entry : Result Content CommandRefusal
   pub finds : Finds before word reply.notes.items entry
   pub no_text : reply.text.items ≡ []
   pub outcome : Outcome entry out before after reply.failure

@@ -5,7 +5,7 @@ use Rattle.ti_commands.specs.Failing.{WrongSize}
 use Rattle.ti_commands.specs.Words.{GivesNumber}
 use Rattle.ti_commands.specs.declared.failure.Failure.{Failure}
 use Rattle.ti_commands.specs.declared.failure.Failure.TheVariants.{Refused, Usage, NoMemory}
-use Rattle.ti_commands.specs.declared.failure.Refusal.TheVariants.{Size}
+use Rattle.ti_commands.specs.declared.failure.CommandRefusal.TheVariants.{Size}
 
 -- the words of the size are these numbers
 pub record SizeAsked (rows cols : List ℕ) (height width : ℕ) : Type 0 where

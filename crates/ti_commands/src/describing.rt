@@ -8,7 +8,7 @@ ghost use Rattle.ti_commands.specs.Finding.{FailsToFind, LacksEntry};
 ghost use Rattle.ti_commands.specs.Replying.{GivesEntry, IsCompared, IsCompiled, IsPrinted, LacksSecond, Outcome, Stores};
 
 use crate::entries::{Found, find_entry, note_lines};
-use crate::failure::{Failure, Refusal, Reply};
+use crate::failure::{CommandRefusal, Failure, Reply};
 use crate::files::{FileFault, Files};
 use crate::reading::file_fault;
 use std::alloc::{AllocError, Global};
@@ -47,7 +47,7 @@ fn stored<F: Files>(
     alloc: Global,
     files: &mut F,
     out: Option<&str>,
-    entry: Result<Entry, Refusal>,
+    entry: Result<Entry, CommandRefusal>,
     remarks: &mut Remarks,
 ) -> Result<Option<Failure>, AllocError>
     ensures outcome { IfOk result (λ failure. Outcome entry out.entry (F.holds files.old) (F.holds files.new) failure) }
@@ -77,7 +77,7 @@ fn store_entry<F: Files>(
         Err(PackFault::NoMemory) => return Err(AllocError),
         Err(fault) => {
             explain_large(path, remarks);
-            return Ok(Some(Failure::Refused(Refusal::Pack(fault))));
+            return Ok(Some(Failure::Refused(CommandRefusal::Pack(fault))));
         }
     };
     match files.store(path, file.as_slice()) {

@@ -6,7 +6,7 @@ ghost use Rattle.ti_source.specs.Raw.{IsRaw};
 ghost use Rattle.ti_commands.specs.Holding.{HasBytes, longest_file};
 ghost use Rattle.ti_commands.specs.Finding.{FailsInFile, FailsInSource, FailsToFind, Finds, FitsTo, IsOfFile, IsOfSource, IsPath, IsPathAndName, ResolvesTo, IsPackFailure, IsSourceFailure, note_line, note_name, notes_text};
 
-use crate::failure::{Failure, Refusal};
+use crate::failure::{CommandRefusal, Failure};
 use crate::files::Files;
 use crate::reading::{LONGEST_FILE, read_whole};
 use std::alloc::{AllocError, Global};
@@ -27,7 +27,7 @@ pub struct Found {
     /// All entries of that text, as they were read.
     pub raws: Vec<RawEntry>,
     /// The entry, or why it can't be had.
-    pub entry: Result<Entry, Refusal>,
+    pub entry: Result<Entry, CommandRefusal>,
 }
 
 /// Reads the file that `word` names, and finds or unpacks its entry.
@@ -72,14 +72,14 @@ fn find_in_source<F: Files>(
     let text = read_whole(alloc, files, path, LONGEST_FILE, remarks)?;
     match find_in_text(alloc, text.as_slice(), name) {
         Ok((raws, entry)) => {
-            if let Err(Refusal::Resolve(fault)) = &entry {
+            if let Err(CommandRefusal::Resolve(fault)) = &entry {
                 explain_resolving(alloc, path, fault, remarks);
             }
             hint_carets(alloc, text.as_slice(), remarks);
             Ok(Found { text, raws, entry })
         }
         Err(failure) => {
-            if let Failure::Refused(Refusal::Source(fault)) = &failure {
+            if let Failure::Refused(CommandRefusal::Source(fault)) = &failure {
                 explain_source(alloc, path, text.as_slice(), *fault, remarks);
             }
             Err(failure)
@@ -92,7 +92,7 @@ fn find_in_text(
     alloc: Global,
     text: &[u8],
     name: &str,
-) -> Result<(Vec<RawEntry>, Result<Entry, Refusal>), Failure>
+) -> Result<(Vec<RawEntry>, Result<Entry, CommandRefusal>), Failure>
     ensures found { IfOk result (λ found. IsOfSource text.now name.now (notes_text found.0.items) found.1) }
     ensures failure { IfErr result (λ e. IsSourceFailure text.now e) }
 {
@@ -103,7 +103,7 @@ fn find_in_text(
         }
         Err(fault) => match fault.kind {
             FaultKind::NoMemory => Err(Failure::NoMemory),
-            _ => Err(Failure::Refused(Refusal::Source(fault))),
+            _ => Err(Failure::Refused(CommandRefusal::Source(fault))),
         },
     }
 }
@@ -113,14 +113,14 @@ pub fn resolved_entry(
     alloc: Global,
     raws: &[RawEntry],
     name: &[u8],
-) -> Result<Result<Entry, Refusal>, AllocError>
+) -> Result<Result<Entry, CommandRefusal>, AllocError>
     requires { AllByRecursion IsRaw raws.now }
     ensures { IfOk result (λ entry. ResolvesTo raws.now name.now entry) }
 {
     match resolve(alloc, raws, name) {
         Ok(entry) => Ok(Ok(entry)),
         Err(ResolveFault::NoMemory) => Err(AllocError),
-        Err(fault) => Ok(Err(Refusal::Resolve(fault))),
+        Err(fault) => Ok(Err(CommandRefusal::Resolve(fault))),
     }
 }
 
@@ -190,21 +190,22 @@ fn unpack<F: Files>(
 }
 
 /// The fault of a compiled file for which there is this answer `entry`, if it has one.
-fn pack_fault(entry: &Result<Result<Entry, Refusal>, Failure>) -> Option<PackFault> {
+fn pack_fault(entry: &Result<Result<Entry, CommandRefusal>, Failure>) -> Option<PackFault> {
     match entry {
-        Err(Failure::Refused(Refusal::Pack(fault))) | Ok(Err(Refusal::Pack(fault))) => Some(*fault),
+        Err(Failure::Refused(CommandRefusal::Pack(fault))) | Ok(Err(CommandRefusal::Pack(fault))) =>
+            Some(*fault),
         _ => None,
     }
 }
 
 /// The entry of the compiled file `file`, or why it can't be had.
-fn unpack_file(alloc: Global, file: &[u8]) -> Result<Result<Entry, Refusal>, Failure>
+fn unpack_file(alloc: Global, file: &[u8]) -> Result<Result<Entry, CommandRefusal>, Failure>
     ensures found { IfOk result (λ entry. IsOfFile file.now [] entry) }
     ensures failure { IfErr result (λ e. IsPackFailure file.now e) }
 {
     match decode(file) {
         Ok(packed) => Ok(unpacked_entry(alloc, &packed)?),
-        Err(fault) => Err(Failure::Refused(Refusal::Pack(fault))),
+        Err(fault) => Err(Failure::Refused(CommandRefusal::Pack(fault))),
     }
 }
 
@@ -212,12 +213,12 @@ fn unpack_file(alloc: Global, file: &[u8]) -> Result<Result<Entry, Refusal>, Fai
 pub fn unpacked_entry(
     alloc: Global,
     packed: &Packed<'_>,
-) -> Result<Result<Entry, Refusal>, AllocError>
+) -> Result<Result<Entry, CommandRefusal>, AllocError>
     ensures { IfOk result (λ entry. FitsTo packed.now entry) }
 {
     match packed.to_entry(alloc) {
         Ok(entry) => Ok(Ok(entry)),
         Err(PackFault::NoMemory) => Err(AllocError),
-        Err(fault) => Ok(Err(Refusal::Pack(fault))),
+        Err(fault) => Ok(Err(CommandRefusal::Pack(fault))),
     }
 }

@@ -10,7 +10,7 @@ ghost use Rattle.ti_commands.specs.Failing.{IsUsageError, WrongParam, param_usag
 ghost use Rattle.ti_commands.specs.Words.{GiveParams, GivesParam, texts_of};
 
 use crate::decimal::decimal_number;
-use crate::failure::{Failure, Refusal, Reply};
+use crate::failure::{CommandRefusal, Failure, Reply};
 use crate::sizes::{number_word, size_of};
 use smallvec::SmallVec;
 use std::alloc::{AllocError, Global};
@@ -77,7 +77,7 @@ fn show(
                 Ok(Reply {
                     notes: Vec::new(alloc),
                     text: hex_line(alloc, sent)?,
-                    failure: Some(Failure::Refused(Refusal::Token(fault))),
+                    failure: Some(Failure::Refused(CommandRefusal::Token(fault))),
                 })
             }
         },
@@ -130,7 +130,7 @@ fn send(
         Err(ParmFault::NoMemory) => Err(Failure::NoMemory),
         Err(fault) => {
             explain_parm(fault, remarks);
-            Err(Failure::Refused(Refusal::Parm(fault)))
+            Err(Failure::Refused(CommandRefusal::Parm(fault)))
         }
     }
 }
@@ -176,7 +176,7 @@ fn escape_failure(fault: EscapeFault) -> Failure
 {
     match fault {
         EscapeFault::NoMemory => Failure::NoMemory,
-        _ => Failure::Refused(Refusal::Escape(fault)),
+        _ => Failure::Refused(CommandRefusal::Escape(fault)),
     }
 }
 

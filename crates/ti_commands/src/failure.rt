@@ -44,7 +44,7 @@ impl Reply {
 
 /// What was asked for is understood and can't be done.
 #[derive(Debug, Drop, Error)]
-pub enum Refusal {
+pub enum CommandRefusal {
     /// Rows are 2 to 200, columns 2 to 500.
     #[error("BadSize")]
     Size,
@@ -78,9 +78,9 @@ pub enum Refusal {
 #[derive(Debug, Drop)]
 pub enum Failure {
     /// The command's own answer is no.
-    Refused(Refusal),
+    Refused(CommandRefusal),
     /// The answer is no, and what stands beside it could not be written.
-    RefusedUnwritten(Refusal),
+    RefusedUnwritten(CommandRefusal),
     /// A usage error; the text says which.
     Usage(String),
     /// The file of this path can't be read or written, or is too long.
@@ -175,10 +175,10 @@ const OUTPUT: &[u8] =
 
 /// Writes the line of `refusal` to `err`. A name stands in it as the source has it, but for bytes that could begin a
 /// sequence.
-fn write_refusal<E: Write>(refusal: &Refusal, err: &mut E) -> io::Result<()> {
+fn write_refusal<E: Write>(refusal: &CommandRefusal, err: &mut E) -> io::Result<()> {
     write!(err, "refused: {refusal}")?;
     match refusal {
-        Refusal::Resolve(
+        CommandRefusal::Resolve(
             ResolveFault::NoSuchEntry(name)
             | ResolveFault::Cycle(name)
             | ResolveFault::TooMany(name),
@@ -186,7 +186,7 @@ fn write_refusal<E: Write>(refusal: &Refusal, err: &mut E) -> io::Result<()> {
             err.write_all(b" ")?;
             write_shown(err, name.as_slice())?;
         }
-        Refusal::Verdict(words) => write_shown(err, words.as_slice())?,
+        CommandRefusal::Verdict(words) => write_shown(err, words.as_slice())?,
         _ => {}
     }
     err.write_all(b"\n")

@@ -3,7 +3,7 @@
 ghost use Rattle.std.specs.Prelude.{◌≡◌, IfErr, IfOk};
 ghost use Rattle.ti_commands.specs.Feeding.{FailsToFeed, ShowsAfter, ShowsScreen, IsStuckFailure};
 
-use crate::failure::{Failure, Refusal, Reply};
+use crate::failure::{CommandRefusal, Failure, Reply};
 use crate::files::Files;
 use crate::reading::{LONGEST_FILE, read_whole};
 use crate::sizes::size_words;
@@ -47,7 +47,7 @@ fn screen_after(
         Ok(()) => Ok(terminal.print_screen(alloc)?),
         Err(stuck) => {
             explain_stuck(alloc, path.as_bytes(), bytes, stuck.at, remarks);
-            Err(Failure::Refused(Refusal::Stuck(stuck)))
+            Err(Failure::Refused(CommandRefusal::Stuck(stuck)))
         }
     }
 }

@@ -8,7 +8,7 @@ use std::io::{ErrorKind, Read};
 
 /// Why the system refused a file, as far as it says.
 #[derive(Clone, Copy, Debug, PartialEq, Eq)]
-pub enum Cause {
+pub enum FileCause {
     /// There is no such file or folder.
     Missing,
     /// The path is a folder's.
@@ -23,16 +23,16 @@ pub enum Cause {
     Other,
 }
 
-impl Cause {
+impl FileCause {
     /// What is said of a path that the system refused for this cause.
     pub fn words(self) -> &'static [u8] {
         match self {
-            Cause::Missing => b": there is no such file or folder",
-            Cause::Directory => b" is a folder",
-            Cause::Denied => b": permission denied",
-            Cause::Full => b": there is no space left for it",
-            Cause::Source => b" is the file that the entry is read from",
-            Cause::Other => b" could not be read or written",
+            FileCause::Missing => b": there is no such file or folder",
+            FileCause::Directory => b" is a folder",
+            FileCause::Denied => b": permission denied",
+            FileCause::Full => b": there is no space left for it",
+            FileCause::Source => b" is the file that the entry is read from",
+            FileCause::Other => b" could not be read or written",
         }
     }
 }
@@ -41,7 +41,7 @@ impl Cause {
 #[derive(Clone, Copy, Debug, PartialEq, Eq)]
 pub enum FileFault {
     /// The system refused.
-    Failed(Cause),
+    Failed(FileCause),
     /// Out of memory.
     NoMemory,
 }
@@ -57,13 +57,13 @@ impl FileFault {
     fn of_kind(kind: ErrorKind) -> FileFault {
         match kind {
             ErrorKind::OutOfMemory => FileFault::NoMemory,
-            ErrorKind::NotFound | ErrorKind::NotADirectory => FileFault::Failed(Cause::Missing),
-            ErrorKind::IsADirectory => FileFault::Failed(Cause::Directory),
+            ErrorKind::NotFound | ErrorKind::NotADirectory => FileFault::Failed(FileCause::Missing),
+            ErrorKind::IsADirectory => FileFault::Failed(FileCause::Directory),
             ErrorKind::PermissionDenied | ErrorKind::ReadOnlyFilesystem => {
-                FileFault::Failed(Cause::Denied)
+                FileFault::Failed(FileCause::Denied)
             }
-            ErrorKind::StorageFull | ErrorKind::QuotaExceeded => FileFault::Failed(Cause::Full),
-            _ => FileFault::Failed(Cause::Other),
+            ErrorKind::StorageFull | ErrorKind::QuotaExceeded => FileFault::Failed(FileCause::Full),
+            _ => FileFault::Failed(FileCause::Other),
         }
     }
 }

@@ -7,7 +7,7 @@ ghost use Rattle.ti_commands.specs.Sizes.{LacksSize, SizeGiven};
 ghost use Rattle.ti_commands.specs.Words.{GivesNumber};
 
 use crate::decimal::decimal_number;
-use crate::failure::{Failure, Refusal};
+use crate::failure::{CommandRefusal, Failure};
 use std::alloc::Global;
 use ti_words::{Remarks, explain_size};
 use vt_term::Size;
@@ -27,13 +27,13 @@ pub fn number_word(alloc: Global, name: &str, word: &str) -> Result<u32, Failure
 pub fn size_of(alloc: Global, rows: u32, cols: u32, remarks: &mut Remarks) -> Result<Size, Failure>
     ensures size { IfOk result (λ size. (size.rows ≡ rows) × (size.cols ≡ cols)) }
     ensures within { IsOk result ↔ IsSize rows cols }
-    ensures refusal { IfErr result (λ e. e ≡ Failure.Refused Refusal.Size) }
+    ensures refusal { IfErr result (λ e. e ≡ Failure.Refused CommandRefusal.Size) }
 {
     match Size::new(rows as usize, cols as usize) {
         Some(size) => Ok(size),
         None => {
             explain_size(alloc, rows, cols, remarks);
-            Err(Failure::Refused(Refusal::Size))
+            Err(Failure::Refused(CommandRefusal::Size))
         }
     }
 }

@@ -9,8 +9,8 @@ use Rattle.ti_rows.specs.declared.rows.Row.TheVariants.{Setaf, Setab, Op, Smul, 
 use Rattle.ti_rows.specs.Names.{order, string_in_order}
 use Rattle.ti_conforms.specs.declared.entries.Group.{Group}
 use Rattle.ti_conforms.specs.declared.entries.Group.TheVariants.{Colors, Single, Sets, Alone}
-use Rattle.ti_conforms.specs.declared.agreeing.AgreeFault.{AgreeFault}
-use Rattle.ti_conforms.specs.declared.agreeing.AgreeFault.TheVariants.{Disagree, Unwanted, NoMemory}
+use Rattle.ti_conforms.specs.declared.agreeing.Disagreement.{Disagreement}
+use Rattle.ti_conforms.specs.declared.agreeing.Disagreement.TheVariants.{Disagree, Unwanted, NoMemory}
 use Rattle.ti_conforms.specs.Agreeing.{LineSends, AllSend, IsDisagreement}
 use Rattle.ti_conforms.specs.Entries.{group_of, string_of, has_string, meets, is_checked, EntrySends, CapAgrees, IsNotAgreed}
 
@@ -77,13 +77,13 @@ other_string string entry line row first o there differs s =
     let is : s.string ≡ string = cc in
     differs (subst (λ (x : List ℕ). LineSends x line row) is s.sends)
 
-pub not_agreed : (rows cols : ℕ) (entry : Content) (line_of : Row → Option (List ℕ)) (first : Row) (string : List ℕ) → is_checked entry first ≡ true → Some string ≡ string_of entry first → (e : AgreeFault) → IsDisagreement rows cols string line_of (order first) e
+pub not_agreed : (rows cols : ℕ) (entry : Content) (line_of : Row → Option (List ℕ)) (first : Row) (string : List ℕ) → is_checked entry first ≡ true → Some string ≡ string_of entry first → (e : Disagreement) → IsDisagreement rows cols string line_of (order first) e
     → IsNotAgreed rows cols entry line_of e
 not_agreed rows cols entry line_of first string checked there (Disagree row) h = (h.1, same_checked entry row first h.0 ∙ checked, other_string string entry (line_of row) row first h.0 there h.2)
 not_agreed rows cols entry line_of first string checked there (Unwanted row) h = absurd h
 not_agreed rows cols entry line_of first string checked there NoMemory h = tt
 
-pub at_place : (rows cols : ℕ) (string : List ℕ) (line_of : Row → Option (List ℕ)) (n m : ℕ) (e : AgreeFault) → n ≡ m → IsDisagreement rows cols string line_of n e → IsDisagreement rows cols string line_of m e
+pub at_place : (rows cols : ℕ) (string : List ℕ) (line_of : Row → Option (List ℕ)) (n m : ℕ) (e : Disagreement) → n ≡ m → IsDisagreement rows cols string line_of n e → IsDisagreement rows cols string line_of m e
 at_place rows cols string line_of n m e same h = subst (λ (k : ℕ). IsDisagreement rows cols string line_of k e) same h
 
 pub on_ok : {A E P Q : Type 0} (r : Result A E) → (P → Q) → OnOk r P → OnOk r Q

@@ -4,8 +4,8 @@ use Rattle.ti_rows.specs.declared.rows.Row.{Row}
 use Rattle.ti_rows.specs.Names.{order}
 use Rattle.ti_rows.specs.Lists.{IsInRange, rank}
 use Rattle.ti_conforms.specs.Sends.{Sends}
-use Rattle.ti_conforms.specs.declared.agreeing.AgreeFault.{AgreeFault}
-use Rattle.ti_conforms.specs.declared.agreeing.AgreeFault.TheVariants.{Disagree, Unwanted, NoMemory}
+use Rattle.ti_conforms.specs.declared.agreeing.Disagreement.{Disagreement}
+use Rattle.ti_conforms.specs.declared.agreeing.Disagreement.TheVariants.{Disagree, Unwanted, NoMemory}
 
 -- the row's line has the bytes that the string sends
 pub record LineSends (string : List ℕ) (line : Option (List ℕ)) (row : Row) : Type 0 where
@@ -22,7 +22,7 @@ abbrev pub SendsAt : ℕ → ℕ → List ℕ → (Row → Option (List ℕ)) �
 SendsAt rows cols string line_of n k = (row : Row) → order row ≡ n → IsInRange rows cols row → rank rows cols row ≡ k → LineSends string (line_of row) row
 
 -- a parameter list whose line is another, or isn't there
-abbrev pub IsDisagreement : ℕ → ℕ → List ℕ → (Row → Option (List ℕ)) → ℕ → AgreeFault → Type 0
+abbrev pub IsDisagreement : ℕ → ℕ → List ℕ → (Row → Option (List ℕ)) → ℕ → Disagreement → Type 0
 IsDisagreement rows cols string line_of n (Disagree row) = (order row ≡ n) × IsInRange rows cols row × (LineSends string (line_of row) row → ⊥)
 IsDisagreement rows cols string line_of n (Unwanted row) = ⊥
 IsDisagreement rows cols string line_of n NoMemory = Unit {0}

@@ -7,8 +7,8 @@ use Rattle.ti_rows.specs.declared.rows.Row.TheVariants.{Sgr, Setaf, Setab, Op, S
 use Rattle.ti_rows.specs.Names.{order, cap_of, no_attributes}
 use Rattle.ti_rows.specs.Lists.{IsFirst, IsInRange}
 use Rattle.ti_conforms.specs.Agreeing.{LineSends, SomeLine}
-use Rattle.ti_conforms.specs.declared.agreeing.AgreeFault.{AgreeFault}
-use Rattle.ti_conforms.specs.declared.agreeing.AgreeFault.TheVariants.{Disagree, Unwanted, NoMemory}
+use Rattle.ti_conforms.specs.declared.agreeing.Disagreement.{Disagreement}
+use Rattle.ti_conforms.specs.declared.agreeing.Disagreement.TheVariants.{Disagree, Unwanted, NoMemory}
 use Rattle.ti_conforms.specs.declared.entries.Group.{Group}
 use Rattle.ti_conforms.specs.declared.entries.Group.TheVariants.{Colors, Single, Sets, Alone}
 
@@ -71,7 +71,7 @@ abbrev pub EntryAgrees : ℕ → ℕ → Content → (Row → Option (List ℕ))
 EntryAgrees rows cols entry line_of = (row : Row) → IsInRange rows cols row → LineAgrees entry (line_of row) row
 
 -- why lines aren't those of an entry, for a row of the table
-abbrev pub IsNotAgreed : ℕ → ℕ → Content → (Row → Option (List ℕ)) → AgreeFault → Type 0
+abbrev pub IsNotAgreed : ℕ → ℕ → Content → (Row → Option (List ℕ)) → Disagreement → Type 0
 IsNotAgreed rows cols entry line_of (Disagree row) = IsInRange rows cols row × (is_checked entry row ≡ true) × (EntrySends entry (line_of row) row → ⊥)
 IsNotAgreed rows cols entry line_of (Unwanted row) = IsFirst rows cols row × (is_checked entry row ≡ false) × SomeLine line_of (order row)
 IsNotAgreed rows cols entry line_of NoMemory = Unit {0}

@@ -5,8 +5,8 @@ use Rattle.ti_parm.specs.Meaning.{State, meaning, sent, ReadsUnset}
 use Rattle.ti_parm.specs.Value.{Value, Number, zeros}
 use Rattle.ti_rows.specs.declared.rows.Row.{Row}
 use Rattle.ti_rows.specs.Params.{params}
-use Rattle.ti_conforms.specs.declared.sending.Unsent.{Unsent}
-use Rattle.ti_conforms.specs.declared.sending.Unsent.TheVariants.{Fault, StaticRead, NoMemory}
+use Rattle.ti_conforms.specs.declared.sending.SendFault.{SendFault}
+use Rattle.ti_conforms.specs.declared.sending.SendFault.TheVariants.{Fault, StaticRead, NoMemory}
 
 abbrev pub numbers : List ℕ → List Value
 numbers ns = map (λ n. Number (pos n)) ns
@@ -26,7 +26,7 @@ pub record ReadsStatic (string : List ℕ) (row : Row) : Type 0 where
   pub reads : ReadsUnset end
 
 -- why nothing is sent
-abbrev pub IsUnsent : List ℕ → Row → Unsent → Type 0
+abbrev pub IsUnsent : List ℕ → Row → SendFault → Type 0
 IsUnsent string row (Fault fault) = meaning string (values row) zeros ≡ Err fault
 IsUnsent string row StaticRead = ReadsStatic string row
 IsUnsent string row NoMemory = Unit {0}

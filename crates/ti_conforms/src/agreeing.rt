@@ -6,13 +6,13 @@ ghost use Rattle.ti_rows.specs.Names.{order};
 ghost use Rattle.ti_rows.specs.declared.rows.Row.{Row};
 ghost use Rattle.ti_conforms.specs.Agreeing as spec;
 
-use crate::sending::{Unsent, send_into};
+use crate::sending::{SendFault, send_into};
 use std::alloc::Global;
 use ti_rows::Row;
 use vt_term::Size;
 
 /// Lines by the row that they are for.
-pub trait Lines {
+pub trait LinesByRow {
     /// The bytes of the row's line, where there is one.
     ghost line_of: { Self → Row → Option (List ℕ) };
 
@@ -28,7 +28,7 @@ pub trait Lines {
 
 /// Why lines aren't those of an entry.
 #[derive(Clone, Copy, Debug, PartialEq, Eq)]
-pub enum AgreeFault {
+pub enum Disagreement {
     /// The string sends other bytes for this row, or none, or there is no line.
     Disagree(Row),
     /// The row's capability has a line, but the entry has no such string or it isn't checked.
@@ -38,14 +38,14 @@ pub enum AgreeFault {
 }
 
 /// Whether the row's line has just the bytes that the string sends, which go into `bytes`.
-fn row_agrees<L: Lines>(
+fn row_agrees<L: LinesByRow>(
     alloc: Global,
     size: Size,
     string: &[u8],
     lines: &L,
     row: Row,
     bytes: &mut Vec<u8>,
-) -> Result<(), AgreeFault>
+) -> Result<(), Disagreement>
     requires { IsInRange size.rows size.cols row }
     ensures sends { OnOk result (spec.LineSends string.now (L.line_of lines.now row) row) }
     ensures fault { IfErr result (spec.IsDisagreement size.rows size.cols string.now (L.line_of lines.now)
@@ -53,12 +53,12 @@ fn row_agrees<L: Lines>(
 {
     match send_into(alloc, string, row, bytes) {
         Ok(()) => {}
-        Err(Unsent::NoMemory) => return Err(AgreeFault::NoMemory),
-        Err(_) => return Err(AgreeFault::Disagree(row)),
+        Err(SendFault::NoMemory) => return Err(Disagreement::NoMemory),
+        Err(_) => return Err(Disagreement::Disagree(row)),
     }
     match lines.line(row) {
         Some(line) if line == bytes.as_slice() => Ok(()),
-        _ => Err(AgreeFault::Disagree(row)),
+        _ => Err(Disagreement::Disagree(row)),
     }
 }
 
@@ -67,13 +67,13 @@ fn row_agrees<L: Lines>(
 ///
 /// # Errors
 /// `Disagree` with a row for which it hasn't, and `NoMemory`.
-pub fn all_agree<L: Lines>(
+pub fn all_agree<L: LinesByRow>(
     alloc: Global,
     size: Size,
     string: &[u8],
     lines: &L,
     first: Row,
-) -> Result<(), AgreeFault>
+) -> Result<(), Disagreement>
     requires { IsFirst size.rows size.cols first }
     ensures sends { OnOk result (spec.AllSend size.rows size.cols string.now (L.line_of lines.now) (order first)) }
     ensures fault { IfErr result (spec.IsDisagreement size.rows size.cols string.now (L.line_of lines.now)

@@ -6,7 +6,7 @@ ghost use Rattle.ti_rows.specs.Lists.{IsFirst};
 ghost use Rattle.ti_rows.specs.Names.{first_in_order, order};
 ghost use Rattle.ti_conforms.specs.Entries as spec;
 
-use crate::agreeing::{AgreeFault, Lines, all_agree};
+use crate::agreeing::{Disagreement, LinesByRow, all_agree};
 use std::alloc::Global;
 use ti_caps::{Cap, Entry, Kind, at};
 use ti_rows::{NO_ATTRIBUTES, Row};
@@ -79,20 +79,20 @@ pub fn is_checked(entry: &Entry, row: Row) -> bool
 }
 
 /// Whether the lines of one capability are just what the entry sends, and none where it isn't checked.
-fn cap_agrees<L: Lines>(
+fn cap_agrees<L: LinesByRow>(
     alloc: Global,
     size: Size,
     entry: &Entry,
     lines: &L,
     first: Row,
-) -> Result<(), AgreeFault>
+) -> Result<(), Disagreement>
     requires { IsFirst size.rows size.cols first }
     ensures agrees { OnOk result (spec.CapAgrees size.rows size.cols entry.now (L.line_of lines.now) (order first)) }
     ensures fault { IfErr result (spec.IsNotAgreed size.rows size.cols entry.now (L.line_of lines.now)) }
 {
     if !is_checked(entry, first) {
         return if lines.has_any(first) {
-            Err(AgreeFault::Unwanted(first))
+            Err(Disagreement::Unwanted(first))
         } else {
             Ok(())
         };
@@ -108,12 +108,12 @@ fn cap_agrees<L: Lines>(
 ///
 /// # Errors
 /// `Disagree` and `Unwanted` with a row for which it isn't so, and `NoMemory`.
-pub fn entry_agrees<L: Lines>(
+pub fn entry_agrees<L: LinesByRow>(
     alloc: Global,
     size: Size,
     entry: &Entry,
     lines: &L,
-) -> Result<(), AgreeFault>
+) -> Result<(), Disagreement>
     ensures agrees { OnOk result (spec.EntryAgrees size.rows size.cols entry.now (L.line_of lines.now)) }
     ensures fault { IfErr result (spec.IsNotAgreed size.rows size.cols entry.now (L.line_of lines.now)) }
 {

@@ -15,7 +15,7 @@ mod reach;
 mod resync;
 mod sending;
 
-pub use agreeing::{AgreeFault, Lines, all_agree};
+pub use agreeing::{Disagreement, LinesByRow, all_agree};
 pub use certificates::Certificate;
 pub use closing::{Charsets, KEPT, designated, or_kept, settles, switched};
 pub use entries::{Group, entry_agrees, is_checked};
@@ -24,4 +24,4 @@ pub use looks::{NO_LOOKS, is_alone, is_some_look};
 pub use partners::{Character, fallback, misfit, partner, shown};
 pub use reach::Reach;
 pub use resync::resync_rows;
-pub use sending::{Unsent, send, send_into};
+pub use sending::{SendFault, send, send_into};

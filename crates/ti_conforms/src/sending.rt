@@ -11,7 +11,7 @@ use ti_rows::Row;
 
 /// Why a string sends nothing for a row.
 #[derive(Clone, Copy, Debug, PartialEq, Eq)]
-pub enum Unsent {
+pub enum SendFault {
     /// It can't be expanded for these parameters.
     Fault(ParmFault),
     /// It reads a static variable that it has not set before.
@@ -41,7 +41,12 @@ fn values(row: Row) -> ArrayVec<Param<'static>, 9>
 /// `Fault` where it can't be expanded, `StaticRead` where it reads a static variable that it has not
 /// set before, so that what it sends would depend on what was sent earlier, and `NoMemory`. Nothing is
 /// promised then of `bytes`.
-pub fn send_into(alloc: Global, string: &[u8], row: Row, bytes: &mut Vec<u8>) -> Result<(), Unsent>
+pub fn send_into(
+    alloc: Global,
+    string: &[u8],
+    row: Row,
+    bytes: &mut Vec<u8>,
+) -> Result<(), SendFault>
     ensures sends { OnOk result (spec.Sends string.now row bytes.new.items) }
     ensures unsent { IfErr result (λ why. spec.IsUnsent string.now row why) }
 {
@@ -49,11 +54,11 @@ pub fn send_into(alloc: Global, string: &[u8], row: Row, bytes: &mut Vec<u8>) ->
     bytes.clear();
     let reads = match sent_and_reads_unset(alloc, string, values.as_slice(), bytes) {
         Ok(reads) => reads,
-        Err(ParmFault::NoMemory) => return Err(Unsent::NoMemory),
-        Err(fault) => return Err(Unsent::Fault(fault)),
+        Err(ParmFault::NoMemory) => return Err(SendFault::NoMemory),
+        Err(fault) => return Err(SendFault::Fault(fault)),
     };
     if reads {
-        return Err(Unsent::StaticRead);
+        return Err(SendFault::StaticRead);
     }
     Ok(())
 }
@@ -62,7 +67,7 @@ pub fn send_into(alloc: Global, string: &[u8], row: Row, bytes: &mut Vec<u8>) ->
 ///
 /// # Errors
 /// Those of `send_into`.
-pub fn send(alloc: Global, string: &[u8], row: Row) -> Result<Vec<u8>, Unsent>
+pub fn send(alloc: Global, string: &[u8], row: Row) -> Result<Vec<u8>, SendFault>
     ensures sends { IfOk result (λ bytes. spec.Sends string.now row bytes.items) }
     ensures unsent { IfErr result (λ why. spec.IsUnsent string.now row why) }
 {

@@ -7,7 +7,7 @@ use Rattle.ti_commands.specs.Finding.{ResolvesTo}
 use Rattle.ti_commands.specs.Holding.{Held}
 use Rattle.ti_commands.specs.Words.{texts_of}
 use Rattle.ti_commands.specs.declared.failure.Failure.{Failure}
-use Rattle.ti_commands.specs.declared.failure.Refusal.{Refusal}
+use Rattle.ti_commands.specs.declared.failure.CommandRefusal.{CommandRefusal}
 use Rattle.ti_verdicts.specs.Lines.{HasParts, IsSourceLine, IsTold, first_name, line_of}
 use Rattle.ti_verdicts.specs.Surveying.{EndsPath, EndsPaths, HasLines, MayHaveLines, Misses, first_failure}
 use denote.Ref.{Bor}
@@ -90,7 +90,7 @@ ends_step Says held now words n d lines own more failure told both l same spelle
 
 -- ---- lines
 
-pub source_line_of : (Says : Content → List ℕ → Type 0) (raws : List RawEntry) (raw : RawEntry) (entry : Result Content Refusal) (names name words said line : List ℕ) → names ≡ raw.names → name ≡ first_name names → said ≡ words
+pub source_line_of : (Says : Content → List ℕ → Type 0) (raws : List RawEntry) (raw : RawEntry) (entry : Result Content CommandRefusal) (names name words said line : List ℕ) → names ≡ raw.names → name ≡ first_name names → said ≡ words
     → ResolvesTo raws name entry → IsTold Says entry words → line ≡ line_of name said → IsSourceLine Says raws raw line
 source_line_of Says raws raw entry names name words said line a b c r t e =
     let named : name ≡ first_name raw.names = b ∙ ap first_name a in

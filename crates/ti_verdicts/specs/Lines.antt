@@ -9,7 +9,7 @@ use Rattle.ti_source.specs.Source.{source_of}
 use Rattle.ti_source.specs.declared.types.RawEntry.{RawEntry}
 use Rattle.ti_commands.specs.Finding.{FitsTo, IsSourceFailure, ResolvesTo}
 use Rattle.ti_commands.specs.declared.failure.Failure.TheVariants.{Refused}
-use Rattle.ti_commands.specs.declared.failure.Refusal.{Refusal}
+use Rattle.ti_commands.specs.declared.failure.CommandRefusal.{CommandRefusal}
 use Rattle.ti_verdicts.specs.Telling.{no_text}
 use Rattle.ti_verdicts.specs.declared.asked.Asked.{Asked}
 
@@ -53,7 +53,7 @@ abbrev pub IsRefused : List ℕ → Type 0
 IsRefused words = (told : List ℕ) × (words ≡ codes " refused: " ++ told)
 
 -- the words of an entry that is there, or of one that can't be had
-abbrev pub IsTold : (Content → List ℕ → Type 0) → Result Content Refusal → List ℕ → Type 0
+abbrev pub IsTold : (Content → List ℕ → Type 0) → Result Content CommandRefusal → List ℕ → Type 0
 IsTold Says (Ok entry) words = Says entry words
 IsTold Says (Err refusal) words = IsRefused words
 
@@ -61,7 +61,7 @@ IsTold Says (Err refusal) words = IsRefused words
 
 -- the line of an entry of a source text
 pub record IsSourceLine (Says : Content → List ℕ → Type 0) (raws : List RawEntry) (raw : RawEntry) (line : List ℕ) : Type 0 where
-  pub entry : Result Content Refusal
+  pub entry : Result Content CommandRefusal
   pub resolves : ResolvesTo raws (first_name raw.names) entry
   pub words : List ℕ
   pub told : IsTold Says entry words
@@ -69,7 +69,7 @@ pub record IsSourceLine (Says : Content → List ℕ → Type 0) (raws : List Ra
 
 -- the line of the entry of a compiled file
 pub record IsFileLine (Says : Content → List ℕ → Type 0) (packed : Content) (line : List ℕ) : Type 0 where
-  pub entry : Result Content Refusal
+  pub entry : Result Content CommandRefusal
   pub fits : FitsTo packed entry
   pub words : List ℕ
   pub told : IsTold Says entry words
@@ -106,7 +106,7 @@ pub record HasEntries (Says : Content → List ℕ → Type 0) (bytes lines : Li
 
 -- or it has a fault
 pub record LacksEntries (path bytes line : List ℕ) : Type 0 where
-  pub refusal : Refusal
+  pub refusal : CommandRefusal
   pub faulty : IsSourceFailure bytes (Refused refusal)
   pub told : IsPathLine path line
 

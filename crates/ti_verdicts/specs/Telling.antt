@@ -20,7 +20,7 @@ use Rattle.ti_words.specs.Numbers.{numbers_text}
 use Rattle.ti_commands.specs.Failing.{IsFileFailure}
 use Rattle.ti_commands.specs.declared.failure.Failure.{Failure}
 use Rattle.ti_commands.specs.declared.failure.Failure.TheVariants as failures
-use Rattle.ti_commands.specs.declared.failure.Refusal.TheVariants.{Verdict}
+use Rattle.ti_commands.specs.declared.failure.CommandRefusal.TheVariants.{Verdict}
 
 -- what of a kind's words comes before its capability
 abbrev pub kind_name : CertFaultKind → List ℕ

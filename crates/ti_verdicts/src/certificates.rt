@@ -4,7 +4,7 @@ ghost use Rattle.std.specs.Prelude.{◌≡◌, ℕ, List, Some};
 
 use std::alloc::Global;
 use std::io::Read;
-use ti_commands::{Cause, FileFault};
+use ti_commands::{FileCause, FileFault};
 use ti_lines::{ReadFault, Reader};
 use ti_words::Seen;
 
@@ -25,7 +25,7 @@ impl<R: Read> CertificateFile<R> {
         CertificateFile {
             file,
             failures: 0,
-            fault: FileFault::Failed(Cause::Other),
+            fault: FileFault::Failed(FileCause::Other),
             seen: Seen::new(alloc),
         }
     }

@@ -14,7 +14,7 @@ use crate::watchers::{Course, Watcher};
 use std::alloc::{AllocError, Global};
 use ti_caps::Entry;
 use ti_checker::{Cause, No};
-use ti_commands::{Refusal, resolved_entry, unpacked_entry};
+use ti_commands::{CommandRefusal, resolved_entry, unpacked_entry};
 use ti_compiled::{Packed, decode};
 use ti_resolve::ResolveFault;
 use ti_source::{FaultKind, RawEntry, read};
@@ -89,7 +89,7 @@ fn refused(alloc: Global, why: &[u8], tally: &mut Tally) -> Result<Vec<u8>, Allo
 fn entry_words<C: Certifier>(
     alloc: Global,
     asked: &Asked<'_, C>,
-    entry: &Result<Entry, Refusal>,
+    entry: &Result<Entry, CommandRefusal>,
     tally: &mut Tally,
 ) -> Result<Vec<u8>, AllocError>
     ensures { IfOk result (λ words. spec.IsTold (spec.AnswersTo C.certifies C.refuses asked.now)
@@ -105,9 +105,9 @@ fn entry_words<C: Certifier>(
 }
 
 /// The kind of `refusal`, and the name that it is about.
-fn refusal_words(alloc: Global, refusal: &Refusal) -> Result<Vec<u8>, AllocError> {
+fn refusal_words(alloc: Global, refusal: &CommandRefusal) -> Result<Vec<u8>, AllocError> {
     let mut words = format!(in alloc; "{refusal}")?.into_bytes();
-    if let Refusal::Resolve(
+    if let CommandRefusal::Resolve(
         ResolveFault::NoSuchEntry(name) | ResolveFault::Cycle(name) | ResolveFault::TooMany(name),
     ) = refusal
     {

@@ -7,7 +7,7 @@ use std::alloc::{AllocError, Global};
 use ti_caps::{Cap, name};
 use ti_cert::{CertFault, CertFaultKind};
 use ti_checker::{Cause, No};
-use ti_commands::{Failure, Refusal};
+use ti_commands::{CommandRefusal, Failure};
 use ti_parm::ParmFault;
 use ti_words::push_numbers;
 
@@ -62,7 +62,7 @@ pub fn verdict(words: Result<Vec<u8>, AllocError>) -> Failure
     ensures { (text : List ℕ) → IfOk words (λ words. words.items ≡ text) → spec.IsVerdict text result }
 {
     match words {
-        Ok(words) => Failure::Refused(Refusal::Verdict(words)),
+        Ok(words) => Failure::Refused(CommandRefusal::Verdict(words)),
         Err(_) => Failure::NoMemory,
     }
 }

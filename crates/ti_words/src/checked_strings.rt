@@ -8,7 +8,7 @@ use crate::strings::parm_words;
 use crate::wanted::wanted_words;
 use std::alloc::{AllocError, Global};
 use ti_caps::{Cap, Entry, name};
-use ti_conforms::{NO_LOOKS, Unsent, is_checked, misfit, send};
+use ti_conforms::{NO_LOOKS, SendFault, is_checked, misfit, send};
 use ti_parm::ParmFault;
 use ti_rows::Row;
 use vt_effects::effect_of;
@@ -150,7 +150,7 @@ pub fn explain_field(
             remarks.add(field.as_slice(), words.as_slice());
             Ok(Some(bytes))
         }
-        Err(Unsent::NoMemory) => Err(AllocError),
+        Err(SendFault::NoMemory) => Err(AllocError),
         Err(_) => {
             words.extend_from_slice(unsent)?;
             remarks.add(field.as_slice(), words.as_slice());

@@ -5,7 +5,7 @@ use std::fs::{Metadata, OpenFile, Permissions};
 use std::io::{ErrorKind, Write};
 use std::os::unix::fs::MetadataExt;
 use std::{fs, io, rt};
-use ti_commands::{Cause, FileFault, Files};
+use ti_commands::{FileCause, FileFault, Files};
 
 /// The most names that are tried for a temporary file.
 const TEMPORARY_NAMES: u32 = 100;
@@ -46,7 +46,7 @@ impl<'a, R: rt::Files> Stored<'a, R> {
                 Err(error) => return Err(FileFault::from(error)),
             }
         }
-        Err(FileFault::Failed(Cause::Other))
+        Err(FileFault::Failed(FileCause::Other))
     }
 
     /// Writes `bytes` to the file `file`, whose name is `temporary`, and renames it as `path`.
@@ -102,7 +102,7 @@ impl<R: rt::Files> Files for Stored<'_, R> {
     fn store(&mut self, path: &str, bytes: &[u8]) -> Result<(), FileFault> {
         match fs::metadata(self.rt, path) {
             Ok(metadata) if self.last_read == Some(identity(&metadata)) => {
-                Err(FileFault::Failed(Cause::Source))
+                Err(FileFault::Failed(FileCause::Source))
             }
             Ok(metadata) if metadata.is_file() => {
                 let target = self.rt.canonicalize(self.alloc, path)?.into_string();

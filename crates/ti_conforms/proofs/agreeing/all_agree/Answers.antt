@@ -16,10 +16,10 @@ loop-bytes-preserved g c =
     record {
       range = f.range;
       same = f.same_order ∙ c.loop-bytes.invariant.same;
-      before = subst (λ (n : ℕ). (k : ℕ) → k < n → SendsAt c.args.size.rows c.args.size.cols c.args.string.now (g.L.Lines.line_of c.args.lines.now) (order c.args.first) k) (sym f.rank_next)
-          (one_more c.args.size.rows c.args.size.cols c.args.string.now (g.L.Lines.line_of c.args.lines.now) (order c.args.first) c.loop-bytes.row c.loop-bytes.invariant.range c.loop-bytes.invariant.same c.in_ok-row_agrees.ensures.sends c.loop-bytes.invariant.before);
+      before = subst (λ (n : ℕ). (k : ℕ) → k < n → SendsAt c.args.size.rows c.args.size.cols c.args.string.now (g.L.LinesByRow.line_of c.args.lines.now) (order c.args.first) k) (sym f.rank_next)
+          (one_more c.args.size.rows c.args.size.cols c.args.string.now (g.L.LinesByRow.line_of c.args.lines.now) (order c.args.first) c.loop-bytes.row c.loop-bytes.invariant.range c.loop-bytes.invariant.same c.in_ok-row_agrees.ensures.sends c.loop-bytes.invariant.before);
     }
 
 pub returns-in-None-clause-sends : goal.returns-in-None-clause-sends
-returns-in-None-clause-sends g c = all_send c.args.size.rows c.args.size.cols c.args.string.now (g.L.Lines.line_of c.args.lines.now) (order c.args.first) c.loop-bytes.row c.args.size.limits c.loop-bytes.invariant.range c.loop-bytes.invariant.same (sym c.in-None.ensures)
-    (one_more c.args.size.rows c.args.size.cols c.args.string.now (g.L.Lines.line_of c.args.lines.now) (order c.args.first) c.loop-bytes.row c.loop-bytes.invariant.range c.loop-bytes.invariant.same c.in_ok-row_agrees.ensures.sends c.loop-bytes.invariant.before)
+returns-in-None-clause-sends g c = all_send c.args.size.rows c.args.size.cols c.args.string.now (g.L.LinesByRow.line_of c.args.lines.now) (order c.args.first) c.loop-bytes.row c.args.size.limits c.loop-bytes.invariant.range c.loop-bytes.invariant.same (sym c.in-None.ensures)
+    (one_more c.args.size.rows c.args.size.cols c.args.string.now (g.L.LinesByRow.line_of c.args.lines.now) (order c.args.first) c.loop-bytes.row c.loop-bytes.invariant.range c.loop-bytes.invariant.same c.in_ok-row_agrees.ensures.sends c.loop-bytes.invariant.before)

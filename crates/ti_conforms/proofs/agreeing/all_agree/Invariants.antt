@@ -8,7 +8,7 @@ abbrev pub invariant-loop-bytes : goal.invariant-loop-bytes
 invariant-loop-bytes g l = record {
   range : IsInRange l.size.rows l.size.cols l.row;
   same : order l.row ≡ order l.fn.first;
-  before : (k : ℕ) → k < rank l.size.rows l.size.cols l.row → SendsAt l.size.rows l.size.cols l.string (g.L.Lines.line_of l.lines) (order l.fn.first) k;
+  before : (k : ℕ) → k < rank l.size.rows l.size.cols l.row → SendsAt l.size.rows l.size.cols l.string (g.L.LinesByRow.line_of l.lines) (order l.fn.first) k;
 }
 
 abbrev pub decreases-loop-bytes : goal.decreases-loop-bytes

@@ -11,12 +11,12 @@ pub cap_agrees-requires : goal.cap_agrees-requires
 cap_agrees-requires g c = firsts_in_range c.args.size.rows c.args.size.cols c.loop-order.order c.in-Some.first c.args.size.limits (sym c.in-Some.ensures)
 
 pub loop-order-preserved : goal.loop-order-preserved
-loop-order-preserved g c = below_more (CapAgrees c.args.size.rows c.args.size.cols c.args.entry.now (g.L.Lines.line_of c.args.lines.now)) c.loop-order.order c.loop-order.invariant
+loop-order-preserved g c = below_more (CapAgrees c.args.size.rows c.args.size.cols c.args.entry.now (g.L.LinesByRow.line_of c.args.lines.now)) c.loop-order.order c.loop-order.invariant
     (let f = firsts_in_order c.loop-order.order c.loop-order-test.true in
     elim c.match-first.branch [
       | in-Some+in_ok-cap_agrees w ↦
           let same : order w.in-Some.first ≡ c.loop-order.order = first_is w.in-Some.first f.row c.loop-order.order (first_in_order c.loop-order.order) w.in-Some.ensures f.is_first f.ordered in
-          subst (λ (n : ℕ). CapAgrees c.args.size.rows c.args.size.cols c.args.entry.now (g.L.Lines.line_of c.args.lines.now) n) same w.in_ok-cap_agrees.ensures.agrees
+          subst (λ (n : ℕ). CapAgrees c.args.size.rows c.args.size.cols c.args.entry.now (g.L.LinesByRow.line_of c.args.lines.now) n) same w.in_ok-cap_agrees.ensures.agrees
       | in_default w ↦ absurd (w.in_default.not-Some f.row (c.first.ensures ∙ f.is_first))
     ])
 

@@ -1,6 +1,6 @@
 use Rattle.std.proofs.Common.{inr}
 use Rattle.std.proofs.lemmas.Result.{IfOk-weaker}
-use Rattle.ti_commands.specs.declared.failure.Refusal.TheVariants.{Source}
+use Rattle.ti_commands.specs.declared.failure.CommandRefusal.TheVariants.{Source}
 use Rattle.ti_verdicts.proofs.lines.text_lines.Goals as goal
 
 pub returns-in_ok-why-in_default : goal.returns-in_ok-why-in_default
