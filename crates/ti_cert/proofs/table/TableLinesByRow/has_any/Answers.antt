@@ -4,7 +4,7 @@ use Rattle.ti_conforms.specs.Agreeing.{SomeLine}
 use Rattle.ti_cert.specs.Strings.{string_in}
 use Rattle.ti_cert.specs.declared.table.Table.TheInside.{Inside}
 use Rattle.ti_cert.specs.Table.{Content}
-use Rattle.ti_cert.proofs.table.TableLines.has_any.Goals as goal
+use Rattle.ti_cert.proofs.table.TableLinesByRow.has_any.Goals as goal
 
 pub returns-clause-some : goal.returns-clause-some
 returns-clause-some c = λ h. subst (λ (t : Content). SomeLine (λ row. string_in t.known.strings row) (order c.args.row)) c.self.view_is
