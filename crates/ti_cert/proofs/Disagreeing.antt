@@ -55,16 +55,16 @@ sends_none table entry rows cols row fault r c at first unchecked some =
     other_at table entry row fault at is_first.range (λ l. let no : None ≡ Some x.0 = sym (l.unchecked unchecked) ∙ x.1 in cc no)
 
 -- by what is found of the lines
-pub line_differs : (table : Content) (entry : caps.Content) (rows cols : ℕ) (e : sends.AgreeFault) (row : Row) (fault : AgreeFault) → rows ≡ table.known.strings.rows → cols ≡ table.known.strings.cols → IsAtRow row fault
+pub line_differs : (table : Content) (entry : caps.Content) (rows cols : ℕ) (e : sends.Disagreement) (row : Row) (fault : AgreeFault) → rows ≡ table.known.strings.rows → cols ≡ table.known.strings.cols → IsAtRow row fault
     → e ≡ other.Disagree row → IsNotAgreed rows cols entry (λ r. string_in table.known.strings r) e → IsDisagreeing table entry fault
 line_differs table entry rows cols e row fault r c at is h =
-    let f = subst (λ (x : sends.AgreeFault). IsNotAgreed rows cols entry (λ r. string_in table.known.strings r) x) is h in
+    let f = subst (λ (x : sends.Disagreement). IsNotAgreed rows cols entry (λ r. string_in table.known.strings r) x) is h in
     sends_other table entry rows cols row fault r c at f.0 f.1 f.2
 
-pub line_unwanted : (table : Content) (entry : caps.Content) (rows cols : ℕ) (e : sends.AgreeFault) (row : Row) (fault : AgreeFault) → rows ≡ table.known.strings.rows → cols ≡ table.known.strings.cols → IsAtRow row fault
+pub line_unwanted : (table : Content) (entry : caps.Content) (rows cols : ℕ) (e : sends.Disagreement) (row : Row) (fault : AgreeFault) → rows ≡ table.known.strings.rows → cols ≡ table.known.strings.cols → IsAtRow row fault
     → e ≡ other.Unwanted row → IsNotAgreed rows cols entry (λ r. string_in table.known.strings r) e → IsDisagreeing table entry fault
 line_unwanted table entry rows cols e row fault r c at is h =
-    let f = subst (λ (x : sends.AgreeFault). IsNotAgreed rows cols entry (λ r. string_in table.known.strings r) x) is h in
+    let f = subst (λ (x : sends.Disagreement). IsNotAgreed rows cols entry (λ r. string_in table.known.strings r) x) is h in
     sends_none table entry rows cols row fault r c at f.0 f.1 f.2
 
 pub unfit_at : (table : Content) (entry : caps.Content) (cap : ℕ) (fault : AgreeFault) → IsAtCap cap fault → IsUnfitBy entry cap → IsDisagreeing table entry fault
