@@ -3,7 +3,7 @@ pub use Rattle.cur_looks.specs.declared.beliefs.Belief.{Belief}
 pub use Rattle.cur_looks.specs.declared.beliefs.Mode.{Mode}
 pub use Rattle.cur_looks.specs.declared.beliefs.Mode.TheVariants as modes
 pub use Rattle.cur_looks.specs.declared.inks.Ink.{Ink}
-pub use Rattle.cur_paint.specs.declared.updates.Session.{Session}
+pub use Rattle.cur_paint.specs.declared.updates.Knowledge.{Knowledge}
 pub use Rattle.cur_paint.specs.declared.updates.Status.{Status}
 pub use Rattle.cur_paint.specs.declared.updates.Status.TheVariants as statuses
 pub use Rattle.cur_paint.specs.Update

@@ -3,7 +3,7 @@ use Rattle.std.proofs.Common.{◌≡◌, ℕ, List, Option, sym, subst}
 use Rattle.curses.specs.Terminals.Screen.{State}
 use Rattle.curses.specs.Windows.VirtualScreen.{Screen}
 use Rattle.curses.specs.Terminals.Certified.{Table}
-use Rattle.curses.specs.Painting.{Belief, Ink, Mode, Session, Status}
+use Rattle.curses.specs.Painting.{Belief, Ink, Mode, Knowledge, Status}
 use Rattle.curses.specs.Painting.modes.{Normal}
 use Rattle.curses.specs.Painting.Update.{Fits, IsFresh, Refreshed}
 use Rattle.curses.specs.Painting.statuses.{Fresh}
@@ -18,7 +18,7 @@ fresh_fits t shown status b s e h = subst (λ (x : Status). Fits t shown x b s) 
 sized : (rows cols : ℕ) (t : Table) (v : Screen) → rows ≡ t.rows → cols ≡ t.cols → IsGreeting rows cols v → IsGreeting t.rows t.cols v
 sized rows cols t v e f h = subst (λ (n : ℕ). IsGreeting t.rows n v) f (subst (λ (n : ℕ). IsGreeting n cols v) e h)
 
-pub greets : {W C : Type 0} (went : W → W → List ℕ → Type 0) (old new : W) (table : C → Table) (partners : C → ℕ → Option ℕ) (checked : C) (p : Painted C) (after : Session) (rows cols : ℕ) (v : Screen)
+pub greets : {W C : Type 0} (went : W → W → List ℕ → Type 0) (old new : W) (table : C → Table) (partners : C → ℕ → Option ℕ) (checked : C) (p : Painted C) (after : Knowledge) (rows cols : ℕ) (v : Screen)
     → p.checked ≡ checked → p.session.status ≡ Fresh → p.mode ≡ Normal → rows ≡ (table checked).rows → cols ≡ (table checked).cols → IsGreeting rows cols v
     → Refreshed went old new (table p.checked) (ink_at (table p.checked) (partners p.checked) p.shown) (ink_at (table p.checked) (partners p.checked) v) (wanted_of v p.mode) p.session after
     → Greets went old new (table checked) (partners checked)
