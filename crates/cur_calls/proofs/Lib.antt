@@ -1,4 +1,4 @@
-pub mod Capping
-pub mod Cutting
-pub mod Reading
+pub mod Caps
+pub mod CutFacts
+pub mod Readers
 pub mod WordsLeft

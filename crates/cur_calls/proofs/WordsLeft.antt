@@ -2,9 +2,9 @@
 use Rattle.std.proofs.Common.{◌≡◌, ℕ, List, [], Option, None, Some, sym, ap, ◌∙◌}
 use Rattle.std.specs.List.{join_with_byte}
 use Rattle.std.proofs.lemmas.List.Splits.{join_with_byte-slice_split}
-use Rattle.cur_calls.specs.Cutting.{cut_at, words_of}
+use Rattle.cur_calls.specs.Cuts.{cut_at, words_of}
 use Rattle.cur_calls.specs.Words.{first_word, ended, rest}
-use Rattle.cur_calls.proofs.Cutting.{Parts, parts_cut, part_alone, part_first}
+use Rattle.cur_calls.proofs.CutFacts.{Parts, parts_cut, part_alone, part_first}
 
 pub last_word : (text : List ℕ) → cut_at 32 text ≡ None → first_word (words_of text) ≡ Some (text, [])
 last_word text e = ap first_word (part_alone 32 text e)

@@ -19,7 +19,7 @@ use Rattle.cur_calls.specs.declared.groups.PadCall.{PadCall}
 use Rattle.cur_calls.specs.declared.groups.ScreenCall.{ScreenCall}
 use Rattle.cur_calls.specs.declared.groups.LineCall.TheVariants.{Hline, Vline}
 use Rattle.cur_calls.specs.declared.groups.ScreenCall.TheVariants.{Beep}
-use Rattle.cur_calls.specs.Cutting.{◌>>=◌}
+use Rattle.cur_calls.specs.Cuts.{◌>>=◌}
 use Rattle.cur_calls.specs.Numbers.{number_in, window_in, flag_in, zero_in}
 use Rattle.cur_calls.specs.Cells.{cell_in, cell_or, attrs_in}
 use Rattle.cur_calls.specs.Words.{first, ended, rest, two_numbers, four_numbers, two_windows}

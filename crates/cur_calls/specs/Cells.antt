@@ -2,7 +2,7 @@
 use Rattle.std.specs.Prelude.{ℕ, ◌+◌, ◌*◌, ◌-◌, ◌==◌, ◌&&◌, bit_or, bytes_eq, List, [], ◌∷◌, Option, Some, None, if◌then◌else◌, nat_le}
 use Rattle.cur_drawing.specs.declared.cells.Attrs.{Attrs}
 use Rattle.cur_drawing.specs.declared.puts.Put.{Put}
-use Rattle.cur_calls.specs.Cutting.{cut_at, ◌>>=◌}
+use Rattle.cur_calls.specs.Cuts.{cut_at, ◌>>=◌}
 use Rattle.cur_calls.specs.Numbers.{natural}
 
 abbrev pub attributes : ℕ → Attrs

@@ -1,7 +1,7 @@
 -- The definitions of calls and of the scripts that spell them.
 pub mod Arguments
 pub mod Cells
-pub mod Cutting
+pub mod Cuts
 pub mod Names
 pub mod Numbers
 pub mod Table

@@ -1,6 +1,6 @@
 -- The numbers of a script: decimal digits, leading zeros allowed, perhaps after a minus sign.
 use Rattle.std.specs.Prelude.{ℕ, zero, suc, ℤ, pos, negsuc, ◌+◌, ◌*◌, ◌-◌, ◌==◌, ◌&&◌, Bool, true, false, List, [], ◌∷◌, Option, Some, None, if◌then◌else◌, nat_le}
-use Rattle.cur_calls.specs.Cutting.{◌>>=◌}
+use Rattle.cur_calls.specs.Cuts.{◌>>=◌}
 
 abbrev pub digit_in : ℕ → Option ℕ
 digit_in b = if nat_le 48 b && nat_le b 57 then Some (b - 48) else None

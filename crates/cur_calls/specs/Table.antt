@@ -15,7 +15,7 @@ use Rattle.cur_calls.specs.declared.groups.PlainCall.TheVariants.{Delch, Insertl
 use Rattle.cur_calls.specs.declared.groups.ScreenCall.TheVariants.{Doupdate, Endwin}
 use Rattle.cur_calls.specs.declared.groups.ShowCall.TheVariants.{Noutrefresh, Refresh}
 use Rattle.cur_calls.specs.Arguments.{addstr, attributes, bare, beep, cell, copywin, curs_set, draw_border, draw_box, dupwin, flag, init_pair, lay, line, newpad, newwin, number, numbers, part, plain, show, show_pad}
-use Rattle.cur_calls.specs.Cutting.{words_of, ◌>>=◌}
+use Rattle.cur_calls.specs.Cuts.{words_of, ◌>>=◌}
 use Rattle.cur_calls.specs.Words.{first_word}
 
 -- a name, and which call of that name has these words as its arguments

@@ -4,7 +4,7 @@ use Rattle.cur_calls.specs.declared.calls.Call.{Call}
 use Rattle.cur_calls.specs.declared.faults.ScriptFaultKind.{ScriptFaultKind}
 use Rattle.cur_calls.specs.declared.faults.ScriptFaultKind.TheVariants.{BadLine, TooLong, NoMemory}
 use Rattle.cur_calls.specs.declared.faults.ScriptFault.{ScriptFault}
-use Rattle.cur_calls.specs.Cutting.{lines_of}
+use Rattle.cur_calls.specs.Cuts.{lines_of}
 use Rattle.cur_calls.specs.Table.{call_of}
 
 -- an empty line, and one that begins with #

@@ -1,7 +1,7 @@
 -- Reading the words of a line one after another.
 use Rattle.std.specs.Prelude.{ℕ, ℤ, List, [], ◌∷◌, Option, None, Some}
 use Rattle.std.specs.List.{join_with_byte}
-use Rattle.cur_calls.specs.Cutting.{words_of, ◌>>=◌}
+use Rattle.cur_calls.specs.Cuts.{words_of, ◌>>=◌}
 use Rattle.cur_calls.specs.Numbers.{number_in, window_in}
 
 -- a line's words from one of them on, where there is a further one

@@ -1,7 +1,7 @@
 //! Cutting a text at the first byte of a kind.
 ghost use Rattle.std.specs.List.{position};
 ghost use Rattle.std.specs.Prelude.{◌≡◌, ◌==◌, ◌<◌, ◌+◌, length, take, drop, option_map, IfSome};
-ghost use Rattle.cur_calls.specs.Cutting.{cut_at};
+ghost use Rattle.cur_calls.specs.Cuts.{cut_at};
 
 /// What stands before and after the first such byte.
 #[tactic(auto, using(crate::proofs::Cutting::cut_found))]

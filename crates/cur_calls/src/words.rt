@@ -1,7 +1,7 @@
 //! The words of a line, one after another.
 ghost use Rattle.std.specs.Prelude.{◌≡◌, option_map};
 ghost use Rattle.cur_calls.specs.Words as spec;
-ghost use Rattle.cur_calls.specs.Cutting.{words_of};
+ghost use Rattle.cur_calls.specs.Cuts.{words_of};
 ghost use Rattle.cur_calls.specs.Numbers.{number_in, window_in, flag_in, zero_in};
 ghost use Rattle.cur_calls.specs.Cells.{cell_in, cell_or, attrs_in};
 

@@ -1,3 +1,3 @@
-pub mod Running
-pub mod Telling
-pub mod Ending
+pub mod RunFacts
+pub mod Answers
+pub mod Endings

@@ -2,8 +2,8 @@
 -- strings of a verified entry.
 use Rattle.std.specs.Prelude.{◌≡◌, ◌⊎◌, ℕ, Bool, List, Option, Ok}
 use Rattle.ti_cert.specs.Table.{Content as Strings}
-use Rattle.ti_commands.specs.Holding.{Held}
-use Rattle.ti_commands.specs.Replying.{IsText}
+use Rattle.ti_commands.specs.Contents.{Held}
+use Rattle.ti_commands.specs.Replies.{IsText}
 use Rattle.ti_commands.specs.declared.failure.Failure.{Failure}
 use Rattle.ti_commands.specs.declared.failure.Failure.TheVariants.{NoMemory}
 use Rattle.ti_commands.specs.declared.failure.Reply.{Reply}
@@ -12,9 +12,9 @@ use Rattle.cur_calls.specs.declared.calls.Call.{Call}
 use Rattle.cur_calls.specs.Texts.{script_of}
 use Rattle.cur_play.specs.Log.{Ran}
 use Rattle.cur_play.specs.declared.runs.LogEntry.{LogEntry}
-use Rattle.cur_commands.specs.Preparing.{FailsToPrepare, Prepared}
+use Rattle.cur_commands.specs.Preparations.{FailsToPrepare, Prepared}
 use Rattle.cur_commands.specs.Scripts.{IsScriptFailure}
-use Rattle.cur_commands.specs.Showing.{ShowsRun}
+use Rattle.cur_commands.specs.Shows.{ShowsRun}
 use Rattle.cur_commands.specs.Through.{AreThrough, IsUnplayed, unfailing}
 use Rattle.ti_requests.specs.declared.request.ScriptWords.{ScriptWords}
 

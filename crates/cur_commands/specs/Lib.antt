@@ -1,8 +1,8 @@
 -- The definitions of the commands about scripts of calls.
-pub mod Holding
-pub mod Storing
+pub mod Held
+pub mod Stores
 pub mod Through
-pub mod Showing
-pub mod Preparing
+pub mod Shows
+pub mod Preparations
 pub mod Scripts
 pub mod Commands

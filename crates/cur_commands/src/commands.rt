@@ -2,10 +2,10 @@
 ghost use Rattle.std.specs.Prelude.{◌≡◌, ◌⊎◌, IfErr, IfOk, OnOk};
 ghost use Rattle.cur_commands.specs.Commands.{FailsToPlay, FailsToShow, IsPlayed, IsShown};
 
-use crate::playing::play_calls;
-use crate::preparing::prepare;
-use crate::reading::calls_of;
-use crate::showing::show_calls;
+use crate::preparations::prepare;
+use crate::runs::play_calls;
+use crate::scripts::calls_of;
+use crate::shows::show_calls;
 use std::alloc::Global;
 use ti_cert::Checked;
 use ti_commands::{Failure, Files, Output, Reply};

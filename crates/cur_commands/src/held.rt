@@ -1,7 +1,7 @@
 //! An output as a wire.
 ghost use Rattle.std.specs.Prelude.{◌≡◌, ◌<◌, ◌≤◌, [], length, take, IfOk, OnErr};
 ghost use Rattle.cur_wires.specs.Wire.{Rose};
-ghost use Rattle.cur_commands.specs.Holding.{Holds};
+ghost use Rattle.cur_commands.specs.Held.{Holds};
 
 use crate::buffers::Buffer;
 use cur_play::Paced;
@@ -55,7 +55,7 @@ impl<'a, O: Output> Held<'a, O> {
 
 impl<'a, O: Output> Wire for Held<'a, O> {
     ghost use Rattle.cur_wires.specs.Wire.{Rose};
-    ghost use Rattle.cur_commands.specs.Holding.{Holds, holds_lawful};
+    ghost use Rattle.cur_commands.specs.Held.{Holds, holds_lawful};
 
     ghost went = { λ a b x. Holds O.contents O.has_failed a.output b.output a.buffer.now b.buffer.now a.failures b.failures x };
 

@@ -4,13 +4,13 @@
 mod buffers;
 mod commands;
 mod held;
-mod playing;
-mod preparing;
-mod reading;
+mod preparations;
 mod refusals;
-mod showing;
+mod runs;
+mod scripts;
+mod shows;
 mod taken;
 
 pub use commands::{play_script, show_script};
-pub use playing::play_calls;
-pub use showing::show_calls;
+pub use runs::play_calls;
+pub use shows::show_calls;

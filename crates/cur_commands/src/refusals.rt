@@ -1,6 +1,6 @@
 //! The lines about calls that were refused.
 ghost use Rattle.std.specs.Prelude.{◌≡◌, ◌++◌, IfOk, OnOk};
-ghost use Rattle.cur_commands.specs.Showing as spec;
+ghost use Rattle.cur_commands.specs.Shows as spec;
 
 use cur_play::{Answer, LogEntry};
 use cur_windows::Refusal;

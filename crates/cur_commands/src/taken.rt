@@ -1,7 +1,7 @@
 //! A wire in memory.
 ghost use Rattle.std.specs.Prelude.{◌≡◌, ◌<◌, ◌≤◌, [], length, take, IfOk, OnErr};
 ghost use Rattle.cur_wires.specs.Wire.{Rose};
-ghost use Rattle.cur_commands.specs.Storing.{Stores};
+ghost use Rattle.cur_commands.specs.Stores.{Stores};
 
 use cur_wires::{Wire, WireFault};
 use std::alloc::Global;
@@ -29,7 +29,7 @@ impl Taken {
 }
 
 impl Wire for Taken {
-    ghost use Rattle.cur_commands.specs.Storing.{Stores, stores_lawful};
+    ghost use Rattle.cur_commands.specs.Stores.{Stores, stores_lawful};
 
     ghost went = { λ a b x. Stores a.bytes.items b.bytes.items a.failures b.failures x };
 

@@ -15,8 +15,8 @@ use Rattle.cur_drawing.specs.Windows.{cells_of, content, as_is}
 use Rattle.cur_drawing.specs.Calls as calls
 use Rattle.cur_drawing.specs.Calls.{Canvas, CanvasStep, IsCanvas, canvas, place, if_accepted, checked_cell, inserted, deleted, lines_up, lines_down}
 use Rattle.cur_drawing.specs.Laws.{LeavesCells, cell_of, cell_inserted, cell_deleted, line_inserted, line_deleted}
-use Rattle.cur_drawing.proofs.Drawing.{cell_at-drawn, cell_at-drawn_in}
-use Rattle.cur_drawing.proofs.Scrolling.{both_off, copied_there, filled_there, line_long, up_by_place, down_by_place}
+use Rattle.cur_drawing.proofs.DrawingFacts.{cell_at-drawn, cell_at-drawn_in}
+use Rattle.cur_drawing.proofs.Scrolls.{both_off, copied_there, filled_there, line_long, up_by_place, down_by_place}
 
 -- ---- one line
 on_other_row : (b : Bool) (x y : Content) → b ≡ false → y ≡ (if b then x else y)

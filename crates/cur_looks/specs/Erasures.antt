@@ -4,8 +4,8 @@ use Rattle.ti_rows.specs.declared.rows.Row.{Row}
 use Rattle.ti_rows.specs.declared.rows.Row.TheVariants.{El1, Ed, Ech}
 use Rattle.cur_looks.specs.Inks.{blank_ink}
 use Rattle.cur_looks.specs.declared.inks.Ink.{Ink}
-pub use Rattle.cur_looks.specs.declared.erasing.ErasedPart.{ErasedPart}
-pub use Rattle.cur_looks.specs.declared.erasing.ErasedPart.TheVariants.{Head, Part, Rest}
+pub use Rattle.cur_looks.specs.declared.erasures.ErasedPart.{ErasedPart}
+pub use Rattle.cur_looks.specs.declared.erasures.ErasedPart.TheVariants.{Head, Part, Rest}
 
 -- the row whose line erases it
 abbrev pub erasure_row : ErasedPart → Row

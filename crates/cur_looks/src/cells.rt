@@ -8,7 +8,7 @@ ghost use Rattle.cur_looks.specs.Steps.{IsGoal, Keeps, KeepsFrom, Makes, MakesFr
 
 use crate::beliefs::{Belief, Place};
 use crate::inks::{Brush, Ink, Picture, same_attributes};
-use crate::reaching::reach;
+use crate::reaches::reach;
 use crate::routes::is_alike;
 use crate::steps::{
     attributes_as, background_as, colors_off, erase_tail, foreground_as, print_at, set_as, stands,

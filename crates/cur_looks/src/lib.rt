@@ -4,12 +4,12 @@
 
 mod beliefs;
 mod cells;
-mod erasing;
+mod erasures;
 mod inks;
 mod lines;
 mod modes;
 mod moves;
-mod reaching;
+mod reaches;
 mod routes;
 mod singles;
 mod steps;
@@ -18,10 +18,10 @@ mod texts;
 
 pub use beliefs::{Belief, Mode, Place};
 pub use cells::{blank_tail, put_cell};
-pub use erasing::{ErasedPart, erase_at, erase_from, erasing_line};
+pub use erasures::{ErasedPart, erase_at, erase_from, erasing_line};
 pub use inks::{Blank, Brush, Ink, Picture, byte_as, is_same};
 pub use modes::show_as;
-pub use reaching::{line_bytes, reach};
+pub use reaches::{line_bytes, reach};
 pub use targets::Target;
 pub use texts::{goes_on, print_text};
 pub use ti_rows::{Attributes, Looks, Marks, Row};

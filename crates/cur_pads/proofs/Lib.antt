@@ -1,4 +1,4 @@
-pub mod Backing
-pub mod Passing
+pub mod Supports
+pub mod Passages
 pub mod Places
 pub mod Ranks

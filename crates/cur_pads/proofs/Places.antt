@@ -7,7 +7,7 @@ use Rattle.grids.specs.Grids as base
 use Rattle.cur_drawing.specs.Cells.{Content, space}
 use Rattle.cur_drawing.specs.Grids.{Grid, line_at, cell_at, copied, is_in, taken}
 use Rattle.cur_drawing.specs.Calls.{place}
-use Rattle.cur_drawing.proofs.Drawing.{cell_at-drawn}
+use Rattle.cur_drawing.proofs.DrawingFacts.{cell_at-drawn}
 use Rattle.cur_windows.specs.Places.{is_between}
 
 abbrev pub area_of : ℕ → ℕ → ℕ → ℕ → Area

@@ -9,18 +9,18 @@ use Rattle.cur_drawing.specs.Calls.{place}
 use Rattle.cur_drawing.specs.Refusals.{IsFirstOf, first_refusal}
 use Rattle.cur_drawing.specs.Spans.{rectangle, is_negative}
 use Rattle.cur_windows.specs.declared.slots.Slot.{Slot}
-use Rattle.cur_windows.specs.Copying.{in_order}
+use Rattle.cur_windows.specs.Copies.{in_order}
 use Rattle.cur_windows.specs.Desks.{State, DeskStep, after, slot_of, some_slot, window_at}
-use Rattle.cur_windows.specs.Making.{in_range, free, subwindow_at}
+use Rattle.cur_windows.specs.Creations.{in_range, free, subwindow_at}
 use Rattle.cur_windows.specs.Pads.{pad_added, part_shown}
 use Rattle.cur_windows.specs.Refusals.{is_used, slot_is, is_pad, lies_outside}
 use Rattle.cur_windows.specs.VirtualScreen.{Screen, Refresh, if_shown}
 use Rattle.cur_windows.proofs.Ranks.{Answer, first_if, first_free, first_area, part_of_window, shown_if, shown_slot}
-use Rattle.cur_pads.specs.Making as spec
+use Rattle.cur_pads.specs.Creations as spec
 use Rattle.cur_pads.specs.Ranges.{between, from}
 use Rattle.cur_pads.specs.Refusals as causes
 use Rattle.cur_pads.specs.Refusals.{ends_past}
-use Rattle.cur_pads.specs.Showing.{pnoutrefresh, start, done}
+use Rattle.cur_pads.specs.Displays.{pnoutrefresh, start, done}
 
 both_sides : (d : State) (r c : Option ℕ) (next : ℕ × ℕ → DeskStep) → ((size : ℕ × ℕ) → (next size).1 ≡ Ok tt) →
     (after (spec.both_sides r c) d next).1 ≡ (if not (is_some r && is_some c) then Err BadRegion else Ok tt)

@@ -6,7 +6,7 @@ use Rattle.cur_windows.specs.declared.slots.Slot.{Slot}
 use Rattle.cur_windows.specs.Desks.{State, cell, slot_of}
 use Rattle.cur_windows.specs.Places.{is_between}
 use Rattle.cur_windows.specs.VirtualScreen.{Screen, Refresh}
-use Rattle.cur_pads.specs.Showing.{start, pnoutrefresh}
+use Rattle.cur_pads.specs.Displays.{start, pnoutrefresh}
 
 -- the places from (top, left) to (bottom, right) have the pad's cells from (y, x) on, all others what they had
 abbrev pub IsShown : State → Slot → Screen → Screen → ℕ → ℕ → ℕ → ℕ → ℕ → ℕ → Type 0

@@ -1,6 +1,6 @@
 -- The definitions of pads.
 pub mod Laws
-pub mod Making
+pub mod Creations
 pub mod Ranges
 pub mod Refusals
-pub mod Showing
+pub mod Displays

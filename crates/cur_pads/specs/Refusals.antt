@@ -6,9 +6,9 @@ use Rattle.cur_drawing.specs.Refusals.{Condition}
 use Rattle.cur_drawing.specs.Spans.{is_negative}
 use Rattle.cur_windows.specs.Desks.{State}
 use Rattle.cur_windows.specs.Refusals.{is_past_last, is_used, window_is, is_pad, lies_outside}
-use Rattle.cur_pads.specs.Making.{side}
+use Rattle.cur_pads.specs.Creations.{side}
 use Rattle.cur_pads.specs.Ranges.{between, from}
-use Rattle.cur_pads.specs.Showing.{start}
+use Rattle.cur_pads.specs.Displays.{start}
 
 -- lack of memory comes after these
 abbrev pub newpad : State → ℕ → ℤ → ℤ → List Condition

@@ -4,10 +4,10 @@ ghost use Rattle.cur_windows.specs.Desks.{State, IsDesk};
 ghost use Rattle.cur_windows.specs.Laws.{UnchangedIfRefused};
 ghost use Rattle.cur_windows.specs.VirtualScreen.{Screen};
 ghost use Rattle.cur_pads.specs.Laws.{BothUnchangedIfRefused, ShowsCells};
-ghost use Rattle.cur_pads.specs.Making.{newpad, subpad};
+ghost use Rattle.cur_pads.specs.Creations.{newpad, subpad};
 ghost use Rattle.cur_drawing.specs.Refusals.{IsFirstOf};
 ghost use Rattle.cur_pads.specs.Refusals as causes;
-ghost use Rattle.cur_pads.specs.Showing.{pnoutrefresh};
+ghost use Rattle.cur_pads.specs.Displays.{pnoutrefresh};
 
 /// Where a part of a pad is shown, the screen's places from its first row and column to its last ones have the pad's cells,
 /// and all others what they had.

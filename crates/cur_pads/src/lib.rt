@@ -2,10 +2,10 @@
 #![tactic(auto)]
 
 mod checks;
+mod creations;
+mod displays;
 pub mod laws;
-mod making;
 mod ranges;
-mod showing;
 
-pub use making::{newpad, subpad};
-pub use showing::pnoutrefresh;
+pub use creations::{newpad, subpad};
+pub use displays::pnoutrefresh;

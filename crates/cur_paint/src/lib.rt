@@ -3,10 +3,10 @@
 
 mod bells;
 mod changes;
-mod clearing;
+mod clears;
+mod cursors;
 mod endings;
 mod laws;
-mod painting;
 mod parts;
 mod rows;
 mod screens;

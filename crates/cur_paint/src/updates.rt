@@ -12,8 +12,8 @@ ghost use Rattle.cur_paint.specs.Scenes.{IsPaintable, Paints, all_changed, scene
 ghost use Rattle.cur_paint.specs.Update.{Anew, Draws, Refreshes};
 
 use crate::changes::{Changes, Whole};
-use crate::clearing::{leaves_fewer, may_become_blanks, saves};
-use crate::painting::paint;
+use crate::clears::{leaves_fewer, may_become_blanks, saves};
+use crate::cursors::paint;
 use crate::screens::Screens;
 use cur_looks::{Belief, Blank, Brush, Ink, Mode, Picture, Place, Row};
 use cur_wires::{Wire, WireFault, send_all};

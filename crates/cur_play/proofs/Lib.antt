@@ -1,8 +1,8 @@
 pub mod Sizes
-pub mod Performing
+pub mod Performances
 pub mod Fewness
-pub mod Carrying
-pub mod Playing
-pub mod Failing
-pub mod Logging
-pub mod Rewiring
+pub mod Deliveries
+pub mod Plays
+pub mod Failures
+pub mod Logs
+pub mod Wires

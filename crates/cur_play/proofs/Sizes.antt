@@ -12,11 +12,11 @@ use Rattle.cur_drawing.specs.Windows as window
 use Rattle.cur_drawing.specs.declared.windows.Window.{Window}
 use Rattle.cur_drawing.specs.Spans.{area_within, start_within}
 use Rattle.cur_windows.specs.declared.slots.Slot.{Slot}
-use Rattle.cur_windows.specs.declared.copying.CopySpan.{CopySpan}
+use Rattle.cur_windows.specs.declared.copies.CopySpan.{CopySpan}
 use Rattle.cur_windows.specs.Desks.{State, DeskStep, after, slot_of, on_cursor, on_grid, on_window, unchanged}
-use Rattle.cur_windows.specs.Making as make
-use Rattle.cur_windows.specs.Copying as copy
-use Rattle.cur_pads.specs.Making as pads
+use Rattle.cur_windows.specs.Creations as make
+use Rattle.cur_windows.specs.Copies as copy
+use Rattle.cur_pads.specs.Creations as pads
 use Rattle.cur_calls.specs.declared.calls.Call.{Call}
 use Rattle.cur_calls.specs.declared.calls.Call.TheVariants.{Newwin, Newpad, Part, Dupwin, Plain, Number, Numbers, Flag, Attributes, Cell, Addstr, Line, DrawBorder, DrawBox, Lay, Copywin}
 use Rattle.cur_calls.specs.declared.groups.PartCall.{PartCall}

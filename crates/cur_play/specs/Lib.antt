@@ -4,9 +4,9 @@ pub mod Windows
 pub mod Steps
 pub mod Groups
 pub mod Outputs
-pub mod Drawing
-pub mod Sending
+pub mod Drawings
+pub mod Sends
 pub mod Log
-pub mod Carrying
-pub mod Running
-pub mod Passing
+pub mod Deliveries
+pub mod Runs
+pub mod Borrowed

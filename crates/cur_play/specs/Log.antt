@@ -23,8 +23,8 @@ use Rattle.cur_play.specs.Steps.{CallStep, drawn, output_of}
 use Rattle.cur_play.specs.declared.answers.Answer.{Answer}
 use Rattle.cur_play.specs.declared.answers.Answer.TheVariants.{Done, WireFailed}
 use Rattle.cur_play.specs.declared.runs.LogEntry.{LogEntry}
-use Rattle.cur_play.specs.declared.sending.Emission.{Emission}
-use Rattle.cur_play.specs.declared.sending.Emission.TheVariants.{Nothing, Update, Bell, End}
+use Rattle.cur_play.specs.declared.sends.Emission.{Emission}
+use Rattle.cur_play.specs.declared.sends.Emission.TheVariants.{Nothing, Update, Bell, End}
 
 -- ---- what a run is about, and a moment of it
 

@@ -12,8 +12,8 @@ use Rattle.cur_play.specs.Scenes.{Stage, scene_of}
 use Rattle.cur_play.specs.Steps.{drawn}
 use Rattle.cur_play.specs.declared.answers.Answer.{Answer}
 use Rattle.cur_play.specs.declared.answers.Answer.TheVariants.{Done, WireFailed}
-use Rattle.cur_play.specs.declared.sending.Emission.{Emission}
-use Rattle.cur_play.specs.declared.sending.Emission.TheVariants.{Update, Bell, End}
+use Rattle.cur_play.specs.declared.sends.Emission.{Emission}
+use Rattle.cur_play.specs.declared.sends.Emission.TheVariants.{Update, Bell, End}
 
 -- nothing: the wire is as it was, and so is what is known of the terminal
 pub record IsQuiet {W C : Type 0} (old new : W) (bytes : List ℕ) (before after : Painted C) : Type 0 where

@@ -5,7 +5,7 @@ use Rattle.cur_drawing.specs.declared.refusals.Refusal.{Refusal}
 use Rattle.cur_drawing.specs.declared.refusals.Refusal.TheVariants.{NoMemory, NoCap, IsLost}
 use Rattle.cur_windows.specs.Desks as desks
 use Rattle.cur_windows.specs.VirtualScreen as screens
-use Rattle.cur_pads.specs.Showing.{pnoutrefresh}
+use Rattle.cur_pads.specs.Displays.{pnoutrefresh}
 use Rattle.ti_conforms.specs.Certified.{Table, has}
 use Rattle.cur_looks.specs.declared.beliefs.Mode.{Mode}
 use Rattle.cur_paint.specs.declared.updates.Status.{Status}
@@ -20,8 +20,8 @@ use Rattle.cur_play.specs.Scenes.{Scene}
 use Rattle.cur_play.specs.Windows.{making, changing, takes_memory}
 use Rattle.cur_play.specs.declared.answers.Answer.{Answer}
 use Rattle.cur_play.specs.declared.answers.Answer.TheVariants.{Done, Was, Refused, WireFailed}
-use Rattle.cur_play.specs.declared.sending.Emission.{Emission}
-use Rattle.cur_play.specs.declared.sending.Emission.TheVariants.{Nothing, Update, Bell, End}
+use Rattle.cur_play.specs.declared.sends.Emission.{Emission}
+use Rattle.cur_play.specs.declared.sends.Emission.TheVariants.{Nothing, Update, Bell, End}
 
 -- the scene after a call, and its answer
 abbrev pub Step : Type 0

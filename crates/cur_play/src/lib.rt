@@ -2,12 +2,12 @@
 #![tactic(auto)]
 
 mod answers;
-mod changing;
-mod drawing;
-mod making;
+mod changes;
+mod creations;
+mod drawings;
 mod paced;
 mod runs;
-mod sending;
+mod sends;
 mod sessions;
 
 pub use answers::Answer;

@@ -18,7 +18,7 @@ pub(crate) struct Direct<'a, W> {
 }
 
 impl<'a, W: Wire> Wire for Direct<'a, W> {
-    ghost use Rattle.cur_play.specs.Passing.{Passes, passes_lawful};
+    ghost use Rattle.cur_play.specs.Borrowed.{Passes, passes_lawful};
 
     ghost went = { λ a b x. Passes W.went a.wire b.wire x };
 

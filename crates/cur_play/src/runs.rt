@@ -2,7 +2,7 @@
 ghost use Rattle.std.specs.Prelude.{◌≡◌, ◌≤◌, [], length, vec_capacity, vec_len, IfOk, OnErr};
 ghost use Rattle.cur_wires.specs.Counted.{Counts};
 ghost use Rattle.cur_play.specs.Log.{Ran, subject_of};
-ghost use Rattle.cur_play.specs.Running.{RanOn};
+ghost use Rattle.cur_play.specs.Runs.{RanOn};
 ghost use Rattle.cur_play.specs.Scenes.{first, scene_of};
 
 use crate::answers::Answer;

@@ -1,15 +1,15 @@
 //! A session: windows, the virtual screen, and a painter for the terminal.
 ghost use Rattle.std.specs.Prelude.{◌≡◌, IfOk};
 ghost use Rattle.ti_conforms.specs.Certified.{IsChecked};
-ghost use Rattle.cur_play.specs.Carrying.{Carries};
-ghost use Rattle.cur_play.specs.Drawing.{SameSizes};
+ghost use Rattle.cur_play.specs.Deliveries.{Carries};
+ghost use Rattle.cur_play.specs.Drawings.{SameSizes};
 ghost use Rattle.cur_play.specs.Outputs.{poised};
 ghost use Rattle.cur_play.specs.Scenes.{IsStage, first, scene_of, stage_of};
 ghost use Rattle.cur_play.specs.Steps.{CallStep, drawn, output_of};
 
 use crate::answers::Answer;
-use crate::drawing::draw;
-use crate::sending::{output_of, send};
+use crate::drawings::draw;
+use crate::sends::{output_of, send};
 use cur_calls::Call;
 use cur_update::{Painter, Wire, cells_bounded};
 use cur_windows::{Desk, Size, Virtual};

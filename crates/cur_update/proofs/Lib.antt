@@ -1,4 +1,4 @@
-pub mod Inking
-pub mod Counting
-pub mod Liking
+pub mod InkFacts
+pub mod Counts
+pub mod Likeness
 pub mod Plainly

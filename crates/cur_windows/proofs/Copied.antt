@@ -7,17 +7,17 @@ use Rattle.cur_drawing.specs.declared.refusals.Refusal.{Refusal}
 use Rattle.cur_drawing.specs.declared.refusals.Refusal.TheVariants.{OutOfWindow}
 use Rattle.cur_drawing.specs.Cells.{unless_space}
 use Rattle.cur_drawing.specs.Grids.{Grid, cell_at, is_in, overlaid, combined, taken}
-use Rattle.cur_drawing.proofs.Drawing.{cell_at-drawn_in_off}
-use Rattle.cur_windows.specs.declared.copying.CopySpan.{CopySpan}
+use Rattle.cur_drawing.proofs.DrawingFacts.{cell_at-drawn_in_off}
+use Rattle.cur_windows.specs.declared.copies.CopySpan.{CopySpan}
 use Rattle.cur_windows.specs.declared.slots.Slot.{Slot}
-use Rattle.cur_windows.specs.Copying.{target_area, source_place, spans_copied, copied_or, matched, common, copy_span_at, copy_span_between, common_part, common_copied, copywin, in_order}
+use Rattle.cur_windows.specs.Copies.{target_area, source_place, spans_copied, copied_or, matched, common, copy_span_at, copy_span_between, common_part, common_copied, copywin, in_order}
 use Rattle.cur_windows.specs.Desks.{State, DeskStep, IsDesk, IsPlaced, after, grid_at, window_at, slot_of}
 use Rattle.cur_windows.specs.Laws.{OnlyWithin}
-use Rattle.cur_windows.specs.Making.{in_range, window_only}
+use Rattle.cur_windows.specs.Creations.{in_range, window_only}
 use Rattle.cur_drawing.specs.Spans.{start_within}
 use Rattle.cur_windows.specs.VirtualScreen.{area_on_screen}
-use Rattle.cur_windows.proofs.Backing.{found_there}
-use Rattle.cur_windows.proofs.Sharing.{ok_inj}
+use Rattle.cur_windows.proofs.Supports.{found_there}
+use Rattle.cur_windows.proofs.Shares.{ok_inj}
 use Rattle.cur_windows.proofs.Within.{grid_within}
 
 cell_at-overlaid_off : (a : Area) (from : Place) (skip : Bool) (source g : Grid) (i j : ℕ) → is_in a i j ≡ false → cell_at (overlaid a from skip source g) i j ≡ cell_at g i j

@@ -11,19 +11,19 @@ use Rattle.cur_drawing.specs.Grids.{Grid, Fits, is_in, line_at, cell_at, overlai
 use Rattle.cur_drawing.specs.Calls.{place}
 use Rattle.cur_drawing.specs.Spans.{start_within}
 use Rattle.cur_drawing.proofs.ByPlace.{copied_by_place, overlaid_by_place}
-use Rattle.cur_windows.specs.declared.copying.CopySpan.{CopySpan}
+use Rattle.cur_windows.specs.declared.copies.CopySpan.{CopySpan}
 use Rattle.cur_windows.specs.declared.slots.Slot.{Slot}
-use Rattle.cur_windows.specs.Copying.{target_area, source_place, spans_copied, copied_or, matched, copy_span_at, copy_span_between, common_part, common_copied, copywin, in_order}
+use Rattle.cur_windows.specs.Copies.{target_area, source_place, spans_copied, copied_or, matched, copy_span_at, copy_span_between, common_part, common_copied, copywin, in_order}
 use Rattle.cur_windows.specs.Desks.{State, DeskStep, IsDesk, IsPlaced, after, grid_at, window_at, slot_of, cell, whole_area}
 use Rattle.cur_windows.specs.Laws.{OnlyWithin}
-use Rattle.cur_windows.specs.Making.{in_range, free, is_some_slot, window_only, corner, dupwin, copy_grid, copy_origin, root_added}
+use Rattle.cur_windows.specs.Creations.{in_range, free, is_some_slot, window_only, corner, dupwin, copy_grid, copy_origin, root_added}
 use Rattle.cur_windows.specs.Places.{is_between, IsWindowShown, IsCopied, IsOverlaid, IsCopyOf}
 use Rattle.cur_windows.specs.VirtualScreen.{Screen, Refresh, if_shown, noutrefresh, area_on_screen, shown, cursor_on_screen}
-use Rattle.cur_windows.proofs.Adding.{blank_line, no_some}
-use Rattle.cur_windows.proofs.Backing.{found_there}
-use Rattle.cur_windows.proofs.Closing.{some_inj}
+use Rattle.cur_windows.proofs.Additions.{blank_line, no_some}
+use Rattle.cur_windows.proofs.Supports.{found_there}
+use Rattle.cur_windows.proofs.Closures.{some_inj}
 use Rattle.cur_windows.proofs.Copied.{copy_span_inj, le_tested, lt_tested}
-use Rattle.cur_windows.proofs.Sharing.{after_good, ok_inj}
+use Rattle.cur_windows.proofs.Shares.{after_good, ok_inj}
 use Rattle.cur_windows.proofs.Within.{apart_kept}
 
 -- ---- noutrefresh

@@ -15,13 +15,13 @@ use Rattle.cur_drawing.specs.Refusals.{IsFirstOf, first_refusal}
 use Rattle.cur_drawing.specs.Spans.{rectangle, span_within, is_negative, start_within}
 use Rattle.cur_drawing.specs.Windows as window_calls
 use Rattle.cur_drawing.specs.Windows.{WindowStep, cells_of, content, checked, is_printed, is_pair, place_below, as_is}
-use Rattle.cur_windows.specs.declared.copying.CopySpan.{CopySpan}
+use Rattle.cur_windows.specs.declared.copies.CopySpan.{CopySpan}
 use Rattle.cur_windows.specs.declared.slots.Slot.{Slot}
-use Rattle.cur_windows.specs.Copying as copying
+use Rattle.cur_windows.specs.Copies as copying
 use Rattle.cur_windows.specs.Desks as desks
 use Rattle.cur_windows.specs.Desks.{State, DeskStep, after, slot_of, some_slot, window_at, grid_at, origin_at}
-use Rattle.cur_windows.specs.Making as making
-use Rattle.cur_windows.specs.Making.{is_some_slot, corner, has_child}
+use Rattle.cur_windows.specs.Creations as making
+use Rattle.cur_windows.specs.Creations.{is_some_slot, corner, has_child}
 use Rattle.cur_windows.specs.Refusals as causes
 use Rattle.cur_windows.specs.Refusals.{is_past_last, is_used, slot_is, slots_are, is_pad, lies_outside, moves_outside, in_turn, border_printed, border_pairs, cannot_advance}
 use Rattle.cur_windows.specs.VirtualScreen as screens

@@ -14,7 +14,7 @@ use Rattle.cur_windows.specs.declared.slots.Slot.{Slot}
 use Rattle.cur_windows.specs.Desks as desks
 use Rattle.cur_windows.specs.Desks.{State, DeskStep, IsDesk, IsPlaced, after, grid_at, window_at, slot_of, with_window, with_canvas, cell}
 use Rattle.cur_windows.specs.Laws.{OnlyWithin, Apart}
-use Rattle.cur_windows.proofs.Backing.{found_there}
+use Rattle.cur_windows.proofs.Supports.{found_there}
 
 -- one grid was written, and only within the window's rectangle
 pub grid_within : (d : State) (s : Slot) (g : Grid) (k i j : ℕ) → s.root < length d.grids → ((i j : ℕ) → is_in s.window.area i j ≡ false → cell_at g i j ≡ cell_at (grid_at d s.root) i j) →

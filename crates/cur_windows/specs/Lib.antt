@@ -1,9 +1,9 @@
 -- The definitions of windows and the virtual screen.
-pub mod Copying
+pub mod Copies
 pub mod Desks
 pub mod Laws
-pub mod Lending
-pub mod Making
+pub mod Loans
+pub mod Creations
 pub mod Pads
 pub mod Places
 pub mod Queries

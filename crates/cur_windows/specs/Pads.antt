@@ -10,7 +10,7 @@ use Rattle.cur_drawing.specs.Windows.{fresh}
 use Rattle.cur_drawing.specs.Calls.{place}
 use Rattle.cur_windows.specs.declared.slots.Slot.{Slot}
 use Rattle.cur_windows.specs.Desks.{State, slot_of, grid_at, origin_at, on_screen, whole_area, with_window}
-use Rattle.cur_windows.specs.Making.{root_added}
+use Rattle.cur_windows.specs.Creations.{root_added}
 use Rattle.cur_windows.specs.VirtualScreen.{Screen, shown}
 
 abbrev pub pad_of : State → Result Slot Refusal → Result Bool Refusal

@@ -4,7 +4,7 @@ use Rattle.cur_drawing.specs.Cells.{copied_cell}
 use Rattle.cur_drawing.specs.Grids.{is_in, line_at, cell_at}
 use Rattle.cur_windows.specs.declared.slots.Slot.{Slot}
 use Rattle.cur_windows.specs.Desks.{State, cell}
-use Rattle.cur_windows.specs.Making.{corner}
+use Rattle.cur_windows.specs.Creations.{corner}
 use Rattle.cur_windows.specs.VirtualScreen.{Screen, area_on_screen}
 
 abbrev pub is_between : ℕ → ℕ → ℕ → Bool

@@ -11,7 +11,7 @@ use Rattle.cur_drawing.specs.Calls.{place}
 use Rattle.cur_windows.specs.declared.slots.Slot.{Slot}
 use Rattle.cur_windows.specs.declared.virtual_screen.Colors.{Colors}
 use Rattle.cur_windows.specs.Desks.{State, grid_at, slot_of, with_window}
-use Rattle.cur_windows.specs.Making.{corner, window_only}
+use Rattle.cur_windows.specs.Creations.{corner, window_only}
 
 pub record Screen : Type 0 where
   pub rows : ℕ

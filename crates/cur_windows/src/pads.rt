@@ -4,7 +4,7 @@ ghost use Rattle.cur_drawing.specs.Grids.{is_in};
 ghost use Rattle.cur_drawing.specs.Windows.{IsWindow};
 ghost use Rattle.cur_drawing.specs.Spans.{IsAreaWithin};
 ghost use Rattle.cur_windows.specs.Desks as spec;
-ghost use Rattle.cur_windows.specs.Making as make;
+ghost use Rattle.cur_windows.specs.Creations as make;
 ghost use Rattle.cur_windows.specs.Pads.{is_pad, pad_added, part_cursor, part_shown};
 
 use crate::desks::{Desk, blank_grid};

@@ -19,7 +19,7 @@ pub struct RowMut<'a> {
 
 impl Desk {
     ghost use Rattle.std.specs.Borrow.{sem, RestsIfErr};
-    ghost use Rattle.cur_windows.specs.Lending.{LendsPart};
+    ghost use Rattle.cur_windows.specs.Loans.{LendsPart};
     ghost use Rattle.cur_windows.specs.contracts.desks.Desk.{the_row};
 
     /// One line of a window, for writing: what is written through it is in the grid at that place, and nothing else has
@@ -68,7 +68,7 @@ impl Desk {
 
 impl<'a> RowMut<'a> {
     ghost use Rattle.std.specs.Borrow.{sem};
-    ghost use Rattle.cur_windows.specs.Lending.{LendsLine};
+    ghost use Rattle.cur_windows.specs.Loans.{LendsLine};
 
     /// Its cells, for writing: what is left in them is in the window's grid at that place, and nothing else has
     /// changed.

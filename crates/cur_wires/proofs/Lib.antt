@@ -1,5 +1,5 @@
-pub mod Sending
-pub mod Leading
-pub mod Painting
-pub mod Stopping
-pub mod Completing
+pub mod Sends
+pub mod Leads
+pub mod Paints
+pub mod Stops
+pub mod Completion

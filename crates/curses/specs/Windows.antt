@@ -9,10 +9,10 @@ pub use Rattle.cur_drawing.specs.Cells
 pub use Rattle.cur_drawing.specs.Grids
 pub use Rattle.cur_drawing.specs.Spans
 pub use Rattle.cur_drawing.specs.Windows as Options
-pub use Rattle.cur_windows.specs.Copying
+pub use Rattle.cur_windows.specs.Copies
 pub use Rattle.cur_windows.specs.Desks
-pub use Rattle.cur_windows.specs.Lending
-pub use Rattle.cur_windows.specs.Making
+pub use Rattle.cur_windows.specs.Loans
+pub use Rattle.cur_windows.specs.Creations
 pub use Rattle.cur_windows.specs.Queries
 pub use Rattle.cur_windows.specs.Rows
 pub use Rattle.cur_windows.specs.Sizes

@@ -10,10 +10,10 @@ use Rattle.curses.specs.Windows.Calls.{place}
 use Rattle.curses.specs.Windows.Options.{fresh}
 use Rattle.curses.specs.Windows.Spans.{area_within, rectangle, span_within}
 use Rattle.curses.specs.Windows.Desks.{State, DeskStep, after, new_desk, on_screen, whole_area, new_slot}
-use Rattle.curses.specs.Windows.Making.{newwin, root_added}
+use Rattle.curses.specs.Windows.Creations.{newwin, root_added}
 use Rattle.curses.specs.Windows.VirtualScreen.{Screen, new_screen, Refresh, noutrefresh, refresh, shown}
 use Rattle.curses.proofs.ByPlace.{copied_by_place}
-use Rattle.curses.proofs.Adding.{blank_line}
+use Rattle.curses.proofs.Additions.{blank_line}
 use Rattle.hello.specs.Calls.{and_then, greeting, written}
 use Rattle.hello.specs.Greeting.{IsGreeting, picture, frame}
 

@@ -3,14 +3,14 @@ use Rattle.std.proofs.Common.{◌≡◌, ℕ, List, Option, sym, subst}
 use Rattle.curses.specs.Terminals.Screen.{State}
 use Rattle.curses.specs.Windows.VirtualScreen.{Screen}
 use Rattle.curses.specs.Terminals.Certified.{Table}
-use Rattle.curses.specs.Painting.{Belief, Ink, Mode, Knowledge, Status}
-use Rattle.curses.specs.Painting.modes.{Normal}
-use Rattle.curses.specs.Painting.Update.{Fits, IsFresh, Refreshed}
-use Rattle.curses.specs.Painting.statuses.{Fresh}
-use Rattle.curses.specs.Painting.Inks.{ink_at}
-use Rattle.curses.specs.Painting.Painters.{Painted, wanted_of}
+use Rattle.curses.specs.Painters.{Belief, Ink, Mode, Knowledge, Status}
+use Rattle.curses.specs.Painters.modes.{Normal}
+use Rattle.curses.specs.Painters.Update.{Fits, IsFresh, Refreshed}
+use Rattle.curses.specs.Painters.statuses.{Fresh}
+use Rattle.curses.specs.Painters.Inks.{ink_at}
+use Rattle.curses.specs.Painters.Painters.{Painted, wanted_of}
 use Rattle.hello.specs.Greeting.{IsGreeting}
-use Rattle.hello.specs.Showing.{Greets}
+use Rattle.hello.specs.Displays.{Greets}
 
 fresh_fits : (t : Table) (shown : ℕ → ℕ → Ink) (status : Status) (b : Belief) (s : State) → status ≡ Fresh → IsFresh t s → Fits t shown status b s
 fresh_fits t shown status b s e h = subst (λ (x : Status). Fits t shown x b s) (sym e) h

@@ -3,7 +3,7 @@ use Rattle.std.specs.Prelude.{Ok, Err, codes, pos}
 use Rattle.curses.specs.Windows.Calls.{added_all, bordered, box_of, drawn_line}
 use Rattle.curses.specs.Windows.Options.{move_to}
 use Rattle.curses.specs.Windows.Desks.{State, DeskStep, on_cursor, on_grid, on_window}
-use Rattle.curses.specs.Windows.Making.{newwin}
+use Rattle.curses.specs.Windows.Creations.{newwin}
 
 -- what follows is done only if nothing was refused
 abbrev pub and_then : DeskStep → (State → DeskStep) → DeskStep

@@ -4,7 +4,7 @@ use Rattle.std.specs.Io.KnownBytes.{Appends}
 use Rattle.std.proofs.Common.{◌∙◌, sym, ap, append_assoc}
 use Rattle.std.proofs.Math.Nat.{le_refl, le_trans}
 use Rattle.std.proofs.lemmas.List.{append-nil}
-use Rattle.curses.specs.Painting.Wire.{IsWire}
+use Rattle.curses.specs.Painters.Wire.{IsWire}
 
 -- the writer's bytes, where they are known, grew by these, and no failure was taken back
 pub record Wrote (old new : Option (List ℕ)) (failed failures : ℕ) (bytes : List ℕ) : Type 0 where

@@ -2,4 +2,4 @@
 pub mod Console
 pub mod Calls
 pub mod Greeting
-pub mod Showing
+pub mod Displays

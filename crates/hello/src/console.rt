@@ -1,6 +1,6 @@
 //! A writer, such as standard output, as a wire.
 ghost use Rattle.std.specs.Prelude.{◌≡◌, ◌<◌, ◌≤◌, length, take, IfOk, OnErr};
-ghost use Rattle.curses.specs.Painting.Wire.{Rose};
+ghost use Rattle.curses.specs.Painters.Wire.{Rose};
 ghost use Rattle.hello.specs.Console.{Wrote};
 
 use curses::{Wire, WireFault};

@@ -2,7 +2,7 @@
 ghost use Rattle.std.specs.Prelude.{◌≡◌, Ok, IfOk, OnOk};
 ghost use Rattle.hello.specs.Calls.{greeting};
 ghost use Rattle.hello.specs.Greeting.{IsGreeting};
-ghost use Rattle.hello.specs.Showing.{Greets};
+ghost use Rattle.hello.specs.Displays.{Greets};
 
 use anyhow::Result;
 use curses::{Certificate, Desk, Painter, Put, Refusal, Size, Virtual, Wire};

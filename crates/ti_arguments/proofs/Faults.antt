@@ -9,11 +9,11 @@ use Rattle.clap.specs.Walk.{Row, Text}
 use Rattle.clap.specs.declared.error.Error.{Error}
 use Rattle.clap.specs.declared.error.kind.ErrorKind.{ErrorKind}
 use Rattle.clap.specs.declared.error.kind.ErrorKind.TheVariants as kind
-use Rattle.ti_arguments.specs.Asking.{Asks, IsAnswer, IsTold}
+use Rattle.ti_arguments.specs.Requests.{Asks, IsAnswer, IsTold}
 use Rattle.ti_arguments.specs.Line.{line}
-use Rattle.ti_arguments.specs.declared.parsing.ParsedLine.{ParsedLine}
-use Rattle.ti_arguments.specs.declared.parsing.ParsedLine.TheVariants as answers
-use Rattle.ti_arguments.specs.declared.parsing.UsageFault.{UsageFault}
+use Rattle.ti_arguments.specs.declared.parser.ParsedLine.{ParsedLine}
+use Rattle.ti_arguments.specs.declared.parser.ParsedLine.TheVariants as answers
+use Rattle.ti_arguments.specs.declared.parser.UsageFault.{UsageFault}
 use Rattle.ti_requests.specs.declared.request.Request.{Request}
 
 line_is_simple : is_simple_and_free line ≡ true

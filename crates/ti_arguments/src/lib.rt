@@ -3,6 +3,6 @@
 
 mod commands;
 mod help;
-mod parsing;
+mod parser;
 
-pub use parsing::{ParsedLine, UsageFault, parse_line};
+pub use parser::{ParsedLine, UsageFault, parse_line};

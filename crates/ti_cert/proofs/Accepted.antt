@@ -7,11 +7,11 @@ use Rattle.ti_rows.specs.declared.rows.Row.{Row}
 use Rattle.ti_rows.specs.declared.rows.Row.TheVariants.{Cnorm}
 use Rattle.ti_conforms.specs.Table.{has}
 use Rattle.ti_conforms.specs.Holds.{LineHolds}
-use Rattle.ti_conforms.proofs.Cutting.{judged_holds}
+use Rattle.ti_conforms.proofs.Cuts.{judged_holds}
 use Rattle.ti_conforms.specs.Judged.{IsJudged}
 use Rattle.ti_conforms.specs.Entries.{EntryAgrees}
 use Rattle.ti_conforms.specs.Conforms.{IsFit, Conforms}
-use Rattle.ti_conforms.proofs.Conforming.{agreed_conforms}
+use Rattle.ti_conforms.proofs.Conformity.{agreed_conforms}
 use Rattle.ti_conforms.proofs.Together.{agreed_stand_together}
 use Rattle.ti_conforms.specs.Looks.{LooksStand}
 use Rattle.ti_cert.specs.Strings.{string_in, total}

@@ -4,7 +4,7 @@ use Rattle.std.proofs.lemmas.Bool.{and_parts}
 use Rattle.std.proofs.lemmas.List.{reverse-reverse}
 use Rattle.std.proofs.lemmas.Option.{same_Some}
 use Rattle.vt_term.specs.Text.{Splits}
-use Rattle.vt_term.proofs.Splitting.{one_splitting}
+use Rattle.vt_term.proofs.Splits.{one_splitting}
 use Rattle.vt_effects.specs.declared.effects.Effect.{Effect}
 use Rattle.vt_effects.specs.Record.{record_of}
 use Rattle.ti_conforms.specs.Charsets.{IsAmong}
@@ -20,12 +20,12 @@ use Rattle.ti_cert.specs.Certificates.{HasEffect}
 use Rattle.ti_cert.specs.Texts.{StandInOrder, IsCertificate}
 use Rattle.ti_cert.specs.Basic.{basic_bytes, basic_effect, basic_line, basic_rows, basic_text, BasicAlone}
 use Rattle.ti_cert.proofs.Singleness.{never_itself, never_back}
-use Rattle.ti_cert.proofs.Spelling.{that_of_certificate}
-use Rattle.ti_cert.proofs.Keeping.{among_front, among_behind}
+use Rattle.ti_cert.proofs.Texts.{that_of_certificate}
+use Rattle.ti_cert.proofs.Preservation.{among_front, among_behind}
 use Rattle.std.proofs.lemmas.Grind.{reverse_onto}
 use Rattle.ti_cert.proofs.BasicOrder.{Rises, kind_of, in_range, rows_rise}
 use Rattle.ti_cert.proofs.BasicLines.{HasTokens, tokens_of, has_tokens}
-use Rattle.ti_cert.proofs.BasicAgreeing.{checked_kind, among_checked, some_string}
+use Rattle.ti_cert.proofs.BasicAgreement.{checked_kind, among_checked, some_string}
 
 -- ---- lists that rise
 

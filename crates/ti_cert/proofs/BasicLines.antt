@@ -12,11 +12,11 @@ use Rattle.hex.proofs.HexLemmas.{length-encode_with}
 use Rattle.vt_term.specs.Size.{IsSize}
 use Rattle.vt_term.specs.Text.{Splits, IsWhole, IsParameter}
 use Rattle.vt_term.specs.Function.{Function, function_of}
-use Rattle.vt_term.specs.Moving.{cursor_to}
+use Rattle.vt_term.specs.Moves.{cursor_to}
 use Rattle.vt_term.specs.Screen.{Charset}
 use Rattle.vt_term.proofs.Sequences.{empty_open, all_weaker}
 use Rattle.vt_term.proofs.Decimals.{all_append}
-use Rattle.vt_term.proofs.Moving.{move_function, move_token, move_short, spells}
+use Rattle.vt_term.proofs.Moves.{move_function, move_token, move_short, spells}
 use Rattle.vt_effects.specs.Basic.{home_text, clear_text, el_text, sgr0_text}
 use Rattle.vt_effects.specs.Record.{record_of}
 use Rattle.vt_effects.proofs.Basics.{clear_record, cup_record, sgr0_record, home_record, el_record}
@@ -30,8 +30,8 @@ use Rattle.ti_rows.specs.Names.{name_in_order}
 use Rattle.ti_lines.specs.declared.row_lines.RowLine.{RowLine}
 use Rattle.ti_lines.specs.Heads.{IsAcscText, is_end, size_text, IsSizeText}
 use Rattle.ti_lines.specs.RowLines.{IsLine, line_text}
-use Rattle.ti_lines.proofs.Cutting.{lacks}
-use Rattle.ti_lines.proofs.Hexing.{both}
+use Rattle.ti_lines.proofs.CutFacts.{lacks}
+use Rattle.ti_lines.proofs.Hex.{both}
 use Rattle.ti_lines.specs.Text.{line_end}
 use Rattle.ti_cert.specs.Certificates.{HasEffect, IsAskedFor}
 use Rattle.ti_cert.specs.Basic.{basic_bytes, basic_effect, basic_line}

@@ -11,7 +11,7 @@ use Rattle.ti_rows.specs.Lists.{IsInRange}
 use Rattle.ti_lines.specs.declared.row_lines.RowLine.{RowLine}
 use Rattle.ti_cert.specs.Order.{Precedes, HasLine, HasCap, IsRequired, IsOfCap, IsLacking, IsComplete, IsInPlace}
 use Rattle.ti_cert.specs.Basic.{basic_line, is_basic, places, only_if, basic_rows}
-use Rattle.ti_cert.proofs.Keeping.{among_front, among_behind}
+use Rattle.ti_cert.proofs.Preservation.{among_front, among_behind}
 use Rattle.ti_cert.proofs.Singleness.{never_itself, never_back}
 
 -- ---- rows that rise

@@ -10,7 +10,7 @@ use Rattle.ti_lines.specs.declared.row_lines.RowLine.{RowLine}
 use Rattle.ti_lines.specs.Heads.{size_text, end_text}
 use Rattle.ti_lines.specs.RowLines.{line_text}
 use Rattle.ti_lines.specs.Texts.{row_lines, ended}
-use Rattle.ti_lines.specs.Judging.{fault_at, JudgedFrom, Judged}
+use Rattle.ti_lines.specs.Judgements.{fault_at, JudgedFrom, Judged}
 use Rattle.ti_lines.proofs.Texts.{judge_step, judge_end}
 use Rattle.ti_cert.specs.Certificates.{Said, Nothing, Sized, Listing, Ended, Stands, Closes, JudgesLater, IsLast, IsRow, HasNoPairs, HasSize, rules_of, limit, IsAnswer}
 use Rattle.ti_cert.specs.Texts.{IsRefused}
@@ -18,10 +18,10 @@ use Rattle.ti_cert.specs.Basic.{basic_line, places, only_if, basic_rows, basic_t
 use Rattle.ti_cert.specs.declared.faults.CertFault.{CertFault}
 use Rattle.ti_cert.specs.declared.faults.CertFaultKind.{CertFaultKind}
 use Rattle.ti_cert.specs.declared.faults.CertFaultKind.TheVariants.{NoMemory}
-use Rattle.ti_lines.specs.declared.judging.LineFault.{LineFault}
+use Rattle.ti_lines.specs.declared.judgements.LineFault.{LineFault}
 use Rattle.ti_cert.proofs.BasicOrder.{IsReady, ready_first, ready_place, ready_end, ready_next}
 use Rattle.ti_cert.proofs.BasicLines.{has_text, has_tokens, has_effect, is_asked_for, no_pairs, no_end, size_is, size_lacks, size_short}
-use Rattle.ti_cert.proofs.Spelling.{turned}
+use Rattle.ti_cert.proofs.Texts.{turned}
 use Rattle.ti_cert.proofs.Singleness.{one_answer}
 use Rattle.ti_cert.proofs.BasicTogether.{AreBasic, lines_together}
 

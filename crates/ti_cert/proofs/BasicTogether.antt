@@ -6,7 +6,7 @@ use Rattle.vt_term.specs.Size.{IsSize}
 use Rattle.vt_term.specs.Text.{Splits}
 use Rattle.vt_term.specs.Function.{function_of}
 use Rattle.vt_term.specs.Screen.{Charset, is_graphic}
-use Rattle.vt_term.proofs.Splitting.{one_splitting, splits_append}
+use Rattle.vt_term.proofs.Splits.{one_splitting, splits_append}
 use Rattle.vt_effects.specs.Basic.{sgr0_text, clear_text}
 use Rattle.ti_conforms.specs.Charsets.{IsAmong, charset_after, charset_over, reset_charset}
 use Rattle.ti_rows.specs.declared.rows.Row.{Row}
@@ -19,7 +19,7 @@ use Rattle.ti_conforms.specs.Looks.{no_looks}
 use Rattle.ti_cert.specs.Clashes.{Misswitches, LeavesPlain, LeavesGraphic, Misresyncs, BeginsOpen, ResyncsGraphic, GoesTogether, OfLines}
 use Rattle.ti_cert.specs.Basic.{basic_bytes, basic_line, is_basic, basic_rows}
 use Rattle.ti_cert.proofs.Ranges as ranges
-use Rattle.ti_cert.proofs.Grouping.{if_some}
+use Rattle.ti_cert.proofs.GroupFacts.{if_some}
 use Rattle.ti_cert.proofs.BasicOrder.{among_either, IsClear, IsSgr0, kind_of, in_range, each_there}
 use Rattle.ti_cert.proofs.BasicLines.{HasTokens, tokens_of, has_tokens}
 

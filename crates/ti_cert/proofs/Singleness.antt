@@ -5,7 +5,7 @@ use Rattle.std.specs.Option.{option_map}
 use Rattle.std.proofs.lemmas.Bool.{true≢false}
 use Rattle.std.proofs.lemmas.Option.{same_Some, none-some}
 use Rattle.vt_term.specs.Screen.{Charset}
-use Rattle.vt_term.proofs.Splitting.{one_splitting}
+use Rattle.vt_term.proofs.Splits.{one_splitting}
 use Rattle.vt_effects.specs.declared.effects.Effect.{Effect}
 use Rattle.vt_effects.specs.Record.{record_of}
 use Rattle.ti_rows.specs.declared.rows.Row.{Row}
@@ -19,8 +19,8 @@ use Rattle.ti_lines.specs.Heads.{IsAcscText, acsc_in, is_end}
 use Rattle.ti_lines.proofs.LinesRead.{one_line}
 use Rattle.ti_lines.proofs.HeadsRead.{acsc_each}
 use Rattle.ti_lines.specs.Text.{cut_of}
-use Rattle.ti_lines.specs.Judging.{fault_at, AtLine, Passes, Fails, TooLong, JudgedLine, JudgedLines, JudgedFrom, Judged}
-use Rattle.ti_lines.specs.declared.judging.LineFault.{LineFault}
+use Rattle.ti_lines.specs.Judgements.{fault_at, AtLine, Passes, Fails, TooLong, JudgedLine, JudgedLines, JudgedFrom, Judged}
+use Rattle.ti_lines.specs.declared.judgements.LineFault.{LineFault}
 use Rattle.ti_cert.specs.Strings.{string_in}
 use Rattle.ti_cert.specs.Order.{Precedes, HasBytes, IsFirstLacking, IsComplete, IsLate, IsBehind}
 use Rattle.ti_cert.specs.Clashes.{Misswitches, LeavesPlain, LeavesGraphic, StaysGraphic, Misresyncs, BeginsOpen, ResyncsGraphic, ClashesBy, ByActive, ByLook, ByResync, GoesTogether, OfLines}

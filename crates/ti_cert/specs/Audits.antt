@@ -4,8 +4,8 @@ use Rattle.vt_effects.specs.declared.effects.Effect.{Effect}
 use Rattle.vt_effects.specs.declared.effects.Sets.{Sets}
 use Rattle.vt_effects.specs.Effect.{designated}
 use Rattle.vt_term.specs.Screen.{Charset, is_graphic}
-use Rattle.ti_conforms.specs.declared.closing.Charsets.{Charsets}
-use Rattle.ti_conforms.specs.Closing as closing
+use Rattle.ti_conforms.specs.declared.closures.Charsets.{Charsets}
+use Rattle.ti_conforms.specs.Closures as closing
 use Rattle.vt_effects.specs.Record.{record_of}
 use Rattle.vt_term.specs.Text.{Splits}
 use Rattle.ti_conforms.specs.Charsets.{IsAmong}
@@ -16,14 +16,14 @@ use Rattle.ti_rows.specs.Asked.{start_of, asked}
 use Rattle.ti_rows.specs.Lists.{IsInRange}
 use Rattle.ti_lines.specs.declared.row_lines.RowLine.{RowLine}
 use Rattle.ti_lines.specs.Heads.{IsAcscText}
-use Rattle.ti_lines.specs.Judging.{Rules}
+use Rattle.ti_lines.specs.Judgements.{Rules}
 use Rattle.ti_cert.specs.Known.{Known, Holds, looks_with}
 use Rattle.ti_cert.specs.Certificates.{Said, Nothing, Sized, Listing, Ended, speaks_of, looks_of, IsWholeText, IsMisfit, JudgesRow, JudgesLast, JudgesLater, JudgesLine, JudgesEnd}
 use Rattle.ti_cert.specs.Order.{Precedes, HasLine, HasBytes, IsComplete}
 use Rattle.ti_cert.specs.Clashes.{ClashesBy, GoesTogether}
 use Rattle.ti_cert.specs.Strings.{Strings, string_in, has_group, total}
 use Rattle.ti_cert.specs.Table.{Content, checked_of, first_of_resync, Leads}
-use Rattle.ti_conforms.specs.Closing.{kept}
+use Rattle.ti_conforms.specs.Closures.{kept}
 use Rattle.ti_cert.specs.declared.audits.Progress.{Progress}
 use Rattle.ti_cert.specs.declared.audits.Awaited.{Awaited}
 use Rattle.ti_cert.specs.declared.audits.Awaited.TheVariants as lines_awaited

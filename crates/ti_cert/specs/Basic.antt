@@ -2,7 +2,7 @@
 -- the text of their certificate.
 use Rattle.std.specs.Prelude.{ℕ, ◌≡◌, ◌⊎◌, Bool, true, false, if◌then◌else◌, List, [], ◌∷◌, ◌++◌, map, reverse, None, Some, Ok}
 use Rattle.std.specs.List.{flat_map, range_with_len}
-use Rattle.vt_term.specs.Moving.{cursor_to}
+use Rattle.vt_term.specs.Moves.{cursor_to}
 use Rattle.vt_term.specs.Size.{IsSize}
 use Rattle.vt_effects.specs.declared.effects.Effect.{Effect}
 use Rattle.vt_effects.specs.Effect.{unchanged}

@@ -14,8 +14,8 @@ use Rattle.ti_rows.specs.Asked.{start_of, asked}
 use Rattle.ti_lines.specs.declared.row_lines.RowLine.{RowLine}
 use Rattle.ti_lines.specs.Heads.{IsSizeText, IsAcscText, is_end}
 use Rattle.ti_lines.specs.RowLines.{IsTextOf}
-use Rattle.ti_lines.specs.Judging.{Rules, Judged}
-use Rattle.ti_lines.specs.declared.judging.LineFault.{LineFault}
+use Rattle.ti_lines.specs.Judgements.{Rules, Judged}
+use Rattle.ti_lines.specs.declared.judgements.LineFault.{LineFault}
 use Rattle.ti_conforms.specs.Looks.{no_looks, is_alone, IsSomeLook}
 use Rattle.ti_cert.specs.Clashes.{ClashesBy, GoesTogether, OfLines}
 use Rattle.ti_cert.specs.Order.{IsFirstLacking, IsComplete, IsLate, IsBehind, IsInPlace}

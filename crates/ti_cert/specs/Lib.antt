@@ -10,5 +10,5 @@ pub mod Places
 pub mod Audits
 pub mod Verified
 pub mod Basic
-pub mod Disagreeing
+pub mod Disagreements
 pub mod Lengths

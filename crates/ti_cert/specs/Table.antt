@@ -6,10 +6,10 @@ use Rattle.vt_effects.specs.Record.{record_of}
 use Rattle.vt_effects.specs.declared.effects.Effect.{Effect}
 use Rattle.vt_term.specs.Screen.{Charset, is_graphic}
 use Rattle.vt_term.specs.Text.{Splits}
-use Rattle.ti_conforms.specs.declared.closing.Charsets.{Charsets}
+use Rattle.ti_conforms.specs.declared.closures.Charsets.{Charsets}
 use Rattle.ti_conforms.specs.Charsets.{can_have}
-use Rattle.ti_conforms.specs.Closing as closing
-use Rattle.ti_conforms.specs.Closing.{or_kept}
+use Rattle.ti_conforms.specs.Closures as closing
+use Rattle.ti_conforms.specs.Closures.{or_kept}
 use Rattle.ti_rows.specs.declared.rows.Row.{Row}
 use Rattle.ti_rows.specs.declared.rows.Row.TheVariants.{Clear, Sgr0, Csr, Rmacs, Smcup, Enacs}
 use Rattle.ti_rows.specs.Asked.{start_of}

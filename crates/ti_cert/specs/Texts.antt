@@ -6,8 +6,8 @@ use Rattle.ti_lines.specs.declared.row_lines.RowLine.{RowLine}
 use Rattle.ti_lines.specs.Texts.{IsCertificateText}
 use Rattle.ti_lines.specs.Reader.{Gave}
 use Rattle.ti_lines.specs.Text.{cut_of}
-use Rattle.ti_lines.specs.Judging.{fault_at}
-use Rattle.ti_lines.specs.declared.judging.LineFault.{LineFault}
+use Rattle.ti_lines.specs.Judgements.{fault_at}
+use Rattle.ti_lines.specs.declared.judgements.LineFault.{LineFault}
 use Rattle.ti_cert.specs.Strings.{string_in}
 use Rattle.ti_cert.specs.Table.{Content}
 use Rattle.ti_cert.specs.Order.{HasBytes, IsComplete, IsInPlace}

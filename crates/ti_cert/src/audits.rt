@@ -12,12 +12,12 @@ ghost use Rattle.ti_cert.specs.Strings.{total};
 ghost use Rattle.ti_cert.specs.Table.{table_of};
 ghost use Rattle.ti_cert.specs.Texts.{IsTableOf, IsRefused, IsLineRead, Takes};
 
-use crate::ending::conclude;
+use crate::endings::conclude;
 use crate::faults::{CertFault, CertFaultKind};
 use crate::known::Known;
 use crate::places::Place;
 use crate::table::Table;
-use crate::tokenizing::row_effect;
+use crate::tokens::row_effect;
 use std::alloc::{AllocError, Global};
 use std::mem;
 use ti_caps::Bytes;

@@ -3,7 +3,7 @@ ghost use Rattle.std.specs.Prelude.{◌≡◌, ◌&&◌, not};
 ghost use Rattle.ti_rows.specs.Right.{sets_visible};
 ghost use Rattle.ti_cert.specs.Table.{certified};
 
-use crate::verifying::Checked;
+use crate::verification::Checked;
 use ti_conforms::Certificate;
 use ti_rows::Row;
 

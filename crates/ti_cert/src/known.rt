@@ -12,7 +12,7 @@ ghost use Rattle.ti_cert.specs.Known as spec;
 
 use crate::faults::CertFaultKind;
 use crate::strings::Strings;
-use crate::tokenizing::not_whole;
+use crate::tokens::not_whole;
 use std::alloc::{AllocError, Global};
 use std::marker::Model;
 use ti_conforms::{NO_LOOKS, Reach, is_alone, is_some_look, settles};

@@ -1,7 +1,7 @@
 //! Laws of certificates' texts.
 
 ghost use Rattle.ti_cert.specs.Basic.{BasicAccepted, BasicAgrees, BasicAlone};
-ghost use Rattle.ti_cert.specs.Disagreeing.{DisagreementExcludesYes};
+ghost use Rattle.ti_cert.specs.Disagreements.{DisagreementExcludesYes};
 ghost use Rattle.ti_cert.specs.Texts.{IsThatOfCertificate, OneAnswer, OneTable, NoOther, OneFault};
 
 /// A text has one answer: what its lines say, or its first fault in one line. So what an audit makes of

@@ -1,10 +1,10 @@
 //! Certificates: judged alone, compared with an entry, and what a yes means for a terminal.
 #![tactic(auto)]
 
-mod agreeing;
+mod agreement;
 mod audits;
 mod certificates;
-mod ending;
+mod endings;
 mod faults;
 mod groups;
 mod known;
@@ -12,11 +12,11 @@ pub mod laws;
 mod places;
 mod strings;
 mod table;
-mod tokenizing;
-mod verifying;
+mod tokens;
+mod verification;
 
-pub use agreeing::agrees;
+pub use agreement::agrees;
 pub use audits::{audit, audit_from};
 pub use faults::{AgreeFault, CertFault, CertFaultKind, VerifyFault};
 pub use table::Table;
-pub use verifying::{Checked, verify, verify_from};
+pub use verification::{Checked, verify, verify_from};

@@ -4,7 +4,7 @@ ghost use Rattle.std.specs.Prelude.{◌≡◌, ◌<◌, ◌++◌, [], ◌∷◌,
 ghost use Rattle.std.specs.List.{slice_get};
 ghost use Rattle.ti_rows.specs.Lists.{IsInRange, rank};
 ghost use Rattle.ti_rows.specs.Names.{order};
-ghost use Rattle.ti_conforms.specs.Agreeing.{SomeLine};
+ghost use Rattle.ti_conforms.specs.Agreement.{SomeLine};
 ghost use Rattle.ti_rows.specs.declared.rows.Row as rows;
 ghost use Rattle.ti_cert.specs.Strings as spec;
 

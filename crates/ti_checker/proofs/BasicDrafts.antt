@@ -5,7 +5,7 @@ use Rattle.std.proofs.lemmas.List.{reverse-reverse}
 use Rattle.std.proofs.lemmas.Option.{same_Some, none-some}
 use Rattle.vt_term.specs.Size.{IsSize}
 use Rattle.vt_term.specs.Text.{Splits}
-use Rattle.vt_term.proofs.Splitting.{one_splitting}
+use Rattle.vt_term.proofs.Splits.{one_splitting}
 use Rattle.vt_effects.specs.declared.effects.Effect.{Effect}
 use Rattle.vt_effects.specs.Record.{record_of}
 use Rattle.ti_caps.specs.Entry.{Content}
@@ -16,8 +16,8 @@ use Rattle.ti_rows.specs.declared.rows.Row.TheVariants.{Home, El}
 use Rattle.ti_rows.specs.Asked.{start_of, asked}
 use Rattle.ti_rows.specs.Lists.{IsInRange}
 use Rattle.ti_rows.specs.Names.{order}
-use Rattle.ti_rows.proofs.Naming.{orders_small}
-use Rattle.ti_rows.proofs.Righting.{recorded_is_right}
+use Rattle.ti_rows.proofs.NameFacts.{orders_small}
+use Rattle.ti_rows.proofs.Rightness.{recorded_is_right}
 use Rattle.ti_lines.specs.declared.row_lines.RowLine.{RowLine}
 use Rattle.ti_lines.specs.Texts.{texts_of, ended}
 use Rattle.ti_conforms.specs.Entries.{has_string, is_checked, string_of}
@@ -26,7 +26,7 @@ use Rattle.ti_cert.specs.Basic.{basic_bytes, basic_effect, basic_line, basic_row
 use Rattle.ti_cert.specs.Certificates.{Ended, IsAnswer}
 use Rattle.ti_cert.specs.Order.{Precedes}
 use Rattle.ti_conforms.specs.Looks.{no_looks}
-use Rattle.ti_cert.proofs.BasicAgreeing.{among_checked, checked_kind, some_string}
+use Rattle.ti_cert.proofs.BasicAgreement.{among_checked, checked_kind, some_string}
 use Rattle.ti_cert.proofs.BasicLines.{HasTokens, tokens_of, has_tokens, has_effect}
 use Rattle.ti_cert.proofs.BasicOrder.{Rises, Kind, IsClear, IsCup, IsEl, IsHome, IsSgr0, kind_of, in_range, rows_rise}
 use Rattle.ti_cert.proofs.BasicTexts.{basic_accepted}
@@ -37,9 +37,9 @@ use Rattle.ti_checker.specs.No.{SendsSome, HasFaulty, IsFaulty, IsRowFault, HasU
 use Rattle.ti_checker.specs.declared.causes.Cause.{Cause}
 use Rattle.ti_checker.specs.declared.causes.Cause.TheVariants.{FlagOut, Absent, AcsByte, Parm, StaticRead, Unfinished, Stuck, NotTame, BadLook, WrongEffect, NotShown, TooLong, NoResync, NoMemory}
 use Rattle.ti_checker.specs.declared.causes.No.{No}
-use Rattle.ti_checker.proofs.Excluding.{none_faulty, none_unfit}
-use Rattle.ti_checker.proofs.Ordering.{same_lines, reversed_has}
-use Rattle.ti_checker.proofs.Passing.{line_once, same_bytes, last, text_is, none_certified}
+use Rattle.ti_checker.proofs.Exclusions.{none_faulty, none_unfit}
+use Rattle.ti_checker.proofs.Order.{same_lines, reversed_has}
+use Rattle.ti_checker.proofs.Passages.{line_once, same_bytes, last, text_is, none_certified}
 
 abbrev rows_of : Content → ℕ → ℕ → List Row
 rows_of entry rows cols = basic_rows rows cols (has_string entry Home) (has_string entry El)

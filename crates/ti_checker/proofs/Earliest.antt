@@ -10,24 +10,24 @@ use Rattle.ti_rows.specs.declared.rows.Row.{Row}
 use Rattle.ti_rows.specs.Names.{order, cap_of}
 use Rattle.ti_rows.specs.Params.{params}
 use Rattle.ti_rows.specs.Lists.{IsFirst, IsInRange, Follows, next, rank, count}
-use Rattle.ti_rows.proofs.Naming.{orders_small}
-use Rattle.ti_rows.proofs.Listing.{last_is_last, ranks_below, one_of_rank}
+use Rattle.ti_rows.proofs.NameFacts.{orders_small}
+use Rattle.ti_rows.proofs.ListFacts.{last_is_last, ranks_below, one_of_rank}
 use Rattle.ti_lines.specs.declared.row_lines.RowLine.{RowLine}
 use Rattle.ti_lines.specs.RowLines.{line_text}
 use Rattle.ti_conforms.specs.Entries.{is_checked, string_of}
-use Rattle.ti_conforms.proofs.Walking.{same_count}
+use Rattle.ti_conforms.proofs.Walks.{same_count}
 use Rattle.ti_cert.specs.Order.{Precedes, HasLine}
 use Rattle.ti_cert.proofs.BasicOrder.{among_either}
-use Rattle.ti_cert.proofs.Keeping.{among_front, among_behind}
+use Rattle.ti_cert.proofs.Preservation.{among_front, among_behind}
 use Rattle.ti_checker.specs.No.{IsFaulty, HasFaulty, IsRowRefused, IsRowFault, IsSo, IsSoBy}
 use Rattle.ti_checker.specs.First.{SendsRight, RowStands, IsOfRow, IsFirstRow, IsFirstBy, IsFirstTold, IsDrafted}
 use Rattle.ti_checker.specs.Limit.{IsLineOf, AreLines, IsUpTo, PassesLimit, StaysWithin, IsLineFor, AddsLine, Overflows, front_with, most}
 use Rattle.ti_checker.specs.declared.causes.Cause.{Cause}
 use Rattle.ti_checker.specs.declared.causes.Cause.TheVariants.{FlagOut, Absent, AcsByte, Parm, StaticRead, Unfinished, Stuck, NotTame, BadLook, WrongEffect, NotShown, TooLong, NoResync, NoMemory}
 use Rattle.ti_checker.specs.declared.causes.No.{No}
-use Rattle.ti_checker.proofs.Ordering.{order_end}
-use Rattle.ti_checker.proofs.Passing.{front_end, text_length}
-use Rattle.ti_conforms.proofs.Matching.{same_checked}
+use Rattle.ti_checker.proofs.Order.{order_end}
+use Rattle.ti_checker.proofs.Passages.{front_end, text_length}
+use Rattle.ti_conforms.proofs.Matches.{same_checked}
 
 abbrev IsBefore : ℕ → ℕ → Row → Row → Type 0
 IsBefore rows cols row other = Precedes rows cols other row

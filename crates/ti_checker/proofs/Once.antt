@@ -2,13 +2,13 @@
 use Rattle.std.proofs.Common.{◌≡◌, ℕ, List, [], ◌∷◌, ◌++◌, sym, ap, subst, ◌∙◌, inl, inr}
 use Rattle.std.proofs.lemmas.Bool.{cases_Bool}
 use Rattle.vt_term.specs.Text.{Splits}
-use Rattle.vt_term.proofs.Splitting.{one_splitting}
+use Rattle.vt_term.proofs.Splits.{one_splitting}
 use Rattle.ti_caps.specs.Entry.{Content}
 use Rattle.ti_rows.specs.declared.rows.Row.{Row}
 use Rattle.ti_rows.specs.Names.{cap_of, firsts}
 use Rattle.ti_conforms.specs.Entries.{is_checked}
 use Rattle.ti_checker.specs.Notes.{SendsTokens, notes_of, StringNotes, RowNotes, RowsNotes, EntryNotes}
-use Rattle.ti_checker.specs.declared.noting.CheckNote.{CheckNote}
+use Rattle.ti_checker.specs.declared.note_list.CheckNote.{CheckNote}
 
 tokens_once : (string : List ℕ) (row : Row) (ts us : List (List ℕ)) → SendsTokens string row ts → SendsTokens string row us → us ≡ ts
 tokens_once string row ts us a b =

@@ -10,8 +10,8 @@ use Rattle.vt_term.specs.Grid.{look_at, uniform}
 use Rattle.vt_term.specs.Function.{Function, function_of, ShiftOut, ShiftIn, Designate, G0, G1}
 use Rattle.vt_term.specs.Screen.{State, Screen, Charset, is_graphic, reset_screen}
 use Rattle.vt_term.specs.Step.{steps}
-use Rattle.vt_term.proofs.Running.{runs_once, text_runs}
-use Rattle.vt_term.proofs.Splitting.{empty_splits}
+use Rattle.vt_term.proofs.Runs.{runs_once, text_runs}
+use Rattle.vt_term.proofs.Splits.{empty_splits}
 use Rattle.vt_effects.specs.declared.effects.Sets.{Sets}
 use Rattle.vt_effects.specs.declared.effects.Switch.{Switch}
 use Rattle.vt_effects.specs.declared.effects.Switch.TheVariants as switches
@@ -29,10 +29,10 @@ use Rattle.ti_conforms.specs.Entries.{acsc, has_string, is_checked, meets}
 use Rattle.ti_conforms.specs.declared.entries.Group.TheVariants as groups
 use Rattle.ti_conforms.specs.Table.{Table, or_nothing, text_of, widening, resync}
 use Rattle.ti_conforms.specs.Sets.{CanHave, LeadsBy, AfterResync}
-use Rattle.ti_conforms.proofs.Judging.{over_steps}
+use Rattle.ti_conforms.proofs.Judgements.{over_steps}
 use Rattle.ti_checker.specs.First.{EachStands, SendsRight}
 use Rattle.ti_checker.specs.Last.{OfAllSent, LeavesPlain, SettleRight}
-use Rattle.ti_checker.specs.Switching.{HasSent}
+use Rattle.ti_checker.specs.Switches.{HasSent}
 use Rattle.ti_checker.proofs.Settled.{sent_line, resync_parts, same_end}
 use Rattle.ti_checker.proofs.Together.{whole_screen}
 

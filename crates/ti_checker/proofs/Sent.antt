@@ -5,7 +5,7 @@ use Rattle.std.proofs.lemmas.Bool.{false≢true, and_parts, cases_Bool}
 use Rattle.std.proofs.lemmas.Option.{none-some}
 use Rattle.vt_term.specs.Size.{IsSize}
 use Rattle.vt_term.specs.Screen.{State, Charset}
-use Rattle.vt_term.proofs.Running.{runs_once}
+use Rattle.vt_term.proofs.Runs.{runs_once}
 use Rattle.ti_caps.specs.Entry.{Content}
 use Rattle.ti_rows.specs.declared.rows.Row.{Row}
 use Rattle.ti_rows.specs.declared.rows.Row.TheVariants.{Clear, Csr, Smcup, Enacs, Sgr0, Smacs, Rmacs}
@@ -28,7 +28,7 @@ use Rattle.ti_checker.specs.declared.probes.Probe.{Probe}
 use Rattle.ti_checker.specs.First.{EachStands, EachWritten, SendsRight, IsFirstSwitch, IsFirstBy}
 use Rattle.ti_checker.specs.Last.{OfAllSent, SwitchesRight, SwitchRight}
 use Rattle.ti_checker.specs.No.{IsSoBy, IsFirstCause, IsOfAll}
-use Rattle.ti_checker.specs.Switching.{HasSent, OfSent, Misswitches, StaysGraphic, switching, AlwaysMisswitches, AlwaysGraphic}
+use Rattle.ti_checker.specs.Switches.{HasSent, OfSent, Misswitches, StaysGraphic, switching, AlwaysMisswitches, AlwaysGraphic}
 use Rattle.ti_checker.specs.declared.causes.Cause.{Cause}
 use Rattle.ti_checker.specs.declared.causes.Cause.TheVariants.{BadLook, WrongEffect}
 use Rattle.ti_checker.specs.declared.causes.No.{No}

@@ -8,36 +8,36 @@ use Rattle.vt_term.specs.Text.{Splits}
 use Rattle.vt_term.specs.Function.{function_of}
 use Rattle.vt_term.specs.Screen.{Screen, Charset, is_graphic}
 use Rattle.vt_term.specs.Step.{steps}
-use Rattle.vt_term.proofs.Running.{text_runs}
-use Rattle.vt_term.proofs.Splitting.{one_splitting, splits_append, empty_splits}
+use Rattle.vt_term.proofs.Runs.{text_runs}
+use Rattle.vt_term.proofs.Splits.{one_splitting, splits_append, empty_splits}
 use Rattle.vt_effects.specs.declared.effects.Sets.{Sets}
 use Rattle.vt_effects.specs.declared.effects.Switch.TheVariants as switches
 use Rattle.vt_effects.specs.Effect.{designated}
 use Rattle.ti_caps.specs.Entry.{Content}
 use Rattle.ti_conforms.specs.declared.reach.Reach.{Reach}
-use Rattle.ti_conforms.specs.declared.closing.Charsets.{Charsets}
+use Rattle.ti_conforms.specs.declared.closures.Charsets.{Charsets}
 use Rattle.ti_conforms.specs.Charsets.{IsAmong, Reached, charset_after, charset_over, can_have, joined, reach_of}
 use Rattle.ti_conforms.specs.Charsets as charsets
-use Rattle.ti_conforms.specs.Closing.{Settled, First, After, SomeLeads, Leaves, designated_all}
-use Rattle.ti_conforms.specs.Closing as closing
-use Rattle.ti_conforms.proofs.Reaching.{can_reached, reached_can, reach_of-append}
+use Rattle.ti_conforms.specs.Closures.{Settled, First, After, SomeLeads, Leaves, designated_all}
+use Rattle.ti_conforms.specs.Closures as closing
+use Rattle.ti_conforms.proofs.Reaches.{can_reached, reached_can, reach_of-append}
 use Rattle.ti_rows.specs.declared.rows.Row.{Row}
 use Rattle.ti_rows.specs.declared.rows.Row.TheVariants.{Clear, Csr, Smcup, Enacs, Sgr0, Smacs, Rmacs}
 use Rattle.ti_rows.specs.Lists.{IsInRange, next, rank, count}
 use Rattle.ti_rows.specs.Names.{order}
-use Rattle.ti_rows.proofs.Listing.{last_is_last, ranks_below, one_of_rank}
-use Rattle.ti_rows.proofs.Naming.{orders_small}
+use Rattle.ti_rows.proofs.ListFacts.{last_is_last, ranks_below, one_of_rank}
+use Rattle.ti_rows.proofs.NameFacts.{orders_small}
 use Rattle.ti_parm.specs.Meaning.{sent}
 use Rattle.ti_conforms.specs.Sends.{Sends}
 use Rattle.ti_conforms.specs.Entries.{is_checked, string_of}
-use Rattle.ti_conforms.proofs.Walking.{same_count}
+use Rattle.ti_conforms.proofs.Walks.{same_count}
 use Rattle.ti_conforms.specs.Table.{Table, or_nothing, text_of, widening, resync, settles, Activates, resync_of}
 use Rattle.ti_conforms.specs.Sets.{CanHave, AtReset, AfterToken, LeadsBy, CanSettle, AfterResync, AfterLine, Occurs}
-use Rattle.ti_conforms.proofs.Judging.{over_steps}
+use Rattle.ti_conforms.proofs.Judgements.{over_steps}
 use Rattle.ti_cert.specs.Known.{with_change}
 use Rattle.ti_checker.specs.Probes.{screen_of}
 use Rattle.ti_checker.specs.declared.probes.Probe.{Probe}
-use Rattle.ti_checker.specs.Switching.{HasSent, switching, AlwaysSettles, AlwaysMisswitches, AlwaysGraphic, IsChangeOf, LeadsAs, IsOfLine, IsBefore, IsCounted, IsSeen, PartLeads, IsLeft, HasLeft, HasSettled, IsMisled}
+use Rattle.ti_checker.specs.Switches.{HasSent, switching, AlwaysSettles, AlwaysMisswitches, AlwaysGraphic, IsChangeOf, LeadsAs, IsOfLine, IsBefore, IsCounted, IsSeen, PartLeads, IsLeft, HasLeft, HasSettled, IsMisled}
 use Rattle.ti_checker.specs.Last.{OfAllSent, SwitchesRight, SwitchRight, SettleRight}
 
 -- ---- lines

@@ -20,8 +20,8 @@ use Rattle.ti_checker.specs.declared.causes.Cause.TheVariants.{FlagOut, Absent, 
 use Rattle.ti_checker.specs.declared.causes.No.{No}
 use Rattle.ti_checker.specs.Resync.{IsPart, SendsResync, StaysOpen}
 use Rattle.ti_checker.proofs.Earliest.{first_told}
-use Rattle.ti_checker.proofs.Fitting.{within_before}
-use Rattle.ti_checker.proofs.Walking.{so_of}
+use Rattle.ti_checker.proofs.FitnessFacts.{within_before}
+use Rattle.ti_checker.proofs.Walks.{so_of}
 
 faulty_of_row : (rows cols : ℕ) (string : List ℕ) (row : Row) (cause : Cause) → IsFaulty rows cols string row cause → IsOfRow cause
 faulty_of_row rows cols string row FlagOut h = h

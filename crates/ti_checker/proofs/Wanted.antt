@@ -18,7 +18,7 @@ use Rattle.ti_rows.specs.Starts.{Starts}
 use Rattle.ti_rows.specs.Wants.{Wants, marked}
 use Rattle.ti_rows.specs.Asked.{asked, on_or_kept, just, with_marks_on}
 use Rattle.ti_checker.specs.Probes.{screen_of}
-use Rattle.ti_checker.specs.Breaking.{has_choice, wanted_end, with_defaults, without_defaults, marks_after, looks_of, EndAlike, NotWanted}
+use Rattle.ti_checker.specs.Breakage.{has_choice, wanted_end, with_defaults, without_defaults, marks_after, looks_of, EndAlike, NotWanted}
 use Rattle.ti_checker.specs.declared.probes.Probe.{Probe}
 
 never : {A : Type 0} → true ≡ false → A

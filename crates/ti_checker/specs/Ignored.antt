@@ -3,7 +3,7 @@
 use Rattle.std.specs.Prelude.{ℕ, ◌==◌, ◌&&◌, ◌||◌, nat_le, not, is_none, Bool, true, false, List, [], ◌∷◌, if◌then◌else◌, Option}
 use Rattle.std.specs.Option.{unwrap_or}
 use Rattle.std.specs.List.{list_any}
-use Rattle.vt_term.specs.Rendering.{change_of}
+use Rattle.vt_term.specs.Rendition.{change_of}
 use Rattle.vt_term.specs.Function.{Function, ModeKind, Standard, Private, SelectRendition, Modes, Ignored, function_of}
 
 -- ---- a sequence that is whole

@@ -9,7 +9,7 @@ use Rattle.vt_term.specs.Ends.{Ends}
 use Rattle.ti_conforms.specs.Entries.{is_checked}
 use Rattle.ti_conforms.specs.Table.{Table, resync, Activates}
 use Rattle.ti_conforms.specs.Sets.{CanHave, LeadsBy, CanSettle}
-use Rattle.ti_checker.specs.Switching.{HasSent}
+use Rattle.ti_checker.specs.Switches.{HasSent}
 
 -- it is so of each table that has just what the entry sends
 abbrev pub OfAllSent : Content → ℕ → ℕ → (Table → Type 0) → Type 0

@@ -1,4 +1,4 @@
-pub mod Breaking
+pub mod Breakage
 pub mod Cells
 pub mod Certificate
 pub mod First
@@ -9,4 +9,4 @@ pub mod No
 pub mod Notes
 pub mod Probes
 pub mod Resync
-pub mod Switching
+pub mod Switches

@@ -4,8 +4,8 @@ use Rattle.ti_caps.specs.Entry.{Content}
 use Rattle.ti_parm.specs.Meaning.{meaning}
 use Rattle.ti_parm.specs.Value.{zeros}
 use Rattle.vt_term.specs.Text.{IsStuck, IsUnfinished, Splits}
-use Rattle.vt_term.specs.declared.tokenizing.TokenFaultKind.{TokenFaultKind}
-use Rattle.vt_term.specs.declared.tokenizing.TokenFaultKind.TheVariants as kinds
+use Rattle.vt_term.specs.declared.tokenizer.TokenFaultKind.{TokenFaultKind}
+use Rattle.vt_term.specs.declared.tokenizer.TokenFaultKind.TheVariants as kinds
 use Rattle.vt_effects.specs.declared.effects.Effect.{Effect}
 use Rattle.vt_effects.specs.Record.{record_of}
 use Rattle.ti_rows.specs.Asked.{start_of, asked}
@@ -20,7 +20,7 @@ use Rattle.ti_conforms.specs.Sends.{Sends, ReadsStatic, values}
 use Rattle.ti_conforms.specs.Entries.{acsc, is_checked, string_of}
 use Rattle.ti_conforms.specs.Conforms.{IsFit}
 use Rattle.ti_checker.specs.declared.probes.Probe.{Probe}
-use Rattle.ti_checker.specs.Breaking.{Breaks, IsShown}
+use Rattle.ti_checker.specs.Breakage.{Breaks, IsShown}
 use Rattle.ti_conforms.specs.Unfit.{HasMisfit, LacksCap, is_flag_out, HasNoFlagOut, HasRequired}
 use Rattle.ti_cert.specs.declared.faults.AgreeFault.TheVariants as agreeing
 use Rattle.ti_cert.specs.declared.faults.CertFaultKind.TheVariants as kinds_of_cert
@@ -32,7 +32,7 @@ use Rattle.ti_checker.specs.declared.causes.No.{No}
 use Rattle.ti_checker.specs.First.{EachStands, IsFirstTold}
 use Rattle.ti_checker.specs.Limit.{Overflows, PassesLimit}
 use Rattle.ti_checker.specs.Resync.{StaysOpen}
-use Rattle.ti_checker.specs.Switching.{OfSent, Misswitches, StaysGraphic}
+use Rattle.ti_checker.specs.Switches.{OfSent, Misswitches, StaysGraphic}
 
 -- ---- what rules every certificate out
 

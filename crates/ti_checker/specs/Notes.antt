@@ -14,7 +14,7 @@ use Rattle.ti_conforms.specs.Sends.{Sends, ReadsStatic, values}
 use Rattle.ti_conforms.specs.Entries.{is_checked, string_of}
 use Rattle.ti_checker.specs.Ignored.{is_ignored}
 use Rattle.ti_checker.specs.No.{SendsSome}
-use Rattle.ti_checker.specs.declared.noting.CheckNote.{CheckNote}
+use Rattle.ti_checker.specs.declared.note_list.CheckNote.{CheckNote}
 use Rattle.ti_checker.specs.declared.causes.Cause.{Cause}
 use Rattle.ti_checker.specs.declared.causes.Cause.TheVariants.{Parm, StaticRead, Unfinished, Stuck, NoMemory}
 use Rattle.ti_checker.specs.declared.causes.No.{No}

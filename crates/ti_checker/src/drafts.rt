@@ -15,8 +15,8 @@ ghost use Rattle.ti_rows.specs.Names.{order};
 ghost use Rattle.ti_conforms.specs.Entries as entries;
 
 use crate::causes::{Cause, No};
-use crate::judging::Judge;
-use crate::sending::checked_string;
+use crate::judgements::Judge;
+use crate::sends::checked_string;
 use std::alloc::{AllocError, Global};
 use ti_caps::Entry;
 use ti_conforms::acsc;

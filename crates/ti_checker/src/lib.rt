@@ -1,25 +1,25 @@
 //! The checker: a certificate for an entry and a size, or what is wrong with the entry.
 #![tactic(auto)]
 
-mod breaking;
+mod breakage;
 mod causes;
 mod cells;
-mod checking;
+mod checks;
 mod drafts;
 mod fitness;
 mod ignored;
-mod judging;
+mod judgements;
 pub mod laws;
-mod noting;
-mod printing;
+mod note_list;
+mod note_texts;
 mod probes;
 mod resync;
-mod sending;
-mod switching;
-mod trying;
+mod sends;
+mod switches;
+mod trials;
 
 pub use causes::{Cause, No};
-pub use checking::check;
-pub use noting::{CheckNote, notes};
-pub use printing::note_lines;
+pub use checks::check;
+pub use note_list::{CheckNote, notes};
+pub use note_texts::note_lines;
 pub use probes::Probe;

@@ -9,7 +9,7 @@ ghost use Rattle.ti_conforms.specs.Conforms.{IsFit};
 ghost use Rattle.ti_rows.specs.Lists.{IsInRange};
 
 use crate::causes::{Cause, No};
-use crate::sending::{checked_string, sent};
+use crate::sends::{checked_string, sent};
 use std::alloc::Global;
 use ti_caps::Entry;
 use ti_rows::Row;

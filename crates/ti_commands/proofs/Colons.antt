@@ -3,7 +3,7 @@ use Rattle.std.proofs.Common.{◌∷◌, ◌++◌, ℕ, List, Option, Some, None
 use Rattle.std.proofs.lemmas.List.{take-append-drop}
 use Rattle.std.proofs.lemmas.Str.Pattern.{NoCharPasses-char, drop_at_char}
 use Rattle.std.specs.Str.Pattern.{RFindsChar, SplitsAroundMatch}
-use Rattle.ti_commands.specs.Finding.{IsPath, IsPathAndName}
+use Rattle.ti_commands.specs.Findings.{IsPath, IsPathAndName}
 use denote.Ref.{Bor}
 
 split_word : (word path name : List ℕ) → SplitsAroundMatch (RFindsChar 58) word path name → IsPathAndName word path name

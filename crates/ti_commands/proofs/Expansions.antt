@@ -9,13 +9,13 @@ use Rattle.ti_reach.specs.declared.MissKind.TheVariants as miss_kinds
 use Rattle.ti_source.specs.Escapes.{FailsBy, unescaped}
 use Rattle.ti_source.specs.declared.escapes.EscapeFault.{EscapeFault}
 use Rattle.ti_source.specs.declared.escapes.EscapeFault.TheVariants as escape_faults
-use Rattle.vt_term.proofs.Running.{runs_or_sticks, text_runs}
+use Rattle.vt_term.proofs.Runs.{runs_or_sticks, text_runs}
 use Rattle.vt_term.specs.Run.{Runs, Sticks}
 use Rattle.vt_term.specs.Screen.{State, reset}
 use Rattle.vt_term.specs.Size.{IsSize}
 use Rattle.vt_term.specs.declared.terminals.Stuck.{Stuck}
 use Rattle.ti_commands.specs.Words.{GiveParams, texts_of}
-use Rattle.ti_commands.specs.Expanding.{Asked, FailsToExpand, IsExpanded, JudgesCup, Shows, ShowsCursor, IsParmFailure, cursor_line, escape_failure, no_line, serves, misses}
+use Rattle.ti_commands.specs.Expansions.{Asked, FailsToExpand, IsExpanded, JudgesCup, Shows, ShowsCursor, IsParmFailure, cursor_line, escape_failure, no_line, serves, misses}
 use Rattle.ti_requests.specs.declared.request.ExpandWords.{ExpandWords}
 use Rattle.ti_commands.specs.declared.failure.Failure.{Failure}
 use Rattle.ti_commands.specs.declared.failure.Failure.TheVariants.{Refused, RefusedUnwritten, Usage, File, Output, NoMemory}

@@ -2,5 +2,5 @@ pub mod Params
 pub mod Listings
 pub mod Expansions
 pub mod Colons
-pub mod Feeds
+pub mod FeedFacts
 pub mod Comparisons

@@ -6,8 +6,8 @@ use Rattle.std.proofs.lemmas.List.FromFn.{filter_of_map_range_with_len_more}
 use Rattle.ti_caps.specs.Table.{place_of_rank}
 use Rattle.ti_caps.specs.Entry.{Content}
 use Rattle.ti_caps.specs.declared.types.Kind.{Kind}
-use Rattle.ti_commands.specs.Listing.{caps_by_name, is_listed_at, listed, name_line}
-use Rattle.ti_commands.specs.declared.describing.Comparison.{Comparison}
+use Rattle.ti_commands.specs.Listings.{caps_by_name, is_listed_at, listed, name_line}
+use Rattle.ti_commands.specs.declared.descriptions.Comparison.{Comparison}
 
 one_line : (f : ℕ → List ℕ) (b : Bool) (x : ℕ) → flat_map f (cond b (x ∷ []) []) ≡ (if b then f x else [])
 one_line f true x = append-nil (f x)

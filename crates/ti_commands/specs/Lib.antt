@@ -1,10 +1,10 @@
 pub mod Words
-pub mod Holding
+pub mod Contents
 pub mod Status
-pub mod Failing
+pub mod Failures
 pub mod Sizes
-pub mod Listing
-pub mod Expanding
-pub mod Feeding
-pub mod Finding
-pub mod Replying
+pub mod Listings
+pub mod Expansions
+pub mod Feeds
+pub mod Findings
+pub mod Replies

@@ -1,7 +1,7 @@
 -- The size of a terminal that two words of a line give, or why they give none.
 use Rattle.std.specs.Prelude.{ℕ, List}
 use Rattle.vt_term.specs.Size.{IsSize}
-use Rattle.ti_commands.specs.Failing.{WrongSize}
+use Rattle.ti_commands.specs.Failures.{WrongSize}
 use Rattle.ti_commands.specs.Words.{GivesNumber}
 use Rattle.ti_commands.specs.declared.failure.Failure.{Failure}
 use Rattle.ti_commands.specs.declared.failure.Failure.TheVariants.{Refused, Usage, NoMemory}

@@ -2,7 +2,7 @@
 
 ghost use Rattle.std.specs.Prelude.{◌≡◌, [], None};
 ghost use Rattle.ti_commands.specs.Status.{status_of};
-ghost use Rattle.ti_commands.specs.Failing.{IsFileFailure, IsUsageError};
+ghost use Rattle.ti_commands.specs.Failures.{IsFileFailure, IsUsageError};
 ghost use Rattle.ti_commands.specs.declared.failure.Failure.TheVariants.{NoMemory};
 
 use std::alloc::{AllocError, AllocFailed, Global};

@@ -1,7 +1,7 @@
 //! The files that a command reads and writes.
 
 ghost use Rattle.std.specs.Prelude.{◌≡◌, ◌≢◌, ℕ, List, Option, None, IfOk, OnErr, OnOk};
-ghost use Rattle.ti_commands.specs.Holding.{AreBytesOf, IsLeft};
+ghost use Rattle.ti_commands.specs.Contents.{AreBytesOf, IsLeft};
 
 use std::io;
 use std::io::{ErrorKind, Read};

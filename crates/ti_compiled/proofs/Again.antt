@@ -11,7 +11,7 @@ use Rattle.ti_compiled.specs.declared.types.Form.{Form}
 use Rattle.ti_compiled.specs.declared.types.Form.TheVariants.{Legacy, Wide}
 use Rattle.ti_compiled.specs.declared.sections.Sizes.{Sizes}
 use Rattle.ti_compiled.specs.Layout.{Parts, words, longs, width, numbers_in, half, is_number, is_flag, is_nul, ends_with_nul}
-use Rattle.ti_compiled.specs.Reading.{word_of, form_of, sizes_fit, sizes_of, cut_at, sections_of, offset_judged, offsets_judged, parts_judged, parts_of}
+use Rattle.ti_compiled.specs.Readings.{word_of, form_of, sizes_fit, sizes_of, cut_at, sections_of, offset_judged, offsets_judged, parts_judged, parts_of}
 use Rattle.ti_compiled.specs.Contents.{before_nul, flag_value, number_value, string_value, entry_of, read_of}
 use Rattle.ti_compiled.specs.Packed.{word, long, magic, number_bytes, layout, HasNoNul, IsFlag, IsNumber, IsString, Each, Sections, HasSections, PackedIsRead}
 

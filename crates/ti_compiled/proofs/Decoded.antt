@@ -3,7 +3,7 @@ use Rattle.std.proofs.Common.{◌≡◌, ℕ, suc, ◌<◌, List, [], ◌∷◌,
 use Rattle.std.specs.Prelude.{Result, IfOk, IsOkAnd}
 use Rattle.ti_caps.specs.Entry.{Content}
 use Rattle.ti_compiled.specs.declared.types.PackFault.{PackFault}
-use Rattle.ti_compiled.specs.Reading.{Is}
+use Rattle.ti_compiled.specs.Readings.{Is}
 use Rattle.ti_compiled.specs.Contents.{read_of}
 use Rattle.ti_compiled.specs.Packed.{IsPacked}
 use Rattle.ti_compiled.proofs.Again.{packed_is_read}

@@ -18,7 +18,7 @@ use Rattle.ti_compiled.specs.Layout.{half, width}
 use Rattle.ti_compiled.specs.Packed.{word, magic, number_bytes, layout}
 use Rattle.ti_compiled.specs.Written.{flags_of, numbers_of, strings_of, trimmed, itself, number_cell, offsets_from, table_of, is_wide, form_for, flag_cells, number_cells, offset_cells, padding_for, written_in, written, limit, packing_of, IsPlan}
 use Rattle.ti_compiled.proofs.Again.{length-words, length-numbers}
-use Rattle.ti_compiled.proofs.Filling.{number_is}
+use Rattle.ti_compiled.proofs.Fills.{number_is}
 use Rattle.ti_compiled.proofs.Rows.{number_row_at, numbers_length, any_yes, any_no}
 use Rattle.ti_compiled.proofs.Takes.{and_ok}
 

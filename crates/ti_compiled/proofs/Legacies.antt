@@ -9,7 +9,7 @@ use Rattle.ti_compiled.specs.declared.types.PackFault.TheVariants.{BadMagic, Too
 use Rattle.ti_compiled.specs.declared.types.Form.TheVariants.{Legacy, Wide}
 use Rattle.ti_compiled.specs.declared.sections.Sizes.{Sizes}
 use Rattle.ti_compiled.specs.Layout.{Parts}
-use Rattle.ti_compiled.specs.Reading.{◌>>=◌, Judged, judged, sizes_of, cut_at, sections_of, parts_judged, parts_of}
+use Rattle.ti_compiled.specs.Readings.{◌>>=◌, Judged, judged, sizes_of, cut_at, sections_of, parts_judged, parts_of}
 use Rattle.ti_compiled.specs.Contents.{entry_of, read_of}
 use Rattle.ti_compiled.specs.Written.{numbers_of, is_wide, form_for, written_in, written, limit, packing_of}
 use Rattle.ti_compiled.specs.Legacy.{Slices, legacy_sections, legacy_judged, legacy_entry, legacy_read, legacy_packing, BeginsWide, LegacyIsRead, HasSmallNumbers, LegacyIsWritten}

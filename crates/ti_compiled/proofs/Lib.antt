@@ -3,7 +3,7 @@ pub mod Contents
 pub mod Decoded
 pub mod Ends
 pub mod Files
-pub mod Filling
+pub mod Fills
 pub mod Legacies
 pub mod Round
 pub mod Rows

@@ -12,7 +12,7 @@ use Rattle.ti_compiled.specs.declared.types.PackFault.{PackFault}
 use Rattle.ti_compiled.specs.declared.types.PackFault.TheVariants.{Short, BadMagic, BadCount, BadFlag, BadNumber, BadOffset, NoNul}
 use Rattle.ti_compiled.specs.declared.sections.Sizes.{Sizes}
 use Rattle.ti_compiled.specs.Layout.{Parts, words, longs, width, numbers_in, half, is_number, is_flag, is_nul, ends_with_nul}
-use Rattle.ti_compiled.specs.Reading.{◌>>=◌, judged, word_of, form_of, sizes_fit, sizes_of, cut_at, sections_of, offset_judged, offsets_judged, parts_judged, parts_of}
+use Rattle.ti_compiled.specs.Readings.{◌>>=◌, judged, word_of, form_of, sizes_fit, sizes_of, cut_at, sections_of, offset_judged, offsets_judged, parts_judged, parts_of}
 use Rattle.ti_compiled.specs.Contents.{before_nul, flag_value, number_value, string_value, entry_of, read_of, flag_values, number_values, string_values}
 use Rattle.ti_compiled.specs.Packed.{word, long, magic, number_bytes, layout, StandsFirst, IsFlag, IsNumber, IsString, Each, Sections, HasSections, IsPacked, ReadIsPacked}
 

@@ -10,7 +10,7 @@ use Rattle.ti_caps.specs.Fits.{names_fit}
 use Rattle.ti_compiled.specs.declared.types.PackFault.{PackFault}
 use Rattle.ti_compiled.specs.declared.types.PackFault.TheVariants.{Short, BadMagic, BadCount, BadFlag, BadNumber, BadOffset, NoNul, TooLarge, NoMemory, BadNames}
 use Rattle.ti_compiled.specs.Layout.{Parts, words, numbers_in, half}
-use Rattle.ti_compiled.specs.Reading.{◌>>=◌, parts_of}
+use Rattle.ti_compiled.specs.Readings.{◌>>=◌, parts_of}
 
 -- the bytes before the first NUL
 abbrev pub before_nul : List ℕ → List ℕ

@@ -7,7 +7,7 @@ use Rattle.ti_compiled.specs.declared.types.PackFault.TheVariants.{BadMagic, Bad
 use Rattle.ti_compiled.specs.declared.types.Form.TheVariants.{Legacy}
 use Rattle.ti_compiled.specs.declared.sections.Sizes.{Sizes}
 use Rattle.ti_compiled.specs.Layout.{words, is_number, is_flag, ends_with_nul}
-use Rattle.ti_compiled.specs.Reading.{◌>>=◌, Judged, judged, word_of, sizes_of, cut_at, offsets_judged}
+use Rattle.ti_compiled.specs.Readings.{◌>>=◌, Judged, judged, word_of, sizes_of, cut_at, offsets_judged}
 use Rattle.ti_compiled.specs.Contents.{before_nul, flag_value, number_value, string_value, rows_of, read_of}
 use Rattle.ti_compiled.specs.Written.{numbers_of, is_wide, written_in, packing_of}
 

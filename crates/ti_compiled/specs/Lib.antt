@@ -2,5 +2,5 @@ pub mod Contents
 pub mod Layout
 pub mod Legacy
 pub mod Packed
-pub mod Reading
+pub mod Readings
 pub mod Written

@@ -6,7 +6,7 @@ ghost use Rattle.ti_caps.specs.declared.types.Kind.TheVariants as kinds;
 ghost use Rattle.ti_caps.specs.Entry.{bare_entry};
 ghost use Rattle.ti_caps.specs.Table.{kind_of, count_of, first_of};
 ghost use Rattle.ti_caps.specs.Fits.{names_fit};
-ghost use Rattle.ti_compiled.specs.Reading.{parts_view};
+ghost use Rattle.ti_compiled.specs.Readings.{parts_view};
 ghost use Rattle.ti_compiled.specs.Contents.{before_nul, entry_of, value_of, fit_of, filled, string_values, is_long, is_long_string, with_row, partly, Gives};
 
 use crate::packed::{before_nul, flag_in, number_in, string_in};

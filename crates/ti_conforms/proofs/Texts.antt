@@ -2,11 +2,11 @@
 use Rattle.std.proofs.Common.{◌≡◌, ℕ, ◌≤◌, Bool, true, false, if◌then◌else◌, List, [], ◌∷◌, ◌++◌, length, drop, refl, sym, ap, ◌∙◌, arith}
 use Rattle.vt_term.specs.Text.{Splits}
 use Rattle.vt_term.specs.Scanned.{Begins, IsTokenAt}
-use Rattle.vt_term.proofs.Beginning.{begins_at, begins_all}
-use Rattle.vt_term.proofs.Splitting.{one_splitting}
+use Rattle.vt_term.proofs.Starts.{begins_at, begins_all}
+use Rattle.vt_term.proofs.Splits.{one_splitting}
 use Rattle.ti_conforms.specs.declared.reach.Reach.{Reach}
 use Rattle.ti_conforms.specs.Charsets.{joined, reach_of}
-use Rattle.ti_conforms.proofs.Reaching.{joined_none, reach_of-append, same_reach}
+use Rattle.ti_conforms.proofs.Reaches.{joined_none, reach_of-append, same_reach}
 
 or_three : (a b c : Bool) → (if (if a then true else b) then true else c) ≡ (if a then true else (if b then true else c))
 or_three true b c = refl

@@ -8,7 +8,7 @@ use Rattle.ti_rows.specs.declared.rows.Row.TheVariants.{Clear, Cup, Sgr, Sgr0, S
 use Rattle.ti_rows.specs.Names.{no_attributes}
 use Rattle.ti_rows.specs.Lists.{IsInRange}
 use Rattle.ti_conforms.specs.Entries.{acsc, has_string, is_checked, LineAgrees, EntryAgrees}
-use Rattle.ti_conforms.proofs.Matching.{same_checked}
+use Rattle.ti_conforms.proofs.Matches.{same_checked}
 use Rattle.ti_conforms.specs.Table.{Table, has}
 use Rattle.ti_conforms.specs.Together.{HasNoSingles, AgreedStandTogether}
 

@@ -6,9 +6,9 @@ use Rattle.ti_rows.specs.declared.rows.Row.{Row}
 use Rattle.ti_rows.specs.declared.rows.Row.TheVariants.{Sgr, Setaf, Setab, Op, Smul, Rev, Blink, Dim, Bold, Invis, Smso, Smacs, Rmacs}
 use Rattle.ti_rows.specs.Names.{order, cap_of, no_attributes}
 use Rattle.ti_rows.specs.Lists.{IsFirst, IsInRange}
-use Rattle.ti_conforms.specs.Agreeing.{LineSends, SomeLine}
-use Rattle.ti_conforms.specs.declared.agreeing.Disagreement.{Disagreement}
-use Rattle.ti_conforms.specs.declared.agreeing.Disagreement.TheVariants.{Disagree, Unwanted, NoMemory}
+use Rattle.ti_conforms.specs.Agreement.{LineSends, SomeLine}
+use Rattle.ti_conforms.specs.declared.agreement.Disagreement.{Disagreement}
+use Rattle.ti_conforms.specs.declared.agreement.Disagreement.TheVariants.{Disagree, Unwanted, NoMemory}
 use Rattle.ti_conforms.specs.declared.entries.Group.{Group}
 use Rattle.ti_conforms.specs.declared.entries.Group.TheVariants.{Colors, Single, Sets, Alone}
 

@@ -2,7 +2,7 @@ pub mod Conforms
 pub mod Together
 pub mod Alternates
 pub mod Charsets
-pub mod Closing
+pub mod Closures
 pub mod Lost
 pub mod Lines
 pub mod Resync
@@ -11,7 +11,7 @@ pub mod Sets
 pub mod Judged
 pub mod Holds
 pub mod Sends
-pub mod Agreeing
+pub mod Agreement
 pub mod Entries
 pub mod Certified
 pub mod Unfit

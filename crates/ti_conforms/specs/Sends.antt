@@ -5,8 +5,8 @@ use Rattle.ti_parm.specs.Meaning.{State, meaning, sent, ReadsUnset}
 use Rattle.ti_parm.specs.Value.{Value, Number, zeros}
 use Rattle.ti_rows.specs.declared.rows.Row.{Row}
 use Rattle.ti_rows.specs.Params.{params}
-use Rattle.ti_conforms.specs.declared.sending.SendFault.{SendFault}
-use Rattle.ti_conforms.specs.declared.sending.SendFault.TheVariants.{Fault, StaticRead, NoMemory}
+use Rattle.ti_conforms.specs.declared.sends.SendFault.{SendFault}
+use Rattle.ti_conforms.specs.declared.sends.SendFault.TheVariants.{Fault, StaticRead, NoMemory}
 
 abbrev pub numbers : List ℕ → List Value
 numbers ns = map (λ n. Number (pos n)) ns

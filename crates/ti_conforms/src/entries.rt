@@ -6,7 +6,7 @@ ghost use Rattle.ti_rows.specs.Lists.{IsFirst};
 ghost use Rattle.ti_rows.specs.Names.{first_in_order, order};
 ghost use Rattle.ti_conforms.specs.Entries as spec;
 
-use crate::agreeing::{Disagreement, LinesByRow, all_agree};
+use crate::agreement::{Disagreement, LinesByRow, all_agree};
 use std::alloc::Global;
 use ti_caps::{Cap, Entry, Kind, at};
 use ti_rows::{NO_ATTRIBUTES, Row};

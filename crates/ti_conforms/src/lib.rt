@@ -3,9 +3,9 @@
 //! that judged lines which agree with the entry show all that.
 #![tactic(auto)]
 
-mod agreeing;
+mod agreement;
 mod certificates;
-mod closing;
+mod closures;
 mod entries;
 mod fitness;
 pub mod laws;
@@ -13,15 +13,15 @@ mod looks;
 mod partners;
 mod reach;
 mod resync;
-mod sending;
+mod sends;
 
-pub use agreeing::{Disagreement, LinesByRow, all_agree};
+pub use agreement::{Disagreement, LinesByRow, all_agree};
 pub use certificates::Certificate;
-pub use closing::{Charsets, KEPT, designated, or_kept, settles, switched};
+pub use closures::{Charsets, KEPT, designated, or_kept, settles, switched};
 pub use entries::{Group, entry_agrees, is_checked};
 pub use fitness::{Unfit, acsc, first_unfit};
 pub use looks::{NO_LOOKS, is_alone, is_some_look};
 pub use partners::{Character, fallback, misfit, partner, shown};
 pub use reach::Reach;
 pub use resync::resync_rows;
-pub use sending::{SendFault, send, send_into};
+pub use sends::{SendFault, send, send_into};

@@ -2,8 +2,8 @@
 use Rattle.std.proofs.Common.{◌≡◌, ℕ, List, [], ◌++◌, Result, Ok, Err, sym, ap, subst, ◌∙◌, inl, inr}
 use Rattle.std.proofs.lemmas.List.{append-nil}
 use Rattle.ti_lines.specs.Reader.{Follows, AtEnd, Rose}
-use Rattle.ti_lines.specs.Judging.{Rules, Judged, Gives, Outcome, Whole, Early, Cuts, Reports, GivesOr}
-use Rattle.ti_lines.specs.declared.judging.LineFault.{LineFault}
+use Rattle.ti_lines.specs.Judgements.{Rules, Judged, Gives, Outcome, Whole, Early, Cuts, Reports, GivesOr}
+use Rattle.ti_lines.specs.declared.judgements.LineFault.{LineFault}
 
 weaker : {X T F : Type 0} (rules : Rules T F) (Failed : Type 0) (new : T) (answer : Result X (LineFault F)) (Is : Result T (LineFault F) → Type 0) → Gives rules new answer Is → GivesOr rules Failed new answer Is
 weaker rules Failed new (Ok x) Is h = h

@@ -8,7 +8,7 @@ use Rattle.std.proofs.lemmas.Bool.Decides.{nat_tests}
 use Rattle.std.proofs.lemmas.Option.{cond_some, option_and_then_some, same_Some}
 use Rattle.std.proofs.lemmas.Fmt.{decimal_by_steps, decimal_digit, decimal_step, first_decimal}
 use Rattle.std.proofs.lemmas.List.Folds.{list_all-append}
-use Rattle.ti_lines.specs.EffectReading.{is_digit, with_digit, digits_from, after_zero, number_at, positive}
+use Rattle.ti_lines.specs.EffectReader.{is_digit, with_digit, digits_from, after_zero, number_at, positive}
 use Rattle.ti_lines.proofs.TextCuts.{lacks}
 
 join_step : (xs ys : List ℕ) (o : Option ℕ) → ((m : ℕ) → digits_from m (xs ++ ys) ≡ option_and_then (λ k. digits_from k ys) (digits_from m xs))

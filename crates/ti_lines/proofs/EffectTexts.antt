@@ -9,7 +9,7 @@ use Rattle.vt_effects.specs.Effect.{unchanged}
 use Rattle.ti_lines.specs.declared.words.Found.{Found}
 use Rattle.ti_lines.specs.EffectText.{words, joined, spelled, IsPlain}
 use Rattle.ti_lines.specs.EffectLaws.{OneText}
-use Rattle.ti_lines.specs.EffectReading.{is_all, word_at, with_word, with_words, parts_of, words_of, read_behind, effect_in}
+use Rattle.ti_lines.specs.EffectReader.{is_all, word_at, with_word, with_words, parts_of, words_of, read_behind, effect_in}
 use Rattle.ti_lines.proofs.TextCuts.{parts_joined, some_part, AllLack, split_joined}
 use Rattle.ti_lines.proofs.Glyphs.{branch, mapped}
 use Rattle.ti_lines.proofs.Forms.{all_written}

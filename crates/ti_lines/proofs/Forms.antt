@@ -23,7 +23,7 @@ use Rattle.ti_lines.specs.declared.words.Word.{Word}
 use Rattle.ti_lines.specs.declared.words.Word.TheVariants.{Row, Col, EndsPending, Erases, Scrolls, Looks, Inks, Chooses, Rows, Shows}
 use Rattle.ti_lines.specs.declared.words.Marks.{Marks}
 use Rattle.ti_lines.specs.EffectText.{row_name, col_name, nopend, all_name, tail_name, head_name, rest_name, next_name, up_name, down_name, look_name, ink_name, set_name, rows_name, show_name, hide_name, move_text, erasure_text, scroll_text, visible_text, set_text, rows_text, lettered, switch_letter, ink_letter, is_dot, IsPlainMove, IsPlainErasure, IsPlainRegion}
-use Rattle.ti_lines.specs.EffectReading.{behind, number_at, positive, all_signed, move_at, next_at, letters_at, marks_of, inks_of, sets_of, marks_at, inks_at, sets_at, parts_of, region_of, region_at, is_all, fixed_at, numbered_at, lettered_at, word_at}
+use Rattle.ti_lines.specs.EffectReader.{behind, number_at, positive, all_signed, move_at, next_at, letters_at, marks_of, inks_of, sets_of, marks_at, inks_at, sets_at, parts_of, region_of, region_at, is_all, fixed_at, numbered_at, lettered_at, word_at}
 use Rattle.ti_lines.proofs.TextCuts.{parts_joined, some_part, lacks, split_front, split_whole}
 use Rattle.ti_lines.proofs.Digits.{number_reads, number_written, positive_reads, positive_written, decimal_lacks, both_true}
 use Rattle.ti_lines.proofs.Glyphs.{branch, mapped, either, equal, behind_written, letters_written, is_lettered, mark_letters, set_letters, marks_written, inks_written, sets_written, marks_read, inks_read, sets_read}

@@ -16,7 +16,7 @@ use Rattle.vt_effects.specs.declared.effects.Ink.TheVariants as inks
 use Rattle.vt_effects.specs.declared.effects.Sets.{Sets}
 use Rattle.ti_lines.specs.declared.words.Marks.{Marks}
 use Rattle.ti_lines.specs.EffectText.{switch_letter, ink_letter, mark_letter, is_dot, lettered}
-use Rattle.ti_lines.specs.EffectReading.{behind, letters_at, switch_at, ink_at, marks_of, inks_of, sets_of}
+use Rattle.ti_lines.specs.EffectReader.{behind, letters_at, switch_at, ink_at, marks_of, inks_of, sets_of}
 
 -- a choice that gives something, by its branches
 pub branch : {A : Type 0} (P : Type 0) (c : Bool) (a b : Option A) (z : A) → (c ≡ true → a ≡ Some z → P) → (b ≡ Some z → P) → (if c then a else b) ≡ Some z → P

@@ -5,13 +5,13 @@ use Rattle.std.specs.Option.{option_map, option_and_then}
 use Rattle.std.specs.Prelude.{bytes_eq}
 use Rattle.std.proofs.lemmas.Slice.Eq.{bytes_eq-Decides}
 use Rattle.std.proofs.lemmas.Option.{same_Some, none-some, option_and_then_some}
-use Rattle.ti_lines.specs.EffectReading.{number_at}
+use Rattle.ti_lines.specs.EffectReader.{number_at}
 use Rattle.ti_lines.proofs.Digits.{number_reads, number_written, IsNumber, decimal_lacks}
 use Rattle.ti_lines.specs.Cut.{cut_at}
 use Rattle.ti_lines.specs.Hex.{hex_text, hex_in}
 use Rattle.ti_lines.specs.Heads.{first_word, version, acsc_word, behind_word, acsc_in, two_numbers_in, size_in, IsSizeText, IsAcscText}
-use Rattle.ti_lines.proofs.Cutting.{lacks, cut_front, cut_is}
-use Rattle.ti_lines.proofs.Hexing.{hex_written, hex_read, IsHex}
+use Rattle.ti_lines.proofs.CutFacts.{lacks, cut_front, cut_is}
+use Rattle.ti_lines.proofs.Hex.{hex_written, hex_read, IsHex}
 use Rattle.ti_lines.proofs.LinesRead.{mapped}
 
 if_there : (b : Bool) (x y : List ℕ) → (if b then Some x else None) ≡ Some y → (b ≡ true) × (x ≡ y)

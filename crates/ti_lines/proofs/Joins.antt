@@ -3,7 +3,7 @@ use Rattle.std.proofs.Common.{append_assoc, append-nil, ◌≡◌, ℕ, ◌<◌,
 use Rattle.std.specs.List.{join_with_byte}
 use Rattle.vt_effects.specs.declared.effects.Effect.{Effect}
 use Rattle.ti_lines.specs.EffectText.{texts, nonempty, joined, spelled, rows_name}
-use Rattle.ti_lines.specs.EffectWriting.{begun, with_text, with_texts}
+use Rattle.ti_lines.specs.EffectWriter.{begun, with_text, with_texts}
 
 pub word_begun : (front name rest : List ℕ) → 0 < length name → with_text front (name ++ rest) ≡ (begun front ++ name) ++ rest
 word_begun front [] rest h = absurd (omega arith)

@@ -7,8 +7,8 @@ pub mod Orders
 pub mod Plains
 pub mod Recorded
 pub mod EffectTexts
-pub mod Cutting
-pub mod Hexing
+pub mod CutFacts
+pub mod Hex
 pub mod NumbersRead
 pub mod LinesRead
 pub mod HeadsRead

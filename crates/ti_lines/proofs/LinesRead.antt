@@ -13,21 +13,21 @@ use Rattle.std.proofs.lemmas.Slice.Eq.{bytes_eq-Decides}
 use Rattle.std.proofs.lemmas.Option.{same_Some, none-some, option_and_then_some}
 use Rattle.hex.specs.Hex.{encode_with, encode_lower, lower_digits, IsBytes}
 use Rattle.ti_lines.specs.EffectText.{spelled, IsPlain}
-use Rattle.ti_lines.specs.EffectReading.{number_at, effect_in}
+use Rattle.ti_lines.specs.EffectReader.{number_at, effect_in}
 use Rattle.ti_lines.proofs.Digits.{number_reads, number_written, IsNumber, decimal_lacks}
 use Rattle.ti_lines.proofs.EffectTexts.{reads_spelled, reads_plain, spelled_reads}
 use Rattle.vt_effects.specs.declared.effects.Effect.{Effect}
 use Rattle.ti_rows.specs.declared.rows.Row.{Row}
 use Rattle.ti_rows.specs.Names.{order, name_of, name_in_order}
 use Rattle.ti_rows.specs.Params.{params, with_params, HasParams}
-use Rattle.ti_rows.proofs.Naming.{names_rise, orders_small}
-use Rattle.ti_rows.proofs.Reading.{finds_params, params_found, same_count}
+use Rattle.ti_rows.proofs.NameFacts.{names_rise, orders_small}
+use Rattle.ti_rows.proofs.Readers.{finds_params, params_found, same_count}
 use Rattle.ti_lines.specs.declared.row_lines.RowLine.{RowLine}
 use Rattle.ti_lines.specs.Cut.{cut_at}
 use Rattle.ti_lines.specs.Hex.{hex_text, hex_in}
 use Rattle.ti_lines.specs.RowLines.{numbers_text, line_text, IsLine, IsTextOf, numbers_before, row_before, line_behind, line_of}
-use Rattle.ti_lines.proofs.Cutting.{lacks, cut_front, cut_is, IsCut}
-use Rattle.ti_lines.proofs.Hexing.{hex_written, hex_read, IsHex, both}
+use Rattle.ti_lines.proofs.CutFacts.{lacks, cut_front, cut_is, IsCut}
+use Rattle.ti_lines.proofs.Hex.{hex_written, hex_read, IsHex, both}
 
 -- the value after `option_map`
 pub mapped : {A B : Type 0} (f : A → B) (o : Option A) (z : B) → option_map f o ≡ Some z → (y : A) × (o ≡ Some y) × (f y ≡ z)

@@ -1,7 +1,7 @@
 -- Numbers read one after another.
 use Rattle.std.proofs.Common.{◌≡◌, ℕ, suc, ◌+◌, ◌-◌, ◌<◌, List, [], ◌∷◌, ◌++◌, Option, Some, None, ap, ◌∙◌, arith}
 use Rattle.std.specs.Option.{option_and_then}
-use Rattle.ti_lines.specs.EffectReading.{number_at}
+use Rattle.ti_lines.specs.EffectReader.{number_at}
 use Rattle.ti_lines.specs.Cut.{cut_at}
 use Rattle.ti_lines.specs.RowLines.{numbers_before}
 

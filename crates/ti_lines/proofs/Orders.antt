@@ -27,7 +27,7 @@ use Rattle.ti_lines.specs.declared.words.Word.TheVariants.{Row, Col, EndsPending
 use Rattle.ti_lines.specs.declared.words.Marks.{Marks}
 use Rattle.ti_lines.specs.declared.words.Found.{Found}
 use Rattle.ti_lines.specs.EffectText.{row_name, col_name, ink_name, look_name, set_name, is_dot, switch_letter, ink_letter, move_text, pending_text, erasure_text, scroll_text, look_text, ink_text, set_text, rows_text, visible_text, lettered, texts, nonempty, words, IsPlainMove, IsPlainErasure, IsPlainRegion, IsPlain}
-use Rattle.ti_lines.specs.EffectReading.{rank, marked, put, put_next, with_word, with_words, word_at}
+use Rattle.ti_lines.specs.EffectReader.{rank, marked, put, put_next, with_word, with_words, word_at}
 use Rattle.ti_lines.proofs.TextCuts.{AllLack}
 use Rattle.ti_lines.proofs.Glyphs.{mark_letters, set_letters}
 use Rattle.ti_lines.proofs.Forms.{word_text, IsPlainWord, IsWord, word_written, IsRead, fixed_read, row_to, row_back, row_forward, col_to, col_back, col_forward, next_read, region_read, look_read, ink_read, set_read}

@@ -4,8 +4,8 @@ use Rattle.std.proofs.lemmas.List.{length-drop}
 use Rattle.ti_lines.specs.Reader.{Gave}
 use Rattle.ti_lines.specs.Text.{Cut, cut_of, line_end}
 use Rattle.ti_lines.specs.Lines.{Reading, Takes, IsNext, HaltsBy}
-use Rattle.ti_lines.specs.Judging.{Rules, fault_at, AtLine, JudgedFrom, Judged, FailsBy, Gives, Whole, Early, Cuts, Reports, Closes, halted, Progress}
-use Rattle.ti_lines.specs.declared.judging.LineFault.{LineFault}
+use Rattle.ti_lines.specs.Judgements.{Rules, fault_at, AtLine, JudgedFrom, Judged, FailsBy, Gives, Whole, Early, Cuts, Reports, Closes, halted, Progress}
+use Rattle.ti_lines.specs.declared.judgements.LineFault.{LineFault}
 use Rattle.ti_lines.specs.declared.lines.Next.{Next}
 use Rattle.ti_lines.specs.declared.lines.Next.TheVariants.{Line, End, Unended, Long}
 use Rattle.ti_lines.specs.declared.lines.Halt.{Halt}

@@ -6,7 +6,7 @@ use Rattle.std.proofs.lemmas.Bool.{ltb-true, ltb-false, cases_Bool, cond-true, c
 use Rattle.std.proofs.lemmas.Bool.Decides.{nat_tests}
 use Rattle.std.proofs.lemmas.Option.{cond_some}
 use Rattle.std.proofs.lemmas.List.Splits.{slice_split_first, slice_split-cons_no, slice_split-cons_yes, join_with_byte-slice_split, length-slice_split}
-use Rattle.ti_lines.specs.EffectReading.{parts_of}
+use Rattle.ti_lines.specs.EffectReader.{parts_of}
 
 pub cut_found : (c : ℕ) (text : List ℕ) (at : ℕ) → Some at ≡ position (λ b. b == c) text → parts_of c text ≡ take at text ∷ parts_of c (drop (at + 1) text)
 unfolding parts_of

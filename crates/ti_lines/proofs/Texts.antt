@@ -3,8 +3,8 @@ use Rattle.std.proofs.Common.{◌≡◌, ℕ, zero, suc, ◌+◌, ◌-◌, ◌<�
 use Rattle.std.specs.Option.{option_map}
 use Rattle.std.proofs.lemmas.Bool.Decides.{nat_tests}
 use Rattle.ti_lines.specs.Text.{Cut, IsText, is_feed, cut_of, with_line, onto_cut, line_end, is_long}
-use Rattle.ti_lines.specs.Judging.{Rules, fault_at, AtLine, Passes, Fails, TooLong, JudgedLines, JudgedCut, JudgedFrom}
-use Rattle.ti_lines.specs.declared.judging.LineFault.{LineFault}
+use Rattle.ti_lines.specs.Judgements.{Rules, fault_at, AtLine, Passes, Fails, TooLong, JudgedLines, JudgedCut, JudgedFrom}
+use Rattle.ti_lines.specs.declared.judgements.LineFault.{LineFault}
 use Rattle.ti_lines.proofs.Ends.{none_moved}
 
 -- how a text is cut

@@ -3,7 +3,7 @@ use Rattle.std.specs.Prelude.{ℕ, ◌<◌, ◌≡◌, bytes_eq, Bool, if◌then
 use Rattle.std.specs.Fmt.{decimal}
 use Rattle.std.specs.Option.{option_map, option_and_then}
 use Rattle.hex.specs.Hex.{IsBytes}
-use Rattle.ti_lines.specs.EffectReading.{number_at}
+use Rattle.ti_lines.specs.EffectReader.{number_at}
 use Rattle.ti_lines.specs.Cut.{cut_at}
 use Rattle.ti_lines.specs.Hex.{hex_text, hex_in}
 

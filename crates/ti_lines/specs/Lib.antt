@@ -1,7 +1,7 @@
 pub mod EffectLaws
-pub mod EffectReading
+pub mod EffectReader
 pub mod EffectText
-pub mod EffectWriting
+pub mod EffectWriter
 pub mod Cut
 pub mod Hex
 pub mod RowLines
@@ -11,4 +11,4 @@ pub mod Reader
 pub mod Drip
 pub mod Text
 pub mod Lines
-pub mod Judging
+pub mod Judgements

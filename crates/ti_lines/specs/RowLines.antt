@@ -5,7 +5,7 @@ use Rattle.std.specs.List.{AllByRecursion}
 use Rattle.std.specs.Option.{option_map, option_and_then}
 use Rattle.hex.specs.Hex.{IsBytes}
 use Rattle.ti_lines.specs.EffectText.{spelled, IsPlain}
-use Rattle.ti_lines.specs.EffectReading.{number_at, effect_in}
+use Rattle.ti_lines.specs.EffectReader.{number_at, effect_in}
 use Rattle.ti_rows.specs.Names.{name_of}
 use Rattle.ti_rows.specs.Params.{params, with_params}
 use Rattle.ti_rows.specs.declared.rows.Row.{Row}

@@ -3,7 +3,7 @@ ghost use Rattle.std.specs.Prelude.{◌≡◌, ◌∷◌, [], ◌<◌, ◌==◌,
 ghost use Rattle.std.specs.List.{position};
 ghost use Rattle.vt_effects.specs.declared.effects.Effect as declared;
 ghost use Rattle.ti_lines.specs.EffectText.{spelled, IsPlain};
-ghost use Rattle.ti_lines.specs.EffectReading as spec;
+ghost use Rattle.ti_lines.specs.EffectReader as spec;
 
 use crate::letters::{are_dots, ink_at, switch_at};
 use crate::numbers::{number_at, positive_at};

@@ -3,7 +3,7 @@
 ghost use Rattle.std.specs.Prelude.{◌≡◌};
 ghost use Rattle.std.specs.List.{list_all};
 ghost use Rattle.ti_lines.specs.EffectText as texts;
-ghost use Rattle.ti_lines.specs.EffectReading as spec;
+ghost use Rattle.ti_lines.specs.EffectReader as spec;
 
 use vt_effects::{Ink, Switch};
 use vt_term::color_of;

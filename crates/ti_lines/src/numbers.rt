@@ -2,7 +2,7 @@
 
 ghost use Rattle.std.specs.Prelude.{◌≡◌, ◌++◌, OnOk};
 ghost use Rattle.std.specs.Fmt.{decimal};
-ghost use Rattle.ti_lines.specs.EffectReading as spec;
+ghost use Rattle.ti_lines.specs.EffectReader as spec;
 
 use itoa::Buffer;
 use std::alloc::AllocError;

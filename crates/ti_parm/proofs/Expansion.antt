@@ -4,16 +4,16 @@ use Rattle.ti_parm.specs.declared.fault.ParmFault.{ParmFault}
 use Rattle.ti_parm.specs.declared.fault.ParmFault.TheVariants.{Underflow, BadNest, BadCode, Overflow, BadChar, WrongKind, NoMemory}
 use Rattle.ti_parm.specs.Delays.{HasNoOpening, strip}
 use Rattle.ti_parm.specs.Fault.{◌>>=◌, FailsBy}
-use Rattle.ti_parm.specs.Running.{follow, judged_run, run_ahead, run_from}
+use Rattle.ti_parm.specs.Runs.{follow, judged_run, run_ahead, run_from}
 use Rattle.ti_parm.specs.Syntax.{Behind, Ends, HasEnd, IsPlain, Parts, ahead, syntax, verdict, whole, without_tree}
 use Rattle.ti_parm.specs.Meaning.{State, act, after, meaning, run, sent_with, start_of}
 use Rattle.ti_parm.specs.Value.{Value}
 use Rattle.ti_parm.specs.Machine.{state_of}
 use Rattle.ti_parm.specs.declared.machine.Machine.{Machine}
-use Rattle.ti_parm.proofs.Binding.{bind-Ok}
-use Rattle.ti_parm.proofs.Judging.{verdict-ended}
+use Rattle.ti_parm.proofs.Bindings.{bind-Ok}
+use Rattle.ti_parm.proofs.Judgements.{verdict-ended}
 use Rattle.ti_parm.proofs.Trees.{ahead-plain, literals}
-use Rattle.ti_parm.proofs.Stripping.{strip-undelayed}
+use Rattle.ti_parm.proofs.Strips.{strip-undelayed}
 use Rattle.ti_parm.proofs.Output.{all_after, run-after}
 
 fault-or_memory : {S : Type 0} (e : ParmFault) (meant : Result S ParmFault) → FailsBy e meant → (e ≡ NoMemory) ⊎ (meant ≡ Err e)

@@ -10,7 +10,7 @@ use Rattle.ti_parm.specs.declared.formats.Conversion.{Conversion}
 use Rattle.ti_parm.specs.declared.formats.Flags.{Flags}
 use Rattle.ti_parm.specs.declared.formats.Format.{Format}
 use Rattle.ti_parm.specs.Codes.{Read, as_code, behind_digits, behind_flags, behind_precision, character_code, code_at, conversion, conversion_code, finished, flags_on, format_code, is_digit, is_flag, no_flags, number_code, number_on, parameter_code, percent_code, precision_at, read_conversion, read_format, read_number, read_short, read_variable, short_code, variable, variable_code, with_flag}
-use Rattle.ti_parm.specs.Spelling.{AreDigits, AreFlags, IsBare, IsCode, IsFormat, IsPrecision, IsWidth, bare, character, format, get, literal, made, number, parameter, set, short, within, without}
+use Rattle.ti_parm.specs.Spellings.{AreDigits, AreFlags, IsBare, IsCode, IsFormat, IsPrecision, IsWidth, bare, character, format, get, literal, made, number, parameter, set, short, within, without}
 
 -- the first byte, if there is one, is none of these
 abbrev pub NoFlag : List ℕ → Type 0

@@ -14,7 +14,7 @@ use Rattle.ti_parm.specs.declared.fault.ParmFault.TheVariants.{BadNest, BadCode}
 use Rattle.ti_parm.specs.Codes.{Read, code_at, short_code}
 use Rattle.ti_parm.specs.Fault.{◌>>=◌}
 use Rattle.ti_parm.specs.Meaning.{State, run, start_of}
-use Rattle.ti_parm.specs.Spelling.{IsAnswer, IsCode, IsOtherwise, IsPart, Spells, act, conditional as written_conditional, else_if as written_else_if, end, next, nothing, otherwise, runs, short, unread}
+use Rattle.ti_parm.specs.Spellings.{IsAnswer, IsCode, IsOtherwise, IsPart, Spells, act, conditional as written_conditional, else_if as written_else_if, end, next, nothing, otherwise, runs, short, unread}
 use Rattle.ti_parm.specs.Syntax.{Act, Ahead, Behind, Breaks, Closes, Conditional, Done, Ends, Next, Otherwise, Part, Parts, Rest, ahead, ahead_in, before, broken, closed, conditional, else_if, read_before, rest_of, syntax, whole}
 use Rattle.ti_parm.specs.Value.{Value}
 use Rattle.ti_parm.proofs.Grammar.{IsRead, code-read, code-written}

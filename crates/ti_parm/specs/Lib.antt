@@ -3,12 +3,12 @@ pub mod Delays
 pub mod Fault
 pub mod Formats
 pub mod Value
-pub mod Running
-pub mod Skipping
-pub mod Spelling
+pub mod Runs
+pub mod Skips
+pub mod Spellings
 pub mod Syntax
 pub mod Machine
 pub mod Meaning
-pub mod Nesting
+pub mod Conditionals
 pub mod Operators
 pub mod Uses

@@ -1,7 +1,7 @@
 //! The faults of a string's syntax.
 ghost use Rattle.std.specs.Prelude.{◌≡◌, ◌⊎◌, Ok};
 ghost use Rattle.ti_parm.specs.Fault.{FailsBy, Gives};
-ghost use Rattle.ti_parm.specs.Nesting.{judged};
+ghost use Rattle.ti_parm.specs.Conditionals.{judged};
 ghost use Rattle.ti_parm.specs.Syntax.{ahead};
 
 use crate::code::next_code;

@@ -5,8 +5,8 @@ ghost use Rattle.ti_parm.specs.Value.{nine, values_of, value_of, zeros};
 ghost use Rattle.ti_parm.specs.Meaning.{ReadsUnset, act, character, one_more, pop_test, start_of, writing};
 ghost use Rattle.ti_parm.specs.Formats.{shown};
 ghost use Rattle.ti_parm.specs.Machine.{state_of};
-ghost use Rattle.ti_parm.specs.Nesting.{judged};
-ghost use Rattle.ti_parm.specs.Running.{judged_ahead, judged_behind, run_ahead};
+ghost use Rattle.ti_parm.specs.Conditionals.{judged};
+ghost use Rattle.ti_parm.specs.Runs.{judged_ahead, judged_behind, run_ahead};
 ghost use Rattle.ti_parm.specs.Syntax.{HasEnd, ahead, before};
 
 use crate::code::{Action, Code, Mark, Variable};

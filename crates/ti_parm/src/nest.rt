@@ -1,6 +1,6 @@
 //! The conditionals that a place in a string lies in.
 ghost use Rattle.std.specs.Prelude.{◌≡◌};
-ghost use Rattle.ti_parm.specs.Nesting.{branch_behind};
+ghost use Rattle.ti_parm.specs.Conditionals.{branch_behind};
 
 use crate::code::{Code, Mark};
 use crate::fault::ParmFault;
@@ -36,7 +36,7 @@ pub struct Nest {
 
 impl Model for Nest {
     ghost use Rattle.std.specs.Prelude.{reverse};
-    ghost use Rattle.ti_parm.specs.Nesting.{Branches};
+    ghost use Rattle.ti_parm.specs.Conditionals.{Branches};
 
     ghost Value = { Branches };
 
@@ -58,7 +58,7 @@ fn branch_behind(mark: Mark, branch: Branch) -> Result<Option<Branch>, ParmFault
 impl Nest {
     ghost use Rattle.std.specs.Prelude.{◌≡◌, ◌↔◌, [], IsTrue};
     ghost use Rattle.ti_parm.specs.Fault.{Answers, Gives};
-    ghost use Rattle.ti_parm.specs.Nesting.{judged, nest_behind, nest_behind_mark};
+    ghost use Rattle.ti_parm.specs.Conditionals.{judged, nest_behind, nest_behind_mark};
     ghost use Rattle.ti_parm.specs.Syntax.{Ends};
 
     /// Outside any conditional.

@@ -4,8 +4,8 @@ ghost use Rattle.ti_parm.specs.Delays.{HasNoOpening, strip};
 ghost use Rattle.ti_parm.specs.Fault.{Gives};
 ghost use Rattle.ti_parm.specs.Machine.{state_of};
 ghost use Rattle.ti_parm.specs.Meaning.{Agree, ReadsUnset, State, meaning, sent, sent_with, start_of};
-ghost use Rattle.ti_parm.specs.Running.{judged_run};
-ghost use Rattle.ti_parm.specs.Spelling.{IsAnswer, Spells};
+ghost use Rattle.ti_parm.specs.Runs.{judged_run};
+ghost use Rattle.ti_parm.specs.Spellings.{IsAnswer, Spells};
 ghost use Rattle.ti_parm.specs.Syntax.{IsPlain, Parts, syntax};
 ghost use Rattle.ti_parm.specs.Value.{Value, values_of, zeros};
 

@@ -1,8 +1,8 @@
 //! Going over the parts of a conditional that are not run.
 ghost use Rattle.std.specs.Prelude.{◌≡◌, ◌<◌, ◌≤◌, ◌^◌, IfErr, IfOk, length};
 ghost use Rattle.ti_parm.specs.Fault.{FailsBy};
-ghost use Rattle.ti_parm.specs.Nesting.{judged};
-ghost use Rattle.ti_parm.specs.Skipping.{depth_behind, past};
+ghost use Rattle.ti_parm.specs.Conditionals.{judged};
+ghost use Rattle.ti_parm.specs.Skips.{depth_behind, past};
 ghost use Rattle.ti_parm.specs.Syntax.{HasEnd, ahead};
 
 use crate::code::{Code, Mark, next_code};

@@ -1,2 +1,2 @@
-pub mod Reaching
-pub mod Leading
+pub mod Reaches
+pub mod Leads

@@ -9,7 +9,7 @@ use Rattle.ti_source.specs.declared.types.Field.TheVariants.{Set, Cancel, Includ
 use Rattle.ti_source.specs.declared.types.RawEntry.{RawEntry}
 use Rattle.ti_resolve.specs.declared.faults.ResolveFault.{ResolveFault}
 use Rattle.ti_resolve.specs.Uses.{place_named, fields_at, uses_in, own_in, is_about, first_about}
-use Rattle.ti_resolve.specs.Filling.{fields_of_all}
+use Rattle.ti_resolve.specs.Fills.{fields_of_all}
 use Rattle.ti_resolve.specs.Resolved.{Expands, no_use, one_use, IsWhole}
 use Rattle.ti_resolve.specs.Walk.{and_then, enter, follow_uses, go_to, holds, target}
 

@@ -1,5 +1,5 @@
-pub mod Faulting
-pub mod Indexing
+pub mod FaultFacts
+pub mod Indices
 pub mod Law
 pub mod Names
 pub mod Taken

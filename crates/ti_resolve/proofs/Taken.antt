@@ -14,7 +14,7 @@ use Rattle.ti_source.specs.declared.types.Field.TheVariants.{Set, Cancel, Includ
 use Rattle.ti_source.specs.declared.types.RawEntry.{RawEntry}
 use Rattle.ti_source.specs.Raw.{FitsField, IsRaw}
 use Rattle.ti_resolve.specs.Uses.{fields_at, fields_in, names_at, names_in_entry, first_about, is_about, value_given}
-use Rattle.ti_resolve.specs.Filling.{Filled, fields_of_all, take_fields, take_field, start}
+use Rattle.ti_resolve.specs.Fills.{Filled, fields_of_all, take_fields, take_field, start}
 
 -- each element, by its place
 pub all_at : {X : Type 0} (P : X → Type 0) (xs : List X) (i : ℕ) (x : X) → AllByRecursion P xs → slice_get xs i ≡ Some x → P x

@@ -4,7 +4,7 @@ use Rattle.ti_caps.specs.Entry.{Content, value_at, bare_entry}
 use Rattle.ti_source.specs.declared.types.RawEntry.{RawEntry}
 use Rattle.ti_resolve.specs.declared.faults.ResolveFault.TheVariants.{NoSuchEntry}
 use Rattle.ti_resolve.specs.Uses.{place_named, names_at, value_given}
-use Rattle.ti_resolve.specs.Filling.{fields_of_all, take_fields, start}
+use Rattle.ti_resolve.specs.Fills.{fields_of_all, take_fields, start}
 use Rattle.ti_resolve.specs.Resolved.{IsResolved}
 use Rattle.ti_resolve.specs.Walk.{enter, walk_from, walk_of}
 use Rattle.ti_resolve.proofs.Law.{walk_is_whole}

@@ -1,4 +1,4 @@
-pub mod Filling
+pub mod Fills
 pub mod Uses
 pub mod Index
 pub mod Walk

@@ -4,7 +4,7 @@ ghost use Rattle.std.specs.Prelude.{◌≡◌, ◌<◌, Bool, false, List, ℕ, 
 ghost use Rattle.std.specs.List.{All, AllByRecursion};
 ghost use Rattle.ti_caps.specs.Entry.{FitsPlace, with_value};
 ghost use Rattle.ti_source.specs.Raw.{FitsField, IsRaw};
-ghost use Rattle.ti_resolve.specs.Filling.{Filled, fields_of_all, take_fields, take_field, start};
+ghost use Rattle.ti_resolve.specs.Fills.{Filled, fields_of_all, take_fields, take_field, start};
 ghost use Rattle.ti_caps.specs.Fits.{names_fit};
 
 use crate::search::fields_of;

@@ -3,11 +3,11 @@
 
 mod faults;
 mod fill;
-mod resolving;
+mod resolution;
 mod search;
 mod walk;
 
 pub use faults::ResolveFault;
-pub use resolving::{
+pub use resolution::{
     answers_once, expands_once, faults_are_so, resolve, resolved_once, walks_resolve,
 };

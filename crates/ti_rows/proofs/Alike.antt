@@ -3,7 +3,7 @@ use Rattle.std.proofs.Common.{◌≡◌, ℕ, ◌||◌, Bool, true, false, List,
 use Rattle.std.proofs.Math.Bool.{or-false}
 use Rattle.vt_term.specs.Look.{Rendition}
 use Rattle.vt_term.specs.Screen.{State, Screen}
-use Rattle.vt_term.proofs.Running.{runs_once}
+use Rattle.vt_term.proofs.Runs.{runs_once}
 use Rattle.ti_rows.specs.Rows.{Attributes, Marks, Looks, Sgr}
 use Rattle.ti_rows.specs.Looks.{shown}
 use Rattle.ti_rows.specs.Starts.{IsFree}

@@ -1,8 +1,8 @@
-pub mod Starting
-pub mod Wanting
-pub mod Righting
+pub mod StartFacts
+pub mod WantFacts
+pub mod Rightness
 pub mod Alike
-pub mod Telling
-pub mod Naming
-pub mod Reading
-pub mod Listing
+pub mod Answers
+pub mod NameFacts
+pub mod Readers
+pub mod ListFacts

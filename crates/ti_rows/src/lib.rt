@@ -2,17 +2,17 @@
 //! judged, the effect that is asked of it, and what is wanted of the screen in the end.
 #![tactic(auto)]
 
-mod asking;
 mod bits;
-mod judging;
+mod judgements;
 pub mod laws;
-mod learning;
+mod lessons;
 mod lists;
 mod names;
 mod params;
 mod rows;
 mod starts;
+mod wants;
 
-pub use judging::does_as_wanted;
+pub use judgements::does_as_wanted;
 pub use params::Params;
 pub use rows::{Attributes, Looks, Marks, NO_ATTRIBUTES, NO_MARKS, Row};

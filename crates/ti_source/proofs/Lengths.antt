@@ -18,10 +18,10 @@ use Rattle.ti_source.specs.Fields.{new_entry}
 use Rattle.ti_caps.specs.Table.{is_kind}
 use Rattle.ti_source.specs.Layout.{lines_of}
 use Rattle.ti_source.specs.Printed.{fields_of, ReadsBack}
-use Rattle.ti_source.specs.Printing.{letter_for, octal, spelled_with, spelled, string_text, value_text, field_text, place_text, rank_text, ranks_text, kind_text, text_of}
+use Rattle.ti_source.specs.Prints.{letter_for, octal, spelled_with, spelled, string_text, value_text, field_text, place_text, rank_text, ranks_text, kind_text, text_of}
 use Rattle.ti_source.specs.Source.{fault_at, lines_behind, read_lines, no_progress, source_of}
 use Rattle.ti_source.proofs.Decodings.{either_way}
-use Rattle.ti_source.proofs.Fitting.{same_kind}
+use Rattle.ti_source.proofs.Fitness.{same_kind}
 use Rattle.ti_source.proofs.ReadBack.{whole_line, line_of, printed}
 use Rattle.ti_source.proofs.RoundTrip.{names_parts, names_read, names_inline, fields_lines, fields_read, text_prints, fine_fields}
 use Rattle.ti_source.proofs.Spellings.{choose, both_true, is_inline}

@@ -1,9 +1,9 @@
 pub mod Decodings
 pub mod Tests
 pub mod Layouts
-pub mod Capping
+pub mod Caps
 pub mod Entries
-pub mod Fitting
+pub mod Fitness
 pub mod Spellings
 pub mod Words
 pub mod ReadBack

@@ -24,7 +24,7 @@ use Rattle.ti_source.specs.Fields.{◌>>=◌, flag_reading, number_reading, deco
 use Rattle.ti_caps.specs.Table.{is_kind}
 use Rattle.ti_source.specs.Layout.{onto_line, begins_feed, lines_of, is_white, onto_cut, cut_of, marked_in}
 use Rattle.ti_source.specs.Numbers.{number_of}
-use Rattle.ti_source.specs.Printing.{string_text, value_text, field_text}
+use Rattle.ti_source.specs.Prints.{string_text, value_text, field_text}
 use Rattle.ti_source.specs.Source.{Progress, is_passed, begins_white, continued, begun, read_line}
 use Rattle.ti_source.proofs.Entries.{no_notes}
 use Rattle.ti_source.proofs.Spellings.{both_true, is_inline, Passes, passes_both, onto_all, StringByte, string_reads}

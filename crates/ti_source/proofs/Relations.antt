@@ -24,7 +24,7 @@ use Rattle.ti_source.specs.Numbers.{number_of}
 use Rattle.ti_source.specs.Related.{NoMark, Means, IsFlag, IsNumber, IsString, Cancels, Uses, UnknownAlone, UnknownMarked, begins_field, White, PartSays, Blank, Commented, Said, HasFields, HasLines, Grows, FurtherLine, EntryLine, LineStands, Passed, Further, Begins, Stand, IsSource, ReadIsRelated, RelatedIsRead, FaultHasNone, FaultIsFirst}
 use Rattle.ti_source.specs.Source.{Progress, all_of, is_passed, begins_white, continued, begun, read_line, fault_at, lines_behind, read_lines, no_progress, source_of}
 use Rattle.ti_source.proofs.Cuts.{has_fields, fields_cut, has_lines, lines_cut}
-use Rattle.ti_source.proofs.Fitting.{same_kind}
+use Rattle.ti_source.proofs.Fitness.{same_kind}
 use Rattle.ti_source.proofs.ReadBack.{of_kind}
 use Rattle.ti_source.proofs.Spellings.{both_true, choose}
 use Rattle.ti_source.proofs.Words.{none_there}

@@ -24,9 +24,9 @@ use Rattle.ti_source.specs.Fields.{◌>>=◌, cap_of, is_cap, is_told, repeats, 
 use Rattle.ti_caps.specs.Table.{is_kind}
 use Rattle.ti_source.specs.Layout.{lines_of, is_white, ends_field, put_field, onto_cut, cut_from, cut_of}
 use Rattle.ti_source.specs.Printed.{place_fields, rank_fields, ranks_fields, kind_fields, fields_of}
-use Rattle.ti_source.specs.Printing.{value_text, field_text, place_text, rank_text, ranks_text, kind_text, text_of}
+use Rattle.ti_source.specs.Prints.{value_text, field_text, place_text, rank_text, ranks_text, kind_text, text_of}
 use Rattle.ti_source.specs.Source.{continued, begun, read_line, lines_behind, read_lines, no_progress}
-use Rattle.ti_source.proofs.Fitting.{same_kind}
+use Rattle.ti_source.proofs.Fitness.{same_kind}
 use Rattle.ti_source.proofs.ReadBack.{whole_line, body_of, line_of, printed, printed_line, quiet_body, opened, field_read, or_no}
 use Rattle.ti_source.proofs.Spellings.{choose, both_true, is_inline}
 

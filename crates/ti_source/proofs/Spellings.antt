@@ -10,7 +10,7 @@ use Rattle.ti_caps.specs.declared.fits.Opener.TheVariants.{Nothing, Backslash, C
 use Rattle.ti_caps.specs.Fits.{opener_after}
 use Rattle.ti_source.specs.Escapes.{stored, plain, letter_value, letter_from, letter_piece, third_at, second_at, escape_at, control_at, piece_at, is_octal, put_first, decoding_of}
 use Rattle.ti_source.specs.Layout.{Cut, onto_cut, cut_from}
-use Rattle.ti_source.specs.Printing.{octal, spelled_with, spelled, string_text}
+use Rattle.ti_source.specs.Prints.{octal, spelled_with, spelled, string_text}
 use Rattle.ti_source.proofs.Decodings.{goes_on, none_left}
 
 pub choose : {A : Type 0} (P : A → Type 0) (t : Bool) (x y : A) → (t ≡ true → P x) → (t ≡ false → P y) → P (if t then x else y)

@@ -10,7 +10,7 @@ use Rattle.ti_source.specs.declared.types.Field.{Field}
 use Rattle.ti_source.specs.declared.types.Field.TheVariants.{Set, Cancel, Include}
 use Rattle.ti_source.specs.declared.types.RawEntry.{RawEntry}
 use Rattle.ti_caps.specs.Table.{is_kind}
-use Rattle.ti_source.specs.Printing.{text_of}
+use Rattle.ti_source.specs.Prints.{text_of}
 use Rattle.ti_source.specs.Source.{source_of}
 
 abbrev pub place_fields : ℕ → Option Value → List Field

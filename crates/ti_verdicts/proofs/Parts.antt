@@ -3,13 +3,13 @@ use Rattle.std.proofs.Common.{◌≡◌, ◌<◌, ℕ, zero, suc, ◌+◌, List,
 use Rattle.std.proofs.lemmas.List.{append-nil}
 use Rattle.ti_caps.specs.Entry.{Content}
 use Rattle.ti_source.specs.declared.types.RawEntry.{RawEntry}
-use Rattle.ti_commands.specs.Finding.{ResolvesTo}
-use Rattle.ti_commands.specs.Holding.{Held}
+use Rattle.ti_commands.specs.Findings.{ResolvesTo}
+use Rattle.ti_commands.specs.Contents.{Held}
 use Rattle.ti_commands.specs.Words.{texts_of}
 use Rattle.ti_commands.specs.declared.failure.Failure.{Failure}
 use Rattle.ti_commands.specs.declared.failure.CommandRefusal.{CommandRefusal}
 use Rattle.ti_verdicts.specs.Lines.{HasParts, IsSourceLine, IsTold, first_name, line_of}
-use Rattle.ti_verdicts.specs.Surveying.{EndsPath, EndsPaths, HasLines, MayHaveLines, Misses, first_failure}
+use Rattle.ti_verdicts.specs.Surveys.{EndsPath, EndsPaths, HasLines, MayHaveLines, Misses, first_failure}
 use denote.Ref.{Bor}
 
 -- ---- parts

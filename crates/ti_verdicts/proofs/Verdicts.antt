@@ -5,7 +5,7 @@ use Rattle.ti_cert.specs.declared.faults.CertFaultKind.TheVariants.{BadLine, Mis
 use Rattle.ti_commands.specs.declared.failure.Failure.{Failure}
 use Rattle.ti_checker.specs.declared.causes.Cause.{Cause}
 use Rattle.ti_checker.specs.declared.causes.Cause.TheVariants as causes
-use Rattle.ti_verdicts.specs.Telling.{IsOfCause, IsOfKind, IsVerdict}
+use Rattle.ti_verdicts.specs.Refusals.{IsOfCause, IsOfKind, IsVerdict}
 
 -- every kind but two has its words
 pub told_by_words : (path text : List ℕ) (kind : CertFaultKind) (failure : Failure) → kind ≢ NoMemory → kind ≢ ReadFailed → IsVerdict text failure → IsOfKind path text kind failure

@@ -1,6 +1,6 @@
 -- The definitions of the commands about certificates.
-pub mod Telling
-pub mod Verifying
-pub mod Checking
+pub mod Refusals
+pub mod Verifications
+pub mod Checks
 pub mod Lines
-pub mod Surveying
+pub mod Surveys

@@ -7,10 +7,10 @@ use Rattle.ti_compiled.specs.Contents.{read_of}
 use Rattle.ti_compiled.specs.declared.types.PackFault.{PackFault}
 use Rattle.ti_source.specs.Source.{source_of}
 use Rattle.ti_source.specs.declared.types.RawEntry.{RawEntry}
-use Rattle.ti_commands.specs.Finding.{FitsTo, IsSourceFailure, ResolvesTo}
+use Rattle.ti_commands.specs.Findings.{FitsTo, IsSourceFailure, ResolvesTo}
 use Rattle.ti_commands.specs.declared.failure.Failure.TheVariants.{Refused}
 use Rattle.ti_commands.specs.declared.failure.CommandRefusal.{CommandRefusal}
-use Rattle.ti_verdicts.specs.Telling.{no_text}
+use Rattle.ti_verdicts.specs.Refusals.{no_text}
 use Rattle.ti_verdicts.specs.declared.asked.Asked.{Asked}
 
 -- a text that has a part for each item, one after another

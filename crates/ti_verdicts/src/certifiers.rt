@@ -4,7 +4,7 @@ ghost use Rattle.std.specs.Prelude.{ℕ, List, IfErr, IfOk};
 ghost use Rattle.ti_caps.specs.Entry.{Content};
 ghost use Rattle.ti_checker.specs.declared.causes.No.{No};
 ghost use Rattle.ti_conforms.specs.Conforms.{Conforms};
-ghost use Rattle.ti_verdicts.specs.Checking.{IsNo};
+ghost use Rattle.ti_verdicts.specs.Checks.{IsNo};
 
 use std::alloc::Global;
 use ti_caps::Entry;

@@ -4,19 +4,19 @@
 mod asked;
 mod certificates;
 mod certifiers;
-mod checking;
+mod checks;
 mod faults;
 mod lines;
 mod reasons;
+mod refusals;
 mod starts;
-mod surveying;
+mod surveys;
 mod tallies;
-mod telling;
-mod verifying;
+mod verifications;
 mod watchers;
 
 pub use certifiers::{Certifier, Checker};
-pub use checking::check_entry;
-pub use surveying::survey_files;
-pub use verifying::{checked_at, verify_certificate};
+pub use checks::check_entry;
+pub use surveys::survey_files;
+pub use verifications::{checked_at, verify_certificate};
 pub use watchers::Watcher;

@@ -8,8 +8,8 @@ ghost use Rattle.ti_verdicts.specs.Lines as spec;
 
 use crate::asked::Asked;
 use crate::certifiers::Certifier;
+use crate::refusals::no_words;
 use crate::tallies::Tally;
-use crate::telling::no_words;
 use crate::watchers::{Course, Watcher};
 use std::alloc::{AllocError, Global};
 use ti_caps::Entry;

@@ -1,8 +1,8 @@
 //! Why an entry gets no certificate: what a checked string sends, what is wanted of it, and what it does.
 
+use crate::escapes::push_spelled;
 use crate::numbers::push_numbers;
 use crate::remarks::Remarks;
-use crate::spelling::push_spelled;
 use crate::states::{push_rendition, seen_words, start_words};
 use crate::strings::parm_words;
 use crate::wanted::wanted_words;

@@ -4,13 +4,13 @@
 mod certificates;
 mod changes;
 mod checked_strings;
+mod escapes;
 mod fields;
 mod names;
 mod numbers;
 mod remarks;
 mod seen;
 mod sources;
-mod spelling;
 mod states;
 mod strings;
 mod wanted;

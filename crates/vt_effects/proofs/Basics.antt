@@ -3,16 +3,16 @@ use Rattle.std.proofs.Common.{◌≡◌, ℕ, ◌+◌, ◌-◌, ◌<◌, min, Li
 use Rattle.vt_term.specs.Size.{IsSize}
 use Rattle.vt_term.specs.Text.{Splits, IsWhole}
 use Rattle.vt_term.specs.Function.{Function, CursorPosition, function_of}
-use Rattle.vt_term.proofs.Splitting.{one_splitting}
+use Rattle.vt_term.proofs.Splits.{one_splitting}
 use Rattle.vt_term.proofs.Sequences.{empty_open}
 use Rattle.vt_effects.specs.declared.effects.Move.TheVariants as moves
 use Rattle.vt_effects.specs.declared.effects.Effect.{Effect}
 use Rattle.vt_effects.specs.declared.starts.Start.{Start}
 use Rattle.vt_effects.specs.Effect.{unchanged}
 use Rattle.vt_effects.specs.Record.{record_of, extended, with_row, with_col}
-use Rattle.vt_term.specs.Moving.{cursor_to}
+use Rattle.vt_term.specs.Moves.{cursor_to}
 use Rattle.vt_effects.specs.Basic.{HasRecord, home_text, clear_text, el_text, sgr0_text, placed_at, cleared, tail_erased, made_plain}
-use Rattle.vt_term.proofs.Moving.{move_function, move_token}
+use Rattle.vt_term.proofs.Moves.{move_function, move_token}
 
 erase : List ℕ
 erase = 27 ∷ 91 ∷ 50 ∷ 74 ∷ []

@@ -2,13 +2,13 @@
 use Rattle.std.proofs.Common.{◌≡◌, ℕ, ◌≤◌, List, [], ◌∷◌, ◌++◌, length, drop, refl, sym, ap, ◌∙◌, arith, Option, Some, None, option_and_then, IfSome}
 use Rattle.vt_term.specs.Scanned.{Begins, IsTokenAt}
 use Rattle.vt_term.specs.Function.{Function, function_of}
-use Rattle.vt_term.proofs.Beginning.{begins_at, begins_all}
+use Rattle.vt_term.proofs.Starts.{begins_at, begins_all}
 use Rattle.vt_effects.specs.declared.effects.Effect.{Effect}
 use Rattle.vt_effects.specs.declared.starts.Start.{Start}
 use Rattle.vt_effects.specs.Effect.{unchanged}
 use Rattle.vt_effects.specs.Record.{IsRecordOf, all_extended, extended, record_of}
 use Rattle.vt_effects.specs.Sound.{RunsTextAs}
-use Rattle.vt_effects.proofs.Sounding.{runs_right}
+use Rattle.vt_effects.proofs.Sounds.{runs_right}
 
 -- one token more
 all_more : (rows cols : ℕ) (start : Start) (ts : List (List ℕ)) (t : List ℕ) (e : Effect) → all_extended rows cols start (ts ++ t ∷ []) e ≡ option_and_then (extended rows cols start (function_of t)) (all_extended rows cols start ts e)

@@ -4,8 +4,8 @@ use Rattle.std.specs.Prelude.{ℕ, ◌≡◌, ◌+◌, ◌-◌, ◌*◌, ◌/◌
 use Rattle.std.specs.Option.{unwrap_or, option_and_then}
 use Rattle.vt_term.specs.Color.{Color}
 use Rattle.vt_term.specs.Text.{Splits}
-use Rattle.vt_term.specs.Rendering.{RenditionChange, change_of}
-use Rattle.vt_term.specs.Rendering as changes
+use Rattle.vt_term.specs.Rendition.{RenditionChange, change_of}
+use Rattle.vt_term.specs.Rendition as changes
 use Rattle.vt_term.specs.Function.{CodeElement, G0, G1, ModeKind, Standard, Private, EraseExtent, ToEnd, FromStart, function_of, Function, Print, LineFeed, CarriageReturn, Backspace, Tab, ShiftOut, ShiftIn, ReverseIndex, NextLine, CursorUp, CursorDown, CursorForward, CursorBack, CursorColumn, CursorRow, CursorPosition, EraseLine, EraseDisplay, EraseCells, InsertCells, DeleteCells, InsertLines, DeleteLines, ScrollUp, ScrollDown, Designate, SelectRendition, Modes, Ignored}
 use Rattle.vt_term.specs.Function as functions
 use Rattle.vt_effects.specs.declared.effects.Move.{Move}

@@ -2,8 +2,8 @@
 //! of the millions of states that a test would have to try.
 #![tactic(auto)]
 
-mod applying;
-mod composing;
+mod application;
+mod composition;
 mod effects;
 mod equality;
 pub mod laws;
@@ -12,8 +12,8 @@ mod records;
 mod renditions;
 mod starts;
 
-pub use applying::apply;
-pub use composing::compose;
+pub use application::apply;
+pub use composition::compose;
 pub use effects::{Effect, Erasure, Ink, Move, Region, Rendering, Scroll, Sets, Switch};
 pub use records::{effect_of, effect_of_text};
 pub use starts::{Margins, Start};

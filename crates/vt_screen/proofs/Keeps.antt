@@ -18,7 +18,7 @@ use Rattle.std.specs.Option.{unwrap_or}
 use Rattle.vt_screen.specs.Step.{lines_up, lines_down, inserted, deleted, opened, shown, placed, printed, wrapped, goes_to, goes_down, goes_up, line_feed, reverse_index, erased, part_erased, lines_erased, line_erased, display_erased, in_region, lines_inserted, lines_deleted, margins_set, all_rendered, mode_set, all_modes_set, act, CanAct}
 use Rattle.std.proofs.lemmas.List.{get_or_default, get_or_past}
 use Rattle.grids.specs.Grids.{cell_at, is_in, one}
-use Rattle.grids.proofs.Drawing.{length-drawn, length-line_at-drawn, cell_at-drawn}
+use Rattle.grids.proofs.Drawings.{length-drawn, length-line_at-drawn, cell_at-drawn}
 use Rattle.vt_screen.specs.Look.{space}
 
 characters_drawn : (f : ℕ → ℕ → Look → Look) (g : Grid) → ((i j : ℕ) → IsPrinted (look_at g i j).byte) → ((i j : ℕ) (x : Look) → IsPrinted x.byte → IsPrinted (f i j x).byte)

@@ -9,7 +9,7 @@ use Rattle.vt_screen.specs.Look.{Look, IsPrinted}
 use Rattle.vt_screen.specs.Grid.{Grid, line_at, put, written}
 use Rattle.vt_screen.specs.Screen.{Screen, IsScreen}
 use Rattle.vt_screen.specs.Step.{shown, placed, printed, opened, inserted, line_feed, all_printed}
-use Rattle.grids.proofs.Drawing.{set_is_filled}
+use Rattle.grids.proofs.Drawings.{set_is_filled}
 use Rattle.vt_screen.proofs.Keeps.{Kept, same_kept, kept_again, act_kept}
 
 pub all_more : (bytes : List ℕ) (b : ℕ) → AllByRecursion IsPrinted bytes → IsPrinted b → AllByRecursion IsPrinted (bytes ++ b ∷ [])

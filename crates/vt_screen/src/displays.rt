@@ -9,7 +9,7 @@ ghost use Rattle.vt_screen.specs.Look.{IsPrinted};
 use crate::cells::Cell;
 use crate::functions::{CodeElement, EraseExtent, Function, ModeKind};
 use crate::pens::{Ink, Pen};
-use crate::printing;
+use crate::printer;
 use crate::renditions::{Rendition, RenditionChange};
 use crate::sizes::Size;
 use grids::Grid;

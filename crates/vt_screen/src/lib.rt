@@ -7,7 +7,7 @@ mod displays;
 mod functions;
 mod marks;
 mod pens;
-mod printing;
+mod printer;
 mod renditions;
 mod sizes;
 

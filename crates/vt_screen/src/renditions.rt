@@ -2,7 +2,7 @@
 
 ghost use Rattle.std.specs.Prelude.{◌≡◌, ◌<◌};
 ghost use Rattle.vt_screen.specs.Color.{color};
-ghost use Rattle.vt_screen.specs.Rendering as spec;
+ghost use Rattle.vt_screen.specs.Rendition as spec;
 
 /// One of the eight colours of ECMA-48's SGR 30 to 37 and 40 to 47, in their order.
 #[derive(Clone, Copy, Debug, PartialEq, Eq)]

@@ -18,8 +18,8 @@ use Rattle.vt_term.specs.Step.{steps}
 use Rattle.vt_term.specs.Run.{Runs}
 use Rattle.vt_term.proofs.Sequences.{empty_open}
 use Rattle.vt_term.proofs.Decimals.{numbers_semicolon, LastLonger, last_longer}
-use Rattle.vt_term.proofs.Reading.{sequence_push, list_all_push}
-use Rattle.vt_term.proofs.Running.{text_runs}
+use Rattle.vt_term.proofs.Readers.{sequence_push, list_all_push}
+use Rattle.vt_term.proofs.Runs.{text_runs}
 
 singles : List ℕ → List (List ℕ)
 singles [] = []

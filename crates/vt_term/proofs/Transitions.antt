@@ -10,7 +10,7 @@ use Rattle.vt_term.specs.Text.{IsParameter, IsIntermediate, IsFinal, IsEscapeFin
 use Rattle.vt_term.specs.ParserStates.{last_byte}
 use Rattle.vt_term.specs.Fault.{IsTransition, IsOutsideTransition, IsIntroducerTransition, IsEscapeTransition, IsInsideTransition}
 use Rattle.vt_term.proofs.Sequences.{IsBody, IsInside, inside, IsStem, stem, kind_of_last, only_parameters, last_parameter, made_whole, made_escape, made_open, stem_open, all_last, empty_open, escape_open, introducer_open, control_second, escape_second, sequence_long, open_escape, control_final, escape_final}
-use Rattle.vt_term.proofs.Splitting.{fails}
+use Rattle.vt_term.proofs.Splits.{fails}
 
 outside_low : (b : ℕ) → IsWhole (b ∷ []) → 128 ≤ b → ⊥
 outside_low b h high = elim h [

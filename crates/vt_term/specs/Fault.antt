@@ -2,9 +2,9 @@
 use Rattle.std.specs.Prelude.{ℕ, ◌≡◌, ◌≢◌, ◌⊎◌, ◌<◌, ◌≤◌, length, Bool, true, false, List, [], ◌∷◌, ◌++◌}
 use Rattle.vt_term.specs.declared.parser.Transition.{Transition}
 use Rattle.vt_term.specs.declared.parser.Transition.TheVariants.{Opens, Ends, Restarts, Cancels, Fails}
-use Rattle.vt_term.specs.declared.tokenizing.TokenFault.{TokenFault}
-use Rattle.vt_term.specs.declared.tokenizing.TokenFaultKind.{TokenFaultKind}
-use Rattle.vt_term.specs.declared.tokenizing.TokenFaultKind.TheVariants.{Unfinished, Stuck, NoMemory}
+use Rattle.vt_term.specs.declared.tokenizer.TokenFault.{TokenFault}
+use Rattle.vt_term.specs.declared.tokenizer.TokenFaultKind.{TokenFaultKind}
+use Rattle.vt_term.specs.declared.tokenizer.TokenFaultKind.TheVariants.{Unfinished, Stuck, NoMemory}
 use Rattle.vt_screen.specs.Look.{IsPrinted}
 use Rattle.vt_term.specs.Text.{IsControl, IsParameter, IsIntermediate, IsFinal, IsEscapeFinal, IsIntroducer, IsOpen, IsWhole, IsSplit, IsStuck, IsUnfinished}
 

@@ -12,8 +12,8 @@ pub mod Ends
 pub mod Fault
 pub mod Printed
 pub mod ParserStates
-pub mod Moving
+pub mod Moves
 pub mod Charsets
 pub mod Fronts
-pub mod Rendering
+pub mod Rendition
 pub mod Scanned

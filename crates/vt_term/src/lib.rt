@@ -9,12 +9,12 @@ mod parser;
 mod scanners;
 mod settings;
 mod terminals;
-mod tokenizing;
+mod tokenizer;
 mod whole_sequences;
 
 pub use scanners::{Scanner, TextFault, TextFaultKind};
 pub use terminals::{Stuck, Terminal};
-pub use tokenizing::{Token, TokenFault, TokenFaultKind, place_after, tokens};
+pub use tokenizer::{Token, TokenFault, TokenFaultKind, place_after, tokens};
 pub use vt_screen::{
     Cell, Charset, CodeElement, Color, EraseExtent, Function, MAX_COLS, MAX_ROWS, ModeKind,
     Parameters, Rendition, RenditionChange, Settings, Size, color_of,

@@ -1,6 +1,6 @@
 use Rattle.std.proofs.Common.{◌≡◌, ℕ, sym, ◌∙◌, subst}
 use Rattle.std.proofs.lemmas.Option.{same_Some}
-use Rattle.ti_reach.proofs.Leading.{effect_checked, effect_failed, other_place, told_apart}
+use Rattle.ti_reach.proofs.Leads.{effect_checked, effect_failed, other_place, told_apart}
 use Rattle.ti_reach.proofs.check_tokens.Goals as goal
 
 pub returns-in-Some-clause-leads : goal.returns-in-Some-clause-leads

@@ -1,5 +1,5 @@
 use Rattle.std.proofs.Common.{below_more, rules}
-use Rattle.ti_reach.proofs.Reaching.{first_missed}
+use Rattle.ti_reach.proofs.Reaches.{first_missed}
 use Rattle.ti_reach.proofs.reach_cup.Goals as goal
 
 pub loop-row-preserved : goal.loop-row-preserved

@@ -1,7 +1,7 @@
 use Rattle.std.proofs.Common.{OnOk, subst, List, ℕ}
 use Rattle.vt_term.specs.Run as Run
 use Rattle.ti_reach.specs.Reach as spec
-use Rattle.ti_reach.proofs.Reaching.{place_reached}
+use Rattle.ti_reach.proofs.Reaches.{place_reached}
 use Rattle.ti_reach.proofs.reach_place.Goals as goal
 
 pub returns-clause-reached : goal.returns-clause-reached

@@ -1,5 +1,5 @@
 use Rattle.std.proofs.Common.{◌∙◌, ap}
-use Rattle.cur_calls.proofs.Cutting.{around, cut_found}
+use Rattle.cur_calls.proofs.CutFacts.{around, cut_found}
 use Rattle.cur_calls.proofs.cuts.cut.Goals as goal
 
 pub returns-in-None-clause-value : goal.returns-in-None-clause-value

@@ -1,7 +1,7 @@
 use Rattle.std.proofs.Common.{◌≡◌, ◌<◌, ◌+◌, ◌∷◌, length, drop, get_or, drop-cons, refl, sym, ap, ◌∙◌, arith, add-one}
 use Rattle.std.specs.Prelude.{option_map}
 use Rattle.cur_calls.specs.Numbers.{spelled_after, capped}
-use Rattle.cur_calls.proofs.Capping.{digit_more}
+use Rattle.cur_calls.proofs.Caps.{digit_more}
 use Rattle.cur_calls.proofs.numbers.digits.Goals as goal
 
 pub loop-byte-preserved : goal.loop-byte-preserved

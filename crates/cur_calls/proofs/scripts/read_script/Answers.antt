@@ -1,8 +1,8 @@
 use Rattle.std.proofs.Common.{sym, ap, ◌∙◌, arith}
 use Rattle.std.proofs.lemmas.Result.{err_from_is_err_and}
-use Rattle.cur_calls.specs.Cutting.{lines_of}
+use Rattle.cur_calls.specs.Cuts.{lines_of}
 use Rattle.cur_calls.specs.Texts.{behind, calls_of, script_of}
-use Rattle.cur_calls.proofs.Reading.{taken, ends, fails, fails_last}
+use Rattle.cur_calls.proofs.Readers.{taken, ends, fails, fails_last}
 use Rattle.cur_calls.proofs.scripts.read_script.Goals as goal
 
 pub loop-line-preserved : goal.loop-line-preserved

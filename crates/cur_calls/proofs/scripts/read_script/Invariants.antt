@@ -1,5 +1,5 @@
 use Rattle.std.proofs.Common.{◌≡◌, ◌≤◌, ◌+◌, length}
-use Rattle.cur_calls.specs.Cutting.{lines_of}
+use Rattle.cur_calls.specs.Cuts.{lines_of}
 use Rattle.cur_calls.specs.Texts.{behind, calls_of, script_of}
 use Rattle.cur_calls.proofs.scripts.read_script.Given as goal
 

@@ -1,6 +1,6 @@
 use Rattle.std.proofs.Common.{inl, inr}
 use Rattle.std.proofs.lemmas.Result.{err_from_is_err_and}
-use Rattle.cur_commands.proofs.Ending.{ready_for}
+use Rattle.cur_commands.proofs.Endings.{ready_for}
 use Rattle.cur_commands.proofs.commands.play_script.Goals as goal
 
 pub returns-in_err-ready-clause-failure : goal.returns-in_err-ready-clause-failure

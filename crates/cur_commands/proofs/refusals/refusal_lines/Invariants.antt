@@ -1,5 +1,5 @@
 use Rattle.std.proofs.Common.{◌≡◌, ◌++◌, drop}
-use Rattle.cur_commands.specs.Showing.{refusals_text}
+use Rattle.cur_commands.specs.Shows.{refusals_text}
 use Rattle.cur_commands.proofs.refusals.refusal_lines.Given as goal
 
 abbrev pub invariant-loop-at : goal.invariant-loop-at

@@ -1,4 +1,4 @@
-use Rattle.cur_drawing.proofs.Differing.{equal_up_to}
+use Rattle.cur_drawing.proofs.DifferenceFacts.{equal_up_to}
 use Rattle.cur_drawing.proofs.differences.first_diff.Goals as goal
 
 pub loop-k-preserved : goal.loop-k-preserved

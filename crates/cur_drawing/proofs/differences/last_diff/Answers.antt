@@ -1,6 +1,6 @@
 use Rattle.std.proofs.Common.{ℕ, ◌≡◌, ◌-◌, ◌+◌, length, arith, subst}
 use Rattle.cur_drawing.specs.Differences.{AreEqualIn}
-use Rattle.cur_drawing.proofs.Differing.{equal_from}
+use Rattle.cur_drawing.proofs.DifferenceFacts.{equal_from}
 use Rattle.cur_drawing.proofs.differences.last_diff.Goals as goal
 
 pub loop-end-preserved : goal.loop-end-preserved

@@ -1,4 +1,4 @@
-use Rattle.cur_drawing.proofs.Staying as staying
+use Rattle.cur_drawing.proofs.Stability as staying
 use Rattle.cur_drawing.proofs.laws.erasing_stays_inside.Goals as goal
 
 pub returns-clause-erase : goal.returns-clause-erase

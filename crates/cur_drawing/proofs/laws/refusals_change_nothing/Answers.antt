@@ -1,4 +1,4 @@
-use Rattle.cur_drawing.proofs.Refusing as refusing
+use Rattle.cur_drawing.proofs.RefusalFacts as refusing
 use Rattle.cur_drawing.proofs.laws.refusals_change_nothing.Goals as goal
 
 pub returns-clause-addch : goal.returns-clause-addch

@@ -1,5 +1,5 @@
 use Rattle.std.proofs.Common.{◌+◌}
-use Rattle.cur_drawing.proofs.Scrolling.{down_by_place}
+use Rattle.cur_drawing.proofs.Scrolls.{down_by_place}
 use Rattle.cur_drawing.proofs.laws.scroll_down_by_place.Goals as goal
 
 pub returns : goal.returns

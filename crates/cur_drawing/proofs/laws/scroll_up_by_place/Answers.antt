@@ -1,4 +1,4 @@
-use Rattle.cur_drawing.proofs.Scrolling.{up_by_place}
+use Rattle.cur_drawing.proofs.Scrolls.{up_by_place}
 use Rattle.cur_drawing.proofs.laws.scroll_up_by_place.Goals as goal
 
 pub returns : goal.returns

@@ -1,9 +1,9 @@
 use Rattle.std.proofs.Common.{◌*◌}
-use Rattle.cur_wires.proofs.Stopping.{steps_none, steps_wider}
+use Rattle.cur_wires.proofs.Stops.{steps_none, steps_wider}
 use Rattle.ti_conforms.specs.Certified.{IsPiece, IsLost}
 use Rattle.cur_looks.specs.Beliefs.{Agrees, moves}
-use Rattle.cur_looks.proofs.Doing.{agrees_lost}
-use Rattle.cur_looks.proofs.Telling.{moves_few, at_most}
+use Rattle.cur_looks.proofs.Actions.{agrees_lost}
+use Rattle.cur_looks.proofs.Answers.{moves_few, at_most}
 use Rattle.cur_looks.proofs.cells.approach.Goals as goal
 
 pub returns-then-wraps_to-clause-step : goal.returns-then-wraps_to-clause-step

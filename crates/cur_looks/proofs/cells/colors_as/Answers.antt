@@ -1,6 +1,6 @@
 use Rattle.std.proofs.Common.{arith}
 use Rattle.std.proofs.lemmas.Result.{err_from_is_err_and}
-use Rattle.cur_wires.proofs.Stopping.{steps_fail, steps_next}
+use Rattle.cur_wires.proofs.Stops.{steps_fail, steps_next}
 use Rattle.ti_conforms.specs.Certified.{IsPiece, IsLost}
 use Rattle.cur_looks.specs.Beliefs.{Agrees, colors_limit}
 use Rattle.cur_looks.proofs.cells.colors_as.Goals as goal

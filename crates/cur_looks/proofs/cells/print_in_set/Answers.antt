@@ -1,6 +1,6 @@
 use Rattle.std.proofs.Common.{arith}
 use Rattle.std.proofs.lemmas.Result.{err_from_is_err_and}
-use Rattle.cur_wires.proofs.Stopping.{steps_fail, steps_next}
+use Rattle.cur_wires.proofs.Stops.{steps_fail, steps_next}
 use Rattle.ti_conforms.specs.Certified.{IsPiece, IsLost}
 use Rattle.cur_looks.specs.Inks.{put_at}
 use Rattle.cur_looks.specs.Beliefs.{Agrees, stamp_limit}

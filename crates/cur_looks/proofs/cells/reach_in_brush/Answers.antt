@@ -1,9 +1,9 @@
 use Rattle.std.proofs.Common.{◌*◌, arith}
 use Rattle.std.proofs.lemmas.Result.{err_from_is_err_and}
-use Rattle.cur_wires.proofs.Stopping.{steps_fail, steps_next}
+use Rattle.cur_wires.proofs.Stops.{steps_fail, steps_next}
 use Rattle.ti_conforms.specs.Certified.{IsPiece, IsLost}
 use Rattle.cur_looks.specs.Beliefs.{Agrees, moves, brush_limit, ready_limit}
-use Rattle.cur_looks.proofs.Telling.{moves_few, at_most}
+use Rattle.cur_looks.proofs.Answers.{moves_few, at_most}
 use Rattle.cur_looks.proofs.cells.reach_in_brush.Goals as goal
 
 pub returns-in_err-reach-clause-step : goal.returns-in_err-reach-clause-step

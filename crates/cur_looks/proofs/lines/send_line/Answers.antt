@@ -1,6 +1,6 @@
 use Rattle.std.proofs.Common.{length, ap, arith}
 use Rattle.ti_conforms.specs.Certified.{or_nothing}
-use Rattle.cur_looks.proofs.Doing.{line_sent, line_steps}
+use Rattle.cur_looks.proofs.Actions.{line_sent, line_steps}
 use Rattle.cur_looks.proofs.lines.send_line.Goals as goal
 
 pub returns : goal.returns

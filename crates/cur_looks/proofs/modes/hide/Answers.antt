@@ -1,8 +1,8 @@
 use Rattle.std.proofs.Common.{◌≡◌, true, false, arith, refl}
 use Rattle.ti_rows.specs.declared.rows.Row.TheVariants.{Civis}
 use Rattle.ti_conforms.specs.Certified.{has}
-use Rattle.cur_looks.proofs.Telling.{has_none}
-use Rattle.cur_looks.proofs.Turning.{hidden}
+use Rattle.cur_looks.proofs.Answers.{has_none}
+use Rattle.cur_looks.proofs.Turns.{hidden}
 use Rattle.cur_looks.proofs.modes.hide.Goals as goal
 
 pub returns-in-Some-clause-step : goal.returns-in-Some-clause-step

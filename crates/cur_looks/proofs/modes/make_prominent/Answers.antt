@@ -1,9 +1,9 @@
 use Rattle.std.proofs.Common.{Some, arith}
-use Rattle.cur_wires.proofs.Stopping.{steps_nothing}
+use Rattle.cur_wires.proofs.Stops.{steps_nothing}
 use Rattle.ti_conforms.specs.Certified.{IsPiece, IsLost}
 use Rattle.cur_looks.specs.Beliefs.{Agrees, Belief, Prominent}
-use Rattle.cur_looks.proofs.Doing.{agrees_lost}
-use Rattle.cur_looks.proofs.Turning.{stressed, stressed_without}
+use Rattle.cur_looks.proofs.Actions.{agrees_lost}
+use Rattle.cur_looks.proofs.Turns.{stressed, stressed_without}
 use Rattle.cur_looks.proofs.modes.make_prominent.Goals as goal
 
 pub returns-in-Some-clause-step : goal.returns-in-Some-clause-step

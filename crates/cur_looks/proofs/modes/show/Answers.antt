@@ -1,11 +1,11 @@
 use Rattle.std.proofs.Common.{Some, arith, refl}
-use Rattle.cur_wires.proofs.Stopping.{steps_nothing}
+use Rattle.cur_wires.proofs.Stops.{steps_nothing}
 use Rattle.ti_rows.specs.declared.rows.Row.TheVariants.{Cnorm}
 use Rattle.ti_conforms.specs.Certified.{IsPiece, IsLost}
 use Rattle.cur_looks.specs.Beliefs.{Agrees, Belief, Normal}
-use Rattle.cur_looks.proofs.Doing.{agrees_lost}
-use Rattle.cur_looks.proofs.Telling.{has_none}
-use Rattle.cur_looks.proofs.Turning.{normal, always_normal}
+use Rattle.cur_looks.proofs.Actions.{agrees_lost}
+use Rattle.cur_looks.proofs.Answers.{has_none}
+use Rattle.cur_looks.proofs.Turns.{normal, always_normal}
 use Rattle.cur_looks.proofs.modes.show.Goals as goal
 
 pub returns-in-Some-clause-step : goal.returns-in-Some-clause-step

@@ -1,9 +1,9 @@
 use Rattle.std.proofs.Common.{◌*◌, arith, refl}
-use Rattle.cur_wires.proofs.Stopping.{steps_none, steps_wider}
+use Rattle.cur_wires.proofs.Stops.{steps_none, steps_wider}
 use Rattle.ti_conforms.specs.Certified.{IsPiece, IsLost}
 use Rattle.cur_looks.specs.Beliefs.{Agrees, changes, modes_limit}
-use Rattle.cur_looks.proofs.Doing.{agrees_lost}
-use Rattle.cur_looks.proofs.Telling.{once}
+use Rattle.cur_looks.proofs.Actions.{agrees_lost}
+use Rattle.cur_looks.proofs.Answers.{once}
 use Rattle.cur_looks.proofs.modes.show_as.Goals as goal
 
 pub returns-then-is_mode-clause-step : goal.returns-then-is_mode-clause-step

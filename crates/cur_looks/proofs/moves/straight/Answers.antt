@@ -1,4 +1,4 @@
-use Rattle.cur_looks.proofs.Moving.{straight_way}
+use Rattle.cur_looks.proofs.MoveFacts.{straight_way}
 use Rattle.cur_looks.proofs.moves.straight.Goals as goal
 
 pub returns-clause-way : goal.returns-clause-way

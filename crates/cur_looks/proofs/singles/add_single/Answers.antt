@@ -1,11 +1,11 @@
 use Rattle.std.proofs.Common.{◌≡◌, true, length, refl, sym}
-use Rattle.cur_wires.proofs.Stopping.{steps_none, steps_nothing}
+use Rattle.cur_wires.proofs.Stops.{steps_none, steps_nothing}
 use Rattle.ti_conforms.specs.Certified.{HasSingles, IsPiece, IsLost, text_of}
 use Rattle.cur_looks.specs.Beliefs.{Agrees, Belief}
 use Rattle.cur_looks.specs.Singles.{has_single, turned_on}
-use Rattle.cur_looks.proofs.Doing.{agrees_lost}
-use Rattle.cur_looks.proofs.Telling.{has_none, has_some}
-use Rattle.cur_looks.proofs.Singling.{with_attributes, single_set, single_absent, single_limit}
+use Rattle.cur_looks.proofs.Actions.{agrees_lost}
+use Rattle.cur_looks.proofs.Answers.{has_none, has_some}
+use Rattle.cur_looks.proofs.SingleFacts.{with_attributes, single_set, single_absent, single_limit}
 use Rattle.cur_looks.proofs.singles.add_single.Goals as goal
 
 pub returns-then-not-has_single-clause-step : goal.returns-then-not-has_single-clause-step

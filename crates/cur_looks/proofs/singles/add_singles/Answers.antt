@@ -1,10 +1,10 @@
 use Rattle.std.proofs.Common.{◌+◌, take, Ok, refl, ap, ◌∙◌, arith}
 use Rattle.std.proofs.lemmas.Result.{err_from_is_err_and}
-use Rattle.cur_wires.proofs.Stopping.{steps_fail, steps_next, steps_none}
+use Rattle.cur_wires.proofs.Stops.{steps_fail, steps_next, steps_none}
 use Rattle.ti_conforms.specs.Certified.{IsPiece, IsLost, lengths}
 use Rattle.cur_looks.specs.Beliefs.{Agrees, Belief}
-use Rattle.cur_looks.proofs.Doing.{agrees_lost}
-use Rattle.cur_looks.proofs.Singling.{ahead_more, lengths_more, lengths_within}
+use Rattle.cur_looks.proofs.Actions.{agrees_lost}
+use Rattle.cur_looks.proofs.SingleFacts.{ahead_more, lengths_more, lengths_within}
 use Rattle.cur_looks.proofs.singles.add_singles.Goals as goal
 
 pub loop-row-init : goal.loop-row-init

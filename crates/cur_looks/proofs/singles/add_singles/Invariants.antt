@@ -3,7 +3,7 @@ use Rattle.cur_wires.specs.declared.wires.WireFault.{WireFault}
 use Rattle.ti_conforms.specs.Certified.{lengths}
 use Rattle.cur_looks.specs.Singles.{with_singles}
 use Rattle.cur_looks.specs.Steps.{Keeps}
-use Rattle.cur_looks.proofs.Singling.{with_attributes}
+use Rattle.cur_looks.proofs.SingleFacts.{with_attributes}
 use Rattle.cur_looks.proofs.singles.add_singles.Given as goal
 
 abbrev pub invariant-loop-row : goal.invariant-loop-row

@@ -1,12 +1,12 @@
 use Rattle.std.proofs.Common.{◌≡◌, ◌+◌, ◌≤◌, false, length, ap, arith}
 use Rattle.std.proofs.lemmas.Result.{err_from_is_err_and}
-use Rattle.cur_wires.proofs.Stopping.{steps_fail, steps_next, on_ok_map}
+use Rattle.cur_wires.proofs.Stops.{steps_fail, steps_next, on_ok_map}
 use Rattle.ti_rows.specs.declared.rows.Row.TheVariants.{Sgr, Sgr0}
 use Rattle.ti_conforms.specs.Certified.{IsPiece, IsLost, has, text_of, lengths, singles}
 use Rattle.cur_looks.specs.Inks.{no_attributes}
 use Rattle.cur_looks.specs.Beliefs.{Agrees, Belief}
-use Rattle.cur_looks.proofs.Telling.{has_none}
-use Rattle.cur_looks.proofs.Singling.{sgr_absent, singly_dressed}
+use Rattle.cur_looks.proofs.Answers.{has_none}
+use Rattle.cur_looks.proofs.SingleFacts.{sgr_absent, singly_dressed}
 use Rattle.cur_looks.proofs.singles.attributes_singly.Goals as goal
 
 pub returns-in_err-make_plain-clause-step : goal.returns-in_err-make_plain-clause-step

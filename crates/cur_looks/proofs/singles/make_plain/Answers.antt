@@ -3,7 +3,7 @@ use Rattle.ti_rows.specs.declared.rows.Row.TheVariants.{Sgr0}
 use Rattle.ti_conforms.specs.Certified.{text_of}
 use Rattle.cur_looks.specs.Inks.{plain_brush}
 use Rattle.cur_looks.specs.Beliefs.{Belief}
-use Rattle.cur_looks.proofs.Singling.{stripped}
+use Rattle.cur_looks.proofs.SingleFacts.{stripped}
 use Rattle.cur_looks.proofs.singles.make_plain.Goals as goal
 
 pub returns-clause-step : goal.returns-clause-step

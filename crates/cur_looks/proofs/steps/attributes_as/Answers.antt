@@ -1,11 +1,11 @@
 use Rattle.std.proofs.Common.{ap, sym}
-use Rattle.cur_wires.proofs.Stopping.{steps_nothing}
+use Rattle.cur_wires.proofs.Stops.{steps_nothing}
 use Rattle.ti_rows.specs.declared.rows.Attributes.{Attributes}
 use Rattle.ti_conforms.specs.Certified.{IsPiece, IsLost}
 use Rattle.cur_looks.specs.Beliefs.{Agrees, Belief}
-use Rattle.cur_looks.proofs.Doing.{agrees_lost}
+use Rattle.cur_looks.proofs.Actions.{agrees_lost}
 use Rattle.cur_looks.proofs.Sameness.{attributes_equal}
-use Rattle.cur_looks.proofs.Turning.{brush_as}
+use Rattle.cur_looks.proofs.Turns.{brush_as}
 use Rattle.cur_looks.proofs.steps.attributes_as.Goals as goal
 
 pub returns-then-same_attributes-clause-step : goal.returns-then-same_attributes-clause-step

@@ -1,5 +1,5 @@
 use Rattle.std.proofs.Common.{arith}
-use Rattle.cur_looks.proofs.Turning.{attributes_set}
+use Rattle.cur_looks.proofs.Turns.{attributes_set}
 use Rattle.cur_looks.proofs.steps.attributes_at_once.Goals as goal
 
 pub returns-clause-step : goal.returns-clause-step

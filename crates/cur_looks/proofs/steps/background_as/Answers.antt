@@ -1,12 +1,12 @@
 use Rattle.std.proofs.Common.{◌≡◌, Option, Some, true, false, arith, refl, ap, sym, ◌∙◌}
 use Rattle.vt_term.specs.Color.{Color}
-use Rattle.cur_wires.proofs.Stopping.{steps_nothing}
+use Rattle.cur_wires.proofs.Stops.{steps_nothing}
 use Rattle.ti_rows.specs.declared.rows.Row.TheVariants.{Op, Setab}
 use Rattle.ti_conforms.specs.Certified.{IsPiece, IsLost, has}
 use Rattle.cur_looks.specs.Beliefs.{Agrees, Belief}
-use Rattle.cur_looks.proofs.Doing.{agrees_lost}
-use Rattle.cur_looks.proofs.Telling.{has_none}
-use Rattle.cur_looks.proofs.Turning.{background_set, brush_as, colored_has}
+use Rattle.cur_looks.proofs.Actions.{agrees_lost}
+use Rattle.cur_looks.proofs.Answers.{has_none}
+use Rattle.cur_looks.proofs.Turns.{background_set, brush_as, colored_has}
 use Rattle.cur_looks.proofs.Sameness.{color_equal}
 use Rattle.cur_looks.proofs.steps.background_as.Goals as goal
 

@@ -1,11 +1,11 @@
 use Rattle.std.proofs.Common.{None, arith, refl}
-use Rattle.cur_wires.proofs.Stopping.{steps_nothing}
+use Rattle.cur_wires.proofs.Stops.{steps_nothing}
 use Rattle.ti_rows.specs.declared.rows.Row.TheVariants.{Op}
 use Rattle.ti_conforms.specs.Certified.{IsPiece, IsLost}
 use Rattle.cur_looks.specs.Beliefs.{Agrees, Belief}
-use Rattle.cur_looks.proofs.Doing.{agrees_lost}
-use Rattle.cur_looks.proofs.Telling.{has_none}
-use Rattle.cur_looks.proofs.Turning.{colors_gone, no_colors, no_color_lines}
+use Rattle.cur_looks.proofs.Actions.{agrees_lost}
+use Rattle.cur_looks.proofs.Answers.{has_none}
+use Rattle.cur_looks.proofs.Turns.{colors_gone, no_colors, no_color_lines}
 use Rattle.cur_looks.proofs.steps.colors_off.Goals as goal
 
 pub returns-then-plain-clause-step : goal.returns-then-plain-clause-step

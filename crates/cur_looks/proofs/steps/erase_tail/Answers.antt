@@ -1,6 +1,6 @@
 use Rattle.std.proofs.Common.{arith}
 use Rattle.cur_looks.specs.Inks.{tail_blank}
-use Rattle.cur_looks.proofs.Turning.{tail_erased}
+use Rattle.cur_looks.proofs.Turns.{tail_erased}
 use Rattle.cur_looks.proofs.steps.erase_tail.Goals as goal
 
 pub returns : goal.returns

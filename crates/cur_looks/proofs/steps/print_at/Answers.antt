@@ -1,4 +1,4 @@
-use Rattle.cur_looks.proofs.Printing.{print_steps}
+use Rattle.cur_looks.proofs.Prints.{print_steps}
 use Rattle.cur_looks.proofs.steps.print_at.Goals as goal
 
 pub returns-clause-step : goal.returns-clause-step

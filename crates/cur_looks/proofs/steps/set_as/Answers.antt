@@ -1,10 +1,10 @@
 use Rattle.std.proofs.Common.{Some, refl}
-use Rattle.cur_wires.proofs.Stopping.{steps_none, steps_nothing}
+use Rattle.cur_wires.proofs.Stops.{steps_none, steps_nothing}
 use Rattle.ti_conforms.specs.Certified.{IsPiece, IsLost}
 use Rattle.cur_looks.specs.Beliefs.{Agrees, Belief, set_row}
-use Rattle.cur_looks.proofs.Doing.{agrees_lost}
-use Rattle.cur_looks.proofs.Telling.{has_none}
-use Rattle.cur_looks.proofs.Turning.{set_chosen, set_limit, set_absent}
+use Rattle.cur_looks.proofs.Actions.{agrees_lost}
+use Rattle.cur_looks.proofs.Answers.{has_none}
+use Rattle.cur_looks.proofs.Turns.{set_chosen, set_limit, set_absent}
 use Rattle.cur_looks.proofs.steps.set_as.Goals as goal
 
 pub returns-then-is_active-clause-step : goal.returns-then-is_active-clause-step

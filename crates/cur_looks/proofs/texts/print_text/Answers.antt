@@ -1,6 +1,6 @@
 use Rattle.std.proofs.Common.{◌∙◌, sym, arith, length-take, take}
 use Rattle.std.proofs.lemmas.List.{get_or-take}
-use Rattle.cur_looks.proofs.Typing.{text_steps}
+use Rattle.cur_looks.proofs.Types.{text_steps}
 use Rattle.cur_looks.proofs.texts.print_text.Goals as goal
 
 pub returns-clause-step : goal.returns-clause-step

@@ -1,4 +1,4 @@
-use Rattle.cur_pads.proofs.Backing as backing
+use Rattle.cur_pads.proofs.Supports as backing
 use Rattle.cur_pads.proofs.laws.refused_calls_change_nothing.Goals as goal
 
 pub returns-clause-newpad : goal.returns-clause-newpad

@@ -1,7 +1,7 @@
 use Rattle.std.proofs.Common.{◌≡◌, ℕ, true, false, List, Some, refl, sym, ◌∙◌}
 use Rattle.ti_rows.specs.declared.rows.Row.TheVariants.{Bel}
 use Rattle.cur_paint.specs.declared.updates.Status.TheVariants.{Lost}
-use Rattle.cur_paint.proofs.Ringing.{rung_fits, rung_short}
+use Rattle.cur_paint.proofs.BellFacts.{rung_fits, rung_short}
 use Rattle.cur_paint.proofs.bells.beep.Goals as goal
 
 not_both : true ≡ false → ⊥

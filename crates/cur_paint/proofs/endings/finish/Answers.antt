@@ -1,6 +1,6 @@
 use Rattle.std.proofs.lemmas.Result.{err_from_is_err_and}
 use Rattle.std.proofs.Common.{refl}
-use Rattle.cur_paint.proofs.Ending.{finish_leads}
+use Rattle.cur_paint.proofs.EndingFacts.{finish_leads}
 use Rattle.cur_paint.proofs.endings.finish.Goals as goal
 
 pub returns-in_err-send_finish : goal.returns-in_err-send_finish

@@ -1,5 +1,5 @@
 use Rattle.std.proofs.lemmas.Result.{err_from_is_err_and}
-use Rattle.cur_wires.proofs.Painting.{sends_then, stops_more}
+use Rattle.cur_wires.proofs.Paints.{sends_then, stops_more}
 use Rattle.ti_rows.specs.declared.rows.Row.TheVariants.{Sgr0}
 use Rattle.ti_conforms.specs.Certified.{text_of}
 use Rattle.cur_paint.specs.Finish.{from_rmacs_text}

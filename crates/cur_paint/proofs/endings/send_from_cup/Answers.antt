@@ -1,6 +1,6 @@
 use Rattle.std.proofs.lemmas.Result.{err_from_is_err_and}
 use Rattle.std.proofs.Common.{◌-◌}
-use Rattle.cur_wires.proofs.Painting.{sends_then, stops_more}
+use Rattle.cur_wires.proofs.Paints.{sends_then, stops_more}
 use Rattle.ti_rows.specs.declared.rows.Row.TheVariants.{Cup}
 use Rattle.ti_conforms.specs.Certified.{text_of}
 use Rattle.cur_paint.specs.Finish.{from_cnorm_text}

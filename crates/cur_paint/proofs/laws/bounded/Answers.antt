@@ -1,4 +1,4 @@
-use Rattle.cur_paint.proofs.Bounding.{most, none}
+use Rattle.cur_paint.proofs.Bounds.{most, none}
 use Rattle.cur_paint.proofs.laws.bounded.Goals as goal
 
 pub returns : goal.returns

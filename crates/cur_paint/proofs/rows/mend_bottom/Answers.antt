@@ -2,12 +2,12 @@ use Rattle.std.proofs.Common.{◌≡◌, ℕ, ◌+◌, ◌-◌, ◌*◌, ◌<◌
 use Rattle.std.proofs.lemmas.Result.{err_from_is_err_and}
 use Rattle.cur_looks.specs.Inks.{mixed}
 use Rattle.cur_looks.specs.Erasures.{erased}
-use Rattle.cur_looks.specs.declared.erasing.ErasedPart.TheVariants.{Rest}
+use Rattle.cur_looks.specs.declared.erasures.ErasedPart.TheVariants.{Rest}
 use Rattle.cur_paint.specs.Differ.{span}
 use Rattle.ti_conforms.specs.Certified.{IsPiece, IsLost, cell_limit}
 use Rattle.cur_looks.specs.Beliefs.{Agrees}
-use Rattle.cur_wires.proofs.Stopping.{steps_next, steps_fail, steps_wider}
-use Rattle.cur_paint.proofs.Mixing.{mixed_before, span_parts, span_split, times_grows, front_shown, agrees_at, rest_done}
+use Rattle.cur_wires.proofs.Stops.{steps_next, steps_fail, steps_wider}
+use Rattle.cur_paint.proofs.Mixtures.{mixed_before, span_parts, span_split, times_grows, front_shown, agrees_at, rest_done}
 use Rattle.cur_paint.proofs.rows.mend_bottom.Goals as goal
 
 -- what comes before a part, and at least one cell

@@ -4,8 +4,8 @@ use Rattle.cur_looks.specs.Inks.{mixed}
 use Rattle.cur_paint.specs.Differ.{span}
 use Rattle.ti_conforms.specs.Certified.{IsPiece, IsLost, cell_limit}
 use Rattle.cur_looks.specs.Beliefs.{Agrees}
-use Rattle.cur_wires.proofs.Stopping.{steps_next, steps_fail, steps_wider, on_ok_map}
-use Rattle.cur_paint.proofs.Mixing.{span_parts, span_split, times_grows, sum_limit, front_shown, row_done, agrees_at}
+use Rattle.cur_wires.proofs.Stops.{steps_next, steps_fail, steps_wider, on_ok_map}
+use Rattle.cur_paint.proofs.Mixtures.{span_parts, span_split, times_grows, sum_limit, front_shown, row_done, agrees_at}
 use Rattle.cur_paint.proofs.rows.mend_line.Goals as goal
 
 pub mend_tail-requires-clause-same : goal.mend_tail-requires-clause-same

@@ -1,6 +1,6 @@
 use Rattle.std.proofs.Common.{◌≡◌, ◌+◌, ◌*◌, ◌<◌, ℕ, Result, Ok, Err, OnOk, refl, subst, ◌∙◌, arith}
 use Rattle.ti_rows.specs.declared.rows.Row.TheVariants.{Ed}
-use Rattle.cur_looks.proofs.Telling.{line_is}
+use Rattle.cur_looks.proofs.Answers.{line_is}
 use Rattle.std.proofs.lemmas.Result.{err_from_is_err_and}
 use Rattle.cur_wires.specs.declared.wires.WireFault.{WireFault}
 use Rattle.cur_looks.specs.Inks.{mixed}
@@ -8,9 +8,9 @@ use Rattle.cur_paint.specs.Differ.{span, all_differ}
 use Rattle.ti_conforms.specs.Certified.{IsPiece, IsLost, cell_limit}
 use Rattle.cur_looks.specs.Beliefs.{Agrees}
 use Rattle.cur_wires.specs.Steps.{Steps}
-use Rattle.cur_wires.proofs.Stopping.{steps_nothing, steps_next, steps_fail, steps_wider}
-use Rattle.cur_looks.proofs.Doing.{agrees_lost}
-use Rattle.cur_paint.proofs.Mixing.{span_parts, all_more, all_grows, times_grows, sum_limit, none_done, all_done}
+use Rattle.cur_wires.proofs.Stops.{steps_nothing, steps_next, steps_fail, steps_wider}
+use Rattle.cur_looks.proofs.Actions.{agrees_lost}
+use Rattle.cur_paint.proofs.Mixtures.{span_parts, all_more, all_grows, times_grows, sum_limit, none_done, all_done}
 use Rattle.cur_paint.proofs.rows.mend_screen.Goals as goal
 
 pub loop-row-init : goal.loop-row-init

@@ -3,9 +3,9 @@ use Rattle.cur_looks.specs.Inks.{mixed, tail_blank}
 use Rattle.cur_paint.specs.Differ.{span}
 use Rattle.ti_conforms.specs.Certified.{IsPiece, IsLost, cell_limit}
 use Rattle.cur_looks.specs.Beliefs.{Agrees}
-use Rattle.cur_wires.proofs.Stopping.{steps_nothing, steps_wider}
-use Rattle.cur_looks.proofs.Doing.{agrees_lost}
-use Rattle.cur_paint.proofs.Mixing.{mixed_before, rest_shown, tail_done, some_times}
+use Rattle.cur_wires.proofs.Stops.{steps_nothing, steps_wider}
+use Rattle.cur_looks.proofs.Actions.{agrees_lost}
+use Rattle.cur_paint.proofs.Mixtures.{mixed_before, rest_shown, tail_done, some_times}
 use Rattle.cur_paint.proofs.rows.mend_tail.Goals as goal
 
 pub returns-then-columns-clause-step : goal.returns-then-columns-clause-step

@@ -1,5 +1,5 @@
 use Rattle.std.proofs.Common.{◌+◌, arith, refl}
-use Rattle.cur_paint.proofs.Mixing.{span_more, span_grows, found_different}
+use Rattle.cur_paint.proofs.Mixtures.{span_more, span_grows, found_different}
 use Rattle.cur_paint.proofs.spans.differs_in.Goals as goal
 
 pub returns-then-not-shows : goal.returns-then-not-shows

@@ -4,10 +4,10 @@ use Rattle.cur_looks.specs.Inks.{mixed}
 use Rattle.cur_paint.specs.Differ.{differs, span}
 use Rattle.ti_conforms.specs.Certified.{IsPiece, IsLost, cell_limit}
 use Rattle.cur_looks.specs.Beliefs.{Agrees}
-use Rattle.cur_wires.proofs.Stopping.{steps_nothing, steps_next, steps_fail, steps_wider}
-use Rattle.cur_looks.proofs.Doing.{agrees_lost}
-use Rattle.cur_paint.proofs.Mixing.{span_first, span_join, span_more, span_grows, times_grows, sum_limit, agrees_as, agrees_at, mixed_same, found_same, found_different}
-use Rattle.cur_paint.proofs.Spanning.{first_then}
+use Rattle.cur_wires.proofs.Stops.{steps_nothing, steps_next, steps_fail, steps_wider}
+use Rattle.cur_looks.proofs.Actions.{agrees_lost}
+use Rattle.cur_paint.proofs.Mixtures.{span_first, span_join, span_more, span_grows, times_grows, sum_limit, agrees_as, agrees_at, mixed_same, found_same, found_different}
+use Rattle.cur_paint.proofs.SpanFacts.{first_then}
 use Rattle.cur_paint.proofs.spans.mend_span.Goals as goal
 
 pub loop-done-init : goal.loop-done-init

@@ -4,8 +4,8 @@ use Rattle.cur_looks.specs.declared.inks.Ink.{Ink}
 use Rattle.cur_paint.specs.Differ.{span, IsLike}
 use Rattle.ti_conforms.specs.Certified.{IsPiece, IsLost, cell_limit}
 use Rattle.cur_looks.specs.Beliefs.{Agrees}
-use Rattle.cur_wires.proofs.Stopping.{steps_wider}
-use Rattle.cur_paint.proofs.Mixing.{like_alike, span_full, some_each}
+use Rattle.cur_wires.proofs.Stops.{steps_wider}
+use Rattle.cur_paint.proofs.Mixtures.{like_alike, span_full, some_each}
 use Rattle.cur_paint.proofs.spans.print_alike.Goals as goal
 
 always : {T E : Type 0} (r : Result T E) (A : Type 0) → A → OnOk r A

@@ -3,9 +3,9 @@ use Rattle.cur_looks.specs.Inks.{mixed, put_at}
 use Rattle.cur_paint.specs.Differ.{differs}
 use Rattle.ti_conforms.specs.Certified.{IsPiece, IsLost, cell_limit}
 use Rattle.cur_looks.specs.Beliefs.{Agrees}
-use Rattle.cur_wires.proofs.Stopping.{steps_wider}
-use Rattle.cur_paint.proofs.Mixing.{agrees_as, mixed_before, put_new}
-use Rattle.cur_looks.proofs.Telling.{once}
+use Rattle.cur_wires.proofs.Stops.{steps_wider}
+use Rattle.cur_paint.proofs.Mixtures.{agrees_as, mixed_before, put_new}
+use Rattle.cur_looks.proofs.Answers.{once}
 use Rattle.cur_paint.proofs.spans.print_cell.Goals as goal
 
 pub returns : goal.returns

@@ -4,12 +4,12 @@ use Rattle.cur_wires.specs.declared.wires.WireFault.{WireFault}
 use Rattle.ti_rows.specs.declared.rows.Row.TheVariants.{Clear}
 use Rattle.cur_looks.specs.declared.beliefs.Belief.{Belief}
 use Rattle.cur_looks.specs.Beliefs.{Agrees}
-use Rattle.cur_looks.proofs.Doing.{agrees_lost}
-use Rattle.cur_looks.proofs.Telling.{line_is}
+use Rattle.cur_looks.proofs.Actions.{agrees_lost}
+use Rattle.cur_looks.proofs.Answers.{line_is}
 use Rattle.cur_paint.specs.Cleared.{at_corner, cleared}
 use Rattle.cur_paint.specs.Limits.{paint_limit}
 use Rattle.cur_paint.specs.Update.{Anew}
-use Rattle.cur_paint.proofs.Renewing.{anew_failed, anew_then, clear_leads}
+use Rattle.cur_paint.proofs.Renewals.{anew_failed, anew_then, clear_leads}
 use Rattle.cur_paint.proofs.updates.clear_first.Goals as goal
 
 one_line : (o : Option (List ℕ)) (a b : List ℕ) → o ≡ Some a → o ≡ Some b → a ≡ b

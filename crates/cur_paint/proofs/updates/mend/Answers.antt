@@ -1,12 +1,12 @@
 use Rattle.std.proofs.Common.{◌+◌, length}
 use Rattle.ti_rows.specs.declared.rows.Row.TheVariants.{Clear}
-use Rattle.cur_wires.proofs.Stopping.{steps_wider}
+use Rattle.cur_wires.proofs.Stops.{steps_wider}
 use Rattle.ti_conforms.specs.Certified.{IsPiece, IsLost}
 use Rattle.cur_looks.specs.Beliefs.{Agrees}
 use Rattle.cur_paint.specs.Cleared.{at_corner, cleared}
 use Rattle.cur_paint.specs.Limits.{paint_limit}
-use Rattle.cur_paint.proofs.Bounding.{fewer_enough}
-use Rattle.cur_paint.proofs.Reaching.{IsThere, there}
+use Rattle.cur_paint.proofs.Bounds.{fewer_enough}
+use Rattle.cur_paint.proofs.Reaches.{IsThere, there}
 use Rattle.cur_paint.proofs.updates.mend.Goals as goal
 
 pub returns-then-is_better_cleared-clause-step : goal.returns-then-is_better_cleared-clause-step

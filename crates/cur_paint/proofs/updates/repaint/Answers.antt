@@ -3,11 +3,11 @@ use Rattle.std.proofs.lemmas.Result.{err_from_is_err_and}
 use Rattle.cur_looks.specs.declared.inks.Ink.{Ink}
 use Rattle.cur_looks.specs.Inks.{blank_ink}
 use Rattle.cur_looks.specs.Beliefs.{Agrees}
-use Rattle.cur_looks.proofs.Doing.{agrees_lost}
+use Rattle.cur_looks.proofs.Actions.{agrees_lost}
 use Rattle.cur_paint.specs.Cleared.{IsLeft, at_start}
 use Rattle.cur_paint.specs.Limits.{fresh_limit, paint_limit}
-use Rattle.cur_paint.proofs.Bounding.{fresh_enough}
-use Rattle.cur_paint.proofs.Renewing.{anew_failed, anew_then, resync_leads}
+use Rattle.cur_paint.proofs.Bounds.{fresh_enough}
+use Rattle.cur_paint.proofs.Renewals.{anew_failed, anew_then, resync_leads}
 use Rattle.cur_paint.proofs.updates.repaint.Goals as goal
 
 pub returns-in_err-send_all-clause-step : goal.returns-in_err-send_all-clause-step

@@ -1,5 +1,5 @@
 use Rattle.std.proofs.lemmas.Result.{err_from_is_err_and}
-use Rattle.cur_paint.proofs.Updating.{refreshed, cut_short}
+use Rattle.cur_paint.proofs.UpdateFacts.{refreshed, cut_short}
 use Rattle.cur_paint.proofs.updates.update.Goals as goal
 
 pub returns-in_err-draw : goal.returns-in_err-draw

@@ -1,5 +1,5 @@
 use Rattle.std.proofs.Common.{◌∙◌, length, refl, ap, arith}
-use Rattle.cur_play.proofs.Logging.{log_call, log_none, log_whole, next_call}
+use Rattle.cur_play.proofs.Logs.{log_call, log_none, log_whole, next_call}
 use Rattle.cur_play.specs.Log.{subject_of}
 use Rattle.cur_play.proofs.runs.play_all.Goals as goal
 

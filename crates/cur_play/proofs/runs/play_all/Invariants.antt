@@ -1,6 +1,6 @@
 use Rattle.std.proofs.Common.{◌≡◌, ◌≤◌, length}
 use Rattle.std.specs.Prelude.{vec_capacity, vec_len}
-use Rattle.cur_play.proofs.Logging.{Logged}
+use Rattle.cur_play.proofs.Logs.{Logged}
 use Rattle.cur_play.specs.Log.{subject_of}
 use Rattle.cur_play.proofs.runs.play_all.Given as goal
 

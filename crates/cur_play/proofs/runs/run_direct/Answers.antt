@@ -1,4 +1,4 @@
-use Rattle.cur_play.proofs.Rewiring.{direct_over}
+use Rattle.cur_play.proofs.Wires.{direct_over}
 use Rattle.cur_play.proofs.runs.run_direct.Goals as goal
 
 pub returns-clause-ran : goal.returns-clause-ran

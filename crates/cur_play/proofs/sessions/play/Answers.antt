@@ -1,5 +1,5 @@
-use Rattle.cur_play.proofs.Carrying.{IsBound}
-use Rattle.cur_play.proofs.Playing.{played_done, played_refused}
+use Rattle.cur_play.proofs.Deliveries.{IsBound}
+use Rattle.cur_play.proofs.Plays.{played_done, played_refused}
 use Rattle.cur_play.proofs.sessions.play.Goals as goal
 
 pub returns-in-Done : goal.returns-in-Done

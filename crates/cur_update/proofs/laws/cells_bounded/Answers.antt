@@ -4,7 +4,7 @@ use Rattle.cur_paint.specs.Differ.{all_differ}
 use Rattle.cur_paint.specs.Limits.{paint_limit}
 use Rattle.cur_update.specs.Differ.{in_lines}
 use Rattle.cur_update.specs.Inks.{ink_at}
-use Rattle.cur_update.proofs.Counting.{lines_at_most, scaled}
+use Rattle.cur_update.proofs.Counts.{lines_at_most, scaled}
 use Rattle.cur_update.proofs.laws.cells_bounded.Goals as goal
 
 pub returns : goal.returns

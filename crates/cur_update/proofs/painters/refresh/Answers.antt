@@ -3,7 +3,7 @@ use Rattle.cur_looks.specs.Inks.{CanShow}
 use Rattle.cur_looks.specs.declared.inks.Ink.{Ink}
 use Rattle.cur_paint.specs.Update.{Refreshed}
 use Rattle.cur_update.specs.Inks.{ink_at, ink_at_with}
-use Rattle.cur_update.proofs.Inking.{can_show, as_table}
+use Rattle.cur_update.proofs.InkFacts.{can_show, as_table}
 use Rattle.cur_update.proofs.painters.refresh.Goals as goal
 
 pub update-requires-clause-drawable : goal.update-requires-clause-drawable

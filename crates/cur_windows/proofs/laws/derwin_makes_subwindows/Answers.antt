@@ -1,4 +1,4 @@
-use Rattle.cur_windows.proofs.Sharing.{derwin_part}
+use Rattle.cur_windows.proofs.Shares.{derwin_part}
 use Rattle.cur_windows.proofs.laws.derwin_makes_subwindows.Goals as goal
 
 pub returns : goal.returns

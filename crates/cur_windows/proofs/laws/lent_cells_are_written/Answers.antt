@@ -1,5 +1,5 @@
 use Rattle.std.proofs.Common.{rules}
-use Rattle.cur_windows.proofs.Lending.{lent_written}
+use Rattle.cur_windows.proofs.Loans.{lent_written}
 use Rattle.cur_windows.proofs.laws.lent_cells_are_written.Goals as goal
 
 pub returns-in-Ok : goal.returns-in-Ok

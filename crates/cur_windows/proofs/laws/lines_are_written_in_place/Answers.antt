@@ -1,4 +1,4 @@
-use Rattle.cur_windows.proofs.Lending.{written_inside, written_outside}
+use Rattle.cur_windows.proofs.Loans.{written_inside, written_outside}
 use Rattle.cur_windows.proofs.laws.lines_are_written_in_place.Goals as goal
 
 pub returns-clause-inside : goal.returns-clause-inside

@@ -1,4 +1,4 @@
-use Rattle.cur_windows.proofs.Sharing.{settled_apart}
+use Rattle.cur_windows.proofs.Shares.{settled_apart}
 use Rattle.cur_windows.proofs.laws.new_windows_lie_apart.Goals as goal
 
 pub returns : goal.returns

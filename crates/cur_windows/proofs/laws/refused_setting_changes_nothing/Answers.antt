@@ -1,4 +1,4 @@
-use Rattle.cur_windows.proofs.Backing as backing
+use Rattle.cur_windows.proofs.Supports as backing
 use Rattle.cur_windows.proofs.laws.refused_setting_changes_nothing.Goals as goal
 
 pub returns-clause-move_to : goal.returns-clause-move_to

@@ -1,6 +1,6 @@
 use Rattle.cur_drawing.specs.Calls as calls
-use Rattle.cur_drawing.proofs.Refusing as refusing
-use Rattle.cur_windows.proofs.Backing as backing
+use Rattle.cur_drawing.proofs.RefusalFacts as refusing
+use Rattle.cur_windows.proofs.Supports as backing
 use Rattle.cur_windows.proofs.laws.refused_writing_changes_nothing.Goals as goal
 
 pub returns-clause-addch : goal.returns-clause-addch

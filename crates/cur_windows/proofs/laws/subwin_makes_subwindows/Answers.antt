@@ -1,4 +1,4 @@
-use Rattle.cur_windows.proofs.Sharing.{subwin_part}
+use Rattle.cur_windows.proofs.Shares.{subwin_part}
 use Rattle.cur_windows.proofs.laws.subwin_makes_subwindows.Goals as goal
 
 pub returns : goal.returns

@@ -1,4 +1,4 @@
-use Rattle.cur_windows.proofs.Sharing.{part_cell}
+use Rattle.cur_windows.proofs.Shares.{part_cell}
 use Rattle.cur_windows.proofs.laws.subwindows_share_cells.Goals as goal
 
 pub returns : goal.returns

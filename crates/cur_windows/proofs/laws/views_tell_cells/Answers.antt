@@ -1,6 +1,6 @@
 use Rattle.cur_windows.specs.Desks.{grid_at}
-use Rattle.cur_windows.proofs.Backing.{found_there}
-use Rattle.cur_windows.proofs.Sharing.{cell_seen}
+use Rattle.cur_windows.proofs.Supports.{found_there}
+use Rattle.cur_windows.proofs.Shares.{cell_seen}
 use Rattle.cur_windows.proofs.laws.views_tell_cells.Goals as goal
 
 pub returns : goal.returns

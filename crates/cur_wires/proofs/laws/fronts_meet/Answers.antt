@@ -1,4 +1,4 @@
-use Rattle.cur_wires.proofs.Leading.{meet}
+use Rattle.cur_wires.proofs.Leads.{meet}
 use Rattle.cur_wires.proofs.laws.fronts_meet.Goals as goal
 
 pub returns : goal.returns

@@ -1,4 +1,4 @@
-use Rattle.cur_wires.proofs.Painting.{sends_then}
+use Rattle.cur_wires.proofs.Paints.{sends_then}
 use Rattle.cur_wires.proofs.laws.sends_join.Goals as goal
 
 pub returns : goal.returns

@@ -1,7 +1,7 @@
 use Rattle.std.proofs.lemmas.Result.{err_from_is_err_and}
 use Rattle.std.proofs.Common.{ℕ, arith, length-take}
 use Rattle.std.proofs.lemmas.List.{length-drop}
-use Rattle.cur_wires.proofs.Sending.{more_went, stopped}
+use Rattle.cur_wires.proofs.Sends.{more_went, stopped}
 use Rattle.cur_wires.proofs.wires.send_all.Goals as goal
 
 pub returns-in_err-taken : goal.returns-in_err-taken

@@ -3,7 +3,7 @@ use Rattle.std.proofs.lemmas.Result.{IfErr-weaker}
 use Rattle.ti_lines.specs.Reader.{Rose}
 use Rattle.ti_cert.specs.Texts.{IsRefused}
 use Rattle.ti_cert.specs.declared.faults.CertFaultKind.TheVariants.{NoMemory}
-use Rattle.ti_cert.proofs.Relating.{never_failed}
+use Rattle.ti_cert.proofs.Relations.{never_failed}
 use Rattle.ti_cert.proofs.BasicTexts.{stopped, out_of_memory}
 use Rattle.ti_cert.proofs.audits.audit.Goals as goal
 

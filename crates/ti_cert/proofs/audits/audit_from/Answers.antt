@@ -1,4 +1,4 @@
-use Rattle.ti_cert.proofs.Relating.{whole_read, sizes_of_table, few_of_table, table_of_text, text_refused, taken, failed_at}
+use Rattle.ti_cert.proofs.Relations.{whole_read, sizes_of_table, few_of_table, table_of_text, text_refused, taken, failed_at}
 use Rattle.ti_cert.specs.Basic.{basic_text}
 use Rattle.ti_cert.proofs.BasicTexts.{stopped}
 use Rattle.ti_lines.specs.Reader.{Rose}

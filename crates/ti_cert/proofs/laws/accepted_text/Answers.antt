@@ -1,4 +1,4 @@
-use Rattle.ti_cert.proofs.Spelling.{that_of_certificate}
+use Rattle.ti_cert.proofs.Texts.{that_of_certificate}
 use Rattle.ti_cert.proofs.laws.accepted_text.Goals as goal
 
 pub returns : goal.returns

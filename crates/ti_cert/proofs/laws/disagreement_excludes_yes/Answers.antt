@@ -1,4 +1,4 @@
-use Rattle.ti_cert.proofs.Disagreeing.{excludes_yes}
+use Rattle.ti_cert.proofs.Disagreements.{excludes_yes}
 use Rattle.ti_cert.proofs.laws.disagreement_excludes_yes.Goals as goal
 
 pub returns : goal.returns

@@ -1,5 +1,5 @@
 use Rattle.std.proofs.Common.{◌<◌, arith}
-use Rattle.ti_checker.proofs.Placing.{grids_apart}
+use Rattle.ti_checker.proofs.Places.{grids_apart}
 use Rattle.ti_checker.proofs.cells.line_differs.Goals as goal
 
 pub returns-then-place_differs : goal.returns-then-place_differs

@@ -2,7 +2,7 @@ use Rattle.std.proofs.Common.{◌≡◌, ◌∙◌, sym, subst}
 use Rattle.std.proofs.lemmas.Result.{err_from_is_err_and}
 use Rattle.ti_checker.specs.declared.causes.Cause.TheVariants.{NoMemory}
 use Rattle.ti_checker.proofs.BasicDrafts.{draft_is_basic, only_memory}
-use Rattle.ti_checker.proofs.Fitting.{each_written}
+use Rattle.ti_checker.proofs.FitnessFacts.{each_written}
 use Rattle.ti_checker.proofs.drafts.draft_of.Goals as goal
 
 pub returns-in-Ok-finished-clause-written : goal.returns-in-Ok-finished-clause-written

@@ -2,9 +2,9 @@ use Rattle.std.proofs.Common.{◌≡◌, ◌<◌, ◌+◌, ℕ, sym, ◌∙◌, 
 use Rattle.std.specs.Prelude.{OnOk}
 use Rattle.std.proofs.lemmas.Option.{none-some}
 use Rattle.ti_rows.specs.Names.{order, first_in_order}
-use Rattle.ti_rows.proofs.Naming.{firsts_in_order}
-use Rattle.ti_rows.proofs.Listing.{firsts_in_range}
-use Rattle.ti_conforms.proofs.Matching.{first_is}
+use Rattle.ti_rows.proofs.NameFacts.{firsts_in_order}
+use Rattle.ti_rows.proofs.ListFacts.{firsts_in_range}
+use Rattle.ti_conforms.proofs.Matches.{first_is}
 use Rattle.ti_checker.specs.First.{IsDrafted}
 use Rattle.ti_checker.proofs.drafts.push_at.Goals as goal
 

@@ -1,12 +1,12 @@
 use Rattle.std.proofs.Common.{refl, sym, subst, ◌∙◌}
 use Rattle.ti_rows.specs.Names.{order}
-use Rattle.ti_rows.proofs.Listing.{next_follows}
-use Rattle.ti_conforms.proofs.Walking.{nearer}
+use Rattle.ti_rows.proofs.ListFacts.{next_follows}
+use Rattle.ti_conforms.proofs.Walks.{nearer}
 use Rattle.ti_checker.specs.No.{IsRowRefused}
 use Rattle.ti_checker.specs.declared.causes.Cause.{Cause}
 use Rattle.ti_checker.proofs.Earliest.{one_more, before_next, after_last, unchecked_cap, first_row, row_fault}
-use Rattle.ti_checker.proofs.Walking.{same_string}
-use Rattle.ti_conforms.proofs.Matching.{same_checked}
+use Rattle.ti_checker.proofs.Walks.{same_string}
+use Rattle.ti_conforms.proofs.Matches.{same_checked}
 use Rattle.ti_checker.proofs.drafts.push_cap.Goals as goal
 
 pub returns-in_default-clause-drafted : goal.returns-in_default-clause-drafted

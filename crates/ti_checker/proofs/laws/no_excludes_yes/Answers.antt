@@ -1,4 +1,4 @@
-use Rattle.ti_checker.proofs.Excluding.{no_excludes_yes, too_long_excludes}
+use Rattle.ti_checker.proofs.Exclusions.{no_excludes_yes, too_long_excludes}
 use Rattle.ti_checker.proofs.laws.no_excludes_yes.Goals as goal
 
 pub returns : goal.returns

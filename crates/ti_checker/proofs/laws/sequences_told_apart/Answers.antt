@@ -1,4 +1,4 @@
-use Rattle.ti_checker.proofs.Telling.{sequence_whole, single_not_whole, dropped_not_whole}
+use Rattle.ti_checker.proofs.Answers.{sequence_whole, single_not_whole, dropped_not_whole}
 use Rattle.ti_checker.proofs.laws.sequences_told_apart.Goals as goal
 
 pub returns : goal.returns

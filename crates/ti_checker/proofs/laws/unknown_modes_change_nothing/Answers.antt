@@ -1,4 +1,4 @@
-use Rattle.ti_checker.proofs.Changing.{unknown_mode, known_mode}
+use Rattle.ti_checker.proofs.Changes.{unknown_mode, known_mode}
 use Rattle.ti_checker.proofs.laws.unknown_modes_change_nothing.Goals as goal
 
 pub returns : goal.returns

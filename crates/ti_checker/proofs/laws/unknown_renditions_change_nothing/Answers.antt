@@ -1,4 +1,4 @@
-use Rattle.ti_checker.proofs.Changing.{unknown_rendition, known_rendition}
+use Rattle.ti_checker.proofs.Changes.{unknown_rendition, known_rendition}
 use Rattle.ti_checker.proofs.laws.unknown_renditions_change_nothing.Goals as goal
 
 pub returns : goal.returns

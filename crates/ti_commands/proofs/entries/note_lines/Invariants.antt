@@ -1,5 +1,5 @@
 use Rattle.std.proofs.Common.{◌≡◌, take}
-use Rattle.ti_commands.specs.Finding.{notes_text}
+use Rattle.ti_commands.specs.Findings.{notes_text}
 use Rattle.ti_commands.proofs.entries.note_lines.Given as goal
 
 abbrev pub invariant-loop-raw : goal.invariant-loop-raw

@@ -1,5 +1,5 @@
 use Rattle.std.proofs.Common.{◌≡◌, ◌++◌, take, flat_map}
-use Rattle.ti_commands.specs.Finding.{note_line}
+use Rattle.ti_commands.specs.Findings.{note_line}
 use Rattle.ti_commands.proofs.entries.push_notes.Given as goal
 
 abbrev pub invariant-loop-note : goal.invariant-loop-note

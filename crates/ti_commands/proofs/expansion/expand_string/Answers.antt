@@ -1,7 +1,7 @@
 use Rattle.std.proofs.Common.{ap, refl}
 use Rattle.std.proofs.lemmas.Result.{err_from_is_err_and}
 use Rattle.ti_parm.specs.Value.{values_of}
-use Rattle.ti_commands.specs.Expanding.{Asked}
+use Rattle.ti_commands.specs.Expansions.{Asked}
 use Rattle.ti_commands.proofs.Expansions.{escape_told, expanded, given_as, sending_told, size_told}
 use Rattle.ti_commands.proofs.expansion.expand_string.Goals as goal
 

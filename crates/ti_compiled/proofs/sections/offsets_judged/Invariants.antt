@@ -1,6 +1,6 @@
 use Rattle.std.proofs.Common.{◌≡◌, length}
 use Rattle.ti_compiled.specs.Layout.{words}
-use Rattle.ti_compiled.specs.Reading.{offsets_judged}
+use Rattle.ti_compiled.specs.Readings.{offsets_judged}
 use Rattle.ti_compiled.proofs.sections.offsets_judged.Given as goal
 
 abbrev pub invariant-loop-rest : goal.invariant-loop-rest

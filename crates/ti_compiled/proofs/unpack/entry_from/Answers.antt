@@ -1,6 +1,6 @@
 use Rattle.std.proofs.Common.{sym, ◌∙◌, ap, Ok}
-use Rattle.ti_compiled.proofs.Filling.{fit_names, fit_long, fit_ok, ok_is}
-use Rattle.ti_compiled.specs.Reading.{parts_view}
+use Rattle.ti_compiled.proofs.Fills.{fit_names, fit_long, fit_ok, ok_is}
+use Rattle.ti_compiled.specs.Readings.{parts_view}
 use Rattle.ti_compiled.specs.Contents.{entry_of}
 use Rattle.ti_compiled.proofs.unpack.entry_from.Goals as goal
 

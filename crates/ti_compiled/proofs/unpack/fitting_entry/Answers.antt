@@ -1,7 +1,7 @@
 use Rattle.std.proofs.Common.{◌∙◌, ap}
-use Rattle.ti_compiled.proofs.Filling.{partly_none}
+use Rattle.ti_compiled.proofs.Fills.{partly_none}
 use Rattle.ti_caps.specs.Entry.{bare_entry}
-use Rattle.ti_compiled.specs.Reading.{parts_view}
+use Rattle.ti_compiled.specs.Readings.{parts_view}
 use Rattle.ti_compiled.proofs.unpack.fitting_entry.Goals as goal
 
 pub put_flags-requires : goal.put_flags-requires

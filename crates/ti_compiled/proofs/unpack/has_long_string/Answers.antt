@@ -1,8 +1,8 @@
 use Rattle.std.proofs.Common.{sym, ◌∙◌, arith, ◌≡◌, below_more, false}
-use Rattle.ti_compiled.proofs.Filling.{long_found, long_none}
+use Rattle.ti_compiled.proofs.Fills.{long_found, long_none}
 use Rattle.ti_caps.specs.declared.types.Kind.TheVariants as kinds
 use Rattle.ti_compiled.specs.Contents.{value_of, is_long_string}
-use Rattle.ti_compiled.specs.Reading.{parts_view}
+use Rattle.ti_compiled.specs.Readings.{parts_view}
 use Rattle.ti_compiled.proofs.unpack.has_long_string.Goals as goal
 
 pub returns-then-is_long_at : goal.returns-then-is_long_at

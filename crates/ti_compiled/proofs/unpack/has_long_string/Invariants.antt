@@ -1,6 +1,6 @@
 use Rattle.std.proofs.Common.{◌≡◌, ◌<◌, ℕ, false}
 use Rattle.ti_caps.specs.declared.types.Kind.TheVariants as kinds
-use Rattle.ti_compiled.specs.Reading.{parts_view}
+use Rattle.ti_compiled.specs.Readings.{parts_view}
 use Rattle.ti_compiled.specs.Contents.{value_of, is_long_string}
 use Rattle.ti_compiled.proofs.unpack.has_long_string.Given as goal
 

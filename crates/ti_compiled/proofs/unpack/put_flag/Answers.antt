@@ -1,6 +1,6 @@
 use Rattle.std.proofs.Common.{sym, ◌∙◌}
-use Rattle.ti_compiled.proofs.Filling.{flag_put, flag_left}
-use Rattle.ti_compiled.specs.Reading.{parts_view}
+use Rattle.ti_compiled.proofs.Fills.{flag_put, flag_left}
+use Rattle.ti_compiled.specs.Readings.{parts_view}
 use Rattle.ti_compiled.proofs.unpack.put_flag.Goals as goal
 
 pub returns-then-flag_in : goal.returns-then-flag_in

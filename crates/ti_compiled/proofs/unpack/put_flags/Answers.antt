@@ -1,5 +1,5 @@
-use Rattle.ti_compiled.proofs.Filling.{flags_step}
-use Rattle.ti_compiled.specs.Reading.{parts_view}
+use Rattle.ti_compiled.proofs.Fills.{flags_step}
+use Rattle.ti_compiled.specs.Readings.{parts_view}
 use Rattle.ti_compiled.proofs.unpack.put_flags.Goals as goal
 
 pub loop-position-preserved : goal.loop-position-preserved

@@ -1,6 +1,6 @@
 use Rattle.std.proofs.Common.{◌∙◌}
-use Rattle.ti_compiled.proofs.Filling.{number_put, number_left}
-use Rattle.ti_compiled.specs.Reading.{parts_view}
+use Rattle.ti_compiled.proofs.Fills.{number_put, number_left}
+use Rattle.ti_compiled.specs.Readings.{parts_view}
 use Rattle.ti_compiled.proofs.unpack.put_number.Goals as goal
 
 pub returns-in-Some : goal.returns-in-Some

@@ -1,5 +1,5 @@
 use Rattle.std.proofs.Common.{◌≡◌, ◌+◌}
-use Rattle.ti_compiled.specs.Reading.{parts_view}
+use Rattle.ti_compiled.specs.Readings.{parts_view}
 use Rattle.ti_compiled.specs.Contents.{entry_of, partly}
 use Rattle.ti_compiled.proofs.unpack.put_numbers.Given as goal
 

@@ -1,7 +1,7 @@
 use Rattle.std.proofs.Common.{◌∙◌}
-use Rattle.ti_compiled.proofs.Filling.{string_put, string_left, string_fit}
+use Rattle.ti_compiled.proofs.Fills.{string_put, string_left, string_fit}
 use Rattle.std.proofs.lemmas.Result.{on_ok_weaker}
-use Rattle.ti_compiled.specs.Reading.{parts_view}
+use Rattle.ti_compiled.specs.Readings.{parts_view}
 use Rattle.ti_compiled.proofs.unpack.put_string.Goals as goal
 
 pub set_string-requires-clause-fits : goal.set_string-requires-clause-fits

@@ -1,7 +1,7 @@
 use Rattle.std.proofs.Common.{arith, ◌≡◌, ◌+◌, ap, ◌∙◌}
-use Rattle.ti_compiled.proofs.Filling.{short_at, strings_step, partly_all}
+use Rattle.ti_compiled.proofs.Fills.{short_at, strings_step, partly_all}
 use Rattle.ti_compiled.specs.Contents.{entry_of, partly}
-use Rattle.ti_compiled.specs.Reading.{parts_view}
+use Rattle.ti_compiled.specs.Readings.{parts_view}
 use Rattle.ti_compiled.proofs.unpack.put_strings.Goals as goal
 
 pub put_string-requires-clause-short : goal.put_string-requires-clause-short

@@ -1,6 +1,6 @@
 use Rattle.std.proofs.Common.{ℕ, sym, ap, ◌∙◌}
 use Rattle.ti_caps.specs.Entry.{string_at}
-use Rattle.ti_conforms.proofs.Matching.{none_wanted, all_wanted, not_agreed, on_ok, on_err}
+use Rattle.ti_conforms.proofs.Matches.{none_wanted, all_wanted, not_agreed, on_ok, on_err}
 use Rattle.ti_conforms.proofs.entries.cap_agrees.Goals as goal
 
 pub returns-else-has_any-clause-agrees : goal.returns-else-has_any-clause-agrees

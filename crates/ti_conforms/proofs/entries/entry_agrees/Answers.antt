@@ -1,9 +1,9 @@
 use Rattle.std.proofs.Common.{◌≡◌, ◌<◌, ℕ, sym, ◌∙◌, subst, below_more, arith, refl}
 use Rattle.ti_rows.specs.Names.{order, first_in_order}
-use Rattle.ti_rows.proofs.Naming.{firsts_in_order, orders_small}
-use Rattle.ti_rows.proofs.Listing.{firsts_in_range}
+use Rattle.ti_rows.proofs.NameFacts.{firsts_in_order, orders_small}
+use Rattle.ti_rows.proofs.ListFacts.{firsts_in_range}
 use Rattle.ti_conforms.specs.Entries.{CapAgrees}
-use Rattle.ti_conforms.proofs.Matching.{first_is}
+use Rattle.ti_conforms.proofs.Matches.{first_is}
 use Rattle.ti_conforms.proofs.entries.entry_agrees.Goals as goal
 use Rattle.ti_conforms.proofs.entries.entry_agrees.Goals.{in-Some+in_ok-cap_agrees, in_default}
 

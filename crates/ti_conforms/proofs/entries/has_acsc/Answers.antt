@@ -1,8 +1,8 @@
 use Rattle.std.proofs.Common.{◌≡◌, ◌+◌, ℕ, List, Option, ap, ◌∙◌, arith}
 use Rattle.std.specs.Prelude.{is_some}
 use Rattle.ti_caps.specs.Entry.{string_at}
-use Rattle.ti_rows.proofs.Naming.{placed}
-use Rattle.ti_conforms.proofs.Matching.{copied}
+use Rattle.ti_rows.proofs.NameFacts.{placed}
+use Rattle.ti_conforms.proofs.Matches.{copied}
 use Rattle.ti_conforms.proofs.entries.has_acsc.Goals as goal
 
 pub returns-in-Some : goal.returns-in-Some

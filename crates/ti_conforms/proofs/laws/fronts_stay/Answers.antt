@@ -1,4 +1,4 @@
-use Rattle.ti_conforms.proofs.Fronting.{fronts_stay, wholes_stay}
+use Rattle.ti_conforms.proofs.Fronts.{fronts_stay, wholes_stay}
 use Rattle.ti_conforms.proofs.laws.fronts_stay.Goals as goal
 
 pub returns-clause-front : goal.returns-clause-front

@@ -1,4 +1,4 @@
-use Rattle.ti_conforms.proofs.Leading.{quiet_settles, nothing_settles, settles_then}
+use Rattle.ti_conforms.proofs.Leads.{quiet_settles, nothing_settles, settles_then}
 use Rattle.ti_conforms.proofs.laws.quiet_lines_settle.Goals as goal
 
 pub returns-clause-line : goal.returns-clause-line

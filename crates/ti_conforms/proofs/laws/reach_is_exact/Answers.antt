@@ -1,4 +1,4 @@
-use Rattle.ti_conforms.proofs.Reaching.{can_reached, reached_can, reach_of-append}
+use Rattle.ti_conforms.proofs.Reaches.{can_reached, reached_can, reach_of-append}
 use Rattle.ti_conforms.proofs.laws.reach_is_exact.Goals as goal
 
 pub returns-clause-sound : goal.returns-clause-sound

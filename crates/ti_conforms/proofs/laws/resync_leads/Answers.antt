@@ -1,4 +1,4 @@
-use Rattle.ti_conforms.proofs.Leading.{resync_leads}
+use Rattle.ti_conforms.proofs.Leads.{resync_leads}
 use Rattle.ti_conforms.proofs.laws.resync_leads.Goals as goal
 
 pub returns : goal.returns

@@ -1,6 +1,6 @@
 use Rattle.std.proofs.Common.{◌∙◌, ◌+◌, ap}
 use Rattle.std.proofs.lemmas.List.{take_rest}
-use Rattle.ti_lines.proofs.Cutting.{around, cut_found}
+use Rattle.ti_lines.proofs.CutFacts.{around, cut_found}
 use Rattle.ti_lines.proofs.cuts.cut.Goals as goal
 
 pub returns-in-None : goal.returns-in-None

@@ -1,5 +1,5 @@
 use Rattle.std.proofs.Common.{◌≡◌, length}
-use Rattle.ti_lines.specs.EffectReading as spec
+use Rattle.ti_lines.specs.EffectReader as spec
 use Rattle.ti_lines.proofs.effects.read_behind.Given as goal
 
 abbrev pub invariant-loop-word : goal.invariant-loop-word

@@ -1,5 +1,5 @@
 use Rattle.std.proofs.Common.{◌≡◌, drop}
-use Rattle.ti_lines.specs.EffectReading as spec
+use Rattle.ti_lines.specs.EffectReader as spec
 use Rattle.ti_lines.proofs.numbers.digits_value.Given as goal
 
 abbrev pub invariant-loop-digit : goal.invariant-loop-digit

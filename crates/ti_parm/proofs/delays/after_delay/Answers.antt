@@ -1,7 +1,7 @@
 use Rattle.std.proofs.Common.{◌≡◌, ◌≤◌, ◌-◌, Some, ap, arith, drop, length, length-drop, sym, take, ◌∙◌}
 use Rattle.std.proofs.lemmas.List.{take_all}
 use Rattle.ti_parm.specs.Delays.{behind_delay}
-use Rattle.ti_parm.proofs.Stripping.{delay-dropped}
+use Rattle.ti_parm.proofs.Strips.{delay-dropped}
 use Rattle.ti_parm.proofs.delays.after_delay.Goals as goal
 
 pub returns-in-Some-clause-delay : goal.returns-in-Some-clause-delay

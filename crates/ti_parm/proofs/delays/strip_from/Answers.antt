@@ -1,7 +1,7 @@
 use Rattle.std.proofs.Common.{◌≡◌, ◌<◌, ◌++◌, None, Some, ap, arith, drop, length, take, ◌∙◌}
 use Rattle.std.proofs.lemmas.Grind.{common_steps}
 use Rattle.ti_parm.specs.Delays.{behind_delay}
-use Rattle.ti_parm.proofs.Stripping.{strip-ended, strip-kept, strip-past}
+use Rattle.ti_parm.proofs.Strips.{strip-ended, strip-kept, strip-past}
 use Rattle.ti_parm.proofs.delays.strip_from.Goals as goal
 
 pub loop-read-preserved-in-Some : goal.loop-read-preserved-in-Some

@@ -1,5 +1,5 @@
 use Rattle.std.proofs.Common.{◌∙◌, sym, arith}
-use Rattle.ti_parm.proofs.Formatting.{behind_flags-flag, flags_on-flag}
+use Rattle.ti_parm.proofs.FormatFacts.{behind_flags-flag, flags_on-flag}
 use Rattle.ti_parm.proofs.formats.flags_ahead.Goals as goal
 
 pub loop-more-preserved : goal.loop-more-preserved

@@ -2,7 +2,7 @@ use Rattle.std.proofs.Common.{◌≡◌, ◌<◌, length, ◌∙◌, sym, arith}
 use Rattle.std.proofs.lemmas.Result.{err_from_is_err_and}
 use Rattle.std.proofs.lemmas.Grind.{common_steps}
 use Rattle.ti_parm.proofs.Faults.{Answers-Gives, Fails-from, Fails-on}
-use Rattle.ti_parm.proofs.Judging.{judged-ended, judged-fault, judged-on, judged-stop}
+use Rattle.ti_parm.proofs.Judgements.{judged-ended, judged-fault, judged-on, judged-stop}
 use Rattle.ti_parm.proofs.judge.check_rest.Goals as goal
 
 pub returns-in_err-code : goal.returns-in_err-code

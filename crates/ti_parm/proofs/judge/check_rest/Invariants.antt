@@ -1,5 +1,5 @@
 use Rattle.std.proofs.Common.{◌≡◌, length}
-use Rattle.ti_parm.specs.Nesting.{judged}
+use Rattle.ti_parm.specs.Conditionals.{judged}
 use Rattle.ti_parm.specs.Syntax.{ahead}
 use Rattle.ti_parm.proofs.judge.check_rest.Given as goal
 

@@ -2,12 +2,12 @@ use Rattle.std.proofs.Common.{◌≡◌, ◌<◌, length, ◌∙◌, ap, sym, ar
 use Rattle.std.proofs.lemmas.Result.{err_from_is_err_and}
 use Rattle.std.proofs.lemmas.Grind.{common_steps}
 use Rattle.ti_parm.specs.Machine.{state_of}
-use Rattle.ti_parm.specs.Running.{judged_ahead}
+use Rattle.ti_parm.specs.Runs.{judged_ahead}
 use Rattle.ti_parm.specs.Syntax.{ahead}
 use Rattle.ti_parm.proofs.Faults.{Fails-from, Fails-on, Gives-ended}
-use Rattle.ti_parm.proofs.Judging.{judged-fault}
+use Rattle.ti_parm.proofs.Judgements.{judged-fault}
 use Rattle.ti_parm.proofs.Output.{take-kept}
-use Rattle.ti_parm.proofs.Running.{judged_ahead-code, judged_ahead-nothing, judged_ahead-run, judged_behind-unread}
+use Rattle.ti_parm.proofs.Runs.{judged_ahead-code, judged_ahead-nothing, judged_ahead-run, judged_behind-unread}
 use Rattle.ti_parm.proofs.run.run.Goals as goal
 
 pub loop-rest-init : goal.loop-rest-init

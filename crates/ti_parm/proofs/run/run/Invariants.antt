@@ -1,6 +1,6 @@
 use Rattle.std.proofs.Common.{◌≡◌, length, take}
 use Rattle.ti_parm.specs.Machine.{state_of}
-use Rattle.ti_parm.specs.Running.{judged_ahead, judged_run}
+use Rattle.ti_parm.specs.Runs.{judged_ahead, judged_run}
 use Rattle.ti_parm.specs.Syntax.{ahead}
 use Rattle.ti_parm.proofs.run.run.Given as goal
 

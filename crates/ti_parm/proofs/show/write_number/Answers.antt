@@ -4,7 +4,7 @@ use Rattle.std.proofs.lemmas.Int.{to_z-of_z}
 use Rattle.std.proofs.lemmas.Result.{on_ok_weaker}
 use Rattle.std.specs.Int.{cast_signed, cast_unsigned, w32}
 use Rattle.ti_parm.specs.Formats.{digits_shown, least_digits, magnitude, prefix_of}
-use Rattle.ti_parm.proofs.Formatting.{shown-by}
+use Rattle.ti_parm.proofs.FormatFacts.{shown-by}
 use Rattle.ti_parm.proofs.show.write_number.Goals as goal
 
 pub returns-clause-ok : goal.returns-clause-ok

@@ -3,9 +3,9 @@ use Rattle.std.proofs.lemmas.Grind.{common_steps}
 use Rattle.std.proofs.lemmas.Result.{err_from_is_err_and}
 use Rattle.ti_parm.specs.Syntax.{ahead}
 use Rattle.ti_parm.proofs.Faults.{Fails-from, Fails-on}
-use Rattle.ti_parm.proofs.Judging.{HasEnd-code, judged-fault, judged-on, judged-stop}
+use Rattle.ti_parm.proofs.Judgements.{HasEnd-code, judged-fault, judged-on, judged-stop}
 use Rattle.ti_parm.proofs.Rests.{HasEnd-before}
-use Rattle.ti_parm.proofs.Skipping.{depth_behind-le, skip-end, skip-nothing, skip-on}
+use Rattle.ti_parm.proofs.Skips.{depth_behind-le, skip-end, skip-nothing, skip-on}
 use Rattle.ti_parm.proofs.skip.skip.Goals as goal
 
 pub returns-in_err-code-clause-fault : goal.returns-in_err-code-clause-fault

@@ -1,6 +1,6 @@
 use Rattle.std.proofs.Common.{◌≡◌, ◌≤◌, ◌+◌, length}
-use Rattle.ti_parm.specs.Nesting.{judged}
-use Rattle.ti_parm.specs.Skipping.{past}
+use Rattle.ti_parm.specs.Conditionals.{judged}
+use Rattle.ti_parm.specs.Skips.{past}
 use Rattle.ti_parm.specs.Syntax.{HasEnd, ahead}
 use Rattle.ti_parm.proofs.skip.skip.Given as goal
 

@@ -1,5 +1,5 @@
 use Rattle.std.proofs.Common.{◌∙◌, List, Bool, ap, rules}
-use Rattle.ti_resolve.specs.Filling.{Filled, fields_of_all, take_fields}
+use Rattle.ti_resolve.specs.Fills.{Filled, fields_of_all, take_fields}
 use Rattle.ti_resolve.proofs.Taken.{filled_is}
 use Rattle.ti_resolve.proofs.fill.filled.Goals as goal
 

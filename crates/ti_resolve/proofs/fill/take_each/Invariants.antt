@@ -1,5 +1,5 @@
 use Rattle.std.proofs.Common.{◌≡◌, length, drop}
-use Rattle.ti_resolve.specs.Filling.{take_fields}
+use Rattle.ti_resolve.specs.Fills.{take_fields}
 use Rattle.ti_resolve.proofs.fill.take_each.Given as goal
 
 abbrev pub invariant-loop-field : goal.invariant-loop-field

@@ -1,5 +1,5 @@
 use Rattle.std.proofs.Common.{◌≡◌, length, drop}
-use Rattle.ti_resolve.specs.Filling.{fields_of_all, take_fields}
+use Rattle.ti_resolve.specs.Fills.{fields_of_all, take_fields}
 use Rattle.ti_resolve.proofs.fill.take_entries.Given as goal
 
 abbrev pub invariant-loop-place : goal.invariant-loop-place

@@ -1,6 +1,6 @@
 use Rattle.std.proofs.Common.{Some, rules}
 use Rattle.std.proofs.lemmas.Map.Text.{btree_map_updates_str}
-use Rattle.ti_resolve.proofs.Indexing.{added, none_of}
+use Rattle.ti_resolve.proofs.Indices.{added, none_of}
 use Rattle.ti_resolve.proofs.search.add_name.Goals as goal
 
 pub returns-in_ok-insert : goal.returns-in_ok-insert

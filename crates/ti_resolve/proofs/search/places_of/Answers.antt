@@ -2,7 +2,7 @@ use Rattle.std.proofs.Common.{◌∙◌, None, Some, ap, arith, sym}
 use Rattle.std.specs.Option.{option_or}
 use Rattle.std.specs.Prelude.{if◌then◌else◌}
 use Rattle.ti_resolve.specs.Uses.{is_name_in}
-use Rattle.ti_resolve.proofs.Indexing.{empty_index, named_more, none_named}
+use Rattle.ti_resolve.proofs.Indices.{empty_index, named_more, none_named}
 use Rattle.ti_resolve.proofs.search.places_of.Goals as goal
 
 pub loop-place-init : goal.loop-place-init

@@ -1,4 +1,4 @@
-use Rattle.ti_rows.proofs.Reading.{finds_params, params_found, same_count}
+use Rattle.ti_rows.proofs.Readers.{finds_params, params_found, same_count}
 use Rattle.ti_rows.proofs.laws.params_read_back.Goals as goal
 
 pub returns-clause-finds : goal.returns-clause-finds

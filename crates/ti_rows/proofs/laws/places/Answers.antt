@@ -1,4 +1,4 @@
-use Rattle.ti_rows.proofs.Naming.{firsts_in_order, orders_small}
+use Rattle.ti_rows.proofs.NameFacts.{firsts_in_order, orders_small}
 use Rattle.ti_rows.proofs.laws.places.Goals as goal
 
 pub returns-clause-firsts : goal.returns-clause-firsts

@@ -1,4 +1,4 @@
-use Rattle.ti_rows.proofs.Listing.{ranks_below, one_of_rank, each_reached}
+use Rattle.ti_rows.proofs.ListFacts.{ranks_below, one_of_rank, each_reached}
 use Rattle.ti_rows.proofs.laws.places_of_lists.Goals as goal
 
 pub returns-clause-below : goal.returns-clause-below

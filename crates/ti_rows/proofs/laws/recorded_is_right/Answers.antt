@@ -1,4 +1,4 @@
-use Rattle.ti_rows.proofs.Righting.{recorded_is_right}
+use Rattle.ti_rows.proofs.Rightness.{recorded_is_right}
 use Rattle.ti_rows.proofs.laws.recorded_is_right.Goals as goal
 
 pub returns : goal.returns

@@ -1,6 +1,6 @@
 use Rattle.std.proofs.Common.{ℕ, ◌<◌, sym, subst}
 use Rattle.ti_rows.specs.Names.{string_in_order}
-use Rattle.ti_rows.proofs.Naming.{strings_small}
+use Rattle.ti_rows.proofs.NameFacts.{strings_small}
 use Rattle.ti_rows.proofs.names.string_in_order.Goals as goal
 
 pub returns-clause-small : goal.returns-clause-small

@@ -1,7 +1,7 @@
 use Rattle.std.proofs.Common.{◌≡◌, ◌<◌, ◌+◌, ◌∷◌, length, drop, get_or, drop-cons, refl, sym, ap, ◌∙◌, arith, add-one}
 use Rattle.std.specs.Prelude.{option_map}
 use Rattle.ti_source.specs.Numbers.{digits_from, capped}
-use Rattle.ti_source.proofs.Capping.{digit_more}
+use Rattle.ti_source.proofs.Caps.{digit_more}
 use Rattle.ti_source.proofs.numbers.digits.Goals as goal
 
 pub loop-byte-preserved : goal.loop-byte-preserved

@@ -1,4 +1,4 @@
-use Rattle.vt_effects.proofs.Saying.{records_tell}
+use Rattle.vt_effects.proofs.Sayings.{records_tell}
 use Rattle.vt_effects.proofs.laws.record_settings.Goals as goal
 
 pub returns : goal.returns

@@ -1,4 +1,4 @@
-use Rattle.vt_effects.proofs.Sounding.{record_right, runs_right, all_gone}
+use Rattle.vt_effects.proofs.Sounds.{record_right, runs_right, all_gone}
 use Rattle.vt_effects.proofs.records.effect_of.Goals as goal
 
 pub returns-clause-steps : goal.returns-clause-steps

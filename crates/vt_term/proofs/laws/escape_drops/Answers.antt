@@ -1,4 +1,4 @@
-use Rattle.vt_term.proofs.Running.{escape_drops}
+use Rattle.vt_term.proofs.Runs.{escape_drops}
 use Rattle.vt_term.proofs.laws.escape_drops.Goals as goal
 
 pub returns : goal.returns

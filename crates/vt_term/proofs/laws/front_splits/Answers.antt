@@ -1,4 +1,4 @@
-use Rattle.vt_term.proofs.Splitting.{splits_front}
+use Rattle.vt_term.proofs.Splits.{splits_front}
 use Rattle.vt_term.proofs.laws.front_splits.Goals as goal
 
 pub returns : goal.returns

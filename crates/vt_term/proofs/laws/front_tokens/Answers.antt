@@ -1,4 +1,4 @@
-use Rattle.vt_term.proofs.Splitting.{goes_on}
+use Rattle.vt_term.proofs.Splits.{goes_on}
 use Rattle.vt_term.proofs.laws.front_tokens.Goals as goal
 
 pub returns : goal.returns

@@ -1,4 +1,4 @@
-use Rattle.vt_term.proofs.Running.{sticks_once}
+use Rattle.vt_term.proofs.Runs.{sticks_once}
 use Rattle.vt_term.proofs.laws.one_place.Goals as goal
 
 pub returns : goal.returns

@@ -1,4 +1,4 @@
-use Rattle.vt_term.proofs.Running.{runs_once}
+use Rattle.vt_term.proofs.Runs.{runs_once}
 use Rattle.vt_term.proofs.laws.one_run.Goals as goal
 
 pub returns : goal.returns

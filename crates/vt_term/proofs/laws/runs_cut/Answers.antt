@@ -1,4 +1,4 @@
-use Rattle.vt_term.proofs.Running.{runs_cut}
+use Rattle.vt_term.proofs.Runs.{runs_cut}
 use Rattle.vt_term.proofs.laws.runs_cut.Goals as goal
 
 pub returns : goal.returns

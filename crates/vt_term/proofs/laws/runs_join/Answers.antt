@@ -1,4 +1,4 @@
-use Rattle.vt_term.proofs.Running.{runs_append}
+use Rattle.vt_term.proofs.Runs.{runs_append}
 use Rattle.vt_term.proofs.laws.runs_join.Goals as goal
 
 pub returns : goal.returns

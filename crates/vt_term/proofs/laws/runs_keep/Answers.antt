@@ -1,4 +1,4 @@
-use Rattle.vt_term.proofs.Running.{run_keeps}
+use Rattle.vt_term.proofs.Runs.{run_keeps}
 use Rattle.vt_term.proofs.laws.runs_keep.Goals as goal
 
 pub returns : goal.returns

@@ -1,4 +1,4 @@
-use Rattle.vt_term.proofs.Splitting.{splits_append}
+use Rattle.vt_term.proofs.Splits.{splits_append}
 use Rattle.vt_term.proofs.laws.splits_join.Goals as goal
 
 pub returns : goal.returns

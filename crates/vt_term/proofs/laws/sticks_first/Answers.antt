@@ -1,4 +1,4 @@
-use Rattle.vt_term.proofs.Running.{sticks_first}
+use Rattle.vt_term.proofs.Runs.{sticks_first}
 use Rattle.vt_term.proofs.laws.sticks_first.Goals as goal
 
 pub returns : goal.returns

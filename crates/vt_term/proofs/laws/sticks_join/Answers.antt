@@ -1,4 +1,4 @@
-use Rattle.vt_term.proofs.Running.{sticks_behind}
+use Rattle.vt_term.proofs.Runs.{sticks_behind}
 use Rattle.vt_term.proofs.laws.sticks_join.Goals as goal
 
 pub returns : goal.returns

@@ -1,4 +1,4 @@
-use Rattle.vt_term.proofs.Running.{text_runs}
+use Rattle.vt_term.proofs.Runs.{text_runs}
 use Rattle.vt_term.proofs.laws.text_runs.Goals as goal
 
 pub returns : goal.returns

@@ -1,4 +1,4 @@
-use Rattle.vt_term.proofs.Running.{whole_text_first}
+use Rattle.vt_term.proofs.Runs.{whole_text_first}
 use Rattle.vt_term.proofs.laws.whole_text_first.Goals as goal
 
 pub returns : goal.returns

@@ -1,4 +1,4 @@
-use Rattle.vt_term.proofs.Running.{whole_text_rests}
+use Rattle.vt_term.proofs.Runs.{whole_text_rests}
 use Rattle.vt_term.proofs.laws.whole_text_rests.Goals as goal
 
 pub returns : goal.returns

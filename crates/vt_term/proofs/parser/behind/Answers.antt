@@ -1,4 +1,4 @@
-use Rattle.vt_term.proofs.Reading.{first_number, more_numbers, more_private, more_unnamed}
+use Rattle.vt_term.proofs.Readers.{first_number, more_numbers, more_private, more_unnamed}
 use Rattle.vt_term.proofs.parser.behind.Goals as goal
 
 pub returns-in-Introduced-2-clause-at : goal.returns-in-Introduced-2-clause-at

@@ -1,4 +1,4 @@
-use Rattle.vt_term.proofs.Reading.{ended_private, ended_ignored}
+use Rattle.vt_term.proofs.Readers.{ended_private, ended_ignored}
 use Rattle.vt_term.proofs.parser.ended.Goals as goal
 
 pub returns-in-PrivateParameters : goal.returns-in-PrivateParameters

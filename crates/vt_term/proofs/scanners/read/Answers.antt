@@ -1,6 +1,6 @@
 use Rattle.std.proofs.Common.{ℕ, ◌++◌, ◌∷◌, [], List, ◌∙◌, ap, sym, get_or, arith}
 use Rattle.vt_term.proofs.Sequences.{empty_open}
-use Rattle.vt_term.proofs.Beginning.{begun_nothing, read_ended, read_stuck, slice_more}
+use Rattle.vt_term.proofs.Starts.{begun_nothing, read_ended, read_stuck, slice_more}
 use Rattle.vt_term.proofs.scanners.read.Goals as goal
 
 pub loop-at-init : goal.loop-at-init

@@ -1,7 +1,7 @@
 use Rattle.std.proofs.Common.{◌≡◌, ◌∙◌, ap, arith, rules, Err, Result}
 use Rattle.cur_drawing.specs.declared.refusals.Refusal.{Refusal}
 use Rattle.cur_drawing.specs.Calls.{canvas, step}
-use Rattle.cur_drawing.proofs.Keeping.{added_all-stops}
+use Rattle.cur_drawing.proofs.Preservation.{added_all-stops}
 use Rattle.cur_drawing.proofs.windows.Window.add_all.Goals as goal
 
 pub returns-in_err-add-clause-value : goal.returns-in_err-add-clause-value

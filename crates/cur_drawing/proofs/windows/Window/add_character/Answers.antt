@@ -1,4 +1,4 @@
-use Rattle.cur_drawing.proofs.Keeping.{canvas_same}
+use Rattle.cur_drawing.proofs.Preservation.{canvas_same}
 use Rattle.cur_drawing.proofs.windows.Window.add_character.Goals as goal
 
 pub advance-requires : goal.advance-requires

@@ -1,5 +1,5 @@
 use Rattle.std.proofs.Common.{refl, arith}
-use Rattle.cur_drawing.proofs.Keeping.{kept_by}
+use Rattle.cur_drawing.proofs.Preservation.{kept_by}
 use Rattle.cur_drawing.proofs.windows.Window.advance.Goals as goal
 
 pub returns-then-self-2-clause-kept : goal.returns-then-self-2-clause-kept

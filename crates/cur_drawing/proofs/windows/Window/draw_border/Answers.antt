@@ -1,4 +1,4 @@
-use Rattle.cur_drawing.proofs.Keeping.{canvas_same}
+use Rattle.cur_drawing.proofs.Preservation.{canvas_same}
 use Rattle.cur_drawing.proofs.windows.Window.draw_border.Goals as goal
 
 pub draw_corners-requires-clause-canvas : goal.draw_corners-requires-clause-canvas

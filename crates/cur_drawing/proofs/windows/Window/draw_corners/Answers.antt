@@ -1,5 +1,5 @@
 use Rattle.std.proofs.Common.{◌∙◌}
-use Rattle.cur_drawing.proofs.Keeping.{canvas_same}
+use Rattle.cur_drawing.proofs.Preservation.{canvas_same}
 use Rattle.cur_drawing.proofs.windows.Window.draw_corners.Goals as goal
 
 pub fill_cells-requires-2-clause-canvas : goal.fill_cells-requires-2-clause-canvas

@@ -1,4 +1,4 @@
-use Rattle.cur_drawing.proofs.Keeping.{canvas_same}
+use Rattle.cur_drawing.proofs.Preservation.{canvas_same}
 use Rattle.cur_drawing.proofs.windows.Window.lines_down.Goals as goal
 
 pub fill_lines-requires-clause-canvas : goal.fill_lines-requires-clause-canvas

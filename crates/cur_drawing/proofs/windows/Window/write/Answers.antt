@@ -1,5 +1,5 @@
 use Rattle.std.proofs.Common.{refl, arith}
-use Rattle.cur_drawing.proofs.Keeping.{kept_by, canvas_same}
+use Rattle.cur_drawing.proofs.Preservation.{kept_by, canvas_same}
 use Rattle.cur_drawing.proofs.windows.Window.write.Goals as goal
 
 pub returns-then-self-clause-kept : goal.returns-then-self-clause-kept

@@ -1,4 +1,4 @@
-use Rattle.cur_play.proofs.Playing.{checked_kept, stage_kept}
+use Rattle.cur_play.proofs.Plays.{checked_kept, stage_kept}
 use Rattle.cur_play.proofs.sessions.Session.call.Goals as goal
 
 pub invariant_of-self : goal.invariant_of-self

@@ -1,7 +1,7 @@
 use Rattle.std.proofs.Common.{ℕ, List, ap, subst, slice_index_or, arith}
 use Rattle.cur_drawing.specs.Cells.{Content, space}
 use Rattle.cur_update.specs.Inks.{IsPlainLike}
-use Rattle.cur_update.proofs.Liking.{like_ink}
+use Rattle.cur_update.proofs.Likeness.{like_ink}
 use Rattle.cur_update.proofs.screens.PrintedScreenPicture.byte_like.Goals as goal
 
 pub returns-in-Some : goal.returns-in-Some

@@ -1,6 +1,6 @@
 use Rattle.std.proofs.Common.{◌∙◌, ap}
 use Rattle.cur_drawing.specs.Windows.{fresh}
-use Rattle.cur_windows.proofs.Adding.{new_canvas, new_whole, new_frame}
+use Rattle.cur_windows.proofs.Additions.{new_canvas, new_whole, new_frame}
 use Rattle.cur_windows.proofs.desks.Desk.add_blank_root.Goals as goal
 
 pub add_root-requires-clause-canvas : goal.add_root-requires-clause-canvas

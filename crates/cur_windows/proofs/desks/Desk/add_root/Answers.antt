@@ -1,4 +1,4 @@
-use Rattle.cur_windows.proofs.Adding.{root_added_new}
+use Rattle.cur_windows.proofs.Additions.{root_added_new}
 use Rattle.cur_windows.proofs.desks.Desk.add_root.Goals as goal
 
 pub invariant_of-self : goal.invariant_of-self

@@ -1,6 +1,6 @@
 use Rattle.std.proofs.Common.{ap}
 use Rattle.cur_drawing.specs.declared.windows.Window.{Window}
-use Rattle.cur_windows.proofs.Adding.{subwindow_added_new}
+use Rattle.cur_windows.proofs.Additions.{subwindow_added_new}
 use Rattle.cur_windows.proofs.desks.Desk.add_subwindow.Goals as goal
 
 pub invariant_of-self : goal.invariant_of-self

@@ -1,4 +1,4 @@
-use Rattle.cur_windows.proofs.Closing.{closes_canvas}
+use Rattle.cur_windows.proofs.Closures.{closes_canvas}
 use Rattle.cur_windows.proofs.desks.Desk.clear.Goals as goal
 
 pub invariant_of-self : goal.invariant_of-self

@@ -1,4 +1,4 @@
-use Rattle.cur_windows.proofs.Closing.{closes_grid}
+use Rattle.cur_windows.proofs.Closures.{closes_grid}
 use Rattle.cur_windows.proofs.desks.Desk.clrtoeol.Goals as goal
 
 pub invariant_of-self : goal.invariant_of-self

@@ -1,4 +1,4 @@
-use Rattle.cur_windows.proofs.Copies.{spans_desk, spans_view}
+use Rattle.cur_windows.proofs.CopyFacts.{spans_desk, spans_view}
 use Rattle.cur_windows.proofs.desks.Desk.copy_spans.Goals as goal
 
 pub invariant_of-self : goal.invariant_of-self

@@ -1,7 +1,7 @@
 use Rattle.std.proofs.Common.{Ok, Some, None, refl, ap, ◌∙◌}
 use Rattle.std.proofs.lemmas.Int.{to_z-of_z}
 use Rattle.cur_windows.specs.Desks.{State}
-use Rattle.cur_windows.proofs.Copies.{copywin_by}
+use Rattle.cur_windows.proofs.CopyFacts.{copywin_by}
 use Rattle.cur_windows.proofs.desks.Desk.copywin.Goals as goal
 
 pub returns-in_default : goal.returns-in_default

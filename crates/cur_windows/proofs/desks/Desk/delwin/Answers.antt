@@ -1,4 +1,4 @@
-use Rattle.cur_windows.proofs.Adding.{deleted_desk}
+use Rattle.cur_windows.proofs.Additions.{deleted_desk}
 use Rattle.cur_windows.proofs.desks.Desk.delwin.Goals as goal
 
 pub invariant_of-self : goal.invariant_of-self

@@ -1,4 +1,4 @@
-use Rattle.cur_windows.proofs.Adding.{copy_canvas, copy_whole, copy_frame}
+use Rattle.cur_windows.proofs.Additions.{copy_canvas, copy_whole, copy_frame}
 use Rattle.cur_windows.proofs.desks.Desk.dupwin.Goals as goal
 
 pub add_root-requires-clause-canvas : goal.add_root-requires-clause-canvas

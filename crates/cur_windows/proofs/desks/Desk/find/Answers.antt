@@ -1,5 +1,5 @@
 use Rattle.std.proofs.Common.{arith}
-use Rattle.cur_windows.proofs.Closing.{placed_here}
+use Rattle.cur_windows.proofs.Closures.{placed_here}
 use Rattle.cur_windows.proofs.desks.Desk.find.Goals as goal
 
 pub returns-clause-placed : goal.returns-clause-placed

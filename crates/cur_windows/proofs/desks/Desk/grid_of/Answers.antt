@@ -1,4 +1,4 @@
-use Rattle.cur_windows.proofs.Showing.{grid_read}
+use Rattle.cur_windows.proofs.Displays.{grid_read}
 use Rattle.cur_windows.proofs.desks.Desk.grid_of.Goals as goal
 
 pub returns : goal.returns

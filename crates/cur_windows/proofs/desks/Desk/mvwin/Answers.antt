@@ -1,4 +1,4 @@
-use Rattle.cur_windows.proofs.Adding.{moved_desk}
+use Rattle.cur_windows.proofs.Additions.{moved_desk}
 use Rattle.cur_windows.proofs.desks.Desk.mvwin.Goals as goal
 
 pub invariant_of-self : goal.invariant_of-self

@@ -1,6 +1,6 @@
 use Rattle.std.proofs.Common.{refl, ◌∙◌, ap}
 use Rattle.cur_drawing.specs.Windows.{fresh}
-use Rattle.cur_windows.proofs.Adding.{new_from}
+use Rattle.cur_windows.proofs.Additions.{new_from}
 use Rattle.cur_windows.proofs.desks.Desk.new.Goals as goal
 
 pub invariant_of-result : goal.invariant_of-result

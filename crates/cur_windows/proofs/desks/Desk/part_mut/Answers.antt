@@ -1,6 +1,6 @@
 use Rattle.cur_drawing.specs.Grids.{part_written}
 use Rattle.cur_windows.specs.Desks.{State}
-use Rattle.cur_windows.proofs.Lending.{closes_root, part_shape}
+use Rattle.cur_windows.proofs.Loans.{closes_root, part_shape}
 use Rattle.cur_windows.proofs.desks.Desk.part_mut.Goals as goal
 
 pub invariant_of-self-lent : goal.invariant_of-self-lent

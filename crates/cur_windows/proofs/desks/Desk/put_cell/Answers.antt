@@ -1,4 +1,4 @@
-use Rattle.cur_windows.proofs.Lending.{closes_root}
+use Rattle.cur_windows.proofs.Loans.{closes_root}
 use Rattle.cur_windows.proofs.desks.Desk.put_cell.Goals as goal
 
 pub invariant_of-self : goal.invariant_of-self

@@ -1,4 +1,4 @@
-use Rattle.cur_windows.proofs.Closing.{closes_window}
+use Rattle.cur_windows.proofs.Closures.{closes_window}
 use Rattle.cur_windows.proofs.desks.Desk.setscrreg.Goals as goal
 
 pub invariant_of-self : goal.invariant_of-self

@@ -1,5 +1,5 @@
 use Rattle.std.proofs.Common.{refl}
-use Rattle.cur_windows.proofs.Closing.{closes_window, legal_same}
+use Rattle.cur_windows.proofs.Closures.{closes_window, legal_same}
 use Rattle.cur_windows.proofs.desks.Desk.show_part.Goals as goal
 
 pub invariant_of-self : goal.invariant_of-self

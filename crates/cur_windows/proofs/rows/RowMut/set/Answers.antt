@@ -1,7 +1,7 @@
 use Rattle.std.proofs.Common.{sym, subst}
 use Rattle.cur_windows.specs.Desks.{State}
 use Rattle.cur_windows.specs.Rows.{IsLine}
-use Rattle.cur_windows.proofs.Lending.{line_kept}
+use Rattle.cur_windows.proofs.Loans.{line_kept}
 use Rattle.cur_windows.proofs.rows.RowMut.set.Goals as goal
 
 pub returns-clause-line : goal.returns-clause-line

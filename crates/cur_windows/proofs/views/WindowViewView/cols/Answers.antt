@@ -1,4 +1,4 @@
-use Rattle.cur_windows.proofs.Viewing.{cols_of}
+use Rattle.cur_windows.proofs.ViewFacts.{cols_of}
 use Rattle.cur_windows.proofs.views.WindowViewView.cols.Goals as goal
 
 pub returns : goal.returns

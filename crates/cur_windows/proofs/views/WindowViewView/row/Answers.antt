@@ -1,5 +1,5 @@
 use Rattle.std.proofs.Common.{arith}
-use Rattle.cur_windows.proofs.Viewing.{row_of, height_of}
+use Rattle.cur_windows.proofs.ViewFacts.{row_of, height_of}
 use Rattle.cur_windows.proofs.views.WindowViewView.row.Goals as goal
 
 pub overflow_add-self-inside : goal.overflow_add-self-inside

@@ -1,6 +1,6 @@
 use Rattle.std.proofs.Common.{subst, sym, ◌∙◌}
 use Rattle.cur_windows.specs.VirtualScreen.{Screen, IsScreen}
-use Rattle.cur_windows.proofs.Taking.{taken_over, same_size}
+use Rattle.cur_windows.proofs.Slices.{taken_over, same_size}
 use Rattle.cur_windows.proofs.virtual_screen.Virtual.copy_from.Goals as goal
 
 pub invariant_of-self : goal.invariant_of-self

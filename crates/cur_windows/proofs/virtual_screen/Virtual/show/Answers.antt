@@ -1,4 +1,4 @@
-use Rattle.cur_windows.proofs.Showing.{screen_kept}
+use Rattle.cur_windows.proofs.Displays.{screen_kept}
 use Rattle.cur_windows.proofs.virtual_screen.Virtual.show.Goals as goal
 
 pub invariant_of-self : goal.invariant_of-self

@@ -1,7 +1,7 @@
 use Rattle.std.proofs.Common.{◌≡◌, ◌∙◌, ap, length, arith}
 use Rattle.std.proofs.lemmas.List.{with_items_is}
 use Rattle.grids.specs.Grids.{shape_of}
-use Rattle.grids.proofs.Drawing.{shape_of-drawn}
+use Rattle.grids.proofs.Drawings.{shape_of-drawn}
 use Rattle.grids.proofs.Rows.{row_combined}
 use Rattle.grids.proofs.grids.Grid.merge_shifted_row.Goals as goal
 

@@ -1,6 +1,6 @@
 use Rattle.std.proofs.Common.{◌∙◌, ◌+◌, refl, ap, ℕ, arith, List}
 use Rattle.grids.specs.Grids.{row_of, drawn_in, combined, kth, moved_to}
-use Rattle.grids.proofs.Drawing.{drawn_in_none, drawn_join, fits_same}
+use Rattle.grids.proofs.Drawings.{drawn_in_none, drawn_join, fits_same}
 use Rattle.grids.proofs.Rectangles.{rows_done, no_rows_done, next_row_done, row_done_apart}
 use Rattle.grids.proofs.Rows.{combined_ahead}
 use Rattle.grids.proofs.grids.Grid.merge_shifted_rows.Goals as goal

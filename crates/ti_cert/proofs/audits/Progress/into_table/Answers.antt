@@ -1,8 +1,8 @@
 use Rattle.std.proofs.Common.{sym, subst, ◌∙◌}
 use Rattle.ti_conforms.specs.Judged.{IsJudged}
 use Rattle.ti_cert.specs.Table.{Content, table_of}
-use Rattle.ti_cert.proofs.Auditing.{judged_at, stands_at}
-use Rattle.ti_cert.proofs.Singling.{looks_stand}
+use Rattle.ti_cert.proofs.AuditSteps.{judged_at, stands_at}
+use Rattle.ti_cert.proofs.Singles.{looks_stand}
 use Rattle.ti_cert.proofs.audits.Progress.into_table.Goals as goal
 
 pub new-requires-clause-looks : goal.new-requires-clause-looks

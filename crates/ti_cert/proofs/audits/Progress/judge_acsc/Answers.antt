@@ -5,7 +5,7 @@ use Rattle.std.proofs.lemmas.Option.{none-some}
 use Rattle.ti_lines.specs.Heads.{IsAcscText}
 use Rattle.ti_cert.specs.Audits.{OrNoMemory, AnswersLater, AnswersLine}
 use Rattle.ti_cert.specs.declared.audits.Awaited.TheVariants as lines_awaited
-use Rattle.ti_cert.proofs.Auditing.{second_pairs, second_later, second_refused}
+use Rattle.ti_cert.proofs.AuditSteps.{second_pairs, second_later, second_refused}
 use Rattle.ti_cert.proofs.audits.Progress.judge_acsc.Goals as goal
 
 pub returns-in-Some-clause-ok : goal.returns-in-Some-clause-ok

@@ -1,6 +1,6 @@
 use Rattle.std.proofs.Common.{inl}
 use Rattle.std.proofs.lemmas.Result.{err_from_is_err_and}
-use Rattle.ti_cert.proofs.Auditing.{last_lacks, last_clashes, last_closes}
+use Rattle.ti_cert.proofs.AuditSteps.{last_lacks, last_clashes, last_closes}
 use Rattle.ti_cert.proofs.audits.Progress.judge_end.Goals as goal
 
 pub returns-in-Some-clause-err : goal.returns-in-Some-clause-err

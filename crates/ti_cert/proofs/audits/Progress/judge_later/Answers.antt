@@ -3,7 +3,7 @@ use Rattle.std.proofs.lemmas.Result.{on_ok_weaker, IfErr-weaker}
 use Rattle.std.proofs.lemmas.Option.{none-some}
 use Rattle.ti_lines.specs.RowLines.{IsTextOf}
 use Rattle.ti_cert.specs.Audits.{OrNoMemory, AnswersLast, AnswersLater, AnswersRow}
-use Rattle.ti_cert.proofs.Auditing.{later_last, last_refused, later_row, row_refused, later_none}
+use Rattle.ti_cert.proofs.AuditSteps.{later_last, last_refused, later_row, row_refused, later_none}
 use Rattle.ti_cert.proofs.audits.Progress.judge_later.Goals as goal
 
 pub returns-then-is_end_line-clause-ok : goal.returns-then-is_end_line-clause-ok

@@ -1,7 +1,7 @@
 use Rattle.std.proofs.Common.{inl, ap}
 use Rattle.std.proofs.lemmas.Result.{err_from_is_err_and}
 use Rattle.ti_cert.specs.declared.audits.Progress.{Progress}
-use Rattle.ti_cert.proofs.Auditing.{recorded_for, row_misplaced_at, row_cut_at, row_misshows_at, row_stands_at}
+use Rattle.ti_cert.proofs.AuditSteps.{recorded_for, row_misplaced_at, row_cut_at, row_misshows_at, row_stands_at}
 use Rattle.ti_cert.proofs.audits.Progress.judge_row.Goals as goal
 
 pub returns-in_err-check-clause-err : goal.returns-in_err-check-clause-err

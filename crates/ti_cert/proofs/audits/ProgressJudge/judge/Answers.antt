@@ -1,6 +1,6 @@
 use Rattle.std.proofs.lemmas.Result.{on_ok_weaker, IfErr-weaker}
 use Rattle.ti_cert.specs.Audits.{OrNoMemory, AnswersLater, AnswersLine}
-use Rattle.ti_cert.proofs.Auditing.{later_line, later_refused}
+use Rattle.ti_cert.proofs.AuditSteps.{later_line, later_refused}
 use Rattle.std.proofs.Common.{Ok}
 use Rattle.ti_cert.proofs.audits.ProgressJudge.judge.Goals as goal
 

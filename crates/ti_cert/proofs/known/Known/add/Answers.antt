@@ -1,4 +1,4 @@
-use Rattle.ti_cert.proofs.Keeping.{holds_to}
+use Rattle.ti_cert.proofs.Preservation.{holds_to}
 use Rattle.ti_cert.proofs.known.Known.add.Goals as goal
 
 pub returns-in-Ok-clause-holds : goal.returns-in-Ok-clause-holds

@@ -1,7 +1,7 @@
 use Rattle.std.proofs.Common.{sym, ◌∙◌, refl}
 use Rattle.std.proofs.lemmas.Bool.{both_ways}
 use Rattle.ti_cert.specs.Audits.{Another}
-use Rattle.ti_cert.proofs.Auditing.{not_asked}
+use Rattle.ti_cert.proofs.AuditSteps.{not_asked}
 use Rattle.ti_cert.proofs.known.Known.judge_effect.Goals as goal
 
 pub returns-then-not-equals-clause-fails : goal.returns-then-not-equals-clause-fails

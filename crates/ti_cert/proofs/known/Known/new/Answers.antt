@@ -1,4 +1,4 @@
-use Rattle.ti_cert.proofs.Keeping.{holds_at_first}
+use Rattle.ti_cert.proofs.Preservation.{holds_at_first}
 use Rattle.ti_cert.proofs.known.Known.new.Goals as goal
 
 pub returns-clause-holds : goal.returns-clause-holds

@@ -1,7 +1,7 @@
 use Rattle.std.proofs.Common.{◌==◌, ℕ, not, sym, ap, ◌∙◌, subst}
 use Rattle.vt_term.specs.Size.{IsSize}
 use Rattle.ti_cert.specs.Strings.{Strings}
-use Rattle.ti_cert.proofs.Grouping.{some_line}
+use Rattle.ti_cert.proofs.GroupFacts.{some_line}
 use Rattle.ti_cert.proofs.strings.Strings.has.Goals as goal
 
 pub returns-clause-some : goal.returns-clause-some

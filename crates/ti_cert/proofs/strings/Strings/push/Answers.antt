@@ -1,6 +1,6 @@
 use Rattle.std.proofs.Common.{ℕ, List, [], ◌∷◌, ◌++◌, ap, ◌∙◌, arith}
 use Rattle.std.proofs.lemmas.Result.{on_ok_weaker}
-use Rattle.ti_cert.proofs.Grouping.{adds_to, any_default}
+use Rattle.ti_cert.proofs.GroupFacts.{adds_to, any_default}
 use Rattle.ti_cert.proofs.strings.Strings.push.Goals as goal
 
 pub returns : goal.returns

@@ -1,6 +1,6 @@
 use Rattle.std.proofs.Common.{subst}
 use Rattle.ti_rows.specs.Names.{order}
-use Rattle.ti_conforms.specs.Agreeing.{SomeLine}
+use Rattle.ti_conforms.specs.Agreement.{SomeLine}
 use Rattle.ti_cert.specs.Strings.{string_in}
 use Rattle.ti_cert.specs.declared.table.Table.TheInside.{Inside}
 use Rattle.ti_cert.specs.Table.{Content}

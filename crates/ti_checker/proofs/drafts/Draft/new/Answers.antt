@@ -1,4 +1,4 @@
-use Rattle.ti_checker.proofs.Beginning.{begins}
+use Rattle.ti_checker.proofs.Starts.{begins}
 use Rattle.ti_checker.proofs.drafts.Draft.new.Goals as goal
 
 pub returns : goal.returns

@@ -1,6 +1,6 @@
 use Rattle.std.proofs.Common.{sym, ◌∙◌, ap}
 use Rattle.ti_caps.specs.Entry.{flag_at}
-use Rattle.ti_compiled.specs.Reading.{parts_view}
+use Rattle.ti_compiled.specs.Readings.{parts_view}
 use Rattle.ti_compiled.proofs.Contents.{flag_got, no_flag}
 use Rattle.ti_compiled.proofs.packed.Packed.get_flag.Goals as goal
 

@@ -1,6 +1,6 @@
 use Rattle.std.proofs.Common.{sym, ◌∙◌, ap}
 use Rattle.ti_caps.specs.Entry.{number_at}
-use Rattle.ti_compiled.specs.Reading.{parts_view}
+use Rattle.ti_compiled.specs.Readings.{parts_view}
 use Rattle.ti_compiled.proofs.Contents.{number_got, no_number}
 use Rattle.ti_compiled.proofs.packed.Packed.get_number.Goals as goal
 

@@ -1,7 +1,7 @@
 use Rattle.std.proofs.Common.{◌<◌, sym, ◌∙◌, ap, subst}
 use Rattle.ti_caps.specs.Table.{count_of}
 use Rattle.ti_caps.specs.Entry.{string_at}
-use Rattle.ti_compiled.specs.Reading.{parts_view}
+use Rattle.ti_compiled.specs.Readings.{parts_view}
 use Rattle.ti_compiled.proofs.Contents.{string_got, no_string}
 use Rattle.ti_compiled.proofs.packed.Packed.get_string.Goals as goal
 

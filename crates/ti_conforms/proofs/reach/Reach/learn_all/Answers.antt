@@ -1,4 +1,4 @@
-use Rattle.ti_conforms.proofs.Reaching.{learned}
+use Rattle.ti_conforms.proofs.Reaches.{learned}
 use Rattle.ti_conforms.proofs.reach.Reach.learn_all.Goals as goal
 
 pub loop-token-preserved : goal.loop-token-preserved

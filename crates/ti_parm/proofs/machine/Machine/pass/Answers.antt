@@ -2,7 +2,7 @@ use Rattle.std.proofs.Common.{true, false, Ok, ◌∙◌, ap, sym}
 use Rattle.ti_parm.specs.Machine.{state_of}
 use Rattle.ti_parm.specs.Syntax.{ahead}
 use Rattle.ti_parm.proofs.Faults.{Fails-on, IfOk-on}
-use Rattle.ti_parm.proofs.Running.{Fails-first, passed, run-Else, run-End, then-fails, then-holds, then-skips}
+use Rattle.ti_parm.proofs.Runs.{Fails-first, passed, run-Else, run-End, then-fails, then-holds, then-skips}
 use Rattle.ti_parm.proofs.machine.Machine.pass.Goals as goal
 
 pub returns-in-Ok-true-clause-ok : goal.returns-in-Ok-true-clause-ok

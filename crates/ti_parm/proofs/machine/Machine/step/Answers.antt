@@ -2,11 +2,11 @@ use Rattle.std.proofs.Common.{refl, sym, ap, ◌∙◌}
 use Rattle.std.proofs.lemmas.Result.{err_from_is_err_and}
 use Rattle.ti_parm.specs.declared.code.Code.TheVariants.{Act, If, Of}
 use Rattle.ti_parm.specs.Machine.{state_of}
-use Rattle.ti_parm.specs.Running.{judged_behind, run_ahead}
+use Rattle.ti_parm.specs.Runs.{judged_behind, run_ahead}
 use Rattle.ti_parm.specs.Syntax.{ahead, before}
 use Rattle.ti_parm.proofs.Faults.{Fails-on, IfErr-on, IfOk-on}
-use Rattle.ti_parm.proofs.Judging.{judged-passed, judged-unpassed}
-use Rattle.ti_parm.proofs.Running.{Fails-first, act-fails, act-goes_on, judged_ahead-same, judged_behind-unread, run-If}
+use Rattle.ti_parm.proofs.Judgements.{judged-passed, judged-unpassed}
+use Rattle.ti_parm.proofs.Runs.{Fails-first, act-fails, act-goes_on, judged_ahead-same, judged_behind-unread, run-If}
 use Rattle.ti_parm.proofs.machine.Machine.step.Goals as goal
 
 pub returns-in_err-pass-in-Of-clause-fault : goal.returns-in_err-pass-in-Of-clause-fault

@@ -1,5 +1,5 @@
 use Rattle.std.proofs.Common.{◌≡◌, Bool, true, false}
-use Rattle.ti_parm.proofs.Judging.{ended-inside, ended-outside}
+use Rattle.ti_parm.proofs.Judgements.{ended-inside, ended-outside}
 use Rattle.ti_parm.proofs.nest.Nest.end.Goals as goal
 
 not_both : {b : Bool} → b ≡ false → b ≡ true → ⊥

@@ -1,5 +1,5 @@
 use Rattle.std.proofs.Common.{◌∙◌}
-use Rattle.ti_resolve.proofs.Indexing.{found_within}
+use Rattle.ti_resolve.proofs.Indices.{found_within}
 use Rattle.ti_resolve.proofs.search.Index.find.Goals as goal
 
 pub returns-clause-range : goal.returns-clause-range

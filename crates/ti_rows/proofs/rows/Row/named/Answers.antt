@@ -1,6 +1,6 @@
 use Rattle.std.proofs.Common.{◌≡◌, arith, rules}
 use Rattle.ti_rows.specs.Names.{name_in_order}
-use Rattle.ti_rows.proofs.Naming.{first_named, first_again, first_found}
+use Rattle.ti_rows.proofs.NameFacts.{first_named, first_again, first_found}
 use Rattle.ti_rows.proofs.rows.Row.named.Goals as goal
 
 pub returns-then-eq-clause-name : goal.returns-then-eq-clause-name

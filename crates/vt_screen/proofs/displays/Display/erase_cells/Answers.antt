@@ -1,4 +1,4 @@
-use Rattle.vt_screen.proofs.Erasing.{some_cells_erased}
+use Rattle.vt_screen.proofs.Erasures.{some_cells_erased}
 use Rattle.vt_screen.proofs.displays.Display.erase_cells.Goals as goal
 
 pub returns : goal.returns

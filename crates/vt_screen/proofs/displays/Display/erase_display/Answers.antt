@@ -1,4 +1,4 @@
-use Rattle.vt_screen.proofs.Erasing.{display_to_end_erased, display_from_start_erased, display_whole_erased}
+use Rattle.vt_screen.proofs.Erasures.{display_to_end_erased, display_from_start_erased, display_whole_erased}
 use Rattle.vt_screen.proofs.displays.Display.erase_display.Goals as goal
 
 pub returns-in-ToEnd : goal.returns-in-ToEnd

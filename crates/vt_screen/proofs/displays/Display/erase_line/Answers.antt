@@ -1,4 +1,4 @@
-use Rattle.vt_screen.proofs.Erasing.{line_to_end_erased, line_from_start_erased, line_whole_erased}
+use Rattle.vt_screen.proofs.Erasures.{line_to_end_erased, line_from_start_erased, line_whole_erased}
 use Rattle.vt_screen.proofs.displays.Display.erase_line.Goals as goal
 
 pub returns-in-ToEnd : goal.returns-in-ToEnd

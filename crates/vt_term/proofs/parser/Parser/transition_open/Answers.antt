@@ -1,6 +1,6 @@
 use Rattle.std.proofs.Common.{ℕ, ◌+◌, ap, length, nat_lt}
 use Rattle.vt_term.proofs.Transitions.{transition_introducer_holds}
-use Rattle.vt_term.proofs.Reading.{transition_in_escape, transition_in_control, stemmed, parted}
+use Rattle.vt_term.proofs.Readers.{transition_in_escape, transition_in_control, stemmed, parted}
 use Rattle.vt_term.proofs.parser.Parser.transition_open.Goals as goal
 
 pub returns-in-Escape : goal.returns-in-Escape

@@ -1,4 +1,4 @@
-use Rattle.vt_term.proofs.Beginning.{first_fault}
+use Rattle.vt_term.proofs.Starts.{first_fault}
 use Rattle.vt_term.proofs.scanners.Scanner.next.Goals as goal
 
 pub returns-in-Err-clause-fault : goal.returns-in-Err-clause-fault

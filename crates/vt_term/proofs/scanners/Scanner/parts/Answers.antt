@@ -1,5 +1,5 @@
 use Rattle.std.proofs.Common.{sym}
-use Rattle.vt_term.proofs.Beginning.{cut_ignored}
+use Rattle.vt_term.proofs.Starts.{cut_ignored}
 use Rattle.vt_term.proofs.scanners.Scanner.parts.Goals as goal
 
 pub returns-in-None : goal.returns-in-None

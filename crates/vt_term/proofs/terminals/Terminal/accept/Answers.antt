@@ -1,9 +1,9 @@
 use Rattle.std.proofs.Common.{inl, [], ◌∷◌, ◌++◌, refl, sym}
 use Rattle.std.proofs.lemmas.List.{append-nil}
 use Rattle.vt_term.proofs.Sequences.{empty_open, escape_open}
-use Rattle.vt_term.proofs.Dropping.{restart_runs, cancel_runs}
+use Rattle.vt_term.proofs.Drops.{restart_runs, cancel_runs}
 use Rattle.vt_term.proofs.Keeps.{step_kept, token_acts}
-use Rattle.vt_term.proofs.Splitting.{fits_nothing}
+use Rattle.vt_term.proofs.Splits.{fits_nothing}
 use Rattle.vt_term.proofs.terminals.Terminal.accept.Goals as goal
 
 pub returns-in-Ends-clause-accepts : goal.returns-in-Ends-clause-accepts

@@ -1,7 +1,7 @@
 use Rattle.std.proofs.Common.{◌≡◌, [], ◌∷◌, ◌+◌, ℕ, List, sym, subst, ◌∙◌, take, get_or, arith}
 use Rattle.std.proofs.lemmas.List.{take_more}
 use Rattle.vt_term.specs.Run.{Runs}
-use Rattle.vt_term.proofs.Running.{runs_append, runs_further, stuck_behind}
+use Rattle.vt_term.proofs.Runs.{runs_append, runs_further, stuck_behind}
 use Rattle.vt_term.proofs.terminals.Terminal.feed.Goals as goal
 
 pub loop-at-preserved-then-taken-gt0 : goal.loop-at-preserved-then-taken-gt0

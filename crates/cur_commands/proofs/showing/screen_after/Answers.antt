@@ -1,5 +1,0 @@
-use Rattle.cur_commands.proofs.Ending.{taken_ok}
-use Rattle.cur_commands.proofs.showing.screen_after.Goals as goal
-
-pub unwrap-requires : goal.unwrap-requires
-unwrap-requires c = taken_ok c.in_ok-terminal.terminal c.feed.new.self c.args.bytes.now c.feed.result c.args.size.rows c.args.size.cols c.in_ok-terminal.ensures c.requires c.feed.ensures.stuck

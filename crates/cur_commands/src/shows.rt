@@ -1,0 +1,60 @@
+//! Runs of calls on the specified terminal.
+ghost use Rattle.std.specs.Prelude.{◌≡◌, [], IfOk, Some};
+ghost use Rattle.ti_commands.specs.Feeds.{ShowsAfter};
+ghost use Rattle.cur_play.specs.Log.{Ran};
+ghost use Rattle.cur_commands.specs.Shows.{IsTaken, ShowsRun};
+ghost use Rattle.cur_commands.specs.Through.{AreThrough, unfailing};
+
+use crate::refusals::refusal_lines;
+use crate::taken::Taken;
+use cur_calls::Call;
+use cur_play::{Log, run};
+use std::alloc::{AllocError, Global};
+use ti_conforms::Certificate;
+use vt_term::{Size, Terminal};
+
+/// Plays `calls` on a terminal in its reset state, of the size of `checked`: a line for each call that was refused, and
+/// then the terminal's screen. The terminal takes all that is sent, so that there is an answer but where there is no
+/// memory.
+pub fn show_calls<C: Certificate>(
+    alloc: Global,
+    checked: &C,
+    calls: &[Call<'_>],
+) -> Result<Vec<u8>, AllocError>
+    ensures { IfOk result (λ text. ShowsRun (C.table checked.now) (C.partners checked.now) (C.table checked.now).rows (C.table checked.now).cols calls.now text.items) }
+{
+    let size = Size::new(checked.rows(), checked.cols()).unwrap();
+    let mut taken = Taken::new(alloc);
+    let log = play_in_memory(alloc, checked, calls, &mut taken)?;
+    let mut text = refusal_lines(alloc, log.entries.as_slice())?;
+    let screen = screen_after(alloc, size, taken.bytes.as_slice())?;
+    text.extend_from_slice(screen.as_slice())?;
+    Ok(text)
+}
+
+/// Plays calls, and keeps what they send; an error also where there was no memory to keep it.
+fn play_in_memory<C: Certificate>(
+    alloc: Global,
+    checked: &C,
+    calls: &[Call<'_>],
+    taken: &mut Taken,
+) -> Result<Log, AllocError>
+    ensures ran { IfOk result (λ log. Ran (unfailing (C.table checked.now) (C.partners checked.now)) (Some taken.old.bytes.items) (Some taken.new.bytes.items) calls.now log.entries.items) }
+    ensures through { IfOk result (λ log. AreThrough log.entries.items) }
+{
+    let log = run(alloc, checked, calls, taken)?;
+    if taken.failures > 0 {
+        return Err(AllocError);
+    }
+    Ok(log)
+}
+
+/// The screen of a terminal after these bytes, which it takes.
+fn screen_after(alloc: Global, size: Size, bytes: &[u8]) -> Result<Vec<u8>, AllocError>
+    requires { IsTaken size.rows size.cols bytes.now }
+    ensures { IfOk result (λ text. ShowsAfter size.rows size.cols bytes.now text.items) }
+{
+    let mut terminal = Terminal::new(alloc, size)?;
+    terminal.feed(bytes).unwrap();
+    terminal.print_screen(alloc)
+}

@@ -1,0 +1,202 @@
+-- Screens that are half new.
+use Rattle.std.proofs.Common.{◌≡◌, ℕ, ◌+◌, ◌-◌, ◌*◌, ◌<◌, ◌≤◌, inl, inr, Bool, true, false, if◌then◌else◌, zero, suc, refl, sym, ap, subst, ◌∙◌, arith}
+use Rattle.std.proofs.lemmas.Bool.Decides.{nat_tests}
+use Rattle.std.proofs.lemmas.Bool.{cases_lt}
+use Rattle.cur_looks.specs.Inks.{same, mixed, put_at, tail_blank, blank_ink}
+use Rattle.cur_looks.specs.Gaps.{BeginsAs, IsAlike}
+use Rattle.cur_looks.specs.Erasures.{erased}
+use Rattle.cur_looks.specs.declared.erasures.ErasedPart.TheVariants.{Head, Part, Rest}
+use Rattle.cur_paint.specs.Differ.{differs, span, all_differ}
+use Rattle.cur_paint.specs.Blanks.{IsBlankFrom}
+use Rattle.ti_conforms.specs.Certified.{Table, cell_limit}
+use Rattle.cur_looks.specs.Beliefs.{Agrees}
+use Rattle.cur_looks.specs.declared.beliefs.Belief.{Belief}
+use Rattle.vt_term.specs.Screen.{State}
+use Rattle.cur_looks.proofs.Sameness.{same_equal}
+use Rattle.cur_looks.specs.declared.inks.Ink.{Ink}
+
+-- the same cells in other words
+pub agrees_as : (t : Table) (g h : ℕ → ℕ → Ink) (b : Belief) → ((i j : ℕ) → i < t.rows → j < t.cols → g i j ≡ h i j) → (s : State) → Agrees t g b s → Agrees t h b s
+agrees_as t g h b e s a = record { ready = a.ready; cells = λ i j li lj. rw (← e i j li lj) (a.cells i j li lj); place = a.place; brush = a.brush; colored = a.colored; set = a.set; seen = a.seen }
+
+-- one place more
+pub mixed_put : (old new : ℕ → ℕ → Ink) (r c i j : ℕ) → put_at r c (new r c) (mixed old new r c) i j ≡ mixed old new r (c + 1) i j
+mixed_put old new r c i j = grind (arith, nat_tests)
+
+pub mixed_same : (old new : ℕ → ℕ → Ink) (r c i j : ℕ) → old r c ≡ new r c → mixed old new r c i j ≡ mixed old new r (c + 1) i j
+mixed_same old new r c i j e = grind (arith, nat_tests)
+
+pub mixed_blank : (old new : ℕ → ℕ → Ink) (r c cols i j : ℕ) → j < cols → ((k : ℕ) → c ≤ k → k < cols → new r k ≡ blank_ink) → tail_blank r c (mixed old new r c) i j ≡ mixed old new r cols i j
+mixed_blank old new r c cols i j lt h = grind (arith, nat_tests, h j)
+
+-- the line is new as far as the place
+pub mixed_before : (old new : ℕ → ℕ → Ink) (r c : ℕ) → BeginsAs (mixed old new r c) new r c
+mixed_before old new r c k lt = grind (arith, nat_tests)
+
+-- columns that are shown already
+pub mixed_front : (old new : ℕ → ℕ → Ink) (r c i j : ℕ) → ((k : ℕ) → k < c → old r k ≡ new r k) → mixed old new r 0 i j ≡ mixed old new r c i j
+mixed_front old new r c i j h = grind (arith, nat_tests, h j)
+
+pub mixed_rest : (old new : ℕ → ℕ → Ink) (r c cols i j : ℕ) → j < cols → ((k : ℕ) → c ≤ k → k < cols → old r k ≡ new r k) → mixed old new r c i j ≡ mixed old new r cols i j
+mixed_rest old new r c cols i j lt h = grind (arith, nat_tests, h j)
+
+pub mixed_row : (old new : ℕ → ℕ → Ink) (r cols i j : ℕ) → j < cols → mixed old new r cols i j ≡ mixed old new (r + 1) 0 i j
+mixed_row old new r cols i j lt = grind (arith, nat_tests)
+
+pub mixed_end : (old new : ℕ → ℕ → Ink) (rows i j : ℕ) → i < rows → mixed old new rows 0 i j ≡ new i j
+mixed_end old new rows i j lt = grind (arith, nat_tests)
+
+pub mixed_start : (old new : ℕ → ℕ → Ink) (i j : ℕ) → old i j ≡ mixed old new 0 0 i j
+mixed_start old new i j = grind (arith, nat_tests)
+
+pub put_new : (old new : ℕ → ℕ → Ink) (r c : ℕ) (x : Ink) → x ≡ new r c → (i j : ℕ) → put_at r c x (mixed old new r c) i j ≡ mixed old new r (c + 1) i j
+put_new old new r c x e i j = ap (λ (y : Ink). put_at r c y (mixed old new r c) i j) e ∙ mixed_put old new r c i j
+
+pub found_same : (old new : ℕ → ℕ → Ink) (r c : ℕ) (a b : Ink) → a ≡ old r c → b ≡ new r c → true ≡ same a b → old r c ≡ new r c
+found_same old new r c a b p q e = sym p ∙ same_equal a b (sym e) ∙ q
+
+pub found_different : (old new : ℕ → ℕ → Ink) (r c : ℕ) (a b : Ink) → a ≡ old r c → b ≡ new r c → false ≡ same a b → differs old new r c ≡ 1
+found_different old new r c a b p q e =
+    let f : same (old r c) (new r c) ≡ false = ap (λ (x : Ink). same x (new r c)) (sym p) ∙ ap (λ (x : Ink). same a x) (sym q) ∙ sym e in
+    ap (λ (x : Bool). if x then 0 else 1) f
+
+pub span_more : (old new : ℕ → ℕ → Ink) (i from n : ℕ) → span old new i from (n + 1) ≡ span old new i from n + differs old new i (from + n)
+span_more old new i from n = let same : suc n ≡ n + 1 = omega arith in let P : ℕ → Type 0 = λ m. span old new i from m ≡ span old new i from n + differs old new i (from + n) in subst P same refl
+
+-- what was counted in a line from its start on, and one place more
+pub span_next : (old new : ℕ → ℕ → Ink) (i n count one : ℕ) → count ≡ span old new i 0 n → one ≡ differs old new i n → count + one ≡ span old new i 0 (n + 1)
+span_next old new i n count one e f =
+    let there : 0 + n ≡ n = omega arith in
+    let d : differs old new i (0 + n) ≡ differs old new i n = ap (λ (m : ℕ). differs old new i m) there in
+    omega (arith, e, f, d, span_more old new i 0 n)
+
+pub span_grows : (old new : ℕ → ℕ → Ink) (i from n m : ℕ) → n ≤ m → span old new i from n ≤ span old new i from m
+span_grows old new i from n zero le = let P : ℕ → Type 0 = λ k. span old new i from k ≤ 0 in let same : 0 ≡ n = omega arith in subst P same (omega arith)
+span_grows old new i from n (suc m) le = elim (cases_lt n (suc m)) [
+  | inl lt ↦ (let h : span old new i from n ≤ span old new i from m = span_grows old new i from n m (omega arith) in omega (arith, h))
+  | inr ge ↦ (let P : ℕ → Type 0 = λ k. span old new i from k ≤ span old new i from (suc m) in let same : suc m ≡ n = omega arith in subst P same (omega arith))
+]
+
+pub times_grows : (a b l : ℕ) → a ≤ b → a * l ≤ b * l
+times_grows a b l le = grind arith
+
+pub sum_limit : (a b c l : ℕ) → c ≡ a + b → a * l + b * l ≤ c * l
+sum_limit a b c l e = let P : ℕ → Type 0 = λ n. a * l + b * l ≤ n * l in subst P (sym e) (grind arith)
+
+-- the same column in other words
+pub agrees_at : (t : Table) (old new : ℕ → ℕ → Ink) (r c d : ℕ) (b : Belief) → c ≡ d → (s : State) → Agrees t (mixed old new r c) b s → Agrees t (mixed old new r d) b s
+agrees_at t old new r c d b e s h = let P : ℕ → Type 0 = λ n. Agrees t (mixed old new r n) b s in subst P e h
+
+pub span_join : (old new : ℕ → ℕ → Ink) (i from a n : ℕ) → span old new i from a + span old new i (from + a) n ≡ span old new i from (a + n)
+span_join old new i from a zero = let same : a ≡ a + zero = omega arith in let P : ℕ → Type 0 = λ m. span old new i from a + 0 ≡ span old new i from m in subst P same (omega arith)
+span_join old new i from a (suc n) =
+    let h : span old new i from a + span old new i (from + a) n ≡ span old new i from (a + n) = span_join old new i from a n in
+    let same : suc (a + n) ≡ a + suc n = omega arith in
+    let place : from + a + n ≡ from + (a + n) = omega arith in
+    let d : differs old new i (from + a + n) ≡ differs old new i (from + (a + n)) = ap (λ (m : ℕ). differs old new i m) place in
+    let P : ℕ → Type 0 = λ m. span old new i from a + (span old new i (from + a) n + differs old new i (from + a + n)) ≡ span old new i from m in
+    subst P same (omega (arith, h, d))
+
+-- two parts of a line
+pub span_parts : (old new : ℕ → ℕ → Ink) (i a cols : ℕ) → a ≤ cols → span old new i 0 a + span old new i a (cols - a) ≡ span old new i 0 cols
+span_parts old new i a cols le =
+    let same : a + (cols - a) ≡ cols = omega arith in
+    let zeroth : 0 + a ≡ a = omega arith in
+    let P : ℕ → Type 0 = λ m. span old new i 0 a + span old new i a (cols - a) ≡ span old new i 0 m in
+    let Q : ℕ → Type 0 = λ m. span old new i 0 a + span old new i m (cols - a) ≡ span old new i 0 (a + (cols - a)) in
+    subst P same (subst Q zeroth (span_join old new i 0 a (cols - a)))
+
+-- two parts of what comes from a column on
+pub span_split : (old new : ℕ → ℕ → Ink) (i from a cols : ℕ) → from ≤ a → a ≤ cols → span old new i from (a - from) + span old new i a (cols - a) ≡ span old new i from (cols - from)
+span_split old new i from a cols le more =
+    let there : from + (a - from) ≡ a = omega arith in
+    let same : (a - from) + (cols - a) ≡ cols - from = omega arith in
+    let P : ℕ → Type 0 = λ m. span old new i from (a - from) + span old new i a (cols - a) ≡ span old new i from m in
+    let Q : ℕ → Type 0 = λ m. span old new i from (a - from) + span old new i m (cols - a) ≡ span old new i from ((a - from) + (cols - a)) in
+    subst P same (subst Q there (span_join old new i from (a - from) (cols - a)))
+
+pub all_more : (old new : ℕ → ℕ → Ink) (cols n : ℕ) → all_differ old new cols (n + 1) ≡ all_differ old new cols n + span old new n 0 cols
+all_more old new cols n = let same : suc n ≡ n + 1 = omega arith in let P : ℕ → Type 0 = λ m. all_differ old new cols m ≡ all_differ old new cols n + span old new n 0 cols in subst P same refl
+
+pub all_grows : (old new : ℕ → ℕ → Ink) (cols n m : ℕ) → n ≤ m → all_differ old new cols n ≤ all_differ old new cols m
+all_grows old new cols n zero le = let P : ℕ → Type 0 = λ k. all_differ old new cols k ≤ 0 in let same : 0 ≡ n = omega arith in subst P same (omega arith)
+all_grows old new cols n (suc m) le = elim (cases_lt n (suc m)) [
+  | inl lt ↦ (let h : all_differ old new cols n ≤ all_differ old new cols m = all_grows old new cols n m (omega arith) in omega (arith, h))
+  | inr ge ↦ (let P : ℕ → Type 0 = λ k. all_differ old new cols k ≤ all_differ old new cols (suc m) in let same : suc m ≡ n = omega arith in subst P same (omega arith))
+]
+
+-- columns that are shown already
+pub front_shown : (t : Table) (old new : ℕ → ℕ → Ink) (r c : ℕ) (b : Belief) → ((k : ℕ) → k < c → old r k ≡ new r k) → (s : State) → Agrees t (mixed old new r 0) b s → Agrees t (mixed old new r c) b s
+front_shown t old new r c b e s h = agrees_as t (mixed old new r 0) (mixed old new r c) b (λ i j li lj. mixed_front old new r c i j e) s h
+
+pub rest_shown : (t : Table) (old new : ℕ → ℕ → Ink) (r c : ℕ) (b : Belief) → ((k : ℕ) → c ≤ k → k < t.cols → old r k ≡ new r k) → (s : State)
+    → Agrees t (mixed old new r c) b s → Agrees t (mixed old new r t.cols) b s
+rest_shown t old new r c b e s h = agrees_as t (mixed old new r c) (mixed old new r t.cols) b (λ i j li lj. mixed_rest old new r c t.cols i j lj e) s h
+
+-- a line is done
+pub row_done : (t : Table) (old new : ℕ → ℕ → Ink) (r : ℕ) (b : Belief) (s : State) → Agrees t (mixed old new r t.cols) b s → Agrees t (mixed old new (r + 1) 0) b s
+row_done t old new r b s h = agrees_as t (mixed old new r t.cols) (mixed old new (r + 1) 0) b (λ i j li lj. mixed_row old new r t.cols i j lj) s h
+
+pub all_done : (t : Table) (old new : ℕ → ℕ → Ink) (b : Belief) (s : State) → Agrees t (mixed old new t.rows 0) b s → Agrees t new b s
+all_done t old new b s h = agrees_as t (mixed old new t.rows 0) new b (λ i j li lj. mixed_end old new t.rows i j li) s h
+
+pub none_done : (t : Table) (old new : ℕ → ℕ → Ink) (b : Belief) (s : State) → Agrees t old b s → Agrees t (mixed old new 0 0) b s
+none_done t old new b s h = agrees_as t old (mixed old new 0 0) b (λ i j li lj. mixed_start old new i j) s h
+
+pub tail_done : (t : Table) (old new : ℕ → ℕ → Ink) (r c : ℕ) (b : Belief) → ((k : ℕ) → c ≤ k → k < t.cols → new r k ≡ blank_ink) → (s : State)
+    → Agrees t (tail_blank r c (mixed old new r c)) b s → Agrees t (mixed old new r t.cols) b s
+tail_done t old new r c b e s h = agrees_as t (tail_blank r c (mixed old new r c)) (mixed old new r t.cols) b (λ i j li lj. mixed_blank old new r c t.cols i j lj e) s h
+
+pub some_times : (n l : ℕ) → 0 < n → l ≤ n * l
+some_times n l lt = grind arith
+
+-- a run of blanks that was erased
+pub mixed_run : (old new : ℕ → ℕ → Ink) (r c n i j : ℕ) → ((k : ℕ) → c ≤ k → k < c + n → new r k ≡ blank_ink) → erased (Part n) r c (mixed old new r c) i j ≡ mixed old new r (c + n) i j
+mixed_run old new r c n i j h = grind (arith, nat_tests, h j)
+
+-- the front of a line, that was new as far as a column, erased as far as another one
+pub mixed_head : (old new : ℕ → ℕ → Ink) (r c n i j : ℕ) → 0 < n → ((k : ℕ) → 0 ≤ k → k < c + n → new r k ≡ blank_ink) → erased Head r (c + n - 1) (mixed old new r c) i j ≡ mixed old new r (c + n) i j
+mixed_head old new r c n i j some h = grind (arith, nat_tests, h j, some)
+
+pub run_done : (t : Table) (old new : ℕ → ℕ → Ink) (r c n : ℕ) (b : Belief) → 0 < n → ((k : ℕ) → c ≤ k → k < c + n → new r k ≡ blank_ink) → (s : State)
+    → Agrees t (erased (Part n) r c (mixed old new r c)) b s → Agrees t (mixed old new r (c + n)) b s
+run_done t old new r c n b some e s h = agrees_as t (erased (Part n) r c (mixed old new r c)) (mixed old new r (c + n)) b (λ i j li lj. mixed_run old new r c n i j e) s h
+
+pub head_done : (t : Table) (old new : ℕ → ℕ → Ink) (r c n : ℕ) (b : Belief) → 0 < n → ((k : ℕ) → 0 ≤ k → k < c + n → new r k ≡ blank_ink) → (s : State)
+    → Agrees t (erased Head r (c + n - 1) (mixed old new r c)) b s → Agrees t (mixed old new r (c + n)) b s
+head_done t old new r c n b some e s h = agrees_as t (erased Head r (c + n - 1) (mixed old new r c)) (mixed old new r (c + n)) b (λ i j li lj. mixed_head old new r c n i j some e) s h
+
+-- the rest of a screen, erased from a place on
+pub mixed_bottom : (old new : ℕ → ℕ → Ink) (r c i j : ℕ) → (i ≡ r → c ≤ j → new i j ≡ blank_ink) → (r < i → new i j ≡ blank_ink) → erased Rest r c (mixed old new r c) i j ≡ new i j
+mixed_bottom old new r c i j h k = grind (arith, nat_tests, h, k)
+
+pub rest_done : (t : Table) (old new : ℕ → ℕ → Ink) (r c : ℕ) (b : Belief) → IsBlankFrom new t.rows t.cols r c → (s : State) → Agrees t (erased Rest r c (mixed old new r c)) b s → Agrees t new b s
+rest_done t old new r c b e s h = agrees_as t (erased Rest r c (mixed old new r c)) new b
+    (λ i j li lj. mixed_bottom old new r c i j (λ same le. (let P : ℕ → Type 0 = λ n. new n j ≡ blank_ink in subst P (sym same) (e.line j le lj))) (λ lt. e.lines i j lt li lj)) s h
+
+-- a cell, and those after it
+pub span_first : (old new : ℕ → ℕ → Ink) (i from n : ℕ) → differs old new i from + span old new i (from + 1) n ≡ span old new i from (1 + n)
+span_first old new i from n =
+    let more : span old new i from 1 ≡ span old new i from 0 + differs old new i (from + 0) = span_more old new i from 0 in
+    let none : span old new i from 0 ≡ 0 = refl in
+    let place : from + 0 ≡ from = omega arith in
+    let here : differs old new i (from + 0) ≡ differs old new i from = ap (λ (j : ℕ). differs old new i j) place in
+    omega (arith, more, none, here, span_join old new i from 1 n)
+
+-- cells that all differ
+pub span_full : (old new : ℕ → ℕ → Ink) (i from n : ℕ) → ((k : ℕ) → k < n → differs old new i (from + k) ≡ 1) → span old new i from n ≡ n
+span_full old new i from zero h = refl
+span_full old new i from (suc n) h = omega (arith, span_full old new i from n (λ k lt. h k (omega (arith, lt))), h n (omega arith))
+
+-- a cell takes a byte at least
+pub some_each : (t : Table) (a n : ℕ) → a ≡ n → n ≤ a * cell_limit t
+some_each t a n e = let P : ℕ → Type 0 = λ m. n ≤ m * cell_limit t in subst P (sym e) (grows n (cell_limit t) (omega arith))
+  where
+    grows : (n l : ℕ) → 1 ≤ l → n ≤ n * l
+    grows n l le = grind arith
+
+-- as an ink, but for the character
+pub like_alike : (b : Belief) (x y : Ink) (n : ℕ) → IsAlike b y → x ≡ record y { byte = n } → IsAlike b x
+like_alike b x y n k f =
+    let m : IsAlike b (record y { byte = n }) = record { brush = k.brush; set = k.set } in
+    subst (λ (z : Ink). IsAlike b z) (sym f) m

@@ -1,0 +1,248 @@
+-- From anywhere some lawful bytes make the terminal show a screen: the resynchronization, and then every cell.
+use Rattle.std.proofs.Common.{◌≡◌, ℕ, ◌+◌, ◌<◌, ◌≤◌, Bool, true, false, zero, suc, List, [], ◌∷◌, length, Option, Some, None, is_some, refl, sym, ap, subst, ◌∙◌, inl, arith}
+use Rattle.vt_term.specs.Color.{Color}
+use Rattle.vt_term.specs.Screen.{State}
+use Rattle.cur_wires.specs.Leads.{Leads}
+use Rattle.vt_term.specs.Ends.{Ends}
+use Rattle.cur_wires.specs.Leads.{Reaches}
+use Rattle.vt_term.specs.Ends.{Closed}
+use Rattle.cur_wires.proofs.Stops.{leads_line}
+use Rattle.cur_wires.proofs.Completion.{ends_as, ends_sized, reaches_then, reaches_piece, reaches_as, reaches_self}
+use Rattle.ti_rows.specs.declared.rows.Row.{Row}
+use Rattle.ti_rows.specs.declared.rows.Row.TheVariants.{Cup, Sgr, Sgr0, Setaf, Setab, Op, Civis, Cnorm, Cvvis}
+use Rattle.ti_rows.specs.declared.rows.Attributes.{Attributes}
+use Rattle.cur_looks.specs.declared.beliefs.Belief.{Belief}
+use Rattle.cur_looks.specs.declared.beliefs.Place.{Place}
+use Rattle.cur_looks.specs.declared.beliefs.Mode.{Mode}
+use Rattle.cur_looks.specs.declared.beliefs.Mode.TheVariants.{Hidden, Normal, Prominent}
+use Rattle.cur_looks.specs.declared.inks.Brush.{Brush}
+use Rattle.cur_looks.specs.declared.inks.Ink.{Ink}
+use Rattle.ti_conforms.specs.Certified.{Table, IsLost, IsBlank, IsLine, IsChecked, IsPiece, Line, Character, Ended, has, HasSingles, singles}
+use Rattle.cur_looks.specs.Singles.{has_single, turned_on, with_single, with_singles}
+use Rattle.cur_looks.specs.Inks.{CanShow, IsInk, IsColored, mixed, put_at, blank_ink, plain_brush, no_attributes, rendition_of}
+use Rattle.cur_looks.specs.Beliefs.{Agrees, Turns, IsHere, IsSeen, is_shown, set_row, CanHide}
+use Rattle.cur_looks.proofs.Actions.{agrees_lost}
+use Rattle.cur_looks.proofs.Turns.{moved, attributes_set, foreground_set, background_set, colors_gone, no_colors, no_color_lines, brush_as, colored_has, set_chosen, set_absent, hidden, normal, always_normal, stressed, stressed_without, stands_at, calmly}
+use Rattle.cur_looks.proofs.SingleFacts.{stripped, with_attributes, single_set, single_absent, unwanted, wanted_on, all_singles}
+use Rattle.cur_looks.proofs.Prints.{typed_agrees}
+use Rattle.cur_paint.specs.Limits.{IsWithin, IsPlaced}
+use Rattle.cur_paint.specs.Cleared.{at_start}
+use Rattle.cur_paint.specs.Update.{Shows, IsCursor}
+use Rattle.cur_paint.specs.declared.updates.Wanted.{Wanted}
+use Rattle.cur_paint.proofs.Mixtures.{agrees_as, agrees_at, mixed_put, row_done, all_done, none_done}
+
+-- what a line does
+pub line_ends : (t : Table) → IsChecked t → (row : Row) (bytes : List ℕ) → t.line_of row ≡ Some bytes → (g h : ℕ → ℕ → Ink) (b c : Belief) → Turns t row g b h c → (s : State) → Agrees t g b s → Ends s bytes (Agrees t h c)
+line_ends t checked row bytes is g h b c turns s x =
+    let line : IsLine t row bytes = checked.lines row bytes is in
+    ends_sized t.rows t.cols s bytes (Closed (Ended t row s.screen)) (Agrees t h c) x.ready.sized (λ u sized k. turns.ends s u x sized k.rest k.screen) (line.drives.right s x.ready.rest (turns.starts s x))
+
+-- one line, of which a front leaves a lost state
+pub line_leads : (t : Table) → IsChecked t → (row : Row) (bytes : List ℕ) → t.line_of row ≡ Some bytes → (n : ℕ) → length bytes ≤ n → (g h : ℕ → ℕ → Ink) (b c : Belief) → Turns t row g b h c → Leads (IsPiece t) n (IsLost t) (Agrees t g b) bytes (Agrees t h c)
+line_leads t checked row bytes is n le g h b c turns =
+    leads_line (IsPiece t) n (IsLost t) (Agrees t g b) (Agrees t h c) bytes (Line row is) le (line_ends t checked row bytes is g h b c turns)
+    (λ s x front back e. (let line : IsLine t row bytes = checked.lines row bytes is in line.drives.fronts s x.ready.rest (agrees_lost t checked g b s x) front back e))
+
+reaches_line : (t : Table) → IsChecked t → (row : Row) (bytes : List ℕ) → t.line_of row ≡ Some bytes → (g h : ℕ → ℕ → Ink) (b c : Belief) → Turns t row g b h c → Reaches (IsPiece t) (Agrees t g b) (Agrees t h c)
+reaches_line t checked row bytes is g h b c turns = reaches_piece (IsPiece t) (Agrees t g b) (Agrees t h c) bytes (Line row is) (line_ends t checked row bytes is g h b c turns)
+
+pub record IsThere (o : Option (List ℕ)) : Type 0 where
+  pub bytes : List ℕ
+  pub is : o ≡ Some bytes
+
+pub there : (o : Option (List ℕ)) → is_some o ≡ true → IsThere o
+there None e = absurd (cc)
+there (Some x) e = record { bytes = x; is = refl }
+
+reaches_has : (t : Table) → IsChecked t → (row : Row) → has t row ≡ true → (g h : ℕ → ℕ → Ink) (b c : Belief) → Turns t row g b h c → Reaches (IsPiece t) (Agrees t g b) (Agrees t h c)
+reaches_has t checked row e g h b c turns = let k : IsThere (t.line_of row) = there (t.line_of row) e in reaches_line t checked row k.bytes k.is g h b c turns
+
+quietly : (t : Table) (g : ℕ → ℕ → Ink) (b c : Belief) → ((s : State) → Agrees t g b s → Agrees t g c s) → Reaches (IsPiece t) (Agrees t g b) (Agrees t g c)
+quietly t g b c f = reaches_self (IsPiece t) (Agrees t g b) (Agrees t g c) (λ s h. h.ready.rest) f
+
+-- either there is a line or there is no need of one
+one_way : (t : Table) → IsChecked t → (row : Row) (g : ℕ → ℕ → Ink) (b c : Belief) → Turns t row g b g c → (has t row ≡ false → (s : State) → Agrees t g b s → Agrees t g c s) → (x : Bool) → has t row ≡ x → Reaches (IsPiece t) (Agrees t g b) (Agrees t g c)
+one_way t checked row g b c turns without true e = reaches_has t checked row e g g b c turns
+one_way t checked row g b c turns without false e = quietly t g b c (without e)
+
+foreground_reaches : (t : Table) → IsChecked t → (f : Option Color) → (has t Op ≡ false → f ≡ None) → (g : ℕ → ℕ → Ink) (b : Belief) → b.brush.foreground ≡ None → Reaches (IsPiece t) (Agrees t g b) (Agrees t g (record b { brush = record b.brush { foreground = f } }))
+foreground_reaches t checked None fit g b e = quietly t g b (record b { brush = record b.brush { foreground = None } }) (brush_as t g b (record b.brush { foreground = None }) (ap (λ (x : Option Color). record b.brush { foreground = x }) e))
+foreground_reaches t checked (Some c) fit g b e =
+    let known : has t Op ≡ true = colored_has (has t Op) c fit in
+    reaches_has t checked (Setaf c) (checked.foregrounds known c) g g b (record b { brush = record b.brush { foreground = Some c } }) (foreground_set t known g b c)
+
+background_reaches : (t : Table) → IsChecked t → (f : Option Color) → (has t Op ≡ false → f ≡ None) → (g : ℕ → ℕ → Ink) (b : Belief) → b.brush.background ≡ None → Reaches (IsPiece t) (Agrees t g b) (Agrees t g (record b { brush = record b.brush { background = f } }))
+background_reaches t checked None fit g b e = quietly t g b (record b { brush = record b.brush { background = None } }) (brush_as t g b (record b.brush { background = None }) (ap (λ (x : Option Color). record b.brush { background = x }) e))
+background_reaches t checked (Some c) fit g b e =
+    let known : has t Op ≡ true = colored_has (has t Op) c fit in
+    reaches_has t checked (Setab c) (checked.backgrounds known c) g g b (record b { brush = record b.brush { background = Some c } }) (background_set t known g b c)
+
+unknown : Belief
+unknown = record { place = None; brush = plain_brush; graphic = None; mode = None }
+
+forget : (t : Table) (g : ℕ → ℕ → Ink) (b : Belief) → b.brush ≡ plain_brush → (s : State) → Agrees t g b s → Agrees t g unknown s
+unfolding unknown
+forget t g b e s h = record {
+  ready = h.ready;
+  cells = h.cells;
+  place = tt;
+  brush = h.brush ∙ ap (λ (x : Brush). rendition_of t.looks x) e;
+  colored = record { foreground = λ x. refl; background = λ x. refl };
+  set = tt;
+  seen = tt;
+}
+
+-- the attribute of a row's string, if it is wanted
+single_reaches : (t : Table) → IsChecked t → HasSingles t → (w : Attributes) (row : Row) (g : ℕ → ℕ → Ink) (b : Belief) → b.graphic ≡ None → (x : Bool) → has_single row w ≡ x
+    → Reaches (IsPiece t) (Agrees t g b) (Agrees t g (with_attributes b (with_single w row b.brush.attributes)))
+single_reaches t checked k w row g b none true on =
+    subst (λ (a : Attributes). Reaches (IsPiece t) (Agrees t g b) (Agrees t g (with_attributes b a))) (sym (wanted_on w row b.brush.attributes on))
+    (decide (has t row) refl)
+  where
+    decide : (y : Bool) → has t row ≡ y → Reaches (IsPiece t) (Agrees t g b) (Agrees t g (with_attributes b (turned_on row b.brush.attributes)))
+    decide true e = reaches_has t checked row e g g b (with_attributes b (turned_on row b.brush.attributes)) (single_set t k w row on e g b none)
+    decide false e = quietly t g b (with_attributes b (turned_on row b.brush.attributes)) (single_absent t k w row on e g b)
+single_reaches t checked k w row g b none false off =
+    subst (λ (a : Attributes). Reaches (IsPiece t) (Agrees t g b) (Agrees t g (with_attributes b a))) (sym (unwanted w row b.brush.attributes off)) (quietly t g b b (λ s h. h))
+
+singles_reach : (t : Table) → IsChecked t → HasSingles t → (w : Attributes) (rows : List Row) (g : ℕ → ℕ → Ink) (b : Belief) → b.graphic ≡ None
+    → Reaches (IsPiece t) (Agrees t g b) (Agrees t g (with_attributes b (with_singles w rows b.brush.attributes)))
+singles_reach t checked k w [] g b none = quietly t g b b (λ s h. h)
+singles_reach t checked k w (row ∷ rows) g b none =
+    let c : Belief = with_attributes b (with_single w row b.brush.attributes) in
+    reaches_then (IsPiece t) (Agrees t g b) (Agrees t g c) _ (single_reaches t checked k w row g b none (has_single row w) refl) (singles_reach t checked k w rows g c none)
+
+-- the attributes, by `sgr` or one by one
+attributes_reach : (t : Table) → IsChecked t → (a : Attributes) (g : ℕ → ℕ → Ink) (b : Belief) → b.brush.foreground ≡ None → b.brush.background ≡ None
+    → Reaches (IsPiece t) (Agrees t g b) (Agrees t g (record b { brush = record plain_brush { attributes = a }; graphic = None }))
+attributes_reach t checked a g b f k = decide (has t (Sgr no_attributes)) refl
+  where
+    decide : (x : Bool) → has t (Sgr no_attributes) ≡ x → Reaches (IsPiece t) (Agrees t g b) (Agrees t g (record b { brush = record plain_brush { attributes = a }; graphic = None }))
+    decide true e =
+        let c : Belief = record b { brush = record b.brush { attributes = a }; graphic = None } in
+        let d : Belief = record c { brush = record plain_brush { attributes = a } } in
+        reaches_then (IsPiece t) (Agrees t g b) (Agrees t g c) (Agrees t g d) (reaches_has t checked (Sgr a) (checked.attributes e a) g g b c (attributes_set t g b a f k)) (quietly t g c d (no_colors t g c f k))
+    decide false e =
+        let c : Belief = record b { brush = plain_brush; graphic = None } in
+        reaches_then (IsPiece t) (Agrees t g b) (Agrees t g c) _ (reaches_has t checked Sgr0 checked.plain g g b c (stripped t g b))
+        (subst (λ (x : Attributes). Reaches (IsPiece t) (Agrees t g c) (Agrees t g (with_attributes c x))) (all_singles a) (singles_reach t checked (checked.singles e) a singles g c refl))
+
+-- the brush, from the plain one
+dressed : (t : Table) → IsChecked t → (g : ℕ → ℕ → Ink) (b : Belief) (x : Brush) → IsColored t x → b.brush ≡ plain_brush → Reaches (IsPiece t) (Agrees t g b) (Agrees t g (record b { brush = x; graphic = None }))
+dressed t checked g b x fit e =
+    let p : Belief = record b { brush = plain_brush } in
+    let q : Belief = record p { brush = record plain_brush { attributes = x.attributes }; graphic = None } in
+    let r : Belief = record q { brush = record q.brush { foreground = x.foreground } } in
+    reaches_then (IsPiece t) (Agrees t g b) (Agrees t g p) _ (quietly t g b p (brush_as t g b plain_brush e))
+    (reaches_then (IsPiece t) (Agrees t g p) (Agrees t g q) _ (attributes_reach t checked x.attributes g p refl refl)
+    (reaches_then (IsPiece t) (Agrees t g q) (Agrees t g r) _ (foreground_reaches t checked x.foreground fit.foreground g q refl)
+    (background_reaches t checked x.background fit.background g r refl)))
+
+-- and back to it
+undressed : (t : Table) → IsChecked t → (g : ℕ → ℕ → Ink) (b : Belief) → Reaches (IsPiece t) (Agrees t g b) (Agrees t g unknown)
+undressed t checked g b =
+    let p : Belief = record b { brush = record b.brush { foreground = None; background = None } } in
+    let q : Belief = record p { brush = plain_brush; graphic = None } in
+    reaches_then (IsPiece t) (Agrees t g b) (Agrees t g p) _ (one_way t checked Op g b p (colors_gone t g b) (λ e. no_color_lines t g b e) (has t Op) refl)
+    (reaches_then (IsPiece t) (Agrees t g p) (Agrees t g q) _ (attributes_reach t checked no_attributes g p refl refl)
+    (quietly t g q unknown (forget t g q refl)))
+
+cell_reaches : (t : Table) → IsChecked t → (new : ℕ → ℕ → Ink) → CanShow t new → (old : ℕ → ℕ → Ink) (r c : ℕ) → r < t.rows → c < t.cols
+    → Reaches (IsPiece t) (Agrees t (mixed old new r c) unknown) (Agrees t (mixed old new r (c + 1)) unknown)
+unfolding unknown
+cell_reaches t checked new fit old r c lr lc =
+    let m = mixed old new r c in
+    let x : Ink = new r c in
+    let k : IsInk t x = fit r c in
+    let a : Belief = record unknown { place = Some (record { row = r; col = c }) } in
+    let b : Belief = record a { brush = x.brush; graphic = None } in
+    let d : Belief = record b { graphic = Some x.graphic } in
+    let e : Belief = record d { place = Some (record { row = r; col = c + 1 }) } in
+    reaches_then (IsPiece t) (Agrees t m unknown) (Agrees t m a) _ (reaches_has t checked (Cup r c) (checked.moves r c lr lc) m m unknown a (moved t m unknown r c lc))
+    (reaches_then (IsPiece t) (Agrees t m a) (Agrees t m b) _ (dressed t checked m a x.brush k.colored refl)
+    (reaches_then (IsPiece t) (Agrees t m b) (Agrees t m d) _ (one_way t checked (set_row x.graphic) m b d (set_chosen t m b x.graphic) (λ h. set_absent t checked x.graphic k.set h m b) (has t (set_row x.graphic)) refl)
+    (reaches_then (IsPiece t) (Agrees t m d) (Agrees t (put_at r c x m) e) _
+    (reaches_piece (IsPiece t) (Agrees t m d) (Agrees t (put_at r c x m) e) (x.byte ∷ []) (Character x.byte k.printed refl) (typed_agrees t m d r c x lr lc k.printed (record { place = inl refl; brush = refl; set = refl })))
+    (reaches_as (IsPiece t) (Agrees t (put_at r c x m) e) (Agrees t (put_at r c x m) unknown) (Agrees t (put_at r c x m) e) (Agrees t (mixed old new r (c + 1)) unknown) (λ s h. h)
+    (agrees_as t (put_at r c x m) (mixed old new r (c + 1)) unknown (λ i j li lj. mixed_put old new r c i j)) (undressed t checked (put_at r c x m) e)))))
+
+row_reaches : (t : Table) → IsChecked t → (new : ℕ → ℕ → Ink) → CanShow t new → (old : ℕ → ℕ → Ink) (r n : ℕ) → r < t.rows → n ≤ t.cols → Reaches (IsPiece t) (Agrees t (mixed old new r 0) unknown) (Agrees t (mixed old new r n) unknown)
+row_reaches t checked new fit old r zero lr le = quietly t (mixed old new r 0) unknown unknown (λ s h. h)
+row_reaches t checked new fit old r (suc n) lr le =
+    reaches_then (IsPiece t) _ (Agrees t (mixed old new r n) unknown) _ (row_reaches t checked new fit old r n lr (omega arith))
+    (reaches_as (IsPiece t) (Agrees t (mixed old new r n) unknown) (Agrees t (mixed old new r (n + 1)) unknown) _ (Agrees t (mixed old new r (suc n)) unknown) (λ s h. h)
+    (agrees_at t old new r (n + 1) (suc n) unknown (omega arith)) (cell_reaches t checked new fit old r n lr (omega arith)))
+
+rows_reach : (t : Table) → IsChecked t → (new : ℕ → ℕ → Ink) → CanShow t new → (old : ℕ → ℕ → Ink) (n : ℕ) → n ≤ t.rows → Reaches (IsPiece t) (Agrees t (mixed old new 0 0) unknown) (Agrees t (mixed old new n 0) unknown)
+rows_reach t checked new fit old zero le = quietly t (mixed old new 0 0) unknown unknown (λ s h. h)
+rows_reach t checked new fit old (suc n) le =
+    let same : n + 1 ≡ suc n = omega arith in
+    reaches_then (IsPiece t) _ (Agrees t (mixed old new n 0) unknown) _ (rows_reach t checked new fit old n (omega arith))
+    (reaches_as (IsPiece t) (Agrees t (mixed old new n 0) unknown) (Agrees t (mixed old new n t.cols) unknown) _ (Agrees t (mixed old new (suc n) 0) unknown) (λ s h. h)
+    (λ s h. (let P : ℕ → Type 0 = λ k. Agrees t (mixed old new k 0) unknown s in subst P same (row_done t old new n unknown s h))) (row_reaches t checked new fit old n t.cols (omega arith) (omega arith)))
+
+normal_reaches : (t : Table) → IsChecked t → (g : ℕ → ℕ → Ink) (b : Belief) → Reaches (IsPiece t) (Agrees t g b) (Agrees t g (record b { mode = Some Normal }))
+normal_reaches t checked g b = one_way t checked Cnorm g b (record b { mode = Some Normal }) (normal t g b) (λ e. always_normal t e g b) (has t Cnorm) refl
+
+mode_reaches : (t : Table) → IsChecked t → (g : ℕ → ℕ → Ink) (b : Belief) (m : Mode) → CanHide t m → Reaches (IsPiece t) (Agrees t g b) (Agrees t g (record b { mode = Some m }))
+mode_reaches t checked g b Hidden can = reaches_has t checked Civis can.0 g g b (record b { mode = Some Hidden }) (hidden t can.1 g b)
+mode_reaches t checked g b Normal can = normal_reaches t checked g b
+mode_reaches t checked g b Prominent can =
+    let p : Belief = record b { mode = Some Normal } in
+    let q : Belief = record b { mode = Some Prominent } in
+    reaches_then (IsPiece t) (Agrees t g b) (Agrees t g p) (Agrees t g q) (normal_reaches t checked g b)
+    (one_way t checked Cvvis g p q (stressed t g p refl) (λ e. stressed_without t g p refl) (has t Cvvis) refl)
+
+placed_at : (t : Table) (p : Place) (now : Option Place) (row col : ℕ) (pending : Bool) → p.col < t.cols → now ≡ Some p → IsHere t.cols now row col pending → IsCursor (Some p) row col
+placed_at t p now row col pending lt e h = let k = calmly t.cols p row col pending lt (subst (λ (o : Option Place). IsHere t.cols o row col pending) e h) in (k.0, k.1)
+
+cursor_at : (t : Table) (cursor now : Option Place) (row col : ℕ) (pending : Bool) → IsWithin t cursor → IsPlaced cursor now → IsHere t.cols now row col pending → IsCursor cursor row col
+cursor_at t None now row col pending within e h = tt
+cursor_at t (Some p) now row col pending within e h = placed_at t p now row col pending within.1 e h
+
+pub agrees_shows : (t : Table) (g : ℕ → ℕ → Ink) (b : Belief) (w : Wanted) → IsWithin t w.cursor → IsPlaced w.cursor b.place → b.mode ≡ Some w.mode → (s : State) → Agrees t g b s → Shows t g w s
+agrees_shows t g b w within e f s h = record {
+  closed = h.ready.rest;
+  cells = h.cells;
+  cursor = cursor_at t w.cursor b.place s.screen.row s.screen.col s.screen.pending within e h.place;
+  visible = seen_so w.mode s.screen.visible f h.seen;
+}
+  where
+    seen_so : (m : Mode) (v : Bool) → b.mode ≡ Some m → IsSeen b.mode v → v ≡ is_shown m
+    seen_so m v e h = subst (λ (o : Option Mode). IsSeen o v) e h
+
+cursor_reaches : (t : Table) → IsChecked t → (g : ℕ → ℕ → Ink) (b : Belief) (cursor : Option Place) (mode : Mode) (clear : Bool) → IsWithin t cursor → b.mode ≡ Some mode → Reaches (IsPiece t) (Agrees t g b) (Shows t g (record { cursor = cursor; mode = mode; clear = clear }))
+cursor_reaches t checked g b None mode clear w e = reaches_self (IsPiece t) (Agrees t g b) (Shows t g (record { cursor = None; mode = mode; clear = clear })) (λ s h. h.ready.rest) (agrees_shows t g b (record { cursor = None; mode = mode; clear = clear }) tt tt e)
+cursor_reaches t checked g b (Some p) mode clear w e =
+    let d : Belief = record b { place = Some (record { row = p.row; col = p.col }) } in
+    reaches_as (IsPiece t) (Agrees t g b) (Agrees t g d) (Agrees t g b) (Shows t g (record { cursor = Some p; mode = mode; clear = clear })) (λ s h. h)
+    (agrees_shows t g d (record { cursor = Some p; mode = mode; clear = clear }) w refl e) (reaches_has t checked (Cup p.row p.col) (checked.moves p.row p.col w.0 w.1) g g b d (moved t g b p.row p.col w.1))
+
+-- a state after the resynchronization
+pub blank_agrees : (t : Table) (mode : Option Mode) (seen : Bool) → IsSeen mode seen → (s : State) → IsBlank t seen s → Agrees t (λ i j. blank_ink) (at_start mode) s
+blank_agrees t mode seen so s h = record {
+  ready = h.ready;
+  cells = h.cells;
+  place = (let k = stands_at t.cols 0 0 (omega (arith, h.ready.sized.state.screen.col, h.ready.sized.cols)) in (h.row, h.col ∙ k.1, h.pending ∙ k.2));
+  brush = h.rendition;
+  colored = record { foreground = λ e. refl; background = λ e. refl };
+  set = h.set;
+  seen = subst (λ (b : Bool). IsSeen mode b) (sym h.visible) so;
+}
+
+-- what was cut short anywhere can be completed
+pub anywhere_shows : (t : Table) → IsChecked t → (new : ℕ → ℕ → Ink) → CanShow t new → (w : Wanted) → IsWithin t w.cursor → CanHide t w.mode → Reaches (IsPiece t) (IsLost t) (Shows t new w)
+anywhere_shows t checked new fit w within can =
+    let blank : ℕ → ℕ → Ink = λ i j. blank_ink in
+    let m : Belief = record unknown { mode = Some w.mode } in
+    reaches_then (IsPiece t) (IsLost t) (Agrees t (mixed blank new 0 0) unknown) _
+    (record {
+      bytes = t.resync;
+      pieces = checked.resync_pieces;
+      made = checked.resync_made;
+      each = checked.resync_each;
+      ends = λ s a. ends_as s t.resync (IsBlank t s.screen.visible) (Agrees t (mixed blank new 0 0) unknown) (λ u h. none_done t blank new unknown u (forget t blank (at_start None) refl u (blank_agrees t None s.screen.visible tt u h))) (checked.resyncs s a);
+    })
+    (reaches_then (IsPiece t) _ (Agrees t (mixed blank new t.rows 0) unknown) _ (rows_reach t checked new fit blank t.rows (omega arith))
+    (reaches_as (IsPiece t) (Agrees t new unknown) (Shows t new w) (Agrees t (mixed blank new t.rows 0) unknown) (Shows t new w) (all_done t blank new unknown) (λ s h. h)
+    (reaches_then (IsPiece t) (Agrees t new unknown) (Agrees t new m) _ (mode_reaches t checked new unknown w.mode can) (cursor_reaches t checked new m w.cursor w.mode w.clear within refl))))

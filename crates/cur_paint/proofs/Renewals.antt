@@ -1,0 +1,138 @@
+-- All anew: what begins with the resynchronization, or with the clearing.
+use Rattle.std.proofs.Common.{◌≡◌, ℕ, ◌+◌, ◌≤◌, Bool, true, false, List, [], ◌++◌, length, Option, Some, None, Result, Err, refl, sym, ap, subst, ◌∙◌, arith}
+use Rattle.std.proofs.lemmas.List.{append-nil}
+use Rattle.std.specs.Prelude.{OnOk}
+use Rattle.vt_term.specs.Look.{Rendition, blank}
+use Rattle.vt_term.specs.Grid.{drawn}
+use Rattle.vt_term.specs.Screen.{State}
+use Rattle.cur_wires.specs.Wire.{IsWire, StopsIn}
+use Rattle.cur_wires.specs.Leads.{Leads}
+use Rattle.cur_wires.specs.Steps.{Steps, then_kind}
+use Rattle.cur_wires.proofs.Leads.{leads_then, leads_wider}
+use Rattle.cur_wires.proofs.Paints.{sends_then}
+use Rattle.cur_wires.proofs.Completion.{ends_as}
+use Rattle.ti_rows.specs.declared.rows.Row.TheVariants.{Clear}
+use Rattle.cur_looks.specs.declared.beliefs.Belief.{Belief}
+use Rattle.cur_looks.specs.declared.inks.Ink.{Ink}
+use Rattle.ti_conforms.specs.Certified.{Table, IsLost, IsBlank, IsChecked, IsPiece}
+use Rattle.cur_looks.specs.Inks.{blank_ink}
+use Rattle.cur_looks.specs.Beliefs.{Agrees, Turns}
+use Rattle.cur_looks.specs.declared.beliefs.Mode.{Mode}
+use Rattle.cur_looks.specs.declared.beliefs.Mode.TheVariants.{Normal}
+use Rattle.cur_looks.proofs.Turns.{free_of, by_screen, look_at-drawn, stands_at}
+use Rattle.cur_paint.specs.Cleared.{IsLeft, at_start, cleared}
+use Rattle.cur_paint.specs.Limits.{fresh_limit, IsPlaced, paint_limit}
+use Rattle.cur_paint.specs.Update.{Anew, Draws, IsFresh}
+use Rattle.cur_paint.specs.declared.updates.Wanted.{Wanted}
+use Rattle.cur_paint.specs.declared.updates.Status.{Status}
+use Rattle.cur_paint.specs.declared.updates.Status.TheVariants.{Fresh, Known, Lost}
+use Rattle.cur_paint.proofs.Reaches.{blank_agrees, line_leads}
+
+-- the first bytes were cut short
+pub anew_failed : {W T E : Type 0} (went : W → W → List ℕ → Type 0) (failures : W → ℕ) (a z : W) (v : E) (t : Table) (limit : ℕ) (A B C : State → Type 0) (first : List ℕ) → ((s : State) → B s → IsLost t s) → length first ≤ limit
+    → Leads (IsPiece t) (length first) (IsLost t) A first B → StopsIn went failures a z first → Anew {T = T} {E = E} went failures a z (Err v) t limit A C first
+anew_failed went failures a z v t limit A B C first lost le h stops = record {
+  step = record {
+    bytes = first;
+    leads = leads_wider (IsPiece t) (length first) limit (IsLost t) A B A (IsLost t) first le (λ s x. x) lost h;
+    sends = stops;
+  };
+  begins = record { more = []; begins = sym (append-nil first) };
+}
+
+-- they went out, and all was painted
+pub anew_then : {W T E : Type 0} (went : W → W → List ℕ → Type 0) (failures : W → ℕ) → IsWire went failures → (a m z : W) (answer : Result T E) (t : Table) (limit : ℕ) (A B C : State → Type 0) (first : List ℕ) (k : ℕ) → length first + k ≤ limit
+    → Leads (IsPiece t) (length first) (IsLost t) A first B → went a m first → Steps went failures m z answer (IsPiece t) k (IsLost t) B C → Anew went failures a z answer t limit A C first
+anew_then went failures laws a m z answer t limit A B C first k le h sent steps =
+    let D : State → Type 0 = then_kind answer C (IsLost t) in
+    record {
+      step = record {
+        bytes = first ++ steps.bytes;
+        leads = leads_wider (IsPiece t) (length first + k) limit (IsLost t) A D A D (first ++ steps.bytes) le (λ s x. x) (λ s x. x)
+            (leads_then (IsPiece t) (length first) k (IsLost t) A B D first steps.bytes h steps.leads);
+        sends = sends_then went failures laws a m z first steps.bytes answer sent steps.sends;
+      };
+      begins = record { more = steps.bytes; begins = refl };
+    }
+
+pub resync_leads : (t : Table) → IsChecked t → (mode : Option Mode) → Leads (IsPiece t) (length t.resync) (IsLost t) (IsLeft t mode) t.resync (Agrees t (λ i j. blank_ink) (at_start mode))
+resync_leads t checked mode = record {
+  pieces = checked.resync_pieces;
+  made = checked.resync_made;
+  each = checked.resync_each;
+  bound = omega arith;
+  ends = λ s a. ends_as s t.resync (IsBlank t s.screen.visible) (Agrees t (λ i j. blank_ink) (at_start mode)) (blank_agrees t mode s.screen.visible a.seen) (checked.resyncs s a.lost);
+  cut = λ front back e s a. checked.resync_fronts s a.lost front back e;
+}
+
+-- all is erased on the background that is set
+pub all_cleared : (t : Table) (g : ℕ → ℕ → Ink) (b : Belief) → Turns t Clear g b (cleared b.brush.background) (record b { place = Some (record { row = 0; col = 0 }) })
+all_cleared t g b = record {
+  starts = λ s h. free_of t s h.ready;
+  ends = λ s u h sized closed w. by_screen t (Agrees t (cleared b.brush.background) (record b { place = Some (record { row = 0; col = 0 }) })) u
+      (record s.screen { grid = drawn (λ i j old. blank s.screen.rendition) s.screen.grid; row = 0; col = 0; pending = false }) sized closed w.wants
+      (λ k. record {
+        ready = record { sized = k; rest = refl; tame = record { autowrap = h.ready.tame.autowrap; inserting = h.ready.tame.inserting }; whole = record { top = h.ready.whole.top; bottom = h.ready.whole.bottom }; settled = h.ready.settled; visible = h.ready.visible };
+        cells = λ i j li lj.
+            look_at-drawn (λ i j old. blank s.screen.rendition) s.screen.grid i j (omega (arith, h.ready.sized.state.screen.columns i (omega (arith, h.ready.sized.rows)), h.ready.sized.cols))
+            ∙ ap (λ (r : Rendition). blank r) h.brush;
+        place = stands_at t.cols 0 0 (omega (arith, h.ready.sized.state.screen.col, h.ready.sized.cols));
+        brush = h.brush;
+        colored = h.colored;
+        set = h.set;
+        seen = h.seen;
+      });
+}
+
+pub clear_leads : (t : Table) → IsChecked t → (line : List ℕ) → t.line_of Clear ≡ Some line → (g : ℕ → ℕ → Ink) (b : Belief)
+    → Leads (IsPiece t) (length line) (IsLost t) (Agrees t g b) line (Agrees t (cleared b.brush.background) (record b { place = Some (record { row = 0; col = 0 }) }))
+clear_leads t checked line is g b = line_leads t checked Clear line is (length line) (omega arith) g (cleared b.brush.background) b (record b { place = Some (record { row = 0; col = 0 }) }) (all_cleared t g b)
+
+pub draws_fresh : {W T E : Type 0} (went : W → W → List ℕ → Type 0) (failures : W → ℕ) (a z : W) (answer : Result T E) (t : Table) (shown g : ℕ → ℕ → Ink) (w : Wanted) (status : Status) (b after : Belief) → status ≡ Fresh
+    → Anew went failures a z answer t (fresh_limit t) (IsLeft t (Some Normal)) (Agrees t g after) t.resync → OnOk answer (IsPlaced w.cursor after.place) → OnOk answer (after.mode ≡ Some w.mode) → Draws went failures a z answer t shown g w status b after
+draws_fresh went failures a z answer t shown g w status b after e h there mode =
+    let D : State → Type 0 = then_kind answer (Agrees t g after) (IsLost t) in
+    let P : Status → Type 0 = λ x. Draws went failures a z answer t shown g w x b after in
+    subst P (sym e) (record {
+      step = record { bytes = h.step.bytes; leads = leads_wider (IsPiece t) (fresh_limit t) (fresh_limit t) (IsLost t) (IsLeft t (Some Normal)) D (IsFresh t) D h.step.bytes (omega arith) (λ s x. record { lost = x.lost; seen = x.visible }) (λ s x. x) h.step.leads; sends = h.step.sends };
+      begins = h.begins;
+      there = there;
+      mode = mode;
+    })
+
+pub draws_lost : {W T E : Type 0} (went : W → W → List ℕ → Type 0) (failures : W → ℕ) (a z : W) (answer : Result T E) (t : Table) (shown g : ℕ → ℕ → Ink) (w : Wanted) (status : Status) (b after : Belief) → status ≡ Lost
+    → Anew went failures a z answer t (fresh_limit t) (IsLeft t None) (Agrees t g after) t.resync → OnOk answer (IsPlaced w.cursor after.place) → OnOk answer (after.mode ≡ Some w.mode) → Draws went failures a z answer t shown g w status b after
+draws_lost went failures a z answer t shown g w status b after e h there mode =
+    let D : State → Type 0 = then_kind answer (Agrees t g after) (IsLost t) in
+    let P : Status → Type 0 = λ x. Draws went failures a z answer t shown g w x b after in
+    subst P (sym e) (record {
+      step = record { bytes = h.step.bytes; leads = leads_wider (IsPiece t) (fresh_limit t) (fresh_limit t) (IsLost t) (IsLeft t None) D (IsLost t) D h.step.bytes (omega arith) (λ s x. record { lost = x; seen = tt }) (λ s x. x) h.step.leads; sends = h.step.sends };
+      begins = h.begins;
+      there = there;
+      mode = mode;
+    })
+
+as_wanted : (w : Wanted) (x : Bool) → w.clear ≡ x → w ≡ record w { clear = x }
+as_wanted w x e = ap (λ (y : Bool). record w { clear = y }) e
+
+pub draws_known : {W T E : Type 0} (went : W → W → List ℕ → Type 0) (failures : W → ℕ) (a z : W) (answer : Result T E) (t : Table) (shown g : ℕ → ℕ → Ink) (w : Wanted) (status : Status) (b after : Belief) → status ≡ Known → w.clear ≡ false
+    → Steps went failures a z answer (IsPiece t) (paint_limit t shown g b w.cursor w.mode) (IsLost t) (Agrees t shown b) (Agrees t g after)
+    → OnOk answer (IsPlaced w.cursor after.place) → OnOk answer (after.mode ≡ Some w.mode) → Draws went failures a z answer t shown g w status b after
+draws_known went failures a z answer t shown g w status b after e f h there mode =
+    let P : Status → Type 0 = λ x. Draws went failures a z answer t shown g w x b after in
+    let Q : Wanted → Type 0 = λ x. Draws went failures a z answer t shown g x Known b after in
+    subst P (sym e) (subst Q (sym (as_wanted w false f)) (record { step = h; begins = tt; there = there; mode = mode }))
+
+pub draws_clear : {W T E : Type 0} (went : W → W → List ℕ → Type 0) (failures : W → ℕ) (a z : W) (answer : Result T E) (t : Table) (shown g : ℕ → ℕ → Ink) (w : Wanted) (status : Status) (b after : Belief) → status ≡ Known → w.clear ≡ true
+    → (line : List ℕ) → t.line_of Clear ≡ Some line → (n : ℕ) → n ≤ fresh_limit t → Anew went failures a z answer t n (Agrees t shown b) (Agrees t g after) line
+    → OnOk answer (IsPlaced w.cursor after.place) → OnOk answer (after.mode ≡ Some w.mode) → Draws went failures a z answer t shown g w status b after
+draws_clear went failures a z answer t shown g w status b after e f line is n le h there mode =
+    let P : Status → Type 0 = λ x. Draws went failures a z answer t shown g w x b after in
+    let Q : Wanted → Type 0 = λ x. Draws went failures a z answer t shown g x Known b after in
+    let D : State → Type 0 = then_kind answer (Agrees t g after) (IsLost t) in
+    subst P (sym e) (subst Q (sym (as_wanted w true f)) (record {
+      step = record { bytes = h.step.bytes; leads = leads_wider (IsPiece t) n (fresh_limit t) (IsLost t) (Agrees t shown b) D (Agrees t shown b) D h.step.bytes le (λ s x. x) (λ s x. x) h.step.leads; sends = h.step.sends };
+      begins = record { line = line; is = is; begins = h.begins };
+      there = there;
+      mode = mode;
+    }))

@@ -1,0 +1,26 @@
+use Rattle.std.proofs.Common.{◌*◌, ap, arith}
+use Rattle.std.proofs.lemmas.Result.{err_from_is_err_and}
+use Rattle.cur_wires.proofs.Stops.{steps_fail, steps_next}
+use Rattle.ti_conforms.specs.Certified.{IsPiece, IsLost}
+use Rattle.cur_looks.specs.Beliefs.{Agrees, changes, modes_limit}
+use Rattle.cur_looks.specs.declared.beliefs.Belief.{Belief}
+use Rattle.cur_paint.specs.Limits.{last_move, cursor_limit}
+use Rattle.cur_paint.proofs.cursors.set_cursor.Goals as goal
+
+pub returns-in_err-show_as-clause-step : goal.returns-in_err-show_as-clause-step
+returns-in_err-show_as-clause-step g c =
+    let h = g.N.Picture.cells c.args.screens.now.new.now in
+    let e = err_from_is_err_and c.from_residual.result c.from_residual.ensures.1 in
+    let t = g.C.Certificate.table c.args.screens.now.checked.now in
+    let b = c.args.belief.now in
+    rw e.1 (steps_fail g.W.Wire.went g.W.Wire.failures c.args.wire.now c.show_as.new.wire _ _ (IsPiece t) (changes b.mode c.args.wanted.mode * modes_limit t) (cursor_limit t b c.args.wanted.cursor c.args.wanted.mode) (IsLost t)
+    (Agrees t h b) (Agrees t h c.show_as.new.belief) (Agrees t h c.show_as.new.belief) (omega arith) (c.in_err-show_as.ensures.step h))
+
+pub returns-clause-step : goal.returns-clause-step
+returns-clause-step g c =
+    let h = g.N.Picture.cells c.args.screens.now.new.now in
+    let t = g.C.Certificate.table c.args.screens.now.checked.now in
+    let b = c.args.belief.now in
+    steps_next g.W.Wire.went g.W.Wire.failures g.met.W.Wire.lawful c.args.wire.now c.show_as.new.wire c.place_cursor.new.wire _ c.place_cursor.result (IsPiece t)
+    (changes b.mode c.args.wanted.mode * modes_limit t) (last_move c.show_as.new.belief.place c.args.wanted.cursor * t.longest.cup) (cursor_limit t b c.args.wanted.cursor c.args.wanted.mode) (IsLost t)
+    (Agrees t h b) (Agrees t h c.show_as.new.belief) (Agrees t h c.place_cursor.new.belief) (omega (arith, ap (λ (x : Belief). last_move x.place c.args.wanted.cursor * t.longest.cup) c.in_ok-show_as.ensures.belief)) (c.in_ok-show_as.ensures.step h) c.place_cursor.ensures.step

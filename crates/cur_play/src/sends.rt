@@ -1,0 +1,116 @@
+//! What calls send.
+ghost use Rattle.std.specs.Prelude.{◌≡◌, ℕ, List};
+ghost use Rattle.cur_windows.specs.VirtualScreen.{Screen};
+ghost use Rattle.cur_play.specs.Outputs.{Puts};
+ghost use Rattle.cur_play.specs.Sends.{Delivers};
+ghost use Rattle.cur_play.specs.Steps as spec;
+
+use crate::answers::Answer;
+use cur_calls::{Call, PadCall, ScreenCall, ShowCall};
+use cur_update::{Painter, Unsent, Wire};
+use cur_windows::Virtual;
+use ti_conforms::Certificate;
+
+/// What a call sends.
+#[derive(Clone, Copy)]
+pub enum Emission {
+    /// Nothing.
+    Nothing,
+    /// What makes the terminal show the virtual screen.
+    Update,
+    /// The bell.
+    Bell,
+    /// The end of the program's screen.
+    End,
+}
+
+/// What a call sends, if it isn't refused.
+pub(crate) fn output_of(call: &Call<'_>) -> Emission
+    ensures { result ≡ spec.output_of call.now }
+{
+    match call {
+        Call::Show {
+            call: ShowCall::Refresh,
+            ..
+        } => Emission::Update,
+        Call::ShowPad {
+            call: PadCall::Prefresh,
+            ..
+        } => Emission::Update,
+        Call::Screen(ScreenCall::Doupdate) => Emission::Update,
+        Call::Screen(ScreenCall::Beep) => Emission::Bell,
+        Call::Screen(ScreenCall::Endwin) => Emission::End,
+        _ => Emission::Nothing,
+    }
+}
+
+/// Sends it.
+pub(crate) fn send<C: Certificate, W: Wire>(
+    screen: &mut Virtual,
+    painter: &mut Painter<'_, C>,
+    output: Emission,
+    wire: &mut W,
+) -> Answer
+    requires rows { (screen.old).rows ≡ (C.table painter.old.checked).rows }
+    requires cols { (screen.old).cols ≡ (C.table painter.old.checked).cols }
+    ensures delivers { Delivers (C.table painter.old.checked) output screen.old painter.old.session.status result screen.new painter.new.session.status }
+    ensures puts { (bytes : List ℕ) × Puts W.went W.failures wire.old wire.new (C.table painter.old.checked) (C.partners painter.old.checked) screen.old output result bytes painter.old painter.new }
+    ensures certificate { painter.new.checked ≡ painter.old.checked }
+    ensures mode { painter.new.mode ≡ painter.old.mode }
+{
+    match output {
+        Emission::Nothing => Answer::Done,
+        Emission::Update => update(screen, painter, wire),
+        Emission::Bell => ring(painter, wire),
+        Emission::End => finish(painter, wire),
+    }
+}
+
+/// Makes the terminal show the virtual screen.
+fn update<C: Certificate, W: Wire>(
+    screen: &mut Virtual,
+    painter: &mut Painter<'_, C>,
+    wire: &mut W,
+) -> Answer
+    requires rows { (screen.old).rows ≡ (C.table painter.old.checked).rows }
+    requires cols { (screen.old).cols ≡ (C.table painter.old.checked).cols }
+    ensures delivers { Delivers (C.table painter.old.checked) Emission.Update screen.old painter.old.session.status result screen.new painter.new.session.status }
+    ensures puts { (bytes : List ℕ) × Puts W.went W.failures wire.old wire.new (C.table painter.old.checked) (C.partners painter.old.checked) screen.old Emission.Update result bytes painter.old painter.new }
+    ensures certificate { painter.new.checked ≡ painter.old.checked }
+    ensures mode { painter.new.mode ≡ painter.old.mode }
+{
+    match painter.update(screen, wire) {
+        Ok(()) => {
+            screen.shown();
+            Answer::Done
+        }
+        Err(_) => Answer::WireFailed,
+    }
+}
+
+/// Rings the bell.
+fn ring<C: Certificate, W: Wire>(painter: &mut Painter<'_, C>, wire: &mut W) -> Answer
+    ensures delivers { (screen : Screen) → Delivers (C.table painter.old.checked) Emission.Bell screen painter.old.session.status result screen painter.new.session.status }
+    ensures puts { (screen : Screen) → (bytes : List ℕ) × Puts W.went W.failures wire.old wire.new (C.table painter.old.checked) (C.partners painter.old.checked) screen Emission.Bell result bytes painter.old painter.new }
+    ensures certificate { painter.new.checked ≡ painter.old.checked }
+    ensures mode { painter.new.mode ≡ painter.old.mode }
+{
+    match painter.beep(wire) {
+        Ok(()) => Answer::Done,
+        Err(Unsent::Refused(refusal)) => Answer::Refused(refusal),
+        Err(Unsent::Wire(_)) => Answer::WireFailed,
+    }
+}
+
+/// Ends the program's screen.
+fn finish<C: Certificate, W: Wire>(painter: &mut Painter<'_, C>, wire: &mut W) -> Answer
+    ensures delivers { (screen : Screen) → Delivers (C.table painter.old.checked) Emission.End screen painter.old.session.status result screen painter.new.session.status }
+    ensures puts { (screen : Screen) → (bytes : List ℕ) × Puts W.went W.failures wire.old wire.new (C.table painter.old.checked) (C.partners painter.old.checked) screen Emission.End result bytes painter.old painter.new }
+    ensures certificate { painter.new.checked ≡ painter.old.checked }
+    ensures mode { painter.new.mode ≡ painter.old.mode }
+{
+    match painter.finish(wire) {
+        Ok(()) => Answer::Done,
+        Err(_) => Answer::WireFailed,
+    }
+}

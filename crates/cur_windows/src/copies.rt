@@ -1,0 +1,238 @@
+//! Copying between windows: overlay, overwrite and copywin.
+ghost use Rattle.std.specs.Prelude.{◌≡◌, ◌<◌, ◌≤◌, ◌≤ℤ◌, ◌+◌, IfSome, OnOk, [], true, false, length, slice_index_or, slice_set};
+ghost use Rattle.cur_drawing.specs.Grids.{Fits, overlaid, moved_to, shape_of};
+ghost use Rattle.cur_drawing.specs.Calls.{IsCanvas};
+ghost use Rattle.cur_windows.specs.Desks as spec;
+ghost use Rattle.cur_windows.specs.Copies.{IsWithin, common, common_part, copywin, in_order, matched, spans_copied};
+
+use crate::creations::in_range;
+use crate::desks::Desk;
+use crate::slots::Slot;
+use cur_drawing::{Cell, Refusal, SkipSpaces, start_within};
+use grids::{Area, Grid, Place};
+use std::mem;
+
+/// Lines or columns that are copied: the first one in the source, the first one in the destination, and how many.
+#[derive(Clone, Copy)]
+pub struct CopySpan {
+    pub from: u16,
+    pub to: u16,
+    pub count: u16,
+}
+
+// Copying from a window to another one, or to itself, as if the source were read first. It takes no memory.
+impl Desk {
+    /// What both windows have on the screen is copied from `source` to `target`, without the source's spaces (X/Open
+    /// Curses, `overlay`); `Ok` also where that is nothing. `Full`, `NoWindow`, `PadKind` where one is a pad; then
+    /// nothing has changed.
+    pub fn overlay(&mut self, source: usize, target: usize) -> Result<(), Refusal>
+        ensures { spec.step self.new result ≡ common_part true self.old source target }
+    {
+        self.copy_common(source, target, true)
+    }
+
+    /// As `overlay`, with the source's spaces (`overwrite`).
+    pub fn overwrite(&mut self, source: usize, target: usize) -> Result<(), Refusal>
+        ensures { spec.step self.new result ≡ common_part false self.old source target }
+    {
+        self.copy_common(source, target, false)
+    }
+
+    /// The target's rows `row` to `last_row` and columns `col` to `last_col` get the source's cells from a place on,
+    /// without its spaces if these are skipped (`copywin`). `Full`, `NoWindow`, `BadRegion` where an end is before its
+    /// start, `OutOfWindow` where a place is outside its window; then nothing has changed.
+    pub fn copywin(
+        &mut self,
+        source: usize,
+        target: usize,
+        from_row: i32,
+        from_col: i32,
+        row: i32,
+        col: i32,
+        last_row: i32,
+        last_col: i32,
+        skip: bool,
+    ) -> Result<(), Refusal>
+        ensures { spec.step self.new result ≡ copywin self.old source target from_row from_col row col last_row
+            last_col skip }
+    {
+        in_range(source, target)?;
+        let source = self.find(source)?;
+        let target = self.find(target)?;
+        in_order(row, last_row, col, last_col)?;
+        let outer = source.window.area;
+        let inner = target.window.area;
+        let rows = matched(from_row, row, last_row, outer.rows, inner.rows);
+        let Some(rows) = rows else {
+            return Err(Refusal::OutOfWindow);
+        };
+        let cols = matched(from_col, col, last_col, outer.cols, inner.cols);
+        let Some(cols) = cols else {
+            return Err(Refusal::OutOfWindow);
+        };
+        self.copy_spans(&source, &target, rows, cols, skip);
+        Ok(())
+    }
+
+    // What both windows have on the screen is copied from the source to the target, without its spaces if these are
+    // skipped.
+    fn copy_common(&mut self, source: usize, target: usize, skip: bool) -> Result<(), Refusal>
+        ensures { spec.step self.new result ≡ common_part skip self.old source target }
+    {
+        in_range(source, target)?;
+        let source = self.find(source)?;
+        let target = self.find(target)?;
+        self.check_window(&source)?;
+        self.check_window(&target)?;
+        let from = self.place_on_screen(&source);
+        let to = self.place_on_screen(&target);
+        let rows = common(from.top, from.rows, to.top, to.rows);
+        let cols = common(from.left, from.cols, to.left, to.cols);
+        if let (Some(rows), Some(cols)) = (rows, cols) {
+            self.copy_spans(&source, &target, rows, cols, skip);
+        }
+        Ok(())
+    }
+
+    // These lines and columns of the target become those of the source.
+    fn copy_spans(
+        &mut self,
+        source: &Slot,
+        target: &Slot,
+        rows: CopySpan,
+        cols: CopySpan,
+        skip: bool,
+    )
+        requires source_root { (source.now).root < 64 }
+        requires source_canvas { IsCanvas (spec.grid_at self.old (source.now).root) (source.now).window }
+        requires target_root { (target.now).root < 64 }
+        requires target_canvas { IsCanvas (spec.grid_at self.old (target.now).root) (target.now).window }
+        requires rows { IsWithin (source.now).window.area.rows (target.now).window.area.rows rows }
+        requires cols { IsWithin (source.now).window.area.cols (target.now).window.area.cols cols }
+        ensures { self.new ≡ spans_copied self.old source.now target.now rows cols skip }
+    {
+        let patch = Patch {
+            area: Area {
+                top: target.window.area.top + rows.to,
+                left: target.window.area.left + cols.to,
+                rows: rows.count,
+                cols: cols.count,
+            },
+            from: Place {
+                row: source.window.area.top + rows.from,
+                col: source.window.area.left + cols.from,
+            },
+            skip,
+        };
+        let spare = Grid::empty(self.alloc);
+        let (source, target) = (source.root as usize, target.root as usize);
+        copy_between(&mut self.grids, source, target, spare, patch);
+    }
+}
+
+/// The rectangle `area` of a grid that gets the cells from the place `from` of a grid on, without the spaces among them
+/// if these are to `skip`.
+#[derive(Clone, Copy)]
+struct Patch {
+    area: Area,
+    from: Place,
+    skip: bool,
+}
+
+// A rectangle of one grid gets the cells of another one, or of itself, as they were before. The spare one stands in the
+// target's place while it is written.
+fn copy_between(
+    grids: &mut [Grid<Cell>],
+    source: usize,
+    target: usize,
+    spare: Grid<Cell>,
+    patch: Patch,
+)
+    requires source { source < length grids.old }
+    requires target { target < length grids.old }
+    requires area { Fits patch.area (slice_index_or grids.old target []) }
+    requires from { Fits (moved_to patch.area patch.from) (slice_index_or grids.old source []) }
+    ensures { grids.new ≡ slice_set grids.old target (overlaid patch.area patch.from patch.skip
+        (slice_index_or grids.old source []) (slice_index_or grids.old target [])) }
+{
+    if source == target {
+        overlay_shift(&mut grids[target], patch);
+        return;
+    }
+    let mut grid = mem::replace(&mut grids[target], spare);
+    overlay_from(&mut grid, &grids[source], patch);
+    grids[target] = grid;
+}
+
+// The patch of a grid gets the cells of another one.
+fn overlay_from(grid: &mut Grid<Cell>, source: &Grid<Cell>, patch: Patch)
+    requires target { Fits patch.area grid.old }
+    requires source { Fits (moved_to patch.area patch.from) source.now }
+    ensures value { grid.new ≡ overlaid patch.area patch.from patch.skip source.now grid.old }
+    ensures shape { shape_of grid.new ≡ shape_of grid.old }
+{
+    if patch.skip {
+        grid.merge_from(patch.area, source, patch.from, &SkipSpaces);
+    } else {
+        grid.copy_from(patch.area, source, patch.from);
+    }
+}
+
+// The patch of a grid gets the grid's own cells, as if they were all read first.
+fn overlay_shift(grid: &mut Grid<Cell>, patch: Patch)
+    requires target { Fits patch.area grid.old }
+    requires source { Fits (moved_to patch.area patch.from) grid.old }
+    ensures value { grid.new ≡ overlaid patch.area patch.from patch.skip grid.old grid.old }
+    ensures shape { shape_of grid.new ≡ shape_of grid.old }
+{
+    if patch.skip {
+        grid.merge_shift(patch.area, patch.from, &SkipSpaces);
+    } else {
+        grid.shift(patch.area, patch.from);
+    }
+}
+
+/// `BadRegion` where a last row or column is before the first one.
+pub fn in_order(top: i32, bottom: i32, left: i32, right: i32) -> Result<(), Refusal>
+    ensures value { result ≡ in_order top bottom left right }
+    ensures order { OnOk result ((top ≤ℤ bottom) × (left ≤ℤ right)) }
+{
+    if bottom < top || right < left {
+        return Err(Refusal::BadRegion);
+    }
+    Ok(())
+}
+
+// The lines or columns that both have: the source's from `at` on, and the target's from `to` on.
+fn common(at: u16, count: u16, to: u16, limit: u16) -> Option<CopySpan>
+    ensures value { result ≡ common at count to limit }
+    ensures within { IfSome result (IsWithin count limit) }
+{
+    let first = at.max(to) as u32;
+    let end = (at as u32 + count as u32).min(to as u32 + limit as u32);
+    if first >= end {
+        return None;
+    }
+    Some(CopySpan {
+        from: (first - at as u32) as u16,
+        to: (first - to as u32) as u16,
+        count: (end - first) as u16,
+    })
+}
+
+// The target's lines or columns `to` to `last`, and as many of the source, if they are all there.
+fn matched(from: i32, to: i32, last: i32, count: u16, limit: u16) -> Option<CopySpan>
+    requires { to ≤ℤ last }
+    ensures value { result ≡ matched from to last count limit }
+    ensures within { IfSome result (IsWithin count limit) }
+{
+    let to = start_within(to, 1, limit)?;
+    let last = start_within(last, 1, limit)?;
+    let size = last - to + 1;
+    let from = start_within(from, size, count)?;
+    Some(CopySpan {
+        from,
+        to,
+        count: size,
+    })
+}

@@ -1,0 +1,109 @@
+-- Steps that may fail, after one another.
+use Rattle.std.proofs.Common.{◌≡◌, ℕ, ◌+◌, ◌≤◌, List, [], ◌∷◌, ◌++◌, length, Result, Ok, Err, refl, sym, subst, arith}
+use Rattle.std.proofs.lemmas.List.{append-nil}
+use Rattle.std.specs.Prelude.{OnOk}
+use Rattle.vt_term.specs.Screen.{State, Screen}
+use Rattle.vt_term.specs.Text.{IsOpen}
+use Rattle.vt_term.proofs.Sequences.{empty_open}
+use Rattle.vt_term.proofs.Runs.{runs_nothing}
+use Rattle.cur_wires.specs.Wire.{IsWire, Sends}
+use Rattle.cur_wires.specs.Leads.{Leads}
+use Rattle.vt_term.specs.Ends.{Ends}
+use Rattle.cur_wires.proofs.Leads.{leads_then, leads_wider}
+use Rattle.cur_wires.proofs.Paints.{sends_then}
+use Rattle.cur_wires.specs.Steps.{then_kind, Steps}
+use Rattle.vt_term.specs.Ends.{Closed, Drives}
+
+-- a step that failed ends the whole, whatever would have followed it: no plan of the rest is needed
+pub steps_fail : {W T E U F : Type 0} (went : W → W → List ℕ → Type 0) (failures : W → ℕ) (a b : W) (v : E) (u : F) (P : List ℕ → Type 0) (m n : ℕ) (D A B C : State → Type 0)
+    → m ≤ n → Steps {T = T} {E = E} went failures a b (Err v) P m D A B → Steps {T = U} {E = F} went failures a b (Err u) P n D A C
+steps_fail went failures a b v u P m n D A B C le h = record {
+  bytes = h.bytes;
+  leads = leads_wider P m n D A D A D h.bytes le (λ s x. x) (λ s x. x) h.leads;
+  sends = record { front = h.sends.front; back = h.sends.back; parts = h.sends.parts; some_left = h.sends.some_left; sent = h.sends.sent; failed = h.sends.failed };
+}
+
+by_answer : {W T E U F : Type 0} (went : W → W → List ℕ → Type 0) (failures : W → ℕ) → IsWire went failures → (a b c : W) (v : U) (answer : Result T E) (P : List ℕ → Type 0) (m n : ℕ) (D A B C : State → Type 0)
+    → Steps {T = U} {E = F} went failures a b (Ok v) P m D A B → Steps went failures b c answer P n D B C → Steps went failures a c answer P (m + n) D A C
+by_answer went failures laws a b c v answer P m n D A B C h k = record {
+  bytes = h.bytes ++ k.bytes;
+  leads = leads_then P m n D A B (then_kind answer C D) h.bytes k.bytes h.leads k.leads;
+  sends = sends_then went failures laws a b c h.bytes k.bytes answer h.sends k.sends;
+}
+
+pub steps_then : {W T E U F : Type 0} (went : W → W → List ℕ → Type 0) (failures : W → ℕ) → IsWire went failures → (a b c : W) (v : U) (answer : Result T E) (P : List ℕ → Type 0) (m n : ℕ) (D A B C : State → Type 0)
+    → Steps {T = U} {E = F} went failures a b (Ok v) P m D A B → Steps went failures b c answer P n D B C → Steps went failures a c answer P (m + n) D A C
+steps_then went failures laws a b c v answer P m n D A B C h k = by_answer went failures laws a b c v answer P m n D A B C h k
+
+-- one piece, whose fronts lead to the kind between
+pub leads_line : (P : List ℕ → Type 0) (n : ℕ) (D A B : State → Type 0) (x : List ℕ) → P x → length x ≤ n → ((s : State) → A s → Ends s x B)
+    → ((s : State) → A s → (front back : List ℕ) → x ≡ front ++ back → Ends s front D) → Leads P n D A x B
+leads_line P n D A B x p le h k = record { pieces = x ∷ []; made = sym (append-nil x); each = (p, tt); bound = le; ends = h; cut = λ front back e s a. k s a front back e }
+
+-- bytes that lead on, sent
+pub steps_sent : {W T E : Type 0} (went : W → W → List ℕ → Type 0) (failures : W → ℕ) (a b : W) (answer : Result T E) (P : List ℕ → Type 0) (n : ℕ) (D A B : State → Type 0) (bytes : List ℕ)
+    → Leads P n D A bytes B → ((s : State) → B s → D s) → Sends went failures a b bytes answer → Steps went failures a b answer P n D A B
+steps_sent went failures a b (Ok v) P n D A B bytes h f k = record { bytes = bytes; leads = h; sends = k }
+steps_sent went failures a b (Err v) P n D A B bytes h f k = record { bytes = bytes; leads = leads_wider P n n D A B A D bytes (omega arith) (λ s x. x) f h; sends = k }
+
+-- nothing is sent
+pub steps_nothing : {W T E : Type 0} (went : W → W → List ℕ → Type 0) (failures : W → ℕ) → IsWire went failures → (a : W) (v : T) (P : List ℕ → Type 0) (n : ℕ) (D A B : State → Type 0)
+    → ((s : State) → A s → s.rest ≡ []) → ((s : State) → A s → B s) → ((s : State) → A s → D s) → Steps {T = T} {E = E} went failures a a (Ok v) P n D A B
+steps_nothing went failures laws a v P n D A B rest f d = record {
+  bytes = [];
+  leads = record {
+    pieces = [];
+    made = refl;
+    each = tt;
+    bound = omega arith;
+    ends = λ s x. record { after = s; runs = runs_nothing s (subst IsOpen (sym (rest s x)) empty_open); there = f s x };
+    cut = λ front back e s x. (let none : front ≡ [] = nofront front back e in
+        subst (λ (l : List ℕ). Ends s l D) (sym none) (record { after = s; runs = runs_nothing s (subst IsOpen (sym (rest s x)) empty_open); there = d s x }));
+  };
+  sends = laws.nothing a;
+}
+  where
+    nofront : (front back : List ℕ) → [] ≡ front ++ back → front ≡ []
+    nofront [] back e = refl
+    nofront (x ∷ xs) back e = cc
+
+-- the same step between other kinds, under a greater limit
+pub steps_wider : {W T E : Type 0} (went : W → W → List ℕ → Type 0) (failures : W → ℕ) (a b : W) (answer : Result T E) (P : List ℕ → Type 0) (m n : ℕ) (D A B F G : State → Type 0)
+    → m ≤ n → ((s : State) → F s → A s) → ((s : State) → B s → G s) → Steps went failures a b answer P m D A B → Steps went failures a b answer P n D F G
+steps_wider went failures a b (Ok v) P m n D A B F G le f g h = record { bytes = h.bytes; leads = leads_wider P m n D A B F G h.bytes le f g h.leads; sends = h.sends }
+steps_wider went failures a b (Err v) P m n D A B F G le f g h = record { bytes = h.bytes; leads = leads_wider P m n D A D F D h.bytes le f (λ s x. x) h.leads; sends = h.sends }
+
+-- one step and then another, within a limit for both
+pub steps_next : {W T E U F : Type 0} (went : W → W → List ℕ → Type 0) (failures : W → ℕ) → IsWire went failures → (a b c : W) (v : U) (answer : Result T E) (P : List ℕ → Type 0) (m n k : ℕ) (D A B C : State → Type 0)
+    → m + n ≤ k → Steps {T = U} {E = F} went failures a b (Ok v) P m D A B → Steps went failures b c answer P n D B C → Steps went failures a c answer P k D A C
+steps_next went failures laws a b c v answer P m n k D A B C le h j =
+    steps_wider went failures a c answer P (m + n) k D A C A C le (λ s x. x) (λ s x. x) (steps_then went failures laws a b c v answer P m n D A B C h j)
+
+pub on_ok_map : {T E : Type 0} (r : Result T E) (P Q : Type 0) → (P → Q) → OnOk r P → OnOk r Q
+on_ok_map (Ok v) P Q f h = f h
+on_ok_map (Err v) P Q f h = tt
+
+-- a string that drives the terminal, sent
+pub steps_line : {W T E : Type 0} (went : W → W → List ℕ → Type 0) (failures : W → ℕ) (a b : W) (answer : Result T E) (P : List ℕ → Type 0) (n : ℕ) (starts : Screen → Type 0) (wants : Screen → Screen → Type 0)
+    (D A B : State → Type 0) (bytes : List ℕ) → P bytes → length bytes ≤ n → Drives starts wants D bytes → ((s : State) → A s → s.rest ≡ []) → ((s : State) → A s → starts s.screen) → ((s : State) → A s → D s)
+    → ((s : State) → A s → Ends s bytes (Closed (wants s.screen)) → Ends s bytes B) → ((s : State) → B s → D s) → Sends went failures a b bytes answer → Steps went failures a b answer P n D A B
+steps_line went failures a b answer P n starts wants D A B bytes p le drives rest begins lost wanted f sends =
+    steps_sent went failures a b answer P n D A B bytes
+    (leads_line P n D A B bytes p le (λ s x. wanted s x (drives.right s (rest s x) (begins s x))) (λ s x front back e. drives.fronts s (rest s x) (lost s x) front back e)) f sends
+
+-- three steps, within a limit for all
+pub steps_three : {W T E U F V G : Type 0} (went : W → W → List ℕ → Type 0) (failures : W → ℕ) → IsWire went failures → (a b c d : W) (v : U) (w : V) (answer : Result T E) (P : List ℕ → Type 0) (m n k limit : ℕ) (D A B C H : State → Type 0)
+    → (m + n) + k ≤ limit → Steps {T = U} {E = F} went failures a b (Ok v) P m D A B → Steps {T = V} {E = G} went failures b c (Ok w) P n D B C → Steps went failures c d answer P k D C H → Steps went failures a d answer P limit D A H
+steps_three went failures laws a b c d v w answer P m n k limit D A B C H le f g h =
+    steps_next went failures laws a c d w answer P (m + n) k limit D A C H le (steps_then went failures laws a b c v (Ok w) P m n D A B C f g) h
+
+-- the third of three steps isn't come to
+pub steps_two_fail : {W T E U F V G : Type 0} (went : W → W → List ℕ → Type 0) (failures : W → ℕ) → IsWire went failures → (a b c : W) (v : U) (x : G) (u : E) (P : List ℕ → Type 0) (m n limit : ℕ) (D A B C H : State → Type 0)
+    → m + n ≤ limit → Steps {T = U} {E = F} went failures a b (Ok v) P m D A B → Steps {T = V} {E = G} went failures b c (Err x) P n D B C → Steps {T = T} {E = E} went failures a c (Err u) P limit D A H
+steps_two_fail went failures laws a b c v x u P m n limit D A B C H le f g =
+    steps_fail went failures a c x u P (m + n) limit D A C H le (steps_then went failures laws a b c v (Err x) P m n D A B C f g)
+
+-- nothing is sent, and nothing is asked of the kinds but that nothing is open
+pub steps_none : {W T E : Type 0} (went : W → W → List ℕ → Type 0) (failures : W → ℕ) → IsWire went failures → (a : W) (v : T) (P : List ℕ → Type 0) (n : ℕ) (D A : State → Type 0)
+    → ((s : State) → A s → s.rest ≡ []) → ((s : State) → A s → D s) → Steps {T = T} {E = E} went failures a a (Ok v) P n D A A
+steps_none went failures laws a v P n D A rest d = steps_nothing went failures laws a v P n D A A rest (λ s x. x) d

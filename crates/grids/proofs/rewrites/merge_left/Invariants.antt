@@ -1,0 +1,11 @@
+-- On the cells that were gone through the others are combined, and the rest is as before.
+use Rattle.std.proofs.Common.{◌≡◌, ℕ, ◌<◌, ◌≤◌, ◌+◌, ◌-◌, length, get_or}
+use Rattle.grids.proofs.rewrites.merge_left.Given as goal
+
+abbrev pub invariant-loop-k : goal.invariant-loop-k
+invariant-loop-k g l = record {
+  len : length l.cells ≡ length l.fn.cells;
+  inside : (j : ℕ) (d : _) → l.to ≤ j → j < l.to + l.k → get_or l.cells j d ≡ g.R.Merge.merged l.rule (get_or l.fn.cells j d) (get_or l.fn.cells (l.from + (j - l.to)) d);
+  before : (j : ℕ) (d : _) → j < l.to → get_or l.cells j d ≡ get_or l.fn.cells j d;
+  behind : (j : ℕ) (d : _) → l.to + l.k ≤ j → get_or l.cells j d ≡ get_or l.fn.cells j d;
+}

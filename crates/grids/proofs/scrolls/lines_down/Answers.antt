@@ -1,0 +1,17 @@
+use Rattle.std.proofs.Common.{◌∙◌, ℕ, ◌-◌, arith, ap, inl, inr, replicate}
+use Rattle.grids.proofs.MovedLines.{scrolled_down_from_moved}
+use Rattle.grids.proofs.scrolls.lines_down.Goals as goal
+
+pub returns-clause-moved : goal.returns-clause-moved
+returns-clause-moved g c = scrolled_down_from_moved c.args.top c.args.bottom c.args.n c.min-n.result c.args.cell c.args.lines.now c.rotate_down.new.lines
+    c.min-n.ensures c.requires.ordered c.requires.within c.requires.even (record {
+      len = c.rotate_down.ensures.len ∙ c.fill_each_line.ensures.len;
+      outside = λ i h. elim h [
+        | inl low ↦ c.rotate_down.ensures.before i low ∙ c.fill_each_line.ensures.before i (omega (arith, c.min-n.ensures))
+        | inr high ↦ c.rotate_down.ensures.behind i (omega arith) ∙ c.fill_each_line.ensures.behind i (omega arith)
+      ];
+      moved = λ i low fits. c.rotate_down.ensures.moved i low (omega arith) ∙ c.fill_each_line.ensures.before (i - c.min-n.result) (omega (arith, c.min-n.ensures));
+      new = λ i low high. c.rotate_down.ensures.wrapped i low high
+          ∙ c.fill_each_line.ensures.filled _ (omega (arith, c.min-n.ensures)) (omega (arith, c.min-n.ensures))
+          ∙ ap (λ (n : ℕ). replicate n c.args.cell) (c.requires.even _ (omega (arith, c.min-n.ensures)));
+    })

@@ -1,0 +1,10 @@
+use Rattle.std.proofs.Common.{arith}
+use Rattle.grids.specs.Grids.{part_merged}
+use Rattle.grids.proofs.TwoLines.{drawn_at_cut}
+use Rattle.grids.proofs.shifts.merge_down.Goals as goal
+
+pub returns-clause-value : goal.returns-clause-value
+returns-clause-value g c = (let did = c.split_at_mut-low in
+    rw (c.merge_part.ensures, c.cells.ensures)
+    (drawn_at_cut did.result.0.now did.result.1.now c.args.lines.now (part_merged c.args.part.col c.args.part.count c.args.from_col (g.R.Merge.merged c.args.rule.now)) c.args.part.row c.args.from_row c.index-low-from_row.result c.index-high-0.result
+    did.ensures.value did.ensures.front_len c.requires.order (omega (arith, did.ensures.back_len))))

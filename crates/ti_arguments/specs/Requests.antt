@@ -1,0 +1,75 @@
+-- What a line of words asks for, by what clap's parser finds in it for the commands of `Line`.
+use Rattle.std.specs.Prelude.{◌≡◌, ◌⊎◌, Bool, true, false, List, [], ◌∷◌, Option, Some, None, codes, map, option_map, unwrap_or}
+use Rattle.std.specs.Str.{bytes_eq}
+use Rattle.clap.specs.Faults.{fault_of}
+use Rattle.clap.specs.Kinds.{IsAmong}
+use Rattle.clap.specs.Simple.{subcommand_of}
+use Rattle.clap.specs.Walk.{Row, Text, all_of, first_of}
+use Rattle.clap.specs.declared.error.kind.ErrorKind.{ErrorKind}
+use Rattle.clap.specs.declared.error.kind.ErrorKind.TheVariants as kind
+use Rattle.ti_arguments.specs.Line.{line}
+use Rattle.ti_arguments.specs.declared.parser.ParsedLine.{ParsedLine}
+use Rattle.ti_arguments.specs.declared.parser.ParsedLine.TheVariants as answers
+use Rattle.ti_requests.specs.declared.request.Request.{Request}
+use Rattle.ti_requests.specs.declared.request.ScriptWords.{ScriptWords}
+use Rattle.ti_requests.specs.declared.request.Request.TheVariants.{Expand, Feed, Tic, Check, Verify, Play, Show, Survey, Print, Common, Neither}
+
+-- the word that stands for an argument, if it has one
+abbrev pub word_of : Text → List Row → Text
+word_of id rows = unwrap_or (first_of id rows) []
+
+-- all of them
+abbrev pub words_of : Text → List Row → List Text
+words_of id rows = unwrap_or (all_of id rows) []
+
+-- a switch is on
+abbrev pub is_on : Text → List Row → Bool
+is_on id rows = bytes_eq (word_of id rows) (codes "true")
+
+-- an `infocmp` with these switches and entries
+abbrev pub IsInfocmp : Text → List Row → Bool → Bool → List Text → Type 0
+IsInfocmp name rows common neither entries =
+    (name ≡ codes "infocmp") × (is_on (codes "c") rows ≡ common) × (is_on (codes "n") rows ≡ neither) × (words_of (codes "ENTRY") rows ≡ entries)
+
+-- the words of a run of a script
+abbrev pub Plays : List Row → ScriptWords → Type 0
+Plays rows words =
+    (words.entry.now ≡ word_of (codes "ENTRY") rows) × (words.rows.now ≡ word_of (codes "ROWS") rows) × (words.cols.now ≡ word_of (codes "COLS") rows)
+    × (words.certificate.now ≡ word_of (codes "CERT") rows) × (words.script.now ≡ word_of (codes "SCRIPT") rows)
+
+-- the request of a command of this name with these words for its arguments
+abbrev pub AsksFor : Text → List Row → Request → Type 0
+AsksFor name rows (Expand words) =
+    (name ≡ codes "expand") × (words.judges_cup ≡ is_on (codes "cup") rows) × (words.string.now ≡ word_of (codes "STRING") rows)
+    × (words.rows.now ≡ word_of (codes "ROWS") rows) × (words.cols.now ≡ word_of (codes "COLS") rows) × (map (λ p. p.now) words.params.items ≡ words_of (codes "PARAM") rows)
+AsksFor name rows (Feed height width file) =
+    (name ≡ codes "feed") × (height.now ≡ word_of (codes "ROWS") rows) × (width.now ≡ word_of (codes "COLS") rows) × (file.now ≡ word_of (codes "FILE") rows)
+AsksFor name rows (Tic entry out) = (name ≡ codes "tic") × (entry.now ≡ word_of (codes "ENTRY") rows) × (option_map (λ o. o.now) out ≡ first_of (codes "out") rows)
+AsksFor name rows (Check words) =
+    (name ≡ codes "check") × (words.entry.now ≡ word_of (codes "ENTRY") rows) × (words.rows.now ≡ word_of (codes "ROWS") rows) × (words.cols.now ≡ word_of (codes "COLS") rows)
+    × (option_map (λ o. o.now) words.out ≡ first_of (codes "out") rows)
+AsksFor name rows (Verify words) =
+    (name ≡ codes "verify") × (words.entry.now ≡ word_of (codes "ENTRY") rows) × (words.rows.now ≡ word_of (codes "ROWS") rows) × (words.cols.now ≡ word_of (codes "COLS") rows)
+    × (words.certificate.now ≡ word_of (codes "CERT") rows)
+AsksFor name rows (Play words) = (name ≡ codes "play") × Plays rows words
+AsksFor name rows (Show words) = (name ≡ codes "show") × Plays rows words
+AsksFor name rows (Survey words) =
+    (name ≡ codes "survey") × (words.rows.now ≡ word_of (codes "ROWS") rows) × (words.cols.now ≡ word_of (codes "COLS") rows) × (map (λ f. f.now) words.paths.items ≡ words_of (codes "FILE") rows)
+AsksFor name rows (Print entry) = IsInfocmp name rows false false (entry.now ∷ [])
+AsksFor name rows (Common first second) = IsInfocmp name rows true false (first.now ∷ second.now ∷ [])
+AsksFor name rows (Neither first second) = IsInfocmp name rows false true (first.now ∷ second.now ∷ [])
+
+-- the command that the words choose, with the words for its arguments
+abbrev pub Asks : Option (Text × List Row) → Request → Type 0
+Asks None request = ⊥
+Asks (Some chosen) request = AsksFor chosen.0 chosen.1 request
+
+-- the words ask for this
+abbrev pub IsAnswer : List Text → ParsedLine → Type 0
+IsAnswer words (answers.Request request) = Asks (subcommand_of line words) request
+IsAnswer words (answers.Text text) = IsAmong kind.DisplayHelp (fault_of line words) ⊎ IsAmong kind.DisplayVersion (fault_of line words)
+
+-- the answer that the parser's error is
+abbrev pub IsTold : ErrorKind → ParsedLine → Type 0
+IsTold told (answers.Request request) = ⊥
+IsTold told (answers.Text text) = (told ≡ kind.DisplayHelp) ⊎ (told ≡ kind.DisplayVersion)

@@ -1,0 +1,204 @@
+//! From words to a request.
+
+ghost use Rattle.std.specs.Prelude.{◌≡◌, IfOk, codes, map, option_map};
+ghost use Rattle.std.specs.String.{string_bytes};
+ghost use Rattle.clap.specs.Walk.{first_of, rows_of};
+ghost use Rattle.clap.specs.Words.{found_of, kind_of, subcommand_rows_of};
+ghost use Rattle.ti_arguments.specs.Requests.{Asks, AsksFor, IsAnswer, IsTold, Plays, is_on, word_of, words_of};
+
+use crate::commands::command_line;
+use clap::ArgMatches;
+use clap::error::{Error, ErrorKind};
+use std::alloc::{AllocError, Global};
+use ti_requests::{CheckWords, ExpandWords, Request, ScriptWords, SurveyWords, VerifyWords};
+
+/// What a line that can be understood asks for.
+#[derive(Debug, Drop)]
+pub enum ParsedLine<'a> {
+    /// A command with its words.
+    Request(Request<'a>),
+    /// The text of `--help`, `help` or `--version`.
+    Text(String),
+}
+
+/// Why a line has no answer.
+#[derive(Debug, Drop)]
+pub enum UsageFault {
+    /// A usage error; the text says which and ends with a newline.
+    Usage(String),
+    /// Out of memory.
+    NoMemory,
+}
+
+impl From<AllocError> for UsageFault {
+    fn from(_refused: AllocError) -> UsageFault {
+        UsageFault::NoMemory
+    }
+}
+
+/// What the `words` after the program's own name ask for.
+pub fn parse_line<'a>(alloc: Global, words: &'a [String]) -> Result<ParsedLine<'a>, UsageFault>
+    ensures { IfOk result (λ answer. IsAnswer (map (λ w. string_bytes w) words.entry.now) answer) }
+{
+    let command = command_line(alloc)?;
+    match command.try_get_matches_from(words) {
+        Ok(matches) => {
+            let request = request_of(alloc, &matches)?;
+            Ok(ParsedLine::Request(request))
+        }
+        Err(error) => explain(alloc, &error),
+    }
+}
+
+/// The answer that `error` is: help and version are answers, and any other error of the parser is a usage error.
+fn explain<'a>(alloc: Global, error: &Error) -> Result<ParsedLine<'a>, UsageFault>
+    ensures { IfOk result (λ answer. IsTold (kind_of error.now) answer) }
+{
+    match error.kind() {
+        ErrorKind::OutOfMemory => Err(UsageFault::NoMemory),
+        ErrorKind::DisplayHelp | ErrorKind::DisplayVersion => {
+            Ok(ParsedLine::Text(format!(in alloc; "{error}")?))
+        }
+        _ => Err(UsageFault::Usage(format!(in alloc; "{error}")?)),
+    }
+}
+
+/// The request of a line with a command, whose words are `matches`.
+fn request_of<'a>(alloc: Global, matches: &ArgMatches<'a>) -> Result<Request<'a>, UsageFault>
+    ensures { IfOk result (λ request. Asks (subcommand_rows_of matches.now) request) }
+{
+    match matches.subcommand() {
+        Some(("expand", words)) => Ok(expand_request(alloc, words)?),
+        Some(("feed", words)) => Ok(feed_request(words)),
+        Some(("tic", words)) => Ok(tic_request(words)),
+        Some(("infocmp", words)) => infocmp_request(alloc, words),
+        Some(("check", words)) => Ok(check_request(words)),
+        Some(("verify", words)) => Ok(verify_request(words)),
+        Some(("play", words)) => Ok(Request::Play(scripted(words))),
+        Some(("show", words)) => Ok(Request::Show(scripted(words))),
+        Some(("survey", words)) => Ok(survey_request(alloc, words)?),
+        _ => Err(UsageFault::Usage(String::new(alloc))),
+    }
+}
+
+#[tactic(auto, using(crate::proofs::Rows::all_in_rows))]
+fn expand_request<'a>(alloc: Global, words: &ArgMatches<'a>) -> Result<Request<'a>, AllocError>
+    ensures { IfOk result (λ request. AsksFor (codes "expand") (rows_of (found_of words.now)) request) }
+{
+    let params = words.get_strs("PARAM").unwrap_or(&[]);
+    Ok(Request::Expand(ExpandWords {
+        judges_cup: is_on(words, "cup"),
+        string: word(words, "STRING"),
+        rows: word(words, "ROWS"),
+        cols: word(words, "COLS"),
+        params: Vec::from_slice(alloc, params)?,
+    }))
+}
+
+fn feed_request<'a>(words: &ArgMatches<'a>) -> Request<'a>
+    ensures { AsksFor (codes "feed") (rows_of (found_of words.now)) result }
+{
+    Request::Feed {
+        rows: word(words, "ROWS"),
+        cols: word(words, "COLS"),
+        file: word(words, "FILE"),
+    }
+}
+
+fn tic_request<'a>(words: &ArgMatches<'a>) -> Request<'a>
+    ensures { AsksFor (codes "tic") (rows_of (found_of words.now)) result }
+{
+    Request::Tic {
+        entry: word(words, "ENTRY"),
+        out: first_word(words, "out"),
+    }
+}
+
+fn check_request<'a>(words: &ArgMatches<'a>) -> Request<'a>
+    ensures { AsksFor (codes "check") (rows_of (found_of words.now)) result }
+{
+    Request::Check(CheckWords {
+        entry: word(words, "ENTRY"),
+        rows: word(words, "ROWS"),
+        cols: word(words, "COLS"),
+        out: first_word(words, "out"),
+    })
+}
+
+fn verify_request<'a>(words: &ArgMatches<'a>) -> Request<'a>
+    ensures { AsksFor (codes "verify") (rows_of (found_of words.now)) result }
+{
+    Request::Verify(VerifyWords {
+        entry: word(words, "ENTRY"),
+        rows: word(words, "ROWS"),
+        cols: word(words, "COLS"),
+        certificate: word(words, "CERT"),
+    })
+}
+
+/// The `words` of `play` or `show`.
+fn scripted<'a>(words: &ArgMatches<'a>) -> ScriptWords<'a>
+    ensures { Plays (rows_of (found_of words.now)) result }
+{
+    ScriptWords {
+        entry: word(words, "ENTRY"),
+        rows: word(words, "ROWS"),
+        cols: word(words, "COLS"),
+        certificate: word(words, "CERT"),
+        script: word(words, "SCRIPT"),
+    }
+}
+
+#[tactic(auto, using(crate::proofs::Rows::all_in_rows))]
+fn survey_request<'a>(alloc: Global, words: &ArgMatches<'a>) -> Result<Request<'a>, AllocError>
+    ensures { IfOk result (λ request. AsksFor (codes "survey") (rows_of (found_of words.now)) request) }
+{
+    let paths = words.get_strs("FILE").unwrap_or(&[]);
+    Ok(Request::Survey(SurveyWords {
+        rows: word(words, "ROWS"),
+        cols: word(words, "COLS"),
+        paths: Vec::from_slice(alloc, paths)?,
+    }))
+}
+
+/// One entry is printed, two are compared.
+#[tactic(auto, using(crate::proofs::Rows::all_in_rows))]
+fn infocmp_request<'a>(alloc: Global, words: &ArgMatches<'a>) -> Result<Request<'a>, UsageFault>
+    ensures { IfOk result (λ request. AsksFor (codes "infocmp") (rows_of (found_of words.now)) request) }
+{
+    let common = is_on(words, "c");
+    let neither = is_on(words, "n");
+    let entries = words.get_strs("ENTRY").unwrap_or(&[]);
+    match (common, neither, entries) {
+        (false, false, [entry]) => Ok(Request::Print { entry }),
+        (true, false, [first, second]) => Ok(Request::Common { first, second }),
+        (false, true, [first, second]) => Ok(Request::Neither { first, second }),
+        _ => Err(UsageFault::Usage(String::from_str(
+            alloc,
+            "error: infocmp prints one ENTRY, or compares two with either -c or -n\n\n\
+             For more information, try '--help'.\n",
+        )?)),
+    }
+}
+
+/// The one of the `words` for the argument `id`, if there is one.
+#[tactic(auto, using(crate::proofs::Rows::first_in_rows))]
+fn first_word<'a>(words: &ArgMatches<'a>, id: &str) -> Option<&'a str>
+    ensures { option_map (λ w. w.now) result ≡ first_of id.now (rows_of (found_of words.now)) }
+{
+    words.get_str(id)
+}
+
+/// The one of the `words` for the argument `id`, which the line has.
+fn word<'a>(words: &ArgMatches<'a>, id: &str) -> &'a str
+    ensures { result.now ≡ word_of id.now (rows_of (found_of words.now)) }
+{
+    first_word(words, id).unwrap_or("")
+}
+
+/// Whether the line has the switch `id`.
+fn is_on(words: &ArgMatches<'_>, id: &str) -> bool
+    ensures { result ≡ is_on id.now (rows_of (found_of words.now)) }
+{
+    word(words, id) == "true"
+}

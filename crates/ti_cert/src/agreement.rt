@@ -1,0 +1,86 @@
+//! Whether a certificate is that of an entry.
+
+ghost use Rattle.std.specs.Prelude.{◌≡◌, OnOk, IfErr, true, false};
+ghost use Rattle.ti_caps.specs.Entry.{string_at};
+ghost use Rattle.ti_conforms.specs.Conforms as conforms;
+ghost use Rattle.ti_conforms.specs.Entries as entries;
+ghost use Rattle.ti_cert.specs.Basic.{IsBasicTable};
+ghost use Rattle.ti_cert.specs.Disagreements as spec;
+ghost use Rattle.ti_cert.specs.Strings.{string_in};
+
+use crate::faults::AgreeFault;
+use crate::table::Table;
+use std::alloc::Global;
+use ti_caps::{Cap, Entry};
+use ti_conforms::{Disagreement, acsc, entry_agrees, first_unfit};
+use ti_rows::{Params, Row};
+
+/// Whether the table has the pairs of alternate characters that the entry has.
+fn has_pairs(table: &Table, entry: &Entry) -> bool
+    ensures same { result ≡ true → table.now.acsc ≡ string_at entry.now entries.acsc }
+    ensures differs { result ≡ false → table.now.acsc ≡ string_at entry.now entries.acsc → ⊥ }
+{
+    match (table.acsc(), entry.get_string(acsc())) {
+        (Some(pairs), Some(own)) => pairs == own,
+        (None, None) => true,
+        _ => false,
+    }
+}
+
+/// Whether the lines are those of an entry.
+fn lines_agree(alloc: Global, table: &Table, entry: &Entry) -> Result<(), AgreeFault>
+    ensures lines { OnOk result (entries.EntryAgrees table.now.known.strings.rows table.now.known.strings.cols entry.now
+        (λ row. string_in table.now.known.strings row)) }
+    ensures disagrees { IfErr result (spec.IsDisagreeing table.now entry.now) }
+{
+    match entry_agrees(alloc, table.size(), entry, table) {
+        Ok(()) => Ok(()),
+        Err(Disagreement::Disagree(row)) => Err(at_row(row)),
+        Err(Disagreement::Unwanted(row)) => Err(at_row(row)),
+        Err(Disagreement::NoMemory) => Err(AgreeFault::NoMemory),
+    }
+}
+
+fn at_row(row: Row) -> AgreeFault
+    ensures { spec.IsAtRow row result }
+{
+    AgreeFault::Disagree {
+        cap: row.cap(),
+        params: row.params(),
+    }
+}
+
+/// A disagreement about a capability as a whole.
+fn at_cap(cap: Cap) -> AgreeFault
+    ensures { spec.IsAtCap cap result }
+{
+    AgreeFault::Disagree {
+        cap,
+        params: Params::new(),
+    }
+}
+
+/// Whether a certificate is that of an entry: for each checked capability of the entry and each
+/// parameter list that the size allows it has a line with the bytes that the string sends, and no
+/// other lines.
+///
+/// # Errors
+/// `Disagree` with a capability and parameters for which it isn't so: a line that isn't what the entry
+/// sends, or, without parameters, what rules every certificate out, or `acsc` where the pairs differ.
+/// And `NoMemory`.
+pub fn agrees(alloc: Global, table: &Table, entry: &Entry) -> Result<(), AgreeFault>
+    ensures fit { OnOk result (conforms.IsFit entry.now) }
+    ensures acsc { OnOk result (table.now.acsc ≡ string_at entry.now entries.acsc) }
+    ensures lines { OnOk result (entries.EntryAgrees table.now.known.strings.rows table.now.known.strings.cols entry.now
+        (λ row. string_in table.now.known.strings row)) }
+    ensures disagrees { IfErr result (spec.IsDisagreeing table.now entry.now) }
+    ensures basic { IsBasicTable entry.now table.now → IfErr result (λ fault. fault ≡ AgreeFault.NoMemory) }
+{
+    if let Some(why) = first_unfit(entry) {
+        return Err(at_cap(why.cap()));
+    }
+    if !has_pairs(table, entry) {
+        return Err(at_cap(acsc()));
+    }
+    lines_agree(alloc, table, entry)
+}

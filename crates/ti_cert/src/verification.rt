@@ -1,0 +1,195 @@
+//! An entry that its certificate verifies.
+
+ghost use Rattle.std.specs.Prelude.{◌≡◌, ◌++◌, ℕ, List, IfOk, IfErr, IfSome, OnOk, option_copied};
+ghost use Rattle.ti_lines.specs.Reader.{Rose};
+ghost use Rattle.ti_cert.specs.Texts.{IsCertRefused, IsCertLineRead, Takes};
+ghost use Rattle.ti_cert.specs.Basic.{IsBasic, IsVerifyStopped, basic_text_of};
+ghost use Rattle.ti_cert.specs.Disagreements.{IsAgreeRefused};
+ghost use Rattle.ti_caps.specs.Entry.{string_at};
+ghost use Rattle.ti_conforms.specs.Holds.{LineHolds};
+ghost use Rattle.ti_conforms.specs.Resync.{texts_of};
+ghost use Rattle.ti_conforms.specs.Table.{text_of, resync};
+ghost use Rattle.ti_conforms.specs.Conforms.{Conforms};
+ghost use Rattle.ti_conforms.specs.Entries.{EntryAgrees, acsc};
+ghost use Rattle.ti_cert.specs.Table.{table_of};
+ghost use Rattle.ti_cert.specs.Verified as spec;
+
+use crate::agreement::agrees;
+use crate::audits::audit_from;
+use crate::faults::{AgreeFault, VerifyFault};
+use crate::table::Table;
+use std::alloc::{AllocError, Global};
+use std::marker::Model;
+use ti_caps::{Bytes, Entry};
+use ti_conforms::{partner, resync_rows};
+use ti_lines::Reader;
+use ti_rows::Row;
+use vt_term::Size;
+
+/// The strings of an entry that conforms, for a size.
+#[derive(Drop)]
+pub struct Checked {
+    table: Table,
+    resync: Bytes,
+}
+
+impl Model for Checked {
+    ghost use Rattle.ti_cert.specs.Table.{Content};
+    ghost use Rattle.ti_cert.specs.Verified.{IsVerified, IsResync};
+
+    ghost Value = { Content };
+
+    ghost view = { λ c. c.table };
+
+    ghost invariant = { λ c. IsVerified c.table × IsResync c.table c.resync };
+}
+
+/// Adds the bytes of the row's line, where there is one.
+fn add(text: &mut Vec<u8>, table: &Table, row: Row) -> Result<(), AllocError>
+    ensures { OnOk result (text.new.items ≡ text.old.items ++ text_of (table_of table.now) row) }
+{
+    match table.bytes(row) {
+        Some(bytes) => text.extend_from_slice(bytes),
+        None => Ok(()),
+    }
+}
+
+/// Adds the bytes of these rows' lines, those that there are.
+fn add_all(text: &mut Vec<u8>, table: &Table, rows: &[Row]) -> Result<(), AllocError>
+    ensures { OnOk result (text.new.items ≡ text.old.items ++ texts_of (table_of table.now).line_of rows.now) }
+{
+    for row in rows {
+        add(text, table, *row)?;
+    }
+    Ok(())
+}
+
+/// What leads a terminal out of any state to a blank screen at rest.
+fn resync_of(alloc: Global, table: &Table) -> Result<Bytes, AllocError>
+    ensures { IfOk result (λ text. text ≡ resync (table_of table.now)) }
+{
+    let mut text = Vec::new(alloc);
+    add_all(&mut text, table, &resync_rows(table.size()))?;
+    Ok(Bytes::from_vec(text))
+}
+
+impl Checked {
+    fn new(alloc: Global, table: Table) -> Result<Checked, AllocError>
+        requires { spec.IsVerified table }
+        ensures { IfOk result (λ checked. checked ≡ table) }
+    {
+        let resync = resync_of(alloc, &table)?;
+        Ok(Checked { table, resync })
+    }
+
+    /// The size that they are for. What else may be relied on stands in the contract.
+    pub fn size(&self) -> Size
+        ensures rows { result.rows ≡ self.now.known.strings.rows }
+        ensures cols { result.cols ≡ self.now.known.strings.cols }
+        ensures verified { spec.IsVerified self.now }
+    {
+        let _ = &self.resync;
+        self.table.size()
+    }
+
+    /// What the entry sends for a row, `None` where it has no such checked string. From every start of
+    /// the row its run ends as is wanted, and cut off anywhere it leaves a lost state.
+    pub fn bytes(&self, row: Row) -> Option<&[u8]>
+        ensures line { option_copied result ≡ (table_of self.now).line_of row }
+        ensures right { IfSome result (λ bytes. LineHolds (table_of self.now) row bytes.now) }
+    {
+        self.table.bytes(row)
+    }
+
+    /// What a letter of the alternate set is sent as, `None` where the entry can't switch sets or
+    /// doesn't list the letter.
+    pub fn partner(&self, letter: u8) -> Option<u8>
+        ensures { result ≡ spec.partner_in self.now letter }
+    {
+        if self.bytes(Row::Smacs).is_none() || self.bytes(Row::Rmacs).is_none() {
+            return None;
+        }
+        match self.table.acsc() {
+            Some(pairs) => partner(pairs, letter),
+            None => None,
+        }
+    }
+
+    /// What leads from every state that output cut off anywhere may leave to a blank screen at rest,
+    /// whatever sequence is open.
+    pub fn resync(&self) -> &[u8]
+        ensures text { result.now ≡ resync (table_of self.now) }
+        ensures leads { spec.Resyncs (table_of self.now) }
+    {
+        self.resync.as_slice()
+    }
+}
+
+/// The strings of a table that agrees with an entry.
+fn handed_out(alloc: Global, table: Table) -> Result<Checked, VerifyFault>
+    requires { spec.IsVerified table }
+    ensures same { IfOk result (λ checked. checked ≡ table) }
+    ensures fails { IfErr result (λ fault. fault ≡ VerifyFault.Agree AgreeFault.NoMemory) }
+{
+    match Checked::new(alloc, table) {
+        Ok(checked) => Ok(checked),
+        Err(_) => Err(VerifyFault::Agree(AgreeFault::NoMemory)),
+    }
+}
+
+/// Judges the certificate that a reader has left, and compares it with an entry.
+///
+/// # Errors
+/// `Cert` with the certificate's first fault, `Agree` where it is that of another entry or memory runs
+/// out.
+pub fn verify_from<R: Reader>(
+    alloc: Global,
+    entry: &Entry,
+    size: Size,
+    reader: &mut R,
+) -> Result<Checked, VerifyFault>
+    ensures refused { (text : List ℕ) → R.left reader.old text
+        → IfErr result (IsCertRefused size.rows size.cols text (Rose (R.failures reader.old) (R.failures reader.new))) }
+    ensures disagrees { (text : List ℕ) → R.left reader.old text
+        → IfErr result (IsAgreeRefused size.rows size.cols text entry.now) }
+    ensures basic { IsBasic entry.now size.rows size.cols
+        → R.left reader.old (basic_text_of entry.now size.rows size.cols)
+        → IfErr result (IsVerifyStopped (Rose (R.failures reader.old) (R.failures reader.new))) }
+    ensures takes { Takes R.left R.failures reader.old reader.new (λ number. IfErr result (IsCertLineRead number)) }
+    ensures conforms { IfOk result (λ _. Conforms entry.now size.rows size.cols) }
+    ensures rows { IfOk result (λ checked. checked.known.strings.rows ≡ size.rows) }
+    ensures cols { IfOk result (λ checked. checked.known.strings.cols ≡ size.cols) }
+    ensures sends { IfOk result (λ checked. EntryAgrees size.rows size.cols entry.now (table_of checked).line_of) }
+    ensures acsc { IfOk result (λ checked. checked.acsc ≡ string_at entry.now acsc) }
+    ensures resyncs { IfOk result (λ checked. spec.Resyncs (table_of checked)) }
+{
+    let table = match audit_from(alloc, reader, size) {
+        Ok(table) => table,
+        Err(fault) => return Err(VerifyFault::Cert(fault)),
+    };
+    match agrees(alloc, &table, entry) {
+        Ok(()) => handed_out(alloc, table),
+        Err(fault) => Err(VerifyFault::Agree(fault)),
+    }
+}
+
+/// Judges a certificate, and compares it with an entry.
+///
+/// # Errors
+/// `Cert` with the certificate's first fault, `Agree` where it is that of another entry or memory runs
+/// out.
+pub fn verify(alloc: Global, entry: &Entry, size: Size, text: &[u8]) -> Result<Checked, VerifyFault>
+    ensures refused { IfErr result (IsCertRefused size.rows size.cols text.now ⊥) }
+    ensures disagrees { IfErr result (IsAgreeRefused size.rows size.cols text.now entry.now) }
+    ensures basic { IsBasic entry.now size.rows size.cols → text.now ≡ basic_text_of entry.now size.rows size.cols
+        → IfErr result (IsVerifyStopped ⊥) }
+    ensures conforms { IfOk result (λ _. Conforms entry.now size.rows size.cols) }
+    ensures rows { IfOk result (λ checked. checked.known.strings.rows ≡ size.rows) }
+    ensures cols { IfOk result (λ checked. checked.known.strings.cols ≡ size.cols) }
+    ensures sends { IfOk result (λ checked. EntryAgrees size.rows size.cols entry.now (table_of checked).line_of) }
+    ensures acsc { IfOk result (λ checked. checked.acsc ≡ string_at entry.now acsc) }
+    ensures resyncs { IfOk result (λ checked. spec.Resyncs (table_of checked)) }
+{
+    let mut reader = text;
+    verify_from(alloc, entry, size, &mut reader)
+}

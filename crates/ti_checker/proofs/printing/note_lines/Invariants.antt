@@ -1,6 +1,0 @@
-use Rattle.std.proofs.Common.{◌≡◌, take}
-use Rattle.ti_checker.specs.Notes.{notes_text}
-use Rattle.ti_checker.proofs.printing.note_lines.Given as goal
-
-abbrev pub invariant-loop-note : goal.invariant-loop-note
-invariant-loop-note l = l.lines.items ≡ notes_text (take l.note-index l.notes)

@@ -1,0 +1,201 @@
+//! Whether an effect leaves something else than is wanted of a row.
+
+ghost use Rattle.std.specs.Prelude.{◌≡◌, IsTrue, false, if◌then◌else◌};
+ghost use Rattle.ti_checker.specs.Breakage as spec;
+ghost use Rattle.ti_checker.specs.Probes.{CanShow, screen_of};
+ghost use Rattle.ti_rows.specs.Starts.{Starts};
+ghost use Rattle.vt_effects.specs.Effect.{bottom_of, inked, top_of};
+
+use crate::cells::cells_differ;
+use crate::probes::Probe;
+use ti_conforms::{designated, switched};
+use ti_rows::{Looks, Marks, Row};
+use vt_effects::{Effect, Ink, Region, Rendering, Switch};
+use vt_term::{Color, Size};
+
+fn inked(ink: Ink, color: Option<Color>) -> Option<Color>
+    ensures { result ≡ inked ink color }
+{
+    match ink {
+        Ink::Kept => color,
+        Ink::Default => None,
+        Ink::Color(other) => Some(other),
+    }
+}
+
+fn top_of(margins: Option<Region>, top: u16) -> u16
+    ensures { result ≡ top_of margins top }
+{
+    match margins {
+        None => top,
+        Some(region) => region.top,
+    }
+}
+
+fn bottom_of(margins: Option<Region>, bottom: u16) -> u16
+    ensures { result ≡ bottom_of margins bottom }
+{
+    match margins {
+        None => bottom,
+        Some(region) => region.bottom,
+    }
+}
+
+/// The marks that an effect leaves of these.
+fn marks_after(rendering: Rendering, marks: Marks) -> Marks
+    ensures { result ≡ spec.marks_after rendering marks }
+{
+    Marks {
+        bold: switched(rendering.bold, marks.bold),
+        faint: switched(rendering.faint, marks.faint),
+        underline: switched(rendering.underline, marks.underline),
+        blink: switched(rendering.blink, marks.blink),
+        negative: switched(rendering.negative, marks.negative),
+        concealed: switched(rendering.concealed, marks.concealed),
+    }
+}
+
+/// Looks of which each is seen where all these marks are on.
+fn looks_of(marks: Marks) -> Looks
+    ensures { result ≡ spec.looks_of marks }
+{
+    Looks {
+        standout: marks,
+        underline: marks.underline,
+        reverse: marks.negative,
+        blink: marks.blink,
+        dim: marks.faint,
+        bold: marks.bold,
+        invisible: marks.concealed,
+    }
+}
+
+fn place_differs(first: &Effect, second: &Effect, size: Size, probe: &Probe) -> bool
+    ensures { IsTrue result → spec.EndAlike first.now second.now (screen_of size.rows size.cols probe.now) → ⊥ }
+{
+    first.row.leads_from(probe.row) != second.row.leads_from(probe.row)
+        || first.col.leads_from(probe.col) != second.col.leads_from(probe.col)
+}
+
+fn pending_after(effect: &Effect, probe: &Probe) -> bool
+    ensures { result ≡ (if effect.now.ends_pending then false else probe.now.pending) }
+{
+    !effect.ends_pending && probe.pending
+}
+
+fn modes_differ(first: &Effect, second: &Effect, size: Size, probe: &Probe) -> bool
+    ensures { IsTrue result → spec.EndAlike first.now second.now (screen_of size.rows size.cols probe.now) → ⊥ }
+{
+    pending_after(first, probe) != pending_after(second, probe)
+        || switched(first.visible, probe.visible) != switched(second.visible, probe.visible)
+        || designated(first.charset, probe.charset) != designated(second.charset, probe.charset)
+}
+
+fn margins_differ(first: &Effect, second: &Effect, size: Size, probe: &Probe) -> bool
+    ensures { IsTrue result → spec.EndAlike first.now second.now (screen_of size.rows size.cols probe.now) → ⊥ }
+{
+    top_of(first.margins, probe.top) != top_of(second.margins, probe.top)
+        || bottom_of(first.margins, probe.bottom) != bottom_of(second.margins, probe.bottom)
+}
+
+fn marks_differ(first: &Effect, second: &Effect, size: Size, probe: &Probe) -> bool
+    ensures { IsTrue result → spec.EndAlike first.now second.now (screen_of size.rows size.cols probe.now) → ⊥ }
+{
+    marks_after(first.rendition, probe.look) != marks_after(second.rendition, probe.look)
+}
+
+fn inks_differ(first: &Effect, second: &Effect, size: Size, probe: &Probe) -> bool
+    ensures { IsTrue result → spec.EndAlike first.now second.now (screen_of size.rows size.cols probe.now) → ⊥ }
+{
+    let (one, other) = (first.rendition, second.rendition);
+    inked(one.foreground, probe.foreground) != inked(other.foreground, probe.foreground)
+        || inked(one.background, probe.background) != inked(other.background, probe.background)
+}
+
+/// Whether two effects lead from the probe to different ends.
+fn differ(first: &Effect, second: &Effect, size: Size, probe: &Probe) -> bool
+    requires { CanShow size.rows probe.now }
+    ensures { IsTrue result → spec.EndAlike first.now second.now (screen_of size.rows size.cols probe.now) → ⊥ }
+{
+    place_differs(first, second, size, probe)
+        || modes_differ(first, second, size, probe)
+        || margins_differ(first, second, size, probe)
+        || marks_differ(first, second, size, probe)
+        || inks_differ(first, second, size, probe)
+        || cells_differ(first, second, size, probe)
+}
+
+/// Whether two ends are wanted of the row: both colours stay or become default, or the cursor becomes
+/// visible or all stays.
+fn has_choice(row: Row) -> bool
+    ensures { result ≡ spec.has_choice row }
+{
+    matches!(row, Row::Sgr(_) | Row::Cvvis)
+}
+
+/// Whether cells, cursor, rendition and sets are free in the end.
+fn is_free(row: Row) -> bool
+    ensures { result ≡ spec.is_free row }
+{
+    matches!(row, Row::Smcup | Row::Rmcup)
+}
+
+/// The effect whose end is wanted, where there is one.
+fn wanted_end(row: Row, looks: Looks, effect: &Effect) -> Effect
+    ensures { result ≡ spec.wanted_end looks row effect.now }
+{
+    if is_free(row) {
+        Effect {
+            margins: None,
+            visible: Switch::Kept,
+            ..*effect
+        }
+    } else {
+        row.asked(looks, effect)
+    }
+}
+
+fn with_defaults(effect: &Effect) -> Effect
+    ensures { result ≡ spec.with_defaults effect.now }
+{
+    Effect {
+        rendition: Rendering {
+            foreground: Ink::Default,
+            background: Ink::Default,
+            ..effect.rendition
+        },
+        visible: Switch::On,
+        ..*effect
+    }
+}
+
+fn without_defaults(effect: &Effect) -> Effect
+    ensures { result ≡ spec.without_defaults effect.now }
+{
+    Effect {
+        rendition: Rendering {
+            foreground: Ink::Kept,
+            background: Ink::Kept,
+            ..effect.rendition
+        },
+        visible: Switch::Kept,
+        ..*effect
+    }
+}
+
+/// Whether the effect leads from the probe, a start of the row, to an end that isn't wanted, however
+/// attributes look.
+pub(crate) fn breaks(row: Row, effect: &Effect, size: Size, probe: &Probe) -> bool
+    requires starts { Starts size.rows size.cols row (screen_of size.rows size.cols probe.now) }
+    requires seen { CanShow size.rows probe.now }
+    ensures { IsTrue result → spec.NotWanted size.rows size.cols row effect.now probe.now }
+{
+    let looks = looks_of(marks_after(effect.rendition, probe.look));
+    if has_choice(row) {
+        let defaults = row.asked(looks, &with_defaults(effect));
+        let others = row.asked(looks, &without_defaults(effect));
+        differ(effect, &defaults, size, probe) && differ(effect, &others, size, probe)
+    } else {
+        differ(effect, &wanted_end(row, looks, effect), size, probe)
+    }
+}

@@ -1,0 +1,159 @@
+//! A string judged for a row.
+
+ghost use Rattle.std.specs.Prelude.{◌≡◌, ℕ, List, [], IfErr, IfOk, Some, true};
+ghost use Rattle.ti_checker.specs.First.{SendsRight};
+ghost use Rattle.ti_checker.specs.Limit.{IsLineFor};
+ghost use Rattle.ti_checker.specs.No as spec;
+ghost use Rattle.ti_rows.specs.Asked.{start_of};
+ghost use Rattle.ti_rows.specs.Lists.{IsInRange};
+ghost use Rattle.ti_rows.specs.Right.{IsRight};
+ghost use Rattle.vt_effects.specs.Record.{IsRecordOf, record_of};
+ghost use Rattle.vt_term.specs.Scanned.{HasFault};
+ghost use Rattle.vt_term.specs.Text.{Splits};
+
+use crate::causes::Cause;
+use crate::sends::sent_into;
+use crate::trials::probe_for;
+use std::alloc::{AllocError, Global};
+use ti_conforms::{NO_LOOKS, is_alone, is_some_look};
+use ti_rows::{Looks, Row};
+use vt_effects::{Effect, effect_of_text};
+use vt_term::{Scanner, Size, TextFault, TextFaultKind, Token, TokenFault, TokenFaultKind, tokens};
+
+/// What is wrong with an effect that isn't the one that is asked for.
+fn misfit(row: Row, effect: &Effect, size: Size) -> Cause
+    requires range { IsInRange size.rows size.cols row }
+    requires unasked { spec.IsUnasked row effect.now }
+    ensures { spec.IsMisfit size.rows size.cols row effect.now result }
+{
+    match probe_for(row, effect, size) {
+        None => Cause::NotShown,
+        Some(probe) => {
+            if is_alone(row) && is_some_look(effect) {
+                Cause::BadLook
+            } else {
+                Cause::WrongEffect(probe)
+            }
+        }
+    }
+}
+
+/// The fault of bytes that are no whole control functions.
+fn cause_of(fault: TokenFault) -> Cause
+    ensures { result ≡ spec.cause_of fault.kind }
+{
+    match fault.kind {
+        TokenFaultKind::Unfinished => Cause::Unfinished,
+        TokenFaultKind::Stuck => Cause::Stuck,
+        TokenFaultKind::NoMemory => Cause::NoMemory,
+    }
+}
+
+/// The tokens of what a string sends.
+pub(crate) fn tokens_of(alloc: Global, bytes: &[u8]) -> Result<Vec<Token>, Cause>
+    ensures whole { IfOk result (λ found. Splits bytes.now found.items []) }
+    ensures fault { IfErr result (λ cause. spec.IsNotWhole bytes.now cause) }
+{
+    match tokens(alloc, bytes) {
+        Ok(found) => Ok(found),
+        Err(fault) => Err(cause_of(fault)),
+    }
+}
+
+/// The fault of a text that is no whole control functions.
+fn not_whole(fault: TextFault) -> Cause
+    ensures { (bytes : List ℕ) → HasFault bytes fault → spec.IsNotWhole bytes result }
+{
+    match fault.kind {
+        TextFaultKind::Unfinished => Cause::Unfinished,
+        TextFaultKind::Stuck => Cause::Stuck,
+    }
+}
+
+/// The effect of bytes from the row's start, if they have one.
+fn row_effect(
+    scanner: &mut Scanner,
+    bytes: &[u8],
+    row: Row,
+    size: Size,
+) -> Result<Option<Effect>, Cause>
+    ensures record { IfOk result (IsRecordOf size.rows size.cols (start_of size.rows size.cols row) bytes.now) }
+    ensures fault { IfErr result (spec.IsNotWhole bytes.now) }
+{
+    match effect_of_text(scanner, bytes, size, &row.start(size)) {
+        Ok(effect) => Ok(effect),
+        Err(fault) => Err(not_whole(fault)),
+    }
+}
+
+/// The effect of bytes, if they have one, which has to be the one that is asked for. Looks that the
+/// row tells are added.
+#[tactic(auto, using(crate::proofs::Misjudging::misfit_misjudged))]
+fn judged(row: Row, found: Option<Effect>, size: Size, looks: &mut Looks) -> Result<Effect, Cause>
+    requires { IsInRange size.rows size.cols row }
+    ensures right { IfOk result (λ _. (bytes : List ℕ)
+        → IsRecordOf size.rows size.cols (start_of size.rows size.cols row) bytes found
+        → IsRight size.rows size.cols looks.new row bytes) }
+    ensures found { IfOk result (λ effect. found ≡ Some effect) }
+    ensures misjudged { IfErr result (λ cause. (tokens : List (List ℕ))
+        → found ≡ record_of size.rows size.cols (start_of size.rows size.cols row) tokens
+        → spec.IsMisjudged size.rows size.cols row tokens cause) }
+{
+    let Some(effect) = found else {
+        return Err(Cause::NotTame);
+    };
+    *looks = looks.learned(row, &effect);
+    if row.asks_for(*looks, &effect) {
+        Ok(effect)
+    } else {
+        Err(misfit(row, &effect, size))
+    }
+}
+
+/// What rows are judged in, one after another.
+#[derive(Drop)]
+pub(crate) struct Judge {
+    /// How attributes look.
+    looks: Looks,
+    /// What the string of the row that was judged last sends.
+    bytes: Vec<u8>,
+    /// Reads what it sends.
+    scanner: Scanner,
+}
+
+impl Judge {
+    /// No row is judged yet. The error is out of memory.
+    pub fn new(alloc: Global) -> Result<Judge, AllocError> {
+        Ok(Judge {
+            looks: NO_LOOKS,
+            bytes: Vec::new(alloc),
+            scanner: Scanner::new(alloc)?,
+        })
+    }
+
+    /// What the string of the row that was judged last sends.
+    pub fn bytes(&self) -> &[u8]
+        ensures { result.now ≡ self.now.bytes.items }
+    {
+        self.bytes.as_slice()
+    }
+
+    /// The effect of what the entry's `string` sends for `row`. The bytes that it sends are kept.
+    pub fn judge_row(
+        &mut self,
+        alloc: Global,
+        string: &[u8],
+        row: Row,
+        size: Size,
+    ) -> Result<Effect, Cause>
+        requires { IsInRange size.rows size.cols row }
+        ensures right { IfOk result (λ _. SendsRight size.rows size.cols string.now row) }
+        ensures line { IfOk result (λ effect. IsLineFor size.rows size.cols string.now
+            (record { row = row; bytes = self.new.bytes.items; effect = effect })) }
+        ensures faulty { IfErr result (λ cause. spec.IsFaulty size.rows size.cols string.now row cause) }
+    {
+        sent_into(alloc, string, row, &mut self.bytes)?;
+        let found = row_effect(&mut self.scanner, &self.bytes, row, size)?;
+        judged(row, found, size, &mut self.looks)
+    }
+}

@@ -1,0 +1,123 @@
+//! What the terminal ignores of an entry's strings.
+
+ghost use Rattle.std.specs.Prelude.{◌≡◌, ◌++◌, ◌∷◌, [], IfErr, IfOk, OnOk, true};
+ghost use Rattle.ti_checker.specs.No.{IsSo};
+ghost use Rattle.ti_checker.specs.Notes as spec;
+ghost use Rattle.ti_rows.specs.Names.{cap_of};
+
+use crate::causes::{Cause, No};
+use crate::ignored::is_ignored;
+use crate::judgements::tokens_of;
+use crate::sends::{checked_string, sent};
+use std::alloc::{AllocError, Global};
+use ti_caps::{Bytes, Cap, Entry};
+use ti_rows::Row;
+use vt_term::{Size, Token};
+
+/// A sequence that the terminal ignores, wholly or in one of its numbers.
+#[derive(Debug, Drop)]
+pub struct CheckNote {
+    /// The capability whose string sends it.
+    pub cap: Cap,
+    /// The sequence, from its ESC to its final byte.
+    pub bytes: Bytes,
+}
+
+/// Adds a note where the token is ignored.
+fn push_ignored(
+    alloc: Global,
+    cap: Cap,
+    token: &Token,
+    notes: &mut Vec<CheckNote>,
+) -> Result<(), AllocError>
+    ensures { OnOk result (notes.new.items ≡ notes.old.items ++ spec.notes_of cap (token.now ∷ [])) }
+{
+    if is_ignored(token) {
+        let bytes = Bytes::from_slice(alloc, token.bytes())?;
+        notes.push(CheckNote { cap, bytes })?;
+    }
+    Ok(())
+}
+
+/// Adds a note for each of the tokens that is ignored.
+fn push_all_ignored(
+    alloc: Global,
+    cap: Cap,
+    tokens: &[Token],
+    notes: &mut Vec<CheckNote>,
+) -> Result<(), AllocError>
+    ensures { OnOk result (notes.new.items ≡ notes.old.items ++ spec.notes_of cap tokens.now) }
+{
+    for token in tokens {
+        push_ignored(alloc, cap, token, notes)?;
+    }
+    Ok(())
+}
+
+/// The tokens of what a string sends for a row.
+fn tokens_sent(alloc: Global, string: &[u8], row: Row) -> Result<Vec<Token>, Cause>
+    ensures sends { IfOk result (λ tokens. spec.SendsTokens string.now row tokens.items) }
+    ensures unsent { IfErr result (λ cause. spec.SendsNoTokens string.now row cause) }
+{
+    let bytes = sent(alloc, string, row)?;
+    tokens_of(alloc, &bytes)
+}
+
+/// Adds the notes on a string for a row.
+fn push_string_notes(
+    alloc: Global,
+    string: &[u8],
+    row: Row,
+    notes: &mut Vec<CheckNote>,
+) -> Result<(), Cause>
+    ensures noted { OnOk result (spec.AddsStringNotes string.now row notes.old.items notes.new.items) }
+    ensures unsent { IfErr result (λ cause. spec.SendsNoTokens string.now row cause) }
+{
+    let tokens = tokens_sent(alloc, string, row)?;
+    match push_all_ignored(alloc, row.cap(), &tokens, notes) {
+        Ok(()) => Ok(()),
+        Err(_) => Err(Cause::NoMemory),
+    }
+}
+
+/// Adds the notes on the checked capability at a place in the order of their names.
+fn push_notes_at(
+    alloc: Global,
+    entry: &Entry,
+    place: usize,
+    notes: &mut Vec<CheckNote>,
+) -> Result<(), No>
+    ensures noted { OnOk result (spec.AddsNotesAt entry.now place notes.old.items notes.new.items) }
+    ensures unsent { IfErr result (λ refusal. spec.IsUnsentAt entry.now place refusal) }
+{
+    let Some(row) = Row::first(place) else {
+        return Ok(());
+    };
+    match checked_string(entry, row) {
+        Some(string) => match push_string_notes(alloc, string, row, notes) {
+            Ok(()) => Ok(()),
+            Err(cause) => Err(No::at(row, cause)),
+        },
+        None => Ok(()),
+    }
+}
+
+/// What the terminal ignores of an entry's strings: of each checked capability, in the byte order of
+/// their names and for its first parameter list, the sequences that name no function, and those that
+/// set renditions or modes of which one number is unknown (ECMA-48 8.3.106, 8.3.117, 8.3.125). The
+/// first parameter lists are the same for every size.
+///
+/// # Errors
+/// The first capability whose string sends no whole tokens for its first parameter list, with the
+/// fault as `check` names it: `Parm`, `StaticRead`, `Unfinished` or `Stuck`; and `NoMemory`.
+pub fn notes(alloc: Global, entry: &Entry, size: Size) -> Result<Vec<CheckNote>, No>
+    ensures noted { IfOk result (λ notes. spec.EntryNotes entry.now notes.items) }
+    ensures refused { IfErr result (λ refusal. IsSo entry.now size.rows size.cols refusal) }
+    ensures first { IfErr result (λ refusal. spec.IsFirstUnsent entry.now refusal) }
+{
+    let mut notes = Vec::new(alloc);
+    for place in 0..42 {
+        push_notes_at(alloc, entry, place, &mut notes)?;
+    }
+    Ok(notes)
+}

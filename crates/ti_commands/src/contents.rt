@@ -1,0 +1,69 @@
+//! Whole files, up to a limit.
+
+ghost use Rattle.std.specs.Prelude.{◌≡◌, ◌≤◌, IfErr, IfOk, vec_len};
+ghost use Rattle.ti_commands.specs.Failures.{IsFileFailure};
+ghost use Rattle.ti_commands.specs.Contents.{AreBytesOf, AreFirstBytesOf};
+
+use crate::failure::{Failure, file_failure};
+use crate::files::{FileFault, Files};
+use std::alloc::Global;
+use std::io::Read;
+use ti_words::{Remarks, explain_length};
+
+/// The most bytes of a source file, of a file that is fed, and of one in a survey.
+pub const LONGEST_FILE: u32 = 16_777_216;
+
+/// The bytes of the file at `path`, at most `limit` of them: of a longer file one byte more is read,
+/// and then it is refused as one that can't be read.
+pub fn read_whole<F: Files>(
+    alloc: Global,
+    files: &mut F,
+    path: &str,
+    limit: u32,
+    remarks: &mut Remarks,
+) -> Result<Vec<u8>, Failure>
+    ensures whole { IfOk result (λ bytes. AreBytesOf (F.holds files.old path.now) bytes.items) }
+    ensures short { IfOk result (λ bytes. vec_len bytes ≤ limit) }
+    ensures failure { IfErr result (λ e. IsFileFailure path.now e) }
+    ensures kept { F.holds files.new ≡ F.holds files.old }
+{
+    match read_up_to(alloc, files, path, u64::from(limit) + 1) {
+        Ok(bytes) if bytes.len() <= limit as usize => Ok(bytes),
+        Ok(_) => {
+            explain_length(alloc, path, limit, remarks);
+            Err(file_failure(alloc, path))
+        }
+        Err(fault) => Err(file_fault(alloc, path, fault, remarks)),
+    }
+}
+
+/// At most `count` of the bytes of the file at `path`, from its front.
+fn read_up_to<F: Files>(
+    alloc: Global,
+    files: &mut F,
+    path: &str,
+    count: u64,
+) -> Result<Vec<u8>, FileFault>
+    ensures bytes { IfOk result (λ bytes. AreFirstBytesOf (F.holds files.old path.now) count bytes.items) }
+    ensures kept { F.holds files.new ≡ F.holds files.old }
+{
+    let file = files.reader(path)?;
+    let mut bytes = Vec::new(alloc);
+    match file.take(count).read_to_end(&mut bytes) {
+        Ok(_) => Ok(bytes),
+        Err(error) => Err(FileFault::from(error)),
+    }
+}
+
+/// The failure of the file at `path`, which `fault` is about.
+pub fn file_fault(alloc: Global, path: &str, fault: FileFault, remarks: &mut Remarks) -> Failure
+    ensures { IsFileFailure path.now result }
+{
+    match fault {
+        FileFault::NoMemory => Failure::NoMemory,
+        FileFault::Failed(cause) => {
+            remarks.add(path.as_bytes(), cause.words());
+            file_failure(alloc, path)
+        }
+    }
+}

@@ -1,5 +1,0 @@
-use Rattle.ti_resolve.proofs.Once as Once
-use Rattle.ti_resolve.proofs.resolving.resolved_once.Goals as goal
-
-pub returns : goal.returns
-returns c = Once.resolved_once

@@ -1,6 +1,0 @@
-use Rattle.std.proofs.Common.{◌≡◌, ◌++◌}
-use Rattle.ti_source.specs.Printing.{ranks_text}
-use Rattle.ti_source.proofs.printing.push_kind.Given as goal
-
-abbrev pub invariant-loop-rank : goal.invariant-loop-rank
-invariant-loop-rank l = l.text.items ≡ l.fn.text.items ++ ranks_text l.entry l.kind l.rank

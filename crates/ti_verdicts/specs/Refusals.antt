@@ -1,0 +1,106 @@
+-- The words of a refusal: a certificate's by its line, its kind, and a capability with its parameters; an
+-- entry's by a capability, its parameters and the cause.
+use Rattle.std.specs.Prelude.{◌≡◌, ℕ, List, [], ◌++◌, codes}
+use Rattle.std.specs.Fmt.{decimal}
+use Rattle.ti_caps.specs.Table.{name_at}
+use Rattle.ti_rows.specs.Names.{name_of}
+use Rattle.ti_rows.specs.Params.{params}
+use Rattle.ti_cert.specs.declared.faults.AgreeFault.TheVariants as agree_faults
+use Rattle.ti_cert.specs.declared.faults.CertFault.{CertFault}
+use Rattle.ti_cert.specs.declared.faults.CertFaultKind.{CertFaultKind}
+use Rattle.ti_cert.specs.declared.faults.CertFaultKind.TheVariants.{BadLine, Missing, OutOfOrder, NotWhole, NotTame, NotShown, NoResync, BadLook, NoMemory, ReadFailed}
+use Rattle.ti_cert.specs.declared.faults.VerifyFault.{VerifyFault}
+use Rattle.ti_cert.specs.declared.faults.VerifyFault.TheVariants.{Cert, Agree}
+use Rattle.ti_checker.specs.declared.causes.Cause.{Cause}
+use Rattle.ti_checker.specs.declared.causes.Cause.TheVariants as causes
+use Rattle.ti_checker.specs.declared.causes.No.{No}
+use Rattle.ti_parm.specs.declared.fault.ParmFault.{ParmFault}
+use Rattle.ti_parm.specs.declared.fault.ParmFault.TheVariants as parm_faults
+use Rattle.ti_words.specs.Numbers.{numbers_text}
+use Rattle.ti_commands.specs.Failures.{IsFileFailure}
+use Rattle.ti_commands.specs.declared.failure.Failure.{Failure}
+use Rattle.ti_commands.specs.declared.failure.Failure.TheVariants as failures
+use Rattle.ti_commands.specs.declared.failure.CommandRefusal.TheVariants.{Verdict}
+
+-- what of a kind's words comes before its capability
+abbrev pub kind_name : CertFaultKind → List ℕ
+kind_name BadLine = codes "BadLine"
+kind_name (Missing row) = codes "Missing "
+kind_name OutOfOrder = codes "OutOfOrder"
+kind_name NotWhole = codes "NotWhole"
+kind_name NotTame = codes "NotTame"
+kind_name NotShown = codes "NotShown"
+kind_name NoResync = codes "NoResync"
+kind_name BadLook = codes "BadLook"
+kind_name NoMemory = codes "NoMemory"
+kind_name ReadFailed = codes "ReadFailed"
+
+abbrev pub kind_cap : CertFaultKind → List ℕ
+kind_cap (Missing row) = name_of row ++ numbers_text (params row)
+kind_cap _ = []
+
+-- `line N: KIND`, and the capability that the kind has
+abbrev pub fault_text : CertFault → List ℕ
+fault_text fault = codes "line " ++ (decimal fault.line ++ (codes ": " ++ (kind_name fault.kind ++ kind_cap fault.kind)))
+
+-- `Disagree CAP P..`
+abbrev pub disagreement_text : ℕ → List ℕ → List ℕ
+disagreement_text cap numbers = codes "Disagree " ++ (name_at cap ++ numbers_text numbers)
+
+-- the verdict has these words
+abbrev pub IsVerdict : List ℕ → Failure → Type 0
+IsVerdict text (failures.Refused (Verdict words)) = words.items ≡ text
+IsVerdict text failures.NoMemory = Unit {0}
+IsVerdict text _ = ⊥
+
+-- the failure that a kind of fault is
+abbrev pub IsOfKind : List ℕ → List ℕ → CertFaultKind → Failure → Type 0
+IsOfKind path text NoMemory failure = failure ≡ failures.NoMemory
+IsOfKind path text ReadFailed failure = IsFileFailure path failure
+IsOfKind path text _ failure = IsVerdict text failure
+
+-- the failure of this fault of a path's certificate
+abbrev pub TellsFault : List ℕ → VerifyFault → Failure → Type 0
+TellsFault path (Cert fault) failure = IsOfKind path (fault_text fault) fault.kind failure
+TellsFault path (Agree (agree_faults.Disagree cap numbers)) failure = IsVerdict (disagreement_text cap numbers.items) failure
+TellsFault path (Agree agree_faults.NoMemory) failure = failure ≡ failures.NoMemory
+
+-- ---- an entry without a certificate
+
+abbrev pub parm_name : ParmFault → List ℕ
+parm_name parm_faults.Underflow = codes "Underflow"
+parm_name parm_faults.BadNest = codes "BadNest"
+parm_name parm_faults.BadCode = codes "BadCode"
+parm_name parm_faults.Overflow = codes "Overflow"
+parm_name parm_faults.BadChar = codes "BadChar"
+parm_name parm_faults.WrongKind = codes "WrongKind"
+parm_name parm_faults.NoMemory = codes "NoMemory"
+
+abbrev pub cause_name : Cause → List ℕ
+cause_name causes.FlagOut = codes "FlagOut"
+cause_name causes.Absent = codes "Absent"
+cause_name causes.AcsByte = codes "AcsByte"
+cause_name (causes.Parm fault) = parm_name fault
+cause_name causes.StaticRead = codes "StaticRead"
+cause_name causes.Unfinished = codes "Unfinished"
+cause_name causes.Stuck = codes "Stuck"
+cause_name causes.NotTame = codes "NotTame"
+cause_name causes.BadLook = codes "BadLook"
+cause_name (causes.WrongEffect probe) = codes "WrongEffect"
+cause_name causes.NotShown = codes "NotShown"
+cause_name causes.TooLong = codes "TooLong"
+cause_name causes.NoResync = codes "NoResync"
+cause_name causes.NoMemory = codes "NoMemory"
+
+-- `no CAP P..: CAUSE`
+abbrev pub no_text : No → List ℕ
+no_text refusal = codes "no " ++ (name_at refusal.cap ++ (numbers_text refusal.params.items ++ (codes ": " ++ cause_name refusal.cause)))
+
+-- the failure that a cause is
+abbrev pub IsOfCause : List ℕ → Cause → Failure → Type 0
+IsOfCause text causes.NoMemory failure = failure ≡ failures.NoMemory
+IsOfCause text _ failure = IsVerdict text failure
+
+-- the failure of a no
+abbrev pub TellsNo : No → Failure → Type 0
+TellsNo refusal failure = IsOfCause (no_text refusal) refusal.cause failure

@@ -1,0 +1,125 @@
+//! The command `survey`.
+
+ghost use Rattle.std.specs.Prelude.{◌≡◌, IfErr, IfOk};
+ghost use Rattle.ti_commands.specs.Sizes.{LacksSize};
+ghost use Rattle.ti_commands.specs.Words.{texts_of};
+ghost use Rattle.ti_verdicts.specs.Lines.{AnswersTo};
+ghost use Rattle.ti_verdicts.specs.Surveys as spec;
+
+use crate::asked::Asked;
+use crate::certifiers::Certifier;
+use crate::lines::file_lines;
+use crate::tallies::Tally;
+use crate::watchers::{Course, Watcher};
+use std::alloc::{AllocError, Global};
+use ti_commands::{Failure, Files, LONGEST_FILE, Reply, read_whole, size_words};
+use ti_requests::SurveyWords;
+use ti_words::Remarks;
+
+/// What a survey of some paths has found so far.
+#[derive(Drop)]
+struct Surveyed {
+    /// The lines of the paths.
+    lines: Vec<u8>,
+    /// The failure of the first path that can't be had.
+    failure: Option<Failure>,
+}
+
+/// Says for each entry of each file that the `words` name whether the `certifier` writes a certificate, or why not, and
+/// counts the answers. What can't be read as an entry has its line too. The reply fails as the first file does that
+/// can't be had, and the others are surveyed all the same. The `watcher` sees how far the survey has come.
+///
+/// # Errors
+/// Why the words give no size; out of memory.
+pub fn survey_files<C: Certifier, F: Files, W: Watcher + Drop>(
+    alloc: Global,
+    certifier: &C,
+    words: &SurveyWords<'_>,
+    files: &mut F,
+    watcher: W,
+    remarks: &mut Remarks,
+) -> Result<Reply, Failure>
+    ensures reply { IfOk result (λ reply. spec.IsSurveyed (C.certifies certifier.now) (C.refuses certifier.now)
+        (F.holds files.old) words.now reply) }
+    ensures failure { IfErr result (λ e. LacksSize words.now.rows.now words.now.cols.now e) }
+    ensures kept { F.holds files.new ≡ F.holds files.old }
+{
+    let size = size_words(alloc, words.rows, words.cols, remarks)?;
+    let mut course = Course {
+        tally: Tally::new(),
+        watcher,
+    };
+    let asked = Asked { certifier, size };
+    let paths = words.paths.as_slice();
+    let surveyed = survey_paths(alloc, &asked, paths, files, &mut course, remarks);
+    course.watcher.ends();
+    let surveyed = surveyed?;
+    let mut text = surveyed.lines;
+    let counts = course.tally.line(alloc)?;
+    text.extend_from_slice(counts.as_slice())?;
+    Ok(Reply {
+        notes: Vec::new(alloc),
+        text,
+        failure: surveyed.failure,
+    })
+}
+
+/// The lines of all `paths`, one after another.
+fn survey_paths<C: Certifier, F: Files, W: Watcher>(
+    alloc: Global,
+    asked: &Asked<'_, C>,
+    paths: &[&str],
+    files: &mut F,
+    course: &mut Course<W>,
+    remarks: &mut Remarks,
+) -> Result<Surveyed, AllocError>
+    ensures told { IfOk result (λ surveyed. spec.EndsPaths (AnswersTo C.certifies C.refuses asked.now)
+        (F.holds files.old) (texts_of paths.now) surveyed.lines.items surveyed.failure) }
+    ensures kept { F.holds files.new ≡ F.holds files.old }
+{
+    let mut lines = Vec::new(alloc);
+    let mut failure = None;
+    for (done, path) in paths.iter().enumerate() {
+        course.watcher.begins(done, paths.len(), path.as_bytes());
+        let own = survey_path(alloc, asked, path, files, course, remarks)?;
+        lines.extend_from_slice(own.lines.as_slice())?;
+        failure = first_failure(failure, own.failure);
+    }
+    Ok(Surveyed { lines, failure })
+}
+
+/// The first of two failures: `failure`, or else `later`.
+fn first_failure(failure: Option<Failure>, later: Option<Failure>) -> Option<Failure>
+    ensures { result ≡ spec.first_failure failure later }
+{
+    match failure {
+        Some(failure) => Some(failure),
+        None => later,
+    }
+}
+
+/// The lines of `path`; none where it can't be had.
+fn survey_path<C: Certifier, F: Files, W: Watcher>(
+    alloc: Global,
+    asked: &Asked<'_, C>,
+    path: &str,
+    files: &mut F,
+    course: &mut Course<W>,
+    remarks: &mut Remarks,
+) -> Result<Surveyed, AllocError>
+    ensures told { IfOk result (λ surveyed. spec.EndsPath (AnswersTo C.certifies C.refuses asked.now)
+        (F.holds files.old) path.now surveyed.lines.items surveyed.failure) }
+    ensures kept { F.holds files.new ≡ F.holds files.old }
+{
+    match read_whole(alloc, files, path, LONGEST_FILE, remarks) {
+        Ok(bytes) => Ok(Surveyed {
+            lines: file_lines(alloc, asked, path, bytes.as_slice(), course)?,
+            failure: None,
+        }),
+        Err(Failure::NoMemory) => Err(AllocError),
+        Err(failure) => Ok(Surveyed {
+            lines: Vec::new(alloc),
+            failure: Some(failure),
+        }),
+    }
+}

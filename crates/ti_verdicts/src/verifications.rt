@@ -1,0 +1,113 @@
+//! The command `verify`.
+
+ghost use Rattle.std.specs.Prelude.{◌≡◌, IfErr, IfOk};
+ghost use Rattle.ti_conforms.specs.Conforms.{Conforms};
+ghost use Rattle.ti_verdicts.specs.Refusals.{TellsFault};
+ghost use Rattle.ti_verdicts.specs.Verifications.{FailsToVerify, HandsOut, IsVerified, LacksCertificate};
+
+use crate::certificates::CertificateFile;
+use crate::faults::explain_fault;
+use crate::refusals::{disagreement_words, fault_words, verdict};
+use std::alloc::Global;
+use std::io::Read;
+use ti_caps::Entry;
+use ti_cert::{AgreeFault, CertFault, CertFaultKind, Checked, VerifyFault, verify_from};
+use ti_commands::{Failure, Files, Reply, entry_of, file_fault, size_words};
+use ti_requests::VerifyWords;
+use ti_words::{Remarks, explain_disagreement};
+use vt_term::Size;
+
+/// Says yes if the certificate that the `words` name shows that their entry conforms at their size. Further lines go to
+/// `remarks`.
+pub fn verify_certificate<F: Files>(
+    alloc: Global,
+    words: &VerifyWords<'_>,
+    files: &mut F,
+    remarks: &mut Remarks,
+) -> Result<Reply, Failure>
+    ensures reply { IfOk result (λ reply. IsVerified (F.holds files.old) words.now reply) }
+    ensures failure { IfErr result (λ e. FailsToVerify (F.holds files.old) words.now e) }
+    ensures kept { F.holds files.new ≡ F.holds files.old }
+{
+    let size = size_words(alloc, words.rows, words.cols, remarks)?;
+    let entry = entry_of(alloc, files, words.entry, remarks)?;
+    let _checked = checked_at(alloc, &entry, size, words.certificate, files, remarks)?;
+    let text = Vec::from_slice(alloc, b"yes\n")?;
+    Ok(Reply::of_text(alloc, text))
+}
+
+/// What the certificate at `path` shows of `entry` for `size`. It is judged as it is read.
+pub fn checked_at<F: Files>(
+    alloc: Global,
+    entry: &Entry,
+    size: Size,
+    path: &str,
+    files: &mut F,
+    remarks: &mut Remarks,
+) -> Result<Checked, Failure>
+    ensures conforms { IfOk result (λ _. Conforms entry.now size.rows size.cols) }
+    ensures hands_out { IfOk result (λ checked. HandsOut entry.now size.rows size.cols checked) }
+    ensures failure { IfErr result (λ e. LacksCertificate path.now e) }
+    ensures kept { F.holds files.new ≡ F.holds files.old }
+{
+    let file = match files.reader(path) {
+        Ok(file) => file,
+        Err(fault) => return Err(file_fault(alloc, path, fault, remarks)),
+    };
+    let mut reader = CertificateFile::new(alloc, file);
+    match verify_from(alloc, entry, size, &mut reader) {
+        Ok(checked) => Ok(checked),
+        Err(fault) => Err(failure_of(alloc, path, size, &fault, &reader, remarks)),
+    }
+}
+
+/// The failure that `fault` of the certificate at `path` is.
+fn failure_of<R: Read>(
+    alloc: Global,
+    path: &str,
+    size: Size,
+    fault: &VerifyFault,
+    reader: &CertificateFile<R>,
+    remarks: &mut Remarks,
+) -> Failure
+    ensures { TellsFault path.now fault.now result }
+{
+    match fault {
+        VerifyFault::Cert(fault) => cert_failure(alloc, path, size, *fault, reader, remarks),
+        VerifyFault::Agree(fault) => agree_failure(alloc, path, fault, remarks),
+    }
+}
+
+/// The failure of the certificate at `path`, with which the entry doesn't agree, as `fault` says.
+fn agree_failure(alloc: Global, path: &str, fault: &AgreeFault, remarks: &mut Remarks) -> Failure
+    ensures { TellsFault path.now (VerifyFault.Agree fault.now) result }
+{
+    match fault {
+        AgreeFault::Disagree { cap, params } => {
+            explain_disagreement(path, *cap, remarks);
+            verdict(disagreement_words(alloc, *cap, params.as_slice()))
+        }
+        AgreeFault::NoMemory => Failure::NoMemory,
+    }
+}
+
+/// The failure of the certificate at `path`, whose text has `fault`.
+fn cert_failure<R: Read>(
+    alloc: Global,
+    path: &str,
+    size: Size,
+    fault: CertFault,
+    reader: &CertificateFile<R>,
+    remarks: &mut Remarks,
+) -> Failure
+    ensures { TellsFault path.now (VerifyFault.Cert fault) result }
+{
+    match fault.kind {
+        CertFaultKind::NoMemory => Failure::NoMemory,
+        CertFaultKind::ReadFailed => file_fault(alloc, path, reader.fault(), remarks),
+        _ => {
+            explain_fault(alloc, path, size, fault, reader.seen(), remarks);
+            verdict(fault_words(alloc, fault))
+        }
+    }
+}

@@ -1,5 +1,0 @@
-use Rattle.vt_effects.proofs.Joining.{if_composed}
-use Rattle.vt_effects.proofs.composing.compose.Goals as goal
-
-pub returns-clause-both : goal.returns-clause-both
-returns-clause-both c = if_composed c.args.first.now c.args.second.now c.composed.result c.composed.ensures
