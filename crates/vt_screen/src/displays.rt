@@ -229,9 +229,9 @@ impl Display {
         ensures { IfOk result (λ text. text.items ≡ screen_text self.now) }
     {
         let mut text = Vec::new(alloc);
-        printing::push_rows(&mut text, self.grid.lines())?;
-        printing::push_cursor(alloc, &mut text, self.row, self.col, self.visible)?;
-        printing::push_looks(alloc, &mut text, self.grid.lines())?;
+        printer::push_rows(&mut text, self.grid.lines())?;
+        printer::push_cursor(alloc, &mut text, self.row, self.col, self.visible)?;
+        printer::push_looks(alloc, &mut text, self.grid.lines())?;
         Ok(text)
     }
 
