@@ -4,7 +4,7 @@ ghost use Rattle.std.specs.Prelude.{◌≡◌, ◌==◌, ◌<◌, ◌+◌, lengt
 ghost use Rattle.cur_calls.specs.Cuts.{cut_at};
 
 /// What stands before and after the first such byte.
-#[tactic(auto, using(crate::proofs::Cutting::cut_found))]
+#[tactic(auto, using(crate::proofs::CutFacts::cut_found))]
 pub(crate) fn cut(byte: u8, text: &[u8]) -> Option<(&[u8], &[u8])>
     ensures value { option_map (λ x. (x.0.now, x.1.now)) result ≡ cut_at byte text.now }
     ensures shorter { IfSome result (λ x. length x.1.now < length text.now) }

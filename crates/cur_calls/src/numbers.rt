@@ -49,7 +49,7 @@ fn spelled(text: &[u8]) -> Option<u32>
 }
 
 /// The number that the word spells without a sign, up to a limit.
-#[tactic(auto, using(crate::proofs::Capping::limited))]
+#[tactic(auto, using(crate::proofs::Caps::limited))]
 pub(crate) fn natural(limit: u32, word: &[u8]) -> Option<u32>
     requires { limit ≤ 2147483648 }
     ensures value { result ≡ spec.natural limit word.now }

@@ -7,7 +7,7 @@ use cur_windows::Refusal;
 use std::alloc::{AllocError, Global};
 
 /// A line for each call that was refused; calls are counted from 1.
-#[tactic(auto, using(crate::proofs::Telling::lines_more))]
+#[tactic(auto, using(crate::proofs::Answers::lines_more))]
 pub fn refusal_lines(alloc: Global, log: &[LogEntry]) -> Result<Vec<u8>, AllocError>
     ensures { IfOk result (λ lines. lines.items ≡ spec.refusals_text 0 log.now) }
 {

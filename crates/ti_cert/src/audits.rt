@@ -94,7 +94,7 @@ fn misplaced(alloc: Global, text: &[u8]) -> CertFaultKind
 }
 
 impl Progress {
-    #[tactic(auto, using(crate::proofs::Auditing::starts_so))]
+    #[tactic(auto, using(crate::proofs::AuditSteps::starts_so))]
     fn new(alloc: Global, size: Size) -> Result<Progress, AllocError>
         ensures { IfOk result (spec.Starts size.rows size.cols) }
     {
@@ -109,7 +109,7 @@ impl Progress {
         })
     }
 
-    #[tactic(auto, using(crate::proofs::Auditing::first_ok, crate::proofs::Auditing::first_wrong))]
+    #[tactic(auto, using(crate::proofs::AuditSteps::first_ok, crate::proofs::AuditSteps::first_wrong))]
     fn judge_size(&mut self, text: &[u8]) -> Result<(), CertFaultKind>
         requires { self.old.awaited ≡ Awaited.First }
         ensures ok { OnOk result (spec.AnswersLine self.old text.now (Ok self.new)) }
@@ -123,7 +123,7 @@ impl Progress {
         }
     }
 
-    #[tactic(auto, using(crate::proofs::Auditing::second_pairs, crate::proofs::Auditing::second_later, crate::proofs::Auditing::second_refused))]
+    #[tactic(auto, using(crate::proofs::AuditSteps::second_pairs, crate::proofs::AuditSteps::second_later, crate::proofs::AuditSteps::second_refused))]
     fn judge_acsc(&mut self, alloc: Global, text: &[u8]) -> Result<(), CertFaultKind>
         requires { self.old.awaited ≡ Awaited.Acsc }
         ensures ok { OnOk result (spec.AnswersLine self.old text.now (Ok self.new)) }
@@ -140,7 +140,7 @@ impl Progress {
         }
     }
 
-    #[tactic(auto, using(crate::proofs::Auditing::later_last, crate::proofs::Auditing::last_refused, crate::proofs::Auditing::later_row, crate::proofs::Auditing::row_refused, crate::proofs::Auditing::later_none))]
+    #[tactic(auto, using(crate::proofs::AuditSteps::later_last, crate::proofs::AuditSteps::last_refused, crate::proofs::AuditSteps::later_row, crate::proofs::AuditSteps::row_refused, crate::proofs::AuditSteps::later_none))]
     fn judge_later(&mut self, alloc: Global, text: &[u8]) -> Result<(), CertFaultKind>
         ensures ok { OnOk result (spec.AnswersLater self.old text.now (Ok self.new)) }
         ensures err { IfErr result (λ kind. spec.OrNoMemory kind (spec.AnswersLater self.old text.now)) }
@@ -155,7 +155,7 @@ impl Progress {
         }
     }
 
-    #[tactic(auto, using(crate::proofs::Auditing::row_misplaced, crate::proofs::Auditing::row_cut, crate::proofs::Auditing::row_misshows, crate::proofs::Auditing::row_stands))]
+    #[tactic(auto, using(crate::proofs::AuditSteps::row_misplaced, crate::proofs::AuditSteps::row_cut, crate::proofs::AuditSteps::row_misshows, crate::proofs::AuditSteps::row_stands))]
     fn judge_row(&mut self, line: RowLine) -> Result<(), CertFaultKind>
         ensures ok { OnOk result (spec.AnswersRow self.old line (Ok self.new)) }
         ensures err { IfErr result (λ kind. spec.OrNoMemory kind (spec.AnswersRow self.old line)) }
@@ -173,7 +173,7 @@ impl Progress {
         Ok(())
     }
 
-    #[tactic(auto, using(crate::proofs::Auditing::last_lacks, crate::proofs::Auditing::last_clashes, crate::proofs::Auditing::last_closes))]
+    #[tactic(auto, using(crate::proofs::AuditSteps::last_lacks, crate::proofs::AuditSteps::last_clashes, crate::proofs::AuditSteps::last_closes))]
     fn judge_end(&mut self, alloc: Global) -> Result<(), CertFaultKind>
         ensures ok { OnOk result (spec.AnswersLast self.old (Ok self.new)) }
         ensures err { IfErr result (λ kind. spec.OrNoMemory kind (spec.AnswersLast self.old)) }

@@ -30,7 +30,7 @@ struct Resync {
 }
 
 /// What the row's string does to the charsets, `None` where there is no such string.
-#[tactic(auto, using(crate::proofs::Auditing::not_split))]
+#[tactic(auto, using(crate::proofs::AuditSteps::not_split))]
 fn change_of(
     scanner: &mut Scanner,
     strings: &Strings,
@@ -140,7 +140,7 @@ fn settled_from(first: Charsets, changes: &[Sets]) -> Charsets
 }
 
 /// Whether a change leaves the other set active from one of these charsets.
-#[tactic(auto, using(crate::proofs::Clashing::misled_some))]
+#[tactic(auto, using(crate::proofs::Clashes::misled_some))]
 fn misleads(settled: &Charsets, change: Sets, graphic: bool) -> bool
     ensures yes { result ≡ true → Misleads settled.now (Some change) graphic }
     ensures no { result ≡ false → spec.Leads settled.now (Some change) graphic }
@@ -170,7 +170,7 @@ fn check_active(
 }
 
 /// Judges what can only be judged when all lines are known. The settled charsets.
-#[tactic(auto, using(crate::proofs::Auditing::no_lack))]
+#[tactic(auto, using(crate::proofs::AuditSteps::no_lack))]
 pub(crate) fn conclude(
     alloc: Global,
     known: &Known,
@@ -193,7 +193,7 @@ pub(crate) fn conclude(
 
 /// Judges all lines together: which set is active after `smacs` and `rmacs`, that settled charsets are
 /// plain where letters of line graphics can't be sent, and what leads out of any state.
-#[tactic(auto, using(crate::proofs::Clashing::at_smacs, crate::proofs::Clashing::at_rmacs, crate::proofs::Clashing::at_look, crate::proofs::Clashing::at_resync))]
+#[tactic(auto, using(crate::proofs::Clashes::at_smacs, crate::proofs::Clashes::at_rmacs, crate::proofs::Clashes::at_look, crate::proofs::Clashes::at_resync))]
 fn check_together(
     settled: &Charsets,
     first: &Charsets,

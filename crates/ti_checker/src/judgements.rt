@@ -88,7 +88,7 @@ fn row_effect(
 
 /// The effect of bytes, if they have one, which has to be the one that is asked for. Looks that the
 /// row tells are added.
-#[tactic(auto, using(crate::proofs::Misjudging::misfit_misjudged))]
+#[tactic(auto, using(crate::proofs::Misjudgements::misfit_misjudged))]
 fn judged(row: Row, found: Option<Effect>, size: Size, looks: &mut Looks) -> Result<Effect, Cause>
     requires { IsInRange size.rows size.cols row }
     ensures right { IfOk result (λ _. (bytes : List ℕ)

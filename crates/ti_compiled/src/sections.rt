@@ -59,7 +59,7 @@ fn sizes_fit(sizes: Sizes) -> bool
         && sizes.table < 32768
 }
 
-#[tactic(auto, unfolding(crate::specs::Reading::sizes_of))]
+#[tactic(auto, unfolding(crate::specs::Readings::sizes_of))]
 fn sizes_of(bytes: &[u8]) -> Result<(Sizes, &[u8]), PackFault>
     ensures { Is (λ x. (x.0, x.1.now)) result (sizes_of bytes.now) }
 {
@@ -102,7 +102,7 @@ pub(crate) fn width(form: Form) -> usize
     }
 }
 
-#[tactic(auto, unfolding(crate::specs::Reading::sections_of))]
+#[tactic(auto, unfolding(crate::specs::Readings::sections_of))]
 fn sections_of(form: Form, sizes: Sizes, bytes: &[u8]) -> Result<Sections<'_>, PackFault>
     ensures { Is parts_view result (sections_of form sizes bytes.now) }
 {
@@ -236,7 +236,7 @@ fn offsets_judged(table: &[u8], offsets: &[u8]) -> Result<(), PackFault>
     Ok(())
 }
 
-#[tactic(auto, unfolding(crate::specs::Reading::parts_judged))]
+#[tactic(auto, unfolding(crate::specs::Readings::parts_judged))]
 fn parts_judged(parts: &Sections<'_>) -> Result<(), PackFault>
     ensures { Is (λ x. x) result (parts_judged (parts_view parts.now)) }
 {
@@ -248,7 +248,7 @@ fn parts_judged(parts: &Sections<'_>) -> Result<(), PackFault>
 }
 
 /// The sections of a file, or its first fault.
-#[tactic(auto, unfolding(crate::specs::Reading::parts_of))]
+#[tactic(auto, unfolding(crate::specs::Readings::parts_of))]
 pub(crate) fn parts_of(file: &[u8]) -> Result<Sections<'_>, PackFault>
     ensures { Is parts_view result (parts_of file.now) }
 {

@@ -24,7 +24,7 @@ pub fn read_effect(text: &[u8]) -> Option<Effect>
     effect_in(text)
 }
 
-#[tactic(auto, unfolding(crate::specs::EffectReading::effect_in))]
+#[tactic(auto, unfolding(crate::specs::EffectReader::effect_in))]
 fn effect_in(text: &[u8]) -> Option<Effect>
     ensures { result ≡ spec.effect_in text.now }
 {
@@ -39,7 +39,7 @@ fn effect_in(text: &[u8]) -> Option<Effect>
 }
 
 /// What is found with all words of a text.
-#[tactic(auto, unfolding(crate::specs::EffectReading::read_behind))]
+#[tactic(auto, unfolding(crate::specs::EffectReader::read_behind))]
 fn read_behind(found: Found, text: &[u8]) -> Option<Found>
     ensures { result ≡ spec.read_behind found text.now }
 {
@@ -74,7 +74,7 @@ fn cut(byte: u8, text: &[u8]) -> Option<(&[u8], &[u8])>
 }
 
 /// What is found with one word more.
-#[tactic(auto, unfolding(crate::specs::EffectReading::with_word))]
+#[tactic(auto, unfolding(crate::specs::EffectReader::with_word))]
 fn with_word(found: Found, word: &[u8]) -> Option<Found>
     ensures { result ≡ spec.with_word found word.now }
 {
@@ -156,7 +156,7 @@ fn marked(marks: Marks, rendition: Rendering) -> Rendering
     }
 }
 
-#[tactic(auto, unfolding(crate::specs::EffectReading::word_at))]
+#[tactic(auto, unfolding(crate::specs::EffectReader::word_at))]
 fn word_at(word: &[u8]) -> Option<Word>
     ensures { result ≡ spec.word_at word.now }
 {

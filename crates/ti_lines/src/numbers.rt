@@ -32,7 +32,7 @@ fn digits_value(digits: &[u8]) -> Option<u16>
 
 /// The number that these decimal digits are. `None` for none, for leading zeros, for a number above
 /// 65535, and for any other byte.
-#[tactic(auto, unfolding(crate::specs::EffectReading::number_at))]
+#[tactic(auto, unfolding(crate::specs::EffectReader::number_at))]
 pub fn number_at(digits: &[u8]) -> Option<u16>
     ensures { result ≡ spec.number_at digits.now }
 {

@@ -42,7 +42,7 @@ fn decide(decided: &mut [bool], cap: Cap)
 }
 
 /// Takes a field over, unless one about its capability came before.
-#[tactic(auto, unfolding(crate::specs::Filling::take_field))]
+#[tactic(auto, unfolding(crate::specs::Fills::take_field))]
 fn take_field(entry: &mut Entry, decided: &mut [bool], field: &Field) -> Result<(), AllocError>
     requires sized { length decided.old ≡ 497 }
     requires fits { FitsField field.now }

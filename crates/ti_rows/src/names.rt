@@ -164,7 +164,7 @@ fn order_from_dim(row: Row) -> usize
 }
 
 /// The name of the capability at a place.
-#[tactic(auto, using(crate::proofs::Naming::named))]
+#[tactic(auto, using(crate::proofs::NameFacts::named))]
 fn name_in_order(order: usize) -> &'static [u8]
     requires { order < 42 }
     ensures { result.now ≡ spec.name_in_order order }
@@ -173,7 +173,7 @@ fn name_in_order(order: usize) -> &'static [u8]
 }
 
 /// The capability at a place.
-#[tactic(auto, using(crate::proofs::Naming::placed))]
+#[tactic(auto, using(crate::proofs::NameFacts::placed))]
 fn cap_in_order(order: usize) -> Cap
     requires { order < 42 }
     ensures { result ≡ 83 + spec.string_in_order order }

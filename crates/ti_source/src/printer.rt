@@ -46,7 +46,7 @@ fn octal(byte: u8) -> [u8; 4]
     ]
 }
 
-#[tactic(auto, unfolding(crate::specs::Printing::spelled))]
+#[tactic(auto, unfolding(crate::specs::Prints::spelled))]
 fn push_byte(text: &mut Vec<u8>, byte: u8) -> Result<(), AllocError>
     ensures { OnOk result (text.new.items ≡ text.old.items ++ spelled byte) }
 {
@@ -62,7 +62,7 @@ fn push_byte(text: &mut Vec<u8>, byte: u8) -> Result<(), AllocError>
     }
 }
 
-#[tactic(auto, unfolding(crate::specs::Printing::string_text))]
+#[tactic(auto, unfolding(crate::specs::Prints::string_text))]
 fn push_string(text: &mut Vec<u8>, bytes: &[u8]) -> Result<(), AllocError>
     ensures { OnOk result (text.new.items ≡ text.old.items ++ string_text bytes.now) }
 {
@@ -97,7 +97,7 @@ fn push_value(text: &mut Vec<u8>, value: &Value) -> Result<(), AllocError>
 }
 
 /// A field on its line.
-#[tactic(auto, unfolding(crate::specs::Printing::field_text))]
+#[tactic(auto, unfolding(crate::specs::Prints::field_text))]
 fn push_field(text: &mut Vec<u8>, cap: Cap, value: &Value) -> Result<(), AllocError>
     ensures { OnOk result (text.new.items ≡ text.old.items ++ field_text cap value.now) }
 {
@@ -118,7 +118,7 @@ fn push_place(text: &mut Vec<u8>, entry: &Entry, cap: Cap) -> Result<(), AllocEr
 }
 
 /// The field of the capability whose name has this rank, if it is of this kind.
-#[tactic(auto, unfolding(crate::specs::Printing::rank_text, ti_caps::specs::Table::place_ranked))]
+#[tactic(auto, unfolding(crate::specs::Prints::rank_text, ti_caps::specs::Table::place_ranked))]
 fn push_rank(text: &mut Vec<u8>, entry: &Entry, kind: Kind, rank: usize) -> Result<(), AllocError>
     requires { rank < 497 }
     ensures { OnOk result (text.new.items ≡ text.old.items ++ rank_text entry.now kind rank) }
@@ -130,7 +130,7 @@ fn push_rank(text: &mut Vec<u8>, entry: &Entry, kind: Kind, rank: usize) -> Resu
 }
 
 /// The fields of a kind in the order of their names.
-#[tactic(auto, unfolding(crate::specs::Printing::kind_text))]
+#[tactic(auto, unfolding(crate::specs::Prints::kind_text))]
 fn push_kind(text: &mut Vec<u8>, entry: &Entry, kind: Kind) -> Result<(), AllocError>
     ensures { OnOk result (text.new.items ≡ text.old.items ++ kind_text entry.now kind) }
 {
@@ -141,7 +141,7 @@ fn push_kind(text: &mut Vec<u8>, entry: &Entry, kind: Kind) -> Result<(), AllocE
 }
 
 /// The names on a line, and after them flags, numbers and strings.
-#[tactic(auto, unfolding(crate::specs::Printing::text_of))]
+#[tactic(auto, unfolding(crate::specs::Prints::text_of))]
 fn text(alloc: Global, entry: &Entry) -> Result<Vec<u8>, AllocError>
     ensures value { IfOk result (λ v. v.items ≡ text_of entry.now) }
     ensures entry { IsEntry entry.now }

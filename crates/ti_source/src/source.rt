@@ -110,7 +110,7 @@ impl Reader {
 ///
 /// The error is the first fault of the text. `TooLong` of line 0 means that the text has more than 16777216
 /// bytes; `NoMemory` can come at any line.
-#[tactic(auto, using(crate::proofs::Fitting::entries_fit), unfolding(crate::specs::Source::source_of))]
+#[tactic(auto, using(crate::proofs::Fitness::entries_fit), unfolding(crate::specs::Source::source_of))]
 pub fn read(alloc: Global, text: &[u8]) -> Result<Vec<RawEntry>, SourceFault>
     ensures entries { IfOk result (λ v. source_of text.now ≡ Ok v.items) }
     ensures fault { IfErr result (λ e. FailsBy e.kind e (source_of text.now)) }
