@@ -17,7 +17,9 @@ use Rattle.ti_conforms.specs.declared.agreement.Disagreement.TheVariants as othe
 use Rattle.ti_conforms.specs.Conforms.{IsFit, xmc, hc, gn, os}
 use Rattle.ti_cert.specs.Strings.{Strings, allows, group_at, has_group, string_in}
 use Rattle.ti_cert.specs.Table.{Content}
-use Rattle.ti_conforms.specs.Unfit.{is_flag_out, IsRequired, HasMisfit, IsUnfitBy, Flagged, Lacks, Unprinted}
+use Rattle.ti_conforms.specs.Unfit.{is_flag_out, IsRequired, HasMisfit, IsUnfit, cap_of_unfit}
+use Rattle.ti_conforms.specs.declared.fitness.Unfit.{Unfit}
+use Rattle.ti_conforms.specs.declared.fitness.Unfit.TheVariants.{FlagOut, Absent, AcsByte}
 use Rattle.ti_cert.specs.Disagreements.{IsDisagreement, RuledOut, OtherPairs, OtherLine, IsDisagreeing, IsAtRow, IsAtCap, TextDisagrees}
 use Rattle.ti_cert.specs.Texts.{IsTableOf}
 use Rattle.ti_cert.specs.declared.faults.AgreeFault.{AgreeFault}
@@ -37,43 +39,43 @@ first_there s row first some =
           ∙ (ap (λ (k : ℕ). slice_get (group_at s (order row)) k) first.rank_zero ∙ x.1),
     )
 
-other_at : (table : Content) (entry : caps.Content) (row : Row) (fault : AgreeFault) → IsAtRow row fault → IsInRange table.known.strings.rows table.known.strings.cols row
+other_at : (table : Content) (entry : caps.Content) (row : Row) (fault : AgreeFault) → IsFit entry → table.acsc ≡ string_at entry acsc → IsAtRow row fault → IsInRange table.known.strings.rows table.known.strings.cols row
     → (LineAgrees entry (string_in table.known.strings row) row → ⊥) → IsDisagreeing table entry fault
-other_at table entry row (Disagree cap numbers) at range differs = OtherLine (record { row = row; cap_is = at.0; params_are = at.1; range = range; differs = differs })
-other_at table entry row NoMemory at range differs = absurd at
+other_at table entry row (Disagree cap numbers) fit pairs at range differs = OtherLine fit pairs (record { row = row; cap_is = at.0; params_are = at.1; range = range; differs = differs })
+other_at table entry row NoMemory fit pairs at range differs = absurd at
 
-sends_other : (table : Content) (entry : caps.Content) (rows cols : ℕ) (row : Row) (fault : AgreeFault) → rows ≡ table.known.strings.rows → cols ≡ table.known.strings.cols → IsAtRow row fault
+sends_other : (table : Content) (entry : caps.Content) (rows cols : ℕ) (row : Row) (fault : AgreeFault) → IsFit entry → table.acsc ≡ string_at entry acsc → rows ≡ table.known.strings.rows → cols ≡ table.known.strings.cols → IsAtRow row fault
     → IsInRange rows cols row → is_checked entry row ≡ true → (EntrySends entry (string_in table.known.strings row) row → ⊥) → IsDisagreeing table entry fault
-sends_other table entry rows cols row fault r c at range checked differs =
-    other_at table entry row fault at (subst (λ (n : ℕ). IsInRange table.known.strings.rows n row) c (subst (λ (n : ℕ). IsInRange n cols row) r range)) (λ l. differs (l.checked checked))
+sends_other table entry rows cols row fault fit pairs r c at range checked differs =
+    other_at table entry row fault fit pairs at (subst (λ (n : ℕ). IsInRange table.known.strings.rows n row) c (subst (λ (n : ℕ). IsInRange n cols row) r range)) (λ l. differs (l.checked checked))
 
-sends_none : (table : Content) (entry : caps.Content) (rows cols : ℕ) (row : Row) (fault : AgreeFault) → rows ≡ table.known.strings.rows → cols ≡ table.known.strings.cols → IsAtRow row fault
+sends_none : (table : Content) (entry : caps.Content) (rows cols : ℕ) (row : Row) (fault : AgreeFault) → IsFit entry → table.acsc ≡ string_at entry acsc → rows ≡ table.known.strings.rows → cols ≡ table.known.strings.cols → IsAtRow row fault
     → IsFirst rows cols row → is_checked entry row ≡ false → SomeLine (λ r. string_in table.known.strings r) (order row) → IsDisagreeing table entry fault
-sends_none table entry rows cols row fault r c at first unchecked some =
+sends_none table entry rows cols row fault fit pairs r c at first unchecked some =
     let is_first : IsFirst table.known.strings.rows table.known.strings.cols row = subst (λ (n : ℕ). IsFirst table.known.strings.rows n row) c (subst (λ (n : ℕ). IsFirst n cols row) r first) in
     let x = first_there table.known.strings row is_first some in
-    other_at table entry row fault at is_first.range (λ l. let no : None ≡ Some x.0 = sym (l.unchecked unchecked) ∙ x.1 in cc no)
+    other_at table entry row fault fit pairs at is_first.range (λ l. let no : None ≡ Some x.0 = sym (l.unchecked unchecked) ∙ x.1 in cc no)
 
 -- by what is found of the lines
-pub line_differs : (table : Content) (entry : caps.Content) (rows cols : ℕ) (e : sends.Disagreement) (row : Row) (fault : AgreeFault) → rows ≡ table.known.strings.rows → cols ≡ table.known.strings.cols → IsAtRow row fault
+pub line_differs : (table : Content) (entry : caps.Content) (rows cols : ℕ) (e : sends.Disagreement) (row : Row) (fault : AgreeFault) → IsFit entry → table.acsc ≡ string_at entry acsc → rows ≡ table.known.strings.rows → cols ≡ table.known.strings.cols → IsAtRow row fault
     → e ≡ other.Disagree row → IsNotAgreed rows cols entry (λ r. string_in table.known.strings r) e → IsDisagreeing table entry fault
-line_differs table entry rows cols e row fault r c at is h =
+line_differs table entry rows cols e row fault fit pairs r c at is h =
     let f = subst (λ (x : sends.Disagreement). IsNotAgreed rows cols entry (λ r. string_in table.known.strings r) x) is h in
-    sends_other table entry rows cols row fault r c at f.0 f.1 f.2
+    sends_other table entry rows cols row fault fit pairs r c at f.0 f.1 f.2
 
-pub line_unwanted : (table : Content) (entry : caps.Content) (rows cols : ℕ) (e : sends.Disagreement) (row : Row) (fault : AgreeFault) → rows ≡ table.known.strings.rows → cols ≡ table.known.strings.cols → IsAtRow row fault
+pub line_unwanted : (table : Content) (entry : caps.Content) (rows cols : ℕ) (e : sends.Disagreement) (row : Row) (fault : AgreeFault) → IsFit entry → table.acsc ≡ string_at entry acsc → rows ≡ table.known.strings.rows → cols ≡ table.known.strings.cols → IsAtRow row fault
     → e ≡ other.Unwanted row → IsNotAgreed rows cols entry (λ r. string_in table.known.strings r) e → IsDisagreeing table entry fault
-line_unwanted table entry rows cols e row fault r c at is h =
+line_unwanted table entry rows cols e row fault fit pairs r c at is h =
     let f = subst (λ (x : sends.Disagreement). IsNotAgreed rows cols entry (λ r. string_in table.known.strings r) x) is h in
-    sends_none table entry rows cols row fault r c at f.0 f.1 f.2
+    sends_none table entry rows cols row fault fit pairs r c at f.0 f.1 f.2
 
-pub unfit_at : (table : Content) (entry : caps.Content) (cap : ℕ) (fault : AgreeFault) → IsAtCap cap fault → IsUnfitBy entry cap → IsDisagreeing table entry fault
-unfit_at table entry cap (Disagree named numbers) at h = RuledOut (subst (λ (n : ℕ). IsUnfitBy entry n) (sym at.0) h) at.1
-unfit_at table entry cap NoMemory at h = absurd at
+pub unfit_at : (table : Content) (entry : caps.Content) (why : Unfit) (cap : ℕ) (fault : AgreeFault) → cap ≡ cap_of_unfit why → IsAtCap cap fault → IsUnfit entry why → IsDisagreeing table entry fault
+unfit_at table entry why cap (Disagree named numbers) is at h = RuledOut why h (at.0 ∙ is) at.1
+unfit_at table entry why cap NoMemory is at h = absurd at
 
-pub pairs_at : (table : Content) (entry : caps.Content) (cap : ℕ) (fault : AgreeFault) → IsAtCap cap fault → cap ≡ acsc → (table.acsc ≡ string_at entry acsc → ⊥) → IsDisagreeing table entry fault
-pairs_at table entry cap (Disagree named numbers) at is differs = OtherPairs (at.0 ∙ is) differs at.1
-pairs_at table entry cap NoMemory at is differs = absurd at
+pub pairs_at : (table : Content) (entry : caps.Content) (cap : ℕ) (fault : AgreeFault) → IsFit entry → IsAtCap cap fault → cap ≡ acsc → (table.acsc ≡ string_at entry acsc → ⊥) → IsDisagreeing table entry fault
+pairs_at table entry cap (Disagree named numbers) fit at is differs = OtherPairs fit (at.0 ∙ is) differs at.1
+pairs_at table entry cap NoMemory fit at is differs = absurd at
 
 -- of the table of a text
 pub text_disagrees : (rows cols : ℕ) (text : List ℕ) (entry : caps.Content) (table : Content) (fault : AgreeFault) → table.known.strings.rows ≡ rows → table.known.strings.cols ≡ cols → IsTableOf rows cols text table
@@ -116,13 +118,13 @@ none_misfit entry fit m =
     let small : m.letter < 256 = letter_small letters m.letter (search (rules)) (and_parts (is_some (fallback_of m.letter)) _ m.misfit).0 in
     false≢true (sym (fit.partners m.pairs m.there m.letter small) ∙ m.misfit)
 
-none_unfit : (entry : caps.Content) (cap : ℕ) → IsFit entry → IsUnfitBy entry cap → ⊥
-none_unfit entry cap fit (Flagged h) = flag_not_out entry cap fit h
-none_unfit entry cap fit (Lacks l) = none_lacking entry l.row fit l.lacking.required l.lacking.absent
-none_unfit entry cap fit (Unprinted is m) = none_misfit entry fit m
+none_unfit : (entry : caps.Content) (why : Unfit) → IsFit entry → IsUnfit entry why → ⊥
+none_unfit entry (FlagOut cap) fit h = flag_not_out entry cap fit h.1
+none_unfit entry (Absent row) fit h = none_lacking entry row fit h.lacking.required h.lacking.absent
+none_unfit entry AcsByte fit h = none_misfit entry fit h.1
 
 pub excludes_yes : (table : Content) (entry : caps.Content) (cap : ℕ) (numbers : List ℕ) → IsDisagreement table entry cap numbers → IsFit entry → table.acsc ≡ string_at entry acsc
     → EntryAgrees table.known.strings.rows table.known.strings.cols entry (λ row. string_in table.known.strings row) → ⊥
-excludes_yes table entry cap numbers (RuledOut h e) fit pairs lines = none_unfit entry cap fit h
-excludes_yes table entry cap numbers (OtherPairs is differs e) fit pairs lines = differs pairs
-excludes_yes table entry cap numbers (OtherLine h) fit pairs lines = h.differs (lines h.row h.range)
+excludes_yes table entry cap numbers (RuledOut why h is e) fit pairs lines = none_unfit entry why fit h
+excludes_yes table entry cap numbers (OtherPairs f is differs e) fit pairs lines = differs pairs
+excludes_yes table entry cap numbers (OtherLine f p h) fit pairs lines = h.differs (lines h.row h.range)

@@ -11,7 +11,8 @@ use Rattle.ti_conforms.specs.Conforms.{IsFit}
 use Rattle.ti_cert.specs.Strings.{string_in}
 use Rattle.ti_cert.specs.Table.{Content}
 use Rattle.ti_cert.specs.Texts.{IsTableOf}
-use Rattle.ti_conforms.specs.Unfit.{IsUnfitBy}
+use Rattle.ti_conforms.specs.Unfit.{IsUnfit, cap_of_unfit}
+use Rattle.ti_conforms.specs.declared.fitness.Unfit.{Unfit}
 use Rattle.ti_cert.specs.declared.faults.AgreeFault.{AgreeFault}
 use Rattle.ti_cert.specs.declared.faults.AgreeFault.TheVariants.{Disagree, NoMemory}
 use Rattle.ti_cert.specs.declared.faults.VerifyFault.{VerifyFault}
@@ -26,12 +27,12 @@ pub record HasOtherLine (table : Content) (entry : caps.Content) (cap : ℕ) (nu
   pub range : IsInRange table.known.strings.rows table.known.strings.cols row
   pub differs : LineAgrees entry (string_in table.known.strings row) row → ⊥
 
--- Or the capability is why no certificate is for the entry, or its pairs of alternate characters are others: then there are
--- no parameters.
+-- What is told first: why no certificate is for the entry as a whole, by the capability of the first such reason; then that its pairs
+-- of alternate characters are others; both without parameters. Then a line.
 pub data IsDisagreement (table : Content) (entry : caps.Content) (cap : ℕ) (numbers : List ℕ) : Type 0 where
-  RuledOut : IsUnfitBy entry cap → numbers ≡ [] → IsDisagreement table entry cap numbers
-  OtherPairs : cap ≡ acsc → (table.acsc ≡ string_at entry acsc → ⊥) → numbers ≡ [] → IsDisagreement table entry cap numbers
-  OtherLine : HasOtherLine table entry cap numbers → IsDisagreement table entry cap numbers
+  RuledOut : (why : Unfit) → IsUnfit entry why → cap ≡ cap_of_unfit why → numbers ≡ [] → IsDisagreement table entry cap numbers
+  OtherPairs : IsFit entry → cap ≡ acsc → (table.acsc ≡ string_at entry acsc → ⊥) → numbers ≡ [] → IsDisagreement table entry cap numbers
+  OtherLine : IsFit entry → table.acsc ≡ string_at entry acsc → HasOtherLine table entry cap numbers → IsDisagreement table entry cap numbers
 
 -- running out of memory claims nothing
 abbrev pub IsDisagreeing : Content → caps.Content → AgreeFault → Type 0

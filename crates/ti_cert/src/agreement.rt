@@ -27,8 +27,10 @@ fn has_pairs(table: &Table, entry: &Entry) -> bool
     }
 }
 
-/// Whether the lines are those of an entry.
+/// Whether the lines of `table` are those of `entry`, which can have a certificate and has the table's pairs.
 fn lines_agree(alloc: Global, table: &Table, entry: &Entry) -> Result<(), AgreeFault>
+    requires fit { conforms.IsFit entry.now }
+    requires pairs { table.now.acsc ≡ string_at entry.now entries.acsc }
     ensures lines { OnOk result (entries.EntryAgrees table.now.known.strings.rows table.now.known.strings.cols entry.now
         (λ row. string_in table.now.known.strings row)) }
     ensures disagrees { IfErr result (spec.IsDisagreeing table.now entry.now) }
@@ -65,9 +67,9 @@ fn at_cap(cap: Cap) -> AgreeFault
 /// other lines.
 ///
 /// # Errors
-/// `Disagree` with a capability and parameters for which it isn't so: a line that isn't what the entry
-/// sends, or, without parameters, what rules every certificate out, or `acsc` where the pairs differ.
-/// And `NoMemory`.
+/// `Disagree`, without parameters, with the capability of the first reason why the entry can have no certificate
+/// (`first_unfit` of `ti_conforms`), or else `acsc` where the pairs differ; or else with a capability and parameters
+/// whose line isn't what the entry sends. And `NoMemory`.
 pub fn agrees(alloc: Global, table: &Table, entry: &Entry) -> Result<(), AgreeFault>
     ensures fit { OnOk result (conforms.IsFit entry.now) }
     ensures acsc { OnOk result (table.now.acsc ≡ string_at entry.now entries.acsc) }

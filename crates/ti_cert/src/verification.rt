@@ -2,7 +2,7 @@
 
 ghost use Rattle.std.specs.Prelude.{◌≡◌, ◌++◌, ℕ, List, IfOk, IfErr, IfSome, OnOk, option_copied};
 ghost use Rattle.ti_lines.specs.Reader.{Rose};
-ghost use Rattle.ti_cert.specs.Texts.{IsCertRefused, IsCertLineRead, Takes};
+ghost use Rattle.ti_cert.specs.Texts.{IsCertLineRead, IsCertRefused, IsTableOf, Takes};
 ghost use Rattle.ti_cert.specs.Basic.{IsBasic, IsVerifyStopped, basic_text_of};
 ghost use Rattle.ti_cert.specs.Disagreements.{IsAgreeRefused};
 ghost use Rattle.ti_caps.specs.Entry.{string_at};
@@ -148,6 +148,7 @@ pub fn verify_from<R: Reader>(
     size: Size,
     reader: &mut R,
 ) -> Result<Checked, VerifyFault>
+    ensures accepted { (text : List ℕ) → R.left reader.old text → IfOk result (IsTableOf size.rows size.cols text) }
     ensures refused { (text : List ℕ) → R.left reader.old text
         → IfErr result (IsCertRefused size.rows size.cols text (Rose (R.failures reader.old) (R.failures reader.new))) }
     ensures disagrees { (text : List ℕ) → R.left reader.old text
@@ -179,6 +180,7 @@ pub fn verify_from<R: Reader>(
 /// `Cert` with the certificate's first fault, `Agree` where it is that of another entry or memory runs
 /// out.
 pub fn verify(alloc: Global, entry: &Entry, size: Size, text: &[u8]) -> Result<Checked, VerifyFault>
+    ensures accepted { IfOk result (IsTableOf size.rows size.cols text.now) }
     ensures refused { IfErr result (IsCertRefused size.rows size.cols text.now ⊥) }
     ensures disagrees { IfErr result (IsAgreeRefused size.rows size.cols text.now entry.now) }
     ensures basic { IsBasic entry.now size.rows size.cols → text.now ≡ basic_text_of entry.now size.rows size.cols

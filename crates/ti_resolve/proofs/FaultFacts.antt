@@ -9,8 +9,8 @@ use Rattle.ti_resolve.specs.declared.faults.ResolveFault.TheVariants.{NoSuchEntr
 use Rattle.ti_resolve.specs.Uses.{place_named, fields_at, names_at, uses_in}
 use Rattle.ti_resolve.specs.Fills.{fields_of_all, take_fields, start}
 use Rattle.ti_resolve.specs.Resolved.{IsResolved}
-use Rattle.ti_resolve.specs.Walk.{and_then, enter, follow_uses, go_to, holds, target, walk_from, walk_of}
-use Rattle.ti_resolve.specs.Faults.{AnswersOnce, AreDifferent, FaultAt, FaultFrom, FaultsAreSo, Includes, Reaches, ReachesTooMany, itself, by_use, WalksResolve}
+use Rattle.ti_resolve.specs.Walk.{and_then, enter, follow_uses, go_to, holds, target, walk_at, walk_from, walk_of}
+use Rattle.ti_resolve.specs.Faults.{AnswersOnce, AreDifferent, FaultAt, FaultFrom, FaultsAreSo, FaultsFromAreSo, Includes, Reaches, ReachesTooMany, itself, by_use, WalksResolve}
 use Rattle.ti_resolve.proofs.Law.{holds-append}
 use Rattle.ti_resolve.proofs.Once as Once
 use Rattle.ti_resolve.proofs.Whole.{resolved_is}
@@ -160,13 +160,16 @@ root-goes depth raws root asked deep =
     (record { others = []; first = refl; different = (refl, tt); reached = λ q t. only (Reaches raws root) q itself t; few = omega arith })
     (omega arith))
 
+pub faults_from_are_so : FaultsFromAreSo
+faults_from_are_so raws root fault fails = subst (Goes raws root []) fails (root-goes 64 raws root (names_at raws root) refl)
+
 pub faults_are_so : FaultsAreSo
 unfolding walk_of
 faults_are_so raws asked fault is = along (place_named raws asked) is
   where
     along : (o : Option ℕ) → walk_from raws asked o ≡ Err fault → FaultAt raws asked o fault
     along None fails = let same : fault ≡ NoSuchEntry asked = cc in same
-    along (Some root) fails = subst (Goes raws root []) fails (root-goes 64 raws root asked refl)
+    along (Some root) fails = faults_from_are_so raws root fault fails
 
 pub walks_resolve : WalksResolve
 unfolding walk_of
@@ -176,7 +179,7 @@ walks_resolve raws asked places is = along (place_named raws asked) refl is
     along None found walks = cc
     along (Some root) found walks =
         let entry : Content = (take_fields (start (names_at raws root)) (fields_of_all raws places)).entry in
-        (entry, resolved_is raws asked (names_at raws root) places root entry (sym found) walks refl refl)
+        (entry, record { root = root; found = found; there = resolved_is raws (names_at raws root) places root entry walks refl refl })
 
 not-both : (walk : Result (List ℕ) ResolveFault) (fault : ResolveFault) → IsOk walk → walk ≡ Err fault → ⊥
 not-both (Ok places) fault ok is = cc

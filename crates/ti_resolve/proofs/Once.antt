@@ -3,7 +3,7 @@ use Rattle.std.proofs.Common.{◌≡◌, ℕ, List, [], ◌∷◌, ◌++◌, Som
 use Rattle.ti_source.specs.declared.types.Field.{Field}
 use Rattle.ti_source.specs.declared.types.RawEntry.{RawEntry}
 use Rattle.ti_caps.proofs.Entries.{same_entry}
-use Rattle.ti_resolve.specs.Resolved.{Expands, no_use, one_use, ExpandsOnce, ResolvedOnce}
+use Rattle.ti_resolve.specs.Resolved.{Expands, no_use, one_use, ExpandsOnce, IsResolvedAt, ResolvedAtOnce, ResolvedOnce}
 use Rattle.ti_resolve.specs.Uses.{place_named, fields_at, names_at, uses_in, own_in, first_about, value_given}
 
 some_same : (a b : ℕ) → Some a ≡ Some b → a ≡ b
@@ -38,12 +38,13 @@ expands_once raws names one other (one_use name others place inner rest found us
     ∙ (ap (λ r. (own_in (fields_at raws place) ++ f.inner) ++ r) rests
     ∙ (ap (λ p. (own_in (fields_at raws p) ++ f.inner) ++ f.rest) (sym same) ∙ sym f.whole))
 
+pub resolved_at_once : ResolvedAtOnce
+resolved_at_once raws root one other is_one is_other r s =
+    let used : r.whole.used ≡ s.whole.used = expands_once raws (uses_in (fields_at raws root)) r.whole.used s.whole.used r.whole.expands s.whole.expands in
+    let fields : r.fields ≡ s.fields = r.whole.whole ∙ (ap (λ u. own_in (fields_at raws root) ++ u) used ∙ sym s.whole.whole) in
+    same_entry one other is_one is_other (r.names ∙ sym s.names)
+    (λ place inside. r.values place inside ∙ (ap (λ fs. value_given (first_about place fs)) fields ∙ sym (s.values place inside)))
+
 pub resolved_once : ResolvedOnce
 resolved_once raws name one other is_one is_other r s =
-    let root : s.root ≡ r.root = some_same s.root r.root (sym s.found ∙ r.found) in
-    let used : r.whole.used ≡ s.whole.used =
-    expands_once raws (uses_in (fields_at raws r.root)) r.whole.used s.whole.used r.whole.expands (subst (λ p. Expands raws (uses_in (fields_at raws p)) s.whole.used) root s.whole.expands) in
-    let fields : r.fields ≡ s.fields =
-    r.whole.whole ∙ (ap (λ u. own_in (fields_at raws r.root) ++ u) used ∙ (ap (λ p. own_in (fields_at raws p) ++ s.whole.used) (sym root) ∙ sym s.whole.whole)) in
-    same_entry one other is_one is_other (r.names ∙ (ap (names_at raws) (sym root) ∙ sym s.names))
-    (λ place inside. r.values place inside ∙ (ap (λ fs. value_given (first_about place fs)) fields ∙ sym (s.values place inside)))
+    resolved_at_once raws r.root one other is_one is_other r.there (subst (λ p. IsResolvedAt raws p other) (some_same s.root r.root (sym s.found ∙ r.found)) s.there)

@@ -5,8 +5,8 @@ use Rattle.ti_source.specs.declared.types.RawEntry.{RawEntry}
 use Rattle.ti_resolve.specs.declared.faults.ResolveFault.TheVariants.{NoSuchEntry}
 use Rattle.ti_resolve.specs.Uses.{place_named, names_at, value_given}
 use Rattle.ti_resolve.specs.Fills.{fields_of_all, take_fields, start}
-use Rattle.ti_resolve.specs.Resolved.{IsResolved}
-use Rattle.ti_resolve.specs.Walk.{enter, walk_from, walk_of}
+use Rattle.ti_resolve.specs.Resolved.{IsResolvedAt}
+use Rattle.ti_resolve.specs.Walk.{walk_at, walk_from, walk_of}
 use Rattle.ti_resolve.proofs.Law.{walk_is_whole}
 use Rattle.ti_resolve.proofs.Taken.{taken_names, taken_values}
 
@@ -14,7 +14,7 @@ pub walk_none : (raws : List RawEntry) (name : List ℕ) → None ≡ place_name
 unfolding walk_of
 walk_none raws name none = ap (walk_from raws name) (sym none)
 
-pub walk_is : (raws : List RawEntry) (name : List ℕ) (root : ℕ) → Some root ≡ place_named raws name → enter 65 raws [] name root [] ≡ walk_of raws name
+pub walk_is : (raws : List RawEntry) (name : List ℕ) (root : ℕ) → Some root ≡ place_named raws name → walk_at raws root ≡ walk_of raws name
 unfolding walk_of
 walk_is raws name root found = ap (walk_from raws name) found
 
@@ -22,13 +22,11 @@ bare_names : (names : List ℕ) → (bare_entry names).names ≡ names
 unfolding bare_entry
 bare_names names = refl
 
-pub resolved_is : (raws : List RawEntry) (name names after : List ℕ) (root : ℕ) (entry : Content) → Some root ≡ place_named raws name → enter 65 raws [] name root [] ≡ Ok after → names ≡ names_at raws root → entry ≡ (take_fields (start names) (fields_of_all raws after)).entry → IsResolved raws name entry
-resolved_is raws name names after root entry found walked named is =
-    let whole = walk_is_whole raws 65 root name after walked in
+pub resolved_is : (raws : List RawEntry) (names after : List ℕ) (root : ℕ) (entry : Content) → walk_at raws root ≡ Ok after → names ≡ names_at raws root → entry ≡ (take_fields (start names) (fields_of_all raws after)).entry → IsResolvedAt raws root entry
+resolved_is raws names after root entry walked named is =
+    let whole = walk_is_whole raws 65 root (names_at raws root) after walked in
     record {
-      root = root;
       fields = whole.0;
-      found = sym found;
       whole = whole.1;
       names = ap (λ e. e.names) is ∙ (taken_names (start names) (fields_of_all raws after) ∙ (bare_names names ∙ named));
       values = λ place inside. ap (λ e. value_at e place) is ∙ (taken_values names (fields_of_all raws after) place inside ∙ ap value_given (whole.2 place));

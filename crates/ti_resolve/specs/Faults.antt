@@ -6,7 +6,7 @@ use Rattle.ti_resolve.specs.declared.faults.ResolveFault.{ResolveFault}
 use Rattle.ti_resolve.specs.declared.faults.ResolveFault.TheVariants.{NoSuchEntry, Cycle, NoMemory, TooMany}
 use Rattle.ti_resolve.specs.Uses.{place_named, fields_at, uses_in}
 use Rattle.ti_resolve.specs.Resolved.{IsResolved}
-use Rattle.ti_resolve.specs.Walk.{holds, walk_of}
+use Rattle.ti_resolve.specs.Walk.{holds, walk_at, walk_of}
 
 -- the entry at a place includes this name
 abbrev pub Includes : List RawEntry → ℕ → List ℕ → Type 0
@@ -65,7 +65,11 @@ FaultAt raws asked (Some root) fault = FaultFrom raws root fault
 abbrev pub IsFaultOf : List RawEntry → List ℕ → ResolveFault → Type 0
 IsFaultOf raws asked fault = FaultAt raws asked (place_named raws asked) fault
 
--- each fault of the walk is so
+-- each fault of the walk from a place is so
+abbrev pub FaultsFromAreSo : Type 0
+FaultsFromAreSo = (raws : List RawEntry) (root : ℕ) (fault : ResolveFault) → walk_at raws root ≡ Err fault → FaultFrom raws root fault
+
+-- each fault of the walk from the entry that a name asks for is so
 abbrev pub FaultsAreSo : Type 0
 FaultsAreSo = (raws : List RawEntry) (asked : List ℕ) (fault : ResolveFault) → walk_of raws asked ≡ Err fault → IsFaultOf raws asked fault
 

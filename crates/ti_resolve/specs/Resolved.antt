@@ -18,19 +18,27 @@ pub record IsWhole (raws : List RawEntry) (place : ℕ) (fields : List Field) : 
   pub expands : Expands raws (uses_in (fields_at raws place)) used
   pub whole : fields ≡ own_in (fields_at raws place) ++ used
 
--- the entry that a name asks for, with all that it uses
-pub record IsResolved (raws : List RawEntry) (name : List ℕ) (entry : Content) : Type 0 where
-  pub root : ℕ
+-- the entry at a place, with all that it uses
+pub record IsResolvedAt (raws : List RawEntry) (root : ℕ) (entry : Content) : Type 0 where
   pub fields : List Field
-  pub found : place_named raws name ≡ Some root
   pub whole : IsWhole raws root fields
   pub names : entry.names ≡ names_at raws root
   pub values : (place : ℕ) → place < 497 → value_at entry place ≡ value_given (first_about place fields)
+
+-- the entry that a name asks for: the first that has it
+pub record IsResolved (raws : List RawEntry) (name : List ℕ) (entry : Content) : Type 0 where
+  pub root : ℕ
+  pub found : place_named raws name ≡ Some root
+  pub there : IsResolvedAt raws root entry
 
 -- uses stand for one list of fields at most
 abbrev pub ExpandsOnce : Type 0
 ExpandsOnce = (raws : List RawEntry) (names : List (List ℕ)) (one other : List Field) → Expands raws names one → Expands raws names other → one ≡ other
 
--- so a name asks for one entry at most
+-- so at a place there is one entry at most
+abbrev pub ResolvedAtOnce : Type 0
+ResolvedAtOnce = (raws : List RawEntry) (root : ℕ) (one other : Content) → IsEntry one → IsEntry other → IsResolvedAt raws root one → IsResolvedAt raws root other → one ≡ other
+
+-- and a name asks for one at most
 abbrev pub ResolvedOnce : Type 0
 ResolvedOnce = (raws : List RawEntry) (name : List ℕ) (one other : Content) → IsEntry one → IsEntry other → IsResolved raws name one → IsResolved raws name other → one ≡ other

@@ -7,7 +7,7 @@ use Rattle.ti_resolve.specs.declared.faults.ResolveFault.TheVariants.{NoSuchEntr
 use Rattle.ti_source.specs.declared.types.Field.{Field}
 use Rattle.ti_source.specs.declared.types.Field.TheVariants.{Set, Cancel, Include}
 use Rattle.ti_source.specs.declared.types.RawEntry.{RawEntry}
-use Rattle.ti_resolve.specs.Uses.{place_named, fields_at, uses_in}
+use Rattle.ti_resolve.specs.Uses.{place_named, fields_at, names_at, uses_in}
 
 -- what a walk gives from an answer, if it is no fault
 abbrev pub and_then : {X Y : Type 0} → Result X ResolveFault → (X → Result Y ResolveFault) → Result Y ResolveFault
@@ -50,10 +50,14 @@ enter zero raws chain name place entered = Err (TooMany name)
 enter (suc depth) raws chain name place entered =
     follow_uses (enter depth raws (chain ++ place ∷ [])) raws (chain ++ place ∷ []) (uses_in (fields_at raws place)) (entered ++ place ∷ [])
 
+-- the walk from the entry at a place, which no name leads to: its own names stand for one
+abbrev pub walk_at : List RawEntry → ℕ → Result (List ℕ) ResolveFault
+walk_at raws root = enter 65 raws [] (names_at raws root) root []
+
 -- the walk from the entry that a name asks for
 abbrev pub walk_from : List RawEntry → List ℕ → Option ℕ → Result (List ℕ) ResolveFault
 walk_from raws name None = Err (NoSuchEntry name)
-walk_from raws name (Some root) = enter 65 raws [] name root []
+walk_from raws name (Some root) = walk_at raws root
 
 unfoldable pub walk_of : List RawEntry → List ℕ → Result (List ℕ) ResolveFault
 walk_of raws name = walk_from raws name (place_named raws name)

@@ -9,5 +9,6 @@ mod walk;
 
 pub use faults::ResolveFault;
 pub use resolution::{
-    answers_once, expands_once, faults_are_so, resolve, resolved_once, walks_resolve,
+    answers_once, expands_once, faults_are_so, faults_from_are_so, resolve, resolve_at,
+    resolved_at_once, resolved_once, walks_resolve,
 };

@@ -3,9 +3,9 @@
 ghost use Rattle.std.specs.Prelude.{◌≡◌, ◌<◌, [], IfOk, MatchResult, IsOk, length};
 ghost use Rattle.std.specs.List.{AllByRecursion};
 ghost use Rattle.ti_source.specs.Raw.{IsRaw};
-ghost use Rattle.ti_resolve.specs.Faults.{AnswersOnce, FaultsAreSo, WalksResolve};
-ghost use Rattle.ti_resolve.specs.Resolved.{ExpandsOnce, IsResolved, ResolvedOnce};
-ghost use Rattle.ti_resolve.specs.Walk.{Gives, FailsBy, enter, walk_of};
+ghost use Rattle.ti_resolve.specs.Faults.{AnswersOnce, FaultsAreSo, FaultsFromAreSo, WalksResolve};
+ghost use Rattle.ti_resolve.specs.Resolved.{ExpandsOnce, IsResolved, IsResolvedAt, ResolvedAtOnce, ResolvedOnce};
+ghost use Rattle.ti_resolve.specs.Walk.{Gives, FailsBy, walk_at, walk_of};
 
 use crate::faults::ResolveFault;
 use crate::fill::filled;
@@ -15,33 +15,29 @@ use std::alloc::Global;
 use ti_caps::Entry;
 use ti_source::RawEntry;
 
-/// The places of the entries that the walk from one of them enters, in that order.
-fn entered_from(
-    alloc: Global,
-    index: &Index<'_>,
-    name: &[u8],
-    root: usize,
-) -> Result<Vec<usize>, ResolveFault>
+/// The places of the entries that the walk from the one at `root` enters, in that order.
+fn entered_from(alloc: Global, index: &Index<'_>, root: usize) -> Result<Vec<usize>, ResolveFault>
     requires { root < length index.now.raws.now }
-    ensures { Gives (λ places. places.items) result (enter 65 index.now.raws.now [] name.now root []) }
+    ensures { Gives (λ places. places.items) result (walk_at index.now.raws.now root) }
 {
     let mut chain = Vec::new(alloc);
     let mut entered = Vec::new(alloc);
-    let to = Destination { name, place: root };
+    let to = Destination {
+        name: names_of(index.raws, root),
+        place: root,
+    };
     enter(alloc, index, MOST_USED + 1, to, &mut chain, &mut entered)?;
     Ok(entered)
 }
 
-/// The entry that a name asks for, in entries with their index.
-fn resolve_in(alloc: Global, index: &Index<'_>, name: &[u8]) -> Result<Entry, ResolveFault>
-    requires { AllByRecursion IsRaw index.now.raws.now }
-    ensures entry { IfOk result (λ entry. IsResolved index.now.raws.now name.now entry) }
-    ensures walk { MatchResult result (λ _. IsOk (walk_of index.now.raws.now name.now)) (λ fault. FailsBy fault (walk_of index.now.raws.now name.now)) }
+/// The entry at the place `root`, in entries with their index.
+fn resolve_from(alloc: Global, index: &Index<'_>, root: usize) -> Result<Entry, ResolveFault>
+    requires fit { AllByRecursion IsRaw index.now.raws.now }
+    requires range { root < length index.now.raws.now }
+    ensures entry { IfOk result (λ entry. IsResolvedAt index.now.raws.now root entry) }
+    ensures walk { MatchResult result (λ _. IsOk (walk_at index.now.raws.now root)) (λ fault. FailsBy fault (walk_at index.now.raws.now root)) }
 {
-    let Some(root) = index.find(name) else {
-        return Err(ResolveFault::no_such_entry(alloc, name));
-    };
-    let entered = entered_from(alloc, index, name, root)?;
+    let entered = entered_from(alloc, index, root)?;
     let entry = filled(
         alloc,
         index.raws,
@@ -49,6 +45,18 @@ fn resolve_in(alloc: Global, index: &Index<'_>, name: &[u8]) -> Result<Entry, Re
         entered.as_slice(),
     )?;
     Ok(entry)
+}
+
+/// The entry that `name` asks for, in entries with their index.
+fn resolve_in(alloc: Global, index: &Index<'_>, name: &[u8]) -> Result<Entry, ResolveFault>
+    requires { AllByRecursion IsRaw index.now.raws.now }
+    ensures entry { IfOk result (λ entry. IsResolved index.now.raws.now name.now entry) }
+    ensures walk { MatchResult result (λ _. IsOk (walk_of index.now.raws.now name.now)) (λ fault. FailsBy fault (walk_of index.now.raws.now name.now)) }
+{
+    match index.find(name) {
+        Some(root) => resolve_from(alloc, index, root),
+        None => Err(ResolveFault::no_such_entry(alloc, name)),
+    }
 }
 
 /// The entry that a name asks for, with all that it uses: depth first and left to right, an entry's own
@@ -67,10 +75,30 @@ pub fn resolve(alloc: Global, raws: &[RawEntry], name: &[u8]) -> Result<Entry, R
     resolve_in(alloc, &index, name)
 }
 
+/// The entry at `place` in `raws`, with all that it uses, as `resolve` gives it; its names don't count, so that of
+/// several entries with one name each can be had.
+///
+/// # Errors
+/// The first fault that is met on the way, or out of memory.
+pub fn resolve_at(alloc: Global, raws: &[RawEntry], place: usize) -> Result<Entry, ResolveFault>
+    requires fit { AllByRecursion IsRaw raws.now }
+    requires range { place < length raws.now }
+    ensures entry { IfOk result (λ entry. IsResolvedAt raws.now place entry) }
+    ensures walk { MatchResult result (λ _. IsOk (walk_at raws.now place)) (λ fault. FailsBy fault (walk_at raws.now place)) }
+{
+    let index = Index::new(alloc, raws)?;
+    resolve_from(alloc, &index, place)
+}
+
 /// A law: uses stand for one list of fields.
 #[tactic(auto, using(crate::proofs::Once::expands_once))]
 pub fn expands_once()
     ensures { ExpandsOnce }
+{}
+
+/// A law: at a place there is one entry.
+pub fn resolved_at_once()
+    ensures { ResolvedAtOnce }
 {}
 
 /// A law: a name asks for one entry.
@@ -83,7 +111,12 @@ pub fn walks_resolve()
     ensures { WalksResolve }
 {}
 
-/// A law: what each fault of the walk says of the entries and their uses is so.
+/// A law: what each fault of the walk from a place says of the entries and their uses is so.
+pub fn faults_from_are_so()
+    ensures { FaultsFromAreSo }
+{}
+
+/// A law: what each fault of the walk from a name says of the entries and their uses is so.
 pub fn faults_are_so()
     ensures { FaultsAreSo }
 {}

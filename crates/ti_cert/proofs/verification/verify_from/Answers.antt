@@ -12,7 +12,7 @@ use Rattle.ti_conforms.specs.Entries.{has_string}
 use Rattle.ti_rows.specs.declared.rows.Row.TheVariants.{Home, El}
 use Rattle.ti_cert.specs.Basic.{IsVerifyStopped, basic_text_of}
 use Rattle.ti_cert.proofs.BasicAgreement.{basic_table_at}
-use Rattle.ti_cert.specs.Texts.{IsCertRefused}
+use Rattle.ti_cert.specs.Texts.{IsCertRefused, IsTableOf}
 use Rattle.ti_cert.specs.declared.faults.AgreeFault.TheVariants as agreeing
 use Rattle.ti_cert.specs.declared.faults.VerifyFault.{VerifyFault}
 use Rattle.ti_cert.specs.declared.faults.VerifyFault.TheVariants.{Agree}
@@ -51,3 +51,6 @@ pub returns-in-Err-agrees-clause-basic : goal.returns-in-Err-agrees-clause-basic
 returns-in-Err-agrees-clause-basic g c = λ basic left.
     c.in-Err-agrees.ensures.basic (basic_table_at c.args.entry.now c.in-Ok.table c.args.size.rows c.args.size.cols c.in-Ok.ensures.rows c.in-Ok.ensures.cols c.args.size.limits basic
     (c.in-Ok.ensures.accepted (basic_text_of c.args.entry.now c.args.size.rows c.args.size.cols) left))
+
+pub returns-in-Ok-agrees-clause-accepted : goal.returns-in-Ok-agrees-clause-accepted
+returns-in-Ok-agrees-clause-accepted g c = λ text left. at_ok (IsTableOf c.args.size.rows c.args.size.cols text) c.in-Ok.table c.handed_out.result c.handed_out.ensures.same (c.in-Ok.ensures.accepted text left)
