@@ -1,19 +1,16 @@
 -- How an entry grows by its fields and notes.
-use Rattle.std.proofs.Common.{◌≡◌, ℕ, ◌<◌, Bool, true, false, ◌||◌, List, [], ◌∷◌, ◌++◌, length, replicate, Some, None, Result, Ok, Err, refl, sym, ap, ◌∙◌, ⊎_elim, arith, append-nil, append_assoc, get_or-set_same, get_or-set_other, ◌≢◌}
-use Rattle.std.specs.Prelude.{slice_index_or, slice_set, ◌==◌}
-use Rattle.std.proofs.lemmas.List.{get_or-replicate}
-use Rattle.std.proofs.lemmas.List.Folds.{list_any-append}
-use Rattle.std.proofs.lemmas.Bool.{cases_eq}
-use Rattle.std.proofs.lemmas.Bool.Decides.{nat_tests}
+use Rattle.std.proofs.Common.{◌≡◌, ℕ, ◌<◌, Bool, true, false, List, [], ◌∷◌, ◌++◌, length, replicate, Some, None, Result, Ok, Err, refl, sym, ap, ◌∙◌, append-nil, append_assoc}
+use Rattle.std.specs.Prelude.{slice_set}
 use Rattle.ti_source.specs.declared.types.FaultKind.{FaultKind}
 use Rattle.ti_source.specs.declared.types.FaultKind.TheVariants as faults
 use Rattle.ti_source.specs.declared.types.Field.{Field}
 use Rattle.ti_source.specs.declared.types.Note.{Note}
 use Rattle.ti_source.specs.declared.types.RawEntry.{RawEntry}
 use Rattle.ti_source.specs.Drafts.{IsSeen}
-use Rattle.ti_source.specs.Fields.{◌>>=◌, cap_of, is_cap, is_told, with_notes, add_field, add_last, add_fields, add_cut, named_entry, begun_by, entry_on}
+use Rattle.ti_source.specs.Fields.{◌>>=◌, cap_of, is_told, with_notes, add_field, add_last, add_fields, add_cut, named_entry, begun_by, entry_on}
 use Rattle.ti_source.specs.Layout.{Cut, put_field, cut_of}
 use Rattle.ti_source.specs.Source.{FailsBy}
+use Rattle.ti_source.proofs.Flags.{flags_none, flags_same, flags_more}
 
 -- a fault that one step gives is that of all that begins with it
 pub fault_passes : {A : Type 0} (kind : FaultKind) (step all : Result A FaultKind) → (step ≡ Err kind → all ≡ Err kind) → FailsBy kind kind step → FailsBy kind kind all
@@ -58,41 +55,15 @@ no_notes raw = ap (λ ns. record raw { notes = ns }) (sym (append-nil raw.notes)
 -- the flags of fields: none yet, one more, and one that is on no capability
 pub seen_none : (seen : List Bool) → seen ≡ replicate 497 false → IsSeen [] seen
 unfolding is_told
-seen_none seen e cap h = ap (λ xs. slice_index_or xs cap false) e ∙ get_or-replicate 497 cap false false h
-
-told_more : (fields : List Field) (field : Field) (cap : ℕ) → is_told (fields ++ field ∷ []) cap ≡ (is_told fields cap || (is_cap cap (cap_of field) || false))
-unfolding is_told
-told_more fields field cap = list_any-append (λ f. is_cap cap (cap_of f)) fields (field ∷ [])
-
-or_false : (t : Bool) → t ≡ (t || false)
-or_false true = refl
-or_false false = refl
-
-or_true : (t : Bool) → true ≡ (t || true)
-or_true true = refl
-or_true false = refl
-
-same_cap : (cap : ℕ) → (cap == cap) ≡ true
-same_cap cap = grind (arith, nat_tests)
-
-other_cap : (cap place : ℕ) → place ≢ cap → (cap == place) ≡ false
-other_cap cap place h = grind (arith, nat_tests)
+seen_none seen e = flags_none cap_of seen e
 
 pub seen_same : (fields : List Field) (field : Field) (seen : List Bool) → cap_of field ≡ None → IsSeen fields seen → IsSeen (fields ++ field ∷ []) seen
-seen_same fields field seen e h cap inside =
-    h cap inside ∙ (or_false (is_told fields cap) ∙ sym (told_more fields field cap ∙ ap (λ o. is_told fields cap || (is_cap cap o || false)) e))
+unfolding is_told
+seen_same fields field seen e h = flags_same cap_of fields field seen e h
 
 pub seen_more : (fields : List Field) (field : Field) (seen : List Bool) (place : ℕ) → cap_of field ≡ Some place → place < length seen → IsSeen fields seen → IsSeen (fields ++ field ∷ []) (slice_set seen place true)
-seen_more fields field seen place e room h cap inside =
-    let more = told_more fields field cap ∙ ap (λ o. is_told fields cap || (is_cap cap o || false)) e in
-    ⊎_elim
-    (λ (same : cap ≡ place).
-    rw same (get_or-set_same seen place true false room)
-    ∙ (or_true (is_told fields cap) ∙ sym (more ∙ ap (λ t. is_told fields cap || (t || false)) (ap (λ k. place == k) same ∙ same_cap place))))
-    (λ (apart : cap ≢ place).
-    get_or-set_other seen place cap true false apart
-    ∙ (h cap inside ∙ (or_false (is_told fields cap) ∙ sym (more ∙ ap (λ t. is_told fields cap || (t || false)) (other_cap place cap apart)))))
-    (cases_eq cap place)
+unfolding is_told
+seen_more fields field seen place e room h = flags_more cap_of fields field seen place e room h
 
 -- the entry that begins with these names
 pub begun_names : (line : ℕ) (text names behind : List ℕ) → cut_of text ≡ put_field names (cut_of behind) → entry_on line text ≡ (named_entry line names >>= λ raw. add_cut line raw (cut_of behind))

@@ -2,6 +2,7 @@ pub mod Decodings
 pub mod Tests
 pub mod Layouts
 pub mod Caps
+pub mod Flags
 pub mod Entries
 pub mod Fitness
 pub mod Spellings
@@ -12,3 +13,4 @@ pub mod Lengths
 pub mod Cuts
 pub mod Relations
 pub mod Just
+pub mod FieldLines

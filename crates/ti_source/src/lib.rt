@@ -5,6 +5,7 @@ mod draft;
 mod escapes;
 mod hints;
 mod layout;
+mod lines;
 mod numbers;
 mod parts;
 mod printer;
@@ -13,6 +14,7 @@ mod types;
 
 pub use escapes::{EscapeFault, unescape};
 pub use hints::{Hint, percent_carets};
+pub use lines::{FieldLine, field_lines, field_lines_are_of_fields};
 pub use printer::{print, printing_reads_back};
 pub use source::{read, reading_is_the_relation};
 pub use types::{FaultKind, Field, Fields, Items, Note, NoteKind, Notes, RawEntry, SourceFault};

@@ -25,7 +25,7 @@ pub(crate) enum Reading {
     Says(Field, usize),
 }
 
-fn is_use(name: &[u8]) -> bool
+pub(crate) fn is_use(name: &[u8]) -> bool
     ensures { result ≡ is_use name.now }
 {
     match name {
