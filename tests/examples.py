@@ -505,11 +505,12 @@ WRITTEN = [
 
 def judge(words, told, status, out, err):
     """Ends the script where a run told something else; what is None was not known before. Below the lines of standard
-    error that are known stands at most one more, in plain words."""
+    error that are known stands at most one more, in plain words, and two below that of a file."""
     right = told.status == status and (out is None or told.out == out.encode())
     if err is not None:
         further = told.err.removeprefix(err.encode())
-        right = right and told.err.startswith(err.encode()) and further.count(b"\n") <= 1
+        most = 2 if "file:" in err else 1
+        right = right and told.err.startswith(err.encode()) and further.count(b"\n") <= most
         right = right and not further.startswith(FIXED) and (bool(err) or not further)
         right = right and all(byte == 10 or 32 <= byte <= 126 for byte in further)
     # where the words are wrong, something says so

@@ -1,2 +1,3 @@
+mod Colons
 pub mod Rows
 pub mod Faults

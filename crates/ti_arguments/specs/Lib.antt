@@ -1,2 +1,3 @@
+pub mod Inputs
 pub mod Line
 pub mod Requests

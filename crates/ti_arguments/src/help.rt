@@ -9,6 +9,10 @@ pub const MORE: &str = "\
 An ENTRY is FILE:NAME, a terminfo source file and the name of an entry in it (split at the last colon),
 or FILE, a compiled terminfo file. A word that begins with `-` and is not an option is written after `--`.
 
+A file that is read may be `-`, standard input, once in a command; a file of that name is `./-`. The entry NAME of
+a source on standard input is `-:NAME`, after `--`:
+  infocmp -1 xterm | ticurses check -- -:xterm 24 80
+
 Exit status:
   0  done
   1  refused: standard error has a line `refused: KIND`, and then what explains it
@@ -140,7 +144,7 @@ pub const CHECK_MORE: &str = "\
 The output is a certificate: for each checked string of the entry, and for all parameters that a terminal of this
 size allows, the bytes that the string sends and what they do. There is one only if each of them does what programs
 rely on, from every state in which programs send it. `ticurses verify` reads it. With --out it is written to FILE,
-whole or not at all, and there is no output.
+whole or not at all, and there is no output; a terminal as standard error has a last line `yes, N lines`.
 
 Standard error gets a line `note CAP HEX` for each sequence of the entry's strings, with the first parameters of each,
 that the terminal ignores, or of which it ignores a number. There are none where a string can't be expanded, or doesn't
@@ -176,7 +180,7 @@ CAUSE is one of:
   NoResync     what leads out of any state (smcup, enacs, sgr0, rmacs, csr and clear, one after another) doesn't begin with ESC
 KIND is one of:
   BadSize      ROWS is not 2 to 200, or COLS is not 2 to 500
-  and for the entry each KIND of `ticurses tic --help`.
+and for the entry each KIND of `ticurses tic --help`.
 
 Example:
   ticurses check my.ti:myterm 24 80 --out myterm.cert";
@@ -218,11 +222,82 @@ pub const PLAY: &str = "Plays a script of curses calls, and writes what it sends
 
 /// `play` in full.
 pub const PLAY_MORE: &str = "\
-SCRIPT lists calls of curses, one a line, as in `newwin 1 5 20 2 2` or `addstr 1 hello`; docs/TOUR.md has examples. It is
-played on a terminal of this size, which the entry drives as the certificate CERT shows. The output is the bytes that
-the calls send; what a refresh sends is written before the next call, in one piece where it is no more than 65536
-bytes. A call that curses refuses does nothing, except that what a text wrote before its refusal stays. The calls after
-it are played; `ticurses show` lists those that were refused.
+The calls of SCRIPT are played on a terminal of this size, which the entry drives as the certificate CERT shows. The
+output is the bytes that the calls send; what a refresh sends is written before the next call, in one piece where it is
+no more than 65536 bytes. A call that curses refuses does nothing, except that what a text wrote before its refusal
+stays. The calls after it are played; `ticurses show` lists those that were refused.
+
+A script has a call on each line: its name and its arguments, with one space between words. Empty lines and lines that
+begin with `#` are skipped. The arguments are:
+  w, s, d, new  the number of a window, 0 to 63, without a sign; 0 is the screen, and new is the window that is made
+  cell          two lower case hexadecimal digits of a character, then perhaps `/` and attributes, then perhaps `:` and
+                a color pair, 0 to 63: `41`, `20/R`, `2a/BU:3`
+  line          a cell, or `-` for the usual line or corner
+  A             attributes, or `-` for none: S standout, U underline, R reverse, K blink, D dim, B bold, I invisible,
+                A line drawing
+  f             0 or 1
+  0             0
+  TEXT          the rest of the line
+  others        decimal numbers, -2147483648 to 2147483647: n is how many, y and x are a row and a column from 0 on,
+                l and c are lines and columns
+
+The calls are those of X/Open Curses:
+  newwin new l c y x    makes a window with its corner at y x; of 0 lines or columns it goes to the edge of the screen
+  newpad new l c        makes a pad, a window that is not on the screen
+  subwin new w l c y x  makes a part of w, which has the same cells; y x is a place of the screen
+  derwin new w l c y x  makes a part of w; y x is a place of w
+  subpad new w l c y x  makes a part of the pad w; y x is a place of w
+  dupwin new w          makes a copy of w with cells of its own
+  delwin w              deletes w
+  mvwin w y x           moves w to y x
+  move w y x            moves the cursor of w
+  addch w cell          writes a cell at the cursor
+  addstr w TEXT         writes a text at the cursor
+  insch w cell          inserts a cell before the cursor
+  delch w               deletes the cell at the cursor
+  insertln w            inserts a line above the cursor
+  deleteln w            deletes the line of the cursor
+  clrtoeol w            erases from the cursor to the end of its line
+  clrtobot w            erases from the cursor to the end of w
+  erase w               erases w, and moves its cursor to 0 0
+  clear w               does the same, and has the next refresh of w paint the whole screen
+  hline w line n        draws a horizontal line of n cells from the cursor
+  vline w line n        draws a vertical line of n cells from the cursor
+  border w line line line line line line line line
+                        draws the left, right, top and bottom edge, and the top left, top right, bottom left and
+                        bottom right corner
+  box w line line       draws the vertical and the horizontal edges
+  scroll w n            scrolls the scrolling region up by n lines, or down by -n
+  setscrreg w t b       makes lines t to b the scrolling region
+  attron w A            turns attributes on for what is written
+  attroff w A           turns attributes off
+  attrset w A           turns just these attributes on
+  color_set w p         writes with color pair p
+  init_pair p fg bg     makes color pair p, 1 to 63, of two colors, 0 to 7
+  bkgdset w cell        sets the background, with which w is erased
+  bkgd w cell           sets the background, and changes the cells that have the old one
+  overlay s d           copies s over d, without its spaces, where they overlap on the screen
+  overwrite s d         copies s over d where they overlap on the screen
+  copywin s d sr sc dr dc er ec f
+                        copies s from its place sr sc on over the lines dr to er and the columns dc to ec of d; with f 1
+                        without its spaces
+  scrollok w f          sets whether w scrolls where a text goes past its last line
+  leaveok w f           sets whether the cursor may stay anywhere
+  clearok w f           sets whether the next refresh of w paints the whole screen
+  idlok w f             changes nothing
+  touchwin w            changes nothing
+  touchline w y n       changes nothing
+  noutrefresh w         copies w to the virtual screen
+  refresh w             copies w to the virtual screen, and makes the terminal show it
+  doupdate              makes the terminal show the virtual screen
+  pnoutrefresh w pr pc sr sc er ec
+                        copies the pad w, from its place pr pc on, to the lines sr to er and the columns sc to ec of the
+                        virtual screen
+  prefresh w pr pc sr sc er ec
+                        does the same, and makes the terminal show the virtual screen
+  curs_set n            makes the cursor hidden (0), visible (1) or very visible (2)
+  beep 0                rings the bell
+  endwin                leaves the terminal as other programs want it
 
 Exit status: 0 done; 1 refused, with a line `refused: KIND` on standard error; 2 usage error; 3 a file could not
 be read or the script has more than 1048576 bytes, or, told after the last call, standard output could not be
@@ -233,7 +308,7 @@ KIND is one of, for the script:
 for the size, the entry and the certificate: each KIND of `ticurses verify --help`.
 
 Example:
-  ticurses play my.ti:myterm 24 80 myterm.cert my.script";
+  printf 'addstr 0 hello\\nrefresh 0\\n' | ticurses play my.ti:myterm 24 80 myterm.cert -";
 
 /// `show` in one line.
 pub const SHOW: &str =
@@ -288,4 +363,4 @@ error; 3 a file could not be read or is too long (`file: PATH` names the first),
 written; 4 out of memory.
 
 Example:
-  ticurses survey 24 80 my.ti /usr/share/terminfo/x/xterm";
+  ticurses survey 24 80 my.ti /usr/share/terminfo/*/*";

@@ -3,6 +3,7 @@
 
 mod commands;
 mod help;
+mod inputs;
 mod parser;
 
 pub use parser::{ParsedLine, UsageFault, parse_line};

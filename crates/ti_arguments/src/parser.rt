@@ -4,9 +4,11 @@ ghost use Rattle.std.specs.Prelude.{◌≡◌, IfOk, codes, map, option_map};
 ghost use Rattle.std.specs.String.{string_bytes};
 ghost use Rattle.clap.specs.Walk.{first_of, rows_of};
 ghost use Rattle.clap.specs.Words.{found_of, kind_of, subcommand_rows_of};
+ghost use Rattle.ti_arguments.specs.Inputs.{AnswersWithInput};
 ghost use Rattle.ti_arguments.specs.Requests.{Asks, AsksFor, IsAnswer, IsTold, Plays, is_on, word_of, words_of};
 
 use crate::commands::command_line;
+use crate::inputs::judge_input;
 use clap::ArgMatches;
 use clap::error::{Error, ErrorKind};
 use std::alloc::{AllocError, Global};
@@ -36,14 +38,17 @@ impl From<AllocError> for UsageFault {
     }
 }
 
-/// What the `words` after the program's own name ask for.
+/// What the `words` after the program's own name ask for. A request reads standard input (the path `-`) once at most,
+/// and doesn't write to it.
 pub fn parse_line<'a>(alloc: Global, words: &'a [String]) -> Result<ParsedLine<'a>, UsageFault>
-    ensures { IfOk result (λ answer. IsAnswer (map (λ w. string_bytes w) words.entry.now) answer) }
+    ensures answer { IfOk result (λ answer. IsAnswer (map (λ w. string_bytes w) words.entry.now) answer) }
+    ensures input { IfOk result (λ answer. AnswersWithInput answer) }
 {
     let command = command_line(alloc)?;
     match command.try_get_matches_from(words) {
         Ok(matches) => {
             let request = request_of(alloc, &matches)?;
+            judge_input(alloc, &request)?;
             Ok(ParsedLine::Request(request))
         }
         Err(error) => explain(alloc, &error),
@@ -52,7 +57,8 @@ pub fn parse_line<'a>(alloc: Global, words: &'a [String]) -> Result<ParsedLine<'
 
 /// The answer that `error` is: help and version are answers, and any other error of the parser is a usage error.
 fn explain<'a>(alloc: Global, error: &Error) -> Result<ParsedLine<'a>, UsageFault>
-    ensures { IfOk result (λ answer. IsTold (kind_of error.now) answer) }
+    ensures told { IfOk result (λ answer. IsTold (kind_of error.now) answer) }
+    ensures text { IfOk result (λ answer. AnswersWithInput answer) }
 {
     match error.kind() {
         ErrorKind::OutOfMemory => Err(UsageFault::NoMemory),

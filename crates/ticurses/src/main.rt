@@ -1,6 +1,8 @@
 //! `ticurses`: checks terminal descriptions.
 #![tactic(auto)]
 
+mod counted;
+mod hints;
 mod progress;
 mod run;
 mod stored;
@@ -13,13 +15,13 @@ use stored::Stored;
 use ti_commands::{Failure, report, usage_error};
 use ti_words::Remarks;
 
-/// `command` over the words of the line, the system's files, standard output and standard error.
+/// `command` over the words of the line, the system's files with standard input, standard output and standard error.
 fn main(rt: HostRuntime) -> ExitCode {
     ExitCode::from(match words_of(&rt) {
         Ok(words) => run::command(
             rt.alloc(),
             words.as_slice(),
-            &mut Stored::new(rt.alloc(), &rt),
+            &mut Stored::new(rt.alloc(), &rt, rt.stdin()),
             &mut rt.stdout(),
             &mut rt.stderr(),
         ),

@@ -2,6 +2,8 @@
 
 ghost use Rattle.std.specs.Prelude.{◌≤◌};
 
+use crate::counted::Counted;
+use crate::hints::hint_path;
 use crate::progress::ProgressLine;
 use cur_commands::{play_script, show_script};
 use std::alloc::Global;
@@ -11,7 +13,7 @@ use ti_commands::{
     Comparison, Failure, Files, Output, Reply, Written, compare_entries, compile_entry,
     expand_string, feed_file, print_entry, report, write_reply, write_text,
 };
-use ti_requests::Request;
+use ti_requests::{CheckWords, Request};
 use ti_verdicts::{Checker, check_entry, survey_files, verify_certificate};
 use ti_words::Remarks;
 
@@ -55,7 +57,11 @@ fn perform<F: Files, O: Output, E: Write + IsTerminal>(
 ) -> Result<(), Failure> {
     match parse_line(alloc, words) {
         Ok(ParsedLine::Request(request)) => {
-            let reply = reply_to(alloc, &request, files, out, err, remarks)?;
+            let reply = reply_to(alloc, &request, files, out, err, remarks);
+            if let Some(path) = failed_path(&reply) {
+                hint_path(alloc, &request, path, files, remarks);
+            }
+            let reply = reply?;
             let _ = err.write_all(reply.notes.as_slice());
             write_reply(out, reply)
         }
@@ -63,6 +69,41 @@ fn perform<F: Files, O: Output, E: Write + IsTerminal>(
         Err(UsageFault::Usage(text)) => Err(Failure::Usage(text)),
         Err(UsageFault::NoMemory) => Err(Failure::NoMemory),
     }
+}
+
+/// The path of the file that `reply` failed for, if it did.
+fn failed_path(reply: &Result<Reply, Failure>) -> Option<&str> {
+    match reply {
+        Err(Failure::File(path))
+        | Ok(
+            Reply {
+                failure: Some(Failure::File(path)),
+                ..
+            },
+        ) => Some(path.as_str()),
+        _ => None,
+    }
+}
+
+/// What `check` answers for its `words`. Where `err` is a terminal, and the certificate goes to a file, a last line in
+/// `remarks` says how many lines it has.
+fn check_counted<F: Files, E: IsTerminal>(
+    alloc: Global,
+    words: &CheckWords<'_>,
+    files: &mut F,
+    err: &E,
+    remarks: &mut Remarks,
+) -> Result<Reply, Failure> {
+    let mut counted = Counted::new(files);
+    let reply = check_entry(alloc, &Checker, words, &mut counted, remarks)?;
+    if let Some(lines) = counted.lines {
+        if err.is_terminal() {
+            if let Ok(text) = format!(in alloc; "yes, {lines} lines") {
+                remarks.add_words(text.as_bytes());
+            }
+        }
+    }
+    Ok(reply)
 }
 
 /// What the command answers that the `request` names. What `play` sends goes to `out` as it comes, and its reply has
@@ -79,7 +120,7 @@ fn reply_to<F: Files, O: Output, E: Write + IsTerminal>(
         Request::Expand(words) => expand_string(alloc, words, remarks),
         Request::Feed { rows, cols, file } => feed_file(alloc, rows, cols, file, files, remarks),
         Request::Tic { entry, out } => compile_entry(alloc, entry, *out, files, remarks),
-        Request::Check(words) => check_entry(alloc, &Checker, words, files, remarks),
+        Request::Check(words) => check_counted(alloc, words, files, err, remarks),
         Request::Verify(words) => verify_certificate(alloc, words, files, remarks),
         Request::Play(words) => {
             play_script(alloc, words, files, out, remarks)?;

@@ -1,8 +1,8 @@
-//! The system's files.
+//! The system's files, and standard input as one of them.
 
 use std::alloc::Global;
 use std::fs::{Metadata, OpenFile, Permissions};
-use std::io::{ErrorKind, Write};
+use std::io::{ErrorKind, Read, Write};
 use std::os::unix::fs::MetadataExt;
 use std::{fs, io, rt};
 use ti_commands::{FileCause, FileFault, Files};
@@ -10,22 +10,42 @@ use ti_commands::{FileCause, FileFault, Files};
 /// The most names that are tried for a temporary file.
 const TEMPORARY_NAMES: u32 = 100;
 
-/// The system's files, as a command reads and writes them.
+/// The path that is standard input.
+const INPUT: &str = "-";
+
+/// Where the system has standard input as a file.
+const INPUT_FILE: &str = "/dev/stdin";
+
+/// The system's files, as a command reads and writes them. The path `-` is standard input; a file of that name is
+/// `./-`.
 #[derive(Drop)]
-pub struct Stored<'a, R> {
+pub struct Stored<'a, R, I> {
     alloc: Global,
     rt: &'a R,
+    /// Standard input, until it is opened.
+    input: Option<I>,
     /// The file that was opened last, by its device and its number there.
     last_read: Option<(u64, u64)>,
 }
 
-impl<'a, R: rt::Files> Stored<'a, R> {
-    /// The files that `rt` reaches.
-    pub fn new(alloc: Global, rt: &'a R) -> Stored<'a, R> {
+impl<'a, R: rt::Files, I> Stored<'a, R, I> {
+    /// The files that `rt` reaches, and `input` as standard input.
+    pub fn new(alloc: Global, rt: &'a R, input: I) -> Stored<'a, R, I> {
         Stored {
             alloc,
             rt,
+            input: Some(input),
             last_read: None,
+        }
+    }
+
+    /// Standard input, where it wasn't opened before.
+    fn open_input(&mut self) -> Result<I, FileFault> {
+        let metadata = fs::metadata(self.rt, INPUT_FILE);
+        self.last_read = metadata.ok().map(|metadata| identity(&metadata));
+        match self.input.take() {
+            Some(input) => Ok(input),
+            None => Err(FileFault::Failed(FileCause::Other)),
         }
     }
 
@@ -89,13 +109,34 @@ fn identity(metadata: &Metadata) -> (u64, u64) {
     (metadata.dev(), metadata.ino())
 }
 
-impl<R: rt::Files> Files for Stored<'_, R> {
-    type File = R::File;
+/// What is read: a file, or standard input.
+#[derive(Drop)]
+pub enum Opened<F, I> {
+    /// A file.
+    File(F),
+    /// Standard input.
+    Input(I),
+}
 
-    fn reader(&mut self, path: &str) -> Result<R::File, FileFault> {
+impl<F: Read, I: Read> Read for Opened<F, I> {
+    fn read(&mut self, into: &mut [u8]) -> io::Result<usize> {
+        match self {
+            Opened::File(file) => file.read(into),
+            Opened::Input(input) => input.read(into),
+        }
+    }
+}
+
+impl<R: rt::Files, I: Read + Drop> Files for Stored<'_, R, I> {
+    type File = Opened<R::File, I>;
+
+    fn reader(&mut self, path: &str) -> Result<Opened<R::File, I>, FileFault> {
+        if path == INPUT {
+            return Ok(Opened::Input(self.open_input()?));
+        }
         let file = fs::open(self.rt, path)?;
         self.last_read = Some(identity(&file.metadata()?));
-        Ok(file)
+        Ok(Opened::File(file))
     }
 
     /// A file is replaced as a whole, through links too; what is no file, as a terminal or a pipe, is written.

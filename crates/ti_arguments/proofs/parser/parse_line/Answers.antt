@@ -4,12 +4,12 @@ use Rattle.clap.specs.Words.{app_of, subcommand_rows_of}
 use Rattle.ti_arguments.proofs.Faults.{answered, asked, failed}
 use Rattle.ti_arguments.proofs.parser.parse_line.Goals as goal
 
-pub returns-in-Err : goal.returns-in-Err
-returns-in-Err c =
+pub returns-in-Err-clause-answer : goal.returns-in-Err-clause-answer
+returns-in-Err-clause-answer c =
     answered (map (λ w. string_bytes w) c.args.words.now) c.in-Err.error c.explain.result
-    (failed (app_of c.in_ok-command.command) (map (λ w. string_bytes w) c.args.words.now) c.in-Err.error c.in_ok-command.ensures c.in-Err.ensures.kinds) c.explain.ensures
+    (failed (app_of c.in_ok-command.command) (map (λ w. string_bytes w) c.args.words.now) c.in-Err.error c.in_ok-command.ensures c.in-Err.ensures.kinds) c.explain.ensures.told
 
-pub returns-in_ok-request-in-Ok : goal.returns-in_ok-request-in-Ok
-returns-in_ok-request-in-Ok c =
+pub returns-in_ok-judge_input-in-Ok-clause-answer : goal.returns-in_ok-judge_input-in-Ok-clause-answer
+returns-in_ok-judge_input-in-Ok-clause-answer c =
     asked (app_of c.in_ok-command.command) (map (λ w. string_bytes w) c.args.words.now) (subcommand_rows_of c.in-Ok.matches) c.in_ok-request-in-Ok.request
     c.in_ok-command.ensures c.in-Ok.ensures.matches c.in_ok-request-in-Ok.ensures

@@ -1,0 +1,36 @@
+//! How many lines a command stored.
+
+ghost use Rattle.std.specs.Prelude.{◌≡◌};
+
+use ti_commands::{FileFault, Files};
+
+/// The files of a command, and how many lines the last one has that it stored.
+#[derive(Drop)]
+pub struct Counted<'a, F> {
+    files: &'a mut F,
+    /// The lines of the file that was stored last, if one was.
+    pub lines: Option<usize>,
+}
+
+impl<'a, F> Counted<'a, F> {
+    /// These `files`, to which nothing was stored yet.
+    pub fn new(files: &'a mut F) -> Counted<'a, F> {
+        Counted { files, lines: None }
+    }
+}
+
+impl<F: Files> Files for Counted<'_, F> {
+    ghost holds = { λ counted. F.holds counted.files.now };
+
+    type File = F::File;
+
+    fn reader(&mut self, path: &str) -> Result<F::File, FileFault> {
+        self.files.reader(path)
+    }
+
+    fn store(&mut self, path: &str, bytes: &[u8]) -> Result<(), FileFault> {
+        self.files.store(path, bytes)?;
+        self.lines = Some(bytes.iter().filter(|byte| **byte == b'\n').count());
+        Ok(())
+    }
+}

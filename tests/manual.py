@@ -1,0 +1,223 @@
+"""The manual pages, the lists of the help texts beside those of the code, standard input as a file, and hints."""
+
+import os
+import pty
+import re
+import shutil
+import subprocess
+import sys
+import tempfile
+
+from trying import PROGRAM, TOP, Case, held_in, run_cases
+
+sys.path.append(f"{TOP}/tools")
+
+from manpages import Help, box, items_of, pages
+
+MINI = b"mini|sample,\n\tclear=\\E[H\\E[2J, cup=\\E[%i%p1%d;%p2%dH, sgr0=\\E[m,\n"
+SCRIPT = b"addstr 0 hi\nrefresh 0\n"
+SHOWN = b"hi\n  \ncursor 1 0\n"
+TWICE = b"error: '-' is standard input, which can be read once; a file of that name is './-'\n"
+UNWRITTEN = b"error: '-' is standard input, which can't be written; a file of that name is './-'\n"
+
+# the enums whose variants a command's help lists, and those that it doesn't
+LISTED = [
+    ("expand", ["ti_parm/src/fault.rt ParmFault", "ti_source/src/escapes.rt EscapeFault", "vt_term/src/tokenizer.rt TokenFaultKind"], set()),
+    ("tic", ["ti_source/src/types.rt FaultKind", "ti_resolve/src/faults.rt ResolveFault", "ti_compiled/src/types.rt PackFault"], set()),
+    ("check", ["ti_checker/src/causes.rt Cause", "ti_parm/src/fault.rt ParmFault"], {"Parm"}),
+    ("verify", ["ti_cert/src/faults.rt CertFaultKind", "ti_cert/src/faults.rt AgreeFault"], {"ReadFailed"}),
+    ("show", ["cur_drawing/src/refusals.rt Refusal"], set()),
+]
+
+
+def fail(text):
+    sys.exit(f"manual: {text}")
+
+
+def source(path):
+    return held_in(f"{TOP}/crates/{path}").decode()
+
+
+def helps():
+    """What `--help` prints of the program and of each command."""
+    top = run_cases(PROGRAM, [Case(["--help"])])[0].out.decode()
+    names = Help(top).commands()
+    told = run_cases(PROGRAM, [Case([name, "--help"]) for name in names])
+    return {"": top} | {name: it.out.decode() for name, it in zip(names, told)}
+
+
+def judge_pages(texts):
+    for path, text in pages(texts, box()).items():
+        if held_in(f"{TOP}/{path}", b"").decode() != text:
+            fail(f"{path} isn't what tools/manpages.py makes of --help; run it")
+        if shutil.which("groff"):
+            shown = subprocess.run(["groff", "-mdoc", "-Tutf8", "-ww", f"{TOP}/{path}"], capture_output=True, check=True)
+            if shown.stderr:
+                fail(shown.stderr.decode())
+    print(f"manual: the pages have what --help prints of {len(texts) - 1} commands")
+
+
+# what the arguments of a call are, by their names in the help
+CLASSES = {"w": "W", "s": "W", "d": "W", "new": "W", "f": "F", "cell": "C", "line": "L", "A": "A", "TEXT": "T", "0": "0"}
+# and by the methods that read them
+READS = {
+    "window": "W", "two_windows": "WW", "number": "N", "two_numbers": "NN", "four_numbers": "NNNN", "flag": "F", "zero": "0",
+    "cell": "C", "cell_or": "L", "attrs": "A", "rest": "T",
+}  # fmt: skip
+
+
+def read_calls():
+    """What the reader of scripts takes: the classes of the arguments of each call."""
+    forms = {}
+    for name, body in re.findall(r"^(?:pub\(crate\) )?fn (\w+)[^{]*?\{.*?^\{(.*?)^\}", source("cur_calls/src/arguments.rt"), re.M | re.S):
+        reads = re.findall(r"words\s*\.(\w+)\(|(?<=\W)(sides|corners)\(", body)
+        forms[name] = [method or child for method, child in reads if method != "end"]
+    flat = {name: "".join(READS.get(it) or "".join(READS[each] for each in forms[it]) for it in reads) for name, reads in forms.items()}
+    table = re.findall(r'name == b"(\w+)"\.as_slice\(\) \{\s*(\w+)\(', source("cur_calls/src/table.rt"))
+    return {call: flat[reader] for call, reader in table}
+
+
+def told_calls(text):
+    """What `play --help` tells: the same of each call."""
+    block = next(it for it in Help(text).body if it[0].startswith("The calls are"))
+    calls = [term.split() for term, _ in items_of(block[1:])]
+    return {name: "".join(CLASSES.get(it, "N") for it in words) for name, *words in calls}
+
+
+def judge_calls(text):
+    read, told = read_calls(), told_calls(text)
+    if read != told or len(read) < 45:
+        fail(f"play --help and the reader differ in {sorted(set(read.items()) ^ set(told.items()))}")
+    print(f"manual: play --help has the {len(read)} calls with the arguments that the reader takes")
+
+
+def variants(path, name):
+    """The names of an enum's variants."""
+    body = re.search(rf"^pub enum {name}[^{{]*\{{(.*?)^\}}", source(path), re.M | re.S)[1]
+    return set(re.findall(r"^    (\w+)", body, re.M)) - {"NoMemory"}
+
+
+def judge_causes(texts):
+    """The lists of kinds and causes have each variant of the code's enums."""
+    for command, enums, left_out in LISTED:
+        blocks = [it for it in Help(texts[command]).body if re.match(r"(KIND|CAUSE|NAME) is one of", it[0])]
+        listed = {it for block in blocks for line in block for it in re.findall(r"^  ((?:\w+, )*\w+)", line)}
+        listed = {name for names in listed for name in names.split(", ")}
+        wanted = set().union(*(variants(*it.split()) for it in enums)) - left_out
+        if wanted - listed:
+            fail(f"{command} --help doesn't list {sorted(wanted - listed)}")
+    print(f"manual: the causes that {len(LISTED)} commands list are those of the code")
+
+
+def judge_input():
+    """`-` is standard input, in each place of each command, and `./-` is a file."""
+    packed = made(["tic", "mini:mini", "--out"])
+    script, cert = ["--", "mini:mini", "2", "2"], run_cases(PROGRAM, [Case(["check", "mini:mini", "2", "2"])], {"mini": MINI})[0].out
+    files = {"mini": MINI, "cert": cert, "script": SCRIPT, "packed": packed}
+    wanted = [
+        (["infocmp", "--", "-:mini"], MINI, None),
+        (["infocmp", "-"], packed, None),
+        (["infocmp", "-c", "--", "mini:mini", "-:mini"], MINI, b"clear\ncup\nsgr0\n"),
+        (["tic", "--", "-:mini"], MINI, b""),
+        (["check", "--", "-:mini", "2", "2"], MINI, cert),
+        (["check", "-", "2", "2"], packed, cert),
+        (["verify", "--", "-:mini", "2", "2", "cert"], MINI, b"yes\n"),
+        (["verify", "mini:mini", "2", "2", "-"], cert, b"yes\n"),
+        (["show", "--", "-:mini", "2", "2", "cert", "script"], MINI, SHOWN),
+        (["show", "mini:mini", "2", "2", "-", "script"], cert, SHOWN),
+        (["show", "mini:mini", "2", "2", "cert", "-"], SCRIPT, SHOWN),
+        (["play", "mini:mini", "2", "2", "cert", "-"], SCRIPT, None),
+        (["feed", "2", "2", "-"], b"hi", b"hi\n  \ncursor 0 1\n"),
+        (["survey", "2", "2", "-"], MINI, b"mini yes\ntotal 1, yes 1\n"),
+    ]
+    for (words, _, out), told in zip(wanted, run_cases(PROGRAM, [Case(words, given) for words, given, _ in wanted], files)):
+        if told.status or told.err or not told.out and out != b"" or out is not None and told.out != out:
+            fail(f"{words}: status {told.status}, {told.out}, {told.err}")
+    judge_refused(script, files)
+    with tempfile.TemporaryDirectory() as room:
+        for name, held in (("-", b"no"), ("mini", MINI)):
+            with open(f"{room}/{name}", "wb") as file:
+                file.write(held)
+        told = in_folder(room, ["feed", "2", "2", "./-"], b"other")
+        kept = in_folder(room, ["tic", "--out", "mini", "--", "-:mini"], open(f"{room}/mini", "rb"))
+        if told.stdout != b"no\n  \ncursor 0 1\n" or kept.returncode != 3 or open(f"{room}/mini", "rb").read() != MINI:
+            fail(f"./-: {told}; a source that is standard input: {kept}")
+    print(f"manual: - is standard input in {len(wanted)} places, and ./- is a file")
+
+
+def judge_refused(script, files):
+    """Standard input is read once, and isn't written; nothing else is done then."""
+    cases = [
+        (["verify", "--", "-:mini", "2", "2", "-"], TWICE),
+        (["play", *script, "-", "-"], TWICE),
+        (["show", "--", "-", "2", "2", "cert", "-"], TWICE),
+        (["infocmp", "-c", "-", "-"], TWICE),
+        (["survey", "2", "2", "-", "mini", "-"], TWICE),
+        (["tic", "mini:mini", "--out", "-"], UNWRITTEN),
+        (["check", "mini:mini", "2", "2", "--out", "-"], UNWRITTEN),
+    ]
+    for (words, error), told in zip(cases, run_cases(PROGRAM, [Case(words) for words, _ in cases], files)):
+        if told.status != 2 or told.out or not told.err.startswith(error):
+            fail(f"{words}: status {told.status}, {told.out}, {told.err}")
+
+
+def made(words):
+    """The file that a command writes."""
+    with tempfile.TemporaryDirectory() as room:
+        if run_cases(PROGRAM, [Case([*words, f"{room}/made"])], {"mini": MINI})[0].status:
+            fail(f"{words} failed")
+        return held_in(f"{room}/made")
+
+
+def in_folder(room, words, given):
+    """A run in this folder, with bytes or an open file as standard input."""
+    how = {"input": given} if isinstance(given, bytes) else {"stdin": given}
+    return subprocess.run([f"{PROGRAM}/out/ticurses", *words], cwd=room, capture_output=True, check=False, **how)
+
+
+def judge_hints():
+    """What to write in place of an entry's name, and of a folder in a survey."""
+    with tempfile.TemporaryDirectory() as room:
+        os.mkdir(f"{room}/tree")
+        named, missing = in_folder(room, ["check", "xterm", "24", "80"], b""), in_folder(room, ["infocmp", "none"], b"")
+        folder = in_folder(room, ["survey", "24", "80", "tree/"], b"")
+    usual = next((path for at in ("etc", "lib", "usr/share") if os.path.exists(path := f"/{at}/terminfo/x/xterm")), None)
+    lines = [told.stderr.decode().splitlines() for told in (named, missing, folder)]
+    if usual and lines[0][2:] != [f"'xterm': write {usual}, which is the compiled file of this name"]:
+        fail(f"check xterm: {lines[0]}")
+    if lines[1][0] != "file: none" or not lines[1][2].endswith("usually /usr/share/terminfo/n/none"):
+        fail(f"infocmp none: {lines[1]}")
+    if lines[2] != ["file: tree/", "'tree/' is a folder", "'tree/': survey takes files; those in its folders are tree/*/*"]:
+        fail(f"survey of a folder: {lines[2]}")
+    print("manual: an entry's name and a folder have a line that says what to write instead")
+
+
+def judge_count():
+    """`check --out` ends with the count of lines, on a terminal alone."""
+    with tempfile.TemporaryDirectory() as room:
+        with open(f"{room}/mini", "wb") as file:
+            file.write(MINI)
+        words = [f"{PROGRAM}/out/ticurses", "check", "mini:mini", "2", "2", "--out", "made"]
+        silent = subprocess.run(words, cwd=room, capture_output=True, check=True)
+        leader, follower = pty.openpty()
+        subprocess.run(words, cwd=room, stdout=subprocess.PIPE, stderr=follower, check=True)
+        os.close(follower)
+        shown = os.read(leader, 4096)
+        os.close(leader)
+    if silent.stderr or shown.replace(b"\r", b"") != b"yes, 8 lines\n":
+        fail(f"check --out: {silent.stderr}; on a terminal {shown}")
+    print("manual: check --out has its count of lines, on a terminal alone")
+
+
+def main():
+    texts = helps()
+    judge_pages(texts)
+    judge_calls(texts["play"])
+    judge_causes(texts)
+    judge_input()
+    judge_hints()
+    judge_count()
+
+
+if __name__ == "__main__":
+    main()
