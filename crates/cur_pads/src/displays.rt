@@ -6,7 +6,7 @@ ghost use Rattle.cur_pads.specs.Displays.{pnoutrefresh};
 use crate::checks::pad_size;
 use crate::ranges::{at_least_zero, between, from, start};
 use cur_drawing::rectangle;
-use cur_windows::{Desk, Place, Refusal, Virtual, in_order};
+use cur_windows::{Desk, Refusal, Virtual, in_order};
 
 /// The pad's cells from a row and a column on are copied to the rows `top` to `bottom` and columns `left` to `right` of the
 /// virtual screen, of which all other cells stay (X/Open Curses, `pnoutrefresh`). The screen's cursor becomes the pad's if
@@ -42,10 +42,8 @@ pub fn pnoutrefresh(
         from(start(col), to.cols, width),
         Refusal::OutOfWindow,
     )?;
-    let corner = Place {
-        row: to.top,
-        col: to.left,
-    };
-    desk.show_part(id, part, corner, screen);
+    desk.show_part(
+        id, part.top, part.left, part.rows, part.cols, to.top, to.left, screen,
+    );
     Ok(())
 }

@@ -19,3 +19,4 @@ pub use cur_calls::{
 pub use paced::Paced;
 pub use runs::{Log, LogEntry, run, run_paced};
 pub use sessions::Session;
+pub use std::alloc::AllocError as NoMemory;

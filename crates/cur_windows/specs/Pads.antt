@@ -13,6 +13,10 @@ use Rattle.cur_windows.specs.Desks.{State, slot_of, grid_at, origin_at, on_scree
 use Rattle.cur_windows.specs.Creations.{root_added}
 use Rattle.cur_windows.specs.VirtualScreen.{Screen, shown}
 
+-- so many rows and columns, from a row and a column on
+abbrev pub area : ℕ → ℕ → ℕ → ℕ → Area
+area y x rows cols = record { top = y; left = x; rows = rows; cols = cols }
+
 abbrev pub pad_of : State → Result Slot Refusal → Result Bool Refusal
 pad_of d (Ok s) = Ok (origin_at d s.root).pad
 pad_of d (Err e) = Err e

@@ -261,11 +261,13 @@ impl Desk {
         slot.window.draw_border(grid, border)
     }
 
-    /// The scrolling region goes up by `n` lines, down if negative. `NoScroll` for a window that may not scroll.
+    /// The scrolling region goes up by `n` lines, down if negative. `NoScroll` for a window that may not scroll. Of a window
+    /// that is as wide as the screen the next `noutrefresh` leaves a hint there.
     pub fn scroll(&mut self, id: usize, n: i32) -> Result<(), Refusal>
         ensures { spec.step self.new result ≡ spec.on_grid self.old id (call.scroll_by n) }
     {
         let slot = self.find(id)?;
+        self.hint = self.hint_after(&slot, n);
         let grid = &mut self.grids[slot.root as usize];
         slot.window.scroll(grid, n)
     }

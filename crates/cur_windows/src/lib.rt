@@ -5,6 +5,7 @@ mod calls;
 mod copies;
 mod creations;
 mod desks;
+mod hints;
 pub mod laws;
 mod pads;
 mod queries;
@@ -21,7 +22,9 @@ pub use cur_drawing::{
     Area, Attrs, Border, Cell, Place, Put, Refusal, Window, first_diff, last_diff,
 };
 pub use desks::{Desk, WINDOWS};
+pub use hints::Hint;
 pub use rows::RowMut;
-pub use views::{View, WindowView};
+pub use std::alloc::AllocError as NoMemory;
+pub use views::{Part, View};
 pub use virtual_screen::Virtual;
 pub use vt_term::Size;

@@ -1,11 +1,12 @@
 //! What the crate of pads calls.
 ghost use Rattle.std.specs.Prelude.{◌≡◌, ◌<◌, ◌≤◌, ◌+◌, None, IfOk, IsOk, IfSome, MatchResult};
+ghost use Rattle.cur_drawing.specs.Calls.{place};
 ghost use Rattle.cur_drawing.specs.Grids.{is_in};
 ghost use Rattle.cur_drawing.specs.Windows.{IsWindow};
 ghost use Rattle.cur_drawing.specs.Spans.{IsAreaWithin};
 ghost use Rattle.cur_windows.specs.Desks as spec;
 ghost use Rattle.cur_windows.specs.Creations as make;
-ghost use Rattle.cur_windows.specs.Pads.{is_pad, pad_added, part_cursor, part_shown};
+ghost use Rattle.cur_windows.specs.Pads.{area, is_pad, pad_added, part_cursor, part_shown};
 
 use crate::desks::{Desk, blank_grid};
 use crate::slots::{Origin, whole_area};
@@ -44,27 +45,71 @@ impl Desk {
         Ok(())
     }
 
-    /// A new window that is a part of another one and shares its cells, at a place of it. That the number is free, that
-    /// there is such a window and that the part lies in it is the caller's condition.
-    pub fn add_subpad(&mut self, n: usize, id: usize, area: Area)
+    /// A new window that is a part of window `id` and shares its cells: so many rows and columns of it, from row `y` and
+    /// column `x` on. That the number is free, that there is such a window and that the part lies in it is the caller's
+    /// condition.
+    pub fn add_subpad(&mut self, n: usize, id: usize, y: u16, x: u16, rows: u16, cols: u16)
         requires number { n < 64 }
         requires free { spec.window_at self.old n ≡ None }
         requires there { IsOk (spec.slot_of self.old id) }
         requires inside { IfOk (spec.slot_of self.old id)
-            (λ s. IsAreaWithin s.window.area.rows s.window.area.cols area) }
-        ensures { IfOk (spec.slot_of self.old id) (λ s. self.new ≡ make.subwindow_added self.old n id s area) }
+            (λ s. IsAreaWithin s.window.area.rows s.window.area.cols (area y x rows cols)) }
+        ensures { IfOk (spec.slot_of self.old id)
+            (λ s. self.new ≡ make.subwindow_added self.old n id s (area y x rows cols)) }
     {
         let Ok(slot) = self.find(id) else {
             return;
         };
+        let area = Area {
+            top: y,
+            left: x,
+            rows,
+            cols,
+        };
         self.add_subwindow(n, id, &slot, area);
     }
 
-    /// A part of a window is copied to a place of the virtual screen, whose cursor becomes the window's if the window
-    /// doesn't leave it and it lies in that part, else none; the window's `clearok` goes over to the screen. That
-    /// there is such a window, that the part lies in it and, where it is copied to, on the screen, and that the screen
-    /// has the desk's size is the caller's condition.
-    pub fn show_part(&mut self, id: usize, part: Area, to: Place, screen: &mut Virtual)
+    /// A part of window `id`, so many rows and columns from row `y` and column `x` on, is copied to the virtual screen,
+    /// from row `to_y` and column `to_x` on. The screen's cursor becomes the window's if the window doesn't leave it and
+    /// it lies in that part, else none; the window's `clearok` goes over to the screen. That there is such a window, that
+    /// the part lies in it and, where it is copied to, on the screen, and that the screen has the desk's size is the
+    /// caller's condition.
+    pub fn show_part(
+        &mut self,
+        id: usize,
+        y: u16,
+        x: u16,
+        rows: u16,
+        cols: u16,
+        to_y: u16,
+        to_x: u16,
+        screen: &mut Virtual,
+    )
+        requires there { IsOk (spec.slot_of self.old id) }
+        requires inside { IfOk (spec.slot_of self.old id)
+            (λ s. (y + rows ≤ s.window.area.rows) × (x + cols ≤ s.window.area.cols)) }
+        requires bottom { to_y + rows ≤ (self.old).rows }
+        requires right { to_x + cols ≤ (self.old).cols }
+        requires screen_rows { (screen.old).rows ≡ (self.old).rows }
+        requires screen_cols { (screen.old).cols ≡ (self.old).cols }
+        ensures { IfOk (spec.slot_of self.old id)
+            (λ s. (self.new, screen.new) ≡ part_shown self.old screen.old id s (area y x rows cols) (place to_y to_x)) }
+    {
+        let part = Area {
+            top: y,
+            left: x,
+            rows,
+            cols,
+        };
+        let to = Place {
+            row: to_y,
+            col: to_x,
+        };
+        self.show_area(id, part, to, screen);
+    }
+
+    // The same, for a rectangle and a place.
+    fn show_area(&mut self, id: usize, part: Area, to: Place, screen: &mut Virtual)
         requires there { IsOk (spec.slot_of self.old id) }
         requires inside { IfOk (spec.slot_of self.old id)
             (λ s. (part.top + part.rows ≤ s.window.area.rows) × (part.left + part.cols ≤ s.window.area.cols)) }
@@ -90,7 +135,14 @@ impl Desk {
         // a look at a field brings in the invariant: no screen is larger than a window may be
         let _ = &self.rows;
         let cursor = cursor_in_part(&slot.window, part, to);
-        screen.show(area, self.grid_of(&slot), from, cursor, slot.window.clears);
+        screen.show(
+            area,
+            self.grid_of(&slot),
+            from,
+            cursor,
+            slot.window.clears,
+            None,
+        );
         slot.window.clears = false;
         self.windows[id] = Some(slot);
     }

@@ -14,7 +14,7 @@ use grids::{Area, Grid, Place};
 
 impl Desk {
     /// The whole window is copied to the virtual screen, whose cursor becomes the window's, or none where the window
-    /// leaves it; a window's `clearok` goes over to the screen. `Full`, `NoWindow`, `PadKind` for a pad; then nothing
+    /// leaves it; a window's `clearok` and the desk's hint go over to the screen. `Full`, `NoWindow`, `PadKind` for a pad; then nothing
     /// has changed. That the screen has the desk's size is the caller's condition.
     pub fn noutrefresh(&mut self, id: usize, screen: &mut Virtual) -> Result<(), Refusal>
         requires rows { (screen.old).rows ≡ (self.old).rows }
@@ -29,7 +29,15 @@ impl Desk {
             row: slot.window.area.top,
             col: slot.window.area.left,
         };
-        screen.show(area, self.grid_of(&slot), from, cursor, slot.window.clears);
+        screen.show(
+            area,
+            self.grid_of(&slot),
+            from,
+            cursor,
+            slot.window.clears,
+            self.hint,
+        );
+        self.hint = None;
         slot.window.clears = false;
         self.windows[id] = Some(slot);
         Ok(())

@@ -31,12 +31,12 @@ pub trait View {
 
 /// A window's part of its grid.
 #[derive(Drop)]
-pub struct WindowView<'a> {
+pub struct Part<'a> {
     grid: &'a Grid<Cell>,
     area: Area,
 }
 
-impl<'a> Model for WindowView<'a> {
+impl<'a> Model for Part<'a> {
     ghost use Rattle.cur_drawing.specs.Grids.{Grid};
     ghost use Rattle.cur_windows.specs.Views.{IsSeen, window_cells};
 
@@ -47,7 +47,7 @@ impl<'a> Model for WindowView<'a> {
     ghost invariant = { λ p. IsSeen p.area p.grid.now };
 }
 
-impl<'a> View for WindowView<'a> {
+impl<'a> View for Part<'a> {
     ghost cells = { λ p. p };
 
     fn rows(&self) -> u16 {
@@ -67,19 +67,19 @@ impl<'a> View for WindowView<'a> {
 
 impl Desk {
     /// The cells of a window. `Full`, `NoWindow`.
-    pub fn view(&self, id: usize) -> Result<WindowView<'_>, Refusal>
+    pub fn view(&self, id: usize) -> Result<Part<'_>, Refusal>
         ensures { result ≡ seen self.now id }
     {
         let slot = self.find(id)?;
         Ok(self.view_of(&slot))
     }
 
-    fn view_of(&self, slot: &Slot) -> WindowView<'_>
+    fn view_of(&self, slot: &Slot) -> Part<'_>
         requires root { slot.now.root < 64 }
         requires seen { IsSeen slot.now.window.area (spec.grid_at self.now slot.now.root) }
         ensures { result ≡ window_cells slot.now.window.area (spec.grid_at self.now slot.now.root) }
     {
-        WindowView {
+        Part {
             grid: self.grid_of(slot),
             area: slot.window.area,
         }

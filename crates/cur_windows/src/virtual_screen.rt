@@ -5,6 +5,7 @@ ghost use Rattle.cur_drawing.specs.Grids.{Fits, line_at, moved_to};
 ghost use Rattle.cur_windows.specs.VirtualScreen as spec;
 
 use crate::desks::blank_grid;
+use crate::hints::Hint;
 use cur_drawing::{Cell, PAIRS, Refusal, all_cells, place_below};
 use grids::{Area, Grid, Place};
 use std::alloc::{AllocError, Global};
@@ -30,6 +31,7 @@ pub struct Virtual {
     cursor: Option<Place>,
     clearok: bool,
     pairs: Vec<Colors>,
+    hint: Option<Hint>,
 }
 
 impl Model for Virtual {
@@ -71,6 +73,7 @@ impl Virtual {
             cursor: Some(Place { row: 0, col: 0 }),
             clearok: false,
             pairs,
+            hint: None,
         })
     }
 
@@ -108,11 +111,26 @@ impl Virtual {
         self.clearok
     }
 
-    /// To be called after a refresh that was done: nothing is to be cleared any more.
+    /// Rows that were scrolled since the last refresh that was done, where that is known. Nothing is promised of what they
+    /// hold.
+    pub fn hint(&self) -> Option<Hint>
+        ensures order { IfSome result (λ h. h.top ≤ h.bottom) }
+        ensures there { IfSome result (λ h. h.bottom < (self.now).rows) }
+    {
+        let hint = self.hint?;
+        if hint.top <= hint.bottom && hint.bottom < self.rows {
+            Some(hint)
+        } else {
+            None
+        }
+    }
+
+    /// To be called after a refresh that was done: nothing is to be cleared any more, and no hint is left.
     pub fn shown(&mut self)
         ensures { self.new ≡ spec.refreshed self.old }
     {
         self.clearok = false;
+        self.hint = None;
     }
 
     /// The colours of a pair (`init_pair`). `BadPair` for a pair that isn't 1 to 63, or a colour that isn't 0 to 7;
@@ -165,9 +183,10 @@ impl Virtual {
         self.pairs.copy_from_slice(&other.pairs);
         self.cursor = other.cursor;
         self.clearok = other.clearok;
+        self.hint = other.hint;
     }
 
-    // A rectangle gets the cells of a grid from a place on.
+    // A rectangle gets the cells of a grid from a place on. A hint replaces an earlier one.
     pub(crate) fn show(
         &mut self,
         area: Area,
@@ -175,6 +194,7 @@ impl Virtual {
         from: Place,
         cursor: Option<Place>,
         clears: bool,
+        hint: Option<Hint>,
     )
         requires rows { area.top + area.rows ≤ (self.old).rows }
         requires cols { area.left + area.cols ≤ (self.old).cols }
@@ -185,6 +205,7 @@ impl Virtual {
         self.grid.copy_from(area, grid, from);
         self.cursor = cursor;
         self.clearok = self.clearok | clears;
+        self.hint = hint.or(self.hint);
     }
 }
 

@@ -6,6 +6,7 @@
 pub use ti_caps::Entry;
 pub use ti_cert::{AgreeFault, CertFault, CertFaultKind, Checked, VerifyFault, verify};
 pub use ti_conforms::Certificate;
+pub use ti_reach::{Miss, MissKind, reach_cup};
 pub use ti_resolve::{ResolveFault, resolve};
 pub use ti_source::{RawEntry, SourceFault, read};
 pub use vt_term::Size;
@@ -13,7 +14,7 @@ pub use vt_term::Size;
 // Windows and pads, what is drawn in them, and the virtual screen.
 pub use cur_drawing::{Attrs, Border, Cell, Put, Refusal, Window};
 pub use cur_pads::{newpad, pnoutrefresh, subpad};
-pub use cur_windows::{Desk, RowMut, View, Virtual, WINDOWS, WindowView};
+pub use cur_windows::{Desk, Part, RowMut, View, Virtual, WINDOWS};
 pub use grids::{Area, Place};
 
 // The painter, and where its bytes go.
@@ -25,4 +26,4 @@ pub use cur_calls::{
     AttrsCall, Call, CellCall, FlagCall, LayCall, LineCall, NumberCall, NumbersCall, PadCall,
     PartCall, PlainCall, ScreenCall, ScriptFault, ScriptFaultKind, ShowCall, Text, read_script,
 };
-pub use cur_play::{Answer, Log, LogEntry, Session, run};
+pub use cur_play::{Answer, Log, LogEntry, NoMemory, Session, run};

@@ -28,3 +28,4 @@ pub use run::{
     strings_spell_trees, unread_statics_have_no_say,
 };
 pub use statics::Statics;
+pub use std::alloc::AllocError as NoMemory;

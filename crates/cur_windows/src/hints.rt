@@ -1,0 +1,34 @@
+//! Hints at lines that were scrolled.
+ghost use Rattle.std.specs.Prelude.{◌<◌};
+
+use crate::desks::Desk;
+use crate::slots::Slot;
+
+/// The screen's rows from `top` to `bottom` went up by `up` lines, or down where that is negative. Nothing is promised of
+/// what they hold.
+#[derive(Clone, Copy, Debug, PartialEq, Eq)]
+pub struct Hint {
+    pub top: u16,
+    pub bottom: u16,
+    pub up: i32,
+}
+
+impl Desk {
+    // What the desk remembers after the window's region went up by `n` lines: that, if the window is as wide as the
+    // screen and may scroll, else what it remembered before.
+    pub(crate) fn hint_after(&self, slot: &Slot, n: i32) -> Option<Hint>
+        requires { (slot.now).root < 64 }
+    {
+        let window = slot.window;
+        let origin = self.origins[slot.root as usize];
+        if !window.scrolls || origin.pad || window.area.cols != self.cols {
+            return self.hint;
+        }
+        let top = origin.top.saturating_add(window.area.top);
+        Some(Hint {
+            top: top.saturating_add(window.region_top),
+            bottom: top.saturating_add(window.region_bottom),
+            up: n,
+        })
+    }
+}
