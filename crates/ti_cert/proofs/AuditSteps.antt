@@ -24,7 +24,7 @@ use Rattle.ti_lines.specs.declared.row_lines.RowLine.{RowLine}
 use Rattle.ti_lines.specs.Heads.{IsSizeText, IsAcscText, is_end}
 use Rattle.ti_lines.specs.RowLines.{IsTextOf}
 use Rattle.ti_cert.specs.Strings.{Strings, allows, group_at, string_in, has_group, total, Adds}
-use Rattle.ti_cert.specs.Certificates.{rival, Said, Nothing, Sized, Listing, Ended, speaks_of, looks_of, IsWholeText, IsMisfit, JudgesRow, Cut, Wild, Untrue, Unasked, Stands as RowStands, JudgesLast, Lacks, Clashes, Closes, JudgesLater, IsLast, IsRow, IsMisplaced, IsNone, JudgesSecond, HasPairs as SecondHasPairs, HasNoPairs as SecondHasNoPairs, HasSize, HasNoSize, JudgesLine}
+use Rattle.ti_cert.specs.Certificates.{missing_line, rival, Said, Nothing, Sized, Listing, Ended, speaks_of, looks_of, IsWholeText, IsMisfit, JudgesRow, Cut, Wild, Untrue, Unasked, Stands as RowStands, JudgesLast, Lacks, Clashes, Closes, JudgesLater, IsLast, IsRow, IsMisplaced, IsNone, JudgesSecond, HasPairs as SecondHasPairs, HasNoPairs as SecondHasNoPairs, HasSize, HasNoSize, JudgesLine}
 use Rattle.ti_conforms.specs.Judged.{IsJudged}
 use Rattle.ti_conforms.specs.Looks.{no_looks}
 use Rattle.ti_cert.specs.Known.{Known, Holds, IsKept, HasRecord, looks_with}
@@ -203,7 +203,7 @@ later_none p text kind e none (HasNoMemory k) = inr k
 is_no_memory : (kind : CertFaultKind) → (kind ≡ NoMemory) ⊎ (kind ≡ NoMemory → ⊥)
 is_no_memory NoMemory = inl refl
 is_no_memory BadLine = inr (λ e. cc)
-is_no_memory (Missing row) = inr (λ e. cc)
+is_no_memory (Missing cap numbers) = inr (λ e. cc)
 is_no_memory OutOfOrder = inr (λ e. cc)
 is_no_memory NotWhole = inr (λ e. cc)
 is_no_memory NotTame = inr (λ e. cc)
@@ -212,7 +212,7 @@ is_no_memory NoResync = inr (λ e. cc)
 is_no_memory BadLook = inr (λ e. cc)
 is_no_memory ReadFailed = inr (λ e. cc)
 
-pub last_lacks : (p : Progress) (row : Row) → Some row ≡ missing p.size.rows p.size.cols p.place.last 42 → AnswersLast p (Err (Missing row))
+pub last_lacks : (p : Progress) (row : Row) → Some row ≡ missing p.size.rows p.size.cols p.place.last 42 → AnswersLast p (Err (missing_line row))
 last_lacks p row e = λ pairs lines st pa. Lacks row (missing_at_end p.size.rows p.size.cols lines p.place.last row p.size.limits st.place (sym e)) refl
 
 has_cap : (lines : List RowLine) (row other : Row) → order row ≡ order other → speaks_of lines row ≡ true → HasCap lines other

@@ -22,3 +22,4 @@ pub mod Disagreements
 pub mod Lengths
 pub mod Smallness
 pub mod Certified
+pub mod RowFacts

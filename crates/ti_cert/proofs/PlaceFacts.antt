@@ -12,10 +12,10 @@ use Rattle.ti_lines.specs.declared.row_lines.RowLine.{RowLine}
 use Rattle.ti_cert.specs.Strings.{allows}
 use Rattle.ti_cert.specs.Order.{Precedes, HasLine, HasCap, IsRequired, IsLacking, IsFirstLacking, IsLate, IsBehind, IsInPlace}
 use Rattle.ti_cert.specs.Places.{next_within, missing, expected, or_row, is_late, or_missing, early_fault, place_fault}
-use Rattle.ti_cert.specs.Certificates.{Said, JudgesRow, NotAllowed, TooLate, TooEarly}
+use Rattle.ti_cert.specs.Certificates.{missing_line, Said, JudgesRow, NotAllowed, TooLate, TooEarly}
 use Rattle.ti_cert.specs.Audits.{IsLastRow, IsUpTo}
 use Rattle.ti_cert.specs.declared.faults.CertFaultKind.{CertFaultKind}
-use Rattle.ti_cert.specs.declared.faults.CertFaultKind.TheVariants.{BadLine, Missing, OutOfOrder}
+use Rattle.ti_cert.specs.declared.faults.CertFaultKind.TheVariants.{BadLine, OutOfOrder}
 use Rattle.ti_cert.proofs.Ranges.{in_range, is_allowed}
 use Rattle.ti_cert.proofs.Order.{IsFirstLack, missing_some, missing_none, first_at, from_rank, none_after, none_beyond, next_is, lacks_behind}
 
@@ -170,12 +170,12 @@ placed_wrong rows cols lines last line c after kind size up has h = by_range (al
     kind_is k e = ap (λ (x : CertFaultKind). refusal x) (sym (same_Some k kind e))
 
     by_early : (t : Bool) → (rank rows cols line.row == c) ≡ t → IsInRange rows cols line.row → is_late last line.row ≡ false → c ≤ rank rows cols line.row → missing rows cols last (order line.row) ≡ None
-        → (if t then None else Some (Missing (or_row (expected rows cols last line.row) line.row))) ≡ Some kind → JudgesRow rows cols lines line after (Err kind)
+        → (if t then None else Some (missing_line (or_row (expected rows cols last line.row) line.row))) ≡ Some kind → JudgesRow rows cols lines line after (Err kind)
     by_early true e range late le none f = absurd (none-some kind f)
     by_early false e range late le none f =
         let lt : c < rank rows cols line.row = by_lt (cases_lt c (rank rows cols line.row)) in
         TooEarly range (behind_last rows cols lines last line.row c up has late le) (or_row (expected rows cols last line.row) line.row)
-        (own_missing rows cols lines last line.row c size up has range late none lt) (kind_is (Missing (or_row (expected rows cols last line.row) line.row)) f)
+        (own_missing rows cols lines last line.row c size up has range late none lt) (kind_is (missing_line (or_row (expected rows cols last line.row) line.row)) f)
       where
         by_lt : (c < rank rows cols line.row) ⊎ (rank rows cols line.row ≤ c) → c < rank rows cols line.row
         by_lt (inl k) = k
@@ -183,7 +183,7 @@ placed_wrong rows cols lines last line c after kind size up has h = by_range (al
 
     by_missing : (o : Option Row) → missing rows cols last (order line.row) ≡ o → IsInRange rows cols line.row → is_late last line.row ≡ false → c ≤ rank rows cols line.row
         → or_missing o (early_fault rows cols last c line.row) ≡ Some kind → JudgesRow rows cols lines line after (Err kind)
-    by_missing (Some m) e range late le f = TooEarly range (behind_last rows cols lines last line.row c up has late le) m (missing_first rows cols lines last line.row m size up e) (kind_is (Missing m) f)
+    by_missing (Some m) e range late le f = TooEarly range (behind_last rows cols lines last line.row c up has late le) m (missing_first rows cols lines last line.row m size up e) (kind_is (missing_line m) f)
     by_missing None e range late le f = by_early (rank rows cols line.row == c) refl range late le e f
 
     by_late : (t : Bool) → (is_late last line.row || nat_lt (rank rows cols line.row) c) ≡ t → IsInRange rows cols line.row
@@ -211,8 +211,8 @@ placed_right rows cols lines last row c size up has h = by_range (allows rows co
     some_none x e = absurd (none-some x (sym e))
 
     by_early : (t : Bool) → (rank rows cols row == c) ≡ t → IsInRange rows cols row → is_late last row ≡ false → c ≤ rank rows cols row → missing rows cols last (order row) ≡ None
-        → (if t then None else Some (Missing (or_row (expected rows cols last row) row))) ≡ None → IsInPlace rows cols lines row
-    by_early false e range late le none f = some_none (Missing (or_row (expected rows cols last row) row)) f
+        → (if t then None else Some (missing_line (or_row (expected rows cols last row) row))) ≡ None → IsInPlace rows cols lines row
+    by_early false e range late le none f = some_none (missing_line (or_row (expected rows cols last row) row)) f
     by_early true e range late le none f = record {
       range = range;
       behind = behind_last rows cols lines last row c up has late le;
@@ -225,7 +225,7 @@ placed_right rows cols lines last row c size up has h = by_range (allows rows co
 
     by_missing : (o : Option Row) → missing rows cols last (order row) ≡ o → IsInRange rows cols row → is_late last row ≡ false → c ≤ rank rows cols row
         → or_missing o (early_fault rows cols last c row) ≡ None → IsInPlace rows cols lines row
-    by_missing (Some m) e range late le f = some_none (Missing m) f
+    by_missing (Some m) e range late le f = some_none (missing_line m) f
     by_missing None e range late le f = by_early (rank rows cols row == c) refl range late le e f
 
     by_late : (t : Bool) → (is_late last row || nat_lt (rank rows cols row) c) ≡ t → IsInRange rows cols row

@@ -24,11 +24,11 @@ use Rattle.ti_lines.specs.declared.judgements.LineFault.{LineFault}
 use Rattle.ti_cert.specs.Strings.{string_in}
 use Rattle.ti_cert.specs.Order.{Precedes, HasBytes, IsFirstLacking, IsComplete, IsLate, IsBehind}
 use Rattle.ti_cert.specs.Clashes.{Misswitches, LeavesPlain, LeavesGraphic, StaysGraphic, Misresyncs, BeginsOpen, ResyncsGraphic, ClashesBy, ByActive, ByLook, ByResync, GoesTogether, OfLines}
-use Rattle.ti_cert.specs.Certificates.{Said, Nothing, Sized, Listing, Ended, IsWholeText, HasEffect, HasNoEffect, IsMisfit, Mislooks, Misdoes, IsAskedFor, JudgesRow, NotAllowed, TooLate, TooEarly, Cut, Wild, Untrue, Unasked, Stands, JudgesLast, Lacks, Clashes, Closes, JudgesLater, IsLast, IsRow, IsMisplaced, IsNone, JudgesSecond, HasPairs, HasNoPairs, JudgesFirst, HasSize, HasNoSize, JudgesLine, JudgesEnd, rules_of, limit, IsAnswer}
+use Rattle.ti_cert.specs.Certificates.{missing_line, Said, Nothing, Sized, Listing, Ended, IsWholeText, HasEffect, HasNoEffect, IsMisfit, Mislooks, Misdoes, IsAskedFor, JudgesRow, NotAllowed, TooLate, TooEarly, Cut, Wild, Untrue, Unasked, Stands, JudgesLast, Lacks, Clashes, Closes, JudgesLater, IsLast, IsRow, IsMisplaced, IsNone, JudgesSecond, HasPairs, HasNoPairs, JudgesFirst, HasSize, HasNoSize, JudgesLine, JudgesEnd, rules_of, limit, IsAnswer}
 use Rattle.ti_cert.specs.Texts.{OneTable, OneFault, NoOther}
 use Rattle.ti_cert.specs.declared.faults.CertFault.{CertFault}
 use Rattle.ti_cert.specs.declared.faults.CertFaultKind.{CertFaultKind}
-use Rattle.ti_cert.specs.declared.faults.CertFaultKind.TheVariants.{BadLine, Missing, OutOfOrder, NotWhole, NotTame, NotShown}
+use Rattle.ti_cert.specs.declared.faults.CertFaultKind.TheVariants.{BadLine, OutOfOrder, NotWhole, NotTame, NotShown}
 
 -- at most one is so
 abbrev Single : {A : Type 0} → (A → Type 0) → Type 0
@@ -77,10 +77,10 @@ one_first rows cols lines next a b p q = by_one (p.first b q.lacking) (q.first a
 
 -- a line that is missing
 abbrev Lacking : ℕ → ℕ → List RowLine → Option Row → Result Said CertFaultKind → Type 0
-Lacking rows cols lines next answer = (row : Row) × IsFirstLacking rows cols lines next row × (answer ≡ Err (Missing row))
+Lacking rows cols lines next answer = (row : Row) × IsFirstLacking rows cols lines next row × (answer ≡ Err (missing_line row))
 
 one_lacking : (rows cols : ℕ) (lines : List RowLine) (next : Option Row) → Single (Lacking rows cols lines next)
-one_lacking rows cols lines next a b p q = p.2 ∙ (ap (λ (r : Row). Err (Missing r)) (one_first rows cols lines next p.0 q.0 p.1 q.1) ∙ sym q.2)
+one_lacking rows cols lines next a b p q = p.2 ∙ (ap (λ (r : Row). Err (missing_line r)) (one_first rows cols lines next p.0 q.0 p.1 q.1) ∙ sym q.2)
 
 -- the effect of a line
 

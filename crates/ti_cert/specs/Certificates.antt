@@ -7,7 +7,8 @@ use Rattle.vt_effects.specs.Record.{record_of}
 use Rattle.ti_rows.specs.declared.rows.Looks.{Looks}
 use Rattle.ti_rows.specs.declared.rows.Row.{Row}
 use Rattle.ti_rows.specs.declared.rows.Row.TheVariants.{Sgr, Smso}
-use Rattle.ti_rows.specs.Names.{order, no_attributes}
+use Rattle.ti_rows.specs.Names.{order, cap_of, no_attributes}
+use Rattle.ti_rows.specs.Params.{params}
 use Rattle.ti_rows.specs.Lists.{IsInRange}
 use Rattle.ti_rows.specs.Looks.{learned}
 use Rattle.ti_rows.specs.Asked.{start_of, asked}
@@ -21,6 +22,10 @@ use Rattle.ti_cert.specs.Clashes.{ClashesBy, GoesTogether, OfLines}
 use Rattle.ti_cert.specs.Order.{IsFirstLacking, IsComplete, IsLate, IsBehind, IsInPlace}
 use Rattle.ti_cert.specs.declared.faults.CertFaultKind.{CertFaultKind}
 use Rattle.ti_cert.specs.declared.faults.CertFaultKind.TheVariants.{BadLine, Missing, OutOfOrder, NotWhole, NotTame, NotShown, BadLook, NoMemory, ReadFailed}
+
+-- the fault of a row's line that isn't there where it has to be, by its capability and its parameters
+abbrev pub missing_line : Row → CertFaultKind
+missing_line row = Missing (cap_of row) (record { items = params row })
 
 -- What the lines so far say: nothing, the size alone, or also the pairs of alternate characters, where there are any, and
 -- lines about capabilities, with the last line or before it.
@@ -74,7 +79,7 @@ IsAskedFor lines line = line.effect ≡ asked (looks_of (line ∷ lines)) line.r
 pub data JudgesRow (rows cols : ℕ) (lines : List RowLine) (line : RowLine) (after : Said) (answer : Result Said CertFaultKind) : Type 0 where
   NotAllowed : (IsInRange rows cols line.row → ⊥) → answer ≡ Err BadLine → JudgesRow rows cols lines line after answer
   TooLate : IsInRange rows cols line.row → IsLate rows cols lines line.row → answer ≡ Err OutOfOrder → JudgesRow rows cols lines line after answer
-  TooEarly : IsInRange rows cols line.row → IsBehind rows cols lines line.row → (row : Row) → IsFirstLacking rows cols lines (Some line.row) row → answer ≡ Err (Missing row)
+  TooEarly : IsInRange rows cols line.row → IsBehind rows cols lines line.row → (row : Row) → IsFirstLacking rows cols lines (Some line.row) row → answer ≡ Err (missing_line row)
       → JudgesRow rows cols lines line after answer
   Cut : IsInPlace rows cols lines line.row → (IsWholeText line.bytes → ⊥) → answer ≡ Err NotWhole → JudgesRow rows cols lines line after answer
   Wild : IsInPlace rows cols lines line.row → HasNoEffect rows cols line → answer ≡ Err NotTame → JudgesRow rows cols lines line after answer
@@ -85,7 +90,7 @@ pub data JudgesRow (rows cols : ℕ) (lines : List RowLine) (line : RowLine) (af
 
 -- the last line, by cases in the order in which faults are reported
 pub data JudgesLast (rows cols : ℕ) (pairs : Option (List ℕ)) (lines : List RowLine) (answer : Result Said CertFaultKind) : Type 0 where
-  Lacks : (row : Row) → IsFirstLacking rows cols lines None row → answer ≡ Err (Missing row) → JudgesLast rows cols pairs lines answer
+  Lacks : (row : Row) → IsFirstLacking rows cols lines None row → answer ≡ Err (missing_line row) → JudgesLast rows cols pairs lines answer
   Clashes : IsComplete rows cols lines None → (kind : CertFaultKind) → OfLines rows cols lines (λ t. ClashesBy (is_some pairs) t kind) → answer ≡ Err kind → JudgesLast rows cols pairs lines answer
   Closes : IsComplete rows cols lines None → OfLines rows cols lines (λ t. GoesTogether (is_some pairs) t) → answer ≡ Ok (Ended pairs lines) → JudgesLast rows cols pairs lines answer
 

@@ -5,7 +5,8 @@ use Rattle.ti_rows.specs.Names.{order, first_in_order}
 use Rattle.ti_rows.specs.Lists.{next, rank}
 use Rattle.ti_cert.specs.Strings.{allows}
 use Rattle.ti_cert.specs.declared.faults.CertFaultKind.{CertFaultKind}
-use Rattle.ti_cert.specs.declared.faults.CertFaultKind.TheVariants.{BadLine, Missing, OutOfOrder}
+use Rattle.ti_cert.specs.declared.faults.CertFaultKind.TheVariants.{BadLine, OutOfOrder}
+use Rattle.ti_cert.specs.Certificates.{missing_line}
 
 abbrev pub next_within : ℕ → ℕ → Row → Option Row
 next_within rows cols row = if allows rows cols row then next rows cols row else None
@@ -45,10 +46,10 @@ is_late (Some last) row = nat_lt (order row) (order last)
 
 abbrev pub or_missing : Option Row → Option CertFaultKind → Option CertFaultKind
 or_missing None fault = fault
-or_missing (Some row) fault = Some (Missing row)
+or_missing (Some row) fault = Some (missing_line row)
 
 abbrev pub early_fault : ℕ → ℕ → Option Row → ℕ → Row → Option CertFaultKind
-early_fault rows cols last count row = if rank rows cols row == count then None else Some (Missing (or_row (expected rows cols last row) row))
+early_fault rows cols last count row = if rank rows cols row == count then None else Some (missing_line (or_row (expected rows cols last row) row))
 
 -- the fault of a line of this row after so many of its capability
 abbrev pub place_fault : ℕ → ℕ → Option Row → ℕ → Row → Option CertFaultKind

@@ -3,10 +3,13 @@ use Rattle.std.specs.Prelude.{ℕ, ◌<◌, ◌≡◌, ◌&&◌, List, Option, S
 use Rattle.vt_term.specs.Size.{IsSize}
 use Rattle.vt_term.specs.Screen.{State}
 use Rattle.ti_conforms.specs.Alternates.{partner_of}
+use Rattle.ti_rows.specs.declared.rows.Row.{Row}
 use Rattle.ti_rows.specs.declared.rows.Row.TheVariants.{Smacs, Rmacs}
+use Rattle.ti_rows.specs.Names.{cap_of}
+use Rattle.ti_rows.specs.Params.{params}
 use Rattle.vt_term.specs.Ends.{Ends}
 use Rattle.ti_conforms.specs.Table.{Table, has, resync, IsLost}
-use Rattle.ti_conforms.specs.Holds.{TableHolds, IsResynced}
+use Rattle.ti_conforms.specs.Holds.{LineHolds, TableHolds, IsResynced}
 use Rattle.ti_conforms.specs.Together.{StandTogether}
 use Rattle.ti_conforms.specs.Looks.{LooksStand}
 use Rattle.ti_cert.specs.Strings.{total}
@@ -23,6 +26,17 @@ pub record IsVerified (c : Content) : Type 0 where
   pub together : StandTogether (table_of c)
   -- how attributes look where no line sets all of them
   pub looks : LooksStand (table_of c)
+
+-- the row of a capability with these parameters
+abbrev pub IsRowOf : ℕ → List ℕ → Row → Type 0
+IsRowOf cap numbers row = (cap_of row ≡ cap) × (params row ≡ numbers)
+
+-- there is such a row, and the bytes of its line are these, of which all that a line promises is so
+pub record IsLineOf (t : Table) (cap : ℕ) (numbers bytes : List ℕ) : Type 0 where
+  pub row : Row
+  pub is_row : IsRowOf cap numbers row
+  pub is_line : t.line_of row ≡ Some bytes
+  pub holds : LineHolds t row bytes
 
 abbrev pub listed : Option (List ℕ) → ℕ → Option ℕ
 listed None letter = None

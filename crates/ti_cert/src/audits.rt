@@ -179,7 +179,7 @@ impl Progress {
         ensures err { IfErr result (λ kind. spec.OrNoMemory kind (spec.AnswersLast self.old)) }
     {
         match self.place.missing(self.size, 42) {
-            Some(missing) => Err(CertFaultKind::Missing(missing)),
+            Some(missing) => Err(CertFaultKind::missing(missing)),
             None => {
                 let settled = conclude(alloc, &self.known, self.acsc.is_some())?;
                 self.awaited = Awaited::Ended(settled);

@@ -31,10 +31,10 @@ impl Certificate for Checked {
     }
 
     fn line(&self, row: Row) -> Option<&[u8]> {
-        if sets_visible(row) && self.bytes(Row::Cnorm).is_none() {
+        if sets_visible(row) && self.row_bytes(Row::Cnorm).is_none() {
             None
         } else {
-            self.bytes(row)
+            self.row_bytes(row)
         }
     }
 

@@ -98,13 +98,13 @@ fn check_needed(strings: &Strings) -> Result<(), CertFaultKind>
 {
     let whole = Row::Csr(0, (strings.size().rows - 1) as u16);
     if strings.get(Row::Clear).is_none() {
-        return Err(CertFaultKind::Missing(Row::Clear));
+        return Err(CertFaultKind::missing(Row::Clear));
     }
     if strings.get(Row::Sgr0).is_none() {
-        return Err(CertFaultKind::Missing(Row::Sgr0));
+        return Err(CertFaultKind::missing(Row::Sgr0));
     }
     if strings.has(Row::Csr(0, 1)) && strings.get(whole).is_none() {
-        return Err(CertFaultKind::Missing(whole));
+        return Err(CertFaultKind::missing(whole));
     }
     Ok(())
 }

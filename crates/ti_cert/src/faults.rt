@@ -1,18 +1,19 @@
 //! Why a certificate is refused.
 
 ghost use Rattle.std.specs.Prelude.{◌≡◌};
+ghost use Rattle.ti_cert.specs.Certificates.{missing_line};
 
 use std::alloc::AllocError;
 use ti_caps::Cap;
 use ti_rows::{Params, Row};
 
 /// What is wrong with a line of a certificate.
-#[derive(Clone, Copy, Debug, PartialEq, Eq)]
+#[derive(Debug, Drop, PartialEq, Eq)]
 pub enum CertFaultKind {
     /// No line that a certificate of this size can have, or none where there has to be one.
     BadLine,
-    /// The line of this row has to come here, or earlier.
-    Missing(Row),
+    /// The line of this capability and these parameters has to come here, or earlier.
+    Missing(Cap, Params),
     /// A line that had to come earlier, or that is there already.
     OutOfOrder,
     /// The bytes are no whole control functions.
@@ -31,6 +32,15 @@ pub enum CertFaultKind {
     ReadFailed,
 }
 
+impl CertFaultKind {
+    /// The line of this row is missing.
+    pub(crate) fn missing(row: Row) -> CertFaultKind
+        ensures { result ≡ missing_line row }
+    {
+        CertFaultKind::Missing(row.cap(), row.params())
+    }
+}
+
 impl From<AllocError> for CertFaultKind {
     ghost use Rattle.std.specs.Prelude.{◌≡◌};
     ghost use Rattle.ti_cert.specs.declared.faults.CertFaultKind.{CertFaultKind};
@@ -45,7 +55,7 @@ impl From<AllocError> for CertFaultKind {
 }
 
 /// The first fault of a certificate, with its line, counted from 1.
-#[derive(Clone, Copy, Debug, PartialEq, Eq)]
+#[derive(Debug, Drop, PartialEq, Eq)]
 pub struct CertFault {
     pub line: u64,
     pub kind: CertFaultKind,

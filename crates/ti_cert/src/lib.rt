@@ -19,4 +19,6 @@ pub use agreement::agrees;
 pub use audits::{audit, audit_from};
 pub use faults::{AgreeFault, CertFault, CertFaultKind, VerifyFault};
 pub use table::Table;
+pub use ti_lines::{Drip, ReadFault, Reader};
+pub use ti_rows::{Params, Row};
 pub use verification::{Checked, verify, verify_from};

@@ -148,12 +148,12 @@ impl Place {
             return Err(CertFaultKind::OutOfOrder);
         }
         if let Some(missing) = self.missing(size, row.order()) {
-            return Err(CertFaultKind::Missing(missing));
+            return Err(CertFaultKind::missing(missing));
         }
         if rank == count {
             Ok(())
         } else {
-            Err(CertFaultKind::Missing(self.early(size, row)))
+            Err(CertFaultKind::missing(self.early(size, row)))
         }
     }
 }

@@ -1,6 +1,6 @@
 //! An entry that its certificate verifies.
 
-ghost use Rattle.std.specs.Prelude.{◌≡◌, ◌++◌, ℕ, List, IfOk, IfErr, IfSome, OnOk, option_copied};
+ghost use Rattle.std.specs.Prelude.{◌≡◌, ◌++◌, ℕ, List, IfOk, IfErr, IfSome, IfNone, OnOk, option_copied};
 ghost use Rattle.ti_lines.specs.Reader.{Rose};
 ghost use Rattle.ti_cert.specs.Texts.{IsCertLineRead, IsCertRefused, IsTableOf, Takes};
 ghost use Rattle.ti_cert.specs.Basic.{IsBasic, IsVerifyStopped, basic_text_of};
@@ -20,7 +20,7 @@ use crate::faults::{AgreeFault, VerifyFault};
 use crate::table::Table;
 use std::alloc::{AllocError, Global};
 use std::marker::Model;
-use ti_caps::{Bytes, Entry};
+use ti_caps::{Bytes, Cap, Entry, name};
 use ti_conforms::{partner, resync_rows};
 use ti_lines::Reader;
 use ti_rows::Row;
@@ -42,6 +42,14 @@ impl Model for Checked {
     ghost view = { λ c. c.table };
 
     ghost invariant = { λ c. IsVerified c.table × IsResync c.table c.resync };
+}
+
+/// The row of a capability with these parameters, `None` where it isn't checked or doesn't take them.
+fn row_of(cap: Cap, params: &[u16]) -> Option<Row>
+    ensures found { IfSome result (spec.IsRowOf cap params.now) }
+    ensures none { IfNone result ((row : Row) → spec.IsRowOf cap params.now row → ⊥) }
+{
+    Row::named(name(cap))?.with_params(params)
 }
 
 /// Adds the bytes of the row's line, where there is one.
@@ -92,9 +100,21 @@ impl Checked {
         self.table.size()
     }
 
-    /// What the entry sends for a row, `None` where it has no such checked string. From every start of
-    /// the row its run ends as is wanted, and cut off anywhere it leaves a lost state.
-    pub fn bytes(&self, row: Row) -> Option<&[u8]>
+    /// What the entry sends for a capability and its parameters, `None` where the certificate has no such line. From
+    /// every start of the row its run ends as is wanted, and cut off anywhere it leaves a lost state.
+    pub fn bytes(&self, cap: Cap, params: &[u16]) -> Option<&[u8]>
+        ensures line { (row : Row) → spec.IsRowOf cap params.now row
+            → option_copied result ≡ (table_of self.now).line_of row }
+        ensures right { IfSome result (λ bytes. spec.IsLineOf (table_of self.now) cap params.now bytes.now) }
+    {
+        match row_of(cap, params) {
+            Some(row) => self.row_bytes(row),
+            None => None,
+        }
+    }
+
+    /// The same for a row.
+    pub fn row_bytes(&self, row: Row) -> Option<&[u8]>
         ensures line { option_copied result ≡ (table_of self.now).line_of row }
         ensures right { IfSome result (λ bytes. LineHolds (table_of self.now) row bytes.now) }
     {
@@ -106,7 +126,7 @@ impl Checked {
     pub fn partner(&self, letter: u8) -> Option<u8>
         ensures { result ≡ spec.partner_in self.now letter }
     {
-        if self.bytes(Row::Smacs).is_none() || self.bytes(Row::Rmacs).is_none() {
+        if self.row_bytes(Row::Smacs).is_none() || self.row_bytes(Row::Rmacs).is_none() {
             return None;
         }
         match self.table.acsc() {

@@ -10,7 +10,7 @@ use Rattle.ti_verdicts.specs.Refusals.{IsOfCause, IsOfKind, IsVerdict}
 -- every kind but two has its words
 pub told_by_words : (path text : List ℕ) (kind : CertFaultKind) (failure : Failure) → kind ≢ NoMemory → kind ≢ ReadFailed → IsVerdict text failure → IsOfKind path text kind failure
 told_by_words path text BadLine failure m r h = h
-told_by_words path text (Missing row) failure m r h = h
+told_by_words path text (Missing cap numbers) failure m r h = h
 told_by_words path text OutOfOrder failure m r h = h
 told_by_words path text NotWhole failure m r h = h
 told_by_words path text NotTame failure m r h = h

@@ -3,8 +3,6 @@
 use Rattle.std.specs.Prelude.{◌≡◌, ℕ, List, [], ◌++◌, codes}
 use Rattle.std.specs.Fmt.{decimal}
 use Rattle.ti_caps.specs.Table.{name_at}
-use Rattle.ti_rows.specs.Names.{name_of}
-use Rattle.ti_rows.specs.Params.{params}
 use Rattle.ti_cert.specs.declared.faults.AgreeFault.TheVariants as agree_faults
 use Rattle.ti_cert.specs.declared.faults.CertFault.{CertFault}
 use Rattle.ti_cert.specs.declared.faults.CertFaultKind.{CertFaultKind}
@@ -25,7 +23,7 @@ use Rattle.ti_commands.specs.declared.failure.CommandRefusal.TheVariants.{Verdic
 -- what of a kind's words comes before its capability
 abbrev pub kind_name : CertFaultKind → List ℕ
 kind_name BadLine = codes "BadLine"
-kind_name (Missing row) = codes "Missing "
+kind_name (Missing cap numbers) = codes "Missing "
 kind_name OutOfOrder = codes "OutOfOrder"
 kind_name NotWhole = codes "NotWhole"
 kind_name NotTame = codes "NotTame"
@@ -36,7 +34,7 @@ kind_name NoMemory = codes "NoMemory"
 kind_name ReadFailed = codes "ReadFailed"
 
 abbrev pub kind_cap : CertFaultKind → List ℕ
-kind_cap (Missing row) = name_of row ++ numbers_text (params row)
+kind_cap (Missing cap numbers) = name_at cap ++ numbers_text numbers.items
 kind_cap _ = []
 
 -- `line N: KIND`, and the capability that the kind has

@@ -11,7 +11,7 @@ pub fn explain_fault(
     alloc: Global,
     path: &str,
     size: Size,
-    fault: CertFault,
+    fault: &CertFault,
     seen: &Seen,
     remarks: &mut Remarks,
 ) {
@@ -21,20 +21,20 @@ pub fn explain_fault(
 }
 
 /// What was to stand in a line, or what is wrong with it.
-fn wanted(alloc: Global, size: Size, fault: CertFault) -> Result<Vec<u8>, AllocError> {
-    match fault.kind {
+fn wanted(alloc: Global, size: Size, fault: &CertFault) -> Result<Vec<u8>, AllocError> {
+    match &fault.kind {
         CertFaultKind::BadLine if fault.line == 1 => first_line_words(alloc, size),
-        CertFaultKind::Missing(row) => missing_line_words(alloc, row),
+        CertFaultKind::Missing(cap, params) => missing_line_words(alloc, *cap, params),
         kind => Vec::from_slice(alloc, kind_words(kind)),
     }
 }
 
-fn kind_words(kind: CertFaultKind) -> &'static [u8] {
+fn kind_words(kind: &CertFaultKind) -> &'static [u8] {
     match kind {
         CertFaultKind::BadLine =>
             b"a line is written as `cup 0 0 1b5b313b3148 row=0 col=0 nopend`, with parameters that the size allows; \
               the last one is `end`, and each ends with LF",
-        CertFaultKind::Missing(_) => b"a line has to stand here",
+        CertFaultKind::Missing(_, _) => b"a line has to stand here",
         CertFaultKind::OutOfOrder =>
             b"the lines stand in the byte order of their capabilities, then of their parameters, and each once",
         CertFaultKind::NotWhole => b"the bytes are not text and whole control sequences",

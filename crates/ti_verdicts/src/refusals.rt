@@ -12,14 +12,14 @@ use ti_parm::ParmFault;
 use ti_words::push_numbers;
 
 /// `line N: KIND` of `fault`, and the capability that the kind has.
-pub fn fault_words(alloc: Global, fault: CertFault) -> Result<Vec<u8>, AllocError>
-    ensures { IfOk result (λ words. words.items ≡ spec.fault_text fault) }
+pub fn fault_words(alloc: Global, fault: &CertFault) -> Result<Vec<u8>, AllocError>
+    ensures { IfOk result (λ words. words.items ≡ spec.fault_text fault.now) }
 {
     let line = fault.line;
     let mut words = Vec::new(alloc);
     words.extend_from_slice(format!(in alloc; "line {line}: ")?.as_bytes())?;
-    words.extend_from_slice(kind_name(fault.kind))?;
-    push_cap(alloc, fault.kind, &mut words)?;
+    words.extend_from_slice(kind_name(&fault.kind))?;
+    push_cap(alloc, &fault.kind, &mut words)?;
     Ok(words)
 }
 
@@ -102,12 +102,12 @@ fn parm_name(fault: ParmFault) -> &'static [u8]
     }
 }
 
-fn kind_name(kind: CertFaultKind) -> &'static [u8]
-    ensures { result.now ≡ spec.kind_name kind }
+fn kind_name(kind: &CertFaultKind) -> &'static [u8]
+    ensures { result.now ≡ spec.kind_name kind.now }
 {
     match kind {
         CertFaultKind::BadLine => b"BadLine",
-        CertFaultKind::Missing(_) => b"Missing ",
+        CertFaultKind::Missing(_, _) => b"Missing ",
         CertFaultKind::OutOfOrder => b"OutOfOrder",
         CertFaultKind::NotWhole => b"NotWhole",
         CertFaultKind::NotTame => b"NotTame",
@@ -120,13 +120,13 @@ fn kind_name(kind: CertFaultKind) -> &'static [u8]
 }
 
 /// Appends the capability that `kind` has, with its parameters, to `words`.
-fn push_cap(alloc: Global, kind: CertFaultKind, words: &mut Vec<u8>) -> Result<(), AllocError>
-    ensures { OnOk result (words.new.items ≡ words.old.items ++ spec.kind_cap kind) }
+fn push_cap(alloc: Global, kind: &CertFaultKind, words: &mut Vec<u8>) -> Result<(), AllocError>
+    ensures { OnOk result (words.new.items ≡ words.old.items ++ spec.kind_cap kind.now) }
 {
     match kind {
-        CertFaultKind::Missing(row) => {
-            words.extend_from_slice(row.name())?;
-            push_numbers(alloc, row.params().as_slice(), words)
+        CertFaultKind::Missing(cap, params) => {
+            words.extend_from_slice(name(*cap))?;
+            push_numbers(alloc, params.as_slice(), words)
         }
         _ => Ok(()),
     }

@@ -73,7 +73,7 @@ fn failure_of<R: Read>(
     ensures { TellsFault path.now fault.now result }
 {
     match fault {
-        VerifyFault::Cert(fault) => cert_failure(alloc, path, size, *fault, reader, remarks),
+        VerifyFault::Cert(fault) => cert_failure(alloc, path, size, fault, reader, remarks),
         VerifyFault::Agree(fault) => agree_failure(alloc, path, fault, remarks),
     }
 }
@@ -96,11 +96,11 @@ fn cert_failure<R: Read>(
     alloc: Global,
     path: &str,
     size: Size,
-    fault: CertFault,
+    fault: &CertFault,
     reader: &CertificateFile<R>,
     remarks: &mut Remarks,
 ) -> Failure
-    ensures { TellsFault path.now (VerifyFault.Cert fault) result }
+    ensures { TellsFault path.now (VerifyFault.Cert fault.now) result }
 {
     match fault.kind {
         CertFaultKind::NoMemory => Failure::NoMemory,

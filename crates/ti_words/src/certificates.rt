@@ -4,8 +4,8 @@ use crate::numbers::push_numbers;
 use crate::remarks::Remarks;
 use crate::seen::{SHOWN, Seen};
 use std::alloc::{AllocError, Global};
-use ti_caps::{Cap, Kind, kind};
-use ti_rows::Row;
+use ti_caps::{Cap, Kind, kind, name};
+use ti_rows::Params;
 use vt_term::Size;
 
 /// Explains by `wanted`, which says what was to stand there, the line `number` of the certificate at `path`. The line
@@ -76,11 +76,11 @@ pub fn first_line_words(alloc: Global, size: Size) -> Result<Vec<u8>, AllocError
     Ok(words.into_bytes())
 }
 
-/// That the line of `row` has to stand here.
-pub fn missing_line_words(alloc: Global, row: Row) -> Result<Vec<u8>, AllocError> {
+/// That the line of `cap` with `params` has to stand here.
+pub fn missing_line_words(alloc: Global, cap: Cap, params: &Params) -> Result<Vec<u8>, AllocError> {
     let mut words = Vec::from_slice(alloc, b"the line of `")?;
-    words.extend_from_slice(row.name())?;
-    push_numbers(alloc, row.params().as_slice(), &mut words)?;
+    words.extend_from_slice(name(cap))?;
+    push_numbers(alloc, params.as_slice(), &mut words)?;
     words.extend_from_slice(b"` has to stand here")?;
     Ok(words)
 }

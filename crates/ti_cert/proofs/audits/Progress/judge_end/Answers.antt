@@ -1,10 +1,13 @@
-use Rattle.std.proofs.Common.{inl}
+use Rattle.std.proofs.Common.{inl, sym, subst, Err}
 use Rattle.std.proofs.lemmas.Result.{err_from_is_err_and}
+use Rattle.ti_cert.specs.Audits.{AnswersLast}
+use Rattle.ti_cert.specs.declared.faults.CertFaultKind.{CertFaultKind}
 use Rattle.ti_cert.proofs.AuditSteps.{last_lacks, last_clashes, last_closes}
 use Rattle.ti_cert.proofs.audits.Progress.judge_end.Goals as goal
 
 pub returns-in-Some-clause-err : goal.returns-in-Some-clause-err
-returns-in-Some-clause-err c = inl (last_lacks c.args.self.now c.in-Some.missing c.in-Some.ensures)
+returns-in-Some-clause-err c =
+    inl (subst (λ (k : CertFaultKind). AnswersLast c.args.self.now (Err k)) (sym c.missing-in-Some.ensures) (last_lacks c.args.self.now c.in-Some.missing c.in-Some.ensures))
 
 pub returns-in_err-settled-in-None-clause-err : goal.returns-in_err-settled-in-None-clause-err
 returns-in_err-settled-in-None-clause-err c =

@@ -1,0 +1,81 @@
+-- A capability and its parameters name one row at most, and it is found by the capability's name.
+use Rattle.std.proofs.Common.{Bor, ◌≡◌, ◌≢◌, ℕ, ◌<◌, ◌==◌, ◌+◌, Bool, true, false, List, Option, Some, None, IfSome, IfNone, inl, inr, refl, sym, ap, ◌∙◌, arith}
+use Rattle.std.proofs.lemmas.Option.{same_Some, none-some}
+use Rattle.std.specs.Prelude.{option_copied}
+use Rattle.ti_caps.specs.Table.{name_at, place_in}
+use Rattle.ti_caps.proofs.Tables.{place_in_name}
+use Rattle.ti_rows.specs.declared.rows.Row.{Row}
+use Rattle.ti_rows.specs.Names.{order, string_in_order, name_in_order, name_of, cap_of}
+use Rattle.ti_rows.specs.Params.{params, with_params, HasParams}
+use Rattle.ti_rows.proofs.NameFacts.{named, orders_small, strings_small}
+use Rattle.ti_rows.proofs.Readers.{finds_params, params_found}
+use Rattle.std.proofs.lemmas.Bool.{agree_below, agree_below_at, cases_order, eqb-false}
+use Rattle.ti_conforms.specs.Table.{Table}
+use Rattle.ti_conforms.specs.Holds.{LineHolds}
+use Rattle.ti_cert.specs.Verified.{IsRowOf, IsLineOf}
+
+-- no two checked capabilities have one position
+unfoldable is_same : ℕ → ℕ → Bool
+is_same high low = string_in_order low == string_in_order high
+
+unfoldable none_is_same : ℕ → Bool
+none_is_same high = agree_below (is_same high) (λ _. false) high
+
+each_differs : agree_below none_is_same (λ _. true) 42 ≡ true
+unfolding none_is_same is_same string_in_order
+each_differs = refl
+
+all_differ : (high : ℕ) → high < 42 → agree_below (is_same high) (λ _. false) high ≡ true
+unfolding none_is_same
+all_differ high within = agree_below_at none_is_same (λ _. true) 42 high each_differs within
+
+never_same : (low high : ℕ) → low < high → high < 42 → string_in_order low ≡ string_in_order high → ⊥
+unfolding is_same
+never_same low high less within e = eqb-false (string_in_order low) (string_in_order high) (agree_below_at (is_same high) (λ _. false) high low (all_differ high within) less) e
+
+-- a row's capability has the row's name
+name_of_cap : (row : Row) → name_at (cap_of row) ≡ name_of row
+name_of_cap row = named (order row) (orders_small row)
+
+same_order : (a b : Row) → cap_of a ≡ cap_of b → order a ≡ order b
+same_order a b e =
+    let same : string_in_order (order a) ≡ string_in_order (order b) = omega (arith, e) in
+    elim (cases_order (order a) (order b)) [
+      | inl h ↦ h
+      | inr (inl less) ↦ absurd (never_same (order a) (order b) less (orders_small b) same)
+      | inr (inr less) ↦ absurd (never_same (order b) (order a) less (orders_small a) (sym same))
+    ]
+
+-- of one capability there is a row for each list of parameters at most
+one_row : (a b : Row) (cap : ℕ) (numbers : List ℕ) → IsRowOf cap numbers a → IsRowOf cap numbers b → a ≡ b
+one_row a b cap numbers p q = same_Some a b
+    (sym (params_found a a refl) ∙ (ap (λ (ns : List ℕ). with_params a ns) (p.1 ∙ sym q.1) ∙ params_found a b (same_order a b (p.0 ∙ sym q.0))))
+
+-- a name that stands for this place alone is that of this capability
+cap_named : (row : Row) (cap : ℕ) (text : List ℕ) → name_of row ≡ text → place_in text ≡ Some cap → cap_of row ≡ cap
+cap_named row cap text named_so placed =
+    let small = strings_small (order row) (orders_small row) in
+    same_Some (cap_of row) cap (sym (place_in_name (cap_of row) (omega (arith, small))) ∙ (ap place_in (name_of_cap row ∙ named_so) ∙ placed))
+
+pub row_found : (first : Row) (cap : ℕ) (text numbers : List ℕ) (found : Option Row) → name_of first ≡ text → place_in text ≡ Some cap → found ≡ with_params first numbers → IfSome found (IsRowOf cap numbers)
+row_found first cap text numbers None named_so placed e = tt
+row_found first cap text numbers (Some row) named_so placed e =
+    let h : HasParams first row numbers = finds_params first row numbers (sym e) in
+    (cap_named row cap text (ap name_in_order h.same_order ∙ named_so) placed, h.has)
+
+pub no_row_with : (first : Row) (cap : ℕ) (text numbers : List ℕ) (found : Option Row) → name_of first ≡ text → place_in text ≡ Some cap → found ≡ with_params first numbers → IfNone found ((row : Row) → IsRowOf cap numbers row → ⊥)
+no_row_with first cap text numbers (Some row) named_so placed e = tt
+no_row_with first cap text numbers None named_so placed e = λ row is.
+    none-some row (e ∙ (ap (λ (ns : List ℕ). with_params first ns) (sym is.1) ∙ params_found first row (same_order first row (cap_named first cap text named_so placed ∙ sym is.0))))
+
+pub no_row_named : (cap : ℕ) (text numbers : List ℕ) (found : Option Row) → text ≡ name_at cap → ((row : Row) → name_of row ≢ text) → IfNone found ((row : Row) → IsRowOf cap numbers row → ⊥)
+no_row_named cap text numbers (Some row) e none = tt
+no_row_named cap text numbers None e none = λ row is. none row (sym (name_of_cap row) ∙ (ap name_at is.0 ∙ sym e))
+
+-- the bytes of the row that was found are those of every such row
+pub line_found : (t : Table) (cap : ℕ) (numbers : List ℕ) (row : Row) (bytes : Option (List ℕ)) → IsRowOf cap numbers row → bytes ≡ t.line_of row → (other : Row) → IsRowOf cap numbers other → bytes ≡ t.line_of other
+line_found t cap numbers row bytes is e other such = e ∙ ap t.line_of (one_row row other cap numbers is such)
+
+pub line_holds : (t : Table) (cap : ℕ) (numbers : List ℕ) (row : Row) (o : Option (Bor (List ℕ))) → IsRowOf cap numbers row → option_copied o ≡ t.line_of row → IfSome o (λ b. LineHolds t row b.now) → IfSome o (λ b. IsLineOf t cap numbers b.now)
+line_holds t cap numbers row None is e h = tt
+line_holds t cap numbers row (Some b) is e h = record { row = row; is_row = is; is_line = sym e; holds = h }

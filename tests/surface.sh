@@ -1,0 +1,17 @@
+#!/bin/sh
+# The published surface of the libraries (surface/): each public call by its name and with its arguments, from the crate that
+# offers it, and its answer. Where one has another name or other arguments, the program doesn't compile. (`command` is called by
+# command.sh, since a program's crate can't be used by another.)
+set -eu
+cd -- "$(dirname -- "$0")/.."
+. tests/probing
+
+work=$(mktemp -d)
+trap 'rm -rf "$work"' EXIT
+# shellcheck disable=SC2046
+lay "$work/surface" $(used tests/surface/*.txt)
+fill "$work/surface" tests/surface
+attempt "$work/surface" --test
+must_run "$work/surface" "surface: not each public call has its name, its arguments and its answer"
+must_pass "$work/surface" tests/surface/*.txt
+echo "surface: $wanted tests call each public call by its name"
