@@ -30,7 +30,7 @@ use Rattle.ti_conforms.specs.Looks.{no_looks}
 use Rattle.ti_cert.specs.Known.{Known, Holds, IsKept, HasRecord, looks_with}
 use Rattle.ti_cert.specs.Table.{checked_of}
 use Rattle.ti_cert.specs.Order.{Precedes, HasLine, HasCap, HasBytes, IsRequired, IsComplete, IsInPlace}
-use Rattle.ti_cert.specs.Clashes.{ClashesBy, GoesTogether}
+use Rattle.ti_cert.specs.Clashes.{IsClash, GoesTogether}
 use Rattle.ti_cert.specs.Places.{missing, place_fault}
 use Rattle.ti_cert.specs.Audits.{settled_of, Lists, IsLastRow, IsUpTo, Stands, Tells, Steps, Becomes, AnswersLine, AnswersLater, AnswersRow, AnswersLast, OrNoMemory, IsTokenFault, Misshows, NoRecord, Another, NotAsked, IsMisplacedBy, HasPairs, HasNoPairs, HasNoMemory, LacksRecord, NotSplit, NotRecorded, RanOut, LacksNeeded, NoClear, NoSgr0, NoWidening, IsConcluded, ConcludesBy, Lacking, Together, NoRoom}
 use Rattle.ti_cert.specs.declared.audits.Progress.{Progress}
@@ -247,14 +247,14 @@ last_clashes p kind has_pairs same none h = by_kind (is_no_memory kind)
     by_why : (lines : List RowLine) (pairs : Option (List ℕ)) → (kind ≡ NoMemory → ⊥) → Stands p lines → p.acsc ≡ pairs → IsComplete p.size.rows p.size.cols lines None → ConcludesBy p.known (is_some p.acsc) kind
         → JudgesLast p.size.rows p.size.cols pairs lines (Err kind)
     by_why lines pairs never st pa complete (Lacking l) = absurd (has_needed p lines kind st complete l)
-    by_why lines pairs never st pa complete (Together settled t) = Clashes complete kind (record {
+    by_why lines pairs never st pa complete (Together settled clash t e) = Clashes complete clash (record {
       table = checked_of p.known settled;
       rows_are = st.rows;
       cols_are = st.cols;
       found = st.lists.found;
       kept = st.lists.kept;
-      is = subst (λ (o : Option (List ℕ)). ClashesBy (is_some o) (checked_of p.known settled) kind) pa t;
-    }) refl
+      is = subst (λ (o : Option (List ℕ)). IsClash (is_some o) (checked_of p.known settled) clash) pa t;
+    }) (ap (λ (k : CertFaultKind). Err k) e)
     by_why lines pairs never st pa complete (NoRoom e) = absurd (never e)
 
     by_kind : (kind ≡ NoMemory) ⊎ (kind ≡ NoMemory → ⊥) → OrNoMemory kind (AnswersLast p)

@@ -16,7 +16,7 @@ use Rattle.ti_conforms.specs.Sets.{CanHave, AtReset, AfterToken, LeadsBy, CanSet
 use Rattle.ti_lines.specs.declared.row_lines.RowLine.{RowLine}
 use Rattle.ti_cert.specs.Strings.{allows}
 use Rattle.ti_conforms.specs.Looks.{no_looks}
-use Rattle.ti_cert.specs.Clashes.{Misswitches, LeavesPlain, LeavesGraphic, Misresyncs, BeginsOpen, ResyncsGraphic, GoesTogether, OfLines}
+use Rattle.ti_cert.specs.Clashes.{GoesTogether, OfLines}
 use Rattle.ti_cert.specs.Basic.{basic_bytes, basic_line, is_basic, basic_rows}
 use Rattle.ti_cert.proofs.Ranges as ranges
 use Rattle.ti_cert.proofs.GroupFacts.{if_some}
@@ -114,15 +114,13 @@ never_graphic c e h = absurd (true≢false (sym h ∙ plain_at_reset c e))
 
 together : (rows cols : ℕ) (home el : Bool) → IsSize rows cols → GoesTogether false (basic_table rows cols home el)
 unfolding basic_table
-together rows cols home el size = record { switches = switches; plain = λ s. never_graphic s.charset (settles_reset rows cols home el size s.charset s.settles) s.graphic; resyncs = resyncs }
-  where
-    switches : Misswitches (basic_table rows cols home el) → ⊥
-    switches (LeavesPlain bytes is c d settles leads plain) = none-some bytes is
-    switches (LeavesGraphic bytes is c d settles leads graphic) = none-some bytes is
-
-    resyncs : Misresyncs (basic_table rows cols home el) → ⊥
-    resyncs (BeginsOpen never) = never (91 ∷ 109 ∷ clear_text) (resync_is rows cols home el)
-    resyncs (ResyncsGraphic c d has leads graphic) = never_graphic d (resync_keeps rows cols home el size c d leads ∙ has_reset rows cols home el size c has) graphic
+together rows cols home el size = record {
+  graphic = λ c m. none-some m.bytes m.there;
+  plain = λ c m. none-some m.bytes m.there;
+  settles = λ s. never_graphic s.charset (settles_reset rows cols home el size s.charset s.settles) s.graphic;
+  escapes = λ never. never (91 ∷ 109 ∷ clear_text) (resync_is rows cols home el);
+  quiet = λ c d has leads. plain_at_reset d (resync_keeps rows cols home el size c d leads ∙ has_reset rows cols home el size c has);
+}
 
 -- lines that are just those of a basic certificate
 pub record AreBasic (rows cols : ℕ) (home el : Bool) (lines : List RowLine) : Type 0 where

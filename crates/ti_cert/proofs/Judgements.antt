@@ -24,12 +24,21 @@ use Rattle.ti_conforms.specs.Closures as closing
 use Rattle.ti_conforms.proofs.Reaches.{reached_can, can_reached}
 use Rattle.ti_rows.specs.declared.rows.Row.{Row}
 use Rattle.ti_rows.specs.declared.rows.Row.TheVariants.{Clear, Cup, Home, Cr, Hpa, Vpa, Cub1, Cuf1, Cuu1, Cud1, Cub, Cuf, Cuu, Cud, El, El1, Ed, Ech, Sgr, Sgr0, Setaf, Setab, Op, Smul, Rev, Blink, Dim, Bold, Invis, Smso, Enacs, Smacs, Rmacs, Csr, Ind, Ri, Civis, Cnorm, Cvvis, Smcup, Rmcup, Bel}
-use Rattle.ti_rows.specs.Asked.{start_of}
-use Rattle.ti_conforms.specs.Table.{or_nothing, resync, Activates, resync_of}
-use Rattle.ti_conforms.specs.Judged.{JudgedLine, ChangesSets, NoLine, ByLine, changed, left_of, IsJudged}
+use Rattle.ti_rows.specs.Asked.{start_of, asked}
+use Rattle.ti_rows.specs.declared.rows.Looks.{Looks}
+use Rattle.ti_conforms.specs.Table.{Table, or_nothing, resync, Activates, resync_of}
+use Rattle.ti_conforms.specs.Judged.{JudgedLine, ChangesSets, changed, left_of, IsJudged}
+use Rattle.ti_conforms.specs.Judged as judging
 use Rattle.ti_cert.specs.Strings.{Strings, string_in, has_group}
-use Rattle.ti_cert.specs.Known.{Known, IsKept, IsChange, Holds}
-use Rattle.ti_cert.specs.Table.{checked_of, first_or, first_of_resync, Changes, NoString, OfString, changes_of, Leads}
+use Rattle.ti_cert.specs.Known.{Known, IsKept, IsChange, IsFrom, IsTold, Holds}
+use Rattle.ti_cert.specs.Audits.{IsConcluded, ConcludesBy, Together}
+use Rattle.ti_cert.specs.Clashes.{IsClash, GoesTogether, kind_of}
+use Rattle.ti_cert.specs.declared.clashes.Clash.{Clash}
+use Rattle.ti_cert.specs.declared.faults.CertFaultKind.{CertFaultKind}
+use Rattle.ti_cert.specs.Seen.{LeadsAs, AreSeen, ChangesBy, NoLine, ByLine, IsFound, parts_of, Leads, AreSettled, NoneClashes}
+use Rattle.ti_cert.specs.Table.{checked_of, first_or, first_of_resync, Changes, NoString, OfString}
+use Rattle.ti_cert.specs.declared.clashes.Resync.{Resync}
+use Rattle.ti_cert.proofs.Together as clashing
 use Rattle.ti_cert.proofs.GroupFacts.{there_some}
 
 over_steps : (ts : List (List ℕ)) (s : Screen) → (steps ts s).charset ≡ charset_over ts s.charset
@@ -102,26 +111,6 @@ join_six a b c d e f =
     ∙ (sym (append_assoc a b ((c ++ d) ++ (e ++ f)))
     ∙ sym (append_assoc (a ++ b) (c ++ d) (e ++ f))))
 
-pub record Ends (k : Known) (settled first : Charsets) (smcup enacs sgr0 rmacs smacs : Option Sets) (has_acsc : Bool) : Type 0 where
-  pub holds : Holds k
-  pub clear : is_some (string_in k.strings Clear) ≡ true
-  pub sgr0_there : is_some (string_in k.strings Sgr0) ≡ true
-  pub csr : has_group k.strings (Csr 0 1) ≡ true → is_some (string_in k.strings (Csr 0 (k.strings.rows - 1))) ≡ true
-  pub smcup_is : Changes k.strings Smcup smcup
-  pub enacs_is : Changes k.strings Enacs enacs
-  pub sgr0_is : Changes k.strings Sgr0 sgr0
-  pub rmacs_is : Changes k.strings Rmacs rmacs
-  pub smacs_is : Changes k.strings Smacs smacs
-  pub first_sound : (d : Charset) → closing.has first d ≡ true → Leaves k.reach (changes_of smcup enacs sgr0 rmacs) d
-  pub first_complete : (d : Charset) → Leaves k.reach (changes_of smcup enacs sgr0 rmacs) d → closing.has first d ≡ true
-  pub close_sound : (c : Charset) → closing.has settled c ≡ true → Settled (λ d. closing.has first d ≡ true) (SomeLeads k.changes) c
-  pub close_complete : (c : Charset) → Settled (λ d. closing.has first d ≡ true) (SomeLeads k.changes) c → closing.has settled c ≡ true
-  pub goes_graphic : Leads settled smacs true
-  pub goes_plain : Leads settled rmacs false
-  pub plain : (has_acsc && (is_some smacs && is_some rmacs)) ≡ false → Leads settled (Some kept) false
-  pub quiet : Leads first (Some kept) false
-  pub escape : first_of_resync k.strings ≡ Some 27
-
 leads_by : (settled : Charsets) (o : Option Sets) (graphic : Bool) (x : Sets) → Leads settled o graphic → o ≡ Some x → (c : Charset) → closing.has settled c ≡ true → is_graphic (designated x c) ≡ graphic
 leads_by settled None graphic x h e = cc
 leads_by settled (Some y) graphic x h e = λ c there. ap (λ (z : Sets). is_graphic (designated z c)) (sym (same_Some y x e)) ∙ h c there
@@ -188,36 +177,116 @@ resync_head k settled = heads ∙ ap (λ (xs : List ℕ). head_of xs) (join_six 
 pub resync_begins : (k : Known) (settled : Charsets) → first_of_resync k.strings ≡ Some 27 → (rest : List ℕ) × (resync (checked_of k settled) ≡ 27 ∷ rest)
 resync_begins k settled escape = tail_of (resync (checked_of k settled)) 27 (sym (resync_head k settled) ∙ escape)
 
-pub judged : (k : Known) (settled first : Charsets) (smcup enacs sgr0 rmacs smacs : Option Sets) (has_acsc : Bool) → Ends k settled first smcup enacs sgr0 rmacs smacs has_acsc → IsJudged (checked_of k settled)
-judged k settled first smcup enacs sgr0 rmacs smacs has_acsc p = record {
+-- what the strings do that lead out of an unknown state, and `smacs`
+pub record ChangeCharsets (k : Known) (r : Resync) (smacs : Option Sets) : Type 0 where
+  pub smcup_is : Changes k.strings Smcup r.smcup
+  pub enacs_is : Changes k.strings Enacs r.enacs
+  pub sgr0_is : Changes k.strings Sgr0 r.sgr0
+  pub rmacs_is : Changes k.strings Rmacs r.rmacs
+  pub smacs_is : Changes k.strings Smacs smacs
+
+line_change : (k : Known) (settled : Charsets) (row : Row) (o : Option Sets) → Changes k.strings row o → ChangesBy (checked_of k settled) row o
+line_change k settled row _ (NoString none) = NoLine none
+line_change k settled row _ (OfString bytes there tokens whole effect recorded) =
+    ByLine bytes there effect.charset (record { tokens = tokens; whole = whole; leads = record_sets k.strings.rows k.strings.cols row tokens effect recorded })
+
+-- what a line does by its record
+line_leads : (k : Known) (h : Holds k) (row : Row) (bytes : List ℕ) (there : string_in k.strings row ≡ Some bytes) → LeadsAs bytes (h.lines row bytes there).effect.charset
+line_leads k h row bytes there =
+    let l : IsKept k h.all row bytes = h.lines row bytes there in
+    record { tokens = l.tokens; whole = l.whole; leads = record_sets k.strings.rows k.strings.cols row l.tokens l.effect l.has.recorded }
+
+-- all that was kept of the lines is what they do
+seen_of : (k : Known) (settled : Charsets) → Holds k → AreSeen (checked_of k settled) k.reach k.changes
+unfolding line_leads
+seen_of k settled h = record {
+  tokens = h.all;
+  reach_is = h.reach_is;
+  occurs = λ token among.
+      let f : IsFrom k token = h.from_lines token among in
+      record { row = f.row; bytes = f.bytes; there = f.there; tokens = f.tokens; whole = f.whole; among = f.among };
+  told = λ change among.
+      let f : IsTold k change = h.told change among in
+      record {
+        row = f.row;
+        bytes = f.bytes;
+        there = f.there;
+        keeps = f.keeps;
+        leads = record { tokens = f.tokens; whole = f.whole; leads = λ c. record_sets k.strings.rows k.strings.cols f.row f.tokens f.effect f.recorded c ∙ ap (λ (x : Sets). designated x c) (sym f.is) };
+      };
+  lines = λ row bytes there.
+      let l : IsKept k h.all row bytes = h.lines row bytes there in
+      record { change = l.effect.charset; leads = line_leads k h row bytes there; reached = l.reached; settled = l.settled };
+}
+
+keeps_sets : (k : Known) → Holds k → (row : Row) → ((l : Looks) (e : Effect) (c : Charset) → designated (asked l row e).charset c ≡ c) → (bytes : List ℕ) → string_in k.strings row ≡ Some bytes → LeadsAs bytes kept
+keeps_sets k h row same bytes there =
+    let l : IsKept k h.all row bytes = h.lines row bytes there in
+    record {
+      tokens = l.tokens;
+      whole = l.whole;
+      leads = λ c. record_sets k.strings.rows k.strings.cols row l.tokens l.effect l.has.recorded c ∙ (ap (λ (x : Effect). designated x.charset c) l.has.asked_for ∙ same k.looks l.effect c);
+    }
+
+pub found_of : (k : Known) (settled : Charsets) (r : Resync) (smacs : Option Sets) (escapes : Bool) → Holds k → ChangeCharsets k r smacs → (escapes ≡ true → first_of_resync k.strings ≡ Some 27)
+    → (escapes ≡ false → first_of_resync k.strings ≡ Some 27 → ⊥) → IsFound (checked_of k settled) k.reach k.changes r smacs escapes
+found_of k settled r smacs escapes h s begun opened = record {
+  seen = seen_of k settled h;
+  smcup_is = line_change k settled Smcup r.smcup s.smcup_is;
+  enacs_is = line_change k settled Enacs r.enacs s.enacs_is;
+  sgr0_is = line_change k settled Sgr0 r.sgr0 s.sgr0_is;
+  rmacs_is = line_change k settled Rmacs r.rmacs s.rmacs_is;
+  smacs_is = line_change k settled Smacs smacs s.smacs_is;
+  widens = keeps_sets k h (Csr 0 (k.strings.rows - 1)) (λ l e c. refl);
+  clears = keeps_sets k h Clear (λ l e c. refl);
+  opens = λ off rest f. opened off (resync_head k settled ∙ ap (λ (xs : List ℕ). head_of xs) f);
+  begins = λ on never. let b = resync_begins k settled (begun on) in never b.0 b.1;
+}
+
+-- what is known of all lines at the end of a certificate
+pub record Ends (k : Known) (settled : Charsets) (r : Resync) (smacs : Option Sets) (has_acsc escapes : Bool) : Type 0 where
+  pub holds : Holds k
+  pub clear : is_some (string_in k.strings Clear) ≡ true
+  pub sgr0_there : is_some (string_in k.strings Sgr0) ≡ true
+  pub csr : has_group k.strings (Csr 0 1) ≡ true → is_some (string_in k.strings (Csr 0 (k.strings.rows - 1))) ≡ true
+  pub strings : ChangeCharsets k r smacs
+  pub found : IsFound (checked_of k settled) k.reach k.changes r smacs escapes
+  pub all : AreSettled k.reach k.changes r settled
+  pub none : NoneClashes settled smacs r.rmacs (has_acsc && (is_some smacs && is_some r.rmacs)) escapes
+  pub together : GoesTogether has_acsc (checked_of k settled)
+  pub escape : first_of_resync k.strings ≡ Some 27
+
+pub judged : (k : Known) (settled : Charsets) (r : Resync) (smacs : Option Sets) (has_acsc escapes : Bool) → Ends k settled r smacs has_acsc escapes → IsJudged (checked_of k settled)
+judged k settled r smacs has_acsc escapes p = record {
   lines = line;
   clear_bytes = clear_there.0;
   clears = clear_there.1;
   sgr0_bytes = sgr0_found.0;
   makes_plain = sgr0_found.1;
   widens = λ top bottom there. p.csr (let found = some_there (string_in k.strings (Csr top bottom)) there in there_some k.strings (Csr top bottom) found.0 found.1);
-  changes = record { smcup = smcup; enacs = enacs; sgr0 = sgr0; rmacs = rmacs };
-  smcup = change Smcup smcup p.smcup_is;
-  enacs = change Enacs enacs p.enacs_is;
-  sgr0 = change Sgr0 sgr0 p.sgr0_is;
-  rmacs = change Rmacs rmacs p.rmacs_is;
+  changes = record { smcup = r.smcup; enacs = r.enacs; sgr0 = r.sgr0; rmacs = r.rmacs };
+  smcup = change Smcup r.smcup p.strings.smcup_is;
+  enacs = change Enacs r.enacs p.strings.enacs_is;
+  sgr0 = change Sgr0 r.sgr0 p.strings.sgr0_is;
+  rmacs = change Rmacs r.rmacs p.strings.rmacs_is;
   rest = begun.0;
   escapes = begun.1;
-  quiet = λ c there. ap (λ (d : Charset). is_graphic d) (sym (left_same c)) ∙ p.quiet (designated_all sets c) (left_first c there);
+  quiet = λ c there. ap (λ (d : Charset). is_graphic d) (sym (left_same c))
+      ∙ p.together.quiet c (designated_all sets c) (clashing.can_be (checked_of k settled) k.reach k.changes p.found.seen c there) (clashing.resyncs_to (checked_of k settled) k.reach k.changes r smacs escapes p.found c);
   starts = can_be reset_charset (AtReset reset_charset refl);
-  first_settled = λ c there. ap (λ (d : Charset). closing.has settled d) (sym (left_same c)) ∙ p.close_complete (designated_all sets c) (First (designated_all sets c) (left_first c there));
-  settled_reached = λ c there. can_be c (settled_can c (p.close_sound c there));
-  plain = λ off c there. p.plain (no_sets off) c there;
+  first_settled = λ c there. ap (λ (d : Charset). closing.has settled d) (sym (left_same c)) ∙ p.all.close_complete (designated_all sets c) (First (designated_all sets c) (left_first c there));
+  settled_reached = λ c there. can_be c (settled_can c (p.all.close_sound c there));
+  plain = λ off c there. p.none.unsent (no_sets off) c there;
 }
   where
     all : List (List ℕ)
     all = p.holds.all
 
     sets : List Sets
-    sets = changes_of smcup enacs sgr0 rmacs
+    sets = parts_of r
 
     can_be : (c : Charset) → Reached all c → can_have k.reach c ≡ true
-    can_be c r = ap (λ (x : Reach). can_have x c) p.holds.reach_is ∙ reached_can all c r
+    can_be c h = ap (λ (x : Reach). can_have x c) p.holds.reach_is ∙ reached_can all c h
 
     is_reached : (c : Charset) → can_have k.reach c ≡ true → Reached all c
     is_reached c h = can_reached all c (ap (λ (x : Reach). can_have x c) (sym p.holds.reach_is) ∙ h)
@@ -233,8 +302,8 @@ judged k settled first smcup enacs sgr0 rmacs smacs has_acsc p = record {
           asked_for = l.has.asked_for;
           stays = stays_each (λ t. (c : Charset) → can_have k.reach c ≡ true → can_have k.reach (charset_after (function_of t) c) ≡ true) l.tokens
               (λ t among c h. can_be (charset_after (function_of t) c) (AfterToken c (charset_after (function_of t) c) t (is_reached c h) (l.reached t among) refl));
-          settles = λ keeps c h. p.close_complete (designated l.effect.charset c) (After c (designated l.effect.charset c) (p.close_sound c h) (record { change = l.effect.charset; among = l.settled keeps; leads = refl }));
-          active = active k settled smacs rmacs p.smacs_is p.rmacs_is p.goes_graphic p.goes_plain row bytes l.tokens l.effect there l.whole l.has.recorded;
+          settles = λ keeps c h. p.all.close_complete (designated l.effect.charset c) (After c (designated l.effect.charset c) (p.all.close_sound c h) (record { change = l.effect.charset; among = l.settled keeps; leads = refl }));
+          active = active k settled smacs r.rmacs p.strings.smacs_is p.strings.rmacs_is p.none.graphic p.none.plain row bytes l.tokens l.effect there l.whole l.has.recorded;
         }
 
     clear_there : (x : List ℕ) × (string_in k.strings Clear ≡ Some x)
@@ -247,47 +316,47 @@ judged k settled first smcup enacs sgr0 rmacs smacs has_acsc p = record {
     change row o h = by_string (string_in k.strings row) refl
       where
         by_string : (s : Option (List ℕ)) → string_in k.strings row ≡ s → ChangesSets (checked_of k settled) row o
-        by_string None e = NoLine e (none_of o (sym (change_there k.strings row o h) ∙ ap (λ (x : Option (List ℕ)). is_some x) e))
+        by_string None e = judging.NoLine e (none_of o (sym (change_there k.strings row o h) ∙ ap (λ (x : Option (List ℕ)). is_some x) e))
           where
             none_of : (q : Option Sets) → is_some q ≡ false → q ≡ None
             none_of None f = refl
             none_of (Some x) f = cc
         by_string (Some bytes) e =
             let l : JudgedLine (checked_of k settled) row bytes = line row bytes e in
-            ByLine bytes e l (same_change k.strings row o bytes l.tokens l.effect e l.whole l.recorded h)
+            judging.ByLine bytes e l (same_change k.strings row o bytes l.tokens l.effect e l.whole l.recorded h)
 
-    left_same : (c : Charset) → designated_all sets c ≡ left_of (record { smcup = smcup; enacs = enacs; sgr0 = sgr0; rmacs = rmacs }) c
+    left_same : (c : Charset) → designated_all sets c ≡ left_of (record { smcup = r.smcup; enacs = r.enacs; sgr0 = r.sgr0; rmacs = r.rmacs }) c
     left_same c =
-        or_kept_changed rmacs (designated (or_kept sgr0) (designated (or_kept enacs) (designated (or_kept smcup) c)))
-        ∙ (ap (λ (d : Charset). changed rmacs d) (or_kept_changed sgr0 (designated (or_kept enacs) (designated (or_kept smcup) c)))
-        ∙ (ap (λ (d : Charset). changed rmacs (changed sgr0 d)) (or_kept_changed enacs (designated (or_kept smcup) c))
-        ∙ ap (λ (d : Charset). changed rmacs (changed sgr0 (changed enacs d))) (or_kept_changed smcup c)))
+        or_kept_changed r.rmacs (designated (or_kept r.sgr0) (designated (or_kept r.enacs) (designated (or_kept r.smcup) c)))
+        ∙ (ap (λ (d : Charset). changed r.rmacs d) (or_kept_changed r.sgr0 (designated (or_kept r.enacs) (designated (or_kept r.smcup) c)))
+        ∙ (ap (λ (d : Charset). changed r.rmacs (changed r.sgr0 d)) (or_kept_changed r.enacs (designated (or_kept r.smcup) c))
+        ∙ ap (λ (d : Charset). changed r.rmacs (changed r.sgr0 (changed r.enacs d))) (or_kept_changed r.smcup c)))
 
-    left_first : (c : Charset) → can_have k.reach c ≡ true → closing.has first (designated_all sets c) ≡ true
-    left_first c there = p.first_complete (designated_all sets c) (record { before = c; there = there; leads = refl })
+    left_first : (c : Charset) → can_have k.reach c ≡ true → closing.has p.all.first (designated_all sets c) ≡ true
+    left_first c there = p.all.first_complete (designated_all sets c) (record { before = c; there = there; leads = refl })
 
     one_reached : (row : Row) (o : Option Sets) → Changes k.strings row o → (c : Charset) → Reached all c → Reached all (designated (or_kept o) c)
-    one_reached row _ (NoString none) c r = r
-    one_reached row _ (OfString bytes there tokens whole effect recorded) c r =
+    one_reached row _ (NoString none) c h = h
+    one_reached row _ (OfString bytes there tokens whole effect recorded) c h =
         let l : IsKept k all row bytes = p.holds.lines row bytes there in
         let same = one_splitting bytes l.tokens tokens [] [] l.whole whole in
         subst (λ (d : Charset). Reached all d) (record_sets k.strings.rows k.strings.cols row tokens effect recorded c)
-        (over_reached all tokens c (λ t a. l.reached t (subst (λ (ts : List (List ℕ)). IsAmong ts t) same.0 a)) r)
+        (over_reached all tokens c (λ t a. l.reached t (subst (λ (ts : List (List ℕ)). IsAmong ts t) same.0 a)) h)
 
     first_can : (d : Charset) → Leaves k.reach sets d → Reached all d
     first_can d l = subst (λ (x : Charset). Reached all x) (sym l.leads)
-        (one_reached Rmacs rmacs p.rmacs_is (designated (or_kept sgr0) (designated (or_kept enacs) (designated (or_kept smcup) l.before)))
-        (one_reached Sgr0 sgr0 p.sgr0_is (designated (or_kept enacs) (designated (or_kept smcup) l.before))
-        (one_reached Enacs enacs p.enacs_is (designated (or_kept smcup) l.before)
-        (one_reached Smcup smcup p.smcup_is l.before (is_reached l.before l.there)))))
+        (one_reached Rmacs r.rmacs p.strings.rmacs_is (designated (or_kept r.sgr0) (designated (or_kept r.enacs) (designated (or_kept r.smcup) l.before)))
+        (one_reached Sgr0 r.sgr0 p.strings.sgr0_is (designated (or_kept r.enacs) (designated (or_kept r.smcup) l.before))
+        (one_reached Enacs r.enacs p.strings.enacs_is (designated (or_kept r.smcup) l.before)
+        (one_reached Smcup r.smcup p.strings.smcup_is l.before (is_reached l.before l.there)))))
 
-    settled_can : (c : Charset) → Settled (λ d. closing.has first d ≡ true) (SomeLeads k.changes) c → Reached all c
-    settled_can c (First _ h) = first_can c (p.first_sound c h)
+    settled_can : (c : Charset) → Settled (λ d. closing.has p.all.first d ≡ true) (SomeLeads k.changes) c → Reached all c
+    settled_can c (First _ h) = first_can c (p.all.first_sound c h)
     settled_can d (After c _ s l) = subst (λ (x : Charset). Reached all x) (sym l.leads) (change_reached all l.change (p.holds.changes l.change l.among) c (settled_can c s))
 
-    no_sets : (is_some (string_in k.strings Smacs) && is_some (string_in k.strings Rmacs)) ≡ false → (has_acsc && (is_some smacs && is_some rmacs)) ≡ false
-    no_sets off = both_off has_acsc (is_some smacs && is_some rmacs) (ap (λ (b : Bool). b && is_some rmacs) (sym (change_there k.strings Smacs smacs p.smacs_is))
-        ∙ (ap (λ (b : Bool). is_some (string_in k.strings Smacs) && b) (sym (change_there k.strings Rmacs rmacs p.rmacs_is)) ∙ off))
+    no_sets : (is_some (string_in k.strings Smacs) && is_some (string_in k.strings Rmacs)) ≡ false → (has_acsc && (is_some smacs && is_some r.rmacs)) ≡ false
+    no_sets off = both_off has_acsc (is_some smacs && is_some r.rmacs) (ap (λ (b : Bool). b && is_some r.rmacs) (sym (change_there k.strings Smacs smacs p.strings.smacs_is))
+        ∙ (ap (λ (b : Bool). is_some (string_in k.strings Smacs) && b) (sym (change_there k.strings Rmacs r.rmacs p.strings.rmacs_is)) ∙ off))
       where
         both_off : (a b : Bool) → b ≡ false → (a && b) ≡ false
         both_off true b h = h
@@ -295,6 +364,38 @@ judged k settled first smcup enacs sgr0 rmacs smacs has_acsc p = record {
 
     begun : (rest : List ℕ) × (resync (checked_of k settled) ≡ 27 ∷ rest)
     begun = resync_begins k settled p.escape
+
+-- ---- the end of a certificate
+
+pub concluded : (k : Known) (settled : Charsets) (r : Resync) (smacs : Option Sets) (has_acsc escapes : Bool) (changes : List Sets) → changes ≡ k.changes → Holds k → is_some (string_in k.strings Clear) ≡ true
+    → is_some (string_in k.strings Sgr0) ≡ true → (has_group k.strings (Csr 0 1) ≡ true → is_some (string_in k.strings (Csr 0 (k.strings.rows - 1))) ≡ true) → ChangeCharsets k r smacs
+    → (escapes ≡ true → first_of_resync k.strings ≡ Some 27) → (escapes ≡ false → first_of_resync k.strings ≡ Some 27 → ⊥) → AreSettled k.reach changes r settled
+    → NoneClashes settled smacs r.rmacs (has_acsc && (is_some smacs && is_some r.rmacs)) escapes → ((t : Table) → IsFound t k.reach changes r smacs escapes → GoesTogether has_acsc t) → IsConcluded k has_acsc settled
+concluded k settled r smacs has_acsc escapes changes same holds clear sgr0 csr strings begun opened all none goes =
+    let found : IsFound (checked_of k settled) k.reach k.changes r smacs escapes = found_of k settled r smacs escapes holds strings begun opened in
+    let together : GoesTogether has_acsc (checked_of k settled) = goes (checked_of k settled) (subst (λ (xs : List Sets). IsFound (checked_of k settled) k.reach xs r smacs escapes) (sym same) found) in
+    record {
+      judged = judged k settled r smacs has_acsc escapes (record {
+        holds = holds;
+        clear = clear;
+        sgr0_there = sgr0;
+        csr = csr;
+        strings = strings;
+        found = found;
+        all = subst (λ (xs : List Sets). AreSettled k.reach xs r settled) same all;
+        none = none;
+        together = together;
+        escape = begun none.escapes_is;
+      });
+      together = together;
+    }
+
+pub failed : (k : Known) (r : Resync) (smacs : Option Sets) (has_acsc escapes : Bool) (changes : List Sets) (clash : Clash) (kind : CertFaultKind) → changes ≡ k.changes → Holds k → ChangeCharsets k r smacs
+    → (escapes ≡ true → first_of_resync k.strings ≡ Some 27) → (escapes ≡ false → first_of_resync k.strings ≡ Some 27 → ⊥) → ((t : Table) → IsFound t k.reach changes r smacs escapes → IsClash has_acsc t clash) → kind ≡ kind_of clash
+    → ConcludesBy k has_acsc kind
+failed k r smacs has_acsc escapes changes clash kind same holds strings begun opened clashes e =
+    let none : Charsets = record { members = [] } in
+    Together none clash (clashes (checked_of k none) (subst (λ (xs : List Sets). IsFound (checked_of k none) k.reach xs r smacs escapes) (sym same) (found_of k none r smacs escapes holds strings begun opened))) e
 
 pub recorded_at : (rows cols r q : ℕ) (st : Start) (row : Row) (ts us : List (List ℕ)) (e : Effect) → Some e ≡ record_of r q st ts → r ≡ rows → q ≡ cols → st ≡ start_of r q row → ts ≡ us
     → record_of rows cols (start_of rows cols row) us ≡ Some e

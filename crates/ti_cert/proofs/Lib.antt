@@ -6,7 +6,7 @@ pub mod Preservation
 pub mod Judgements
 pub mod Order
 pub mod PlaceFacts
-pub mod Clashes
+pub mod Together
 pub mod AuditSteps
 pub mod Relations
 pub mod Singleness

@@ -7,7 +7,9 @@ use Rattle.ti_lines.proofs.Gaves.{gave_nothing}
 use Rattle.ti_conforms.specs.Table.{Table}
 use Rattle.ti_lines.specs.Judgements.{fault_at, AtLine, Passes, Fails, TooLong, JudgedLine, JudgedLines, JudgedFrom, Judged, GivesOr, Outcome, Whole, Early, Cuts, Reports}
 use Rattle.ti_lines.specs.declared.judgements.LineFault.{LineFault}
-use Rattle.ti_cert.specs.Clashes.{ClashesBy, ByActive, ByLook, ByResync}
+use Rattle.ti_cert.specs.Clashes.{kind_of}
+use Rattle.ti_cert.specs.declared.clashes.Clash.{Clash}
+use Rattle.ti_cert.specs.declared.clashes.Clash.TheVariants as clashes
 use Rattle.ti_cert.specs.Certificates.{Said, Nothing, Sized, Listing, Ended, Mislooks, Misdoes, JudgesRow, NotAllowed, TooLate, TooEarly, Cut, Wild, Untrue, Unasked, Stands, JudgesLast, Lacks, Clashes, Closes, JudgesLater, IsLast, IsRow, IsMisplaced, IsNone, HasPairs, HasNoPairs, HasSize, HasNoSize, JudgesLine, JudgesEnd, rules_of, limit, IsAnswer}
 use Rattle.ti_cert.specs.Table.{Content}
 use Rattle.ti_cert.specs.Strings.{string_in, total}
@@ -172,17 +174,18 @@ row_unread rows cols lines line after (Unasked place has never kind (Mislooks al
 row_unread rows cols lines line after (Unasked place has never kind (Misdoes other k) e) = cc
 row_unread rows cols lines line after (Stands place has asked e) = cc
 
-clash_unread : (pairs : Bool) (t : Table) (kind : CertFaultKind) → ClashesBy pairs t kind → ReadFailed ≡ kind → ⊥
-clash_unread pairs t kind (ByActive m k) e = cc
-clash_unread pairs t kind (ByLook never s k) e = cc
-clash_unread pairs t kind (ByResync never plain r k) e = cc
+clash_unread : (clash : Clash) → ReadFailed ≡ kind_of clash → ⊥
+clash_unread (clashes.Smacs c) e = cc
+clash_unread (clashes.Rmacs c) e = cc
+clash_unread clashes.Acsc e = cc
+clash_unread clashes.Clear e = cc
 
 same_kind : (k l : CertFaultKind) (a : Result Said CertFaultKind) → a ≡ Err k → a ≡ Err l → k ≡ l
 same_kind k l a e f = cc
 
 last_unread : (rows cols : ℕ) (pairs : Option (List ℕ)) (lines : List RowLine) → JudgesLast rows cols pairs lines (Err ReadFailed) → ⊥
 last_unread rows cols pairs lines (Lacks row first e) = cc
-last_unread rows cols pairs lines (Clashes complete kind clash e) = clash_unread (is_some pairs) clash.table kind clash.is (same_kind ReadFailed kind (Err ReadFailed) refl e)
+last_unread rows cols pairs lines (Clashes complete clash of_lines e) = clash_unread clash (same_kind ReadFailed (kind_of clash) (Err ReadFailed) refl e)
 last_unread rows cols pairs lines (Closes complete together e) = cc
 
 later_unread : (rows cols : ℕ) (pairs : Option (List ℕ)) (lines : List RowLine) (text : List ℕ) → JudgesLater rows cols pairs lines text (Err ReadFailed) → ⊥

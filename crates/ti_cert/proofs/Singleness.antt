@@ -23,7 +23,9 @@ use Rattle.ti_lines.specs.Judgements.{fault_at, AtLine, Passes, Fails, TooLong, 
 use Rattle.ti_lines.specs.declared.judgements.LineFault.{LineFault}
 use Rattle.ti_cert.specs.Strings.{string_in}
 use Rattle.ti_cert.specs.Order.{Precedes, HasBytes, IsFirstLacking, IsComplete, IsLate, IsBehind}
-use Rattle.ti_cert.specs.Clashes.{Misswitches, LeavesPlain, LeavesGraphic, StaysGraphic, Misresyncs, BeginsOpen, ResyncsGraphic, ClashesBy, ByActive, ByLook, ByResync, GoesTogether, OfLines}
+use Rattle.ti_cert.specs.Clashes.{Misswitches, StaysGraphic, BeginsOpen, IsClash, GoesTogether, kind_of, OfLines}
+use Rattle.ti_cert.specs.declared.clashes.Clash.{Clash}
+use Rattle.ti_cert.specs.declared.clashes.Clash.TheVariants as clashes
 use Rattle.ti_cert.specs.Certificates.{missing_line, Said, Nothing, Sized, Listing, Ended, IsWholeText, HasEffect, HasNoEffect, IsMisfit, Mislooks, Misdoes, IsAskedFor, JudgesRow, NotAllowed, TooLate, TooEarly, Cut, Wild, Untrue, Unasked, Stands, JudgesLast, Lacks, Clashes, Closes, JudgesLater, IsLast, IsRow, IsMisplaced, IsNone, JudgesSecond, HasPairs, HasNoPairs, JudgesFirst, HasSize, HasNoSize, JudgesLine, JudgesEnd, rules_of, limit, IsAnswer}
 use Rattle.ti_cert.specs.Texts.{OneTable, OneFault, NoOther}
 use Rattle.ti_cert.specs.declared.faults.CertFault.{CertFault}
@@ -239,9 +241,9 @@ settles_alike : (t u : Table) → IsAlike t u → (c : Charset) → CanSettle t 
 settles_alike t u a d (AfterResync c _ h l) = AfterResync c d (had_alike t u a c h) (resynced_alike t u a c d l)
 settles_alike t u a d (AfterLine c _ row bytes s there keeps l) = AfterLine c d row bytes (settles_alike t u a c s) (sym (a.line_is row) ∙ there) keeps l
 
-misswitches_alike : (t u : Table) → IsAlike t u → Misswitches t → Misswitches u
-misswitches_alike t u a (LeavesPlain bytes there c d s l e) = LeavesPlain bytes (sym (a.line_is Smacs) ∙ there) c d (settles_alike t u a c s) l e
-misswitches_alike t u a (LeavesGraphic bytes there c d s l e) = LeavesGraphic bytes (sym (a.line_is Rmacs) ∙ there) c d (settles_alike t u a c s) l e
+misswitches_alike : (t u : Table) → IsAlike t u → (row : Row) (c : Charset) → Misswitches t row c → Misswitches u row c
+misswitches_alike t u a row c m =
+    record { settles = settles_alike t u a c m.settles; bytes = m.bytes; there = sym (a.line_is row) ∙ m.there; after = m.after; leads = m.leads; inactive = m.inactive }
 
 sets_alike : (t u : Table) → IsAlike t u → has_sets t ≡ has_sets u
 sets_alike t u a = ap (λ (o : Option (List ℕ)). is_some o && is_some (t.line_of Rmacs)) (a.line_is Smacs) ∙ ap (λ (o : Option (List ℕ)). is_some (u.line_of Smacs) && is_some o) (a.line_is Rmacs)
@@ -254,31 +256,38 @@ stays_alike pairs t u a s = record {
   graphic = s.graphic;
 }
 
-misresyncs_alike : (t u : Table) → IsAlike t u → Misresyncs t → Misresyncs u
-misresyncs_alike t u a (BeginsOpen never) = BeginsOpen (λ rest e. never rest (resync_alike t u a ∙ e))
-misresyncs_alike t u a (ResyncsGraphic c d h l e) = ResyncsGraphic c d (had_alike t u a c h) (resynced_alike t u a c d l) e
+opens_alike : (t u : Table) → IsAlike t u → BeginsOpen t → BeginsOpen u
+opens_alike t u a never rest e = never rest (resync_alike t u a ∙ e)
 
 -- and so there is one fault of all lines together, or none
-one_clash : (pairs : Bool) (t u : Table) → IsAlike t u → (a b : CertFaultKind) → ClashesBy pairs t a → ClashesBy pairs u b → a ≡ b
-one_clash pairs t u l a b (ByActive m e) (ByActive n f) = e ∙ sym f
-one_clash pairs t u l a b (ByActive m e) (ByLook never s f) = absurd (never (misswitches_alike t u l m))
-one_clash pairs t u l a b (ByActive m e) (ByResync never plain s f) = absurd (never (misswitches_alike t u l m))
-one_clash pairs t u l a b (ByLook never s e) (ByActive n f) = absurd (never (misswitches_alike u t (alike_back t u l) n))
-one_clash pairs t u l a b (ByLook never s e) (ByLook never_too r f) = e ∙ sym f
-one_clash pairs t u l a b (ByLook never s e) (ByResync never_too plain r f) = absurd (plain (stays_alike pairs t u l s))
-one_clash pairs t u l a b (ByResync never plain r e) (ByActive n f) = absurd (never (misswitches_alike u t (alike_back t u l) n))
-one_clash pairs t u l a b (ByResync never plain r e) (ByLook never_too s f) = absurd (plain (stays_alike pairs u t (alike_back t u l) s))
-one_clash pairs t u l a b (ByResync never plain r e) (ByResync never_too plain_too s f) = e ∙ sym f
+one_clash : (pairs : Bool) (t u : Table) → IsAlike t u → (a b : Clash) → IsClash pairs t a → IsClash pairs u b → kind_of a ≡ kind_of b
+one_clash pairs t u l (clashes.Smacs c) (clashes.Smacs d) m n = refl
+one_clash pairs t u l (clashes.Smacs c) (clashes.Rmacs d) m n = refl
+one_clash pairs t u l (clashes.Smacs c) clashes.Acsc m n = absurd (n.0 c (misswitches_alike t u l Smacs c m))
+one_clash pairs t u l (clashes.Smacs c) clashes.Clear m n = absurd (n.0 c (misswitches_alike t u l Smacs c m))
+one_clash pairs t u l (clashes.Rmacs c) (clashes.Smacs d) m n = refl
+one_clash pairs t u l (clashes.Rmacs c) (clashes.Rmacs d) m n = refl
+one_clash pairs t u l (clashes.Rmacs c) clashes.Acsc m n = absurd (n.1 c (misswitches_alike t u l Rmacs c m.1))
+one_clash pairs t u l (clashes.Rmacs c) clashes.Clear m n = absurd (n.1 c (misswitches_alike t u l Rmacs c m.1))
+one_clash pairs t u l clashes.Acsc (clashes.Smacs d) m n = absurd (m.0 d (misswitches_alike u t (alike_back t u l) Smacs d n))
+one_clash pairs t u l clashes.Acsc (clashes.Rmacs d) m n = absurd (m.1 d (misswitches_alike u t (alike_back t u l) Rmacs d n.1))
+one_clash pairs t u l clashes.Acsc clashes.Acsc m n = refl
+one_clash pairs t u l clashes.Acsc clashes.Clear m n = absurd (n.2 (stays_alike pairs t u l m.2))
+one_clash pairs t u l clashes.Clear (clashes.Smacs d) m n = absurd (m.0 d (misswitches_alike u t (alike_back t u l) Smacs d n))
+one_clash pairs t u l clashes.Clear (clashes.Rmacs d) m n = absurd (m.1 d (misswitches_alike u t (alike_back t u l) Rmacs d n.1))
+one_clash pairs t u l clashes.Clear clashes.Acsc m n = absurd (m.2 (stays_alike pairs u t (alike_back t u l) n.2))
+one_clash pairs t u l clashes.Clear clashes.Clear m n = refl
 
-never_clashes : (pairs : Bool) (t u : Table) → IsAlike t u → (kind : CertFaultKind) → ClashesBy pairs t kind → GoesTogether pairs u → ⊥
-never_clashes pairs t u l kind (ByActive m e) g = g.switches (misswitches_alike t u l m)
-never_clashes pairs t u l kind (ByLook never s e) g = g.plain (stays_alike pairs t u l s)
-never_clashes pairs t u l kind (ByResync never plain r e) g = g.resyncs (misresyncs_alike t u l r)
+never_clashes : (pairs : Bool) (t u : Table) → IsAlike t u → (clash : Clash) → IsClash pairs t clash → GoesTogether pairs u → ⊥
+never_clashes pairs t u l (clashes.Smacs c) m g = g.graphic c (misswitches_alike t u l Smacs c m)
+never_clashes pairs t u l (clashes.Rmacs c) m g = g.plain c (misswitches_alike t u l Rmacs c m.1)
+never_clashes pairs t u l clashes.Acsc m g = g.settles (stays_alike pairs t u l m.2)
+never_clashes pairs t u l clashes.Clear m g = g.escapes (opens_alike t u l m.3)
 
 -- the last line
 
 abbrev Clashing : ℕ → ℕ → Option (List ℕ) → List RowLine → Result Said CertFaultKind → Type 0
-Clashing rows cols pairs lines answer = (kind : CertFaultKind) × OfLines rows cols lines (λ t. ClashesBy (is_some pairs) t kind) × (answer ≡ Err kind)
+Clashing rows cols pairs lines answer = (clash : Clash) × OfLines rows cols lines (λ t. IsClash (is_some pairs) t clash) × (answer ≡ Err (kind_of clash))
 
 abbrev Together : ℕ → ℕ → Option (List ℕ) → List RowLine → Type 0
 Together rows cols pairs lines = OfLines rows cols lines (λ t. GoesTogether (is_some pairs) t)
@@ -291,7 +300,7 @@ FromLast rows cols pairs lines = Else (Lacking rows cols lines None) (IsComplete
 
 last_case : (rows cols : ℕ) (pairs : Option (List ℕ)) (lines : List RowLine) (a : Result Said CertFaultKind) → JudgesLast rows cols pairs lines a → FromLast rows cols pairs lines a
 last_case rows cols pairs lines a (Lacks row first e) = inl (row, first, e)
-last_case rows cols pairs lines a (Clashes complete kind clash e) = inr (complete, inl (kind, clash, e))
+last_case rows cols pairs lines a (Clashes complete clash of_lines e) = inr (complete, inl (clash, of_lines, e))
 last_case rows cols pairs lines a (Closes complete together e) = inr (complete, inr (together, (tt, e)))
 
 one_last : (rows cols : ℕ) (pairs : Option (List ℕ)) (lines : List RowLine) → Single (JudgesLast rows cols pairs lines)
@@ -299,11 +308,11 @@ one_last rows cols pairs lines a b p q = from_last a b (last_case rows cols pair
   where
     one_clashing : Single (Clashing rows cols pairs lines)
     one_clashing x y c d = c.2 ∙ (ap (λ (k : CertFaultKind). Err k) (one_clash (is_some pairs) c.1.table d.1.table
-        (alike rows cols lines (λ t. ClashesBy (is_some pairs) t c.0) (λ t. ClashesBy (is_some pairs) t d.0) c.1 d.1) c.0 d.0 c.1.is d.1.is) ∙ sym d.2)
+        (alike rows cols lines (λ t. IsClash (is_some pairs) t c.0) (λ t. IsClash (is_some pairs) t d.0) c.1 d.1) c.0 d.0 c.1.is d.1.is) ∙ sym d.2)
 
     from_lines : Single (FromLines rows cols pairs lines)
     from_lines = either (Clashing rows cols pairs lines) (Together rows cols pairs lines) (λ x. Unit {0} × (x ≡ Ok (Ended pairs lines))) one_clashing
-        (λ x c t. never_clashes (is_some pairs) c.1.table t.table (alike rows cols lines (λ u. ClashesBy (is_some pairs) u c.0) (λ u. GoesTogether (is_some pairs) u) c.1 t) c.0 c.1.is t.is)
+        (λ x c t. never_clashes (is_some pairs) c.1.table t.table (alike rows cols lines (λ u. IsClash (is_some pairs) u c.0) (λ u. GoesTogether (is_some pairs) u) c.1 t) c.0 c.1.is t.is)
         (equal_to (Unit {0}) (Ok (Ended pairs lines)))
 
     from_last : Single (FromLast rows cols pairs lines)

@@ -1,11 +1,7 @@
 -- (Serves the code alone.) What is known while a certificate is read, and how that stands to what its lines say.
 use Rattle.std.specs.Prelude.{ℕ, ◌+◌, ◌-◌, ◌≡◌, ◌⊎◌, Bool, true, false, not, List, [], ◌∷◌, length, Option, None, Some, Result, Ok, Err}
 use Rattle.vt_effects.specs.declared.effects.Effect.{Effect}
-use Rattle.vt_effects.specs.declared.effects.Sets.{Sets}
-use Rattle.vt_effects.specs.Effect.{designated}
-use Rattle.vt_term.specs.Screen.{Charset, is_graphic}
 use Rattle.ti_conforms.specs.declared.closures.Charsets.{Charsets}
-use Rattle.ti_conforms.specs.Closures as closing
 use Rattle.vt_effects.specs.Record.{record_of}
 use Rattle.vt_term.specs.Text.{Splits}
 use Rattle.ti_conforms.specs.Charsets.{IsAmong}
@@ -20,15 +16,15 @@ use Rattle.ti_lines.specs.Judgements.{Rules}
 use Rattle.ti_cert.specs.Known.{Known, Holds, looks_with}
 use Rattle.ti_cert.specs.Certificates.{Said, Nothing, Sized, Listing, Ended, speaks_of, looks_of, IsWholeText, IsMisfit, JudgesRow, JudgesLast, JudgesLater, JudgesLine, JudgesEnd}
 use Rattle.ti_cert.specs.Order.{Precedes, HasLine, HasBytes, IsComplete}
-use Rattle.ti_cert.specs.Clashes.{ClashesBy, GoesTogether}
+use Rattle.ti_cert.specs.Clashes.{IsClash, GoesTogether, kind_of}
+use Rattle.ti_cert.specs.declared.clashes.Clash.{Clash}
 use Rattle.ti_cert.specs.Strings.{Strings, string_in, has_group, total}
-use Rattle.ti_cert.specs.Table.{Content, checked_of, first_of_resync, Leads}
-use Rattle.ti_conforms.specs.Closures.{kept}
+use Rattle.ti_cert.specs.Table.{Content, checked_of}
 use Rattle.ti_cert.specs.declared.audits.Progress.{Progress}
 use Rattle.ti_cert.specs.declared.audits.Awaited.{Awaited}
 use Rattle.ti_cert.specs.declared.audits.Awaited.TheVariants as lines_awaited
 use Rattle.ti_cert.specs.declared.faults.CertFaultKind.{CertFaultKind}
-use Rattle.ti_cert.specs.declared.faults.CertFaultKind.TheVariants.{BadLine, OutOfOrder, NotWhole, NotTame, NotShown, NoResync, BadLook, NoMemory, ReadFailed}
+use Rattle.ti_cert.specs.declared.faults.CertFaultKind.TheVariants.{BadLine, OutOfOrder, NotWhole, NotTame, NotShown, NoMemory, ReadFailed}
 
 -- how many bytes lines have together
 abbrev pub all_bytes : List RowLine → ℕ
@@ -164,21 +160,6 @@ pub data LacksNeeded (s : Strings) (kind : CertFaultKind) : Type 0 where
   NoSgr0 : string_in s Sgr0 ≡ None → LacksNeeded s kind
   NoWidening : has_group s (Csr 0 1) ≡ true → string_in s (Csr 0 (s.rows - 1)) ≡ None → LacksNeeded s kind
 
--- a charset of these from which a change activates the other set
-pub record Misleads (s : Charsets) (found : Option Sets) (graphic : Bool) : Type 0 where
-  pub change : Sets
-  pub there : found ≡ Some change
-  pub charset : Charset
-  pub settled : closing.has s charset ≡ true
-  pub wrong : is_graphic (designated change charset) ≡ not graphic
-
--- what is wrong with all lines together by the charsets that were computed: the first that is, in the order in which faults are reported
-pub data FailsTogether (settled first : Charsets) (smacs rmacs : Option Sets) (has_sets : Bool) (s : Strings) (kind : CertFaultKind) : Type 0 where
-  AtActive : Misleads settled smacs true ⊎ Misleads settled rmacs false → kind ≡ NotShown → FailsTogether settled first smacs rmacs has_sets s kind
-  AtLook : Leads settled smacs true → Leads settled rmacs false → has_sets ≡ false → Misleads settled (Some kept) false → kind ≡ BadLook → FailsTogether settled first smacs rmacs has_sets s kind
-  AtResync : Leads settled smacs true → Leads settled rmacs false → (has_sets ≡ false → Leads settled (Some kept) false) → Misleads first (Some kept) false ⊎ (first_of_resync s ≡ Some 27 → ⊥) → kind ≡ NoResync
-      → FailsTogether settled first smacs rmacs has_sets s kind
-
 -- what is known where nothing is wrong with them
 pub record IsConcluded (k : Known) (has_pairs : Bool) (settled : Charsets) : Type 0 where
   pub judged : IsJudged (checked_of k settled)
@@ -187,5 +168,5 @@ pub record IsConcluded (k : Known) (has_pairs : Bool) (settled : Charsets) : Typ
 -- why lines that were judged one by one can't be concluded
 pub data ConcludesBy (k : Known) (has_pairs : Bool) (kind : CertFaultKind) : Type 0 where
   Lacking : LacksNeeded k.strings kind → ConcludesBy k has_pairs kind
-  Together : (settled : Charsets) → ClashesBy has_pairs (checked_of k settled) kind → ConcludesBy k has_pairs kind
+  Together : (settled : Charsets) (clash : Clash) → IsClash has_pairs (checked_of k settled) clash → kind ≡ kind_of clash → ConcludesBy k has_pairs kind
   NoRoom : kind ≡ NoMemory → ConcludesBy k has_pairs kind

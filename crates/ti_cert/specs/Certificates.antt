@@ -18,7 +18,8 @@ use Rattle.ti_lines.specs.RowLines.{IsTextOf}
 use Rattle.ti_lines.specs.Judgements.{Rules, Judged}
 use Rattle.ti_lines.specs.declared.judgements.LineFault.{LineFault}
 use Rattle.ti_conforms.specs.Looks.{no_looks, is_alone, IsSomeLook}
-use Rattle.ti_cert.specs.Clashes.{ClashesBy, GoesTogether, OfLines}
+use Rattle.ti_cert.specs.Clashes.{IsClash, GoesTogether, OfLines, kind_of}
+use Rattle.ti_cert.specs.declared.clashes.Clash.{Clash}
 use Rattle.ti_cert.specs.Order.{IsFirstLacking, IsComplete, IsLate, IsBehind, IsInPlace}
 use Rattle.ti_cert.specs.declared.faults.CertFaultKind.{CertFaultKind}
 use Rattle.ti_cert.specs.declared.faults.CertFaultKind.TheVariants.{BadLine, Missing, OutOfOrder, NotWhole, NotTame, NotShown, BadLook, NoMemory, ReadFailed}
@@ -91,7 +92,7 @@ pub data JudgesRow (rows cols : ℕ) (lines : List RowLine) (line : RowLine) (af
 -- the last line, by cases in the order in which faults are reported
 pub data JudgesLast (rows cols : ℕ) (pairs : Option (List ℕ)) (lines : List RowLine) (answer : Result Said CertFaultKind) : Type 0 where
   Lacks : (row : Row) → IsFirstLacking rows cols lines None row → answer ≡ Err (missing_line row) → JudgesLast rows cols pairs lines answer
-  Clashes : IsComplete rows cols lines None → (kind : CertFaultKind) → OfLines rows cols lines (λ t. ClashesBy (is_some pairs) t kind) → answer ≡ Err kind → JudgesLast rows cols pairs lines answer
+  Clashes : IsComplete rows cols lines None → (clash : Clash) → OfLines rows cols lines (λ t. IsClash (is_some pairs) t clash) → answer ≡ Err (kind_of clash) → JudgesLast rows cols pairs lines answer
   Closes : IsComplete rows cols lines None → OfLines rows cols lines (λ t. GoesTogether (is_some pairs) t) → answer ≡ Ok (Ended pairs lines) → JudgesLast rows cols pairs lines answer
 
 -- a line after that of alternate characters, or where that one may stand

@@ -1,21 +1,31 @@
--- What may be wrong with the lines of a certificate together, though each was right: the character sets that they leave, and how they
--- lead a terminal out of an unknown state (terminfo(5), "Initialization" and "Line Graphics").
+-- What may be wrong with the lines of a table together, though each is right: the character sets that they leave, and how they lead a
+-- terminal out of an unknown state (terminfo(5), "Initialization" and "Line Graphics").
 use Rattle.std.specs.Prelude.{ℕ, ◌≡◌, ◌&&◌, Bool, true, false, List, ◌∷◌, Some}
 use Rattle.vt_term.specs.Screen.{Charset, is_graphic}
 use Rattle.ti_conforms.specs.Charsets.{IsAmong}
 use Rattle.ti_rows.specs.declared.rows.Row.{Row}
 use Rattle.ti_rows.specs.declared.rows.Row.TheVariants.{Smacs, Rmacs}
-use Rattle.ti_conforms.specs.Table.{Table, resync}
+use Rattle.ti_conforms.specs.Table.{Table, resync, Activates}
 use Rattle.ti_conforms.specs.Sets.{CanHave, LeadsBy, CanSettle, has_sets}
 use Rattle.ti_lines.specs.declared.row_lines.RowLine.{RowLine}
 use Rattle.ti_cert.specs.Order.{HasBytes}
+use Rattle.ti_cert.specs.declared.clashes.Clash.{Clash}
+use Rattle.ti_cert.specs.declared.clashes.Clash.TheVariants as clashes
 use Rattle.ti_cert.specs.declared.faults.CertFaultKind.{CertFaultKind}
 use Rattle.ti_cert.specs.declared.faults.CertFaultKind.TheVariants.{NotShown, NoResync, BadLook}
 
--- from a settled charset the graphic set isn't active after `smacs`, or is after `rmacs`
-pub data Misswitches (t : Table) : Type 0 where
-  LeavesPlain : (bytes : List ℕ) → t.line_of Smacs ≡ Some bytes → (c d : Charset) → CanSettle t c → LeadsBy bytes c d → is_graphic d ≡ false → Misswitches t
-  LeavesGraphic : (bytes : List ℕ) → t.line_of Rmacs ≡ Some bytes → (c d : Charset) → CanSettle t c → LeadsBy bytes c d → is_graphic d ≡ true → Misswitches t
+-- after the row's line, from a settled charset, the set isn't active that `smacs` and `rmacs` are to activate
+pub record Misswitches (t : Table) (row : Row) (before : Charset) : Type 0 where
+  pub settles : CanSettle t before
+  pub bytes : List ℕ
+  pub there : t.line_of row ≡ Some bytes
+  pub after : Charset
+  pub leads : LeadsBy bytes before after
+  pub inactive : Activates row after → ⊥
+
+-- it is, from each of them
+abbrev pub SwitchesRight : Table → Row → Type 0
+SwitchesRight t row = (before : Charset) → Misswitches t row before → ⊥
 
 -- the graphic set can stay active where letters of line graphics can't be sent, without pairs of them or without strings that switch sets
 pub record StaysGraphic (pairs : Bool) (t : Table) : Type 0 where
@@ -24,22 +34,35 @@ pub record StaysGraphic (pairs : Bool) (t : Table) : Type 0 where
   pub settles : CanSettle t charset
   pub graphic : is_graphic charset ≡ true
 
--- what leads out of an unknown state doesn't begin with ESC, or can leave the graphic set active
-pub data Misresyncs (t : Table) : Type 0 where
-  BeginsOpen : ((rest : List ℕ) → resync t ≡ 27 ∷ rest → ⊥) → Misresyncs t
-  ResyncsGraphic : (c d : Charset) → CanHave t c → LeadsBy (resync t) c d → is_graphic d ≡ true → Misresyncs t
+-- what leads out of an unknown state doesn't begin with ESC
+abbrev pub BeginsOpen : Table → Type 0
+BeginsOpen t = (rest : List ℕ) → resync t ≡ 27 ∷ rest → ⊥
 
--- the fault of all lines together, the first of these three where several are so
-pub data ClashesBy (pairs : Bool) (t : Table) (kind : CertFaultKind) : Type 0 where
-  ByActive : Misswitches t → kind ≡ NotShown → ClashesBy pairs t kind
-  ByLook : (Misswitches t → ⊥) → StaysGraphic pairs t → kind ≡ BadLook → ClashesBy pairs t kind
-  ByResync : (Misswitches t → ⊥) → (StaysGraphic pairs t → ⊥) → Misresyncs t → kind ≡ NoResync → ClashesBy pairs t kind
+-- it leaves the plain set active, from each charset that can be had
+abbrev pub ResyncsPlain : Table → Type 0
+ResyncsPlain t = (c d : Charset) → CanHave t c → LeadsBy (resync t) c d → is_graphic d ≡ false
 
--- none of the three is so
+-- what is wrong with all lines together: the first of these four where several are so
+abbrev pub IsClash : Bool → Table → Clash → Type 0
+IsClash pairs t (clashes.Smacs before) = Misswitches t Smacs before
+IsClash pairs t (clashes.Rmacs before) = SwitchesRight t Smacs × Misswitches t Rmacs before
+IsClash pairs t clashes.Acsc = SwitchesRight t Smacs × SwitchesRight t Rmacs × StaysGraphic pairs t
+IsClash pairs t clashes.Clear = SwitchesRight t Smacs × SwitchesRight t Rmacs × (StaysGraphic pairs t → ⊥) × BeginsOpen t
+
+-- none of the four is so; then what leads out of an unknown state leaves the plain set active too
 pub record GoesTogether (pairs : Bool) (t : Table) : Type 0 where
-  pub switches : Misswitches t → ⊥
-  pub plain : StaysGraphic pairs t → ⊥
-  pub resyncs : Misresyncs t → ⊥
+  pub graphic : SwitchesRight t Smacs
+  pub plain : SwitchesRight t Rmacs
+  pub settles : StaysGraphic pairs t → ⊥
+  pub escapes : BeginsOpen t → ⊥
+  pub quiet : ResyncsPlain t
+
+-- the fault that it is in a certificate
+abbrev pub kind_of : Clash → CertFaultKind
+kind_of (clashes.Smacs before) = NotShown
+kind_of (clashes.Rmacs before) = NotShown
+kind_of clashes.Acsc = BadLook
+kind_of clashes.Clear = NoResync
 
 -- it is so of a table that has just the strings of these lines
 pub record OfLines (rows cols : ℕ) (lines : List RowLine) (Is : Table → Type 0) : Type 0 where

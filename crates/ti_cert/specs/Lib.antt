@@ -4,6 +4,7 @@ pub mod Known
 pub mod Table
 pub mod Order
 pub mod Clashes
+pub mod Seen
 pub mod Certificates
 pub mod Texts
 pub mod Places

@@ -1,15 +1,12 @@
 -- The table that a certificate makes, and what is known of it.
-use Rattle.std.specs.Prelude.{ℕ, ◌-◌, ◌≡◌, Bool, true, List, [], ◌∷◌, Option, Some, None}
+use Rattle.std.specs.Prelude.{ℕ, ◌-◌, ◌≡◌, List, [], ◌∷◌, Option, Some, None}
 use Rattle.vt_effects.specs.declared.effects.Sets.{Sets}
-use Rattle.vt_effects.specs.Effect.{designated}
 use Rattle.vt_effects.specs.Record.{record_of}
 use Rattle.vt_effects.specs.declared.effects.Effect.{Effect}
-use Rattle.vt_term.specs.Screen.{Charset, is_graphic}
 use Rattle.vt_term.specs.Text.{Splits}
 use Rattle.ti_conforms.specs.declared.closures.Charsets.{Charsets}
 use Rattle.ti_conforms.specs.Charsets.{can_have}
 use Rattle.ti_conforms.specs.Closures as closing
-use Rattle.ti_conforms.specs.Closures.{or_kept}
 use Rattle.ti_rows.specs.declared.rows.Row.{Row}
 use Rattle.ti_rows.specs.declared.rows.Row.TheVariants.{Clear, Sgr0, Csr, Rmacs, Smcup, Enacs}
 use Rattle.ti_rows.specs.Asked.{start_of}
@@ -60,11 +57,3 @@ pub data Changes (s : Strings) (row : Row) : Option Sets → Type 0 where
   NoString : string_in s row ≡ None → Changes s row None
   OfString : (bytes : List ℕ) → string_in s row ≡ Some bytes → (tokens : List (List ℕ)) → Splits bytes tokens [] → (effect : Effect)
       → record_of s.rows s.cols (start_of s.rows s.cols row) tokens ≡ Some effect → Changes s row (Some effect.charset)
-
-abbrev pub changes_of : Option Sets → Option Sets → Option Sets → Option Sets → List Sets
-changes_of smcup enacs sgr0 rmacs = or_kept smcup ∷ or_kept enacs ∷ or_kept sgr0 ∷ or_kept rmacs ∷ []
-
--- from each of these charsets the string activates this set
-abbrev pub Leads : Charsets → Option Sets → Bool → Type 0
-Leads s None graphic = Unit {0}
-Leads s (Some change) graphic = (c : Charset) → closing.has s c ≡ true → is_graphic (designated change c) ≡ graphic

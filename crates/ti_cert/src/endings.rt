@@ -1,33 +1,23 @@
 //! What is judged at the end of a certificate: charsets, and the strings that lead out of any state.
 
-ghost use Rattle.std.specs.Prelude.{◌≡◌, ◌⊎◌, ◌-◌, ◌&&◌, IfOk, IfErr, OnOk, Some, true, false, is_some};
-ghost use Rattle.ti_cert.specs.Audits.{LacksRecord, LacksNeeded, Misleads, FailsTogether, IsConcluded, ConcludesBy};
+ghost use Rattle.std.specs.Prelude.{◌≡◌, ◌-◌, IfOk, IfErr, OnOk, Some, true, false, is_some};
+ghost use Rattle.ti_cert.specs.Audits.{LacksRecord, LacksNeeded, IsConcluded, ConcludesBy};
+ghost use Rattle.ti_cert.specs.Clashes as clashes;
 ghost use Rattle.ti_cert.specs.Known.{Holds};
 ghost use Rattle.ti_cert.specs.Strings.{has_group, string_in};
 ghost use Rattle.ti_cert.specs.Table as spec;
-ghost use Rattle.ti_conforms.specs.Closures as closing;
-ghost use Rattle.vt_term.specs.Screen.{Charset};
-ghost use Rattle.vt_term.specs.Text.{Splits};
 ghost use Rattle.ti_rows.specs.declared.rows.Row.TheVariants as rows;
 
+use crate::clashes::{Clash, Resync, first_clash};
 use crate::faults::CertFaultKind;
 use crate::known::Known;
 use crate::strings::Strings;
 use crate::tokens::row_effect;
 use std::alloc::Global;
-use ti_conforms::{Charsets, KEPT, Reach, or_kept};
+use ti_conforms::Charsets;
 use ti_rows::Row;
 use vt_effects::Sets;
 use vt_term::Scanner;
-
-/// What leads a terminal out of a state that isn't known does this to the charsets, string by string.
-#[derive(Clone, Copy)]
-struct Resync {
-    smcup: Option<Sets>,
-    enacs: Option<Sets>,
-    sgr0: Option<Sets>,
-    rmacs: Option<Sets>,
-}
 
 /// What the row's string does to the charsets, `None` where there is no such string.
 #[tactic(auto, using(crate::proofs::AuditSteps::not_split))]
@@ -109,63 +99,15 @@ fn check_needed(strings: &Strings) -> Result<(), CertFaultKind>
     Ok(())
 }
 
-/// What is left of each charset that can be had.
-fn first_settled(resync: &Resync, reach: Reach) -> Charsets
-    ensures sound { (d : Charset) → closing.has result d ≡ true
-        → closing.Leaves reach (spec.changes_of resync.now.smcup resync.now.enacs resync.now.sgr0 resync.now.rmacs) d }
-    ensures complete { (d : Charset)
-        → closing.Leaves reach (spec.changes_of resync.now.smcup resync.now.enacs resync.now.sgr0 resync.now.rmacs) d
-        → closing.has result d ≡ true }
+/// The fault that a clash of all lines together is.
+fn kind_of(clash: Clash) -> CertFaultKind
+    ensures { result ≡ clashes.kind_of clash }
 {
-    let changes = [
-        or_kept(resync.smcup),
-        or_kept(resync.enacs),
-        or_kept(resync.sgr0),
-        or_kept(resync.rmacs),
-    ];
-    Charsets::left_by(&changes, reach)
-}
-
-/// The first charsets, and all to which strings lead from them.
-fn settled_from(first: Charsets, changes: &[Sets]) -> Charsets
-    ensures sound { (c : Charset) → closing.has result c ≡ true
-        → closing.Settled (λ d. closing.has first d ≡ true) (closing.SomeLeads changes.now) c }
-    ensures complete { (c : Charset)
-        → closing.Settled (λ d. closing.has first d ≡ true) (closing.SomeLeads changes.now) c
-        → closing.has result c ≡ true }
-{
-    let mut settled = first;
-    settled.close(changes);
-    settled
-}
-
-/// Whether a change leaves the other set active from one of these charsets.
-#[tactic(auto, using(crate::proofs::Clashes::misled_some))]
-fn misleads(settled: &Charsets, change: Sets, graphic: bool) -> bool
-    ensures yes { result ≡ true → Misleads settled.now (Some change) graphic }
-    ensures no { result ≡ false → spec.Leads settled.now (Some change) graphic }
-{
-    settled.misled(change, graphic).is_some()
-}
-
-/// From each settled charset a string activates its set.
-fn check_active(
-    settled: &Charsets,
-    change: Option<Sets>,
-    graphic: bool,
-) -> Result<(), CertFaultKind>
-    ensures leads { OnOk result (spec.Leads settled.now change graphic) }
-    ensures fails { IfErr result (λ kind. (kind ≡ CertFaultKind.NotShown) × Misleads settled.now change graphic) }
-{
-    match change {
-        None => Ok(()),
-        Some(change) => {
-            if misleads(settled, change, graphic) {
-                Err(CertFaultKind::NotShown)
-            } else {
-                Ok(())
-            }
-        }
+    match clash {
+        Clash::Smacs(_) => CertFaultKind::NotShown,
+        Clash::Rmacs(_) => CertFaultKind::NotShown,
+        Clash::Acsc => CertFaultKind::BadLook,
+        Clash::Clear => CertFaultKind::NoResync,
     }
 }
 
@@ -183,74 +125,18 @@ pub(crate) fn conclude(
     check_needed(strings)?;
     let mut scanner = Scanner::new(alloc)?;
     let resync = resync_of(&mut scanner, strings)?;
-    let first = first_settled(&resync, known.reach);
-    let settled = settled_from(first, &known.changes);
     let smacs = change_of(&mut scanner, strings, Row::Smacs)?;
-    let has_sets = all_there(has_acsc, smacs, resync.rmacs);
-    check_together(&settled, &first, smacs, resync.rmacs, has_sets, strings)?;
-    Ok(settled)
-}
-
-/// Judges all lines together: which set is active after `smacs` and `rmacs`, that settled charsets are
-/// plain where letters of line graphics can't be sent, and what leads out of any state.
-#[tactic(auto, using(crate::proofs::Clashes::at_smacs, crate::proofs::Clashes::at_rmacs, crate::proofs::Clashes::at_look, crate::proofs::Clashes::at_resync))]
-fn check_together(
-    settled: &Charsets,
-    first: &Charsets,
-    smacs: Option<Sets>,
-    rmacs: Option<Sets>,
-    has_sets: bool,
-    strings: &Strings,
-) -> Result<(), CertFaultKind>
-    ensures graphic { OnOk result (spec.Leads settled.now smacs true) }
-    ensures plain { OnOk result (spec.Leads settled.now rmacs false) }
-    ensures unsent { OnOk result (has_sets ≡ false → spec.Leads settled.now (Some closing.kept) false) }
-    ensures resync { OnOk result (spec.Leads first.now (Some closing.kept) false) }
-    ensures escape { OnOk result (spec.first_of_resync strings.now ≡ Some 27) }
-    ensures fails { IfErr result (FailsTogether settled.now first.now smacs rmacs has_sets strings.now) }
-{
-    check_active(settled, smacs, true)?;
-    check_active(settled, rmacs, false)?;
-    check_plain(settled, has_sets)?;
-    check_resync(first, strings)
-}
-
-/// Whether letters of line graphics can be sent.
-fn all_there(has_acsc: bool, smacs: Option<Sets>, rmacs: Option<Sets>) -> bool
-    ensures { result ≡ (has_acsc && (is_some smacs && is_some rmacs)) }
-{
-    has_acsc && (smacs.is_some() && rmacs.is_some())
-}
-
-/// Without strings that switch sets every settled charset is plain.
-fn check_plain(settled: &Charsets, has_sets: bool) -> Result<(), CertFaultKind>
-    ensures plain { OnOk result (has_sets ≡ false → spec.Leads settled.now (Some closing.kept) false) }
-    ensures fails { IfErr result (λ kind. (kind ≡ CertFaultKind.BadLook) × (has_sets ≡ false)
-        × Misleads settled.now (Some closing.kept) false) }
-{
-    if has_sets {
-        return Ok(());
-    }
-    if misleads(settled, KEPT, false) {
-        return Err(CertFaultKind::BadLook);
-    }
-    Ok(())
-}
-
-/// What leads out of any state begins with ESC and leaves the plain set active.
-fn check_resync(first: &Charsets, strings: &Strings) -> Result<(), CertFaultKind>
-    ensures plain { OnOk result (spec.Leads first.now (Some closing.kept) false) }
-    ensures escape { OnOk result (spec.first_of_resync strings.now ≡ Some 27) }
-    ensures fails { IfErr result (λ kind. (kind ≡ CertFaultKind.NoResync)
-        × (Misleads first.now (Some closing.kept) false ⊎ (spec.first_of_resync strings.now ≡ Some 27 → ⊥))) }
-{
-    if misleads(first, KEPT, false) {
-        return Err(CertFaultKind::NoResync);
-    }
-    if begins_with_escape(strings) {
-        Ok(())
-    } else {
-        Err(CertFaultKind::NoResync)
+    let escapes = begins_with_escape(strings);
+    match first_clash(
+        known.reach,
+        &known.changes,
+        resync,
+        smacs,
+        has_acsc,
+        escapes,
+    ) {
+        Ok(settled) => Ok(settled),
+        Err(clash) => Err(kind_of(clash)),
     }
 }
 

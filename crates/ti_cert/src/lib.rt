@@ -4,6 +4,7 @@
 mod agreement;
 mod audits;
 mod certificates;
+mod clashes;
 mod endings;
 mod faults;
 mod groups;
@@ -17,6 +18,7 @@ mod verification;
 
 pub use agreement::agrees;
 pub use audits::{audit, audit_from};
+pub use clashes::{Clash, Resync, first_clash};
 pub use faults::{AgreeFault, CertFault, CertFaultKind, VerifyFault};
 pub use table::Table;
 pub use ti_lines::{Drip, ReadFault, Reader};

@@ -7,8 +7,7 @@ use Rattle.ti_caps.specs.Entry.{Content}
 use Rattle.ti_rows.specs.declared.rows.Row.{Row}
 use Rattle.ti_rows.specs.Names.{firsts, first_in_order}
 use Rattle.ti_rows.proofs.ListFacts.{firsts_in_range}
-use Rattle.ti_checker.proofs.Walks.{so_of}
-use Rattle.ti_checker.specs.No.{IsFaulty, IsSo}
+use Rattle.ti_checker.specs.No.{IsFaulty, HasFaulty}
 use Rattle.ti_checker.specs.Notes.{SendsNoTokens, RowNotes, RowsNotes, IsUnsentAt, IsFirstUnsent, AddsNotesAt}
 use Rattle.ti_checker.specs.declared.note_list.CheckNote.{CheckNote}
 use Rattle.ti_checker.specs.declared.causes.Cause.{Cause}
@@ -79,15 +78,17 @@ faulty rows cols string row (WrongEffect p) h = absurd h
 faulty rows cols string row NotShown h = absurd h
 faulty rows cols string row TooLong h = absurd h
 
-pub so_unsent : (entry : Content) (rows cols place : ℕ) (refusal : No) → IsSize rows cols → IsUnsentAt entry place refusal → IsSo entry rows cols refusal
-so_unsent entry rows cols place refusal size u = so_of entry rows cols u.string u.row refusal u.checked u.there (record {
+pub faulty_unsent : (entry : Content) (rows cols place : ℕ) (refusal : No) → IsSize rows cols → IsUnsentAt entry place refusal → HasFaulty entry rows cols refusal
+faulty_unsent entry rows cols place refusal size u = record {
   row = u.row;
   cap_is = u.cap_is;
   params_are = u.params_are;
   range = (firsts_in_range rows cols place u.row size u.is_first).range;
-  same_order = refl;
+  checked = u.checked;
+  string = u.string;
+  there = u.there;
   faulty = faulty rows cols u.string u.row refusal.cause u.unsent;
-})
+}
 
 pub first_unsent : (entry : Content) (place : ℕ) (notes : List CheckNote) (refusal : No) → RowsNotes entry (take place firsts) notes → IsUnsentAt entry place refusal → IsFirstUnsent entry refusal
 first_unsent entry place notes refusal h u = record { place = place; unsent = u; earlier = notes; noted = h }

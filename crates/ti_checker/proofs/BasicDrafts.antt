@@ -21,7 +21,6 @@ use Rattle.ti_rows.proofs.Rightness.{recorded_is_right}
 use Rattle.ti_lines.specs.declared.row_lines.RowLine.{RowLine}
 use Rattle.ti_lines.specs.Texts.{texts_of, ended}
 use Rattle.ti_conforms.specs.Entries.{has_string, is_checked, string_of}
-use Rattle.ti_conforms.specs.Conforms.{IsFit}
 use Rattle.ti_cert.specs.Basic.{basic_bytes, basic_effect, basic_line, basic_rows, basic_text, basic_text_of, IsBasic}
 use Rattle.ti_cert.specs.Certificates.{Ended, IsAnswer}
 use Rattle.ti_cert.specs.Order.{Precedes}
@@ -33,11 +32,11 @@ use Rattle.ti_cert.proofs.BasicTexts.{basic_accepted}
 use Rattle.ti_checker.specs.Certificate.{IsCertificateOf}
 use Rattle.ti_checker.specs.First.{SendsRight, IsDrafted}
 use Rattle.ti_checker.specs.Limit.{IsLineOf, InOrder, AreLines, text_with}
-use Rattle.ti_checker.specs.No.{SendsSome, HasFaulty, IsFaulty, IsRowFault, HasUnasked, IsUntamed, IsUnfitBy, ClaimsNothing}
+use Rattle.ti_checker.specs.No.{SendsSome, HasFaultyString, IsRowFault, IsOfRow, HasUnasked, IsUntamed, ClaimsNothing}
 use Rattle.ti_checker.specs.declared.causes.Cause.{Cause}
 use Rattle.ti_checker.specs.declared.causes.Cause.TheVariants.{FlagOut, Absent, AcsByte, Parm, StaticRead, Unfinished, Stuck, NotTame, BadLook, WrongEffect, NotShown, TooLong, NoResync, NoMemory}
 use Rattle.ti_checker.specs.declared.causes.No.{No}
-use Rattle.ti_checker.proofs.Exclusions.{none_faulty, none_unfit}
+use Rattle.ti_checker.proofs.Exclusions.{none_faulty}
 use Rattle.ti_checker.proofs.Order.{same_lines, reversed_has}
 use Rattle.ti_checker.proofs.Passages.{line_once, same_bytes, last, text_is, none_certified}
 
@@ -186,42 +185,29 @@ sends_basic : (entry : Content) (rows cols : ℕ) (row : Row) (string : List ℕ
     → SendsSome string row Holds → Holds (basic_bytes row)
 sends_basic entry rows cols row string Holds b range checked there s = subst Holds (same_bytes string row s.bytes (basic_bytes row) s.sends (b.sends row range checked string there)) s.holds
 
-faulty_as : (entry : Content) (rows cols : ℕ) (refusal : No) (cause : Cause) (h : HasFaulty entry rows cols refusal) → refusal.cause ≡ cause → IsFaulty rows cols h.string h.row cause
-faulty_as entry rows cols refusal cause h e = subst (λ (c : Cause). IsFaulty rows cols h.string h.row c) e h.faulty
+its_claim : (entry : Content) (rows cols : ℕ) (row : Row) (cause : Cause) → IsSize rows cols → IsBasic entry rows cols → IsInRange rows cols row → is_checked entry row ≡ true → HasFaultyString entry rows cols row cause → ClaimsNothing cause
+its_claim entry rows cols row cause size b range checked f = none_faulty rows cols f.string row cause (sends_right entry rows cols row f.string size b range checked f.there) f.faulty
 
-its_right : (entry : Content) (rows cols : ℕ) (refusal : No) → IsSize rows cols → IsBasic entry rows cols → (h : HasFaulty entry rows cols refusal) → SendsRight rows cols h.string h.row
-its_right entry rows cols refusal size b h = sends_right entry rows cols h.row h.string size b h.range h.checked h.there
+by_cause : (entry : Content) (rows cols : ℕ) (row : Row) (cause : Cause) → IsSize rows cols → IsBasic entry rows cols → IsInRange rows cols row → is_checked entry row ≡ true → IsRowFault entry rows cols row cause → cause ≡ NoMemory
+by_cause entry rows cols row NoMemory size b range checked f = refl
+by_cause entry rows cols row TooLong size b range checked f = absurd (none_certified entry rows cols row (basic_text_of entry rows cols) f (is_certificate entry rows cols size b))
+by_cause entry rows cols row NotTame size b range checked f =
+    absurd (not_untamed rows cols row (its_tokens entry rows cols row size (checked_row entry rows cols row b range checked))
+    (sends_basic entry rows cols row f.string (λ bytes. IsUntamed rows cols row bytes) b range checked f.there f.faulty))
+by_cause entry rows cols row NotShown size b range checked f =
+    let k = checked_row entry rows cols row b range checked in
+    absurd (not_unasked entry rows cols row k (its_tokens entry rows cols row size k)
+    (sends_basic entry rows cols row f.string (λ bytes. HasUnasked rows cols row bytes) b range checked f.there f.faulty))
+by_cause entry rows cols row FlagOut size b range checked f = absurd (its_claim entry rows cols row FlagOut size b range checked f)
+by_cause entry rows cols row Absent size b range checked f = absurd (its_claim entry rows cols row Absent size b range checked f)
+by_cause entry rows cols row AcsByte size b range checked f = absurd (its_claim entry rows cols row AcsByte size b range checked f)
+by_cause entry rows cols row (Parm fault) size b range checked f = absurd (its_claim entry rows cols row (Parm fault) size b range checked f)
+by_cause entry rows cols row StaticRead size b range checked f = absurd (its_claim entry rows cols row StaticRead size b range checked f)
+by_cause entry rows cols row Unfinished size b range checked f = absurd (its_claim entry rows cols row Unfinished size b range checked f)
+by_cause entry rows cols row Stuck size b range checked f = absurd (its_claim entry rows cols row Stuck size b range checked f)
+by_cause entry rows cols row BadLook size b range checked f = absurd (its_claim entry rows cols row BadLook size b range checked f)
+by_cause entry rows cols row (WrongEffect p) size b range checked f = absurd (its_claim entry rows cols row (WrongEffect p) size b range checked f)
+by_cause entry rows cols row NoResync size b range checked f = absurd (its_claim entry rows cols row NoResync size b range checked f)
 
-its_claim : (entry : Content) (rows cols : ℕ) (refusal : No) (cause : Cause) → IsSize rows cols → IsBasic entry rows cols → HasFaulty entry rows cols refusal → refusal.cause ≡ cause → ClaimsNothing cause
-its_claim entry rows cols refusal cause size b h e = none_faulty rows cols h.string h.row cause (its_right entry rows cols refusal size b h) (faulty_as entry rows cols refusal cause h e)
-
-by_cause : (entry : Content) (rows cols : ℕ) (refusal : No) (cause : Cause) → IsSize rows cols → IsBasic entry rows cols → refusal.cause ≡ cause → IsRowFault entry rows cols refusal cause → cause ≡ NoMemory
-by_cause entry rows cols refusal NoMemory size b e h = refl
-by_cause entry rows cols refusal TooLong size b e h = absurd (none_certified entry rows cols h.row (basic_text_of entry rows cols) h.passes (is_certificate entry rows cols size b))
-by_cause entry rows cols refusal NotTame size b e h =
-    let k = checked_row entry rows cols h.row b h.range h.checked in
-    absurd (not_untamed rows cols h.row (its_tokens entry rows cols h.row size k)
-    (sends_basic entry rows cols h.row h.string (λ bytes. IsUntamed rows cols h.row bytes) b h.range h.checked h.there (faulty_as entry rows cols refusal NotTame h e)))
-by_cause entry rows cols refusal NotShown size b e h =
-    let k = checked_row entry rows cols h.row b h.range h.checked in
-    absurd (not_unasked entry rows cols h.row k (its_tokens entry rows cols h.row size k)
-    (sends_basic entry rows cols h.row h.string (λ bytes. HasUnasked rows cols h.row bytes) b h.range h.checked h.there (faulty_as entry rows cols refusal NotShown h e)))
-by_cause entry rows cols refusal FlagOut size b e h = absurd (its_claim entry rows cols refusal FlagOut size b h e)
-by_cause entry rows cols refusal Absent size b e h = absurd (its_claim entry rows cols refusal Absent size b h e)
-by_cause entry rows cols refusal AcsByte size b e h = absurd (its_claim entry rows cols refusal AcsByte size b h e)
-by_cause entry rows cols refusal (Parm fault) size b e h = absurd (its_claim entry rows cols refusal (Parm fault) size b h e)
-by_cause entry rows cols refusal StaticRead size b e h = absurd (its_claim entry rows cols refusal StaticRead size b h e)
-by_cause entry rows cols refusal Unfinished size b e h = absurd (its_claim entry rows cols refusal Unfinished size b h e)
-by_cause entry rows cols refusal Stuck size b e h = absurd (its_claim entry rows cols refusal Stuck size b h e)
-by_cause entry rows cols refusal BadLook size b e h = absurd (its_claim entry rows cols refusal BadLook size b h e)
-by_cause entry rows cols refusal (WrongEffect p) size b e h = absurd (its_claim entry rows cols refusal (WrongEffect p) size b h e)
-by_cause entry rows cols refusal NoResync size b e h = absurd (its_claim entry rows cols refusal NoResync size b h e)
-
-pub only_memory : (entry : Content) (rows cols : ℕ) (refusal : No) → IsSize rows cols → IsBasic entry rows cols → IsRowFault entry rows cols refusal refusal.cause → refusal.cause ≡ NoMemory
-only_memory entry rows cols refusal size b h = by_cause entry rows cols refusal refusal.cause size b refl h
-
-pub not_unfit : (entry : Content) (cap : ℕ) (cause : Cause) → IsFit entry → IsUnfitBy entry cap cause → ⊥
-not_unfit entry cap FlagOut fit h = none_unfit entry cap FlagOut fit h
-not_unfit entry cap Absent fit h = none_unfit entry cap Absent fit h
-not_unfit entry cap AcsByte fit h = none_unfit entry cap AcsByte fit h
-not_unfit entry cap _ fit h = h
+pub only_memory : (entry : Content) (rows cols : ℕ) (refusal : No) → IsSize rows cols → IsBasic entry rows cols → IsOfRow entry rows cols refusal → refusal.cause ≡ NoMemory
+only_memory entry rows cols refusal size b h = by_cause entry rows cols h.row refusal.cause size b h.range h.checked h.fault

@@ -19,11 +19,11 @@ use Rattle.ti_conforms.proofs.Walks.{same_count}
 use Rattle.ti_cert.specs.Order.{Precedes, HasLine}
 use Rattle.ti_cert.proofs.BasicOrder.{among_either}
 use Rattle.ti_cert.proofs.Preservation.{among_front, among_behind}
-use Rattle.ti_checker.specs.No.{IsFaulty, HasFaulty, IsRowRefused, IsRowFault, IsSo, IsSoBy}
-use Rattle.ti_checker.specs.First.{SendsRight, RowStands, IsOfRow, IsFirstRow, IsFirstBy, IsFirstTold, IsDrafted}
+use Rattle.ti_checker.specs.No.{IsRowRefused, IsRowFault, IsOfRow}
+use Rattle.ti_checker.specs.First.{SendsRight, RowStands, IsDrafted}
 use Rattle.ti_checker.specs.Limit.{IsLineOf, AreLines, IsUpTo, PassesLimit, StaysWithin, IsLineFor, AddsLine, Overflows, front_with, most}
 use Rattle.ti_checker.specs.declared.causes.Cause.{Cause}
-use Rattle.ti_checker.specs.declared.causes.Cause.TheVariants.{FlagOut, Absent, AcsByte, Parm, StaticRead, Unfinished, Stuck, NotTame, BadLook, WrongEffect, NotShown, TooLong, NoResync, NoMemory}
+use Rattle.ti_checker.specs.declared.causes.Cause.TheVariants.{TooLong}
 use Rattle.ti_checker.specs.declared.causes.No.{No}
 use Rattle.ti_checker.proofs.Order.{order_end}
 use Rattle.ti_checker.proofs.Passages.{front_end, text_length}
@@ -181,18 +181,6 @@ unchecked_cap entry rows cols n first text same unchecked d = drafted_as entry r
 
 -- ---- a row that is refused
 
-faulty : (entry : Content) (rows cols : ℕ) (string : List ℕ) (row : Row) (refusal : No) (cause : Cause) → refusal.cause ≡ cause → IsInRange rows cols row → is_checked entry row ≡ true → string_of entry row ≡ Some string
-    → refusal.cap ≡ cap_of row → refusal.params.items ≡ params row → IsFaulty rows cols string row cause → HasFaulty entry rows cols refusal
-faulty entry rows cols string row refusal cause e range checked there cap numbers h =
-    record { row = row; cap_is = cap; params_are = numbers; range = range; checked = checked; string = string; there = there; faulty = subst (λ (c : Cause). IsFaulty rows cols string row c) (sym e) h }
-
-of_row : (rows cols : ℕ) (string : List ℕ) (row : Row) (text : List ℕ) (cause : Cause) → IsRowRefused rows cols string row text cause → IsOfRow cause
-of_row rows cols string row text FlagOut h = h
-of_row rows cols string row text Absent h = h
-of_row rows cols string row text AcsByte h = h
-of_row rows cols string row text NoResync h = h
-of_row rows cols string row text _ h = tt
-
 within : (entry : Content) (rows cols : ℕ) (row : Row) (text : List ℕ) → IsDrafted entry rows cols (IsBefore rows cols row) text → StaysWithin entry rows cols row
 within entry rows cols row text d = record {
   lines = d.written.lines;
@@ -201,18 +189,6 @@ within entry rows cols row text d = record {
       let e = ap (λ (x : List ℕ). length x) d.written.text_is in
       let s = d.written.short in
       omega (arith, l, e, s);
-}
-
-pub first_row : (entry : Content) (rows cols : ℕ) (string : List ℕ) (row : Row) (text : List ℕ) (refusal : No) → IsInRange rows cols row → refusal.cap ≡ cap_of row → refusal.params.items ≡ params row
-    → IsRowRefused rows cols string row text refusal.cause → IsDrafted entry rows cols (IsBefore rows cols row) text → IsFirstRow entry rows cols refusal
-first_row entry rows cols string row text refusal range cap numbers h d = record {
-  row = row;
-  cap_is = cap;
-  params_are = numbers;
-  range = range;
-  of_row = of_row rows cols string row text refusal.cause h;
-  earlier = d.stand;
-  within = within entry rows cols row text d;
 }
 
 passes : (entry : Content) (rows cols : ℕ) (string : List ℕ) (row : Row) (text : List ℕ) → IsInRange rows cols row → is_checked entry row ≡ true → string_of entry row ≡ Some string
@@ -226,68 +202,23 @@ passes entry rows cols string row text range checked there d o = record {
       omega (arith, l, e, k);
 }
 
-row_fault_by : (entry : Content) (rows cols : ℕ) (string : List ℕ) (row : Row) (text : List ℕ) (refusal : No) (cause : Cause) → refusal.cause ≡ cause → IsInRange rows cols row → is_checked entry row ≡ true → string_of entry row ≡ Some string
-    → refusal.cap ≡ cap_of row → refusal.params.items ≡ params row → IsRowRefused rows cols string row text cause → IsDrafted entry rows cols (IsBefore rows cols row) text → IsRowFault entry rows cols refusal cause
-row_fault_by entry rows cols string row text refusal TooLong e range checked there cap numbers h d =
-    record { row = row; cap_is = cap; params_are = numbers; range = range; checked = checked; passes = passes entry rows cols string row text range checked there d h }
-row_fault_by entry rows cols string row text refusal FlagOut e range checked there cap numbers h d = absurd h
-row_fault_by entry rows cols string row text refusal Absent e range checked there cap numbers h d = absurd h
-row_fault_by entry rows cols string row text refusal AcsByte e range checked there cap numbers h d = absurd h
-row_fault_by entry rows cols string row text refusal NoResync e range checked there cap numbers h d = absurd h
-row_fault_by entry rows cols string row text refusal (Parm fault) e range checked there cap numbers h d = faulty entry rows cols string row refusal (Parm fault) e range checked there cap numbers h
-row_fault_by entry rows cols string row text refusal StaticRead e range checked there cap numbers h d = faulty entry rows cols string row refusal StaticRead e range checked there cap numbers h
-row_fault_by entry rows cols string row text refusal Unfinished e range checked there cap numbers h d = faulty entry rows cols string row refusal Unfinished e range checked there cap numbers h
-row_fault_by entry rows cols string row text refusal Stuck e range checked there cap numbers h d = faulty entry rows cols string row refusal Stuck e range checked there cap numbers h
-row_fault_by entry rows cols string row text refusal NotTame e range checked there cap numbers h d = faulty entry rows cols string row refusal NotTame e range checked there cap numbers h
-row_fault_by entry rows cols string row text refusal BadLook e range checked there cap numbers h d = faulty entry rows cols string row refusal BadLook e range checked there cap numbers h
-row_fault_by entry rows cols string row text refusal (WrongEffect p) e range checked there cap numbers h d = faulty entry rows cols string row refusal (WrongEffect p) e range checked there cap numbers h
-row_fault_by entry rows cols string row text refusal NotShown e range checked there cap numbers h d = faulty entry rows cols string row refusal NotShown e range checked there cap numbers h
-row_fault_by entry rows cols string row text refusal NoMemory e range checked there cap numbers h d = faulty entry rows cols string row refusal NoMemory e range checked there cap numbers h
+fault_of : (entry : Content) (rows cols : ℕ) (string : List ℕ) (row : Row) (text : List ℕ) (cause : Cause) → IsInRange rows cols row → is_checked entry row ≡ true → string_of entry row ≡ Some string
+    → IsRowRefused rows cols string row text cause → IsDrafted entry rows cols (IsBefore rows cols row) text → IsRowFault entry rows cols row cause
+fault_of entry rows cols string row text TooLong range checked there h d = passes entry rows cols string row text range checked there d h
+fault_of entry rows cols string row text _ range checked there h d = record { string = string; there = there; faulty = h }
 
-pub row_fault : (entry : Content) (rows cols : ℕ) (string : List ℕ) (row : Row) (text : List ℕ) (refusal : No) → IsInRange rows cols row → is_checked entry row ≡ true → string_of entry row ≡ Some string
-    → refusal.cap ≡ cap_of row → refusal.params.items ≡ params row → IsRowRefused rows cols string row text refusal.cause → IsDrafted entry rows cols (IsBefore rows cols row) text
-    → IsRowFault entry rows cols refusal refusal.cause
-row_fault entry rows cols string row text refusal range checked there cap numbers h d = row_fault_by entry rows cols string row text refusal refusal.cause refl range checked there cap numbers h d
-
--- ---- what that says of the entry
-
-so_by : (entry : Content) (rows cols : ℕ) (refusal : No) (cause : Cause) → refusal.cause ≡ cause → IsRowFault entry rows cols refusal cause → IsSoBy entry rows cols refusal cause
-so_by entry rows cols refusal TooLong e h = h
-so_by entry rows cols refusal FlagOut e h = absurd (subst (λ (c : Cause). IsFaulty rows cols h.string h.row c) e h.faulty)
-so_by entry rows cols refusal Absent e h = absurd (subst (λ (c : Cause). IsFaulty rows cols h.string h.row c) e h.faulty)
-so_by entry rows cols refusal AcsByte e h = absurd (subst (λ (c : Cause). IsFaulty rows cols h.string h.row c) e h.faulty)
-so_by entry rows cols refusal NoResync e h = absurd (subst (λ (c : Cause). IsFaulty rows cols h.string h.row c) e h.faulty)
-so_by entry rows cols refusal NotTame e h = h
-so_by entry rows cols refusal NotShown e h = inl h
-so_by entry rows cols refusal NoMemory e h = tt
-so_by entry rows cols refusal (Parm fault) e h = h
-so_by entry rows cols refusal StaticRead e h = h
-so_by entry rows cols refusal Unfinished e h = h
-so_by entry rows cols refusal Stuck e h = h
-so_by entry rows cols refusal BadLook e h = inl h
-so_by entry rows cols refusal (WrongEffect p) e h = inl h
-
-pub so_of_row : (entry : Content) (rows cols : ℕ) (refusal : No) → IsRowFault entry rows cols refusal refusal.cause → IsSo entry rows cols refusal
-so_of_row entry rows cols refusal h = so_by entry rows cols refusal refusal.cause refl h
-
-told_by : (entry : Content) (rows cols : ℕ) (refusal : No) (cause : Cause) → IsOfRow cause → IsFirstRow entry rows cols refusal → IsFirstBy entry rows cols refusal cause
-told_by entry rows cols refusal FlagOut o f = tt
-told_by entry rows cols refusal Absent o f = tt
-told_by entry rows cols refusal AcsByte o f = tt
-told_by entry rows cols refusal NoMemory o f = tt
-told_by entry rows cols refusal NoResync o f = absurd o
-told_by entry rows cols refusal BadLook o f = inl f
-told_by entry rows cols refusal (WrongEffect p) o f = inl f
-told_by entry rows cols refusal NotShown o f = inl f
-told_by entry rows cols refusal TooLong o f = f
-told_by entry rows cols refusal (Parm fault) o f = f
-told_by entry rows cols refusal StaticRead o f = f
-told_by entry rows cols refusal Unfinished o f = f
-told_by entry rows cols refusal Stuck o f = f
-told_by entry rows cols refusal NotTame o f = f
-
-pub first_told : (entry : Content) (rows cols : ℕ) (refusal : No) → IsFirstRow entry rows cols refusal → IsFirstTold entry rows cols refusal
-first_told entry rows cols refusal f = told_by entry rows cols refusal refusal.cause f.of_row f
+pub refused_row : (entry : Content) (rows cols : ℕ) (string : List ℕ) (row : Row) (text : List ℕ) (refusal : No) → IsInRange rows cols row → is_checked entry row ≡ true → string_of entry row ≡ Some string
+    → refusal.cap ≡ cap_of row → refusal.params.items ≡ params row → IsRowRefused rows cols string row text refusal.cause → IsDrafted entry rows cols (IsBefore rows cols row) text → IsOfRow entry rows cols refusal
+refused_row entry rows cols string row text refusal range checked there cap numbers h d = record {
+  row = row;
+  cap_is = cap;
+  params_are = numbers;
+  range = range;
+  checked = checked;
+  fault = fault_of entry rows cols string row text refusal.cause range checked there h d;
+  earlier = d.stand;
+  within = within entry rows cols row text d;
+}
 
 -- ---- all capabilities
 

@@ -1,5 +1,6 @@
 -- A no that claims something excludes a yes.
-use Rattle.std.proofs.Common.{◌≡◌, ℕ, ◌+◌, true, List, [], length, take, drop, Some, refl, sym, ap, subst, inl, inr, arith}
+use Rattle.std.proofs.Common.{◌≡◌, ℕ, ◌+◌, Bool, true, false, List, [], length, take, drop, Some, refl, sym, ap, subst, ◌∙◌, arith}
+use Rattle.std.proofs.lemmas.Bool.{true≢false}
 use Rattle.std.specs.Prelude.{Result, Ok, Err}
 use Rattle.std.proofs.lemmas.List.{take-append-drop}
 use Rattle.vt_term.specs.Screen.{State}
@@ -23,13 +24,15 @@ use Rattle.ti_checker.specs.declared.probes.Probe.{Probe}
 use Rattle.ti_conforms.specs.Sends.{Sends, values}
 use Rattle.ti_conforms.specs.Entries.{is_checked, string_of}
 use Rattle.ti_conforms.specs.Conforms.{Conforms, IsFit}
+use Rattle.ti_conforms.specs.Unfit.{IsUnfit}
+use Rattle.ti_conforms.specs.declared.fitness.Unfit.{Unfit}
+use Rattle.ti_conforms.specs.declared.fitness.Unfit.TheVariants as unfit
 use Rattle.ti_cert.proofs.Disagreements.{flag_not_out, none_lacking, none_misfit}
-use Rattle.ti_checker.proofs.Together.{none_open}
-use Rattle.ti_checker.proofs.Sent.{none_graphic, none_misswitching}
+use Rattle.ti_checker.proofs.Sent.{none_graphic, none_open, none_at_smacs, none_at_rmacs}
 use Rattle.ti_checker.proofs.Passages.{none_certified}
 use Rattle.ti_checker.specs.Certificate.{IsCertificateOf}
 use Rattle.ti_checker.specs.First.{SendsRight}
-use Rattle.ti_checker.specs.No.{IsUnfitBy, SendsSome, IsFaulty, HasFaulty, HasTooLong, IsSo, IsSoBy, ClaimsNothing}
+use Rattle.ti_checker.specs.No.{SendsSome, IsFaulty, IsRowFault, cause_of_unfit, IsOfEntry, IsOfAll, AtSmacs, AtRmacs, AtAcsc, AtClear, Unnamed, IsNo, OfEntry, OfRow, OfAll, OutOfMemory, ClaimsNothing}
 use Rattle.ti_checker.specs.declared.causes.Cause.{Cause}
 use Rattle.ti_checker.specs.declared.causes.Cause.TheVariants.{FlagOut, Absent, AcsByte, Parm, StaticRead, Unfinished, Stuck, NotTame, BadLook, WrongEffect, NotShown, TooLong, NoResync, NoMemory}
 use Rattle.ti_checker.specs.declared.causes.No.{No}
@@ -94,45 +97,56 @@ none_faulty rows cols string row FlagOut r h = absurd h
 none_faulty rows cols string row Absent r h = absurd h
 none_faulty rows cols string row AcsByte r h = absurd h
 
-pub none_unfit : (entry : Content) (cap : ℕ) (cause : Cause) → IsFit entry → IsUnfitBy entry cap cause → ClaimsNothing cause
-none_unfit entry cap FlagOut fit h = flag_not_out entry cap fit h
-none_unfit entry cap Absent fit h = none_lacking entry h.row fit h.lacking.required h.lacking.absent
-none_unfit entry cap AcsByte fit h = none_misfit entry fit h.1
-none_unfit entry cap (Parm fault) fit h = absurd h
-none_unfit entry cap StaticRead fit h = absurd h
-none_unfit entry cap Unfinished fit h = absurd h
-none_unfit entry cap Stuck fit h = absurd h
-none_unfit entry cap BadLook fit h = absurd h
-none_unfit entry cap (WrongEffect p) fit h = absurd h
-none_unfit entry cap NoResync fit h = absurd h
-none_unfit entry cap TooLong fit h = absurd h
-none_unfit entry cap NotTame fit h = tt
-none_unfit entry cap NotShown fit h = tt
-none_unfit entry cap NoMemory fit h = tt
+-- ---- what a no claims
 
-row_faulty : (entry : Content) (rows cols : ℕ) (refusal : No) → Conforms entry rows cols → HasFaulty entry rows cols refusal → ClaimsNothing refusal.cause
-row_faulty entry rows cols refusal c h = none_faulty rows cols h.string h.row refusal.cause (sent_right entry rows cols c h.row h.range h.checked h.string h.there) h.faulty
+by_reason : (entry : Content) (why : Unfit) → IsFit entry → IsUnfit entry why → ⊥
+by_reason entry (unfit.FlagOut cap) fit h = flag_not_out entry cap fit h.1
+by_reason entry (unfit.Absent row) fit h = none_lacking entry row fit h.lacking.required h.lacking.absent
+by_reason entry unfit.AcsByte fit h = none_misfit entry fit h.1
 
-by_cause : (entry : Content) (rows cols : ℕ) (refusal : No) (cause : Cause) → (refusal.cause ≡ TooLong → ⊥) → refusal.cause ≡ cause → Conforms entry rows cols → IsSoBy entry rows cols refusal cause → ClaimsNothing refusal.cause
-by_cause entry rows cols refusal FlagOut not_long e c h = none_unfit entry refusal.cap refusal.cause c.fit h
-by_cause entry rows cols refusal Absent not_long e c h = none_unfit entry refusal.cap refusal.cause c.fit h
-by_cause entry rows cols refusal AcsByte not_long e c h = none_unfit entry refusal.cap refusal.cause c.fit h
-by_cause entry rows cols refusal NotTame not_long e c h = subst ClaimsNothing (sym e) tt
-by_cause entry rows cols refusal NotShown not_long e c h = subst ClaimsNothing (sym e) tt
-by_cause entry rows cols refusal NoMemory not_long e c h = subst ClaimsNothing (sym e) tt
-by_cause entry rows cols refusal NoResync not_long e c h = absurd (none_open entry rows cols c h.1)
-by_cause entry rows cols refusal TooLong not_long e c h = absurd (not_long e)
-by_cause entry rows cols refusal (Parm fault) not_long e c h = row_faulty entry rows cols refusal c h
-by_cause entry rows cols refusal StaticRead not_long e c h = row_faulty entry rows cols refusal c h
-by_cause entry rows cols refusal Unfinished not_long e c h = row_faulty entry rows cols refusal c h
-by_cause entry rows cols refusal Stuck not_long e c h = row_faulty entry rows cols refusal c h
-by_cause entry rows cols refusal BadLook not_long e c (inl h) = row_faulty entry rows cols refusal c h
-by_cause entry rows cols refusal BadLook not_long e c (inr h) = absurd (none_graphic entry rows cols c h.1)
-by_cause entry rows cols refusal (WrongEffect p) not_long e c (inl h) = row_faulty entry rows cols refusal c h
-by_cause entry rows cols refusal (WrongEffect p) not_long e c (inr h) = absurd (none_misswitching entry rows cols c h.row p h.switches)
+pub not_unfit : (entry : Content) (refusal : No) → IsFit entry → IsOfEntry entry refusal → ⊥
+not_unfit entry refusal fit h = by_reason entry h.why fit h.first
 
-pub no_excludes_yes : (entry : Content) (rows cols : ℕ) (refusal : No) → IsSo entry rows cols refusal → (refusal.cause ≡ TooLong → ⊥) → Conforms entry rows cols → ClaimsNothing refusal.cause
-no_excludes_yes entry rows cols refusal h not_long c = by_cause entry rows cols refusal refusal.cause not_long refl c h
+row_claims : (entry : Content) (rows cols : ℕ) (row : Row) (cause : Cause) → (cause ≡ TooLong → ⊥) → Conforms entry rows cols → IsInRange rows cols row → is_checked entry row ≡ true → IsRowFault entry rows cols row cause → ClaimsNothing cause
+row_claims entry rows cols row TooLong not_long c range checked f = absurd (not_long refl)
+row_claims entry rows cols row cause not_long c range checked f = none_faulty rows cols f.string row cause (sent_right entry rows cols c row range checked f.string f.there) f.faulty
 
-pub too_long_excludes : (entry : Content) (rows cols : ℕ) (refusal : No) (text : List ℕ) → IsSo entry rows cols refusal → refusal.cause ≡ TooLong → IsCertificateOf entry rows cols text → ⊥
-too_long_excludes entry rows cols refusal text h e c = let l : HasTooLong entry rows cols refusal = subst (λ (cause : Cause). IsSoBy entry rows cols refusal cause) e h in none_certified entry rows cols l.row text l.passes c
+all_claims : (entry : Content) (rows cols : ℕ) (refusal : No) → Conforms entry rows cols → IsOfAll entry rows cols refusal → ClaimsNothing refusal.cause
+all_claims entry rows cols refusal c (AtSmacs p about clash h) = absurd (none_at_smacs entry rows cols c p clash h)
+all_claims entry rows cols refusal c (AtRmacs p about clash h) = absurd (none_at_rmacs entry rows cols c p clash h)
+all_claims entry rows cols refusal c (AtAcsc about h) = absurd (none_graphic entry rows cols c h)
+all_claims entry rows cols refusal c (AtClear about h) = absurd (none_open entry rows cols c h)
+all_claims entry rows cols refusal c (Unnamed about h) = subst ClaimsNothing (sym about.cause_is) tt
+
+pub no_excludes_yes : (entry : Content) (rows cols : ℕ) (refusal : No) → IsNo entry rows cols refusal → (refusal.cause ≡ TooLong → ⊥) → Conforms entry rows cols → ClaimsNothing refusal.cause
+no_excludes_yes entry rows cols refusal (OfEntry h) not_long c = absurd (not_unfit entry refusal c.fit h)
+no_excludes_yes entry rows cols refusal (OfRow fit h) not_long c = row_claims entry rows cols h.row refusal.cause not_long c h.range h.checked h.fault
+no_excludes_yes entry rows cols refusal (OfAll fit written h) not_long c = all_claims entry rows cols refusal c h
+no_excludes_yes entry rows cols refusal (OutOfMemory e) not_long c = subst ClaimsNothing (sym e) tt
+
+-- ---- where the lines are too long
+
+abbrev is_too_long : Cause → Bool
+is_too_long TooLong = true
+is_too_long _ = false
+
+never_long : (cause other : Cause) → cause ≡ other → cause ≡ TooLong → is_too_long other ≡ false → ⊥
+never_long cause other e l h = true≢false (sym (ap is_too_long (sym e ∙ l)) ∙ h)
+
+unfit_not_long : (why : Unfit) → is_too_long (cause_of_unfit why) ≡ false
+unfit_not_long (unfit.FlagOut cap) = refl
+unfit_not_long (unfit.Absent row) = refl
+unfit_not_long unfit.AcsByte = refl
+
+all_not_long : (entry : Content) (rows cols : ℕ) (refusal : No) → IsOfAll entry rows cols refusal → refusal.cause ≡ TooLong → ⊥
+all_not_long entry rows cols refusal (AtSmacs p about clash h) e = never_long refusal.cause (WrongEffect p) about.cause_is e refl
+all_not_long entry rows cols refusal (AtRmacs p about clash h) e = never_long refusal.cause (WrongEffect p) about.cause_is e refl
+all_not_long entry rows cols refusal (AtAcsc about h) e = never_long refusal.cause BadLook about.cause_is e refl
+all_not_long entry rows cols refusal (AtClear about h) e = never_long refusal.cause NoResync about.cause_is e refl
+all_not_long entry rows cols refusal (Unnamed about h) e = never_long refusal.cause NotShown about.cause_is e refl
+
+pub too_long_excludes : (entry : Content) (rows cols : ℕ) (refusal : No) (text : List ℕ) → IsNo entry rows cols refusal → refusal.cause ≡ TooLong → IsCertificateOf entry rows cols text → ⊥
+too_long_excludes entry rows cols refusal text (OfEntry h) e c = never_long refusal.cause (cause_of_unfit h.why) h.about.cause_is e (unfit_not_long h.why)
+too_long_excludes entry rows cols refusal text (OfRow fit h) e c = none_certified entry rows cols h.row text (subst (λ (cause : Cause). IsRowFault entry rows cols h.row cause) e h.fault) c
+too_long_excludes entry rows cols refusal text (OfAll fit written h) e c = all_not_long entry rows cols refusal h e
+too_long_excludes entry rows cols refusal text (OutOfMemory m) e c = never_long refusal.cause NoMemory m e refl

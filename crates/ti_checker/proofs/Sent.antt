@@ -4,35 +4,42 @@ use Rattle.std.specs.Prelude.{Result, Ok, Err, is_some}
 use Rattle.std.proofs.lemmas.Bool.{false≢true, and_parts, cases_Bool}
 use Rattle.std.proofs.lemmas.Option.{none-some}
 use Rattle.vt_term.specs.Size.{IsSize}
-use Rattle.vt_term.specs.Screen.{State, Charset}
-use Rattle.vt_term.proofs.Runs.{runs_once}
-use Rattle.ti_caps.specs.Entry.{Content}
+use Rattle.vt_term.specs.Screen.{State, Screen, Charset}
+use Rattle.vt_term.specs.Step.{steps}
+use Rattle.vt_term.proofs.Runs.{runs_once, text_runs}
+use Rattle.vt_effects.specs.declared.effects.Sets.{Sets}
+use Rattle.ti_conforms.specs.declared.reach.Reach.{Reach}
+use Rattle.ti_conforms.proofs.Judgements.{over_steps}
+use Rattle.ti_conforms.specs.declared.entries.Group.TheVariants as groups
+use Rattle.ti_cert.specs.Clashes.{Misswitches, BeginsOpen, IsClash}
+use Rattle.ti_cert.specs.Seen.{AreSeen, IsFound}
+use Rattle.ti_cert.specs.declared.clashes.Clash.{Clash}
+use Rattle.ti_cert.specs.declared.clashes.Clash.TheVariants as clashes
+use Rattle.ti_cert.specs.declared.clashes.Resync.{Resync}
+use Rattle.ti_caps.specs.Entry.{Content, string_at}
 use Rattle.ti_rows.specs.declared.rows.Row.{Row}
 use Rattle.ti_rows.specs.declared.rows.Row.TheVariants.{Clear, Csr, Smcup, Enacs, Sgr0, Smacs, Rmacs}
 use Rattle.ti_rows.specs.Lists.{IsInRange}
-use Rattle.ti_rows.specs.Names.{cap_of}
-use Rattle.ti_rows.specs.Params.{params}
 use Rattle.ti_rows.specs.Starts.{Starts}
 use Rattle.ti_parm.specs.Meaning.{sent}
 use Rattle.ti_parm.specs.declared.fault.ParmFault.{ParmFault}
 use Rattle.ti_conforms.specs.Sends.{Sends, values}
-use Rattle.ti_conforms.specs.Entries.{acsc, is_checked, string_of, meets, group_of, EntryAgrees, LineAgrees}
+use Rattle.ti_conforms.specs.Entries.{acsc, has_string, is_checked, string_of, meets, group_of, EntryAgrees, LineAgrees}
 use Rattle.ti_conforms.specs.Table.{Table, no_lengths, or_nothing, text_of, widening, resync, Activates, resync_of}
-use Rattle.ti_conforms.specs.Sets.{CanHave, AtReset, AfterToken, LeadsBy, CanSettle, AfterResync, AfterLine}
+use Rattle.ti_conforms.specs.Sets.{CanHave, AtReset, AfterToken, LeadsBy, CanSettle, AfterResync, AfterLine, has_sets}
 use Rattle.ti_conforms.specs.Conforms.{Conforms, IsFit}
 use Rattle.ti_conforms.specs.Looks.{no_looks}
 use Rattle.ti_cert.specs.Strings.{allows}
 use Rattle.ti_cert.proofs.Ranges.{in_range, is_allowed}
 use Rattle.ti_checker.specs.Probes.{screen_of}
 use Rattle.ti_checker.specs.declared.probes.Probe.{Probe}
-use Rattle.ti_checker.specs.First.{EachStands, EachWritten, SendsRight, IsFirstSwitch, IsFirstBy}
-use Rattle.ti_checker.specs.Last.{OfAllSent, SwitchesRight, SwitchRight}
-use Rattle.ti_checker.specs.No.{IsSoBy, IsFirstCause, IsOfAll}
-use Rattle.ti_checker.specs.Switches.{HasSent, OfSent, Misswitches, StaysGraphic, switching, AlwaysMisswitches, AlwaysGraphic}
-use Rattle.ti_checker.specs.declared.causes.Cause.{Cause}
-use Rattle.ti_checker.specs.declared.causes.Cause.TheVariants.{BadLook, WrongEffect}
+use Rattle.ti_checker.specs.First.{EachStands, EachWritten, SendsRight}
+use Rattle.ti_checker.specs.No.{HasClash, AtSmacs, AtRmacs, AtAcsc, AtClear, IsNo, OfAll, IsToldAs}
+use Rattle.ti_checker.specs.Switches.{HasSent, OfSent, OfAllSent, RunsWrong, IsSeen, RowChanges}
 use Rattle.ti_checker.specs.declared.causes.No.{No}
 use Rattle.ti_checker.proofs.Together.{whole_screen}
+use Rattle.ti_checker.proofs.Quiet.{csr_keeps, clear_keeps}
+use Rattle.ti_checker.proofs.Settled.{all_seen}
 
 -- ---- two tables that agree with an entry
 
@@ -80,22 +87,52 @@ settled_too entry rows cols a b h size sends d (AfterLine c _ row bytes s there 
 
 -- ---- where the entry conforms
 
-pub none_graphic : (entry : Content) (rows cols : ℕ) → Conforms entry rows cols → OfSent entry rows cols (λ t. StaysGraphic entry t) → ⊥
-none_graphic entry rows cols c o =
-    let s : CanSettle c.table o.is.charset = settled_too entry rows cols o.table c.table o.has c.rows_are c.sends o.is.charset o.is.settles in
-    false≢true (sym (c.plain o.is.unchecked o.is.charset s) ∙ o.is.graphic)
+both : (a b : Bool) → a ≡ true → b ≡ true → (a && b) ≡ true
+both true b e f = f
+both false b e f = cc
 
-pub none_misswitching : (entry : Content) (rows cols : ℕ) → Conforms entry rows cols → (row : Row) (p : Probe) → OfSent entry rows cols (λ t. Misswitches rows cols row p t) → ⊥
-none_misswitching entry rows cols c row p o =
+sets_checked : (entry : Content) → is_checked entry Smacs ≡ true → (is_checked entry Rmacs ≡ true) × (is_some (string_at entry acsc) ≡ true)
+sets_checked entry checked =
+    let m : meets entry groups.Sets ≡ true = (and_parts (has_string entry Smacs) (meets entry groups.Sets) checked).1 in
+    let r = and_parts (has_string entry Rmacs) (is_some (string_at entry acsc)) (and_parts (has_string entry Smacs) (has_string entry Rmacs && is_some (string_at entry acsc)) m).1 in
+    (both (has_string entry Rmacs) (meets entry groups.Sets) r.0 m, r.1)
+
+line_some : (entry : Content) (rows cols : ℕ) (t : Table) → HasSent entry rows cols t → (row : Row) → IsInRange rows cols row → is_checked entry row ≡ true → is_some (t.line_of row) ≡ true
+line_some entry rows cols t h row range checked = ap (λ (o : Option (List ℕ)). is_some o) ((h.sends row range).checked checked).sends.line_has
+
+unsent_unchecked : (entry : Content) (rows cols : ℕ) (t : Table) → HasSent entry rows cols t → (is_some (string_at entry acsc) && has_sets t) ≡ false → is_checked entry Smacs ≡ false
+unsent_unchecked entry rows cols t h off = elim (cases_Bool (is_checked entry Smacs)) [
+  | inl checked ↦ (let k = sets_checked entry checked in
+      absurd (false≢true (sym off ∙ both (is_some (string_at entry acsc)) (has_sets t) k.1
+      (both (is_some (t.line_of Smacs)) (is_some (t.line_of Rmacs)) (line_some entry rows cols t h Smacs tt checked) (line_some entry rows cols t h Rmacs tt k.0)))))
+  | inr unchecked ↦ unchecked
+]
+
+pub none_graphic : (entry : Content) (rows cols : ℕ) → Conforms entry rows cols → HasClash entry rows cols clashes.Acsc → ⊥
+none_graphic entry rows cols c o =
+    let g = o.is.2 in
+    let s : CanSettle c.table g.charset = settled_too entry rows cols o.table c.table o.has c.rows_are c.sends g.charset g.settles in
+    false≢true (sym (c.plain (unsent_unchecked entry rows cols o.table o.has g.unsent) g.charset s) ∙ g.graphic)
+
+pub none_open : (entry : Content) (rows cols : ℕ) → Conforms entry rows cols → HasClash entry rows cols clashes.Clear → ⊥
+none_open entry rows cols c o = o.is.3 c.resyncs.rest (resync_same entry rows cols o.table c.table o.has c.rows_are c.sends ∙ c.resyncs.escapes)
+
+never_wrong : (entry : Content) (rows cols : ℕ) (c : Conforms entry rows cols) (row : Row) (p : Probe) → CanSettle c.table p.charset → OfSent entry rows cols (λ t. RunsWrong rows cols row p t) → ⊥
+never_wrong entry rows cols c row p s o =
     let m = o.is in
     let start : State = record { screen = screen_of rows cols p; rest = [] } in
-    let s : CanSettle c.table p.charset = settled_too entry rows cols o.table c.table o.has c.rows_are c.sends p.charset m.settles in
     let there : c.table.line_of row ≡ Some m.bytes = line_there entry rows cols o.table c.table o.has c.sends row m.bytes m.there in
     let starts : Starts c.table.rows c.table.cols row (screen_of rows cols p) =
     subst (λ (n : ℕ). Starts c.table.rows n row (screen_of rows cols p)) (sym c.cols_are) (subst (λ (n : ℕ). Starts n cols row (screen_of rows cols p)) (sym c.rows_are) m.starts) in
     let e = c.switches row m.bytes there start refl starts s in
     let same : e.after ≡ record { screen = m.after; rest = [] } = runs_once start (record { screen = m.after; rest = [] }) e.after m.bytes m.runs e.runs in
     m.inactive (subst (λ (x : State). Activates row x.screen.charset) same e.there)
+
+pub none_at_smacs : (entry : Content) (rows cols : ℕ) → Conforms entry rows cols → (p : Probe) → HasClash entry rows cols (clashes.Smacs p.charset) → OfSent entry rows cols (λ t. RunsWrong rows cols Smacs p t) → ⊥
+none_at_smacs entry rows cols c p h o = never_wrong entry rows cols c Smacs p (settled_too entry rows cols h.table c.table h.has c.rows_are c.sends p.charset h.is.settles) o
+
+pub none_at_rmacs : (entry : Content) (rows cols : ℕ) → Conforms entry rows cols → (p : Probe) → HasClash entry rows cols (clashes.Rmacs p.charset) → OfSent entry rows cols (λ t. RunsWrong rows cols Rmacs p t) → ⊥
+none_at_rmacs entry rows cols c p h o = never_wrong entry rows cols c Rmacs p (settled_too entry rows cols h.table c.table h.has c.rows_are c.sends p.charset h.is.1.settles) o
 
 -- ---- where each row stands, there is such a table
 
@@ -166,27 +203,59 @@ of_sent entry rows cols Is size stands always =
 
 -- ---- noes of all strings together
 
-is_first_switch : (entry : Content) (rows cols : ℕ) (refusal : No) (graphic : Bool) (row : Row) → EachWritten entry rows cols → row ≡ switching graphic → refusal.cap ≡ cap_of row
-    → (graphic ≡ false → OfAllSent entry rows cols (SwitchesRight Smacs)) → IsFirstSwitch entry rows cols refusal
-is_first_switch entry rows cols refusal true row written is cap earlier = record { each = written; earlier = inl (cap ∙ ap (λ (r : Row). cap_of r) is) }
-is_first_switch entry rows cols refusal false row written is cap earlier = record { each = written; earlier = inr (earlier refl) }
+runs_wrong : (rows cols : ℕ) (row : Row) (p : Probe) (t : Table) → Starts rows cols row (screen_of rows cols p) → Misswitches t row p.charset → RunsWrong rows cols row p t
+runs_wrong rows cols row p t starts m =
+    let start : Screen = screen_of rows cols p in
+    let charset : (steps m.leads.tokens start).charset ≡ m.after = over_steps m.leads.tokens start ∙ sym m.leads.is in
+    record {
+      bytes = m.bytes;
+      there = m.there;
+      starts = starts;
+      after = steps m.leads.tokens start;
+      runs = text_runs (record { screen = start; rest = [] }) m.bytes m.leads.tokens refl m.leads.whole;
+      inactive = λ a. m.inactive (subst (λ (x : Charset). Activates row x) charset a);
+    }
 
-pub misswitch_so : (entry : Content) (rows cols : ℕ) (refusal : No) (graphic : Bool) (row : Row) (p : Probe) → IsSize rows cols → IsFit entry → EachWritten entry rows cols → row ≡ switching graphic → refusal.cap ≡ cap_of row → refusal.params.items ≡ params row
-    → refusal.cause ≡ WrongEffect p → AlwaysMisswitches entry rows cols graphic p → (graphic ≡ false → OfAllSent entry rows cols (SwitchesRight Smacs)) → IsOfAll entry rows cols refusal
-misswitch_so entry rows cols refusal graphic row p size fit written is cap given cause always earlier = record {
-  so = subst (λ (c : Cause). IsSoBy entry rows cols refusal c) (sym cause) (inr (record {
-    row = row;
-    cap_is = cap;
-    params_are = given;
-    switches = subst (λ (r : Row). OfSent entry rows cols (λ t. Misswitches rows cols r p t)) (sym is) (of_sent entry rows cols (λ t. Misswitches rows cols (switching graphic) p t) size written.stands always);
-  }));
-  order = subst (λ (c : Cause). IsFirstCause entry c) (sym cause) fit;
-  first = subst (λ (c : Cause). IsFirstBy entry rows cols refusal c) (sym cause) (inr (is_first_switch entry rows cols refusal graphic row written is cap earlier));
-}
+abbrev Clashes : Content → Clash → Table → Type 0
+Clashes entry clash t = IsClash (is_some (string_at entry acsc)) t clash
 
-pub graphic_so : (entry : Content) (rows cols : ℕ) (refusal : No) → IsSize rows cols → IsFit entry → EachWritten entry rows cols → SwitchRight entry rows cols → refusal.cap ≡ acsc → refusal.cause ≡ BadLook → AlwaysGraphic entry rows cols → IsOfAll entry rows cols refusal
-graphic_so entry rows cols refusal size fit written switches cap cause always = record {
-  so = subst (λ (c : Cause). IsSoBy entry rows cols refusal c) (sym cause) (inr (cap, of_sent entry rows cols (λ t. StaysGraphic entry t) size written.stands always));
-  order = subst (λ (c : Cause). IsFirstCause entry c) (sym cause) fit;
-  first = subst (λ (c : Cause). IsFirstBy entry rows cols refusal c) (sym cause) (inr (written, switches));
+pub no_told : (entry : Content) (rows cols : ℕ) (refusal : No) (clash : Clash) → IsSize rows cols → IsFit entry → EachWritten entry rows cols → IsToldAs rows cols refusal clash → OfAllSent entry rows cols (λ t. IsClash (is_some (string_at entry acsc)) t clash)
+    → IsNo entry rows cols refusal
+no_told entry rows cols refusal (clashes.Smacs c) size fit written told all =
+    let p : Probe = told.0 in
+    let at : OfAllSent entry rows cols (Clashes entry (clashes.Smacs p.charset)) = λ t h. subst (λ (x : Charset). Misswitches t Smacs x) (sym told.2) (all t h) in
+    OfAll fit written (AtSmacs p told.1 (of_sent entry rows cols (Clashes entry (clashes.Smacs p.charset)) size written.stands at)
+    (of_sent entry rows cols (λ t. RunsWrong rows cols Smacs p t) size written.stands (λ t h. runs_wrong rows cols Smacs p t told.3 (at t h))))
+no_told entry rows cols refusal (clashes.Rmacs c) size fit written told all =
+    let p : Probe = told.0 in
+    let at : OfAllSent entry rows cols (Clashes entry (clashes.Rmacs p.charset)) = λ t h. ((all t h).0, subst (λ (x : Charset). Misswitches t Rmacs x) (sym told.2) (all t h).1) in
+    OfAll fit written (AtRmacs p told.1 (of_sent entry rows cols (Clashes entry (clashes.Rmacs p.charset)) size written.stands at)
+    (of_sent entry rows cols (λ t. RunsWrong rows cols Rmacs p t) size written.stands (λ t h. runs_wrong rows cols Rmacs p t told.3 (at t h).1)))
+no_told entry rows cols refusal clashes.Acsc size fit written told all = OfAll fit written (AtAcsc told (of_sent entry rows cols (Clashes entry clashes.Acsc) size written.stands all))
+no_told entry rows cols refusal clashes.Clear size fit written told all = OfAll fit written (AtClear told (of_sent entry rows cols (Clashes entry clashes.Clear) size written.stands all))
+
+-- ---- what was found of all strings is so of each table of what is sent
+
+-- what was found of the strings that lead out of an unknown state, and of `smacs`
+pub record AreChanges (entry : Content) (rows cols : ℕ) (r : Resync) (smacs : Option Sets) : Type 0 where
+  pub smcup : RowChanges entry rows cols Smcup r.smcup
+  pub enacs : RowChanges entry rows cols Enacs r.enacs
+  pub sgr0 : RowChanges entry rows cols Sgr0 r.sgr0
+  pub rmacs : RowChanges entry rows cols Rmacs r.rmacs
+  pub smacs_is : RowChanges entry rows cols Smacs smacs
+
+pub is_found : (entry : Content) (rows cols : ℕ) (reach : Reach) (changes others : List Sets) (r : Resync) (smacs : Option Sets) (begins : Bool) → IsSize rows cols → EachStands entry rows cols → IsSeen entry rows cols reach changes 42 0 → others ≡ changes
+    → AreChanges entry rows cols r smacs → (begins ≡ true → OfAllSent entry rows cols (λ t. BeginsOpen t → ⊥)) → (begins ≡ false → OfAllSent entry rows cols (λ t. BeginsOpen t))
+    → OfAllSent entry rows cols (λ t. IsFound t reach others r smacs begins)
+is_found entry rows cols reach changes others r smacs begins size stands s same a begun opened t h = record {
+  seen = subst (λ (xs : List Sets). AreSeen t reach xs) (sym same) (all_seen entry rows cols reach changes s t h);
+  smcup_is = a.smcup t h;
+  enacs_is = a.enacs t h;
+  sgr0_is = a.sgr0 t h;
+  rmacs_is = a.rmacs t h;
+  smacs_is = a.smacs_is t h;
+  widens = csr_keeps entry rows cols size stands t h;
+  clears = clear_keeps entry rows cols size stands t h;
+  opens = λ off. opened off t h;
+  begins = λ on. begun on t h;
 }

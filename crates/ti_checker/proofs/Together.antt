@@ -1,5 +1,5 @@
--- What is wrong with all strings together; what leads out of an unknown state begins with ESC where the entry conforms.
-use Rattle.std.proofs.Common.{◌≡◌, inl, inr, ℕ, ◌-◌, true, List, ◌∷◌, ◌++◌, Some, refl, sym, ap, subst, ◌∙◌, append_assoc, arith}
+-- Noes, and what leads out of an unknown state as a text.
+use Rattle.std.proofs.Common.{◌≡◌, inl, inr, ℕ, ◌-◌, true, List, [], ◌∷◌, ◌++◌, Some, refl, sym, ap, subst, ◌∙◌, append_assoc, arith}
 use Rattle.std.proofs.lemmas.Bool.{cases_Bool}
 use Rattle.ti_caps.specs.Entry.{Content}
 use Rattle.ti_rows.specs.declared.rows.Row.{Row}
@@ -8,67 +8,55 @@ use Rattle.ti_rows.specs.Lists.{IsInRange}
 use Rattle.ti_conforms.specs.Sends.{Sends}
 use Rattle.ti_conforms.specs.Entries.{is_checked, string_of, EntryAgrees}
 use Rattle.ti_conforms.specs.Table.{Table, or_nothing, text_of, widening, resync, resync_of}
-use Rattle.ti_conforms.specs.Conforms.{Conforms, IsFit}
+use Rattle.ti_conforms.specs.Conforms.{IsFit}
+use Rattle.ti_conforms.specs.Unfit.{IsUnfit, cap_of_unfit}
+use Rattle.ti_conforms.specs.declared.fitness.Unfit.{Unfit}
 use Rattle.ti_rows.specs.Names.{cap_of}
 use Rattle.ti_rows.specs.Params.{params}
 use Rattle.vt_term.specs.Size.{IsSize}
-use Rattle.ti_checker.specs.No.{IsSoBy, IsFaulty, IsUnsendable, IsFirstCause, IsOfAll}
-use Rattle.ti_checker.specs.First.{EachWritten, IsFirstBy, IsOfRow}
-use Rattle.ti_checker.specs.Last.{OfAllSent, SettleRight, GoTogether, Escapes, LeavesPlain}
+use Rattle.ti_checker.specs.No.{IsFaulty, IsUnsendable, IsRowFault, cause_of_unfit, IsOfEntry, IsOfRow, Unnamed, GoTogether, IsNo, OfEntry, OfRow, OfAll, OutOfMemory}
+use Rattle.ti_checker.specs.First.{EachWritten}
+use Rattle.ti_checker.specs.Switches.{OfAllSent}
+use Rattle.ti_cert.specs.Clashes.{BeginsOpen}
 use Rattle.ti_checker.specs.declared.causes.Cause.{Cause}
 use Rattle.ti_checker.specs.declared.causes.Cause.TheVariants.{FlagOut, Absent, AcsByte, Parm, StaticRead, Unfinished, Stuck, NotTame, BadLook, WrongEffect, NotShown, TooLong, NoResync, NoMemory}
 use Rattle.ti_checker.specs.declared.causes.No.{No}
-use Rattle.ti_checker.specs.Resync.{IsPart, SendsResync, StaysOpen}
-use Rattle.ti_checker.proofs.Earliest.{first_told}
+use Rattle.ti_checker.specs.Resync.{IsPart, SendsResync}
 use Rattle.ti_checker.proofs.FitnessFacts.{within_before}
-use Rattle.ti_checker.proofs.Walks.{so_of}
 
-faulty_of_row : (rows cols : ℕ) (string : List ℕ) (row : Row) (cause : Cause) → IsFaulty rows cols string row cause → IsOfRow cause
-faulty_of_row rows cols string row FlagOut h = h
-faulty_of_row rows cols string row Absent h = h
-faulty_of_row rows cols string row AcsByte h = h
-faulty_of_row rows cols string row NoResync h = h
-faulty_of_row rows cols string row _ h = tt
+pub by_reason : (entry : Content) (refusal : No) (why : Unfit) → IsUnfit entry why → refusal.cap ≡ cap_of_unfit why → refusal.params.items ≡ [] → refusal.cause ≡ cause_of_unfit why → IsOfEntry entry refusal
+by_reason entry refusal why h cap none cause = record { why = why; first = h; about = record { cap_is = cap; no_params = none; cause_is = cause } }
 
-order_of : (entry : Content) (cause : Cause) → IsOfRow cause → IsFit entry → IsFirstCause entry cause
-order_of entry FlagOut o fit = absurd o
-order_of entry Absent o fit = absurd o
-order_of entry AcsByte o fit = absurd o
-order_of entry _ o fit = fit
+pub entry_no : (entry : Content) (rows cols : ℕ) (refusal : No) → IsOfEntry entry refusal → IsNo entry rows cols refusal
+entry_no entry rows cols refusal h = OfEntry h
+
+pub row_no : (entry : Content) (rows cols : ℕ) (refusal : No) → IsFit entry → IsOfRow entry rows cols refusal → IsNo entry rows cols refusal
+row_no entry rows cols refusal fit h = OfRow fit h
+
+pub memory_no : (entry : Content) (rows cols : ℕ) (refusal : No) → refusal.cause ≡ NoMemory → IsNo entry rows cols refusal
+memory_no entry rows cols refusal e = OutOfMemory e
+
+string_fault : (entry : Content) (rows cols : ℕ) (string : List ℕ) (row : Row) (cause : Cause) → string_of entry row ≡ Some string → IsFaulty rows cols string row cause → IsRowFault entry rows cols row cause
+string_fault entry rows cols string row TooLong there f = absurd f
+string_fault entry rows cols string row _ there f = record { string = string; there = there; faulty = f }
 
 -- a row that was looked at once more
-pub row_no : (entry : Content) (rows cols : ℕ) (refusal : No) (string : List ℕ) (row : Row) (cause : Cause) → IsFit entry → EachWritten entry rows cols → IsInRange rows cols row → is_checked entry row ≡ true
-    → string_of entry row ≡ Some string → refusal.cap ≡ cap_of row → refusal.params.items ≡ params row → refusal.cause ≡ cause → IsFaulty rows cols string row cause → IsOfAll entry rows cols refusal
-row_no entry rows cols refusal string row cause fit written range checked there cap given e f =
-    let faulty : IsFaulty rows cols string row refusal.cause = subst (λ (c : Cause). IsFaulty rows cols string row c) (sym e) f in
-    let of_row : IsOfRow refusal.cause = faulty_of_row rows cols string row refusal.cause faulty in
-    record {
-      so = so_of entry rows cols string row refusal checked there (record { row = row; cap_is = cap; params_are = given; range = range; same_order = refl; faulty = faulty });
-      order = order_of entry refusal.cause of_row fit;
-      first = first_told entry rows cols refusal (record { row = row; cap_is = cap; params_are = given; range = range; of_row = of_row; earlier = λ other r p. written.stands other r; within = within_before entry rows cols row written.within });
-    }
+pub row_again : (entry : Content) (rows cols : ℕ) (refusal : No) (string : List ℕ) (row : Row) (cause : Cause) → IsFit entry → EachWritten entry rows cols → IsInRange rows cols row → is_checked entry row ≡ true
+    → string_of entry row ≡ Some string → refusal.cap ≡ cap_of row → refusal.params.items ≡ params row → refusal.cause ≡ cause → IsFaulty rows cols string row cause → IsNo entry rows cols refusal
+row_again entry rows cols refusal string row cause fit written range checked there cap given e f = OfRow fit (record {
+  row = row;
+  cap_is = cap;
+  params_are = given;
+  range = range;
+  checked = checked;
+  fault = subst (λ (c : Cause). IsRowFault entry rows cols row c) (sym e) (string_fault entry rows cols string row cause there f);
+  earlier = λ other r p. written.stands other r;
+  within = within_before entry rows cols row written.within;
+})
 
-pub memory_no : (entry : Content) (rows cols : ℕ) (refusal : No) → IsFit entry → refusal.cause ≡ NoMemory → IsOfAll entry rows cols refusal
-memory_no entry rows cols refusal fit e = record {
-  so = subst (λ (c : Cause). IsSoBy entry rows cols refusal c) (sym e) tt;
-  order = subst (λ (c : Cause). IsFirstCause entry c) (sym e) fit;
-  first = subst (λ (c : Cause). IsFirstBy entry rows cols refusal c) (sym e) tt;
-}
-
-pub unnamed : (entry : Content) (rows cols : ℕ) (refusal : No) → IsFit entry → EachWritten entry rows cols → GoTogether entry rows cols → refusal.cause ≡ NotShown → IsOfAll entry rows cols refusal
-unnamed entry rows cols refusal fit written together e = record {
-  so = subst (λ (c : Cause). IsSoBy entry rows cols refusal c) (sym e) (inr written.stands);
-  order = subst (λ (c : Cause). IsFirstCause entry c) (sym e) fit;
-  first = subst (λ (c : Cause). IsFirstBy entry rows cols refusal c) (sym e) (inr (written, together));
-}
-
-pub open_no : (entry : Content) (rows cols : ℕ) (refusal : No) → IsFit entry → EachWritten entry rows cols → SettleRight entry rows cols → refusal.cap ≡ cap_of Clear → refusal.cause ≡ NoResync → StaysOpen entry rows cols
-    → IsOfAll entry rows cols refusal
-open_no entry rows cols refusal fit written settles cap e stays = record {
-  so = subst (λ (c : Cause). IsSoBy entry rows cols refusal c) (sym e) (cap, stays);
-  order = subst (λ (c : Cause). IsFirstCause entry c) (sym e) fit;
-  first = subst (λ (c : Cause). IsFirstBy entry rows cols refusal c) (sym e) (written, settles);
-}
+pub unnamed : (entry : Content) (rows cols : ℕ) (refusal : No) → IsFit entry → EachWritten entry rows cols → GoTogether entry rows cols → refusal.cap ≡ cap_of Clear → refusal.params.items ≡ [] → refusal.cause ≡ NotShown
+    → IsNo entry rows cols refusal
+unnamed entry rows cols refusal fit written together cap none cause = OfAll fit written (Unnamed (record { cap_is = cap; no_params = none; cause_is = cause }) together)
 
 -- why nothing is sent is a fault of the string
 pub unsendable : (rows cols : ℕ) (string : List ℕ) (row : Row) (cause : Cause) → IsUnsendable string row cause → IsFaulty rows cols string row cause
@@ -122,14 +110,11 @@ resync_text entry rows cols t agrees rows_are tall text p =
     (same_part entry rows cols t agrees Clear tt p.clear p.clears)
     ∙ sym p.joined
 
-pub none_open : (entry : Content) (rows cols : ℕ) → Conforms entry rows cols → StaysOpen entry rows cols → ⊥
-none_open entry rows cols c h = h.opens c.resyncs.rest (sym (resync_text entry rows cols c.table c.sends c.rows_are h.tall h.text h.sends) ∙ c.resyncs.escapes)
-
 pub whole_screen : (rows cols : ℕ) → IsSize rows cols → IsInRange rows cols (Csr 0 (rows - 1))
 whole_screen rows cols size = (omega (arith, size.0), omega (arith, size.0))
 
-pub escaped : (entry : Content) (rows cols : ℕ) (text rest : List ℕ) → IsSize rows cols → SendsResync entry rows text → text ≡ 27 ∷ rest → OfAllSent entry rows cols Escapes
-escaped entry rows cols text rest size p begins t h = record { rest = rest; begins = resync_text entry rows cols t h.sends h.rows_are (whole_screen rows cols size) text p ∙ begins }
+pub escaped : (entry : Content) (rows cols : ℕ) (text : List ℕ) → IsSize rows cols → SendsResync entry rows text → (rest : List ℕ) → text ≡ 27 ∷ rest → OfAllSent entry rows cols (λ t. BeginsOpen t → ⊥)
+escaped entry rows cols text size p rest begins t h never = never rest (resync_text entry rows cols t h.sends h.rows_are (whole_screen rows cols size) text p ∙ begins)
 
-pub go_together : (entry : Content) (rows cols : ℕ) (text rest : List ℕ) → IsSize rows cols → SettleRight entry rows cols → OfAllSent entry rows cols LeavesPlain → SendsResync entry rows text → text ≡ 27 ∷ rest → GoTogether entry rows cols
-go_together entry rows cols text rest size settles quiet p begins = record { settles = settles; escapes = escaped entry rows cols text rest size p begins; quiet = quiet }
+pub stays_open : (entry : Content) (rows cols : ℕ) (text : List ℕ) → IsSize rows cols → SendsResync entry rows text → ((rest : List ℕ) → text ≡ 27 ∷ rest → ⊥) → OfAllSent entry rows cols (λ t. BeginsOpen t)
+stays_open entry rows cols text size p never t h rest e = never rest (sym (resync_text entry rows cols t h.sends h.rows_are (whole_screen rows cols size) text p) ∙ e)

@@ -3,7 +3,6 @@ pub mod Cells
 pub mod Certificate
 pub mod First
 pub mod Ignored
-pub mod Last
 pub mod Limit
 pub mod No
 pub mod Notes

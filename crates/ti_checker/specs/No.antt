@@ -1,6 +1,6 @@
 -- When a no is so.
-use Rattle.std.specs.Prelude.{ℕ, ◌≡◌, ◌⊎◌, true, List, [], Some, None, Err}
-use Rattle.ti_caps.specs.Entry.{Content}
+use Rattle.std.specs.Prelude.{ℕ, ◌≡◌, true, is_some, List, [], Some, None, Err}
+use Rattle.ti_caps.specs.Entry.{Content, string_at}
 use Rattle.ti_parm.specs.Meaning.{meaning}
 use Rattle.ti_parm.specs.Value.{zeros}
 use Rattle.vt_term.specs.Text.{IsStuck, IsUnfinished, Splits}
@@ -11,9 +11,10 @@ use Rattle.vt_effects.specs.Record.{record_of}
 use Rattle.ti_rows.specs.Asked.{start_of, asked}
 use Rattle.ti_rows.specs.declared.rows.Looks.{Looks}
 use Rattle.ti_rows.specs.declared.rows.Row.{Row}
-use Rattle.ti_rows.specs.declared.rows.Row.TheVariants.{Clear}
-use Rattle.ti_rows.specs.Names.{cap_of, order}
+use Rattle.ti_rows.specs.declared.rows.Row.TheVariants.{Clear, Smacs, Rmacs}
+use Rattle.ti_rows.specs.Names.{cap_of}
 use Rattle.ti_rows.specs.Params.{params}
+use Rattle.ti_rows.specs.Starts.{IsFree}
 use Rattle.ti_rows.specs.Lists.{IsInRange}
 use Rattle.ti_conforms.specs.Looks.{is_alone}
 use Rattle.ti_conforms.specs.Sends.{Sends, ReadsStatic, values}
@@ -21,7 +22,13 @@ use Rattle.ti_conforms.specs.Entries.{acsc, is_checked, string_of}
 use Rattle.ti_conforms.specs.Conforms.{IsFit}
 use Rattle.ti_checker.specs.declared.probes.Probe.{Probe}
 use Rattle.ti_checker.specs.Breakage.{Breaks, IsShown}
-use Rattle.ti_conforms.specs.Unfit.{HasMisfit, LacksCap, is_flag_out, HasNoFlagOut, HasRequired}
+use Rattle.ti_conforms.specs.Unfit.{IsUnfit, cap_of_unfit}
+use Rattle.ti_conforms.specs.declared.fitness.Unfit.{Unfit}
+use Rattle.ti_conforms.specs.declared.fitness.Unfit.TheVariants as unfit
+use Rattle.ti_cert.specs.Clashes.{IsClash, GoesTogether}
+use Rattle.ti_cert.specs.Order.{Precedes}
+use Rattle.ti_cert.specs.declared.clashes.Clash.{Clash}
+use Rattle.ti_cert.specs.declared.clashes.Clash.TheVariants as clashes
 use Rattle.ti_cert.specs.declared.faults.AgreeFault.TheVariants as agreeing
 use Rattle.ti_cert.specs.declared.faults.CertFaultKind.TheVariants as kinds_of_cert
 use Rattle.ti_cert.specs.declared.faults.VerifyFault.{VerifyFault}
@@ -29,22 +36,10 @@ use Rattle.ti_cert.specs.declared.faults.VerifyFault.TheVariants.{Cert, Agree}
 use Rattle.ti_checker.specs.declared.causes.Cause.{Cause}
 use Rattle.ti_checker.specs.declared.causes.Cause.TheVariants.{FlagOut, Absent, AcsByte, Parm, StaticRead, Unfinished, Stuck, NotTame, BadLook, WrongEffect, NotShown, TooLong, NoResync, NoMemory}
 use Rattle.ti_checker.specs.declared.causes.No.{No}
-use Rattle.ti_checker.specs.First.{EachStands, IsFirstTold}
-use Rattle.ti_checker.specs.Limit.{Overflows, PassesLimit}
-use Rattle.ti_checker.specs.Resync.{StaysOpen}
-use Rattle.ti_checker.specs.Switches.{OfSent, Misswitches, StaysGraphic}
-
--- ---- what rules every certificate out
-
--- the capability that is the reason
-abbrev pub IsUnfitBy : Content → ℕ → Cause → Type 0
-IsUnfitBy entry cap FlagOut = is_flag_out entry cap ≡ true
-IsUnfitBy entry cap Absent = LacksCap entry cap
-IsUnfitBy entry cap AcsByte = (cap ≡ acsc) × HasMisfit entry
-IsUnfitBy entry cap _ = ⊥
-
-abbrev pub IsUnfit : Content → No → Type 0
-IsUnfit entry refusal = IsUnfitBy entry refusal.cap refusal.cause
+use Rattle.ti_checker.specs.First.{RowStands, EachWritten}
+use Rattle.ti_checker.specs.Limit.{Overflows, PassesLimit, StaysWithin}
+use Rattle.ti_checker.specs.Probes.{screen_of}
+use Rattle.ti_checker.specs.Switches.{OfSent, OfAllSent, RunsWrong}
 
 -- ---- what is wrong with a string for a row
 
@@ -132,59 +127,79 @@ pub record HasFaulty (entry : Content) (rows cols : ℕ) (refusal : No) : Type 0
   pub there : string_of entry row ≡ Some string
   pub faulty : IsFaulty rows cols string row refusal.cause
 
--- the certificate's lines up to that of a checked row, and `end`, are longer than a certificate may be
-pub record HasTooLong (entry : Content) (rows cols : ℕ) (refusal : No) : Type 0 where
+-- ---- a no of `check`, by cases
+
+-- the capability, without parameters, and what is wrong with it
+pub record IsAbout (refusal : No) (cap : ℕ) (cause : Cause) : Type 0 where
+  pub cap_is : refusal.cap ≡ cap
+  pub no_params : refusal.params.items ≡ []
+  pub cause_is : refusal.cause ≡ cause
+
+abbrev pub cause_of_unfit : Unfit → Cause
+cause_of_unfit (unfit.FlagOut cap) = FlagOut
+cause_of_unfit (unfit.Absent row) = Absent
+cause_of_unfit unfit.AcsByte = AcsByte
+
+-- The entry is at fault, whatever its strings send, and this is the first reason: of `xmc`, `hc`, `gn` and `os` the first
+-- that it has, then of `clear`, `cup` and `sgr0` the first that it hasn't, then `acsc`.
+pub record IsOfEntry (entry : Content) (refusal : No) : Type 0 where
+  pub why : Unfit
+  pub first : IsUnfit entry why
+  pub about : IsAbout refusal (cap_of_unfit why) (cause_of_unfit why)
+
+-- the string for a row is at fault
+pub record HasFaultyString (entry : Content) (rows cols : ℕ) (row : Row) (cause : Cause) : Type 0 where
+  pub string : List ℕ
+  pub there : string_of entry row ≡ Some string
+  pub faulty : IsFaulty rows cols string row cause
+
+-- or the lines up to the row's, with `end`, are longer than a certificate may be
+abbrev pub IsRowFault : Content → ℕ → ℕ → Row → Cause → Type 0
+IsRowFault entry rows cols row TooLong = PassesLimit entry rows cols row
+IsRowFault entry rows cols row cause = HasFaultyString entry rows cols row cause
+
+-- A checked row is at fault, and it is the first along the lines of a certificate: all that come before it stand, and their
+-- lines are not too long.
+pub record IsOfRow (entry : Content) (rows cols : ℕ) (refusal : No) : Type 0 where
   pub row : Row
   pub cap_is : refusal.cap ≡ cap_of row
   pub params_are : refusal.params.items ≡ params row
   pub range : IsInRange rows cols row
   pub checked : is_checked entry row ≡ true
-  pub passes : PassesLimit entry rows cols row
+  pub fault : IsRowFault entry rows cols row refusal.cause
+  pub earlier : (other : Row) → IsInRange rows cols other → Precedes rows cols other row → RowStands entry rows cols other
+  pub within : StaysWithin entry rows cols row
 
--- ---- a no
+-- what is wrong with all strings together, or that nothing is, is so of what the entry sends
+abbrev pub HasClash : Content → ℕ → ℕ → Clash → Type 0
+HasClash entry rows cols clash = OfSent entry rows cols (λ t. IsClash (is_some (string_at entry acsc)) t clash)
 
--- `smacs` or `rmacs` ends with the other set active from a start with a settled charset
-pub record HasMisswitch (entry : Content) (rows cols : ℕ) (refusal : No) (p : Probe) : Type 0 where
-  pub row : Row
-  pub cap_is : refusal.cap ≡ cap_of row
-  pub params_are : refusal.params.items ≡ params row
-  pub switches : OfSent entry rows cols (λ t. Misswitches rows cols row p t)
+abbrev pub GoTogether : Content → ℕ → ℕ → Type 0
+GoTogether entry rows cols = OfAllSent entry rows cols (λ t. GoesTogether (is_some (string_at entry acsc)) t)
 
--- `NoMemory` claims nothing. `BadLook`, `WrongEffect` and `NotShown` are of a row, or of all strings together where each is
--- right by itself: the graphic set can stay active where letters of line graphics can't be sent, which is told of `acsc`;
--- `smacs` or `rmacs` leaves the other set active; or nothing is claimed.
-abbrev pub IsSoBy : Content → ℕ → ℕ → No → Cause → Type 0
-IsSoBy entry rows cols refusal FlagOut = IsUnfit entry refusal
-IsSoBy entry rows cols refusal Absent = IsUnfit entry refusal
-IsSoBy entry rows cols refusal AcsByte = IsUnfit entry refusal
-IsSoBy entry rows cols refusal BadLook = HasFaulty entry rows cols refusal ⊎ ((refusal.cap ≡ acsc) × OfSent entry rows cols (λ t. StaysGraphic entry t))
-IsSoBy entry rows cols refusal (WrongEffect p) = HasFaulty entry rows cols refusal ⊎ HasMisswitch entry rows cols refusal p
-IsSoBy entry rows cols refusal NotShown = HasFaulty entry rows cols refusal ⊎ EachStands entry rows cols
-IsSoBy entry rows cols refusal NoResync = (refusal.cap ≡ cap_of Clear) × StaysOpen entry rows cols
-IsSoBy entry rows cols refusal TooLong = HasTooLong entry rows cols refusal
-IsSoBy entry rows cols refusal NoMemory = Unit {0}
-IsSoBy entry rows cols refusal _ = HasFaulty entry rows cols refusal
+-- The strings are at fault together, by the first clash: `smacs` or `rmacs` leaves the other set active, and does so from a
+-- start with that charset; the graphic set can stay active where letters of line graphics can't be sent, which is told of
+-- `acsc`; what leads out of an unknown state doesn't begin with ESC, which is told of `clear`. Where none of them is so,
+-- `NotShown` of `clear` claims nothing.
+pub data IsOfAll (entry : Content) (rows cols : ℕ) (refusal : No) : Type 0 where
+  AtSmacs : (p : Probe) → IsAbout refusal (cap_of Smacs) (WrongEffect p) → HasClash entry rows cols (clashes.Smacs p.charset) → OfSent entry rows cols (λ t. RunsWrong rows cols Smacs p t) → IsOfAll entry rows cols refusal
+  AtRmacs : (p : Probe) → IsAbout refusal (cap_of Rmacs) (WrongEffect p) → HasClash entry rows cols (clashes.Rmacs p.charset) → OfSent entry rows cols (λ t. RunsWrong rows cols Rmacs p t) → IsOfAll entry rows cols refusal
+  AtAcsc : IsAbout refusal acsc BadLook → HasClash entry rows cols clashes.Acsc → IsOfAll entry rows cols refusal
+  AtClear : IsAbout refusal (cap_of Clear) NoResync → HasClash entry rows cols clashes.Clear → IsOfAll entry rows cols refusal
+  Unnamed : IsAbout refusal (cap_of Clear) NotShown → GoTogether entry rows cols → IsOfAll entry rows cols refusal
 
-abbrev pub IsSo : Content → ℕ → ℕ → No → Type 0
-IsSo entry rows cols refusal = IsSoBy entry rows cols refusal refusal.cause
+-- The entry as a whole is at fault; or it is fit, and a row is; or each row stands with all lines short enough, and the
+-- strings are at fault together; or memory ran out, which claims nothing.
+pub data IsNo (entry : Content) (rows cols : ℕ) (refusal : No) : Type 0 where
+  OfEntry : IsOfEntry entry refusal → IsNo entry rows cols refusal
+  OfRow : IsFit entry → IsOfRow entry rows cols refusal → IsNo entry rows cols refusal
+  OfAll : IsFit entry → EachWritten entry rows cols → IsOfAll entry rows cols refusal → IsNo entry rows cols refusal
+  OutOfMemory : refusal.cause ≡ NoMemory → IsNo entry rows cols refusal
 
--- (Serves the code alone.) The same of a string whose capability has this first row.
-pub record IsFaultyOf (rows cols : ℕ) (string : List ℕ) (first : Row) (refusal : No) : Type 0 where
-  pub row : Row
-  pub cap_is : refusal.cap ≡ cap_of row
-  pub params_are : refusal.params.items ≡ params row
-  pub range : IsInRange rows cols row
-  pub same_order : order row ≡ order first
-  pub faulty : IsFaulty rows cols string row refusal.cause
-
--- (Serves the code alone.) The same of a row that is refused, by its string and the text before it, and by its entry.
+-- (Serves the code alone.) The same of a row that is refused, by its string and the text before it.
 abbrev pub IsRowRefused : ℕ → ℕ → List ℕ → Row → List ℕ → Cause → Type 0
 IsRowRefused rows cols string row text TooLong = Overflows rows cols string row text
 IsRowRefused rows cols string row text cause = IsFaulty rows cols string row cause
-
-abbrev pub IsRowFault : Content → ℕ → ℕ → No → Cause → Type 0
-IsRowFault entry rows cols refusal TooLong = HasTooLong entry rows cols refusal
-IsRowFault entry rows cols refusal _ = HasFaulty entry rows cols refusal
 
 -- a string with one of these may be right
 abbrev pub ClaimsNothing : Cause → Type 0
@@ -200,17 +215,9 @@ abbrev pub IsOutOfMemory : VerifyFault → Type 0
 IsOutOfMemory (Cert fault) = fault.kind ≡ kinds_of_cert.NoMemory
 IsOutOfMemory (Agree fault) = fault ≡ agreeing.NoMemory
 
--- ---- the order of causes
-
--- flags come first, then required strings, then alternate characters, then all else
-abbrev pub IsFirstCause : Content → Cause → Type 0
-IsFirstCause entry FlagOut = Unit {0}
-IsFirstCause entry Absent = HasNoFlagOut entry
-IsFirstCause entry AcsByte = HasRequired entry
-IsFirstCause entry _ = IsFit entry
-
--- ---- (Serves the code alone.) A no of all strings together: it is so, and the first.
-pub record IsOfAll (entry : Content) (rows cols : ℕ) (refusal : No) : Type 0 where
-  pub so : IsSo entry rows cols refusal
-  pub order : IsFirstCause entry refusal.cause
-  pub first : IsFirstTold entry rows cols refusal
+-- (Serves the code alone.) The no that names a clash: for `smacs` and `rmacs` with a start in which nothing but the charset matters
+abbrev pub IsToldAs : ℕ → ℕ → No → Clash → Type 0
+IsToldAs rows cols refusal (clashes.Smacs c) = (p : Probe) × IsAbout refusal (cap_of Smacs) (WrongEffect p) × (p.charset ≡ c) × IsFree rows cols (screen_of rows cols p)
+IsToldAs rows cols refusal (clashes.Rmacs c) = (p : Probe) × IsAbout refusal (cap_of Rmacs) (WrongEffect p) × (p.charset ≡ c) × IsFree rows cols (screen_of rows cols p)
+IsToldAs rows cols refusal clashes.Acsc = IsAbout refusal acsc BadLook
+IsToldAs rows cols refusal clashes.Clear = IsAbout refusal (cap_of Clear) NoResync

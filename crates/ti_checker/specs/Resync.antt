@@ -1,10 +1,8 @@
--- An entry whose strings lead a terminal out of no unknown state, since a sequence that was cut off stays open
--- (terminfo(5), "Initialization"; ECMA-48 5.4).
-use Rattle.std.specs.Prelude.{ℕ, ◌-◌, ◌≡◌, true, false, List, [], ◌∷◌, ◌++◌, Some}
+-- What an entry sends to lead a terminal out of an unknown state (terminfo(5), "Initialization" and "Line Graphics").
+use Rattle.std.specs.Prelude.{ℕ, ◌-◌, ◌≡◌, true, false, List, [], ◌++◌, Some}
 use Rattle.ti_caps.specs.Entry.{Content}
 use Rattle.ti_rows.specs.declared.rows.Row.{Row}
 use Rattle.ti_rows.specs.declared.rows.Row.TheVariants.{Clear, Csr, Smcup, Enacs, Sgr0, Rmacs}
-use Rattle.ti_rows.specs.Lists.{IsInRange}
 use Rattle.ti_conforms.specs.Sends.{Sends}
 use Rattle.ti_conforms.specs.Entries.{is_checked, string_of}
 
@@ -13,6 +11,8 @@ pub record SendsFor (entry : Content) (row : Row) (bytes : List ℕ) : Type 0 wh
   pub string : List ℕ
   pub there : string_of entry row ≡ Some string
   pub sends : Sends string row bytes
+
+-- ---- (Serves the code alone.)
 
 -- what the entry sends for the row, nothing where it isn't checked
 pub record IsPart (entry : Content) (row : Row) (bytes : List ℕ) : Type 0 where
@@ -34,10 +34,3 @@ pub record SendsResync (entry : Content) (rows : ℕ) (text : List ℕ) : Type 0
   pub clear : List ℕ
   pub clears : IsPart entry Clear clear
   pub joined : text ≡ smcup ++ (enacs ++ (sgr0 ++ (rmacs ++ (csr ++ clear))))
-
--- they don't begin with ESC
-pub record StaysOpen (entry : Content) (rows cols : ℕ) : Type 0 where
-  pub tall : IsInRange rows cols (Csr 0 (rows - 1))
-  pub text : List ℕ
-  pub sends : SendsResync entry rows text
-  pub opens : (rest : List ℕ) → text ≡ 27 ∷ rest → ⊥

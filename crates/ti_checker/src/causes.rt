@@ -101,6 +101,7 @@ impl No {
     /// What is wrong with a capability, whatever its parameters.
     pub(crate) fn of(cap: Cap, cause: Cause) -> No
         ensures cap { result.cap ≡ cap }
+        ensures params { result.params.items ≡ [] }
         ensures cause { result.cause ≡ cause }
     {
         No {

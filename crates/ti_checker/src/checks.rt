@@ -3,16 +3,14 @@
 ghost use Rattle.std.specs.Prelude.{◌≡◌, IfErr, IfOk, OnOk, true};
 ghost use Rattle.ti_cert.specs.Basic.{IsBasic, basic_text_of};
 ghost use Rattle.ti_checker.specs.Certificate.{IsCertificateOf};
-ghost use Rattle.ti_checker.specs.First.{EachWritten, IsFirstTold};
-ghost use Rattle.ti_checker.specs.Last.{GoTogether};
+ghost use Rattle.ti_checker.specs.First.{EachWritten};
 ghost use Rattle.ti_checker.specs.No as spec;
 ghost use Rattle.ti_conforms.specs.Conforms.{Conforms, IsFit};
 
 use crate::causes::{Cause, No};
 use crate::drafts::draft_of;
 use crate::fitness::check_fitness;
-use crate::resync::check_resync;
-use crate::switches::check_charsets;
+use crate::switches::check_together;
 use std::alloc::Global;
 use ti_caps::Entry;
 use ti_cert::{AgreeFault, CertFaultKind, VerifyFault, agrees, audit};
@@ -36,25 +34,14 @@ fn judge_text(alloc: Global, entry: &Entry, size: Size, text: &[u8]) -> Result<(
     }
 }
 
-/// Judges all strings together, of which each is right by itself.
-fn judge_together(alloc: Global, entry: &Entry, size: Size) -> Result<(), No>
-    requires fit { IsFit entry.now }
-    requires written { EachWritten entry.now size.rows size.cols }
-    ensures right { OnOk result (GoTogether entry.now size.rows size.cols) }
-    ensures refused { IfErr result (spec.IsOfAll entry.now size.rows size.cols) }
-{
-    check_charsets(alloc, entry, size)?;
-    check_resync(alloc, entry, size)
-}
-
 /// What is wrong with all strings together, of which each is right by itself.
 #[tactic(auto, using(crate::proofs::Together::unnamed))]
 fn no_together(alloc: Global, entry: &Entry, size: Size) -> No
     requires fit { IsFit entry.now }
     requires written { EachWritten entry.now size.rows size.cols }
-    ensures { spec.IsOfAll entry.now size.rows size.cols result }
+    ensures { spec.IsNo entry.now size.rows size.cols result }
 {
-    match judge_together(alloc, entry, size) {
+    match check_together(alloc, entry, size) {
         Ok(()) => No::of(Row::Clear.cap(), Cause::NotShown),
         Err(no) => no,
     }
@@ -75,7 +62,7 @@ fn ran_out(fault: &VerifyFault) -> bool
 fn unverified(alloc: Global, entry: &Entry, size: Size, fault: &VerifyFault) -> No
     requires fit { IsFit entry.now }
     requires written { EachWritten entry.now size.rows size.cols }
-    ensures of_all { spec.IsOfAll entry.now size.rows size.cols result }
+    ensures of_all { spec.IsNo entry.now size.rows size.cols result }
     ensures memory { spec.IsOutOfMemory fault.now → result.cause ≡ Cause.NoMemory }
 {
     if ran_out(fault) {
@@ -89,9 +76,10 @@ fn unverified(alloc: Global, entry: &Entry, size: Size, fault: &VerifyFault) -> 
 /// judged as `ti_cert::verify` judges it.
 ///
 /// # Errors
-/// The first capability and parameters for which there is none, in the order of a certificate's lines,
-/// with the cause. Every cause but `NotTame`, `NotShown` and `NoMemory` states a fault of the entry, and
+/// What is wrong first: with the entry as a whole, along the lines of a certificate, or with all strings
+/// together. Every cause but `NotTame`, `NotShown` and `NoMemory` states a fault of the entry, and
 /// `TooLong` that its certificate would pass the limit.
+#[tactic(auto, using(crate::proofs::Together::entry_no))]
 pub fn check(alloc: Global, entry: &Entry, size: Size) -> Result<Vec<u8>, No>
     ensures conforms { IfOk result (λ text. Conforms entry.now size.rows size.cols) }
     ensures certificate { IfOk result (λ text. IsCertificateOf entry.now size.rows size.cols text.items) }
@@ -99,9 +87,7 @@ pub fn check(alloc: Global, entry: &Entry, size: Size) -> Result<Vec<u8>, No>
         → IfOk result (λ text. text.items ≡ basic_text_of entry.now size.rows size.cols) }
     ensures basic_refused { IsBasic entry.now size.rows size.cols
         → IfErr result (λ refusal. refusal.cause ≡ Cause.NoMemory) }
-    ensures refused { IfErr result (λ refusal. spec.IsSo entry.now size.rows size.cols refusal) }
-    ensures order { IfErr result (λ refusal. spec.IsFirstCause entry.now refusal.cause) }
-    ensures first { IfErr result (IsFirstTold entry.now size.rows size.cols) }
+    ensures refused { IfErr result (spec.IsNo entry.now size.rows size.cols) }
 {
     check_fitness(entry)?;
     let text = draft_of(alloc, entry, size)?;

@@ -12,6 +12,7 @@ ghost use Rattle.ti_lines.specs.RowLines.{line_text};
 ghost use Rattle.ti_lines.specs.Texts.{acsc_lines, ended};
 ghost use Rattle.ti_rows.specs.Lists.{IsFirst, IsInRange};
 ghost use Rattle.ti_rows.specs.Names.{order};
+ghost use Rattle.ti_conforms.specs.Conforms.{IsFit};
 ghost use Rattle.ti_conforms.specs.Entries as entries;
 
 use crate::causes::{Cause, No};
@@ -153,8 +154,7 @@ fn push_cap(
         draft.old.text.items }
     ensures drafted { OnOk result (told.IsDrafted entry.now size.rows size.cols (λ row. order row < order first + 1)
         draft.new.text.items) }
-    ensures fault { IfErr result (λ refusal. spec.IsRowFault entry.now size.rows size.cols refusal refusal.cause) }
-    ensures first { IfErr result (told.IsFirstRow entry.now size.rows size.cols) }
+    ensures refused { IfErr result (spec.IsOfRow entry.now size.rows size.cols) }
 {
     let Some(string) = checked_string(entry, first) else {
         return Ok(());
@@ -184,8 +184,7 @@ fn push_at(
     requires drafted { told.IsDrafted entry.now size.rows size.cols (λ row. order row < place) draft.old.text.items }
     ensures drafted { OnOk result (told.IsDrafted entry.now size.rows size.cols (λ row. order row < place + 1)
         draft.new.text.items) }
-    ensures fault { IfErr result (λ refusal. spec.IsRowFault entry.now size.rows size.cols refusal refusal.cause) }
-    ensures first { IfErr result (told.IsFirstRow entry.now size.rows size.cols) }
+    ensures refused { IfErr result (spec.IsOfRow entry.now size.rows size.cols) }
 {
     match Row::first(place) {
         Some(first) => push_cap(alloc, entry, first, size, draft),
@@ -198,8 +197,7 @@ fn push_caps(alloc: Global, entry: &Entry, size: Size, draft: &mut Draft) -> Res
     requires { told.IsDrafted entry.now size.rows size.cols (λ row. order row < 0) draft.old.text.items }
     ensures drafted { OnOk result (told.IsDrafted entry.now size.rows size.cols (λ row. order row < 42)
         draft.new.text.items) }
-    ensures fault { IfErr result (λ refusal. spec.IsRowFault entry.now size.rows size.cols refusal refusal.cause) }
-    ensures first { IfErr result (told.IsFirstRow entry.now size.rows size.cols) }
+    ensures refused { IfErr result (spec.IsOfRow entry.now size.rows size.cols) }
 {
     for place in 0..42 {
         push_at(alloc, entry, place, size, draft)?;
@@ -217,15 +215,16 @@ fn finished(draft: Draft) -> Result<Vec<u8>, AllocError>
     Ok(text)
 }
 
-/// The certificate's text of the entry's lines, each of which was judged.
+/// The certificate's text of the lines of a fit entry, each of which was judged.
+#[tactic(auto, using(crate::proofs::Together::memory_no))]
 pub(crate) fn draft_of(alloc: Global, entry: &Entry, size: Size) -> Result<Vec<u8>, No>
+    requires { IsFit entry.now }
     ensures written { IfOk result (λ _. told.EachWritten entry.now size.rows size.cols) }
     ensures within { IfOk result (λ text. length text.items ≤ limit) }
     ensures basic_text { IsBasic entry.now size.rows size.cols
         → IfOk result (λ text. text.items ≡ basic_text_of entry.now size.rows size.cols) }
     ensures basic { IsBasic entry.now size.rows size.cols → IfErr result (λ refusal. refusal.cause ≡ Cause.NoMemory) }
-    ensures so { IfErr result (λ refusal. spec.IsSo entry.now size.rows size.cols refusal) }
-    ensures first { IfErr result (told.IsFirstTold entry.now size.rows size.cols) }
+    ensures refused { IfErr result (spec.IsNo entry.now size.rows size.cols) }
 {
     let Ok(mut draft) = Draft::new(alloc, entry, size) else {
         return Err(no_memory());

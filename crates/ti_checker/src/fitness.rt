@@ -1,26 +1,35 @@
 //! Whether any certificate can be for an entry.
 
-ghost use Rattle.std.specs.Prelude.{IfErr, OnOk};
+ghost use Rattle.std.specs.Prelude.{◌≡◌, [], IfErr, OnOk};
 ghost use Rattle.ti_checker.specs.No as spec;
 ghost use Rattle.ti_conforms.specs.Conforms.{IsFit};
+ghost use Rattle.ti_conforms.specs.Unfit.{cap_of_unfit};
 
 use crate::causes::{Cause, No};
 use ti_caps::Entry;
 use ti_conforms::{Unfit, first_unfit};
 
+/// The no of an entry that is unfit in this way.
+fn unfit_no(why: Unfit) -> No
+    ensures cap { result.cap ≡ cap_of_unfit why }
+    ensures params { result.params.items ≡ [] }
+    ensures cause { result.cause ≡ spec.cause_of_unfit why }
+{
+    match why {
+        Unfit::FlagOut(_) => No::of(why.cap(), Cause::FlagOut),
+        Unfit::Absent(_) => No::of(why.cap(), Cause::Absent),
+        Unfit::AcsByte => No::of(why.cap(), Cause::AcsByte),
+    }
+}
+
 /// Refuses an entry of which no certificate can be, whatever its strings send.
+#[tactic(auto, using(crate::proofs::Together::by_reason))]
 pub(crate) fn check_fitness(entry: &Entry) -> Result<(), No>
     ensures fit { OnOk result (IsFit entry.now) }
-    ensures refused { IfErr result (λ refusal. spec.IsUnfit entry.now refusal) }
-    ensures order { IfErr result (λ refusal. spec.IsFirstCause entry.now refusal.cause) }
+    ensures refused { IfErr result (spec.IsOfEntry entry.now) }
 {
-    let Some(why) = first_unfit(entry) else {
-        return Ok(());
-    };
-    let cause = match why {
-        Unfit::FlagOut(_) => Cause::FlagOut,
-        Unfit::Absent(_) => Cause::Absent,
-        Unfit::AcsByte => Cause::AcsByte,
-    };
-    Err(No::of(why.cap(), cause))
+    match first_unfit(entry) {
+        Some(why) => Err(unfit_no(why)),
+        None => Ok(()),
+    }
 }

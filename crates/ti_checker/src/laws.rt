@@ -7,7 +7,7 @@ ghost use Rattle.ti_caps.specs.Entry.{Content};
 ghost use Rattle.ti_checker.specs.Breakage.{ShownBreaks};
 ghost use Rattle.ti_checker.specs.Certificate.{BasicCertificate, IsCertificateOf};
 ghost use Rattle.ti_checker.specs.Ignored.{is_unknown_mode, is_unknown_rendition, is_whole_sequence};
-ghost use Rattle.ti_checker.specs.No.{ClaimsNothing, IsSo};
+ghost use Rattle.ti_checker.specs.No.{ClaimsNothing, IsNo};
 ghost use Rattle.ti_checker.specs.Notes.{EntryNotes};
 ghost use Rattle.ti_checker.specs.declared.causes.Cause.TheVariants.{TooLong};
 ghost use Rattle.ti_checker.specs.declared.causes.No.{No};
@@ -54,9 +54,9 @@ pub fn one_list_of_notes()
 /// `NotTame`, `NotShown` or `NoMemory`. `TooLong` says nothing of what the entry's strings do, but that
 /// there is no certificate of it.
 pub fn no_excludes_yes()
-    ensures conforms { (entry : Content) (rows cols : ℕ) (refusal : No) → IsSo entry rows cols refusal
+    ensures conforms { (entry : Content) (rows cols : ℕ) (refusal : No) → IsNo entry rows cols refusal
         → refusal.cause ≢ TooLong → Conforms entry rows cols → ClaimsNothing refusal.cause }
-    ensures too_long { (entry : Content) (rows cols : ℕ) (refusal : No) (text : List ℕ) → IsSo entry rows cols refusal
+    ensures too_long { (entry : Content) (rows cols : ℕ) (refusal : No) (text : List ℕ) → IsNo entry rows cols refusal
         → refusal.cause ≡ TooLong → IsCertificateOf entry rows cols text → ⊥ }
 {}
 

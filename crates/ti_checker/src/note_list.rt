@@ -1,7 +1,7 @@
 //! What the terminal ignores of an entry's strings.
 
 ghost use Rattle.std.specs.Prelude.{◌≡◌, ◌++◌, ◌∷◌, [], IfErr, IfOk, OnOk, true};
-ghost use Rattle.ti_checker.specs.No.{IsSo};
+ghost use Rattle.ti_checker.specs.No.{HasFaulty};
 ghost use Rattle.ti_checker.specs.Notes as spec;
 ghost use Rattle.ti_rows.specs.Names.{cap_of};
 
@@ -112,7 +112,7 @@ fn push_notes_at(
 /// fault as `check` names it: `Parm`, `StaticRead`, `Unfinished` or `Stuck`; and `NoMemory`.
 pub fn notes(alloc: Global, entry: &Entry, size: Size) -> Result<Vec<CheckNote>, No>
     ensures noted { IfOk result (λ notes. spec.EntryNotes entry.now notes.items) }
-    ensures refused { IfErr result (λ refusal. IsSo entry.now size.rows size.cols refusal) }
+    ensures refused { IfErr result (HasFaulty entry.now size.rows size.cols) }
     ensures first { IfErr result (λ refusal. spec.IsFirstUnsent entry.now refusal) }
 {
     let mut notes = Vec::new(alloc);

@@ -1,14 +1,15 @@
 //! What leads a terminal out of an unknown state.
 
-ghost use Rattle.std.specs.Prelude.{◌≡◌, ◌∷◌, ℕ, List, IfErr, IfOk, OnOk, false, true};
+ghost use Rattle.std.specs.Prelude.{◌≡◌, ◌∷◌, ℕ, List, IfErr, IfOk, false, true};
 ghost use Rattle.ti_checker.specs.First.{EachWritten};
-ghost use Rattle.ti_checker.specs.Last as last;
-ghost use Rattle.ti_checker.specs.No.{IsOfAll};
+ghost use Rattle.ti_checker.specs.No.{IsNo};
+ghost use Rattle.ti_cert.specs.Clashes.{BeginsOpen};
 ghost use Rattle.ti_checker.specs.Resync as spec;
+ghost use Rattle.ti_checker.specs.Switches.{OfAllSent};
 ghost use Rattle.ti_conforms.specs.Conforms.{IsFit};
 ghost use Rattle.ti_rows.specs.Lists.{IsInRange};
 
-use crate::causes::{Cause, No};
+use crate::causes::No;
 use crate::sends::{checked_string, sent};
 use std::alloc::Global;
 use ti_caps::Entry;
@@ -21,7 +22,7 @@ fn sent_for(alloc: Global, entry: &Entry, row: Row, size: Size) -> Result<Vec<u8
     requires written { EachWritten entry.now size.rows size.cols }
     requires range { IsInRange size.rows size.cols row }
     ensures part { IfOk result (λ bytes. spec.IsPart entry.now row bytes.items) }
-    ensures refused { IfErr result (IsOfAll entry.now size.rows size.cols) }
+    ensures refused { IfErr result (IsNo entry.now size.rows size.cols) }
 {
     match checked_string(entry, row) {
         Some(string) => match sent(alloc, string, row) {
@@ -38,7 +39,7 @@ fn resync_of(alloc: Global, entry: &Entry, size: Size) -> Result<Vec<u8>, No>
     requires fit { IsFit entry.now }
     requires written { EachWritten entry.now size.rows size.cols }
     ensures sends { IfOk result (λ text. spec.SendsResync entry.now size.rows text.items) }
-    ensures refused { IfErr result (IsOfAll entry.now size.rows size.cols) }
+    ensures refused { IfErr result (IsNo entry.now size.rows size.cols) }
 {
     let enacs = sent_for(alloc, entry, Row::Enacs, size)?;
     let sgr0 = sent_for(alloc, entry, Row::Sgr0, size)?;
@@ -61,18 +62,14 @@ fn begins_with_escape(text: &[u8]) -> bool
     matches!(text, [27, ..])
 }
 
-/// That what the entry sends to lead a terminal out of an unknown state begins with ESC.
-pub(crate) fn check_resync(alloc: Global, entry: &Entry, size: Size) -> Result<(), No>
+/// Whether what the entry sends to lead a terminal out of an unknown state begins with ESC.
+pub(crate) fn escapes(alloc: Global, entry: &Entry, size: Size) -> Result<bool, No>
     requires fit { IsFit entry.now }
     requires written { EachWritten entry.now size.rows size.cols }
-    requires settles { last.SettleRight entry.now size.rows size.cols }
-    ensures right { OnOk result (last.GoTogether entry.now size.rows size.cols) }
-    ensures refused { IfErr result (IsOfAll entry.now size.rows size.cols) }
+    ensures yes { IfOk result (λ begins. begins ≡ true → OfAllSent entry.now size.rows size.cols (λ t. BeginsOpen t → ⊥)) }
+    ensures no { IfOk result (λ begins. begins ≡ false → OfAllSent entry.now size.rows size.cols (λ t. BeginsOpen t)) }
+    ensures refused { IfErr result (IsNo entry.now size.rows size.cols) }
 {
     let text = resync_of(alloc, entry, size)?;
-    if begins_with_escape(&text) {
-        Ok(())
-    } else {
-        Err(No::of(Row::Clear.cap(), Cause::NoResync))
-    }
+    Ok(begins_with_escape(&text))
 }

@@ -2,7 +2,6 @@
 use Rattle.std.specs.Prelude.{◌≡◌, ◌≢◌, ◌⊎◌, ℕ, List, [], Option, Some, None}
 use Rattle.std.specs.String.{string_bytes}
 use Rattle.ti_caps.specs.Entry.{Content}
-use Rattle.ti_checker.specs.No as checker
 use Rattle.ti_checker.specs.Notes.{EntryNotes, IsFirstUnsent, notes_text}
 use Rattle.ti_checker.specs.declared.causes.Cause.TheVariants as causes
 use Rattle.ti_checker.specs.declared.causes.No.{No}
@@ -17,11 +16,6 @@ use Rattle.ti_verdicts.specs.Refusals.{TellsNo}
 use Rattle.ti_verdicts.specs.Verifications.{FailsAtEntry}
 use Rattle.ti_requests.specs.declared.request.CheckWords.{CheckWords}
 use denote.Ref.{Bor}
-
--- a no of the checker is so, and of a cause that comes first
-pub record IsNo (entry : Content) (rows cols : ℕ) (refusal : No) : Type 0 where
-  pub so : checker.IsSo entry rows cols refusal
-  pub first : checker.IsFirstCause entry refusal.cause
 
 -- how the storing of a text at a path ends: where it fails, all files are as before
 abbrev pub StoresText : List ℕ → List ℕ → Held → Held → Option Failure → Type 0

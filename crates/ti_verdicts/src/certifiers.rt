@@ -4,7 +4,7 @@ ghost use Rattle.std.specs.Prelude.{ℕ, List, IfErr, IfOk};
 ghost use Rattle.ti_caps.specs.Entry.{Content};
 ghost use Rattle.ti_checker.specs.declared.causes.No.{No};
 ghost use Rattle.ti_conforms.specs.Conforms.{Conforms};
-ghost use Rattle.ti_verdicts.specs.Checks.{IsNo};
+ghost use Rattle.ti_checker.specs.No.{IsNo};
 
 use std::alloc::Global;
 use ti_caps::Entry;
@@ -28,7 +28,8 @@ pub trait Certifier {
         ensures refuses { IfErr result (λ refusal. refuses self.now entry.now size.rows size.cols refusal) };
 }
 
-/// The checker: an entry for which it writes a certificate conforms, and each of its noes is true.
+/// The checker: an entry for which it writes a certificate conforms, and each of its noes is true and
+/// the first.
 #[derive(Clone, Copy)]
 pub struct Checker;
 

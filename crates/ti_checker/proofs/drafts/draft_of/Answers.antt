@@ -1,8 +1,10 @@
 use Rattle.std.proofs.Common.{◌≡◌, ◌∙◌, sym, subst}
 use Rattle.std.proofs.lemmas.Result.{err_from_is_err_and}
+use Rattle.ti_checker.specs.No.{IsNo}
 use Rattle.ti_checker.specs.declared.causes.Cause.TheVariants.{NoMemory}
 use Rattle.ti_checker.proofs.BasicDrafts.{draft_is_basic, only_memory}
 use Rattle.ti_checker.proofs.FitnessFacts.{each_written}
+use Rattle.ti_checker.proofs.Together.{row_no}
 use Rattle.ti_checker.proofs.drafts.draft_of.Goals as goal
 
 pub returns-in-Ok-finished-clause-written : goal.returns-in-Ok-finished-clause-written
@@ -14,4 +16,9 @@ returns-in-Ok-finished-clause-basic_text c = λ basic. c.in-Ok-finished.ensures 
 pub returns-in_err-push_caps-clause-basic : goal.returns-in_err-push_caps-clause-basic
 returns-in_err-push_caps-clause-basic c = λ basic.
     let e = err_from_is_err_and c.from_residual.result c.from_residual.ensures.1 in
-    rw e.1 (subst (λ r. r.cause ≡ NoMemory) (sym e.2) (only_memory c.args.entry.now c.args.size.rows c.args.size.cols c.in_err-push_caps.field-0.0 c.args.size.limits basic c.in_err-push_caps.ensures.fault))
+    rw e.1 (subst (λ r. r.cause ≡ NoMemory) (sym e.2) (only_memory c.args.entry.now c.args.size.rows c.args.size.cols c.in_err-push_caps.field-0.0 c.args.size.limits basic c.in_err-push_caps.ensures.refused))
+
+pub returns-in_err-push_caps-clause-refused : goal.returns-in_err-push_caps-clause-refused
+returns-in_err-push_caps-clause-refused c =
+    let e = err_from_is_err_and c.from_residual.result c.from_residual.ensures.1 in
+    rw e.1 (subst (λ r. IsNo c.args.entry.now c.args.size.rows c.args.size.cols r) (sym e.2) (row_no c.args.entry.now c.args.size.rows c.args.size.cols c.in_err-push_caps.field-0.0 c.requires c.in_err-push_caps.ensures.refused))

@@ -4,7 +4,7 @@ use Rattle.ti_rows.proofs.ListFacts.{next_follows}
 use Rattle.ti_conforms.proofs.Walks.{nearer}
 use Rattle.ti_checker.specs.No.{IsRowRefused}
 use Rattle.ti_checker.specs.declared.causes.Cause.{Cause}
-use Rattle.ti_checker.proofs.Earliest.{one_more, before_next, after_last, unchecked_cap, first_row, row_fault}
+use Rattle.ti_checker.proofs.Earliest.{one_more, before_next, after_last, unchecked_cap, refused_row}
 use Rattle.ti_checker.proofs.Walks.{same_string}
 use Rattle.ti_conforms.proofs.Matches.{same_checked}
 use Rattle.ti_checker.proofs.drafts.push_cap.Goals as goal
@@ -13,14 +13,10 @@ pub returns-in_default-clause-drafted : goal.returns-in_default-clause-drafted
 returns-in_default-clause-drafted c = unchecked_cap c.args.entry.now c.args.size.rows c.args.size.cols (order c.args.first) c.args.first c.args.draft.now.text.items refl
     c.in_default.ensures.none c.requires.drafted
 
-pub returns-in-Err-clause-fault : goal.returns-in-Err-clause-fault
-returns-in-Err-clause-fault c = row_fault c.args.entry.now c.args.size.rows c.args.size.cols c.in-Some.string.now c.loop-cause.row c.loop-cause.draft.text.items c.at.result c.loop-cause.invariant.range (same_checked c.args.entry.now c.loop-cause.row c.args.first c.loop-cause.invariant.same ∙ c.in-Some.ensures.checked)
+pub returns-in-Err-clause-refused : goal.returns-in-Err-clause-refused
+returns-in-Err-clause-refused c = refused_row c.args.entry.now c.args.size.rows c.args.size.cols c.in-Some.string.now c.loop-cause.row c.loop-cause.draft.text.items c.at.result c.loop-cause.invariant.range (same_checked c.args.entry.now c.loop-cause.row c.args.first c.loop-cause.invariant.same ∙ c.in-Some.ensures.checked)
     (same_string c.args.entry.now c.loop-cause.row c.args.first c.loop-cause.invariant.same ∙ c.in-Some.ensures.there) c.at.ensures.cap c.at.ensures.params (subst (λ (cause : Cause). IsRowRefused c.args.size.rows c.args.size.cols c.in-Some.string.now c.loop-cause.row c.loop-cause.draft.text.items cause) (sym c.at.ensures.cause) c.in-Err.ensures.refused)
     c.loop-cause.invariant.drafted
-
-pub returns-in-Err-clause-first : goal.returns-in-Err-clause-first
-returns-in-Err-clause-first c = first_row c.args.entry.now c.args.size.rows c.args.size.cols c.in-Some.string.now c.loop-cause.row c.loop-cause.draft.text.items c.at.result c.loop-cause.invariant.range c.at.ensures.cap c.at.ensures.params
-    (subst (λ (cause : Cause). IsRowRefused c.args.size.rows c.args.size.cols c.in-Some.string.now c.loop-cause.row c.loop-cause.draft.text.items cause) (sym c.at.ensures.cause) c.in-Err.ensures.refused) c.loop-cause.invariant.drafted
 
 pub loop-cause-smaller : goal.loop-cause-smaller
 loop-cause-smaller c =

@@ -1,8 +1,8 @@
 use Rattle.std.proofs.Common.{[], sym, subst}
 use Rattle.std.proofs.lemmas.Result.{err_from_is_err_and}
-use Rattle.ti_checker.specs.No.{IsSo}
+use Rattle.ti_checker.specs.No.{HasFaulty}
 use Rattle.ti_checker.specs.Notes.{RowsNotes, IsFirstUnsent}
-use Rattle.ti_checker.proofs.Additions.{no_rows, rows_more, so_unsent, first_unsent}
+use Rattle.ti_checker.proofs.Additions.{no_rows, rows_more, faulty_unsent, first_unsent}
 use Rattle.ti_checker.proofs.note_list.notes.Goals as goal
 
 pub loop-place-init : goal.loop-place-init
@@ -14,7 +14,7 @@ loop-place-preserved c = rows_more c.args.entry.now c.loop-place.place c.loop-pl
 pub returns-in_err-push_notes_at-clause-refused : goal.returns-in_err-push_notes_at-clause-refused
 returns-in_err-push_notes_at-clause-refused c =
     let e = err_from_is_err_and c.from_residual.result c.from_residual.ensures.1 in
-    rw e.1 (subst (λ r. IsSo c.args.entry.now c.args.size.rows c.args.size.cols r) (sym e.2) (so_unsent c.args.entry.now c.args.size.rows c.args.size.cols c.loop-place.place c.in_err-push_notes_at.field-0.0 c.args.size.limits c.in_err-push_notes_at.ensures.unsent))
+    rw e.1 (subst (λ r. HasFaulty c.args.entry.now c.args.size.rows c.args.size.cols r) (sym e.2) (faulty_unsent c.args.entry.now c.args.size.rows c.args.size.cols c.loop-place.place c.in_err-push_notes_at.field-0.0 c.args.size.limits c.in_err-push_notes_at.ensures.unsent))
 
 pub returns-in_err-push_notes_at-clause-first : goal.returns-in_err-push_notes_at-clause-first
 returns-in_err-push_notes_at-clause-first c =

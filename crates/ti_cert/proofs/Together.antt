@@ -1,0 +1,279 @@
+-- What was found wrong with all lines together is so by the terminal's own tokens, and so is that nothing is.
+use Rattle.std.proofs.Common.{◌≡◌, inl, inr, ◌-◌, ◌&&◌, ℕ, Bool, true, false, not, List, [], ◌∷◌, ◌++◌, Option, Some, None, refl, sym, ap, subst, ◌∙◌}
+use Rattle.std.specs.Prelude.{is_some}
+use Rattle.std.proofs.lemmas.Bool.{true≢false, and_right}
+use Rattle.std.proofs.lemmas.Option.{same_Some, none-some}
+use Rattle.vt_term.specs.Function.{function_of}
+use Rattle.vt_term.specs.Screen.{Charset, is_graphic}
+use Rattle.vt_term.specs.Text.{Splits}
+use Rattle.vt_term.proofs.Splits.{one_splitting, splits_append, empty_splits}
+use Rattle.vt_effects.specs.declared.effects.Sets.{Sets}
+use Rattle.vt_effects.specs.declared.effects.Switch.{Switch}
+use Rattle.vt_effects.specs.declared.effects.Switch.TheVariants as switches
+use Rattle.vt_effects.specs.Effect.{designated, switched}
+use Rattle.ti_conforms.specs.declared.reach.Reach.{Reach}
+use Rattle.ti_conforms.specs.declared.closures.Charsets.{Charsets}
+use Rattle.ti_conforms.specs.Charsets.{charset_after, charset_over, can_have, IsAmong, Reached, AtReset, AfterToken}
+use Rattle.ti_conforms.specs.Closures.{Settled, First, After, SomeLeads, Leaves, designated_all, kept, or_kept}
+use Rattle.ti_conforms.specs.Closures as closing
+use Rattle.ti_conforms.proofs.Reaches.{reached_can, can_reached}
+use Rattle.ti_rows.specs.declared.rows.Row.{Row}
+use Rattle.ti_rows.specs.declared.rows.Row.TheVariants.{Clear, Csr, Smcup, Enacs, Sgr0, Smacs, Rmacs}
+use Rattle.ti_conforms.specs.Table.{Table, or_nothing, text_of, widening, resync, resync_front, resync_of, Activates}
+use Rattle.ti_conforms.specs.Sets.{CanHave, LeadsBy, CanSettle, AfterResync, AfterLine, Occurs, has_sets}
+use Rattle.ti_conforms.specs.Sets as sets
+use Rattle.ti_conforms.proofs.Holds.{Leads}
+use Rattle.ti_cert.specs.Clashes.{Misswitches, SwitchesRight, StaysGraphic, BeginsOpen, ResyncsPlain, IsClash, GoesTogether}
+use Rattle.ti_cert.specs.Seen.{LeadsAs, IsOfLine, IsLineSeen, AreSeen, ChangesBy, NoLine, ByLine, KeepsSets, IsFound, parts_of, Misleads, AreSettled, ClashesAs, NoneClashes}
+use Rattle.ti_cert.specs.Seen as seen
+use Rattle.ti_cert.specs.declared.clashes.Clash.{Clash}
+use Rattle.ti_cert.specs.declared.clashes.Clash.TheVariants as clashes
+use Rattle.ti_cert.specs.declared.clashes.Resync.{Resync}
+
+-- ---- what leads out of an unknown state
+
+over_append : (ts us : List (List ℕ)) (c : Charset) → charset_over (ts ++ us) c ≡ charset_over us (charset_over ts c)
+over_append [] us c = refl
+over_append (t ∷ ts) us c = over_append ts us (charset_after (function_of t) c)
+
+joined : (a b : List ℕ) (f g : Charset → Charset) → Leads a f → Leads b g → Leads (a ++ b) (λ c. g (f c))
+joined a b f g p q = record {
+  tokens = p.tokens ++ q.tokens;
+  whole = splits_append a p.tokens q.tokens [] b [] p.whole q.whole;
+  leads = λ c. over_append p.tokens q.tokens c ∙ (ap (λ (x : Charset). charset_over q.tokens x) (p.leads c) ∙ q.leads (f c));
+}
+
+nothing : Leads [] (λ c. c)
+nothing = record { tokens = []; whole = empty_splits; leads = λ c. refl }
+
+-- a string leads charsets as its change says
+of_change : (t : Table) (row : Row) (o : Option Sets) → ChangesBy t row o → Leads (text_of t row) (λ c. designated (or_kept o) c)
+of_change t row _ (NoLine none) = subst (λ (b : List ℕ). Leads b (λ c. c)) (sym (ap (λ (o : Option (List ℕ)). or_nothing o) none)) nothing
+of_change t row _ (ByLine bytes there change l) = subst (λ (b : List ℕ). Leads b (λ c. designated change c)) (sym (ap (λ (o : Option (List ℕ)). or_nothing o) there))
+    (record { tokens = l.tokens; whole = l.whole; leads = l.leads })
+
+-- `csr` and `clear` leave them alone
+keeps : (t : Table) (row : Row) (o : Option (List ℕ)) → t.line_of row ≡ o → KeepsSets t row → Leads (or_nothing o) (λ c. c)
+keeps t row None e k = nothing
+keeps t row (Some bytes) e k = let l : LeadsAs bytes kept = k bytes e in record { tokens = l.tokens; whole = l.whole; leads = l.leads }
+
+resync_leads : (t : Table) (reach : Reach) (changes : List Sets) (r : Resync) (smacs : Option Sets) (escapes : Bool) → IsFound t reach changes r smacs escapes → Leads (resync t) (λ c. designated_all (parts_of r) c)
+unfolding resync_of
+resync_leads t reach changes r smacs escapes p =
+    joined (resync_front t) (text_of t (widening t) ++ text_of t Clear) (λ c. designated_all (parts_of r) c) (λ c. c)
+    (joined (text_of t Smcup ++ text_of t Enacs) (text_of t Sgr0 ++ text_of t Rmacs)
+    (λ c. designated (or_kept r.enacs) (designated (or_kept r.smcup) c)) (λ c. designated (or_kept r.rmacs) (designated (or_kept r.sgr0) c))
+    (joined (text_of t Smcup) (text_of t Enacs) (λ c. designated (or_kept r.smcup) c) (λ c. designated (or_kept r.enacs) c) (of_change t Smcup r.smcup p.smcup_is) (of_change t Enacs r.enacs p.enacs_is))
+    (joined (text_of t Sgr0) (text_of t Rmacs) (λ c. designated (or_kept r.sgr0) c) (λ c. designated (or_kept r.rmacs) c) (of_change t Sgr0 r.sgr0 p.sgr0_is) (of_change t Rmacs r.rmacs p.rmacs_is)))
+    (joined (text_of t (widening t)) (text_of t Clear) (λ c. c) (λ c. c) (keeps t (widening t) (t.line_of (widening t)) refl p.widens) (keeps t Clear (t.line_of Clear) refl p.clears))
+
+-- there is one splitting, so there is one such charset
+led : (bytes : List ℕ) (f : Charset → Charset) (c d : Charset) → Leads bytes f → LeadsBy bytes c d → d ≡ f c
+led bytes f c d p l =
+    let same = one_splitting bytes l.tokens p.tokens [] [] l.whole p.whole in
+    l.is ∙ (ap (λ (ts : List (List ℕ)). charset_over ts c) (sym same.0) ∙ p.leads c)
+
+by_line : (bytes : List ℕ) (change : Sets) → LeadsAs bytes change → (c : Charset) → LeadsBy bytes c (designated change c)
+by_line bytes change l c = record { tokens = l.tokens; whole = l.whole; is = sym (l.leads c) }
+
+line_led : (bytes : List ℕ) (change : Sets) (c d : Charset) → LeadsAs bytes change → LeadsBy bytes c d → d ≡ designated change c
+line_led bytes change c d p l = led bytes (λ x. designated change x) c d (record { tokens = p.tokens; whole = p.whole; leads = p.leads }) l
+
+-- ---- charsets that can be had and settled
+
+had : (t : Table) (tokens : List (List ℕ)) → ((token : List ℕ) → IsAmong tokens token → Occurs t token) → (c : Charset) → Reached tokens c → CanHave t c
+had t tokens occurs c (AtReset _ e) = sets.AtReset c e
+had t tokens occurs d (AfterToken c _ token r among e) = sets.AfterToken c d token (had t tokens occurs c r) (occurs token among) e
+
+pub can_be : (t : Table) (reach : Reach) (changes : List Sets) → AreSeen t reach changes → (c : Charset) → can_have reach c ≡ true → CanHave t c
+can_be t reach changes s c e = had t s.tokens s.occurs c (can_reached s.tokens c (ap (λ (x : Reach). can_have x c) (sym s.reach_is) ∙ e))
+
+token_reached : (t : Table) (reach : Reach) (changes : List Sets) (s : AreSeen t reach changes) (c : Charset) → CanHave t c → Reached s.tokens c
+token_reached t reach changes s c (sets.AtReset _ e) = AtReset c e
+token_reached t reach changes s d (sets.AfterToken c _ token r o e) =
+    let l : IsLineSeen s.tokens changes o.row o.bytes = s.lines o.row o.bytes o.there in
+    let same = one_splitting o.bytes o.tokens l.leads.tokens [] [] o.whole l.leads.whole in
+    AfterToken c d token (token_reached t reach changes s c r) (l.reached token (subst (λ (ts : List (List ℕ)). IsAmong ts token) (sym same.0) o.among)) e
+
+-- all that is known where charsets were computed
+record Settles (t : Table) (reach : Reach) (changes : List Sets) (r : Resync) (smacs : Option Sets) (escapes : Bool) (settled : Charsets) : Type 0 where
+  found : IsFound t reach changes r smacs escapes
+  all : AreSettled reach changes r settled
+
+pub resyncs_to : (t : Table) (reach : Reach) (changes : List Sets) (r : Resync) (smacs : Option Sets) (escapes : Bool) → IsFound t reach changes r smacs escapes → (c : Charset) → LeadsBy (resync t) c (designated_all (parts_of r) c)
+resyncs_to t reach changes r smacs escapes p c =
+    let l : Leads (resync t) (λ x. designated_all (parts_of r) x) = resync_leads t reach changes r smacs escapes p in
+    record { tokens = l.tokens; whole = l.whole; is = sym (l.leads c) }
+
+can_settle : (t : Table) (reach : Reach) (changes : List Sets) (r : Resync) (smacs : Option Sets) (escapes : Bool) (settled : Charsets) (p : Settles t reach changes r smacs escapes settled) (c : Charset)
+    → Settled (λ d. closing.has p.all.first d ≡ true) (SomeLeads changes) c → CanSettle t c
+can_settle t reach changes r smacs escapes settled p c (First _ h) =
+    let l : Leaves reach (parts_of r) c = p.all.first_sound c h in
+    AfterResync l.before c (can_be t reach changes p.found.seen l.before l.there) (subst (λ (x : Charset). LeadsBy (resync t) l.before x) (sym l.leads) (resyncs_to t reach changes r smacs escapes p.found l.before))
+can_settle t reach changes r smacs escapes settled p d (After c _ s l) =
+    let f : IsOfLine t l.change = p.found.seen.told l.change l.among in
+    AfterLine c d f.row f.bytes (can_settle t reach changes r smacs escapes settled p c s) f.there f.keeps (subst (λ (x : Charset). LeadsBy f.bytes c x) (sym l.leads) (by_line f.bytes l.change f.leads c))
+
+in_settled : (t : Table) (reach : Reach) (changes : List Sets) (r : Resync) (smacs : Option Sets) (escapes : Bool) (settled : Charsets) → Settles t reach changes r smacs escapes settled → (c : Charset) → closing.has settled c ≡ true → CanSettle t c
+in_settled t reach changes r smacs escapes settled p c e = can_settle t reach changes r smacs escapes settled p c (p.all.close_sound c e)
+
+left : (t : Table) (reach : Reach) (changes : List Sets) (r : Resync) (smacs : Option Sets) (escapes : Bool) → IsFound t reach changes r smacs escapes → (c d : Charset) → CanHave t c → LeadsBy (resync t) c d → Leaves reach (parts_of r) d
+left t reach changes r smacs escapes p c d h l = record {
+  before = c;
+  there = ap (λ (x : Reach). can_have x c) p.seen.reach_is ∙ reached_can p.seen.tokens c (token_reached t reach changes p.seen c h);
+  leads = led (resync t) (λ x. designated_all (parts_of r) x) c d (resync_leads t reach changes r smacs escapes p) l;
+}
+
+is_settled : (t : Table) (reach : Reach) (changes : List Sets) (r : Resync) (smacs : Option Sets) (escapes : Bool) (settled : Charsets) → Settles t reach changes r smacs escapes settled → (c : Charset) → CanSettle t c → closing.has settled c ≡ true
+is_settled t reach changes r smacs escapes settled p d (AfterResync c _ h l) = p.all.close_complete d (First d (p.all.first_complete d (left t reach changes r smacs escapes p.found c d h l)))
+is_settled t reach changes r smacs escapes settled p d (AfterLine c _ row bytes s there keeps l) =
+    let x : IsLineSeen p.found.seen.tokens changes row bytes = p.found.seen.lines row bytes there in
+    p.all.close_complete d (After c d (p.all.close_sound c (is_settled t reach changes r smacs escapes settled p c s))
+    (record { change = x.change; among = x.settled keeps; leads = line_led bytes x.change c d x.leads l }))
+
+-- ---- the set that is active
+
+never_both : (c : Charset) → is_graphic c ≡ true → is_graphic c ≡ false → ⊥
+never_both c on off = true≢false (sym on ∙ off)
+
+-- a string whose change activates a set does so by its tokens
+switched_by : (t : Table) (settled : Charsets) (row : Row) (o : Option Sets) (graphic : Bool) → ChangesBy t row o → seen.Leads settled o graphic → (bytes : List ℕ) → t.line_of row ≡ Some bytes
+    → (c d : Charset) → closing.has settled c ≡ true → LeadsBy bytes c d → is_graphic d ≡ graphic
+switched_by t settled row _ graphic (NoLine none) a bytes there c d s l = absurd (none-some bytes (sym none ∙ there))
+switched_by t settled row _ graphic (ByLine own is change leads) a bytes there c d s l =
+    ap (λ (x : Charset). is_graphic x) (line_led own change c d leads (subst (λ (b : List ℕ). LeadsBy b c d) (same_Some bytes own (sym there ∙ is)) l)) ∙ a c s
+
+-- one that activates the other set does that by its tokens
+misled_by : (t : Table) (settled : Charsets) (row : Row) (o : Option Sets) (graphic : Bool) (c : Charset) → ChangesBy t row o → Misleads settled o graphic c → CanSettle t c
+    → ((d : Charset) → is_graphic d ≡ not graphic → Activates row d → ⊥) → Misswitches t row c
+misled_by t settled row _ graphic c (NoLine none) m s never = absurd m
+misled_by t settled row _ graphic c (ByLine bytes there change l) m s never = record {
+  settles = s;
+  bytes = bytes;
+  there = there;
+  after = designated change c;
+  leads = by_line bytes change l c;
+  inactive = never (designated change c) m.1;
+}
+
+member : (settled : Charsets) (o : Option Sets) (graphic : Bool) (c : Charset) → Misleads settled o graphic c → closing.has settled c ≡ true
+member settled None graphic c m = absurd m
+member settled (Some change) graphic c m = m.0
+
+graphic_right : (t : Table) (reach : Reach) (changes : List Sets) (r : Resync) (smacs : Option Sets) (escapes : Bool) (settled : Charsets) → Settles t reach changes r smacs escapes settled → seen.Leads settled smacs true → SwitchesRight t Smacs
+graphic_right t reach changes r smacs escapes settled p h c m =
+    m.inactive (switched_by t settled Smacs smacs true p.found.smacs_is h m.bytes m.there c m.after (is_settled t reach changes r smacs escapes settled p c m.settles) m.leads)
+
+plain_right : (t : Table) (reach : Reach) (changes : List Sets) (r : Resync) (smacs : Option Sets) (escapes : Bool) (settled : Charsets) → Settles t reach changes r smacs escapes settled → seen.Leads settled r.rmacs false → SwitchesRight t Rmacs
+plain_right t reach changes r smacs escapes settled p h c m =
+    m.inactive (switched_by t settled Rmacs r.rmacs false p.found.rmacs_is h m.bytes m.there c m.after (is_settled t reach changes r smacs escapes settled p c m.settles) m.leads)
+
+change_there : (t : Table) (row : Row) (o : Option Sets) → ChangesBy t row o → is_some (t.line_of row) ≡ is_some o
+change_there t row _ (NoLine none) = ap (λ (p : Option (List ℕ)). is_some p) none
+change_there t row _ (ByLine bytes there change l) = ap (λ (p : Option (List ℕ)). is_some p) there
+
+-- which of the strings that switch sets are there
+sets_there : (t : Table) (smacs rmacs : Option Sets) (pairs : Bool) → ChangesBy t Smacs smacs → ChangesBy t Rmacs rmacs → (pairs && has_sets t) ≡ (pairs && (is_some smacs && is_some rmacs))
+sets_there t smacs rmacs pairs s r =
+    ap (λ (b : Bool). pairs && (b && is_some (t.line_of Rmacs))) (change_there t Smacs smacs s) ∙ ap (λ (b : Bool). pairs && (is_some smacs && b)) (change_there t Rmacs rmacs r)
+
+stays_plain : (t : Table) (reach : Reach) (changes : List Sets) (r : Resync) (smacs : Option Sets) (escapes : Bool) (settled : Charsets) (pairs : Bool) → Settles t reach changes r smacs escapes settled
+    → ((pairs && (is_some smacs && is_some r.rmacs)) ≡ false → seen.Leads settled (Some kept) false) → StaysGraphic pairs t → ⊥
+stays_plain t reach changes r smacs escapes settled pairs p plain s =
+    never_both s.charset s.graphic (plain (sym (sets_there t smacs r.rmacs pairs p.found.smacs_is p.found.rmacs_is) ∙ s.unsent) s.charset (is_settled t reach changes r smacs escapes settled p s.charset s.settles))
+
+-- ---- what leads out of an unknown state leaves the plain set active, since what is sent twice leaves what it leaves once
+
+switched_twice : (a : Switch) (x : Bool) → switched a (switched a x) ≡ switched a x
+switched_twice switches.Kept x = refl
+switched_twice switches.On x = refl
+switched_twice switches.Off x = refl
+
+designated_twice : (a : Sets) (c : Charset) → designated a (designated a c) ≡ designated a c
+designated_twice a c = cc (switched_twice a.g0_graphic c.g0_graphic, switched_twice a.g1_graphic c.g1_graphic, switched_twice a.shifted_out c.shifted_out)
+
+plain_if : (c : Charset) → (is_graphic c ≡ true → ⊥) → is_graphic c ≡ false
+plain_if c never = by_set (is_graphic c) refl
+  where
+    by_set : (b : Bool) → is_graphic c ≡ b → is_graphic c ≡ false
+    by_set true e = absurd (never e)
+    by_set false e = e
+
+quiet_by : (t : Table) (pairs : Bool) (o : Option Sets) (x d : Charset) → ChangesBy t Rmacs o → d ≡ designated (or_kept o) x → CanSettle t d → SwitchesRight t Rmacs → (StaysGraphic pairs t → ⊥) → is_graphic d ≡ true → ⊥
+quiet_by t pairs _ x d (NoLine none) e s right never on = never (record {
+  unsent = and_right pairs (has_sets t) (and_right (is_some (t.line_of Smacs)) (is_some (t.line_of Rmacs)) (ap (λ (o : Option (List ℕ)). is_some o) none));
+  charset = d;
+  settles = s;
+  graphic = on;
+})
+quiet_by t pairs _ x d (ByLine bytes there change l) e s right never on =
+    let again : designated change d ≡ d = ap (λ (c : Charset). designated change c) e ∙ (designated_twice change x ∙ sym e) in
+    right d (record {
+      settles = s;
+      bytes = bytes;
+      there = there;
+      after = designated change d;
+      leads = by_line bytes change l d;
+      inactive = λ off. never_both d on (ap (λ (c : Charset). is_graphic c) (sym again) ∙ off);
+    })
+
+quiet : (t : Table) (reach : Reach) (changes : List Sets) (r : Resync) (smacs : Option Sets) (escapes pairs : Bool) → IsFound t reach changes r smacs escapes → SwitchesRight t Rmacs → (StaysGraphic pairs t → ⊥) → ResyncsPlain t
+quiet t reach changes r smacs escapes pairs p right never c d h l =
+    let e : d ≡ designated_all (parts_of r) c = led (resync t) (λ x. designated_all (parts_of r) x) c d (resync_leads t reach changes r smacs escapes p) l in
+    plain_if d (quiet_by t pairs r.rmacs (designated (or_kept r.sgr0) (designated (or_kept r.enacs) (designated (or_kept r.smcup) c))) d p.rmacs_is e (AfterResync c d h l) right never)
+
+-- ---- nothing is wrong with all lines together
+
+pub together : (t : Table) (reach : Reach) (changes : List Sets) (r : Resync) (smacs : Option Sets) (escapes pairs : Bool) (settled : Charsets) → AreSettled reach changes r settled
+    → NoneClashes settled smacs r.rmacs (pairs && (is_some smacs && is_some r.rmacs)) escapes → IsFound t reach changes r smacs escapes → GoesTogether pairs t
+together t reach changes r smacs escapes pairs settled all n found =
+    let p : Settles t reach changes r smacs escapes settled = record { found = found; all = all } in
+    let right : SwitchesRight t Rmacs = plain_right t reach changes r smacs escapes settled p n.plain in
+    let never : StaysGraphic pairs t → ⊥ = stays_plain t reach changes r smacs escapes settled pairs p n.unsent in
+    record {
+      graphic = graphic_right t reach changes r smacs escapes settled p n.graphic;
+      plain = right;
+      settles = never;
+      escapes = found.begins n.escapes_is;
+      quiet = quiet t reach changes r smacs escapes pairs found right never;
+    }
+
+-- ---- what was found wrong is so
+
+not_graphic : (d : Charset) → is_graphic d ≡ not true → Activates Smacs d → ⊥
+not_graphic d off on = never_both d on off
+
+not_plain : (d : Charset) → is_graphic d ≡ not false → Activates Rmacs d → ⊥
+not_plain d on off = never_both d on off
+
+smacs_wrong : (t : Table) (reach : Reach) (changes : List Sets) (r : Resync) (smacs : Option Sets) (escapes : Bool) (settled : Charsets) (c : Charset) → Settles t reach changes r smacs escapes settled → Misleads settled smacs true c → Misswitches t Smacs c
+smacs_wrong t reach changes r smacs escapes settled c p m =
+    misled_by t settled Smacs smacs true c p.found.smacs_is m (in_settled t reach changes r smacs escapes settled p c (member settled smacs true c m)) not_graphic
+
+rmacs_wrong : (t : Table) (reach : Reach) (changes : List Sets) (r : Resync) (smacs : Option Sets) (escapes : Bool) (settled : Charsets) (c : Charset) → Settles t reach changes r smacs escapes settled → Misleads settled r.rmacs false c → Misswitches t Rmacs c
+rmacs_wrong t reach changes r smacs escapes settled c p m =
+    misled_by t settled Rmacs r.rmacs false c p.found.rmacs_is m (in_settled t reach changes r smacs escapes settled p c (member settled r.rmacs false c m)) not_plain
+
+pub clash : (t : Table) (reach : Reach) (changes : List Sets) (r : Resync) (smacs : Option Sets) (escapes pairs : Bool) (settled : Charsets) (found : Clash) → AreSettled reach changes r settled
+    → ClashesAs settled smacs r.rmacs (pairs && (is_some smacs && is_some r.rmacs)) escapes found → IsFound t reach changes r smacs escapes → IsClash pairs t found
+clash t reach changes r smacs escapes pairs settled (clashes.Smacs c) all m f = smacs_wrong t reach changes r smacs escapes settled c (record { found = f; all = all }) m
+clash t reach changes r smacs escapes pairs settled (clashes.Rmacs c) all m f =
+    let p : Settles t reach changes r smacs escapes settled = record { found = f; all = all } in
+    (graphic_right t reach changes r smacs escapes settled p m.0, rmacs_wrong t reach changes r smacs escapes settled c p m.1)
+clash t reach changes r smacs escapes pairs settled clashes.Acsc all m f =
+    let p : Settles t reach changes r smacs escapes settled = record { found = f; all = all } in (
+      graphic_right t reach changes r smacs escapes settled p m.0,
+      plain_right t reach changes r smacs escapes settled p m.1,
+      record {
+        unsent = sets_there t smacs r.rmacs pairs f.smacs_is f.rmacs_is ∙ m.2;
+        charset = m.3.0;
+        settles = in_settled t reach changes r smacs escapes settled p m.3.0 m.3.1.0;
+        graphic = m.3.1.1;
+      },
+    )
+clash t reach changes r smacs escapes pairs settled clashes.Clear all m f =
+    let p : Settles t reach changes r smacs escapes settled = record { found = f; all = all } in
+    (graphic_right t reach changes r smacs escapes settled p m.0, plain_right t reach changes r smacs escapes settled p m.1, stays_plain t reach changes r smacs escapes settled pairs p m.2, f.opens m.3)
+
+pub none_clashes : (s : Charsets) (smacs rmacs : Option Sets) (sent escapes : Bool) → seen.Leads s smacs true → seen.Leads s rmacs false → (sent ≡ false → seen.Leads s (Some kept) false) → escapes ≡ true → NoneClashes s smacs rmacs sent escapes
+none_clashes s smacs rmacs sent escapes graphic plain unsent begins = record { graphic = graphic; plain = plain; unsent = unsent; escapes_is = begins }

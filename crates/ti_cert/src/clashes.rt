@@ -1,0 +1,158 @@
+//! What may be wrong with strings together, though each is right: the charsets that they leave, and what
+//! leads a terminal out of an unknown state.
+
+ghost use Rattle.std.specs.Prelude.{◌≡◌, ◌&&◌, IfErr, IfNone, IfOk, IfSome, OnOk, Some, false, is_some, true};
+ghost use Rattle.ti_cert.specs.Clashes as clashes;
+ghost use Rattle.ti_cert.specs.Seen as spec;
+ghost use Rattle.ti_conforms.specs.Closures as closing;
+ghost use Rattle.ti_conforms.specs.Table.{Table};
+ghost use Rattle.vt_term.specs.Screen.{Charset};
+
+use ti_conforms::{Charsets, KEPT, Reach, or_kept};
+use vt_effects::Sets;
+use vt_term::Charset;
+
+/// What is wrong with strings together.
+#[derive(Clone, Copy, Debug, PartialEq, Eq)]
+pub enum Clash {
+    /// After `smacs`, from this charset that strings can leave, the graphic set isn't active.
+    Smacs(Charset),
+    /// After `rmacs`, from this charset that strings can leave, the graphic set is active.
+    Rmacs(Charset),
+    /// The graphic set can stay active where letters of line graphics can't be sent.
+    Acsc,
+    /// What leads out of an unknown state doesn't begin with ESC.
+    Clear,
+}
+
+/// What the strings that lead a terminal out of an unknown state do to the charsets, `None` where there is
+/// no such string. `csr` and `clear` do nothing to them.
+#[derive(Clone, Copy, Debug, PartialEq, Eq)]
+pub struct Resync {
+    pub smcup: Option<Sets>,
+    pub enacs: Option<Sets>,
+    pub sgr0: Option<Sets>,
+    pub rmacs: Option<Sets>,
+}
+
+/// What `resync` leaves of each charset that `reach` allows.
+fn first_settled(resync: Resync, reach: Reach) -> Charsets
+    ensures sound { (d : Charset) → closing.has result d ≡ true → closing.Leaves reach (spec.parts_of resync) d }
+    ensures complete { (d : Charset) → closing.Leaves reach (spec.parts_of resync) d → closing.has result d ≡ true }
+{
+    let changes = [
+        or_kept(resync.smcup),
+        or_kept(resync.enacs),
+        or_kept(resync.sgr0),
+        or_kept(resync.rmacs),
+    ];
+    Charsets::left_by(&changes, reach)
+}
+
+/// The charsets of `first`, and all to which `changes` lead from them.
+fn settled_from(first: Charsets, changes: &[Sets]) -> Charsets
+    ensures sound { (c : Charset) → closing.has result c ≡ true
+        → closing.Settled (λ d. closing.has first d ≡ true) (closing.SomeLeads changes.now) c }
+    ensures complete { (c : Charset)
+        → closing.Settled (λ d. closing.has first d ≡ true) (closing.SomeLeads changes.now) c
+        → closing.has result c ≡ true }
+{
+    let mut settled = first;
+    settled.close(changes);
+    settled
+}
+
+/// The charsets that can be settled: what `resync` leaves, and all to which `changes` lead from there.
+fn settled_of(reach: Reach, changes: &[Sets], resync: Resync) -> Charsets
+    ensures { spec.AreSettled reach changes.now resync result }
+{
+    let first = first_settled(resync, reach);
+    settled_from(first, changes)
+}
+
+/// One of the `settled` charsets from which `change` activates another set than this.
+fn misled(settled: &Charsets, change: Option<Sets>, graphic: bool) -> Option<Charset>
+    ensures some { IfSome result (spec.Misleads settled.now change graphic) }
+    ensures none { IfNone result (spec.Leads settled.now change graphic) }
+{
+    match change {
+        Some(change) => settled.misled(change, graphic),
+        None => None,
+    }
+}
+
+/// Whether letters of line graphics can be sent.
+fn all_there(has_acsc: bool, smacs: Option<Sets>, rmacs: Option<Sets>) -> bool
+    ensures { result ≡ (has_acsc && (is_some smacs && is_some rmacs)) }
+{
+    has_acsc && (smacs.is_some() && rmacs.is_some())
+}
+
+/// Whether each of the `settled` charsets is plain, or letters of line graphics can be `sent`.
+fn is_plain(settled: &Charsets, sent: bool) -> bool
+    ensures yes { result ≡ true → sent ≡ false → spec.Leads settled.now (Some closing.kept) false }
+    ensures no { result ≡ false → (sent ≡ false) × ((c : Charset) × spec.Misleads settled.now (Some closing.kept)
+        false c) }
+{
+    if sent {
+        return true;
+    }
+    match settled.misled(KEPT, false) {
+        Some(_) => false,
+        None => true,
+    }
+}
+
+/// The first clash of strings that can leave the `settled` charsets. `sent` says whether letters of line
+/// graphics can be sent, and `escapes` whether what leads out of an unknown state begins with ESC.
+#[tactic(auto, using(crate::proofs::Together::none_clashes))]
+fn clash_of(
+    settled: &Charsets,
+    smacs: Option<Sets>,
+    rmacs: Option<Sets>,
+    sent: bool,
+    escapes: bool,
+) -> Result<(), Clash>
+    ensures none { OnOk result (spec.NoneClashes settled.now smacs rmacs sent escapes) }
+    ensures some { IfErr result (spec.ClashesAs settled.now smacs rmacs sent escapes) }
+{
+    if let Some(charset) = misled(settled, smacs, true) {
+        return Err(Clash::Smacs(charset));
+    }
+    if let Some(charset) = misled(settled, rmacs, false) {
+        return Err(Clash::Rmacs(charset));
+    }
+    if !is_plain(settled, sent) {
+        return Err(Clash::Acsc);
+    }
+    if escapes { Ok(()) } else { Err(Clash::Clear) }
+}
+
+/// The first of four things that may be wrong with strings together: `smacs`, `rmacs`, charsets that stay
+/// graphic, and what leads out of an unknown state. `reach` has the marks that the tokens of all strings turn
+/// on, `changes` what each string does that leaves charsets settled, `resync` and `smacs` what these strings do,
+/// and `escapes` says whether what leads out of an unknown state begins with ESC. If nothing is wrong, the
+/// charsets that can be settled.
+pub fn first_clash(
+    reach: Reach,
+    changes: &[Sets],
+    resync: Resync,
+    smacs: Option<Sets>,
+    has_acsc: bool,
+    escapes: bool,
+) -> Result<Charsets, Clash>
+    ensures clash { IfErr result (λ clash. (t : Table) → spec.IsFound t reach changes.now resync smacs escapes
+        → clashes.IsClash has_acsc t clash) }
+    ensures together { IfOk result (λ settled. (t : Table) → spec.IsFound t reach changes.now resync smacs escapes
+        → clashes.GoesTogether has_acsc t) }
+    ensures settled { IfOk result (spec.AreSettled reach changes.now resync) }
+    ensures none { IfOk result (λ settled. spec.NoneClashes settled smacs resync.rmacs
+        (has_acsc && (is_some smacs && is_some resync.rmacs)) escapes) }
+{
+    let settled = settled_of(reach, changes, resync);
+    let sent = all_there(has_acsc, smacs, resync.rmacs);
+    match clash_of(&settled, smacs, resync.rmacs, sent, escapes) {
+        Ok(()) => Ok(settled),
+        Err(clash) => Err(clash),
+    }
+}
