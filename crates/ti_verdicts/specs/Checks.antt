@@ -2,10 +2,12 @@
 use Rattle.std.specs.Prelude.{◌≡◌, ◌≢◌, ◌⊎◌, ℕ, List, [], Option, Some, None}
 use Rattle.std.specs.String.{string_bytes}
 use Rattle.ti_caps.specs.Entry.{Content}
+use Rattle.ti_checker.specs.Certificate.{IsCertificateOf}
 use Rattle.ti_checker.specs.Notes.{EntryNotes, IsFirstUnsent, notes_text}
 use Rattle.ti_checker.specs.declared.causes.Cause.TheVariants as causes
 use Rattle.ti_checker.specs.declared.causes.No.{No}
 use Rattle.ti_checker.specs.declared.note_list.CheckNote.{CheckNote}
+use Rattle.ti_conforms.specs.Conforms.{Conforms}
 use Rattle.ti_commands.specs.Contents.{Held, Stored}
 use Rattle.ti_commands.specs.Replies.{GivesEntry}
 use Rattle.ti_commands.specs.Sizes.{LacksSize, SizeGiven}
@@ -16,6 +18,11 @@ use Rattle.ti_verdicts.specs.Refusals.{TellsNo}
 use Rattle.ti_verdicts.specs.Verifications.{FailsAtEntry}
 use Rattle.ti_requests.specs.declared.request.CheckWords.{CheckWords}
 use denote.Ref.{Bor}
+
+-- the text of the checker is the certificate of the entry, which conforms
+pub record IsCertified (entry : Content) (rows cols : ℕ) (text : List ℕ) : Type 0 where
+  pub conforms : Conforms entry rows cols
+  pub certificate : IsCertificateOf entry rows cols text
 
 -- how the storing of a text at a path ends: where it fails, all files are as before
 abbrev pub StoresText : List ℕ → List ℕ → Held → Held → Option Failure → Type 0

@@ -3,8 +3,8 @@
 ghost use Rattle.std.specs.Prelude.{ℕ, List, IfErr, IfOk};
 ghost use Rattle.ti_caps.specs.Entry.{Content};
 ghost use Rattle.ti_checker.specs.declared.causes.No.{No};
-ghost use Rattle.ti_conforms.specs.Conforms.{Conforms};
 ghost use Rattle.ti_checker.specs.No.{IsNo};
+ghost use Rattle.ti_verdicts.specs.Checks.{IsCertified};
 
 use std::alloc::Global;
 use ti_caps::Entry;
@@ -28,13 +28,13 @@ pub trait Certifier {
         ensures refuses { IfErr result (λ refusal. refuses self.now entry.now size.rows size.cols refusal) };
 }
 
-/// The checker: an entry for which it writes a certificate conforms, and each of its noes is true and
+/// The checker: a text that it writes is the certificate of the entry, which conforms, and each of its noes is true and
 /// the first.
 #[derive(Clone, Copy)]
 pub struct Checker;
 
 impl Certifier for Checker {
-    ghost certifies = { λ _ entry rows cols _. Conforms entry rows cols };
+    ghost certifies = { λ _ entry rows cols text. IsCertified entry rows cols text };
 
     ghost refuses = { λ _ entry rows cols refusal. IsNo entry rows cols refusal };
 
