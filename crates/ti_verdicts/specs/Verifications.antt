@@ -1,8 +1,10 @@
 -- What `verify` answers, by what its files hold.
-use Rattle.std.specs.Prelude.{◌≡◌, ◌⊎◌, ℕ, List, codes}
+use Rattle.std.specs.Prelude.{◌≡◌, ◌⊎◌, ℕ, List, Option, IfSome, codes}
 use Rattle.ti_caps.specs.Entry.{Content, string_at}
 use Rattle.ti_conforms.specs.Entries.{EntryAgrees, acsc}
 use Rattle.ti_cert.specs.Table.{Content as Strings, table_of}
+use Rattle.ti_cert.specs.Disagreements.{IsAgreeRefused}
+use Rattle.ti_cert.specs.Texts.{IsCertRefused, IsTableOf}
 use Rattle.ti_cert.specs.declared.faults.VerifyFault.{VerifyFault}
 use Rattle.ti_conforms.specs.Conforms.{Conforms}
 use Rattle.ti_commands.specs.Failures.{IsFileFailure}
@@ -15,7 +17,16 @@ use Rattle.ti_commands.specs.declared.failure.Reply.{Reply}
 use Rattle.ti_verdicts.specs.Refusals.{TellsFault}
 use Rattle.ti_requests.specs.declared.request.VerifyWords.{VerifyWords}
 
--- the word gives an entry that conforms at the size that the words give
+-- The strings that are handed out are for this size, and just what the entry sends; and the bytes of the certificate,
+-- where they are known, are a certificate of these strings.
+pub record HandsOut (known : Option (List ℕ)) (entry : Content) (height width : ℕ) (checked : Strings) : Type 0 where
+  pub rows : checked.known.strings.rows ≡ height
+  pub cols : checked.known.strings.cols ≡ width
+  pub sends : EntryAgrees height width entry (table_of checked).line_of
+  pub partners : checked.acsc ≡ string_at entry acsc
+  pub accepted : IfSome known (λ text. IsTableOf height width text checked)
+
+-- the words give an entry that conforms at the size that they give, and a certificate of its strings
 pub record GivesConforming (held : Held) (words : VerifyWords) : Type 0 where
   pub height : ℕ
   pub width : ℕ
@@ -23,22 +34,23 @@ pub record GivesConforming (held : Held) (words : VerifyWords) : Type 0 where
   pub entry : Content
   pub gives : GivesEntry held words.entry.now entry
   pub conforms : Conforms entry height width
-
--- the strings that are handed out are for this size, and just what the entry sends
-pub record HandsOut (entry : Content) (height width : ℕ) (checked : Strings) : Type 0 where
-  pub rows : checked.known.strings.rows ≡ height
-  pub cols : checked.known.strings.cols ≡ width
-  pub sends : EntryAgrees height width entry (table_of checked).line_of
-  pub partners : checked.acsc ≡ string_at entry acsc
+  pub checked : Strings
+  pub hands_out : HandsOut (held words.certificate.now) entry height width checked
 
 -- the reply is yes
 pub record IsVerified (held : Held) (words : VerifyWords) (reply : Reply) : Type 0 where
   pub proved : GivesConforming held words
   pub says : IsText (codes "yes\n") reply
 
--- the certificate at a path can't be had, or has a fault
-abbrev pub LacksCertificate : List ℕ → Failure → Type 0
-LacksCertificate path failure = IsFileFailure path failure ⊎ ((fault : VerifyFault) × TellsFault path fault failure)
+-- it is the first fault of the text, or says how its certificate differs from the entry
+pub record IsFaultOf (height width : ℕ) (entry : Content) (text : List ℕ) (fault : VerifyFault) : Type 0 where
+  pub first : IsCertRefused height width text ⊥ fault
+  pub differs : IsAgreeRefused height width text entry fault
+
+-- the certificate at a path can't be had, or has a fault, which is that of its bytes where they are known
+abbrev pub LacksCertificate : Option (List ℕ) → ℕ → ℕ → Content → List ℕ → Failure → Type 0
+LacksCertificate known height width entry path failure =
+    IsFileFailure path failure ⊎ ((fault : VerifyFault) × IfSome known (λ text. IsFaultOf height width entry text fault) × TellsFault path fault failure)
 
 -- the words of the size come first, then the entry, then the certificate
 pub record FailsAtEntry (held : Held) (rows cols word : List ℕ) (failure : Failure) : Type 0 where
@@ -46,10 +58,12 @@ pub record FailsAtEntry (held : Held) (rows cols word : List ℕ) (failure : Fai
   pub lacks : LacksEntry held word failure
 
 pub record FailsAtCertificate (held : Held) (words : VerifyWords) (failure : Failure) : Type 0 where
-  pub sized : HasSize words.rows.now words.cols.now
+  pub height : ℕ
+  pub width : ℕ
+  pub given : SizeGiven words.rows.now words.cols.now height width
   pub entry : Content
   pub gives : GivesEntry held words.entry.now entry
-  pub lacks : LacksCertificate words.certificate.now failure
+  pub lacks : LacksCertificate (held words.certificate.now) height width entry words.certificate.now failure
 
 abbrev pub FailsToVerify : Held → VerifyWords → Failure → Type 0
 FailsToVerify held words failure = LacksSize words.rows.now words.cols.now failure ⊎ FailsAtEntry held words.rows.now words.cols.now words.entry.now failure ⊎ FailsAtCertificate held words failure

@@ -46,8 +46,10 @@ pub fn checked_at<F: Files>(
     remarks: &mut Remarks,
 ) -> Result<Checked, Failure>
     ensures conforms { IfOk result (λ _. Conforms entry.now size.rows size.cols) }
-    ensures hands_out { IfOk result (λ checked. HandsOut entry.now size.rows size.cols checked) }
-    ensures failure { IfErr result (λ e. LacksCertificate path.now e) }
+    ensures hands_out { IfOk result
+        (λ checked. HandsOut (F.holds files.old path.now) entry.now size.rows size.cols checked) }
+    ensures failure { IfErr result
+        (λ e. LacksCertificate (F.holds files.old path.now) size.rows size.cols entry.now path.now e) }
     ensures kept { F.holds files.new ≡ F.holds files.old }
 {
     let file = match files.reader(path) {
@@ -57,24 +59,10 @@ pub fn checked_at<F: Files>(
     let mut reader = CertificateFile::new(alloc, file);
     match verify_from(alloc, entry, size, &mut reader) {
         Ok(checked) => Ok(checked),
-        Err(fault) => Err(failure_of(alloc, path, size, &fault, &reader, remarks)),
-    }
-}
-
-/// The failure that `fault` of the certificate at `path` is.
-fn failure_of<R: Read>(
-    alloc: Global,
-    path: &str,
-    size: Size,
-    fault: &VerifyFault,
-    reader: &CertificateFile<R>,
-    remarks: &mut Remarks,
-) -> Failure
-    ensures { TellsFault path.now fault.now result }
-{
-    match fault {
-        VerifyFault::Cert(fault) => cert_failure(alloc, path, size, fault, reader, remarks),
-        VerifyFault::Agree(fault) => agree_failure(alloc, path, fault, remarks),
+        Err(VerifyFault::Cert(fault)) => {
+            Err(cert_failure(alloc, path, size, &fault, &reader, remarks))
+        }
+        Err(VerifyFault::Agree(fault)) => Err(agree_failure(alloc, path, &fault, remarks)),
     }
 }
 
