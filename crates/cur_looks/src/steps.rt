@@ -74,6 +74,7 @@ pub(crate) fn attributes_as<C: Certificate, W: Wire>(
     ensures place { OnOk result (belief.new.place ≡ belief.old.place) }
     ensures step { Keeps W.went W.failures wire.old wire.new result (C.table checked.now)
         (C.table checked.now).longest.sgr belief.old belief.new }
+    ensures mode { OnOk result (belief.new.mode ≡ belief.old.mode) }
 {
     if same_attributes(belief.brush.attributes, wanted) {
         belief.brush.attributes = wanted;
@@ -101,6 +102,7 @@ fn attributes_at_once<C: Certificate, W: Wire>(
     ensures place { belief.new.place ≡ belief.old.place }
     ensures step { Keeps W.went W.failures wire.old wire.new result (C.table checked.now)
         (C.table checked.now).longest.sgr belief.old belief.new }
+    ensures mode { OnOk result (belief.new.mode ≡ belief.old.mode) }
 {
     belief.brush.attributes = wanted;
     belief.graphic = None;

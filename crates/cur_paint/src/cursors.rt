@@ -1,9 +1,9 @@
 //! What differs, then the cursor's mode and place.
 ghost use Rattle.std.specs.Prelude.{◌≡◌, ◌*◌, Some, OnOk};
-ghost use Rattle.cur_looks.specs.Beliefs.{CanHide};
+ghost use Rattle.cur_looks.specs.Beliefs.{Agrees, CanHide};
 ghost use Rattle.cur_looks.specs.Steps.{Acts};
 ghost use Rattle.cur_paint.specs.Limits.{IsWithin, IsPlaced, last_move, cursor_limit};
-ghost use Rattle.cur_paint.specs.Scenes.{IsPaintable, Paints, scene};
+ghost use Rattle.cur_paint.specs.Scenes.{IsPaintable, Paints, Sets, scene};
 
 use crate::changes::Changes;
 use crate::rows::mend_screen;
@@ -52,9 +52,11 @@ fn set_cursor<C: Certificate, O: Picture, N: Picture, W: Wire>(
     requires lines { CanHide (C.table screens.now.checked.now) wanted.mode }
     ensures there { OnOk result (IsPlaced wanted.cursor belief.new.place) }
     ensures mode { OnOk result (belief.new.mode ≡ Some wanted.mode) }
-    ensures step { Acts W.went W.failures wire.old wire.new result (C.table screens.now.checked.now)
+    ensures step { Sets W.went W.failures wire.old wire.new result (C.table screens.now.checked.now)
         (cursor_limit (C.table screens.now.checked.now) belief.old wanted.cursor wanted.mode)
-        (N.cells screens.now.new.now) (N.cells screens.now.new.now) belief.old belief.new }
+        belief.old.mode wanted.cursor wanted.mode
+        (Agrees (C.table screens.now.checked.now) (N.cells screens.now.new.now) belief.old)
+        (Agrees (C.table screens.now.checked.now) (N.cells screens.now.new.now) belief.new) }
 {
     show_as(screens.checked, belief, wire, wanted.mode)?;
     place_cursor(screens, belief, wire, wanted.cursor)

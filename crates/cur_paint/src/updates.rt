@@ -107,7 +107,7 @@ fn repaint<C: Certificate, O: Picture, N: Picture, W: Wire>(
     ensures step { Anew W.went W.failures wire.old wire.new result (C.table screens.now.checked.now)
         (fresh_limit (C.table screens.now.checked.now)) (IsLeft (C.table screens.now.checked.now) shown_as)
         (Agrees (C.table screens.now.checked.now) (N.cells screens.now.new.now) belief.new)
-        (C.table screens.now.checked.now).resync }
+        (C.table screens.now.checked.now).resync shown_as wanted }
 {
     *belief = start_belief(shown_as);
     send_all(wire, screens.checked.resync())?;
@@ -136,7 +136,8 @@ fn clear_first<C: Certificate, O: Picture, N: Picture, W: Wire>(
         (length line + paint_limit (C.table screens.now.checked.now) (cleared belief.old.brush.background)
         (N.cells screens.now.new.now) (at_corner belief.old) wanted.cursor wanted.mode)
         (Agrees (C.table screens.now.checked.now) shown belief.old)
-        (Agrees (C.table screens.now.checked.now) (N.cells screens.now.new.now) belief.new) line }
+        (Agrees (C.table screens.now.checked.now) (N.cells screens.now.new.now) belief.new) line
+        belief.old.mode wanted }
 {
     let cleared = Cleared {
         background: belief.brush.background,

@@ -20,13 +20,14 @@ use Rattle.cur_looks.specs.declared.inks.Ink.{Ink}
 use Rattle.cur_looks.specs.declared.beliefs.Mode.{Mode}
 use Rattle.cur_looks.specs.declared.beliefs.Place.{Place}
 use Rattle.cur_paint.specs.Limits.{IsPlaced}
+use Rattle.cur_paint.specs.Modes.{shown_mode}
 use Rattle.cur_paint.specs.Update.{Fits, IsFresh, Shows}
 use Rattle.cur_paint.specs.declared.updates.Status.{Status}
 use Rattle.cur_paint.specs.declared.updates.Status.TheVariants.{Fresh, Known, Lost}
 use Rattle.cur_update.specs.Inks.{ink_at}
 use Rattle.cur_update.specs.Painters.{Painted, place_of, wanted_of}
 use Rattle.cur_calls.specs.declared.calls.Call.{Call}
-use Rattle.cur_play.proofs.Failures.{call_rose, emitted, rose_sooner}
+use Rattle.cur_play.proofs.Failures.{call_rose, cut_sends, emitted, rose_sooner, shown_same}
 use Rattle.cur_play.specs.Deliveries.{Carries, FitsIn, IsLast, IsSettled, IsShown}
 use Rattle.cur_play.specs.Log.{IsAfter, Moment, Plays, Subject, Tells, is_shown, last_after, mode_after, start, subject_of}
 use Rattle.cur_play.specs.Outputs.{poised}
@@ -195,7 +196,9 @@ log_more {W} {V} {C} about laws wire count a m n z calls i call before after log
       bytes = refl;
       counted = (let exact : count z ≡ 0 + length bytes = out.counted (omega (arith, few, small)) in omega (arith, exact));
       emits = emitted {W = V} (λ x y c. Counts about.went (wire x) (wire y) (count x) (count y) c) (λ x. about.failures (wire x).now) m n t about.partners d.screen (output_of call) answer b (poised t before call) after.painter
-          (IsAfter t l.bytes) known carries.puts;
+          (IsAfter t l.bytes) (shown_mode before.painter.session.status (Some l.last_mode)) known
+          (shown_same before.painter.session.status before.painter.session.belief.mode (Some l.last_mode) (λ k. (let at : IsPlaced (place_of l.last.cursor) before.painter.session.belief.place × (before.painter.session.belief.mode ≡ Some l.last_mode) = l.settled k in at.1)))
+          (cut_sends t (scene_of before) call answer (scene_of after) step) carries.puts;
       failed = λ k. rose_sooner (about.failures (wire m).now) (about.failures (wire n).now) (about.failures (wire z).now)
           (call_rose {W = V} (λ x y c. Counts about.went (wire x) (wire y) (count x) (count y) c) (λ x. about.failures (wire x).now) m n t about.partners d.screen call (scene_of before) (scene_of after) answer b (poised t before call) after.painter step carries.puts k)
           (laws.counts (wire n).now (wire z).now [] passed.inner);

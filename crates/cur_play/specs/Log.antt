@@ -1,6 +1,6 @@
 -- What the log of a run says, wherever the wire failed: what each call did and sent, what the terminal then shows, and
 -- the most that a refresh sends (X/Open Curses Issue 7, refresh, doupdate, beep, endwin).
-use Rattle.std.specs.Prelude.{ℕ, ◌+◌, ◌*◌, ◌≤◌, ◌≡◌, Bool, true, false, List, [], ◌∷◌, ◌++◌, length, Option, Some}
+use Rattle.std.specs.Prelude.{ℕ, ◌+◌, ◌*◌, ◌<◌, ◌≤◌, ◌≡◌, Bool, true, false, List, [], ◌∷◌, ◌++◌, length, Option, Some}
 use Rattle.vt_term.specs.Screen.{State}
 use Rattle.vt_term.specs.Run.{Runs}
 use Rattle.vt_term.specs.Ends.{Ends}
@@ -11,6 +11,7 @@ use Rattle.cur_wires.specs.Wire.{Rose}
 use Rattle.cur_looks.specs.declared.beliefs.Mode.{Mode}
 use Rattle.cur_paint.specs.Finish.{finish_text}
 use Rattle.cur_paint.specs.Limits.{IsPlaced, fresh_limit}
+use Rattle.cur_paint.specs.Modes.{shown_mode}
 use Rattle.cur_paint.specs.Update.{IsFresh, Lawful, Shows}
 use Rattle.cur_paint.specs.declared.updates.Status.{Status}
 use Rattle.cur_paint.specs.declared.updates.Status.TheVariants.{Known}
@@ -65,18 +66,21 @@ pub record IsAfter (t : Table) (bytes : List ℕ) (s : State) : Type 0 where
 
 -- ---- what a call sends
 
--- What it is to send where nothing fails. The terminal is in a state of the kind, and the session has this status; the
--- virtual screen and the cursor's mode are those when the sending begins.
-abbrev pub Says : Table → (ℕ → Option ℕ) → (State → Type 0) → Status → Screen → Mode → Emission → List ℕ → Type 0
-Says t partners kind status v m Nothing bytes = bytes ≡ []
-Says t partners kind status v m Update bytes = Lawful t kind status bytes (ink_at t partners v) (wanted_of v m)
-Says t partners kind status v m Bell bytes = t.line_of Bel ≡ Some bytes
-Says t partners kind status v m End bytes = bytes ≡ finish_text t status
+-- What it is to send where nothing fails. The terminal is in a state of the kind, the session has this status, and the
+-- cursor is shown in the mode now, where that is known; the virtual screen and the cursor's mode are those when the
+-- sending begins.
+abbrev pub Says : Table → (ℕ → Option ℕ) → (State → Type 0) → Status → Option Mode → Screen → Mode → Emission
+    → List ℕ → Type 0
+Says t partners kind status now v m Nothing bytes = bytes ≡ []
+Says t partners kind status now v m Update bytes = Lawful t kind status now bytes (ink_at t partners v) (wanted_of v m)
+Says t partners kind status now v m Bell bytes = t.line_of Bel ≡ Some bytes
+Says t partners kind status now v m End bytes = bytes ≡ finish_text t status
 
--- the first bytes of something that is so
+-- the first bytes of something that is so, and not all of them
 pub record IsFront (whole : List ℕ → Type 0) (bytes : List ℕ) : Type 0 where
   pub back : List ℕ
   pub is : whole (bytes ++ back)
+  pub some_left : 0 < length back
 
 -- by the answer: all of it, or a front of it, and nothing where the call was refused
 abbrev pub Emits : (List ℕ → Type 0) → Answer → List ℕ → Type 0
@@ -127,7 +131,8 @@ abbrev pub Due : {W : Type 0} → Subject W → Moment W → Call → List ℕ �
 Due about before call =
     let t = about.table in
     let d = scene_at about before call in
-    Says t about.partners (IsAfter t before.bytes) before.scene.status d.screen d.mode (output_of call)
+    let now = shown_mode before.scene.status (Some before.last_mode) in
+    Says t about.partners (IsAfter t before.bytes) before.scene.status now d.screen d.mode (output_of call)
 
 -- the most that a refresh sends then
 abbrev pub most_at : {W : Type 0} → Subject W → Moment W → Call → ℕ
