@@ -13,7 +13,7 @@ use Rattle.cur_looks.specs.Beliefs.{Agrees, is_shown}
 use Rattle.cur_looks.specs.declared.beliefs.Belief.{Belief}
 use Rattle.cur_looks.specs.declared.beliefs.Place.{Place}
 use Rattle.cur_looks.specs.declared.inks.Ink.{Ink}
-use Rattle.cur_paint.specs.Limits.{paint_limit, fresh_limit, IsPlaced}
+use Rattle.cur_paint.specs.Limits.{paint_limit, fresh_limit, IsCursor, IsPlaced}
 use Rattle.cur_paint.specs.declared.updates.Wanted.{Wanted}
 use Rattle.cur_paint.specs.declared.updates.Knowledge.{Knowledge}
 use Rattle.cur_paint.specs.declared.updates.Status.{Status}
@@ -31,10 +31,6 @@ abbrev pub Fits : Table → (ℕ → ℕ → Ink) → Status → Belief → Stat
 Fits t shown Fresh b s = IsFresh t s
 Fits t shown Known b s = Agrees t shown b s
 Fits t shown Lost b s = IsLost t s
-
-abbrev pub IsCursor : Option Place → ℕ → ℕ → Type 0
-IsCursor None row col = Unit {0}
-IsCursor (Some p) row col = (row ≡ p.row) × (col ≡ p.col)
 
 -- nothing is open, each cell has the look of the screen's, the cursor is where it is wanted, if a place is, and visible as is wanted
 pub record Shows (t : Table) (g : ℕ → ℕ → Ink) (w : Wanted) (s : State) : Type 0 where
@@ -74,7 +70,7 @@ refresh_limit t shown g _ b w = fresh_limit t
 pub record Draws {W T E : Type 0} (went : W → W → List ℕ → Type 0) (failures : W → ℕ) (old new : W) (answer : Result T E) (t : Table) (shown g : ℕ → ℕ → Ink) (w : Wanted) (status : Status) (b after : Belief) : Type 0 where
   pub step : Steps went failures old new answer (IsPiece t) (refresh_limit t shown g status b w) (IsLost t) (Fits t shown status b) (Agrees t g after)
   pub begins : Begins t status w.clear step.bytes
-  pub there : OnOk answer (IsPlaced w.cursor after.place)
+  pub there : OnOk answer (IsPlaced t.cols w.cursor after.place)
   pub mode : OnOk answer (after.mode ≡ Some w.mode)
 
 -- the same from one kind of states, with the most that goes out and what it begins with
@@ -91,7 +87,7 @@ pub record Refreshed {W : Type 0} (went : W → W → List ℕ → Type 0) (old 
   pub lawful : Lawful t (Fits t shown before.status before.belief) before.status bytes g w
   pub fits : (s : State) → Fits t shown before.status before.belief s → Ends s bytes (Fits t g Known after.belief)
   pub known : after.status ≡ Known
-  pub there : IsPlaced w.cursor after.belief.place
+  pub there : IsPlaced t.cols w.cursor after.belief.place
   pub mode : after.belief.mode ≡ Some w.mode
 
 -- A refresh that the wire cut short: a front of lawful bytes went out, and the terminal may be in any state that fits a lost session.

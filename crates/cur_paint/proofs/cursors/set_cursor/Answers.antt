@@ -22,5 +22,5 @@ returns-clause-step g c =
     let t = g.C.Certificate.table c.args.screens.now.checked.now in
     let b = c.args.belief.now in
     steps_next g.W.Wire.went g.W.Wire.failures g.met.W.Wire.lawful c.args.wire.now c.show_as.new.wire c.place_cursor.new.wire _ c.place_cursor.result (IsPiece t)
-    (changes b.mode c.args.wanted.mode * modes_limit t) (last_move c.show_as.new.belief.place c.args.wanted.cursor * t.longest.cup) (cursor_limit t b c.args.wanted.cursor c.args.wanted.mode) (IsLost t)
-    (Agrees t h b) (Agrees t h c.show_as.new.belief) (Agrees t h c.place_cursor.new.belief) (omega (arith, ap (λ (x : Belief). last_move x.place c.args.wanted.cursor * t.longest.cup) c.in_ok-show_as.ensures.belief)) (c.in_ok-show_as.ensures.step h) c.place_cursor.ensures.step
+    (changes b.mode c.args.wanted.mode * modes_limit t) (last_move t.cols c.show_as.new.belief.place c.args.wanted.cursor * t.longest.cup) (cursor_limit t b c.args.wanted.cursor c.args.wanted.mode) (IsLost t)
+    (Agrees t h b) (Agrees t h c.show_as.new.belief) (Agrees t h c.place_cursor.new.belief) (omega (arith, ap (λ (x : Belief). last_move t.cols x.place c.args.wanted.cursor * t.longest.cup) c.in_ok-show_as.ensures.belief)) (c.in_ok-show_as.ensures.step h) c.place_cursor.ensures.step
