@@ -20,9 +20,8 @@ few : (b : Bool) → (if b then 0 else 1) ≤ 1
 few true = omega arith
 few false = omega arith
 
-pub moves_few : (p : Option Place) (r c : ℕ) → moves p r c ≤ 1
-moves_few None r c = omega arith
-moves_few (Some p) r c = few ((p.row == r) && (p.col == c))
+pub moves_few : (p : Place) (r c : ℕ) → moves p r c ≤ 1
+moves_few p r c = few ((p.row == r) && (p.col == c))
 
 pub at_most : (k l : ℕ) → k ≤ 1 → k * l ≤ l
 at_most zero l h = omega arith

@@ -14,14 +14,13 @@ pub use Rattle.cur_looks.specs.declared.beliefs.Mode.{Mode}
 pub use Rattle.cur_looks.specs.declared.beliefs.Mode.TheVariants.{Hidden, Normal, Prominent}
 
 -- where the cursor is; past the last column a wrap is pending in that column (VT100 user guide, autowrap)
-abbrev pub IsHere : ℕ → Option Place → ℕ → ℕ → Bool → Type 0
-IsHere cols None row col pending = Unit {0}
-IsHere cols (Some p) row col pending = (row ≡ p.row) × (col ≡ min p.col (cols - 1)) × (pending ≡ nat_le cols p.col)
+abbrev pub IsHere : ℕ → Place → ℕ → ℕ → Bool → Type 0
+IsHere cols p row col pending = (row ≡ p.row) × (col ≡ min p.col (cols - 1)) × (pending ≡ nat_le cols p.col)
 
 -- the next character goes to this place: the cursor is there, or a wrap is pending in the line above
-abbrev pub IsNext : ℕ → Option Place → ℕ → ℕ → Type 0
-IsNext cols place row col = (place ≡ Some (record { row = row; col = col }))
-    ⊎ ((place ≡ Some (record { row = row - 1; col = cols })) × (1 ≤ row) × (col ≡ 0))
+abbrev pub IsNext : ℕ → Place → ℕ → ℕ → Type 0
+IsNext cols place row col = (place ≡ record { row = row; col = col })
+    ⊎ ((place ≡ record { row = row - 1; col = cols }) × (1 ≤ row) × (col ≡ 0))
 
 abbrev pub IsSo : Option Bool → Bool → Type 0
 IsSo None b = Unit {0}
@@ -53,9 +52,8 @@ pub record Turns (t : Table) (row : Row) (g : ℕ → ℕ → Ink) (b : Belief) 
       → Ended t row s.screen u.screen → Agrees t h c u
 
 -- how many moves it takes: none or one
-abbrev pub moves : Option Place → ℕ → ℕ → ℕ
-moves None row col = 1
-moves (Some p) row col = if (p.row == row) && (p.col == col) then 0 else 1
+abbrev pub moves : Place → ℕ → ℕ → ℕ
+moves p row col = if (p.row == row) && (p.col == col) then 0 else 1
 
 -- the row whose line makes a set the active one
 abbrev pub set_row : Bool → Row

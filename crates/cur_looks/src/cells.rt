@@ -119,7 +119,7 @@ pub(crate) fn reach_in_brush<C: Certificate, N: Picture, W: Wire>(
     requires drawable { CanShow (C.table target.now.checked.now) (N.cells target.now.shown.now) }
     requires colored { IsColored (C.table target.now.checked.now) wanted }
     ensures brush { OnOk result (belief.new.brush ≡ wanted) }
-    ensures place { OnOk result (belief.new.place ≡ Some at) }
+    ensures place { OnOk result (belief.new.place ≡ at) }
     ensures step { KeepsFrom W.went W.failures wire.old wire.new result (C.table target.now.checked.now)
         (ready_limit (C.table target.now.checked.now)) (N.cells target.now.shown.now) at belief.old belief.new }
     ensures mode { OnOk result (belief.new.mode ≡ belief.old.mode) }
@@ -149,13 +149,10 @@ fn print_in_set<C: Certificate, W: Wire>(
 }
 
 /// Whether the cursor is at `place` with a wrap pending that takes the next character to `at`.
-fn wraps_to(place: Option<Place>, cols: usize, at: Place) -> bool
+fn wraps_to(place: Place, cols: usize, at: Place) -> bool
     ensures { result ≡ true → IsNext cols place at.row at.col }
 {
-    match place {
-        Some(p) => at.col == 0 && at.row > 0 && p.row == at.row - 1 && p.col == cols,
-        None => false,
-    }
+    at.col == 0 && at.row > 0 && place.row == at.row - 1 && place.col == cols
 }
 
 /// Takes the next character to `at`, in a line that is shown as far as that place.

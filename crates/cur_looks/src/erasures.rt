@@ -58,7 +58,7 @@ fn erase_here<C: Certificate, W: Wire>(
     requires checked { IsChecked (C.table checked.now) }
     requires col { at.col < (C.table checked.now).cols }
     requires line { (C.table checked.now).line_of (erasure_row erasure) ≡ Some line.now }
-    requires place { belief.now.place ≡ Some at }
+    requires place { belief.now.place ≡ at }
     requires brush { belief.now.brush ≡ plain_brush }
     ensures step { Makes W.went W.failures wire.old wire.new result (C.table checked.now)
         (C.table checked.now).longest.erasure (erased erasure at.row at.col) belief.now belief.now }
@@ -75,7 +75,7 @@ fn reach_plainly<C: Certificate, W: Wire>(
 ) -> Result<(), WireFault>
     requires goal { IsGoal (C.table checked.now) at }
     ensures brush { OnOk result (belief.new.brush ≡ plain_brush) }
-    ensures place { OnOk result (belief.new.place ≡ Some at) }
+    ensures place { OnOk result (belief.new.place ≡ at) }
     ensures step { Keeps W.went W.failures wire.old wire.new result (C.table checked.now)
         (ready_limit (C.table checked.now)) belief.old belief.new }
     ensures mode { OnOk result (belief.new.mode ≡ belief.old.mode) }

@@ -1,5 +1,5 @@
 -- The cursor's mode, as the last thing but its place that is set.
-use Rattle.std.proofs.Common.{◌≡◌, ℕ, ◌+◌, ◌*◌, ◌≤◌, Bool, true, false, List, [], ◌++◌, length, Option, Some, None, Result, Ok, Err, sym, ap, ◌∙◌, arith, append_assoc, if◌then◌else◌}
+use Rattle.std.proofs.Common.{ℕ, ◌+◌, ◌*◌, ◌≤◌, Bool, true, false, List, [], ◌++◌, Option, Some, None, Result, Ok, Err, sym, ap, ◌∙◌, arith, append_assoc, if◌then◌else◌}
 use Rattle.std.proofs.lemmas.List.{append-nil}
 use Rattle.std.specs.Prelude.{OnOk}
 use Rattle.vt_term.specs.Screen.{State}
@@ -13,7 +13,7 @@ use Rattle.cur_looks.specs.Beliefs.{mode_text, same_mode, setting_text}
 use Rattle.cur_looks.specs.declared.beliefs.Mode.{Mode}
 use Rattle.cur_looks.specs.declared.beliefs.Place.{Place}
 use Rattle.cur_looks.proofs.Answers.{at_most, moves_few}
-use Rattle.cur_paint.specs.Limits.{last_move}
+use Rattle.cur_paint.specs.Limits.{last_move, seen_at}
 use Rattle.cur_paint.specs.Modes.{IsNearEnd, SetsMode, move_limit}
 use Rattle.cur_paint.specs.Scenes.{Sets}
 
@@ -35,9 +35,9 @@ sets_anyway t (Some n) cursor m bytes h = less (same_mode n m) (move_limit t cur
     less true limit text bytes h = record { front = bytes; back = []; parts = sym (append-nil bytes); short = omega arith }
     less false limit text bytes h = h
 
-pub move_short : (t : Table) (now cursor : Option Place) → last_move now cursor * t.longest.cup ≤ move_limit t cursor
+pub move_short : (t : Table) (now : Place) (cursor : Option Place) → last_move t.cols now cursor * t.longest.cup ≤ move_limit t cursor
 move_short t now None = omega arith
-move_short t now (Some p) = at_most (last_move now (Some p)) t.longest.cup (moves_few now p.row p.col)
+move_short t now (Some p) = at_most (last_move t.cols now (Some p)) t.longest.cup (moves_few (seen_at t.cols now) p.row p.col)
 
 always : {T E : Type 0} (r : Result T E) (A : Type 0) → A → OnOk r A
 always (Ok x) A a = a

@@ -74,10 +74,10 @@ resync_leads t checked mode = record {
 }
 
 -- all is erased on the background that is set
-pub all_cleared : (t : Table) (g : ℕ → ℕ → Ink) (b : Belief) → Turns t Clear g b (cleared b.brush.background) (record b { place = Some (record { row = 0; col = 0 }) })
+pub all_cleared : (t : Table) (g : ℕ → ℕ → Ink) (b : Belief) → Turns t Clear g b (cleared b.brush.background) (record b { place = record { row = 0; col = 0 } })
 all_cleared t g b = record {
   starts = λ s h. free_of t s h.ready;
-  ends = λ s u h sized closed w. by_screen t (Agrees t (cleared b.brush.background) (record b { place = Some (record { row = 0; col = 0 }) })) u
+  ends = λ s u h sized closed w. by_screen t (Agrees t (cleared b.brush.background) (record b { place = record { row = 0; col = 0 } })) u
       (record s.screen { grid = drawn (λ i j old. blank s.screen.rendition) s.screen.grid; row = 0; col = 0; pending = false }) sized closed w.wants
       (λ k. record {
         ready = record { sized = k; rest = refl; tame = record { autowrap = h.ready.tame.autowrap; inserting = h.ready.tame.inserting }; whole = record { top = h.ready.whole.top; bottom = h.ready.whole.bottom }; settled = h.ready.settled; visible = h.ready.visible };
@@ -93,11 +93,11 @@ all_cleared t g b = record {
 }
 
 pub clear_leads : (t : Table) → IsChecked t → (line : List ℕ) → t.line_of Clear ≡ Some line → (g : ℕ → ℕ → Ink) (b : Belief)
-    → Leads (IsPiece t) (length line) (IsLost t) (Agrees t g b) line (Agrees t (cleared b.brush.background) (record b { place = Some (record { row = 0; col = 0 }) }))
-clear_leads t checked line is g b = line_leads t checked Clear line is (length line) (omega arith) g (cleared b.brush.background) b (record b { place = Some (record { row = 0; col = 0 }) }) (all_cleared t g b)
+    → Leads (IsPiece t) (length line) (IsLost t) (Agrees t g b) line (Agrees t (cleared b.brush.background) (record b { place = record { row = 0; col = 0 } }))
+clear_leads t checked line is g b = line_leads t checked Clear line is (length line) (omega arith) g (cleared b.brush.background) b (record b { place = record { row = 0; col = 0 } }) (all_cleared t g b)
 
 pub draws_fresh : {W T E : Type 0} (went : W → W → List ℕ → Type 0) (failures : W → ℕ) (a z : W) (answer : Result T E) (t : Table) (shown g : ℕ → ℕ → Ink) (w : Wanted) (status : Status) (b after : Belief) → status ≡ Fresh
-    → Anew went failures a z answer t (fresh_limit t) (IsLeft t (Some Normal)) (Agrees t g after) t.resync (Some Normal) w → OnOk answer (IsPlaced w.cursor after.place) → OnOk answer (after.mode ≡ Some w.mode) → Draws went failures a z answer t shown g w status b after
+    → Anew went failures a z answer t (fresh_limit t) (IsLeft t (Some Normal)) (Agrees t g after) t.resync (Some Normal) w → OnOk answer (IsPlaced t.cols w.cursor after.place) → OnOk answer (after.mode ≡ Some w.mode) → Draws went failures a z answer t shown g w status b after
 draws_fresh went failures a z answer t shown g w status b after e h there mode =
     let D : State → Type 0 = then_kind answer (Agrees t g after) (IsLost t) in
     let P : Status → Type 0 = λ x. Draws went failures a z answer t shown g w x b after in
@@ -110,7 +110,7 @@ draws_fresh went failures a z answer t shown g w status b after e h there mode =
     })
 
 pub draws_lost : {W T E : Type 0} (went : W → W → List ℕ → Type 0) (failures : W → ℕ) (a z : W) (answer : Result T E) (t : Table) (shown g : ℕ → ℕ → Ink) (w : Wanted) (status : Status) (b after : Belief) → status ≡ Lost
-    → Anew went failures a z answer t (fresh_limit t) (IsLeft t None) (Agrees t g after) t.resync None w → OnOk answer (IsPlaced w.cursor after.place) → OnOk answer (after.mode ≡ Some w.mode) → Draws went failures a z answer t shown g w status b after
+    → Anew went failures a z answer t (fresh_limit t) (IsLeft t None) (Agrees t g after) t.resync None w → OnOk answer (IsPlaced t.cols w.cursor after.place) → OnOk answer (after.mode ≡ Some w.mode) → Draws went failures a z answer t shown g w status b after
 draws_lost went failures a z answer t shown g w status b after e h there mode =
     let D : State → Type 0 = then_kind answer (Agrees t g after) (IsLost t) in
     let P : Status → Type 0 = λ x. Draws went failures a z answer t shown g w x b after in
@@ -127,7 +127,7 @@ as_wanted w x e = ap (λ (y : Bool). record w { clear = y }) e
 
 pub draws_known : {W T E : Type 0} (went : W → W → List ℕ → Type 0) (failures : W → ℕ) (a z : W) (answer : Result T E) (t : Table) (shown g : ℕ → ℕ → Ink) (w : Wanted) (status : Status) (b after : Belief) → status ≡ Known → w.clear ≡ false
     → Sets went failures a z answer t (paint_limit t shown g b w.cursor w.mode) b.mode w.cursor w.mode (Agrees t shown b) (Agrees t g after)
-    → OnOk answer (IsPlaced w.cursor after.place) → OnOk answer (after.mode ≡ Some w.mode) → Draws went failures a z answer t shown g w status b after
+    → OnOk answer (IsPlaced t.cols w.cursor after.place) → OnOk answer (after.mode ≡ Some w.mode) → Draws went failures a z answer t shown g w status b after
 draws_known went failures a z answer t shown g w status b after e f h there mode =
     let P : Status → Type 0 = λ x. Draws went failures a z answer t shown g w x b after in
     let Q : Wanted → Type 0 = λ x. Draws went failures a z answer t shown g x Known b after in
@@ -135,7 +135,7 @@ draws_known went failures a z answer t shown g w status b after e f h there mode
 
 pub draws_clear : {W T E : Type 0} (went : W → W → List ℕ → Type 0) (failures : W → ℕ) (a z : W) (answer : Result T E) (t : Table) (shown g : ℕ → ℕ → Ink) (w : Wanted) (status : Status) (b after : Belief) → status ≡ Known → w.clear ≡ true
     → (line : List ℕ) → t.line_of Clear ≡ Some line → (n : ℕ) → n ≤ fresh_limit t → Anew went failures a z answer t n (Agrees t shown b) (Agrees t g after) line b.mode w
-    → OnOk answer (IsPlaced w.cursor after.place) → OnOk answer (after.mode ≡ Some w.mode) → Draws went failures a z answer t shown g w status b after
+    → OnOk answer (IsPlaced t.cols w.cursor after.place) → OnOk answer (after.mode ≡ Some w.mode) → Draws went failures a z answer t shown g w status b after
 draws_clear went failures a z answer t shown g w status b after e f line is n le h there mode =
     let P : Status → Type 0 = λ x. Draws went failures a z answer t shown g w x b after in
     let Q : Wanted → Type 0 = λ x. Draws went failures a z answer t shown g x Known b after in

@@ -22,8 +22,8 @@ use Rattle.cur_paint.proofs.ModeFacts.{near_more, sets_anyway}
 use Rattle.cur_paint.proofs.Reaches.{Completes, anywhere_completes, agrees_shows}
 
 pub refreshed : {W T E : Type 0} (went : W → W → List ℕ → Type 0) (failures : W → ℕ) (a z : W) (v : T) (t : Table) (shown g : ℕ → ℕ → Ink) (w : Wanted) (before : Knowledge) (after : Belief)
-    → IsWithin t w.cursor → Draws {T = T} {E = E} went failures a z (Ok v) t shown g w before.status before.belief after → Refreshed went a z t shown g w before (record { status = Known; belief = after })
-refreshed went failures a z v t shown g w before after within d = record {
+    → Draws {T = T} {E = E} went failures a z (Ok v) t shown g w before.status before.belief after → Refreshed went a z t shown g w before (record { status = Known; belief = after })
+refreshed went failures a z v t shown g w before after d = record {
   bytes = d.step.bytes;
   sent = d.step.sends;
   bound = d.step.leads.bound;
@@ -32,7 +32,7 @@ refreshed went failures a z v t shown g w before after within d = record {
     made = d.step.leads.made;
     each = d.step.leads.each;
     begins = d.begins;
-    shows = λ s f. (let e = d.step.leads.ends s f in record { after = e.after; runs = e.runs; there = agrees_shows t g after w within d.there d.mode e.after e.there });
+    shows = λ s f. (let e = d.step.leads.ends s f in record { after = e.after; runs = e.runs; there = agrees_shows t g after w d.there d.mode e.after e.there });
     sets = d.sets;
   };
   fits = d.step.leads.ends;

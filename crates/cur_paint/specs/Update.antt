@@ -1,5 +1,5 @@
 -- What a refresh promises, done or cut short.
-use Rattle.std.specs.Prelude.{ℕ, ◌<◌, ◌≤◌, ◌≡◌, Bool, true, false, List, [], ◌++◌, length, Option, Some, None, Result, Ok, Err, OnOk, if◌then◌else◌}
+use Rattle.std.specs.Prelude.{ℕ, ◌<◌, ◌≤◌, ◌≡◌, Bool, true, false, List, [], ◌++◌, length, Option, Some, Result, Ok, Err, OnOk, if◌then◌else◌}
 use Rattle.std.specs.List.{AllByRecursion, concat}
 use Rattle.vt_term.specs.Grid.{look_at}
 use Rattle.vt_term.specs.Screen.{State}
@@ -12,9 +12,8 @@ use Rattle.cur_looks.specs.Inks.{look_of}
 use Rattle.cur_looks.specs.Beliefs.{Agrees, is_shown}
 use Rattle.cur_looks.specs.declared.beliefs.Belief.{Belief}
 use Rattle.cur_looks.specs.declared.beliefs.Mode.{Mode}
-use Rattle.cur_looks.specs.declared.beliefs.Place.{Place}
 use Rattle.cur_looks.specs.declared.inks.Ink.{Ink}
-use Rattle.cur_paint.specs.Limits.{paint_limit, fresh_limit, IsPlaced}
+use Rattle.cur_paint.specs.Limits.{paint_limit, fresh_limit, IsCursor, IsPlaced}
 use Rattle.cur_paint.specs.Modes.{SetsMode, shown_mode}
 use Rattle.cur_paint.specs.declared.updates.Wanted.{Wanted}
 use Rattle.cur_paint.specs.declared.updates.Knowledge.{Knowledge}
@@ -33,10 +32,6 @@ abbrev pub Fits : Table → (ℕ → ℕ → Ink) → Status → Belief → Stat
 Fits t shown Fresh b s = IsFresh t s
 Fits t shown Known b s = Agrees t shown b s
 Fits t shown Lost b s = IsLost t s
-
-abbrev pub IsCursor : Option Place → ℕ → ℕ → Type 0
-IsCursor None row col = Unit {0}
-IsCursor (Some p) row col = (row ≡ p.row) × (col ≡ p.col)
 
 -- nothing is open, each cell has the look of the screen's, the cursor is where it is wanted, if a place is, and visible as is wanted
 pub record Shows (t : Table) (g : ℕ → ℕ → Ink) (w : Wanted) (s : State) : Type 0 where
@@ -79,7 +74,7 @@ refresh_limit t shown g _ b w = fresh_limit t
 pub record Draws {W T E : Type 0} (went : W → W → List ℕ → Type 0) (failures : W → ℕ) (old new : W) (answer : Result T E) (t : Table) (shown g : ℕ → ℕ → Ink) (w : Wanted) (status : Status) (b after : Belief) : Type 0 where
   pub step : Steps went failures old new answer (IsPiece t) (refresh_limit t shown g status b w) (IsLost t) (Fits t shown status b) (Agrees t g after)
   pub begins : Begins t status w.clear step.bytes
-  pub there : OnOk answer (IsPlaced w.cursor after.place)
+  pub there : OnOk answer (IsPlaced t.cols w.cursor after.place)
   pub mode : OnOk answer (after.mode ≡ Some w.mode)
   pub sets : OnOk answer (SetsMode t (shown_mode status b.mode) w.cursor w.mode step.bytes)
 
@@ -102,7 +97,7 @@ pub record Refreshed {W : Type 0} (went : W → W → List ℕ → Type 0) (old 
       (shown_mode before.status before.belief.mode) bytes g w
   pub fits : (s : State) → Fits t shown before.status before.belief s → Ends s bytes (Fits t g Known after.belief)
   pub known : after.status ≡ Known
-  pub there : IsPlaced w.cursor after.belief.place
+  pub there : IsPlaced t.cols w.cursor after.belief.place
   pub mode : after.belief.mode ≡ Some w.mode
 
 -- A refresh that the wire cut short: a front of lawful bytes, and not all of them, went out, and the terminal may be in

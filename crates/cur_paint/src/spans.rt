@@ -106,7 +106,7 @@ fn like_cells<O: Picture, N: Picture>(
 /// in the set and the brush of `ink`.
 fn is_led_on(belief: &Belief, row: usize, col: usize, ink: Ink, count: usize) -> bool
     ensures some { result ≡ true → 0 < count }
-    ensures place { result ≡ true → belief.now.place ≡ Some (record { row = row; col = col }) }
+    ensures place { result ≡ true → belief.now.place ≡ record { row = row; col = col } }
     ensures alike { result ≡ true → IsAlike belief.now ink }
 {
     count > 0 && goes_on(belief, Place { row, col }, ink)

@@ -10,7 +10,7 @@ use Rattle.cur_windows.specs.VirtualScreen.{Screen, new_screen}
 use Rattle.cur_wires.specs.Wire.{Rose}
 use Rattle.cur_looks.specs.declared.beliefs.Mode.{Mode}
 use Rattle.cur_paint.specs.Finish.{finish_text}
-use Rattle.cur_paint.specs.Limits.{IsPlaced, fresh_limit}
+use Rattle.cur_paint.specs.Limits.{IsCursor, fresh_limit}
 use Rattle.cur_paint.specs.Modes.{shown_mode}
 use Rattle.cur_paint.specs.Update.{IsFresh, Lawful, Shows}
 use Rattle.cur_paint.specs.declared.updates.Status.{Status}
@@ -112,11 +112,11 @@ most t Known false last v = (in_lines last v t.cols t.rows + 1) * cell_limit t
 most t Known true last v = fresh_limit t
 most t _ clear last v = fresh_limit t
 
--- No cell of the virtual screen differs from what was shown last, nor does the cursor's mode, and the cursor is wanted
--- where it was wanted then, or nowhere. Nothing is to be cleared.
-pub record IsUnchanged (t : Table) (last : Screen) (last_mode : Mode) (v : Screen) (m : Mode) : Type 0 where
+-- No cell of the virtual screen differs from what was shown last, nor does the cursor's mode, and the terminal, in this
+-- state, has its cursor where it is wanted, or it is wanted nowhere. Nothing is to be cleared.
+pub record IsUnchanged (t : Table) (last : Screen) (last_mode : Mode) (s : State) (v : Screen) (m : Mode) : Type 0 where
   pub same : in_lines last v t.cols t.rows ≡ 0
-  pub placed : IsPlaced (place_of v.cursor) (place_of last.cursor)
+  pub cursor : IsCursor (place_of v.cursor) s.screen.row s.screen.col
   pub mode : m ≡ last_mode
   pub clear : v.clearok ≡ false
 
@@ -140,11 +140,11 @@ most_at about before call =
     let v = (scene_at about before call).screen in
     most about.table before.scene.status v.clearok before.last v
 
--- nothing differs from what was shown last
-abbrev pub IsUnchangedAt : {W : Type 0} → Subject W → Moment W → Call → Type 0
-IsUnchangedAt about before call =
+-- nothing differs from what was shown last, where the terminal is in this state
+abbrev pub IsUnchangedAt : {W : Type 0} → Subject W → Moment W → State → Call → Type 0
+IsUnchangedAt about before s call =
     let d = scene_at about before call in
-    IsUnchanged about.table before.last before.last_mode d.screen d.mode
+    IsUnchanged about.table before.last before.last_mode s d.screen d.mode
 
 -- every terminal that begins in a first state is so after the bytes, and takes all of them
 abbrev pub FromFresh : {W : Type 0} → Subject W → List ℕ → (State → Type 0) → Type 0
@@ -175,8 +175,10 @@ pub record Tells {W : Type 0} (about : Subject W) (before : Moment W) (call : Ca
   pub shows : is_shown (output_of call) e.answer ≡ true → FromFresh about after.bytes (ShowsScene about after.scene)
   -- a refresh keeps its bound, done or cut short
   pub bound : output_of call ≡ Update → length piece ≤ most_at about before call
-  -- it sends nothing where the terminal is known and nothing differs from what was shown last
-  pub idle : output_of call ≡ Update → before.scene.status ≡ Known → IsUnchangedAt about before call → piece ≡ []
+  -- it sends nothing where the terminal is known and nothing differs from what was shown last, with the cursor that the
+  -- terminal has after all that went out before
+  pub idle : output_of call ≡ Update → before.scene.status ≡ Known → (s : State) → IsAfter about.table before.bytes s
+      → IsUnchangedAt about before s call → piece ≡ []
   -- what was shown last
   pub last : after.last ≡ last_after (output_of call) e.answer before.last after.scene.screen
   pub last_mode : after.last_mode ≡ mode_after (output_of call) e.answer before.last_mode after.scene.mode

@@ -28,6 +28,6 @@ returns-clause-step g c =
     let w = c.args.wanted in
     let d : Belief = c.show_as.new.belief in
     sets_last g.W.Wire.went g.W.Wire.failures g.met.W.Wire.lawful c.args.wire.now c.show_as.new.wire c.place_cursor.new.wire _ c.place_cursor.result t
-    (changes b.mode w.mode * modes_limit t) (last_move d.place w.cursor * t.longest.cup) (cursor_limit t b w.cursor w.mode) b.mode w.cursor w.mode
-    (Agrees t h b) (Agrees t h d) (Agrees t h c.place_cursor.new.belief) (omega (arith, ap (λ (x : Belief). last_move x.place w.cursor * t.longest.cup) c.in_ok-show_as.ensures.belief))
+    (changes b.mode w.mode * modes_limit t) (last_move t.cols d.place w.cursor * t.longest.cup) (cursor_limit t b w.cursor w.mode) b.mode w.cursor w.mode
+    (Agrees t h b) (Agrees t h d) (Agrees t h c.place_cursor.new.belief) (omega (arith, ap (λ (x : Belief). last_move t.cols x.place w.cursor * t.longest.cup) c.in_ok-show_as.ensures.belief))
     (move_short t d.place w.cursor) (c.in_ok-show_as.ensures.step h) c.place_cursor.ensures.step
