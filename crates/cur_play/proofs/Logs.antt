@@ -1,5 +1,5 @@
 -- One call after another, with what went out so far and the log so far.
-use Rattle.std.proofs.Common.{◌≡◌, ℕ, ◌+◌, ◌*◌, ◌^◌, ◌<◌, ◌≤◌, true, List, [], ◌∷◌, ◌++◌, length, drop, Option, refl, sym, ap, subst, ◌∙◌, arith, append_assoc, length-append, get_or, add-one, Some, None}
+use Rattle.std.proofs.Common.{◌≡◌, ℕ, ◌+◌, ◌*◌, ◌^◌, ◌<◌, ◌≤◌, true, List, [], ◌∷◌, ◌++◌, length, drop, Option, refl, sym, ap, subst, ◌∙◌, arith, append_assoc, length-append, get_or, add-one, Some}
 use Rattle.std.specs.Prelude.{suc}
 use Rattle.std.specs.Borrow.{MutBor}
 use Rattle.std.proofs.Math.Seq.{drop-cons, drop-length}

@@ -1,5 +1,5 @@
 -- The first field about a capability, by entries.
-use Rattle.std.proofs.Common.{◌≡◌, ℕ, Bool, true, false, List, [], ◌∷◌, ◌++◌, Option, Some, None, refl, sym, ap, ◌∙◌}
+use Rattle.std.proofs.Common.{◌≡◌, ℕ, Bool, List, [], ◌∷◌, ◌++◌, Option, Some, None, refl, sym, ap, ◌∙◌}
 use Rattle.std.specs.Prelude.{cond, ◌==◌, is_some, option_and_then}
 use Rattle.std.specs.List.{find}
 use Rattle.std.specs.Option.{option_or}

@@ -1,6 +1,6 @@
 -- Where the value of a capability stands, and that it is the value of the resolved entry.
 use Rattle.std.proofs.Common.{◌≡◌, ℕ, ◌<◌, ◌≤◌, Bool, true, false, List, [], ◌∷◌, Option, Some, None, Ok, refl, sym, ap, ◌∙◌, length, get_or, drop, ◌+◌, arith}
-use Rattle.std.specs.Prelude.{⊤, ◌==◌, if◌then◌else◌, nat_lt, option_map, slice_get}
+use Rattle.std.specs.Prelude.{⊤, if◌then◌else◌, nat_lt, option_map, slice_get}
 use Rattle.std.specs.List.{find, position, position_or_len}
 use Rattle.std.specs.Option.{option_or}
 use Rattle.std.proofs.lemmas.Bool.{cond_both, eqb-true}
@@ -9,7 +9,7 @@ use Rattle.std.proofs.lemmas.List.Folds.{find_at}
 use Rattle.std.proofs.lemmas.List.{drop_more}
 use Rattle.std.proofs.lemmas.Option.{slice_get-get_or, slice_get_past}
 use Rattle.ti_caps.specs.declared.value.Value.{Value}
-use Rattle.ti_caps.specs.Entry.{Content, value_at}
+use Rattle.ti_caps.specs.Entry.{value_at}
 use Rattle.ti_source.specs.declared.types.Field.{Field}
 use Rattle.ti_source.specs.declared.types.Field.TheVariants.{Set, Cancel, Include}
 use Rattle.ti_source.specs.declared.types.RawEntry.{RawEntry}

@@ -1,5 +1,5 @@
 -- What the calls of `resolve` give together.
-use Rattle.std.proofs.Common.{◌≡◌, ℕ, List, [], Some, None, Ok, Err, refl, sym, ap, ◌∙◌}
+use Rattle.std.proofs.Common.{◌≡◌, ℕ, List, Some, None, Ok, Err, refl, sym, ap, ◌∙◌}
 use Rattle.ti_caps.specs.Entry.{Content, value_at, bare_entry}
 use Rattle.ti_source.specs.declared.types.RawEntry.{RawEntry}
 use Rattle.ti_resolve.specs.declared.faults.ResolveFault.TheVariants.{NoSuchEntry}

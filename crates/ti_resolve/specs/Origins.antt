@@ -1,10 +1,10 @@
 -- Where the value of a capability stands that an entry has with all that it uses.
-use Rattle.std.specs.Prelude.{ℕ, ◌≡◌, ◌<◌, Bool, true, false, List, [], ◌∷◌, Option, Some, None, if◌then◌else◌, slice_get, option_map}
+use Rattle.std.specs.Prelude.{ℕ, ◌≡◌, Bool, true, false, List, [], ◌∷◌, Option, Some, None, if◌then◌else◌, slice_get, option_map}
 use Rattle.std.specs.List.{position}
 use Rattle.std.specs.Option.{option_or}
 use Rattle.ti_caps.specs.Entry.{Content, value_at}
 use Rattle.ti_source.specs.declared.types.Field.{Field}
-use Rattle.ti_source.specs.declared.types.Field.TheVariants.{Set, Cancel, Include}
+use Rattle.ti_source.specs.declared.types.Field.TheVariants.{Set}
 use Rattle.ti_source.specs.declared.types.RawEntry.{RawEntry}
 use Rattle.ti_resolve.specs.declared.origins.Origin.{Origin}
 use Rattle.ti_resolve.specs.Resolved.{IsResolved, IsWhole}
