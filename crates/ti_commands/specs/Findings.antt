@@ -4,8 +4,8 @@ use Rattle.std.specs.Fmt.{decimal}
 use Rattle.std.specs.List.{flat_map}
 use Rattle.ti_caps.specs.Entry.{Content}
 use Rattle.ti_compiled.specs.Contents.{fit_of, read_of}
-use Rattle.ti_resolve.specs.Resolved.{IsResolved}
-use Rattle.ti_resolve.specs.Walk.{walk_of}
+use Rattle.ti_resolve.specs.Resolved.{IsResolved, IsResolvedAt}
+use Rattle.ti_resolve.specs.Walk.{walk_at, walk_of}
 use Rattle.ti_resolve.specs.declared.faults.ResolveFault.TheVariants as resolve_faults
 use Rattle.ti_source.specs.Source.{FailsBy, source_of}
 use Rattle.ti_source.specs.declared.types.FaultKind.TheVariants as fault_kinds
@@ -46,6 +46,12 @@ abbrev pub ResolvesTo : List RawEntry → List ℕ → Result Content CommandRef
 ResolvesTo raws name (Ok entry) = IsResolved raws name entry
 ResolvesTo raws name (Err (Resolve fault)) = (walk_of raws name ≡ Err fault) × (fault ≢ resolve_faults.NoMemory)
 ResolvesTo raws name (Err _) = ⊥
+
+-- the entry at this place, or why it can't be had
+abbrev pub ResolvesAt : List RawEntry → ℕ → Result Content CommandRefusal → Type 0
+ResolvesAt raws place (Ok entry) = IsResolvedAt raws place entry
+ResolvesAt raws place (Err (Resolve fault)) = (walk_at raws place ≡ Err fault) × (fault ≢ resolve_faults.NoMemory)
+ResolvesAt raws place (Err _) = ⊥
 
 abbrev pub FitsTo : Content → Result Content CommandRefusal → Type 0
 FitsTo packed (Ok entry) = fit_of packed ≡ Ok entry

@@ -1,10 +1,10 @@
 //! The ENTRY words of a line: an entry of a source file, or a compiled file.
 
-ghost use Rattle.std.specs.Prelude.{◌≡◌, ◌++◌, [], IfErr, IfNone, IfOk, IfSome, OnOk};
+ghost use Rattle.std.specs.Prelude.{◌≡◌, ◌<◌, ◌++◌, [], length, IfErr, IfNone, IfOk, IfSome, OnOk};
 ghost use Rattle.std.specs.List.{AllByRecursion, flat_map};
 ghost use Rattle.ti_source.specs.Raw.{IsRaw};
 ghost use Rattle.ti_commands.specs.Contents.{HasBytes, longest_file};
-ghost use Rattle.ti_commands.specs.Findings.{FailsInFile, FailsInSource, FailsToFind, Finds, FitsTo, IsOfFile, IsOfSource, IsPath, IsPathAndName, ResolvesTo, IsPackFailure, IsSourceFailure, note_line, note_name, notes_text};
+ghost use Rattle.ti_commands.specs.Findings.{FailsInFile, FailsInSource, FailsToFind, Finds, FitsTo, IsOfFile, IsOfSource, IsPath, IsPathAndName, ResolvesAt, ResolvesTo, IsPackFailure, IsSourceFailure, note_line, note_name, notes_text};
 
 use crate::contents::{LONGEST_FILE, read_whole};
 use crate::failure::{CommandRefusal, Failure};
@@ -12,7 +12,7 @@ use crate::files::Files;
 use std::alloc::{AllocError, Global};
 use ti_caps::Entry;
 use ti_compiled::{PackFault, Packed, decode};
-use ti_resolve::{ResolveFault, resolve};
+use ti_resolve::{ResolveFault, resolve, resolve_at};
 use ti_source::{FaultKind, Note, NoteKind, RawEntry, read};
 use ti_words::{Remarks, explain_packed, explain_resolving, explain_source, hint_carets};
 
@@ -109,7 +109,7 @@ fn find_in_text(
 }
 
 /// The entry `name` of those in `raws`, or why it can't be had.
-pub fn resolved_entry(
+fn resolved_entry(
     alloc: Global,
     raws: &[RawEntry],
     name: &[u8],
@@ -118,6 +118,23 @@ pub fn resolved_entry(
     ensures { IfOk result (λ entry. ResolvesTo raws.now name.now entry) }
 {
     match resolve(alloc, raws, name) {
+        Ok(entry) => Ok(Ok(entry)),
+        Err(ResolveFault::NoMemory) => Err(AllocError),
+        Err(fault) => Ok(Err(CommandRefusal::Resolve(fault))),
+    }
+}
+
+/// The entry at `place` in `raws`, or why it can't be had. Whatever names it has, and an entry before it, it is that one.
+pub fn entry_at(
+    alloc: Global,
+    raws: &[RawEntry],
+    place: usize,
+) -> Result<Result<Entry, CommandRefusal>, AllocError>
+    requires read { AllByRecursion IsRaw raws.now }
+    requires there { place < length raws.now }
+    ensures { IfOk result (λ entry. ResolvesAt raws.now place entry) }
+{
+    match resolve_at(alloc, raws, place) {
         Ok(entry) => Ok(Ok(entry)),
         Err(ResolveFault::NoMemory) => Err(AllocError),
         Err(fault) => Ok(Err(CommandRefusal::Resolve(fault))),

@@ -16,7 +16,7 @@ mod sizes;
 
 pub use contents::{LONGEST_FILE, file_fault, read_whole};
 pub use descriptions::{Comparison, compare_entries, compile_entry, entry_of, print_entry};
-pub use entries::{resolved_entry, unpacked_entry};
+pub use entries::{entry_at, unpacked_entry};
 pub use expansion::expand_string;
 pub use failure::{CommandRefusal, Failure, Reply, report, usage_error};
 pub use feeds::feed_file;

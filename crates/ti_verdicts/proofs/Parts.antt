@@ -1,9 +1,11 @@
 -- One more part, and the line of an entry.
 use Rattle.std.proofs.Common.{◌≡◌, ◌<◌, ℕ, zero, suc, ◌+◌, List, [], ◌∷◌, ◌++◌, length, take, get_or, Option, Some, None, Result, refl, sym, ap, subst, ◌∙◌, inl, inr, append_assoc, add-one, arith}
+use Rattle.std.specs.List.{range_with_len}
+use Rattle.std.specs.Prelude.{slice_get}
 use Rattle.std.proofs.lemmas.List.{append-nil}
 use Rattle.ti_caps.specs.Entry.{Content}
 use Rattle.ti_source.specs.declared.types.RawEntry.{RawEntry}
-use Rattle.ti_commands.specs.Findings.{ResolvesTo}
+use Rattle.ti_commands.specs.Findings.{ResolvesAt}
 use Rattle.ti_commands.specs.Contents.{Held}
 use Rattle.ti_commands.specs.Words.{texts_of}
 use Rattle.ti_commands.specs.declared.failure.Failure.{Failure}
@@ -29,20 +31,16 @@ unfolding HasParts
 parts_as P Q f [] text h = h
 parts_as P Q f (x ∷ xs) text h = (h.0, h.1, h.2, f x h.0 h.3, parts_as P Q f xs h.1 h.4)
 
-taken : {X : Type 0} (xs : List X) (n : ℕ) (d : X) → n < length xs → take (suc n) xs ≡ take n xs ++ get_or xs n d ∷ []
-taken [] n d h = absurd (omega (arith, h))
-taken (x ∷ xs) zero d h = refl
-taken (x ∷ xs) (suc n) d h = ap (λ (l : List _). x ∷ l) (taken xs n d (omega (arith, h)))
+range_more : (from n : ℕ) → range_with_len from (suc n) ≡ range_with_len from n ++ (from + n) ∷ []
+range_more from zero = ap (λ (k : ℕ). k ∷ []) (omega arith)
+range_more from (suc n) = ap (λ (l : List ℕ). from ∷ l) (range_more (from + 1) n ∙ ap (λ (k : ℕ). range_with_len (from + 1) n ++ k ∷ []) (omega arith))
 
-pub parts_more : {X : Type 0} (P : X → List ℕ → Type 0) (xs : List X) (n : ℕ) (d : X) (text own : List ℕ) → n < length xs → HasParts P (take n xs) text → P (get_or xs n d) own → HasParts P (take (n + 1) xs) (text ++ own)
-parts_more P xs n d text own l h p =
-    subst (λ (m : ℕ). HasParts P (take m xs) (text ++ own)) (sym (add-one n))
-    (subst (λ (ys : List _). HasParts P ys (text ++ own)) (sym (taken xs n d l)) (parts_end P (take n xs) (get_or xs n d) text own h p))
-
--- one more part, of an element that is at that place
-pub parts_step : {X : Type 0} (P : X → List ℕ → Type 0) (xs : List X) (n : ℕ) (x : X) (text own more : List ℕ) → n < length xs → x ≡ get_or xs n x → more ≡ text ++ own → HasParts P (take n xs) text → P x own → HasParts P (take (n + 1) xs) more
-parts_step P xs n x text own more l is spelled h p =
-    subst (λ (t : List ℕ). HasParts P (take (n + 1) xs) t) (sym spelled) (parts_more P xs n x text own l h (subst (λ (y : _). P y own) is p))
+-- one more part, of the place after those before it
+pub parts_step : (P : ℕ → List ℕ → Type 0) (n : ℕ) (text own more : List ℕ) → more ≡ text ++ own → HasParts P (range_with_len 0 n) text → P n own → HasParts P (range_with_len 0 (n + 1)) more
+parts_step P n text own more spelled h p =
+    let longer : range_with_len 0 n ++ n ∷ [] ≡ range_with_len 0 (n + 1) = ap (λ (k : ℕ). range_with_len 0 n ++ k ∷ []) (omega arith) ∙ (sym (range_more 0 n) ∙ ap (λ (m : ℕ). range_with_len 0 m) (sym (add-one n))) in
+    let Q : List ℕ → List ℕ → Type 0 = λ places t. HasParts P places t in
+    subst (λ (places : List ℕ). Q places more) longer (subst (λ (t : List ℕ). Q (range_with_len 0 n ++ n ∷ []) t) (sym spelled) (parts_end P (range_with_len 0 n) n text own h p))
 
 -- ---- paths
 
@@ -90,13 +88,15 @@ ends_step Says held now words n d lines own more failure told both l same spelle
 
 -- ---- lines
 
-pub source_line_of : (Says : Content → List ℕ → Type 0) (raws : List RawEntry) (raw : RawEntry) (entry : Result Content CommandRefusal) (names name words said line : List ℕ) → names ≡ raw.names → name ≡ first_name names → said ≡ words
-    → ResolvesTo raws name entry → IsTold Says entry words → line ≡ line_of name said → IsSourceLine Says raws raw line
-source_line_of Says raws raw entry names name words said line a b c r t e =
+pub source_line_of : (Says : Content → List ℕ → Type 0) (raws : List RawEntry) (place : ℕ) (raw : RawEntry) (entry : Result Content CommandRefusal) (names name words said line : List ℕ) → slice_get raws place ≡ Some raw → names ≡ raw.names
+    → name ≡ first_name names → said ≡ words → ResolvesAt raws place entry → IsTold Says entry words → line ≡ line_of name said → IsSourceLine Says raws place line
+source_line_of Says raws place raw entry names name words said line there a b c r t e =
     let named : name ≡ first_name raw.names = b ∙ ap first_name a in
     record {
+      raw = raw;
+      there = there;
       entry = entry;
-      resolves = subst (λ (n : List ℕ). ResolvesTo raws n entry) named r;
+      resolves = r;
       words = words;
       told = t;
       spelled = e ∙ (ap (λ (n : List ℕ). line_of n said) named ∙ ap (λ (w : List ℕ). line_of (first_name raw.names) w) c);

@@ -1,13 +1,13 @@
 -- The lines of a survey: one for each entry of a file, in order.
-use Rattle.std.specs.Prelude.{◌≡◌, ◌⊎◌, ◌==◌, ◌&&◌, ◌||◌, ℕ, Bool, true, false, List, [], ◌∷◌, ◌++◌, Result, Ok, Err, codes}
-use Rattle.std.specs.List.{before_first}
+use Rattle.std.specs.Prelude.{◌≡◌, ◌⊎◌, ◌==◌, ◌&&◌, ◌||◌, ℕ, Bool, true, false, List, [], ◌∷◌, ◌++◌, Some, Result, Ok, Err, codes, length, slice_get}
+use Rattle.std.specs.List.{before_first, range_with_len}
 use Rattle.ti_caps.specs.Entry.{Content}
 use Rattle.ti_checker.specs.declared.causes.No.{No}
 use Rattle.ti_compiled.specs.Contents.{read_of}
 use Rattle.ti_compiled.specs.declared.types.PackFault.{PackFault}
 use Rattle.ti_source.specs.Source.{source_of}
 use Rattle.ti_source.specs.declared.types.RawEntry.{RawEntry}
-use Rattle.ti_commands.specs.Findings.{FitsTo, IsSourceFailure, ResolvesTo}
+use Rattle.ti_commands.specs.Findings.{FitsTo, IsSourceFailure, ResolvesAt}
 use Rattle.ti_commands.specs.declared.failure.Failure.TheVariants.{Refused}
 use Rattle.ti_commands.specs.declared.failure.CommandRefusal.{CommandRefusal}
 use Rattle.ti_verdicts.specs.Refusals.{no_text}
@@ -59,10 +59,12 @@ IsTold Says (Err refusal) words = IsRefused words
 
 -- ---- lines
 
--- the line of an entry of a source text
-pub record IsSourceLine (Says : Content → List ℕ → Type 0) (raws : List RawEntry) (raw : RawEntry) (line : List ℕ) : Type 0 where
+-- the line of the entry at a place of a source text, whatever other entries have its names
+pub record IsSourceLine (Says : Content → List ℕ → Type 0) (raws : List RawEntry) (place : ℕ) (line : List ℕ) : Type 0 where
+  pub raw : RawEntry
+  pub there : slice_get raws place ≡ Some raw
   pub entry : Result Content CommandRefusal
-  pub resolves : ResolvesTo raws (first_name raw.names) entry
+  pub resolves : ResolvesAt raws place entry
   pub words : List ℕ
   pub told : IsTold Says entry words
   pub spelled : line ≡ line_of (first_name raw.names) words
@@ -102,7 +104,7 @@ pub record LacksEntry (path bytes line : List ℕ) : Type 0 where
 pub record HasEntries (Says : Content → List ℕ → Type 0) (bytes lines : List ℕ) : Type 0 where
   pub raws : List RawEntry
   pub reads : source_of bytes ≡ Ok raws
-  pub each : HasParts (IsSourceLine Says raws) raws lines
+  pub each : HasParts (IsSourceLine Says raws) (range_with_len 0 (length raws)) lines
 
 -- or it has a fault
 pub record LacksEntries (path bytes line : List ℕ) : Type 0 where

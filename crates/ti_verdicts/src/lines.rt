@@ -1,8 +1,8 @@
 //! The lines of a survey: one for each entry of a file.
 
-ghost use Rattle.std.specs.Prelude.{◌≡◌, ◌==◌, IfOk, false, true};
+ghost use Rattle.std.specs.Prelude.{◌≡◌, ◌==◌, ◌<◌, IfOk, Some, false, true, length, slice_get};
 ghost use Rattle.std.specs.List as List;
-ghost use Rattle.std.specs.List.{AllByRecursion};
+ghost use Rattle.std.specs.List.{AllByRecursion, range_with_len};
 ghost use Rattle.ti_source.specs.Raw.{IsRaw};
 ghost use Rattle.ti_verdicts.specs.Lines as spec;
 
@@ -14,7 +14,7 @@ use crate::watchers::{Course, Watcher};
 use std::alloc::{AllocError, Global};
 use ti_caps::Entry;
 use ti_checker::{Cause, No};
-use ti_commands::{CommandRefusal, resolved_entry, unpacked_entry};
+use ti_commands::{CommandRefusal, entry_at, unpacked_entry};
 use ti_compiled::{Packed, decode};
 use ti_resolve::ResolveFault;
 use ti_source::{FaultKind, RawEntry, read};
@@ -117,22 +117,32 @@ fn refusal_words(alloc: Global, refusal: &CommandRefusal) -> Result<Vec<u8>, All
     Ok(words)
 }
 
-/// The line of the entry `raw` of a source text, whose entries are `raws`.
+/// The entry at `place` in `raws`, as it was read.
+#[tactic(auto, using(std::proofs::lemmas::Option::slice_get_read))]
+fn raw_at(raws: &[RawEntry], place: usize) -> &RawEntry
+    requires { place < length raws.now }
+    ensures { slice_get raws.now place ≡ Some result.now }
+{
+    &raws[place]
+}
+
+/// The line of the entry at `place` in `raws`, which are the entries of a source text.
 fn source_line<C: Certifier>(
     alloc: Global,
     asked: &Asked<'_, C>,
     raws: &[RawEntry],
-    raw: &RawEntry,
+    place: usize,
     tally: &mut Tally,
 ) -> Result<Vec<u8>, AllocError>
-    requires { AllByRecursion IsRaw raws.now }
+    requires read { AllByRecursion IsRaw raws.now }
+    requires there { place < length raws.now }
     ensures { IfOk result (λ line. spec.IsSourceLine (spec.AnswersTo C.certifies C.refuses asked.now)
-        raws.now raw.now line.items) }
+        raws.now place line.items) }
 {
-    let name = first_name(raw.names.as_slice());
-    let entry = resolved_entry(alloc, raws, name)?;
+    let raw = raw_at(raws, place);
+    let entry = entry_at(alloc, raws, place)?;
     let words = entry_words(alloc, asked, &entry, tally)?;
-    line(alloc, name, words.as_slice())
+    line(alloc, first_name(raw.names.as_slice()), words.as_slice())
 }
 
 /// The line of the entry of `packed`.
@@ -159,13 +169,14 @@ fn source_lines<C: Certifier, W: Watcher>(
 ) -> Result<Vec<u8>, AllocError>
     requires { AllByRecursion IsRaw raws.now }
     ensures { IfOk result (λ lines. spec.HasParts
-        (spec.IsSourceLine (spec.AnswersTo C.certifies C.refuses asked.now) raws.now) raws.now lines.items) }
+        (spec.IsSourceLine (spec.AnswersTo C.certifies C.refuses asked.now) raws.now)
+        (range_with_len 0 (length raws.now)) lines.items) }
 {
     let mut lines = Vec::new(alloc);
-    for (done, raw) in raws.iter().enumerate() {
-        let name = first_name(raw.names.as_slice());
-        course.watcher.begins(done, raws.len(), name);
-        let line = source_line(alloc, asked, raws, raw, &mut course.tally)?;
+    for place in 0..raws.len() {
+        let name = first_name(raw_at(raws, place).names.as_slice());
+        course.watcher.begins(place, raws.len(), name);
+        let line = source_line(alloc, asked, raws, place, &mut course.tally)?;
         lines.extend_from_slice(line.as_slice())?;
     }
     Ok(lines)
