@@ -1,5 +1,5 @@
 -- What each erasure does to a state that agrees with what is believed.
-use Rattle.std.proofs.Common.{◌≡◌, ℕ, ◌<◌, ◌≤◌, false, Option, Some, ap, subst, ◌∙◌, refl, arith, if◌then◌else◌}
+use Rattle.std.proofs.Common.{◌≡◌, ℕ, ◌<◌, ◌≤◌, false, ap, subst, ◌∙◌, refl, arith, if◌then◌else◌}
 use Rattle.vt_term.specs.Look.{Rendition, blank}
 use Rattle.vt_term.specs.Grid.{look_at, drawn}
 use Rattle.vt_term.specs.Screen.{Screen}
@@ -30,11 +30,11 @@ erasure_limit t (Part n) = omega arith
 erasure_limit t Rest = omega arith
 
 -- erased from where the cursor is known to be, in the plain brush
-pub turns_erased : (t : Table) (g : ℕ → ℕ → Ink) (b : Belief) (e : ErasedPart) (r c : ℕ) → c < t.cols → b.place ≡ Some (record { row = r; col = c }) → b.brush ≡ plain_brush → Turns t (erasure_row e) g b (erased e r c g) b
+pub turns_erased : (t : Table) (g : ℕ → ℕ → Ink) (b : Belief) (e : ErasedPart) (r c : ℕ) → c < t.cols → b.place ≡ record { row = r; col = c } → b.brush ≡ plain_brush → Turns t (erasure_row e) g b (erased e r c g) b
 turns_erased t g b e r c lc p q = record {
-  starts = λ s h. (let at : (s.screen.row ≡ r) × (s.screen.col ≡ c) × (s.screen.pending ≡ false) = calmly t.cols (record { row = r; col = c }) s.screen.row s.screen.col s.screen.pending lc (subst (λ (o : Option Place). IsHere t.cols o s.screen.row s.screen.col s.screen.pending) p h.place) in
+  starts = λ s h. (let at : (s.screen.row ≡ r) × (s.screen.col ≡ c) × (s.screen.pending ≡ false) = calmly t.cols (record { row = r; col = c }) s.screen.row s.screen.col s.screen.pending lc (subst (λ (o : Place). IsHere t.cols o s.screen.row s.screen.col s.screen.pending) p h.place) in
       starts_calmly e t.rows t.cols s.screen (record { free = free_of t s h.ready; pending = at.2 }));
-  ends = λ s u h sized closed w. (let at : (s.screen.row ≡ r) × (s.screen.col ≡ c) × (s.screen.pending ≡ false) = calmly t.cols (record { row = r; col = c }) s.screen.row s.screen.col s.screen.pending lc (subst (λ (o : Option Place). IsHere t.cols o s.screen.row s.screen.col s.screen.pending) p h.place) in
+  ends = λ s u h sized closed w. (let at : (s.screen.row ≡ r) × (s.screen.col ≡ c) × (s.screen.pending ≡ false) = calmly t.cols (record { row = r; col = c }) s.screen.row s.screen.col s.screen.pending lc (subst (λ (o : Place). IsHere t.cols o s.screen.row s.screen.col s.screen.pending) p h.place) in
       let so : s.screen.rendition ≡ rendition_of t.looks plain_brush = h.brush ∙ ap (λ (x : Brush). rendition_of t.looks x) q in
       by_screen t (Agrees t (erased e r c g) b) u (record s.screen { grid = drawn (λ i j old. if is_erased e s.screen.row s.screen.col i j then blank s.screen.rendition else old) s.screen.grid }) sized closed (blanks t.looks e s.screen u.screen w.wants)
       (λ k. record {

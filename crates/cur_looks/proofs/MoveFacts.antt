@@ -19,21 +19,21 @@ same_put s r c row col p e f k = ap (λ (n : ℕ). put s n c p) e ∙ ap (λ (n 
 
 -- the same, where the line says in its own terms where the cursor ends
 arrives : (t : Table) (g : ℕ → ℕ → Ink) (b : Belief) (row col : ℕ) → col < t.cols → (s u : State) → Agrees t g b s → IsOfSize t.rows t.cols u → u.rest ≡ [] → (r c : ℕ) (p : Bool) → u.screen ≡ put s.screen r c p
-    → r ≡ row → c ≡ col → p ≡ false → Agrees t g (record b { place = Some (record { row = row; col = col }) }) u
+    → r ≡ row → c ≡ col → p ≡ false → Agrees t g (record b { place = record { row = row; col = col } }) u
 arrives t g b row col lc s u h sized closed r c p e f k l = placed t g b row col lc s u h sized closed (e ∙ same_put s.screen r c row col p f k l)
 
-here : (t : Table) (g : ℕ → ℕ → Ink) (b : Belief) (p : Place) → b.place ≡ Some p → (s : State) → Agrees t g b s → IsHere t.cols (Some p) s.screen.row s.screen.col s.screen.pending
-here t g b p e s h = subst (λ (o : Option Place). IsHere t.cols o s.screen.row s.screen.col s.screen.pending) e h.place
+here : (t : Table) (g : ℕ → ℕ → Ink) (b : Belief) (p : Place) → b.place ≡ p → (s : State) → Agrees t g b s → IsHere t.cols p s.screen.row s.screen.col s.screen.pending
+here t g b p e s h = subst (λ (o : Place). IsHere t.cols o s.screen.row s.screen.col s.screen.pending) e h.place
 
 -- the same on the screen
-at : (t : Table) (g : ℕ → ℕ → Ink) (b : Belief) (p : Place) → b.place ≡ Some p → p.col < t.cols → (s : State) → Agrees t g b s → (s.screen.row ≡ p.row) × (s.screen.col ≡ p.col) × (s.screen.pending ≡ false)
+at : (t : Table) (g : ℕ → ℕ → Ink) (b : Belief) (p : Place) → b.place ≡ p → p.col < t.cols → (s : State) → Agrees t g b s → (s.screen.row ≡ p.row) × (s.screen.col ≡ p.col) × (s.screen.pending ≡ false)
 at t g b p e lt s h = calmly t.cols p s.screen.row s.screen.col s.screen.pending lt (here t g b p e s h)
 
-calm : (t : Table) (g : ℕ → ℕ → Ink) (b : Belief) (p : Place) → b.place ≡ Some p → p.col < t.cols → (s : State) → Agrees t g b s → IsCalm t.rows t.cols s.screen
+calm : (t : Table) (g : ℕ → ℕ → Ink) (b : Belief) (p : Place) → b.place ≡ p → p.col < t.cols → (s : State) → Agrees t g b s → IsCalm t.rows t.cols s.screen
 calm t g b p e lt s h = record { free = free_of t s h.ready; pending = (at t g b p e lt s h).2 }
 
-from_place : (t : Table) (g : ℕ → ℕ → Ink) (b : Belief) (row col : ℕ) → row < t.rows → col < t.cols → (p : Place) → b.place ≡ Some p → (line : Row) → MovesFrom t.cols p row col line
-    → Turns t line g b g (record b { place = Some (record { row = row; col = col }) })
+from_place : (t : Table) (g : ℕ → ℕ → Ink) (b : Belief) (row col : ℕ) → row < t.rows → col < t.cols → (p : Place) → b.place ≡ p → (line : Row) → MovesFrom t.cols p row col line
+    → Turns t line g b g (record b { place = record { row = row; col = col } })
 from_place t g b row col lr lc p e Cr m = record {
   starts = λ s h. free_of t s h.ready;
   ends = λ s u h sized closed w. arrives t g b row col lc s u h sized closed s.screen.row 0 false w.wants ((here t g b p e s h).0 ∙ m.0) m.1 refl;
@@ -88,22 +88,17 @@ from_place t g b row col lr lc p e (Cud n) m = record {
 }
 from_place t g b row col lr lc p e line m = absurd m
 
-from_known : (t : Table) (g : ℕ → ℕ → Ink) (b : Belief) (row col : ℕ) → row < t.rows → col < t.cols → (from : Option Place) → b.place ≡ from → (line : Row) → Moves t.cols from row col line
-    → Turns t line g b g (record b { place = Some (record { row = row; col = col }) })
-from_known t g b row col lr lc from e (Cup r c) m = record {
+pub turned : (t : Table) (g : ℕ → ℕ → Ink) (b : Belief) (row col : ℕ) → row < t.rows → col < t.cols → (line : Row) → Moves t.cols (Some b.place) row col line
+    → Turns t line g b g (record b { place = record { row = row; col = col } })
+turned t g b row col lr lc (Cup r c) m = record {
   starts = λ s h. any_of t s h.ready;
   ends = λ s u h sized closed w. arrives t g b row col lc s u h sized closed r c false w.wants m.0 m.1 refl;
 }
-from_known t g b row col lr lc from e Home m = record {
+turned t g b row col lr lc Home m = record {
   starts = λ s h. free_of t s h.ready;
   ends = λ s u h sized closed w. arrives t g b row col lc s u h sized closed 0 0 false w.wants m.0 m.1 refl;
 }
-from_known t g b row col lr lc (Some p) e line m = from_place t g b row col lr lc p e line m
-from_known t g b row col lr lc None e line m = absurd m
-
-pub turned : (t : Table) (g : ℕ → ℕ → Ink) (b : Belief) (row col : ℕ) → row < t.rows → col < t.cols → (line : Row) → Moves t.cols b.place row col line
-    → Turns t line g b g (record b { place = Some (record { row = row; col = col }) })
-turned t g b row col lr lc line m = from_known t g b row col lr lc b.place refl line m
+turned t g b row col lr lc line m = from_place t g b row col lr lc b.place refl line m
 
 -- a row's text is within its limit
 bounded : (t : Table) → IsChecked t → (row : Row) (o : Option (List ℕ)) → t.line_of row ≡ o → length (or_nothing o) ≤ limit_of t row

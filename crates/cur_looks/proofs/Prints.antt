@@ -61,7 +61,7 @@ last_column c cols false lt e = absurd (cc)
 
 -- past the last column a wrap is pending
 here_after : (cols r c : ℕ) (s : Screen) → s.cols ≡ cols → s.row ≡ r → s.col ≡ c → c < cols → s.autowrap ≡ true
-    → IsHere cols (Some (record { row = r; col = c + 1 })) s.row (min (s.col + 1) (s.cols - 1)) ((s.col + 1 == s.cols) && s.autowrap)
+    → IsHere cols (record { row = r; col = c + 1 }) s.row (min (s.col + 1) (s.cols - 1)) ((s.col + 1 == s.cols) && s.autowrap)
 here_after cols r c s e p q lt on = (
   p,
   ap (λ (n : ℕ). min (n + 1) (s.cols - 1)) q ∙ ap (λ (n : ℕ). min (c + 1) (n - 1)) e,
@@ -70,7 +70,7 @@ here_after cols r c s e p q lt on = (
 
 -- what is believed where the cursor is known to be in a place
 abbrev pub standing : Belief → ℕ → ℕ → Belief
-standing b r c = record b { place = Some (record { row = r; col = c }) }
+standing b r c = record b { place = record { row = r; col = c } }
 
 -- printed in a state, as in another one in which the cursor is there
 typed_from : (t : Table) (g : ℕ → ℕ → Ink) (b : Belief) (r c : ℕ) (x : Ink) → c < t.cols → IsPrinted x.byte → b.brush ≡ x.brush → b.graphic ≡ Some x.graphic
@@ -141,17 +141,17 @@ pub typed_agrees : (t : Table) (g : ℕ → ℕ → Ink) (b : Belief) (r c : ℕ
     → (s : State) → Agrees t g b s → Ends s (x.byte ∷ []) (Agrees t (put_at r c x g) (standing b r (c + 1)))
 typed_agrees t g b r c x lr lc printed poised s h = by_place poised.place
   where
-    known : (p : Option Place) → b.place ≡ p → Agrees t g (record b { place = p }) s
-    known p e = record { ready = h.ready; cells = h.cells; place = subst (λ (o : Option Place). IsHere t.cols o s.screen.row s.screen.col s.screen.pending) e h.place; brush = h.brush; colored = h.colored; set = h.set; seen = h.seen }
+    known : (p : Place) → b.place ≡ p → Agrees t g (record b { place = p }) s
+    known p e = record { ready = h.ready; cells = h.cells; place = subst (λ (o : Place). IsHere t.cols o s.screen.row s.screen.col s.screen.pending) e h.place; brush = h.brush; colored = h.colored; set = h.set; seen = h.seen }
 
     itself : (n : ℕ) → nat_le n n ≡ true
     itself n = grind (arith, nat_tests)
 
     by_place : IsNext t.cols b.place r c → Ends s (x.byte ∷ []) (Agrees t (put_at r c x g) (standing b r (c + 1)))
-    by_place (inl e) = typed_from t g b r c x lc printed poised.brush poised.set s s h.ready.rest h.ready.sized refl (known (Some (record { row = r; col = c })) e)
+    by_place (inl e) = typed_from t g b r c x lc printed poised.brush poised.set s s h.ready.rest h.ready.sized refl (known (record { row = r; col = c }) e)
     by_place (inr e) =
         let p : Place = record { row = r - 1; col = t.cols } in
-        let at : IsHere t.cols (Some p) s.screen.row s.screen.col s.screen.pending = (known (Some p) e.0).place in
+        let at : IsHere t.cols p s.screen.row s.screen.col s.screen.pending = (known p e.0).place in
         let v : State = record { screen = record s.screen { row = r; col = c; pending = false }; rest = [] } in
         let pending : s.screen.pending ≡ true = at.2 ∙ itself t.cols in
         let up : s.screen.row + 1 ≡ r = omega (arith, at.0, e.1) in

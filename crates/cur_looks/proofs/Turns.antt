@@ -40,20 +40,20 @@ by_screen t Q u x sized closed e f =
     subst P (sym closed) (subst R (sym e) f) sized
 
 -- on the screen no wrap is pending
-pub stands_at : (cols row col : ℕ) → col < cols → IsHere cols (Some (record { row = row; col = col })) row col false
+pub stands_at : (cols row col : ℕ) → col < cols → IsHere cols (record { row = row; col = col }) row col false
 stands_at cols row col lt = (refl, omega (arith, lt), before_end cols col lt)
   where
     before_end : (m n : ℕ) → n < m → false ≡ nat_le m n
     before_end m n lt = grind (arith, nat_tests)
 
-pub calmly : (cols : ℕ) (p : Place) (row col : ℕ) (pending : Bool) → p.col < cols → IsHere cols (Some p) row col pending → (row ≡ p.row) × (col ≡ p.col) × (pending ≡ false)
+pub calmly : (cols : ℕ) (p : Place) (row col : ℕ) (pending : Bool) → p.col < cols → IsHere cols p row col pending → (row ≡ p.row) × (col ≡ p.col) × (pending ≡ false)
 calmly cols p row col pending lt h = (h.0, omega (arith, h.1, lt), h.2 ∙ sym (stands_at cols p.row p.col lt).2)
 
 -- the same state with its cursor at a place, and no wrap pending
 pub placed : (t : Table) (g : ℕ → ℕ → Ink) (b : Belief) (r c : ℕ) → c < t.cols → (s u : State) → Agrees t g b s → IsOfSize t.rows t.cols u → u.rest ≡ [] → u.screen ≡ record s.screen { row = r; col = c; pending = false }
-    → Agrees t g (record b { place = Some (record { row = r; col = c }) }) u
+    → Agrees t g (record b { place = record { row = r; col = c } }) u
 placed t g b r c lc s u h sized closed e =
-    by_screen t (Agrees t g (record b { place = Some (record { row = r; col = c }) })) u (record s.screen { row = r; col = c; pending = false }) sized closed e
+    by_screen t (Agrees t g (record b { place = record { row = r; col = c } })) u (record s.screen { row = r; col = c; pending = false }) sized closed e
     (λ k. record {
       ready = record { sized = k; rest = refl; tame = record { autowrap = h.ready.tame.autowrap; inserting = h.ready.tame.inserting }; whole = record { top = h.ready.whole.top; bottom = h.ready.whole.bottom }; settled = h.ready.settled; visible = h.ready.visible };
       cells = h.cells;
@@ -65,7 +65,7 @@ placed t g b r c lc s u h sized closed e =
     })
 
 -- the cursor's move by `cup`
-pub moved : (t : Table) (g : ℕ → ℕ → Ink) (b : Belief) (r c : ℕ) → c < t.cols → Turns t (Cup r c) g b g (record b { place = Some (record { row = r; col = c }) })
+pub moved : (t : Table) (g : ℕ → ℕ → Ink) (b : Belief) (r c : ℕ) → c < t.cols → Turns t (Cup r c) g b g (record b { place = record { row = r; col = c } })
 moved t g b r c lc = record {
   starts = λ s h. any_of t s h.ready;
   ends = λ s u h sized closed w. placed t g b r c lc s u h sized closed w.wants;
@@ -197,11 +197,11 @@ pub drawn_look : (t : Table) (p : Bool) (l y : Look) (x z : Ink) → l ≡ look_
 drawn_look t p l y x z e f = choice p l (look_of t.looks x) (look_of t.looks z) y e f ∙ choose t p x z
 
 -- the line's end, erased from where the cursor is known to be, in the plain brush
-pub tail_erased : (t : Table) (g : ℕ → ℕ → Ink) (b : Belief) (r c : ℕ) → c < t.cols → b.place ≡ Some (record { row = r; col = c }) → b.brush ≡ plain_brush → Turns t El g b (tail_blank r c g) b
+pub tail_erased : (t : Table) (g : ℕ → ℕ → Ink) (b : Belief) (r c : ℕ) → c < t.cols → b.place ≡ record { row = r; col = c } → b.brush ≡ plain_brush → Turns t El g b (tail_blank r c g) b
 tail_erased t g b r c lc p q = record {
-  starts = λ s h. (let at : (s.screen.row ≡ r) × (s.screen.col ≡ c) × (s.screen.pending ≡ false) = calmly t.cols (record { row = r; col = c }) s.screen.row s.screen.col s.screen.pending lc (subst (λ (o : Option Place). IsHere t.cols o s.screen.row s.screen.col s.screen.pending) p h.place) in
+  starts = λ s h. (let at : (s.screen.row ≡ r) × (s.screen.col ≡ c) × (s.screen.pending ≡ false) = calmly t.cols (record { row = r; col = c }) s.screen.row s.screen.col s.screen.pending lc (subst (λ (o : Place). IsHere t.cols o s.screen.row s.screen.col s.screen.pending) p h.place) in
       record { free = free_of t s h.ready; pending = at.2 });
-  ends = λ s u h sized closed w. (let at : (s.screen.row ≡ r) × (s.screen.col ≡ c) × (s.screen.pending ≡ false) = calmly t.cols (record { row = r; col = c }) s.screen.row s.screen.col s.screen.pending lc (subst (λ (o : Option Place). IsHere t.cols o s.screen.row s.screen.col s.screen.pending) p h.place) in
+  ends = λ s u h sized closed w. (let at : (s.screen.row ≡ r) × (s.screen.col ≡ c) × (s.screen.pending ≡ false) = calmly t.cols (record { row = r; col = c }) s.screen.row s.screen.col s.screen.pending lc (subst (λ (o : Place). IsHere t.cols o s.screen.row s.screen.col s.screen.pending) p h.place) in
       let so : s.screen.rendition ≡ rendition_of t.looks plain_brush = h.brush ∙ ap (λ (x : Brush). rendition_of t.looks x) q in
       by_screen t (Agrees t (tail_blank r c g) b) u (record s.screen { grid = drawn (λ i j old. if (i == s.screen.row) && nat_le s.screen.col j then blank s.screen.rendition else old) s.screen.grid }) sized closed w.wants
       (λ k. record {

@@ -1,5 +1,5 @@
 -- Characters of a line, one after another, in one piece of the wire.
-use Rattle.std.proofs.Common.{◌≡◌, ℕ, ◌+◌, ◌<◌, ◌≤◌, suc, List, [], ◌∷◌, ◌++◌, length, get_or, Option, Some, Result, refl, sym, subst, inl, arith}
+use Rattle.std.proofs.Common.{◌≡◌, ℕ, ◌+◌, ◌<◌, ◌≤◌, suc, List, [], ◌∷◌, ◌++◌, length, get_or, Result, refl, sym, subst, inl, arith}
 use Rattle.std.proofs.lemmas.Bool.Decides.{nat_tests}
 use Rattle.vt_term.specs.Screen.{State}
 use Rattle.vt_term.specs.Text.{IsOpen}
@@ -74,7 +74,7 @@ text_leads t checked old new can b r c (x ∷ xs) lr le alike bytes =
     (leads_then (IsPiece t) 1 (length xs) (IsLost t) (Typed t old new b r c) (Typed t old new b r (c + 1)) (Typed t old new b r (c + 1 + length xs)) (x ∷ []) xs first others)
 
 pub text_steps : {W T E : Type 0} (went : W → W → List ℕ → Type 0) (failures : W → ℕ) (a z : W) (answer : Result T E) (t : Table) → IsChecked t → (old new : ℕ → ℕ → Ink) → CanShow t new → (b : Belief) (r c n : ℕ) (text : List ℕ)
-    → length text ≡ n → r < t.rows → c + n ≤ t.cols → ((k : ℕ) → k < n → IsAlike b (new r (c + k))) → ((k : ℕ) → k < n → (new r (c + k)).byte ≡ get_or text k 0) → b.place ≡ Some (record { row = r; col = c })
+    → length text ≡ n → r < t.rows → c + n ≤ t.cols → ((k : ℕ) → k < n → IsAlike b (new r (c + k))) → ((k : ℕ) → k < n → (new r (c + k)).byte ≡ get_or text k 0) → b.place ≡ record { row = r; col = c }
     → Sends went failures a z text answer → Steps went failures a z answer (IsPiece t) n (IsLost t) (Agrees t (mixed old new r c) b) (Typed t old new b r (c + n))
 text_steps went failures a z answer t checked old new can b r c n text e lr le alike bytes place sends =
     let C : ℕ → State → Type 0 = λ m. Typed t old new b r (c + m) in
@@ -85,4 +85,4 @@ text_steps went failures a z answer t checked old new can b r c n text e lr le a
     (agrees_lost t checked (mixed old new r (c + n)) (standing b r (c + n))) sends
   where
     here : (s : State) → Agrees t (mixed old new r c) b s → Typed t old new b r c s
-    here s h = record { ready = h.ready; cells = h.cells; place = subst (λ (o : Option Place). IsHere t.cols o s.screen.row s.screen.col s.screen.pending) place h.place; brush = h.brush; colored = h.colored; set = h.set; seen = h.seen }
+    here s h = record { ready = h.ready; cells = h.cells; place = subst (λ (o : Place). IsHere t.cols o s.screen.row s.screen.col s.screen.pending) place h.place; brush = h.brush; colored = h.colored; set = h.set; seen = h.seen }

@@ -1,11 +1,11 @@
 -- What is believed of the terminal, and when a state agrees with it.
-use Rattle.std.specs.Prelude.{ℕ, ◌+◌, ◌-◌, ◌<◌, ◌≤◌, ◌≡◌, ◌⊎◌, ◌==◌, ◌&&◌, nat_le, min, Bool, true, false, Option, Some, None, if◌then◌else◌, []}
+use Rattle.std.specs.Prelude.{ℕ, ◌+◌, ◌-◌, ◌<◌, ◌≤◌, ◌≡◌, ◌⊎◌, ◌==◌, ◌&&◌, nat_le, min, Bool, true, false, Option, Some, None, if◌then◌else◌, List, [], ◌++◌}
 use Rattle.vt_term.specs.Grid.{look_at}
 use Rattle.vt_term.specs.Screen.{State, IsOfSize, is_graphic}
 use Rattle.ti_rows.specs.declared.rows.Row.{Row}
-use Rattle.ti_rows.specs.declared.rows.Row.TheVariants.{Smacs, Rmacs, Civis, Cnorm}
+use Rattle.ti_rows.specs.declared.rows.Row.TheVariants.{Smacs, Rmacs, Civis, Cnorm, Cvvis}
 use Rattle.ti_rows.specs.Starts.{Starts}
-use Rattle.ti_conforms.specs.Certified.{Table, IsReady, Ended, has}
+use Rattle.ti_conforms.specs.Certified.{Table, IsReady, Ended, has, text_of}
 use Rattle.cur_looks.specs.Inks.{rendition_of, look_of, IsColored}
 use Rattle.cur_looks.specs.declared.inks.Ink.{Ink}
 pub use Rattle.cur_looks.specs.declared.beliefs.Place.{Place}
@@ -14,14 +14,13 @@ pub use Rattle.cur_looks.specs.declared.beliefs.Mode.{Mode}
 pub use Rattle.cur_looks.specs.declared.beliefs.Mode.TheVariants.{Hidden, Normal, Prominent}
 
 -- where the cursor is; past the last column a wrap is pending in that column (VT100 user guide, autowrap)
-abbrev pub IsHere : ℕ → Option Place → ℕ → ℕ → Bool → Type 0
-IsHere cols None row col pending = Unit {0}
-IsHere cols (Some p) row col pending = (row ≡ p.row) × (col ≡ min p.col (cols - 1)) × (pending ≡ nat_le cols p.col)
+abbrev pub IsHere : ℕ → Place → ℕ → ℕ → Bool → Type 0
+IsHere cols p row col pending = (row ≡ p.row) × (col ≡ min p.col (cols - 1)) × (pending ≡ nat_le cols p.col)
 
 -- the next character goes to this place: the cursor is there, or a wrap is pending in the line above
-abbrev pub IsNext : ℕ → Option Place → ℕ → ℕ → Type 0
-IsNext cols place row col = (place ≡ Some (record { row = row; col = col }))
-    ⊎ ((place ≡ Some (record { row = row - 1; col = cols })) × (1 ≤ row) × (col ≡ 0))
+abbrev pub IsNext : ℕ → Place → ℕ → ℕ → Type 0
+IsNext cols place row col = (place ≡ record { row = row; col = col })
+    ⊎ ((place ≡ record { row = row - 1; col = cols }) × (1 ≤ row) × (col ≡ 0))
 
 abbrev pub IsSo : Option Bool → Bool → Type 0
 IsSo None b = Unit {0}
@@ -53,9 +52,8 @@ pub record Turns (t : Table) (row : Row) (g : ℕ → ℕ → Ink) (b : Belief) 
       → Ended t row s.screen u.screen → Agrees t h c u
 
 -- how many moves it takes: none or one
-abbrev pub moves : Option Place → ℕ → ℕ → ℕ
-moves None row col = 1
-moves (Some p) row col = if (p.row == row) && (p.col == col) then 0 else 1
+abbrev pub moves : Place → ℕ → ℕ → ℕ
+moves p row col = if (p.row == row) && (p.col == col) then 0 else 1
 
 -- the row whose line makes a set the active one
 abbrev pub set_row : Bool → Row
@@ -99,3 +97,16 @@ changes (Some n) m = if same_mode n m then 0 else 1
 abbrev pub CanHide : Table → Mode → Type 0
 CanHide t Hidden = (has t Civis ≡ true) × (has t Cnorm ≡ true)
 CanHide t _ = Unit {0}
+
+-- What shows the cursor in a mode: for a very visible one the string for the normal mode, and then its own. A string
+-- that the entry lacks is nothing (X/Open Curses Issue 7, curs_set; terminfo(5), "Highlighting, Underlining, and
+-- Visible Bells").
+abbrev pub setting_text : Table → Mode → List ℕ
+setting_text t Hidden = text_of t Civis
+setting_text t Normal = text_of t Cnorm
+setting_text t Prominent = text_of t Cnorm ++ text_of t Cvvis
+
+-- nothing where the cursor is known to be shown so
+abbrev pub mode_text : Table → Option Mode → Mode → List ℕ
+mode_text t None m = setting_text t m
+mode_text t (Some n) m = if same_mode n m then [] else setting_text t m

@@ -12,7 +12,7 @@ pub record IsAlike (b : Belief) (x : Ink) : Type 0 where
 -- from the cursor to a column ahead in its line: no more cells than the longest `cup` has bytes, each printed like
 -- this now
 pub record IsGap (t : Table) (b : Belief) (g : ℕ → ℕ → Ink) (row from col : ℕ) : Type 0 where
-  pub place : b.place ≡ Some (record { row = row; col = from })
+  pub place : b.place ≡ record { row = row; col = from }
   pub ahead : from < col
   pub short : col ≤ from + t.longest.cup
   pub alike : (k : ℕ) → from + k < col → IsAlike b (g row (from + k))

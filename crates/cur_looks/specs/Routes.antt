@@ -18,12 +18,12 @@ leg_bytes t (Over from) col = col - from
 
 -- a leg that ends in the place
 abbrev pub IsLeg : Table → Belief → (ℕ → ℕ → Ink) → ℕ → ℕ → Leg → Type 0
-IsLeg t b g row col (By line) = IsWay t b.place row col line
+IsLeg t b g row col (By line) = IsWay t (Some b.place) row col line
 IsLeg t b g row col (Over from) = IsGap t b g row from col
 
 -- a line of the certificate leads to the stop, which is on the screen
-pub record IsStop (t : Table) (from : Option Place) (stop : Stop) : Type 0 where
-  pub moves : Moves t.cols from stop.place.row stop.place.col stop.line
+pub record IsStop (t : Table) (from : Place) (stop : Stop) : Type 0 where
+  pub moves : Moves t.cols (Some from) stop.place.row stop.place.col stop.line
   pub there : has t stop.line ≡ true
   pub row : stop.place.row < t.rows
   pub col : stop.place.col < t.cols
@@ -36,7 +36,7 @@ stop_bytes t (Some stop) = length (text_of t stop.line)
 -- what is believed at the stop
 abbrev pub at_stop : Option Stop → Belief → Belief
 at_stop None b = b
-at_stop (Some stop) b = record b { place = Some stop.place }
+at_stop (Some stop) b = record b { place = stop.place }
 
 -- a way to the place, of no more bytes than the longest `cup`
 pub record IsRoute (t : Table) (b : Belief) (g : ℕ → ℕ → Ink) (row col : ℕ) (route : Route) : Type 0 where

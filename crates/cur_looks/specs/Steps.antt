@@ -1,7 +1,7 @@
 -- (Serves the code alone.) What a single step promises: bytes that lead from what is shown and believed to what then
 -- is.
 use Rattle.std.specs.Prelude.{ℕ, ◌<◌, List, Result}
-use Rattle.cur_wires.specs.Steps.{Steps}
+use Rattle.cur_wires.specs.Steps.{Spells, Steps}
 use Rattle.ti_conforms.specs.Certified.{Table, IsChecked, IsPiece, IsLost}
 use Rattle.cur_looks.specs.Beliefs.{Agrees, Belief, Place}
 use Rattle.cur_looks.specs.Gaps.{BeginsAs}
@@ -24,6 +24,13 @@ abbrev pub Keeps : {W T E : Type 0} → (W → W → List ℕ → Type 0) → (W
     → Belief → Belief → Type 0
 Keeps went failures before after answer t limit b c =
     (g : ℕ → ℕ → Ink) → Acts went failures before after answer t limit g g b c
+
+-- all cells stay, whatever they are, and just this text goes out where nothing fails
+abbrev pub KeepsBy : {W T E : Type 0} → (W → W → List ℕ → Type 0) → (W → ℕ) → W → W → Result T E → Table → ℕ
+    → List ℕ → Belief → Belief → Type 0
+KeepsBy went failures before after answer t limit text b c =
+    (g : ℕ → ℕ → Ink)
+    → Spells went failures before after answer text (IsPiece t) limit (IsLost t) (Agrees t g b) (Agrees t g c)
 
 -- the cells change, whatever they are
 abbrev pub Makes : {W T E : Type 0} → (W → W → List ℕ → Type 0) → (W → ℕ) → W → W → Result T E → Table → ℕ

@@ -20,7 +20,7 @@ pub enum Mode {
 /// printed; whether the graphic set is active; how the cursor is shown.
 #[derive(Clone, Copy)]
 pub struct Belief {
-    pub place: Option<Place>,
+    pub place: Place,
     pub brush: Brush,
     pub graphic: Option<bool>,
     pub mode: Option<Mode>,

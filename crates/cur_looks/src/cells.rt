@@ -32,6 +32,7 @@ fn plainly_as<C: Certificate, W: Wire>(
     ensures place { OnOk result (belief.new.place ≡ belief.old.place) }
     ensures step { Keeps W.went W.failures wire.old wire.new result (C.table checked.now)
         (plain_limit (C.table checked.now)) belief.old belief.new }
+    ensures mode { OnOk result (belief.new.mode ≡ belief.old.mode) }
 {
     colors_off(checked, belief, wire)?;
     attributes_as(checked, belief, wire, wanted)
@@ -53,6 +54,7 @@ fn colors_as<C: Certificate, W: Wire>(
     ensures place { OnOk result (belief.new.place ≡ belief.old.place) }
     ensures step { Keeps W.went W.failures wire.old wire.new result (C.table checked.now)
         (colors_limit (C.table checked.now)) belief.old belief.new }
+    ensures mode { OnOk result (belief.new.mode ≡ belief.old.mode) }
 {
     foreground_as(checked, belief, wire, wanted.foreground)?;
     background_as(checked, belief, wire, wanted.background)
@@ -96,6 +98,7 @@ pub(crate) fn brush_as<C: Certificate, W: Wire>(
     ensures place { OnOk result (belief.new.place ≡ belief.old.place) }
     ensures step { Keeps W.went W.failures wire.old wire.new result (C.table checked.now)
         (brush_limit (C.table checked.now)) belief.old belief.new }
+    ensures mode { OnOk result (belief.new.mode ≡ belief.old.mode) }
 {
     if is_recolored(belief.brush, wanted) {
         return colors_as(checked, belief, wire, wanted);
@@ -116,9 +119,10 @@ pub(crate) fn reach_in_brush<C: Certificate, N: Picture, W: Wire>(
     requires drawable { CanShow (C.table target.now.checked.now) (N.cells target.now.shown.now) }
     requires colored { IsColored (C.table target.now.checked.now) wanted }
     ensures brush { OnOk result (belief.new.brush ≡ wanted) }
-    ensures place { OnOk result (belief.new.place ≡ Some at) }
+    ensures place { OnOk result (belief.new.place ≡ at) }
     ensures step { KeepsFrom W.went W.failures wire.old wire.new result (C.table target.now.checked.now)
         (ready_limit (C.table target.now.checked.now)) (N.cells target.now.shown.now) at belief.old belief.new }
+    ensures mode { OnOk result (belief.new.mode ≡ belief.old.mode) }
 {
     reach(target, belief, wire, at)?;
     brush_as(target.checked, belief, wire, wanted)
@@ -138,19 +142,17 @@ fn print_in_set<C: Certificate, W: Wire>(
     requires brush { belief.old.brush ≡ ink.brush }
     ensures step { Makes W.went W.failures wire.old wire.new result (C.table checked.now)
         (stamp_limit (C.table checked.now)) (put_at at.row at.col ink) belief.old belief.new }
+    ensures mode { OnOk result (belief.new.mode ≡ belief.old.mode) }
 {
     set_as(checked, belief, wire, ink.graphic)?;
     print_at(checked, belief, wire, at, ink)
 }
 
 /// Whether the cursor is at `place` with a wrap pending that takes the next character to `at`.
-fn wraps_to(place: Option<Place>, cols: usize, at: Place) -> bool
+fn wraps_to(place: Place, cols: usize, at: Place) -> bool
     ensures { result ≡ true → IsNext cols place at.row at.col }
 {
-    match place {
-        Some(p) => at.col == 0 && at.row > 0 && p.row == at.row - 1 && p.col == cols,
-        None => false,
-    }
+    at.col == 0 && at.row > 0 && place.row == at.row - 1 && place.col == cols
 }
 
 /// Takes the next character to `at`, in a line that is shown as far as that place.
@@ -165,6 +167,7 @@ fn approach<C: Certificate, N: Picture, W: Wire>(
     ensures place { OnOk result (IsNext (C.table target.now.checked.now).cols belief.new.place at.row at.col) }
     ensures step { KeepsFrom W.went W.failures wire.old wire.new result (C.table target.now.checked.now)
         (C.table target.now.checked.now).longest.cup (N.cells target.now.shown.now) at belief.old belief.new }
+    ensures mode { OnOk result (belief.new.mode ≡ belief.old.mode) }
 {
     if stands(belief.place, at) {
         return Ok(());
@@ -188,6 +191,7 @@ fn put_here<C: Certificate, W: Wire>(
     requires place { IsNext (C.table checked.now).cols belief.old.place at.row at.col }
     ensures step { Makes W.went W.failures wire.old wire.new result (C.table checked.now)
         (ink_limit (C.table checked.now)) (put_at at.row at.col ink) belief.old belief.new }
+    ensures mode { OnOk result (belief.new.mode ≡ belief.old.mode) }
 {
     if is_alike(belief, ink) {
         return print_at(checked, belief, wire, at, ink);
@@ -211,6 +215,7 @@ pub fn put_cell<C: Certificate, N: Picture, W: Wire>(
     ensures step { MakesFrom W.went W.failures wire.old wire.new result (C.table target.now.checked.now)
         (cell_limit (C.table target.now.checked.now)) (N.cells target.now.shown.now) at (put_at at.row at.col ink)
         belief.old belief.new }
+    ensures mode { OnOk result (belief.new.mode ≡ belief.old.mode) }
 {
     // only this call's contract says that the certificate is verified
     let _ = target.checked.rows();
@@ -233,6 +238,7 @@ pub fn blank_tail<C: Certificate, N: Picture, W: Wire>(
     ensures step { MakesFrom W.went W.failures wire.old wire.new result (C.table target.now.checked.now)
         (cell_limit (C.table target.now.checked.now)) (N.cells target.now.shown.now) at (tail_blank at.row at.col)
         belief.old belief.new }
+    ensures mode { OnOk result (belief.new.mode ≡ belief.old.mode) }
 {
     // only this call's contract says that the certificate is verified
     let _ = target.checked.rows();

@@ -58,7 +58,7 @@ fn erase_here<C: Certificate, W: Wire>(
     requires checked { IsChecked (C.table checked.now) }
     requires col { at.col < (C.table checked.now).cols }
     requires line { (C.table checked.now).line_of (erasure_row erasure) ≡ Some line.now }
-    requires place { belief.now.place ≡ Some at }
+    requires place { belief.now.place ≡ at }
     requires brush { belief.now.brush ≡ plain_brush }
     ensures step { Makes W.went W.failures wire.old wire.new result (C.table checked.now)
         (C.table checked.now).longest.erasure (erased erasure at.row at.col) belief.now belief.now }
@@ -75,9 +75,10 @@ fn reach_plainly<C: Certificate, W: Wire>(
 ) -> Result<(), WireFault>
     requires goal { IsGoal (C.table checked.now) at }
     ensures brush { OnOk result (belief.new.brush ≡ plain_brush) }
-    ensures place { OnOk result (belief.new.place ≡ Some at) }
+    ensures place { OnOk result (belief.new.place ≡ at) }
     ensures step { Keeps W.went W.failures wire.old wire.new result (C.table checked.now)
         (ready_limit (C.table checked.now)) belief.old belief.new }
+    ensures mode { OnOk result (belief.new.mode ≡ belief.old.mode) }
 {
     reach_by_line(checked, belief, wire, at)?;
     brush_as(checked, belief, wire, Brush::plain())
@@ -99,6 +100,7 @@ pub fn erase_from<C: Certificate, N: Picture, W: Wire>(
     ensures step { MakesFrom W.went W.failures wire.old wire.new result (C.table target.now.checked.now)
         (cell_limit (C.table target.now.checked.now)) (N.cells target.now.shown.now) at (erased erasure at.row at.col)
         belief.old belief.new }
+    ensures mode { OnOk result (belief.new.mode ≡ belief.old.mode) }
 {
     // only this call's contract says that the certificate is verified
     let _ = target.checked.rows();
@@ -120,6 +122,7 @@ pub fn erase_at<C: Certificate, W: Wire>(
     requires line { (C.table checked.now).line_of (erasure_row erasure) ≡ Some line.now }
     ensures step { Makes W.went W.failures wire.old wire.new result (C.table checked.now)
         (cell_limit (C.table checked.now)) (erased erasure at.row at.col) belief.old belief.new }
+    ensures mode { OnOk result (belief.new.mode ≡ belief.old.mode) }
 {
     // only this call's contract says that the certificate is verified
     let _ = checked.rows();

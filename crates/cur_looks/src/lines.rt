@@ -2,7 +2,7 @@
 ghost use Rattle.std.specs.Prelude.{◌≡◌, ◌≤◌, ℕ, length, Some};
 ghost use Rattle.ti_conforms.specs.Certified.{IsChecked, limit_of, text_of};
 ghost use Rattle.cur_looks.specs.Beliefs.{Belief, Turns};
-ghost use Rattle.cur_looks.specs.Steps.{Acts};
+ghost use Rattle.cur_looks.specs.Steps.{Acts, KeepsBy};
 ghost use Rattle.cur_looks.specs.declared.inks.Ink.{Ink};
 
 use cur_wires::{Wire, WireFault, send_all};
@@ -25,6 +25,9 @@ pub(crate) fn send_line<C: Certificate, W: Wire>(
     ensures step { (n : ℕ) (g h : ℕ → ℕ → Ink) (b c : Belief) → limit_of (C.table checked.now) row ≤ n
         → Turns (C.table checked.now) row g b h c
         → Acts W.went W.failures wire.old wire.new result (C.table checked.now) n g h b c }
+    ensures text { (b c : Belief) → ((g : ℕ → ℕ → Ink) → Turns (C.table checked.now) row g b g c)
+        → KeepsBy W.went W.failures wire.old wire.new result (C.table checked.now) (limit_of (C.table checked.now) row)
+        (text_of (C.table checked.now) row) b c }
 {
     send_all(wire, bytes)
 }

@@ -1,9 +1,9 @@
 //! How the cursor is shown.
 ghost use Rattle.std.specs.Prelude.{◌≡◌, ◌*◌, ℕ, true, false, Some, OnOk};
-ghost use Rattle.ti_rows.specs.declared.rows.Row.TheVariants.{Civis, Cnorm};
-ghost use Rattle.ti_conforms.specs.Certified.{IsChecked, has};
-ghost use Rattle.cur_looks.specs.Beliefs.{CanHide, Hidden, Normal, Prominent, changes, modes_limit};
-ghost use Rattle.cur_looks.specs.Steps.{Keeps};
+ghost use Rattle.ti_rows.specs.declared.rows.Row.TheVariants.{Civis, Cnorm, Cvvis};
+ghost use Rattle.ti_conforms.specs.Certified.{IsChecked, has, text_of};
+ghost use Rattle.cur_looks.specs.Beliefs.{CanHide, Hidden, Normal, Prominent, changes, mode_text, modes_limit, setting_text};
+ghost use Rattle.cur_looks.specs.Steps.{KeepsBy};
 
 use crate::beliefs::{Belief, Mode};
 use crate::lines::send_line;
@@ -21,8 +21,8 @@ fn hide<C: Certificate, W: Wire>(
     requires line { has (C.table checked.now) Civis ≡ true }
     requires back { has (C.table checked.now) Cnorm ≡ true }
     ensures belief { belief.new ≡ record belief.old { mode = Some Hidden } }
-    ensures step { Keeps W.went W.failures wire.old wire.new result (C.table checked.now)
-        (C.table checked.now).longest.civis belief.old belief.new }
+    ensures step { KeepsBy W.went W.failures wire.old wire.new result (C.table checked.now)
+        (C.table checked.now).longest.civis (text_of (C.table checked.now) Civis) belief.old belief.new }
 {
     belief.mode = Some(Mode::Hidden);
     match checked.line(Row::Civis) {
@@ -39,8 +39,8 @@ fn show<C: Certificate, W: Wire>(
 ) -> Result<(), WireFault>
     requires checked { IsChecked (C.table checked.now) }
     ensures belief { belief.new ≡ record belief.old { mode = Some Normal } }
-    ensures step { Keeps W.went W.failures wire.old wire.new result (C.table checked.now)
-        (C.table checked.now).longest.cnorm belief.old belief.new }
+    ensures step { KeepsBy W.went W.failures wire.old wire.new result (C.table checked.now)
+        (C.table checked.now).longest.cnorm (text_of (C.table checked.now) Cnorm) belief.old belief.new }
 {
     belief.mode = Some(Mode::Normal);
     match checked.line(Row::Cnorm) {
@@ -58,8 +58,8 @@ fn make_prominent<C: Certificate, W: Wire>(
     requires checked { IsChecked (C.table checked.now) }
     requires shown { belief.old.mode ≡ Some Normal }
     ensures belief { belief.new ≡ record belief.old { mode = Some Prominent } }
-    ensures step { Keeps W.went W.failures wire.old wire.new result (C.table checked.now)
-        (C.table checked.now).longest.cvvis belief.old belief.new }
+    ensures step { KeepsBy W.went W.failures wire.old wire.new result (C.table checked.now)
+        (C.table checked.now).longest.cvvis (text_of (C.table checked.now) Cvvis) belief.old belief.new }
 {
     belief.mode = Some(Mode::Prominent);
     match checked.line(Row::Cvvis) {
@@ -76,8 +76,8 @@ fn show_prominently<C: Certificate, W: Wire>(
 ) -> Result<(), WireFault>
     requires checked { IsChecked (C.table checked.now) }
     ensures belief { OnOk result (belief.new ≡ record belief.old { mode = Some Prominent }) }
-    ensures step { Keeps W.went W.failures wire.old wire.new result (C.table checked.now)
-        (modes_limit (C.table checked.now)) belief.old belief.new }
+    ensures step { KeepsBy W.went W.failures wire.old wire.new result (C.table checked.now)
+        (modes_limit (C.table checked.now)) (setting_text (C.table checked.now) Prominent) belief.old belief.new }
 {
     show(checked, belief, wire)?;
     make_prominent(checked, belief, wire)
@@ -105,8 +105,9 @@ pub fn show_as<C: Certificate, W: Wire>(
 ) -> Result<(), WireFault>
     requires lines { CanHide (C.table checked.now) wanted }
     ensures belief { OnOk result (belief.new ≡ record belief.old { mode = Some wanted }) }
-    ensures step { Keeps W.went W.failures wire.old wire.new result (C.table checked.now)
-        (changes belief.old.mode wanted * modes_limit (C.table checked.now)) belief.old belief.new }
+    ensures step { KeepsBy W.went W.failures wire.old wire.new result (C.table checked.now)
+        (changes belief.old.mode wanted * modes_limit (C.table checked.now))
+        (mode_text (C.table checked.now) belief.old.mode wanted) belief.old belief.new }
 {
     // only this call's contract says that the certificate is verified
     let _ = checked.rows();

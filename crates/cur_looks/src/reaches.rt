@@ -30,9 +30,9 @@ fn reprint<C: Certificate, N: Picture, W: Wire>(
     requires drawable { CanShow (C.table target.now.checked.now) (N.cells target.now.shown.now) }
     requires row { from.row < (C.table target.now.checked.now).rows }
     requires col { from.col + count < (C.table target.now.checked.now).cols }
-    requires place { belief.old.place ≡ Some from }
+    requires place { belief.old.place ≡ from }
     requires alike { (k : ℕ) → k < count → IsAlike belief.old (N.cells target.now.shown.now from.row (from.col + k)) }
-    ensures belief { OnOk result (belief.new ≡ record belief.old { place = Some (right from count) }) }
+    ensures belief { OnOk result (belief.new ≡ record belief.old { place = right from count }) }
     ensures step { KeepsFrom W.went W.failures wire.old wire.new result (C.table target.now.checked.now) count
         (N.cells target.now.shown.now) (right from count) belief.old belief.new }
 {
@@ -58,7 +58,7 @@ fn follow_leg<C: Certificate, N: Picture, W: Wire>(
     requires goal { IsGoal (C.table target.now.checked.now) at }
     requires drawable { CanShow (C.table target.now.checked.now) (N.cells target.now.shown.now) }
     requires leg { IsLeg (C.table target.now.checked.now) belief.old (N.cells target.now.shown.now) at.row at.col leg }
-    ensures belief { OnOk result (belief.new ≡ record belief.old { place = Some at }) }
+    ensures belief { OnOk result (belief.new ≡ record belief.old { place = at }) }
     ensures step { KeepsFrom W.went W.failures wire.old wire.new result (C.table target.now.checked.now)
         (leg_bytes (C.table target.now.checked.now) leg at.col) (N.cells target.now.shown.now) at
         belief.old belief.new }
@@ -72,7 +72,7 @@ fn follow_leg<C: Certificate, N: Picture, W: Wire>(
             reprint(target, belief, wire, start, at.col - from)
         }
         Leg::By(line) => {
-            belief.place = Some(at);
+            belief.place = at;
             send_line(
                 target.checked,
                 line,
@@ -92,11 +92,11 @@ fn go_to_stop<C: Certificate, W: Wire>(
 ) -> Result<(), WireFault>
     requires checked { IsChecked (C.table checked.now) }
     requires stop { IsStop (C.table checked.now) belief.old.place stop }
-    ensures belief { belief.new ≡ record belief.old { place = Some stop.place } }
+    ensures belief { belief.new ≡ record belief.old { place = stop.place } }
     ensures step { Keeps W.went W.failures wire.old wire.new result (C.table checked.now)
         (length (text_of (C.table checked.now) stop.line)) belief.old belief.new }
 {
-    belief.place = Some(stop.place);
+    belief.place = stop.place;
     send_line(checked, stop.line, checked.line(stop.line).unwrap(), wire)
 }
 
@@ -112,7 +112,7 @@ fn follow_route<C: Certificate, N: Picture, W: Wire>(
     requires drawable { CanShow (C.table target.now.checked.now) (N.cells target.now.shown.now) }
     requires route { IsRoute (C.table target.now.checked.now) belief.old (N.cells target.now.shown.now)
         at.row at.col route }
-    ensures belief { OnOk result (belief.new ≡ record belief.old { place = Some at }) }
+    ensures belief { OnOk result (belief.new ≡ record belief.old { place = at }) }
     ensures step { KeepsFrom W.went W.failures wire.old wire.new result (C.table target.now.checked.now)
         (C.table target.now.checked.now).longest.cup (N.cells target.now.shown.now) at belief.old belief.new }
 {
@@ -135,7 +135,7 @@ pub fn reach<C: Certificate, N: Picture, W: Wire>(
     requires drawable { CanShow (C.table target.now.checked.now) (N.cells target.now.shown.now) }
     requires row { at.row < (C.table target.now.checked.now).rows }
     requires col { at.col < (C.table target.now.checked.now).cols }
-    ensures belief { OnOk result (belief.new ≡ record belief.old { place = Some at }) }
+    ensures belief { OnOk result (belief.new ≡ record belief.old { place = at }) }
     ensures step { KeepsFrom W.went W.failures wire.old wire.new result (C.table target.now.checked.now)
         (moves belief.old.place at.row at.col * (C.table target.now.checked.now).longest.cup)
         (N.cells target.now.shown.now) at belief.old belief.new }
@@ -157,15 +157,15 @@ pub(crate) fn reach_by_line<C: Certificate, W: Wire>(
     at: Place,
 ) -> Result<(), WireFault>
     requires goal { IsGoal (C.table checked.now) at }
-    ensures belief { OnOk result (belief.new ≡ record belief.old { place = Some at }) }
+    ensures belief { OnOk result (belief.new ≡ record belief.old { place = at }) }
     ensures step { Keeps W.went W.failures wire.old wire.new result (C.table checked.now)
         (C.table checked.now).longest.cup belief.old belief.new }
 {
     if stands(belief.place, at) {
         return Ok(());
     }
-    let way = shortest(checked, belief.place, at.row as u16, at.col as u16);
-    belief.place = Some(at);
+    let way = shortest(checked, Some(belief.place), at.row as u16, at.col as u16);
+    belief.place = at;
     send_line(checked, way.line, checked.line(way.line).unwrap(), wire)
 }
 

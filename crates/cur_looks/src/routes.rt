@@ -81,9 +81,7 @@ fn gap_start<C: Certificate, N: Picture>(
     ensures gap { IfSome result
         (λ from. IsGap (C.table target.now.checked.now) belief.now (N.cells target.now.shown.now) at.row from at.col) }
 {
-    let Some(from) = belief.place else {
-        return None;
-    };
+    let from = belief.place;
     if from.row != at.row || at.col <= from.col {
         return None;
     }
@@ -106,7 +104,12 @@ fn leg_to<C: Certificate, N: Picture>(
         at.row at.col result.leg }
     ensures bytes { result.bytes ≡ leg_bytes (C.table target.now.checked.now) result.leg at.col }
 {
-    let way = shortest(target.checked, belief.place, at.row as u16, at.col as u16);
+    let way = shortest(
+        target.checked,
+        Some(belief.place),
+        at.row as u16,
+        at.col as u16,
+    );
     match gap_start(target, belief, at, way.bytes) {
         Some(from) => Measured {
             leg: Leg::Over(from),
@@ -148,7 +151,7 @@ fn with_stop<C: Certificate, N: Picture>(
     requires goal { IsGoal (C.table target.now.checked.now) at }
     requires best { IsRoute (C.table target.now.checked.now) belief.now (N.cells target.now.shown.now)
         at.row at.col best }
-    requires moves { Moves (C.table target.now.checked.now).cols belief.now.place
+    requires moves { Moves (C.table target.now.checked.now).cols (Some belief.now.place)
         stop.place.row stop.place.col stop.line }
     ensures route { IsRoute (C.table target.now.checked.now) belief.now (N.cells target.now.shown.now)
         at.row at.col result }
@@ -163,7 +166,7 @@ fn with_stop<C: Certificate, N: Picture>(
         return best;
     }
     let there = Belief {
-        place: Some(stop.place),
+        place: stop.place,
         ..*belief
     };
     let left = leg_to(target, &there, at);
@@ -228,11 +231,8 @@ pub(crate) fn route_to<C: Certificate, N: Picture>(
 {
     let best = direct(target, belief, at);
     let best = by_corner(target, belief, at, best);
-    let Some(from) = belief.place else {
-        return best;
-    };
-    let best = by_line_start(target, belief, at, best, from);
-    by_column(target, belief, at, best, from)
+    let best = by_line_start(target, belief, at, best);
+    by_column(target, belief, at, best)
 }
 
 /// The way by the corner, if it is shorter than `best`: to a place of the first line or the first column.
@@ -254,43 +254,41 @@ fn by_corner<C: Certificate, N: Picture>(
     with_stop(target, belief, at, best, corner())
 }
 
-/// The way by the start of the line of `from`, where the cursor is, if it is shorter than `best`: to a place of that
-/// line or of the first column.
+/// The way by the start of the cursor's line, if it is shorter than `best`: to a place of that line or of the first
+/// column.
 fn by_line_start<C: Certificate, N: Picture>(
     target: &Target<'_, C, N>,
     belief: &Belief,
     at: Place,
     best: Route,
-    from: Place,
 ) -> Route
     requires goal { IsGoal (C.table target.now.checked.now) at }
     requires best { IsRoute (C.table target.now.checked.now) belief.now (N.cells target.now.shown.now)
         at.row at.col best }
-    requires from { belief.now.place ≡ Some from }
     ensures route { IsRoute (C.table target.now.checked.now) belief.now (N.cells target.now.shown.now)
         at.row at.col result }
 {
+    let from = belief.place;
     if from.col == 0 || from.row != at.row && at.col > 0 {
         return best;
     }
     with_stop(target, belief, at, best, line_start(from))
 }
 
-/// The way by the column of `from`, where the cursor is, if it is shorter than `best`: to a place of another line.
+/// The way by the cursor's column, if it is shorter than `best`: to a place of another line.
 fn by_column<C: Certificate, N: Picture>(
     target: &Target<'_, C, N>,
     belief: &Belief,
     at: Place,
     best: Route,
-    from: Place,
 ) -> Route
     requires goal { IsGoal (C.table target.now.checked.now) at }
     requires best { IsRoute (C.table target.now.checked.now) belief.now (N.cells target.now.shown.now)
         at.row at.col best }
-    requires from { belief.now.place ≡ Some from }
     ensures route { IsRoute (C.table target.now.checked.now) belief.now (N.cells target.now.shown.now)
         at.row at.col result }
 {
+    let from = belief.place;
     if from.row == at.row || from.col >= target.checked.cols() {
         return best;
     }

@@ -130,6 +130,7 @@ pub(crate) fn attributes_singly<C: Certificate, W: Wire>(
     ensures place { OnOk result (belief.new.place ≡ belief.old.place) }
     ensures step { Keeps W.went W.failures wire.old wire.new result (C.table checked.now)
         (C.table checked.now).longest.sgr belief.old belief.new }
+    ensures mode { OnOk result (belief.new.mode ≡ belief.old.mode) }
 {
     make_plain(checked, belief, wire)?;
     let rows = [

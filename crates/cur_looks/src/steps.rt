@@ -18,13 +18,13 @@ use ti_conforms::Certificate;
 use ti_rows::{Attributes, Row};
 use vt_term::Color;
 
-/// Whether `place` is known and is `at`.
-pub(crate) fn stands(place: Option<Place>, at: Place) -> bool
-    ensures here { result ≡ true → place ≡ Some at }
+/// Whether `place` is `at`.
+pub(crate) fn stands(place: Place, at: Place) -> bool
+    ensures here { result ≡ true → place ≡ at }
     ensures counted { result ≡ false → moves place at.row at.col ≡ 1 }
-    ensures known { place ≡ Some at → result ≡ true }
+    ensures known { place ≡ at → result ≡ true }
 {
-    matches!(place, Some(p) if p.row == at.row && p.col == at.col)
+    place.row == at.row && place.col == at.col
 }
 
 /// Makes the colours the default ones.
@@ -74,6 +74,7 @@ pub(crate) fn attributes_as<C: Certificate, W: Wire>(
     ensures place { OnOk result (belief.new.place ≡ belief.old.place) }
     ensures step { Keeps W.went W.failures wire.old wire.new result (C.table checked.now)
         (C.table checked.now).longest.sgr belief.old belief.new }
+    ensures mode { OnOk result (belief.new.mode ≡ belief.old.mode) }
 {
     if same_attributes(belief.brush.attributes, wanted) {
         belief.brush.attributes = wanted;
@@ -101,6 +102,7 @@ fn attributes_at_once<C: Certificate, W: Wire>(
     ensures place { belief.new.place ≡ belief.old.place }
     ensures step { Keeps W.went W.failures wire.old wire.new result (C.table checked.now)
         (C.table checked.now).longest.sgr belief.old belief.new }
+    ensures mode { OnOk result (belief.new.mode ≡ belief.old.mode) }
 {
     belief.brush.attributes = wanted;
     belief.graphic = None;
@@ -215,14 +217,14 @@ pub(crate) fn print_at<C: Certificate, W: Wire>(
     requires place { IsNext (C.table checked.now).cols belief.old.place at.row at.col }
     requires brush { belief.old.brush ≡ ink.brush }
     requires set { belief.old.graphic ≡ Some ink.graphic }
-    ensures belief { belief.new ≡ record belief.old { place = Some (record { row = at.row; col = at.col + 1 }) } }
+    ensures belief { belief.new ≡ record belief.old { place = record { row = at.row; col = at.col + 1 } } }
     ensures step { Makes W.went W.failures wire.old wire.new result (C.table checked.now) 1 (put_at at.row at.col ink)
         belief.old belief.new }
 {
-    belief.place = Some(Place {
+    belief.place = Place {
         row: at.row,
         col: at.col + 1,
-    });
+    };
     send_all(wire, &[ink.byte])
 }
 
@@ -237,7 +239,7 @@ pub(crate) fn erase_tail<C: Certificate, W: Wire>(
     requires checked { IsChecked (C.table checked.now) }
     requires col { at.col < (C.table checked.now).cols }
     requires tail { (C.table checked.now).line_of El ≡ Some tail.now }
-    requires place { belief.now.place ≡ Some at }
+    requires place { belief.now.place ≡ at }
     requires brush { belief.now.brush ≡ plain_brush }
     ensures step { Makes W.went W.failures wire.old wire.new result (C.table checked.now)
         (C.table checked.now).longest.erasure (tail_blank at.row at.col) belief.now belief.now }

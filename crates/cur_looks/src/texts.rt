@@ -1,5 +1,5 @@
 //! Characters of a line that go out in one piece.
-ghost use Rattle.std.specs.Prelude.{◌≡◌, ◌+◌, ◌<◌, ◌≤◌, ℕ, true, Some, length, slice_index_or};
+ghost use Rattle.std.specs.Prelude.{◌≡◌, ◌+◌, ◌<◌, ◌≤◌, ℕ, true, length, slice_index_or};
 ghost use Rattle.cur_looks.specs.Inks.{CanShow, mixed};
 ghost use Rattle.cur_looks.specs.Gaps.{IsAlike};
 ghost use Rattle.cur_looks.specs.Steps.{Acts};
@@ -15,9 +15,9 @@ use ti_conforms::Certificate;
 
 /// Whether the next character is known to go to the place `at` and to be printed in the set and the brush of `ink`.
 pub fn goes_on(belief: &Belief, at: Place, ink: Ink) -> bool
-    ensures place { result ≡ true → belief.now.place ≡ Some at }
+    ensures place { result ≡ true → belief.now.place ≡ at }
     ensures alike { result ≡ true → IsAlike belief.now ink }
-    ensures known { belief.now.place ≡ Some at → IsAlike belief.now ink → result ≡ true }
+    ensures known { belief.now.place ≡ at → IsAlike belief.now ink → result ≡ true }
 {
     stands(belief.place, at) && is_alike(belief, ink)
 }
@@ -36,20 +36,20 @@ pub fn print_text<C: Certificate, N: Picture, W: Wire>(
     requires row { at.row < (C.table target.now.checked.now).rows }
     requires within { at.col + count ≤ (C.table target.now.checked.now).cols }
     requires long { count ≤ length text.now }
-    requires place { belief.old.place ≡ Some at }
+    requires place { belief.old.place ≡ at }
     requires alike { (k : ℕ) → k < count → IsAlike belief.old (N.cells target.now.shown.now at.row (at.col + k)) }
     requires bytes { (k : ℕ) → k < count → (N.cells target.now.shown.now at.row (at.col + k)).byte ≡ slice_index_or
         text.now k 0 }
-    ensures belief { belief.new ≡ record belief.old { place = Some (record { row = at.row; col = at.col + count }) } }
+    ensures belief { belief.new ≡ record belief.old { place = record { row = at.row; col = at.col + count } } }
     ensures step { (old : ℕ → ℕ → Ink) → Acts W.went W.failures wire.old wire.new result
         (C.table target.now.checked.now) count (mixed old (N.cells target.now.shown.now) at.row at.col)
         (mixed old (N.cells target.now.shown.now) at.row (at.col + count)) belief.old belief.new }
 {
     // only this call's contract says that the certificate is verified
     let _ = target.checked.rows();
-    belief.place = Some(Place {
+    belief.place = Place {
         row: at.row,
         col: at.col + count,
-    });
+    };
     send_all(wire, &text[..count])
 }

@@ -14,7 +14,7 @@ use Rattle.cur_looks.proofs.Turns.{free_of, by_screen}
 use Rattle.cur_paint.specs.Update.{Fits, IsFresh}
 use Rattle.cur_paint.specs.declared.updates.Status.{Status}
 use Rattle.cur_paint.specs.declared.updates.Status.TheVariants.{Fresh, Known, Lost}
-use Rattle.cur_paint.proofs.Reaches.{line_ends}
+use Rattle.cur_looks.proofs.Actions.{line_ends}
 
 rung : (t : Table) (g : ℕ → ℕ → Ink) (b : Belief) → Turns t Bel g b g b
 rung t g b = record {

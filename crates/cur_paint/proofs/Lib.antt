@@ -1,6 +1,7 @@
 pub mod Mixtures
 pub mod SpanFacts
 pub mod Bounds
+pub mod ModeFacts
 pub mod Reaches
 pub mod Renewals
 pub mod UpdateFacts

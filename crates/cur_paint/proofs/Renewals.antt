@@ -7,43 +7,50 @@ use Rattle.vt_term.specs.Grid.{drawn}
 use Rattle.vt_term.specs.Screen.{State}
 use Rattle.cur_wires.specs.Wire.{IsWire, StopsIn}
 use Rattle.cur_wires.specs.Leads.{Leads}
-use Rattle.cur_wires.specs.Steps.{Steps, then_kind}
+use Rattle.cur_wires.specs.Steps.{then_kind}
 use Rattle.cur_wires.proofs.Leads.{leads_then, leads_wider}
 use Rattle.cur_wires.proofs.Paints.{sends_then}
+use Rattle.cur_wires.proofs.Stops.{on_ok_map}
 use Rattle.cur_wires.proofs.Completion.{ends_as}
 use Rattle.ti_rows.specs.declared.rows.Row.TheVariants.{Clear}
 use Rattle.cur_looks.specs.declared.beliefs.Belief.{Belief}
 use Rattle.cur_looks.specs.declared.inks.Ink.{Ink}
 use Rattle.ti_conforms.specs.Certified.{Table, IsLost, IsBlank, IsChecked, IsPiece}
 use Rattle.cur_looks.specs.Inks.{blank_ink}
-use Rattle.cur_looks.specs.Beliefs.{Agrees, Turns}
+use Rattle.cur_looks.specs.Beliefs.{Agrees, Turns, mode_text}
 use Rattle.cur_looks.specs.declared.beliefs.Mode.{Mode}
 use Rattle.cur_looks.specs.declared.beliefs.Mode.TheVariants.{Normal}
 use Rattle.cur_looks.proofs.Turns.{free_of, by_screen, look_at-drawn, stands_at}
 use Rattle.cur_paint.specs.Cleared.{IsLeft, at_start, cleared}
 use Rattle.cur_paint.specs.Limits.{fresh_limit, IsPlaced, paint_limit}
+use Rattle.cur_paint.specs.Modes.{move_limit}
+use Rattle.cur_paint.specs.Scenes.{Sets}
 use Rattle.cur_paint.specs.Update.{Anew, Draws, IsFresh}
 use Rattle.cur_paint.specs.declared.updates.Wanted.{Wanted}
 use Rattle.cur_paint.specs.declared.updates.Status.{Status}
 use Rattle.cur_paint.specs.declared.updates.Status.TheVariants.{Fresh, Known, Lost}
-use Rattle.cur_paint.proofs.Reaches.{blank_agrees, line_leads}
+use Rattle.cur_looks.proofs.Actions.{line_leads}
+use Rattle.cur_paint.proofs.ModeFacts.{near_more}
+use Rattle.cur_paint.proofs.Reaches.{blank_agrees}
 
 -- the first bytes were cut short
-pub anew_failed : {W T E : Type 0} (went : W → W → List ℕ → Type 0) (failures : W → ℕ) (a z : W) (v : E) (t : Table) (limit : ℕ) (A B C : State → Type 0) (first : List ℕ) → ((s : State) → B s → IsLost t s) → length first ≤ limit
-    → Leads (IsPiece t) (length first) (IsLost t) A first B → StopsIn went failures a z first → Anew {T = T} {E = E} went failures a z (Err v) t limit A C first
-anew_failed went failures a z v t limit A B C first lost le h stops = record {
+pub anew_failed : {W T E : Type 0} (went : W → W → List ℕ → Type 0) (failures : W → ℕ) (a z : W) (v : E) (t : Table) (limit : ℕ) (A B C : State → Type 0) (first : List ℕ) (now : Option Mode) (w : Wanted) → ((s : State) → B s → IsLost t s) → length first ≤ limit
+    → Leads (IsPiece t) (length first) (IsLost t) A first B → StopsIn went failures a z first → Anew {T = T} {E = E} went failures a z (Err v) t limit A C first now w
+anew_failed went failures a z v t limit A B C first now w lost le h stops = record {
   step = record {
     bytes = first;
     leads = leads_wider (IsPiece t) (length first) limit (IsLost t) A B A (IsLost t) first le (λ s x. x) lost h;
     sends = stops;
   };
   begins = record { more = []; begins = sym (append-nil first) };
+  sets = tt;
 }
 
 -- they went out, and all was painted
-pub anew_then : {W T E : Type 0} (went : W → W → List ℕ → Type 0) (failures : W → ℕ) → IsWire went failures → (a m z : W) (answer : Result T E) (t : Table) (limit : ℕ) (A B C : State → Type 0) (first : List ℕ) (k : ℕ) → length first + k ≤ limit
-    → Leads (IsPiece t) (length first) (IsLost t) A first B → went a m first → Steps went failures m z answer (IsPiece t) k (IsLost t) B C → Anew went failures a z answer t limit A C first
-anew_then went failures laws a m z answer t limit A B C first k le h sent steps =
+pub anew_then : {W T E : Type 0} (went : W → W → List ℕ → Type 0) (failures : W → ℕ) → IsWire went failures → (a m z : W) (answer : Result T E) (t : Table) (limit : ℕ) (A B C : State → Type 0) (first : List ℕ) (now : Option Mode) (w : Wanted) (k : ℕ) → length first + k ≤ limit
+    → Leads (IsPiece t) (length first) (IsLost t) A first B → went a m first → Sets went failures m z answer t k now w.cursor w.mode B C → Anew went failures a z answer t limit A C first now w
+anew_then went failures laws a m z answer t limit A B C first now w k le h sent rest =
+    let steps = rest.step in
     let D : State → Type 0 = then_kind answer C (IsLost t) in
     record {
       step = record {
@@ -53,6 +60,7 @@ anew_then went failures laws a m z answer t limit A B C first k le h sent steps 
         sends = sends_then went failures laws a m z first steps.bytes answer sent steps.sends;
       };
       begins = record { more = steps.bytes; begins = refl };
+      sets = on_ok_map answer _ _ (near_more (move_limit t w.cursor) (mode_text t now w.mode) steps.bytes first) rest.sets;
     }
 
 pub resync_leads : (t : Table) → IsChecked t → (mode : Option Mode) → Leads (IsPiece t) (length t.resync) (IsLost t) (IsLeft t mode) t.resync (Agrees t (λ i j. blank_ink) (at_start mode))
@@ -66,10 +74,10 @@ resync_leads t checked mode = record {
 }
 
 -- all is erased on the background that is set
-pub all_cleared : (t : Table) (g : ℕ → ℕ → Ink) (b : Belief) → Turns t Clear g b (cleared b.brush.background) (record b { place = Some (record { row = 0; col = 0 }) })
+pub all_cleared : (t : Table) (g : ℕ → ℕ → Ink) (b : Belief) → Turns t Clear g b (cleared b.brush.background) (record b { place = record { row = 0; col = 0 } })
 all_cleared t g b = record {
   starts = λ s h. free_of t s h.ready;
-  ends = λ s u h sized closed w. by_screen t (Agrees t (cleared b.brush.background) (record b { place = Some (record { row = 0; col = 0 }) })) u
+  ends = λ s u h sized closed w. by_screen t (Agrees t (cleared b.brush.background) (record b { place = record { row = 0; col = 0 } })) u
       (record s.screen { grid = drawn (λ i j old. blank s.screen.rendition) s.screen.grid; row = 0; col = 0; pending = false }) sized closed w.wants
       (λ k. record {
         ready = record { sized = k; rest = refl; tame = record { autowrap = h.ready.tame.autowrap; inserting = h.ready.tame.inserting }; whole = record { top = h.ready.whole.top; bottom = h.ready.whole.bottom }; settled = h.ready.settled; visible = h.ready.visible };
@@ -85,11 +93,11 @@ all_cleared t g b = record {
 }
 
 pub clear_leads : (t : Table) → IsChecked t → (line : List ℕ) → t.line_of Clear ≡ Some line → (g : ℕ → ℕ → Ink) (b : Belief)
-    → Leads (IsPiece t) (length line) (IsLost t) (Agrees t g b) line (Agrees t (cleared b.brush.background) (record b { place = Some (record { row = 0; col = 0 }) }))
-clear_leads t checked line is g b = line_leads t checked Clear line is (length line) (omega arith) g (cleared b.brush.background) b (record b { place = Some (record { row = 0; col = 0 }) }) (all_cleared t g b)
+    → Leads (IsPiece t) (length line) (IsLost t) (Agrees t g b) line (Agrees t (cleared b.brush.background) (record b { place = record { row = 0; col = 0 } }))
+clear_leads t checked line is g b = line_leads t checked Clear line is (length line) (omega arith) g (cleared b.brush.background) b (record b { place = record { row = 0; col = 0 } }) (all_cleared t g b)
 
 pub draws_fresh : {W T E : Type 0} (went : W → W → List ℕ → Type 0) (failures : W → ℕ) (a z : W) (answer : Result T E) (t : Table) (shown g : ℕ → ℕ → Ink) (w : Wanted) (status : Status) (b after : Belief) → status ≡ Fresh
-    → Anew went failures a z answer t (fresh_limit t) (IsLeft t (Some Normal)) (Agrees t g after) t.resync → OnOk answer (IsPlaced w.cursor after.place) → OnOk answer (after.mode ≡ Some w.mode) → Draws went failures a z answer t shown g w status b after
+    → Anew went failures a z answer t (fresh_limit t) (IsLeft t (Some Normal)) (Agrees t g after) t.resync (Some Normal) w → OnOk answer (IsPlaced t.cols w.cursor after.place) → OnOk answer (after.mode ≡ Some w.mode) → Draws went failures a z answer t shown g w status b after
 draws_fresh went failures a z answer t shown g w status b after e h there mode =
     let D : State → Type 0 = then_kind answer (Agrees t g after) (IsLost t) in
     let P : Status → Type 0 = λ x. Draws went failures a z answer t shown g w x b after in
@@ -98,10 +106,11 @@ draws_fresh went failures a z answer t shown g w status b after e h there mode =
       begins = h.begins;
       there = there;
       mode = mode;
+      sets = h.sets;
     })
 
 pub draws_lost : {W T E : Type 0} (went : W → W → List ℕ → Type 0) (failures : W → ℕ) (a z : W) (answer : Result T E) (t : Table) (shown g : ℕ → ℕ → Ink) (w : Wanted) (status : Status) (b after : Belief) → status ≡ Lost
-    → Anew went failures a z answer t (fresh_limit t) (IsLeft t None) (Agrees t g after) t.resync → OnOk answer (IsPlaced w.cursor after.place) → OnOk answer (after.mode ≡ Some w.mode) → Draws went failures a z answer t shown g w status b after
+    → Anew went failures a z answer t (fresh_limit t) (IsLeft t None) (Agrees t g after) t.resync None w → OnOk answer (IsPlaced t.cols w.cursor after.place) → OnOk answer (after.mode ≡ Some w.mode) → Draws went failures a z answer t shown g w status b after
 draws_lost went failures a z answer t shown g w status b after e h there mode =
     let D : State → Type 0 = then_kind answer (Agrees t g after) (IsLost t) in
     let P : Status → Type 0 = λ x. Draws went failures a z answer t shown g w x b after in
@@ -110,22 +119,23 @@ draws_lost went failures a z answer t shown g w status b after e h there mode =
       begins = h.begins;
       there = there;
       mode = mode;
+      sets = h.sets;
     })
 
 as_wanted : (w : Wanted) (x : Bool) → w.clear ≡ x → w ≡ record w { clear = x }
 as_wanted w x e = ap (λ (y : Bool). record w { clear = y }) e
 
 pub draws_known : {W T E : Type 0} (went : W → W → List ℕ → Type 0) (failures : W → ℕ) (a z : W) (answer : Result T E) (t : Table) (shown g : ℕ → ℕ → Ink) (w : Wanted) (status : Status) (b after : Belief) → status ≡ Known → w.clear ≡ false
-    → Steps went failures a z answer (IsPiece t) (paint_limit t shown g b w.cursor w.mode) (IsLost t) (Agrees t shown b) (Agrees t g after)
-    → OnOk answer (IsPlaced w.cursor after.place) → OnOk answer (after.mode ≡ Some w.mode) → Draws went failures a z answer t shown g w status b after
+    → Sets went failures a z answer t (paint_limit t shown g b w.cursor w.mode) b.mode w.cursor w.mode (Agrees t shown b) (Agrees t g after)
+    → OnOk answer (IsPlaced t.cols w.cursor after.place) → OnOk answer (after.mode ≡ Some w.mode) → Draws went failures a z answer t shown g w status b after
 draws_known went failures a z answer t shown g w status b after e f h there mode =
     let P : Status → Type 0 = λ x. Draws went failures a z answer t shown g w x b after in
     let Q : Wanted → Type 0 = λ x. Draws went failures a z answer t shown g x Known b after in
-    subst P (sym e) (subst Q (sym (as_wanted w false f)) (record { step = h; begins = tt; there = there; mode = mode }))
+    subst P (sym e) (subst Q (sym (as_wanted w false f)) (record { step = h.step; begins = tt; there = there; mode = mode; sets = h.sets }))
 
 pub draws_clear : {W T E : Type 0} (went : W → W → List ℕ → Type 0) (failures : W → ℕ) (a z : W) (answer : Result T E) (t : Table) (shown g : ℕ → ℕ → Ink) (w : Wanted) (status : Status) (b after : Belief) → status ≡ Known → w.clear ≡ true
-    → (line : List ℕ) → t.line_of Clear ≡ Some line → (n : ℕ) → n ≤ fresh_limit t → Anew went failures a z answer t n (Agrees t shown b) (Agrees t g after) line
-    → OnOk answer (IsPlaced w.cursor after.place) → OnOk answer (after.mode ≡ Some w.mode) → Draws went failures a z answer t shown g w status b after
+    → (line : List ℕ) → t.line_of Clear ≡ Some line → (n : ℕ) → n ≤ fresh_limit t → Anew went failures a z answer t n (Agrees t shown b) (Agrees t g after) line b.mode w
+    → OnOk answer (IsPlaced t.cols w.cursor after.place) → OnOk answer (after.mode ≡ Some w.mode) → Draws went failures a z answer t shown g w status b after
 draws_clear went failures a z answer t shown g w status b after e f line is n le h there mode =
     let P : Status → Type 0 = λ x. Draws went failures a z answer t shown g w x b after in
     let Q : Wanted → Type 0 = λ x. Draws went failures a z answer t shown g x Known b after in
@@ -135,4 +145,5 @@ draws_clear went failures a z answer t shown g w status b after e f line is n le
       begins = record { line = line; is = is; begins = h.begins };
       there = there;
       mode = mode;
+      sets = h.sets;
     }))

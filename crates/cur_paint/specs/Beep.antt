@@ -1,5 +1,5 @@
 -- What ringing the bell promises.
-use Rattle.std.specs.Prelude.{ℕ, ◌≡◌, true, false, List, ◌++◌, Some, Result, Ok, Err}
+use Rattle.std.specs.Prelude.{ℕ, ◌<◌, ◌≡◌, true, false, List, ◌++◌, length, Some, Result, Ok, Err}
 use Rattle.vt_term.specs.Screen.{State}
 use Rattle.vt_term.specs.Ends.{Ends}
 use Rattle.cur_wires.specs.Wire.{Rose}
@@ -21,7 +21,7 @@ pub record Rang {W : Type 0} (went : W → W → List ℕ → Type 0) (old new :
   pub held : before.status ≡ Lost → ⊥
   pub fits : (g : ℕ → ℕ → Ink) (s : State) → Fits t g before.status before.belief s → Ends s line (Fits t g before.status before.belief)
 
--- a front of it went out, and the session is lost
+-- a front of it, and not all of it, went out, and the session is lost
 pub record RangShort {W : Type 0} (went : W → W → List ℕ → Type 0) (failures : W → ℕ) (old new : W) (t : Table) (before after : Knowledge) : Type 0 where
   pub line : List ℕ
   pub is : t.line_of Bel ≡ Some line
@@ -33,6 +33,7 @@ pub record RangShort {W : Type 0} (went : W → W → List ℕ → Type 0) (fail
   pub held : before.status ≡ Lost → ⊥
   pub fits : (g : ℕ → ℕ → Ink) (s : State) → Fits t g before.status before.belief s → Ends s front (IsLost t)
   pub lost : after.status ≡ Lost
+  pub some_left : 0 < length back
 
 -- nothing happened
 pub record IsSame {W : Type 0} (old new : W) (before after : Knowledge) : Type 0 where

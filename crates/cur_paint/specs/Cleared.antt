@@ -15,7 +15,7 @@ cleared background i j = record blank_ink { brush = record plain_brush { backgro
 
 -- after the resynchronization, which leaves the cursor as visible as it was
 abbrev pub at_start : Option Mode → Belief
-at_start mode = record { place = Some (record { row = 0; col = 0 }); brush = plain_brush; graphic = Some false; mode = mode }
+at_start mode = record { place = record { row = 0; col = 0 }; brush = plain_brush; graphic = Some false; mode = mode }
 
 -- nothing is known but what is believed of the cursor's mode
 pub record IsLeft (t : Table) (mode : Option Mode) (s : State) : Type 0 where
@@ -24,4 +24,4 @@ pub record IsLeft (t : Table) (mode : Option Mode) (s : State) : Type 0 where
 
 -- after `clear`: all that was believed, but for the cursor's place
 abbrev pub at_corner : Belief → Belief
-at_corner b = record b { place = Some (record { row = 0; col = 0 }) }
+at_corner b = record b { place = record { row = 0; col = 0 } }

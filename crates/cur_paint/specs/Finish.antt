@@ -1,5 +1,5 @@
 -- What is sent at the end of a program's screen, and what that promises (X/Open Curses, endwin).
-use Rattle.std.specs.Prelude.{ℕ, ◌-◌, ◌≡◌, List, [], ◌++◌, Result, Ok, Err}
+use Rattle.std.specs.Prelude.{ℕ, ◌-◌, ◌<◌, ◌≡◌, List, [], ◌++◌, length, Result, Ok, Err}
 use Rattle.vt_term.specs.Screen.{State}
 use Rattle.vt_term.specs.Ends.{Ends}
 use Rattle.cur_wires.specs.Wire.{Rose}
@@ -35,6 +35,7 @@ pub record Finished {W : Type 0} (went : W → W → List ℕ → Type 0) (old n
   pub fits : (g : ℕ → ℕ → Ink) (s : State) → Fits t g before.status before.belief s → Ends s (finish_text t before.status) (IsFresh t)
   pub fresh : after.status ≡ Fresh
 
+-- a front of that, and not all of it, went out, and the session is lost
 pub record FinishedShort {W : Type 0} (went : W → W → List ℕ → Type 0) (failures : W → ℕ) (old new : W) (t : Table) (before after : Knowledge) : Type 0 where
   pub front : List ℕ
   pub back : List ℕ
@@ -43,6 +44,7 @@ pub record FinishedShort {W : Type 0} (went : W → W → List ℕ → Type 0) (
   pub failed : Rose (failures old) (failures new)
   pub fits : (g : ℕ → ℕ → Ink) (s : State) → Fits t g before.status before.belief s → Ends s front (IsLost t)
   pub lost : after.status ≡ Lost
+  pub some_left : 0 < length back
 
 abbrev pub Finishes : {W T E : Type 0} → (W → W → List ℕ → Type 0) → (W → ℕ) → W → W → Result T E → Table → Knowledge → Knowledge → Type 0
 Finishes went failures old new (Ok x) t before after = Finished went old new t before after

@@ -1,6 +1,7 @@
 pub mod Differ
 pub mod Blanks
 pub mod Limits
+pub mod Modes
 pub mod Cleared
 pub mod Scenes
 pub mod Update

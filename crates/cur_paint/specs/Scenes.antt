@@ -1,7 +1,10 @@
 -- (Serves the code alone.) What the painter's steps work on, and what they promise.
 use Rattle.std.specs.Prelude.{ℕ, ◌+◌, ◌-◌, ◌*◌, ◌<◌, ◌≤◌, ◌≡◌, List, Option, Result, OnOk}
-use Rattle.ti_conforms.specs.Certified.{Table, IsChecked, cell_limit}
+use Rattle.vt_term.specs.Screen.{State}
+use Rattle.cur_wires.specs.Steps.{Steps}
+use Rattle.ti_conforms.specs.Certified.{Table, IsChecked, IsLost, IsPiece, cell_limit}
 use Rattle.cur_looks.specs.Inks.{CanShow, mixed, blank_ink}
+use Rattle.cur_looks.specs.Beliefs.{Agrees}
 use Rattle.cur_looks.specs.Steps.{Acts}
 use Rattle.cur_looks.specs.declared.beliefs.Belief.{Belief}
 use Rattle.cur_looks.specs.declared.beliefs.Mode.{Mode}
@@ -9,6 +12,7 @@ use Rattle.cur_looks.specs.declared.beliefs.Place.{Place}
 use Rattle.cur_looks.specs.declared.inks.Ink.{Ink}
 use Rattle.cur_paint.specs.Differ.{differs, span, all_differ}
 use Rattle.cur_paint.specs.Limits.{paint_limit}
+use Rattle.cur_paint.specs.Modes.{SetsMode}
 use Rattle.cur_paint.specs.declared.screens.Cells.{Cells}
 use Rattle.cur_paint.specs.declared.screens.Screens.{Screens}
 
@@ -108,8 +112,17 @@ abbrev pub MendsAll : {W T E : Type 0} → (W → W → List ℕ → Type 0) →
 MendsAll went failures before after answer s b c =
     Mends went failures before after answer s.table (all_changed s) s.old s.new b c
 
--- all becomes new, and then the cursor gets its place and its mode
+-- from one kind of states to another, with the most that goes out; the cursor, which was shown in the mode now if that
+-- is known, gets its mode and its place at the end
+pub record Sets {W T E : Type 0} (went : W → W → List ℕ → Type 0) (failures : W → ℕ) (old new : W)
+    (answer : Result T E) (t : Table) (limit : ℕ) (now : Option Mode) (cursor : Option Place) (mode : Mode)
+    (before after : State → Type 0) : Type 0 where
+  pub step : Steps went failures old new answer (IsPiece t) limit (IsLost t) before after
+  pub sets : OnOk answer (SetsMode t now cursor mode step.bytes)
+
+-- all becomes new, and then the cursor gets its mode and its place
 abbrev pub Paints : {W T E : Type 0} → (W → W → List ℕ → Type 0) → (W → ℕ) → W → W → Result T E → Scene
     → Option Place → Mode → Belief → Belief → Type 0
 Paints went failures before after answer s cursor mode b c =
-    Acts went failures before after answer s.table (paint_limit s.table s.old s.new b cursor mode) s.old s.new b c
+    Sets went failures before after answer s.table (paint_limit s.table s.old s.new b cursor mode) b.mode cursor mode
+    (Agrees s.table s.old b) (Agrees s.table s.new c)

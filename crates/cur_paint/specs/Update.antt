@@ -1,5 +1,5 @@
 -- What a refresh promises, done or cut short.
-use Rattle.std.specs.Prelude.{ℕ, ◌<◌, ◌≤◌, ◌≡◌, Bool, true, false, List, [], ◌++◌, length, Option, Some, None, Result, Ok, Err, OnOk, if◌then◌else◌}
+use Rattle.std.specs.Prelude.{ℕ, ◌<◌, ◌≤◌, ◌≡◌, Bool, true, false, List, [], ◌++◌, length, Option, Some, Result, Ok, Err, OnOk, if◌then◌else◌}
 use Rattle.std.specs.List.{AllByRecursion, concat}
 use Rattle.vt_term.specs.Grid.{look_at}
 use Rattle.vt_term.specs.Screen.{State}
@@ -11,9 +11,10 @@ use Rattle.ti_conforms.specs.Certified.{Table, IsLost, IsWhole, IsPiece}
 use Rattle.cur_looks.specs.Inks.{look_of}
 use Rattle.cur_looks.specs.Beliefs.{Agrees, is_shown}
 use Rattle.cur_looks.specs.declared.beliefs.Belief.{Belief}
-use Rattle.cur_looks.specs.declared.beliefs.Place.{Place}
+use Rattle.cur_looks.specs.declared.beliefs.Mode.{Mode}
 use Rattle.cur_looks.specs.declared.inks.Ink.{Ink}
-use Rattle.cur_paint.specs.Limits.{paint_limit, fresh_limit, IsPlaced}
+use Rattle.cur_paint.specs.Limits.{paint_limit, fresh_limit, IsCursor, IsPlaced}
+use Rattle.cur_paint.specs.Modes.{SetsMode, shown_mode}
 use Rattle.cur_paint.specs.declared.updates.Wanted.{Wanted}
 use Rattle.cur_paint.specs.declared.updates.Knowledge.{Knowledge}
 use Rattle.cur_paint.specs.declared.updates.Status.{Status}
@@ -31,10 +32,6 @@ abbrev pub Fits : Table → (ℕ → ℕ → Ink) → Status → Belief → Stat
 Fits t shown Fresh b s = IsFresh t s
 Fits t shown Known b s = Agrees t shown b s
 Fits t shown Lost b s = IsLost t s
-
-abbrev pub IsCursor : Option Place → ℕ → ℕ → Type 0
-IsCursor None row col = Unit {0}
-IsCursor (Some p) row col = (row ≡ p.row) × (col ≡ p.col)
 
 -- nothing is open, each cell has the look of the screen's, the cursor is where it is wanted, if a place is, and visible as is wanted
 pub record Shows (t : Table) (g : ℕ → ℕ → Ink) (w : Wanted) (s : State) : Type 0 where
@@ -58,13 +55,16 @@ Begins t Known true bytes = BeginsClear t bytes
 Begins t Known false bytes = Unit {0}
 Begins t _ clear bytes = BeginsWith t.resync bytes
 
--- characters and lines that begin so, and lead each state of the kind to one that shows the screen
-pub record Lawful (t : Table) (kind : State → Type 0) (status : Status) (bytes : List ℕ) (g : ℕ → ℕ → Ink) (w : Wanted) : Type 0 where
+-- Characters and lines that begin so, and lead each state of the kind to one that shows the screen. Where the cursor
+-- isn't known to be shown in its mode (now), the strings for that are among them.
+pub record Lawful (t : Table) (kind : State → Type 0) (status : Status) (now : Option Mode) (bytes : List ℕ)
+    (g : ℕ → ℕ → Ink) (w : Wanted) : Type 0 where
   pub pieces : List (List ℕ)
   pub made : bytes ≡ concat pieces
   pub each : AllByRecursion (IsPiece t) pieces
   pub begins : Begins t status w.clear bytes
   pub shows : (s : State) → kind s → Ends s bytes (Shows t g w)
+  pub sets : SetsMode t now w.cursor w.mode bytes
 
 abbrev pub refresh_limit : Table → (ℕ → ℕ → Ink) → (ℕ → ℕ → Ink) → Status → Belief → Wanted → ℕ
 refresh_limit t shown g Known b w = if w.clear then fresh_limit t else paint_limit t shown g b w.cursor w.mode
@@ -74,13 +74,18 @@ refresh_limit t shown g _ b w = fresh_limit t
 pub record Draws {W T E : Type 0} (went : W → W → List ℕ → Type 0) (failures : W → ℕ) (old new : W) (answer : Result T E) (t : Table) (shown g : ℕ → ℕ → Ink) (w : Wanted) (status : Status) (b after : Belief) : Type 0 where
   pub step : Steps went failures old new answer (IsPiece t) (refresh_limit t shown g status b w) (IsLost t) (Fits t shown status b) (Agrees t g after)
   pub begins : Begins t status w.clear step.bytes
-  pub there : OnOk answer (IsPlaced w.cursor after.place)
+  pub there : OnOk answer (IsPlaced t.cols w.cursor after.place)
   pub mode : OnOk answer (after.mode ≡ Some w.mode)
+  pub sets : OnOk answer (SetsMode t (shown_mode status b.mode) w.cursor w.mode step.bytes)
 
--- the same from one kind of states, with the most that goes out and what it begins with
-pub record Anew {W T E : Type 0} (went : W → W → List ℕ → Type 0) (failures : W → ℕ) (old new : W) (answer : Result T E) (t : Table) (limit : ℕ) (before after : State → Type 0) (first : List ℕ) : Type 0 where
+-- the same from one kind of states, with the most that goes out, what it begins with, and the mode in which the cursor
+-- is known to be shown before
+pub record Anew {W T E : Type 0} (went : W → W → List ℕ → Type 0) (failures : W → ℕ) (old new : W)
+    (answer : Result T E) (t : Table) (limit : ℕ) (before after : State → Type 0) (first : List ℕ)
+    (now : Option Mode) (w : Wanted) : Type 0 where
   pub step : Steps went failures old new answer (IsPiece t) limit (IsLost t) before after
   pub begins : BeginsWith first step.bytes
+  pub sets : OnOk answer (SetsMode t now w.cursor w.mode step.bytes)
 
 -- A refresh that was done: every state that fits before, run over what went out, shows the screen and fits after. The bytes are lawful
 -- and keep the bound.
@@ -88,22 +93,26 @@ pub record Refreshed {W : Type 0} (went : W → W → List ℕ → Type 0) (old 
   pub bytes : List ℕ
   pub sent : went old new bytes
   pub bound : length bytes ≤ refresh_limit t shown g before.status before.belief w
-  pub lawful : Lawful t (Fits t shown before.status before.belief) before.status bytes g w
+  pub lawful : Lawful t (Fits t shown before.status before.belief) before.status
+      (shown_mode before.status before.belief.mode) bytes g w
   pub fits : (s : State) → Fits t shown before.status before.belief s → Ends s bytes (Fits t g Known after.belief)
   pub known : after.status ≡ Known
-  pub there : IsPlaced w.cursor after.belief.place
+  pub there : IsPlaced t.cols w.cursor after.belief.place
   pub mode : after.belief.mode ≡ Some w.mode
 
--- A refresh that the wire cut short: a front of lawful bytes went out, and the terminal may be in any state that fits a lost session.
+-- A refresh that the wire cut short: a front of lawful bytes, and not all of them, went out, and the terminal may be in
+-- any state that fits a lost session.
 pub record CutShort {W : Type 0} (went : W → W → List ℕ → Type 0) (failures : W → ℕ) (old new : W) (t : Table) (shown g : ℕ → ℕ → Ink) (w : Wanted) (before after : Knowledge) : Type 0 where
   pub front : List ℕ
   pub back : List ℕ
   pub sent : went old new front
   pub failed : Rose (failures old) (failures new)
   pub bound : length front ≤ refresh_limit t shown g before.status before.belief w
-  pub lawful : Lawful t (Fits t shown before.status before.belief) before.status (front ++ back) g w
+  pub lawful : Lawful t (Fits t shown before.status before.belief) before.status
+      (shown_mode before.status before.belief.mode) (front ++ back) g w
   pub fits : (s : State) → Fits t shown before.status before.belief s → Ends s front (IsLost t)
   pub lost : after.status ≡ Lost
+  pub some_left : 0 < length back
 
 abbrev pub Refreshes : {W T E : Type 0} → (W → W → List ℕ → Type 0) → (W → ℕ) → W → W → Result T E → Table → (ℕ → ℕ → Ink) → (ℕ → ℕ → Ink) → Wanted → Knowledge → Knowledge → Type 0
 Refreshes went failures old new (Ok x) t shown g w before after = Refreshed went old new t shown g w before after

@@ -1,23 +1,25 @@
 //! Laws of the bound, and of where a session begins.
 ghost use Rattle.std.specs.Prelude.{◌≡◌, ◌≤◌, ◌+◌, ◌*◌, ℕ, Option, Some};
 ghost use Rattle.ti_conforms.specs.Certified.{IsChecked, Table, cell_limit};
+ghost use Rattle.cur_looks.specs.Beliefs.{Agrees};
 ghost use Rattle.cur_looks.specs.declared.beliefs.Belief.{Belief};
 ghost use Rattle.cur_looks.specs.declared.beliefs.Place.{Place};
 ghost use Rattle.cur_looks.specs.declared.beliefs.Mode.{Mode};
 ghost use Rattle.cur_looks.specs.declared.inks.Ink.{Ink};
 ghost use Rattle.cur_paint.specs.Differ.{all_differ};
-ghost use Rattle.cur_paint.specs.Limits.{IsPlaced, paint_limit};
+ghost use Rattle.cur_paint.specs.Limits.{IsCursor, paint_limit};
 ghost use Rattle.cur_paint.specs.Update.{IsFresh};
-ghost use Rattle.vt_term.specs.Screen.{reset};
+ghost use Rattle.vt_term.specs.Screen.{State, reset};
 
 /// What a refresh of a known terminal sends at most: the bytes of a cell for each cell that differs, and once
-/// more for the cursor. Nothing where no cell differs, the mode is the shown one, and the cursor is where
-/// it is wanted.
+/// more for the cursor. Nothing where no cell differs, the mode is the shown one, and the cursor of the terminal is
+/// where it is wanted, or is wanted nowhere: its cursor in any state that agrees with what is known.
 pub fn bounded()
     ensures most { (t : Table) (old new : ℕ → ℕ → Ink) (b : Belief) (cursor : Option Place) (mode : Mode)
         → paint_limit t old new b cursor mode ≤ (all_differ old new t.cols t.rows + 1) * cell_limit t }
     ensures none { (t : Table) (old new : ℕ → ℕ → Ink) (b : Belief) (cursor : Option Place) (mode : Mode)
-        → all_differ old new t.cols t.rows ≡ 0 → IsPlaced cursor b.place → b.mode ≡ Some mode
+        → all_differ old new t.cols t.rows ≡ 0 → b.mode ≡ Some mode
+        → (s : State) → Agrees t old b s → IsCursor cursor s.screen.row s.screen.col
         → paint_limit t old new b cursor mode ≡ 0 }
 {}
 

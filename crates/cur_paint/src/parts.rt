@@ -1,5 +1,5 @@
 //! Parts of a line: runs of blanks that are erased, and the cells between them.
-ghost use Rattle.std.specs.Prelude.{◌≡◌, ◌+◌, ◌<◌, ◌≤◌, ℕ, true, IfSome};
+ghost use Rattle.std.specs.Prelude.{◌≡◌, ◌+◌, ◌<◌, ◌≤◌, ℕ, true, OnOk, IfSome};
 ghost use Rattle.ti_conforms.specs.Certified.{IsChecked};
 ghost use Rattle.cur_looks.specs.Inks.{blank_ink};
 ghost use Rattle.cur_paint.specs.Differ.{span};
@@ -239,6 +239,7 @@ fn mend_run<C: Certificate, O: Picture, N: Picture, W: Wire>(
     ensures idle { IsIdle result (changed (scene C.table O.cells N.cells screens.now) cells) belief.old belief.new }
     ensures step { MendsCells W.went W.failures wire.old wire.new result (scene C.table O.cells N.cells screens.now)
         cells belief.old belief.new }
+    ensures mode { OnOk result (belief.new.mode ≡ belief.old.mode) }
 {
     if !is_run(screens.old, screens.new, cells.from, cells) {
         return mend_span(screens, belief, wire, cells);
@@ -273,6 +274,7 @@ fn mend_head<C: Certificate, O: Picture, N: Picture, W: Wire>(
     ensures idle { IsIdle result (changed (scene C.table O.cells N.cells screens.now) cells) belief.old belief.new }
     ensures step { MendsCells W.went W.failures wire.old wire.new result (scene C.table O.cells N.cells screens.now)
         cells belief.old belief.new }
+    ensures mode { OnOk result (belief.new.mode ≡ belief.old.mode) }
 {
     if !is_run(screens.old, screens.new, 0, cells) {
         return mend_span(screens, belief, wire, cells);
@@ -302,6 +304,7 @@ fn mend_part<C: Certificate, O: Picture, N: Picture, W: Wire>(
     ensures idle { IsIdle result (changed (scene C.table O.cells N.cells screens.now) cells) belief.old belief.new }
     ensures step { MendsCells W.went W.failures wire.old wire.new result (scene C.table O.cells N.cells screens.now)
         cells belief.old belief.new }
+    ensures mode { OnOk result (belief.new.mode ≡ belief.old.mode) }
 {
     match erasure {
         Some(ErasedPart::Head) => mend_head(screens, belief, wire, cells),
@@ -328,6 +331,7 @@ pub(crate) fn mend_parts<C: Certificate, O: Picture, N: Picture, W: Wire>(
     ensures idle { IsIdle result (changed (scene C.table O.cells N.cells screens.now) cells) belief.old belief.new }
     ensures step { MendsCells W.went W.failures wire.old wire.new result (scene C.table O.cells N.cells screens.now)
         cells belief.old belief.new }
+    ensures mode { OnOk result (belief.new.mode ≡ belief.old.mode) }
 {
     if cells.count <= FEWEST || !erases_runs(screens.checked) {
         return mend_span(screens, belief, wire, cells);

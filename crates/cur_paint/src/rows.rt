@@ -1,5 +1,5 @@
 //! Lines that differ, and the screen from top to bottom.
-ghost use Rattle.std.specs.Prelude.{◌≡◌, ◌+◌, ◌-◌, ◌<◌, ◌≤◌, ℕ, true, Some, IfSome};
+ghost use Rattle.std.specs.Prelude.{◌≡◌, ◌+◌, ◌-◌, ◌<◌, ◌≤◌, ℕ, true, Some, OnOk, IfSome};
 ghost use Rattle.ti_rows.specs.declared.rows.Row.TheVariants.{El, Ed};
 ghost use Rattle.ti_conforms.specs.Certified.{IsChecked};
 ghost use Rattle.cur_looks.specs.Inks.{blank_ink};
@@ -80,6 +80,7 @@ fn mend_tail<C: Certificate, O: Picture, N: Picture, W: Wire>(
         belief.old belief.new }
     ensures step { MendsFrom W.went W.failures wire.old wire.new result (scene C.table O.cells N.cells screens.now)
         row columns.from belief.old belief.new }
+    ensures mode { OnOk result (belief.new.mode ≡ belief.old.mode) }
 {
     if columns.from == columns.end {
         return Ok(());
@@ -137,6 +138,7 @@ fn mend_line<C: Certificate, O: Picture, N: Picture, W: Wire>(
     ensures idle { IsIdle result (line_changed (scene C.table O.cells N.cells screens.now) row) belief.old belief.new }
     ensures step { MendsLine W.went W.failures wire.old wire.new result (scene C.table O.cells N.cells screens.now)
         row belief.old belief.new }
+    ensures mode { OnOk result (belief.new.mode ≡ belief.old.mode) }
 {
     let from = lesser(tail, columns.from);
     let cells = Cells {
@@ -174,6 +176,7 @@ fn mend_bottom<C: Certificate, O: Picture, N: Picture, W: Wire>(
         (C.table screens.now.checked.now).cols row columns.end }
     ensures step { MendsBelow W.went W.failures wire.old wire.new result (scene C.table O.cells N.cells screens.now)
         row belief.old belief.new }
+    ensures mode { OnOk result (belief.new.mode ≡ belief.old.mode) }
 {
     let cells = Cells {
         row,
@@ -326,6 +329,7 @@ pub(crate) fn mend_screen<C: Certificate, O: Picture, N: Picture, D: Changes, W:
     ensures idle { IsIdle result (all_changed (scene C.table O.cells N.cells screens.now)) belief.old belief.new }
     ensures step { MendsAll W.went W.failures wire.old wire.new result (scene C.table O.cells N.cells screens.now)
         belief.old belief.new }
+    ensures mode { OnOk result (belief.new.mode ≡ belief.old.mode) }
 {
     let rest = erasing_line(screens.checked, ErasedPart::Rest);
     let rows = screens.checked.rows();

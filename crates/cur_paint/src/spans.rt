@@ -1,5 +1,5 @@
 //! Cells of a line that differ: printed one by one, or several in one piece.
-ghost use Rattle.std.specs.Prelude.{◌≡◌, ◌+◌, ◌<◌, ◌≤◌, ℕ, true, Some, IfSome, length, slice_index_or};
+ghost use Rattle.std.specs.Prelude.{◌≡◌, ◌+◌, ◌<◌, ◌≤◌, ℕ, true, Some, OnOk, IfSome, length, slice_index_or};
 ghost use Rattle.cur_looks.specs.Gaps.{IsAlike};
 ghost use Rattle.cur_paint.specs.Differ.{differs, span, IsLike};
 ghost use Rattle.cur_paint.specs.Scenes.{IsIdle, IsOn, IsPaintable, MendsCell, MendsCells, changed, scene};
@@ -28,6 +28,7 @@ fn print_cell<C: Certificate, O: Picture, N: Picture, W: Wire>(
     requires changed { differs (O.cells screens.now.old.now) (N.cells screens.now.new.now) row col ≡ 1 }
     ensures step { MendsCell W.went W.failures wire.old wire.new result (scene C.table O.cells N.cells screens.now)
         row col belief.old belief.new }
+    ensures mode { OnOk result (belief.new.mode ≡ belief.old.mode) }
 {
     let target = Target {
         checked: screens.checked,
@@ -50,6 +51,7 @@ fn print_each<C: Certificate, O: Picture, N: Picture, W: Wire>(
     ensures idle { IsIdle result (changed (scene C.table O.cells N.cells screens.now) cells) belief.old belief.new }
     ensures step { MendsCells W.went W.failures wire.old wire.new result (scene C.table O.cells N.cells screens.now)
         cells belief.old belief.new }
+    ensures mode { OnOk result (belief.new.mode ≡ belief.old.mode) }
 {
     for n in 0..cells.count {
         let col = cells.from + n;
@@ -104,7 +106,7 @@ fn like_cells<O: Picture, N: Picture>(
 /// in the set and the brush of `ink`.
 fn is_led_on(belief: &Belief, row: usize, col: usize, ink: Ink, count: usize) -> bool
     ensures some { result ≡ true → 0 < count }
-    ensures place { result ≡ true → belief.now.place ≡ Some (record { row = row; col = col }) }
+    ensures place { result ≡ true → belief.now.place ≡ record { row = row; col = col } }
     ensures alike { result ≡ true → IsAlike belief.now ink }
 {
     count > 0 && goes_on(belief, Place { row, col }, ink)
@@ -128,6 +130,7 @@ fn print_alike<C: Certificate, O: Picture, N: Picture, W: Wire>(
     ensures idle { IsIdle result (changed (scene C.table O.cells N.cells screens.now) cells) belief.old belief.new }
     ensures step { MendsCells W.went W.failures wire.old wire.new result (scene C.table O.cells N.cells screens.now)
         cells belief.old belief.new }
+    ensures mode { OnOk result (belief.new.mode ≡ belief.old.mode) }
 {
     if is_led_on(belief, cells.row, cells.from, ink, cells.count) {
         let target = Target {
@@ -155,6 +158,7 @@ pub(crate) fn mend_span<C: Certificate, O: Picture, N: Picture, W: Wire>(
     ensures idle { IsIdle result (changed (scene C.table O.cells N.cells screens.now) cells) belief.old belief.new }
     ensures step { MendsCells W.went W.failures wire.old wire.new result (scene C.table O.cells N.cells screens.now)
         cells belief.old belief.new }
+    ensures mode { OnOk result (belief.new.mode ≡ belief.old.mode) }
 {
     let mut text = [0; TEXT];
     let mut done = 0;

@@ -64,7 +64,7 @@ fn start_belief(mode: Option<Mode>) -> Belief
     ensures value { result ≡ at_start mode }
 {
     Belief {
-        place: Some(Place { row: 0, col: 0 }),
+        place: Place { row: 0, col: 0 },
         brush: Brush::plain(),
         graphic: Some(false),
         mode,
@@ -102,12 +102,12 @@ fn repaint<C: Certificate, O: Picture, N: Picture, W: Wire>(
     requires scene { IsPaintable (scene C.table O.cells N.cells screens.now) }
     requires cursor { IsWithin (C.table screens.now.checked.now) wanted.cursor }
     requires lines { CanHide (C.table screens.now.checked.now) wanted.mode }
-    ensures there { OnOk result (IsPlaced wanted.cursor belief.new.place) }
+    ensures there { OnOk result (IsPlaced (C.table screens.now.checked.now).cols wanted.cursor belief.new.place) }
     ensures mode { OnOk result (belief.new.mode ≡ Some wanted.mode) }
     ensures step { Anew W.went W.failures wire.old wire.new result (C.table screens.now.checked.now)
         (fresh_limit (C.table screens.now.checked.now)) (IsLeft (C.table screens.now.checked.now) shown_as)
         (Agrees (C.table screens.now.checked.now) (N.cells screens.now.new.now) belief.new)
-        (C.table screens.now.checked.now).resync }
+        (C.table screens.now.checked.now).resync shown_as wanted }
 {
     *belief = start_belief(shown_as);
     send_all(wire, screens.checked.resync())?;
@@ -129,19 +129,20 @@ fn clear_first<C: Certificate, O: Picture, N: Picture, W: Wire>(
     requires scene { IsPaintable (scene C.table O.cells N.cells screens.now) }
     requires cursor { IsWithin (C.table screens.now.checked.now) wanted.cursor }
     requires lines { CanHide (C.table screens.now.checked.now) wanted.mode }
-    ensures there { OnOk result (IsPlaced wanted.cursor belief.new.place) }
+    ensures there { OnOk result (IsPlaced (C.table screens.now.checked.now).cols wanted.cursor belief.new.place) }
     ensures mode { OnOk result (belief.new.mode ≡ Some wanted.mode) }
     ensures step { (line : List ℕ) → (C.table screens.now.checked.now).line_of Clear ≡ Some line → (shown : ℕ → ℕ → Ink)
         → Anew W.went W.failures wire.old wire.new result (C.table screens.now.checked.now)
         (length line + paint_limit (C.table screens.now.checked.now) (cleared belief.old.brush.background)
         (N.cells screens.now.new.now) (at_corner belief.old) wanted.cursor wanted.mode)
         (Agrees (C.table screens.now.checked.now) shown belief.old)
-        (Agrees (C.table screens.now.checked.now) (N.cells screens.now.new.now) belief.new) line }
+        (Agrees (C.table screens.now.checked.now) (N.cells screens.now.new.now) belief.new) line
+        belief.old.mode wanted }
 {
     let cleared = Cleared {
         background: belief.brush.background,
     };
-    belief.place = Some(Place { row: 0, col: 0 });
+    belief.place = Place { row: 0, col: 0 };
     send_all(wire, screens.checked.line(Row::Clear).unwrap())?;
     let anew = Screens {
         checked: screens.checked,
@@ -187,7 +188,7 @@ fn mend<C: Certificate, O: Picture, N: Picture, D: Changes, W: Wire>(
     requires changes { D.between changes.now (O.cells screens.now.old.now) (N.cells screens.now.new.now) }
     requires cursor { IsWithin (C.table screens.now.checked.now) wanted.cursor }
     requires lines { CanHide (C.table screens.now.checked.now) wanted.mode }
-    ensures there { OnOk result (IsPlaced wanted.cursor belief.new.place) }
+    ensures there { OnOk result (IsPlaced (C.table screens.now.checked.now).cols wanted.cursor belief.new.place) }
     ensures mode { OnOk result (belief.new.mode ≡ Some wanted.mode) }
     ensures step { Paints W.went W.failures wire.old wire.new result (scene C.table O.cells N.cells screens.now)
         wanted.cursor wanted.mode belief.old belief.new }

@@ -10,12 +10,13 @@ use Rattle.cur_wires.specs.Wire.{IsWire}
 use Rattle.vt_term.specs.Ends.{Ends}
 use Rattle.ti_rows.specs.declared.rows.Row.TheVariants.{Bel}
 use Rattle.ti_conforms.specs.Certified.{Table, IsLost, IsSmall, cell_limit}
+use Rattle.cur_looks.specs.Beliefs.{Agrees}
 use Rattle.cur_looks.specs.declared.beliefs.Belief.{Belief}
 use Rattle.cur_looks.specs.declared.beliefs.Mode.{Mode}
 use Rattle.cur_looks.specs.declared.beliefs.Place.{Place}
 use Rattle.cur_looks.specs.declared.inks.Ink.{Ink}
 use Rattle.cur_paint.specs.Finish.{finish_text}
-use Rattle.cur_paint.specs.Limits.{IsPlaced, paint_limit, fresh_limit}
+use Rattle.cur_paint.specs.Limits.{IsCursor, paint_limit, fresh_limit}
 use Rattle.cur_paint.specs.Update.{Fits, refresh_limit}
 use Rattle.cur_paint.specs.declared.updates.Knowledge.{Knowledge}
 use Rattle.cur_paint.specs.declared.updates.Status.{Status}
@@ -37,7 +38,7 @@ pub record IsBound : Type 0 where
   pub most : (t : Table) (partners : ℕ → Option ℕ) (v w : Screen) (b : Belief) (cursor : Option Place) (mode : Mode) → v.rows ≡ w.rows → v.cols ≡ w.cols
       → paint_limit t (ink_at t partners v) (ink_at t partners w) b cursor mode ≤ (in_lines v w t.cols t.rows + 1) * cell_limit t
   pub none : (t : Table) (partners : ℕ → Option ℕ) (v w : Screen) (b : Belief) (cursor : Option Place) (mode : Mode) → v.rows ≡ w.rows → v.cols ≡ w.cols
-      → in_lines v w t.cols t.rows ≡ 0 → IsPlaced cursor b.place → b.mode ≡ Some mode → paint_limit t (ink_at t partners v) (ink_at t partners w) b cursor mode ≡ 0
+      → in_lines v w t.cols t.rows ≡ 0 → b.mode ≡ Some mode → (s : State) → Agrees t (ink_at t partners v) b s → IsCursor cursor s.screen.row s.screen.col → paint_limit t (ink_at t partners v) (ink_at t partners w) b cursor mode ≡ 0
 
 fits_open : (t : Table) (g : ℕ → ℕ → Ink) (status : Status) (b : Belief) (s : State) → Fits t g status b s → IsOpen s.rest
 fits_open t g Fresh b s f = f.lost.sized.state.rest
@@ -66,14 +67,13 @@ mode_kept Nothing answer last m e = refl
 mode_kept Bell answer last m e = refl
 mode_kept End answer last m e = refl
 
-settled_on : {C : Type 0} (before after : Painted C) (v : Screen) (o : Emission) (answer : Answer) (last : Screen) (last_mode : Mode) → is_shown o answer ≡ false → ((last : Screen) → last_after o answer last v ≡ last)
-    → (after.session.status ≡ Known → after.session ≡ before.session) → IsSettled before last last_mode → IsSettled after (last_after o answer last v) (mode_after o answer last_mode before.mode)
-settled_on before after v o answer last last_mode none same kept h known =
-    let P : Knowledge → Type 0 = λ x. x.status ≡ Known → IsPlaced (place_of last.cursor) x.belief.place × (x.belief.mode ≡ Some last_mode) in
-    let Q : Screen → Type 0 = λ x. IsPlaced (place_of x.cursor) after.session.belief.place × (after.session.belief.mode ≡ Some (mode_after o answer last_mode before.mode)) in
-    let R : Mode → Type 0 = λ x. IsPlaced (place_of last.cursor) after.session.belief.place × (after.session.belief.mode ≡ Some x) in
+settled_on : {C : Type 0} (before after : Painted C) (o : Emission) (answer : Answer) (last_mode : Mode) → is_shown o answer ≡ false
+    → (after.session.status ≡ Known → after.session ≡ before.session) → IsSettled before last_mode → IsSettled after (mode_after o answer last_mode before.mode)
+settled_on before after o answer last_mode none kept h known =
+    let P : Knowledge → Type 0 = λ x. x.status ≡ Known → x.belief.mode ≡ Some last_mode in
+    let R : Mode → Type 0 = λ x. after.session.belief.mode ≡ Some x in
     let here : P after.session = subst P (sym (kept known)) h in
-    subst Q (sym (same last)) (subst R (sym (mode_kept o answer last_mode before.mode none)) (here known))
+    subst R (sym (mode_kept o answer last_mode before.mode none)) (here known)
 
 fresh_unknown : (s : Status) → s ≡ Fresh → s ≡ Known → ⊥
 fresh_unknown s e f = cc
@@ -92,14 +92,15 @@ most_of laws t partners shown v Known b mode false last rows cols h =
     subst P (sym (h refl)) (laws.most t partners last v b (place_of v.cursor) mode rows cols)
 
 none_of : (laws : IsBound) (t : Table) (partners : ℕ → Option ℕ) (shown : ℕ → ℕ → Ink) (v : Screen) (status : Status) (b : Belief) (mode : Mode) (clear : Bool) (last : Screen) → last.rows ≡ v.rows → last.cols ≡ v.cols
-    → (status ≡ Known → shown ≡ ink_at t partners last) → status ≡ Known → in_lines last v t.cols t.rows ≡ 0 → IsPlaced (place_of v.cursor) b.place → b.mode ≡ Some mode → clear ≡ false
+    → (status ≡ Known → shown ≡ ink_at t partners last) → status ≡ Known → in_lines last v t.cols t.rows ≡ 0 → b.mode ≡ Some mode → clear ≡ false → (s : State) → Fits t shown status b s → IsCursor (place_of v.cursor) s.screen.row s.screen.col
     → refresh_limit t shown (ink_at t partners v) status b (record { cursor = place_of v.cursor; mode = mode; clear = clear }) ≡ 0
-none_of laws t partners shown v Fresh b mode clear last rows cols h k n p m c = absurd (cc)
-none_of laws t partners shown v Lost b mode clear last rows cols h k n p m c = absurd (cc)
-none_of laws t partners shown v Known b mode true last rows cols h k n p m c = absurd (cc)
-none_of laws t partners shown v Known b mode false last rows cols h k n p m c =
+none_of laws t partners shown v Fresh b mode clear last rows cols h k n m c s f p = absurd (cc)
+none_of laws t partners shown v Lost b mode clear last rows cols h k n m c s f p = absurd (cc)
+none_of laws t partners shown v Known b mode true last rows cols h k n m c s f p = absurd (cc)
+none_of laws t partners shown v Known b mode false last rows cols h k n m c s f p =
     let P : (ℕ → ℕ → Ink) → Type 0 = λ g. paint_limit t g (ink_at t partners v) b (place_of v.cursor) mode ≡ 0 in
-    subst P (sym (h refl)) (laws.none t partners last v b (place_of v.cursor) mode rows cols n p m)
+    let Q : (ℕ → ℕ → Ink) → Type 0 = λ g. Agrees t g b s in
+    subst P (sym (h refl)) (laws.none t partners last v b (place_of v.cursor) mode rows cols n m s (subst Q (h refl) f) p)
 
 -- the bytes by another name
 puts_as : {W C : Type 0} (went : W → W → List ℕ → Type 0) (failures : W → ℕ) (old new : W) (t : Table) (partners : ℕ → Option ℕ) (v : Screen) (o : Emission) (answer : Answer) (x y : List ℕ) (before after : Painted C)
@@ -117,9 +118,9 @@ quietly {W} went failures laws old new t partners v o answer bytes before after 
   shows = λ e. absurd (cc);
   last = λ last h. (let P : Screen → Type 0 = λ x. IsLast t partners after x in
       subst P (sym (same last)) (keeps_last t partners before after last (λ k. ap (λ (x : Knowledge). x.status) (sym q.session) ∙ k) q.shown h));
-  settled = λ last m h. settled_on before after v o answer last m none same (λ k. q.session) h;
+  settled = λ m h. settled_on before after o answer m none (λ k. q.session) h;
   bound = λ e last rows cols h. omega arith;
-  idle = λ e last rows cols h k. refl;
+  idle = λ e last rows cols h s k. refl;
   quiet = λ e. refl;
   few = omega arith;
 }
@@ -136,9 +137,9 @@ otherwise went failures old new t partners v o answer before after bytes none sa
   fits = fits;
   shows = λ e. absurd (cc);
   last = λ last h. (let P : Screen → Type 0 = λ x. IsLast t partners after x in subst P (sym (same last)) (keeps_last t partners before after last (λ k. ap (λ (x : Knowledge). x.status) (sym (kept k)) ∙ k) same_screen h));
-  settled = λ last m h. settled_on before after v o answer last m none same kept h;
+  settled = λ m h. settled_on before after o answer m none kept h;
   bound = λ e last rows cols h. absurd (other e);
-  idle = λ e last rows cols h k. absurd (other e);
+  idle = λ e last rows cols h s k. absurd (other e);
   quiet = λ e. absurd (some e);
   few = few;
 }
@@ -163,9 +164,9 @@ showed went failures old new t partners v bytes before after laws size small hig
       fits = λ s f. refit t (ink_at t partners v) (ink_at t partners after.shown) Known after.session.status after.session.belief r.bytes s (ap (ink_at t partners) p.shown) r.known (r.fits s f);
       shows = λ e s f. r.lawful.shows s f;
       last = λ last h k. ap (ink_at t partners) p.shown;
-      settled = λ last m h k. (r.there, r.mode);
+      settled = λ m h k. r.mode;
       bound = λ e last rows cols h. (let m = most_of laws t partners (ink_at t partners before.shown) v before.session.status before.session.belief before.mode v.clearok last (rows ∙ sym high) (cols ∙ sym wide) h in omega (arith, le, m));
-      idle = λ e last rows cols h k. (let z = none_of laws t partners (ink_at t partners before.shown) v before.session.status before.session.belief before.mode v.clearok last (rows ∙ sym high) (cols ∙ sym wide) h k.known k.same k.placed k.mode k.clear in omega (arith, le, z));
+      idle = λ e last rows cols h s k. (let z = none_of laws t partners (ink_at t partners before.shown) v before.session.status before.session.belief before.mode v.clearok last (rows ∙ sym high) (cols ∙ sym wide) h k.known k.same k.mode k.clear s k.fits k.cursor in omega (arith, le, z));
       quiet = λ e. absurd (cc);
       few = (let f = refresh_few t (ink_at t partners before.shown) (ink_at t partners v) before.session.status before.session.belief (wanted_of v before.mode) size small in omega (arith, le, f));
     }
@@ -183,9 +184,9 @@ showed_short went failures old new t partners v bytes before after laws size sma
       fits = λ s f. refit t (ink_at t partners after.shown) (ink_at t partners after.shown) Lost after.session.status after.session.belief r.front s refl r.lost (r.fits s f);
       shows = λ e. absurd (cc);
       last = λ last h k. absurd (lost_unknown after.session.status r.lost k);
-      settled = λ last m h k. absurd (lost_unknown after.session.status r.lost k);
+      settled = λ m h k. absurd (lost_unknown after.session.status r.lost k);
       bound = λ e last rows cols h. (let m = most_of laws t partners (ink_at t partners before.shown) v before.session.status before.session.belief before.mode v.clearok last (rows ∙ sym high) (cols ∙ sym wide) h in omega (arith, le, m));
-      idle = λ e last rows cols h k. (let z = none_of laws t partners (ink_at t partners before.shown) v before.session.status before.session.belief before.mode v.clearok last (rows ∙ sym high) (cols ∙ sym wide) h k.known k.same k.placed k.mode k.clear in omega (arith, le, z));
+      idle = λ e last rows cols h s k. (let z = none_of laws t partners (ink_at t partners before.shown) v before.session.status before.session.belief before.mode v.clearok last (rows ∙ sym high) (cols ∙ sym wide) h k.known k.same k.mode k.clear s k.fits k.cursor in omega (arith, le, z));
       quiet = λ e. absurd (cc);
       few = (let f = refresh_few t (ink_at t partners before.shown) (ink_at t partners v) before.session.status before.session.belief (wanted_of v before.mode) size small in omega (arith, le, f));
     }

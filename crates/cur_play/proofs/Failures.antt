@@ -1,7 +1,6 @@
 -- A call that was cut short: the wire failed in it. What a call puts out, by its answer.
-use Rattle.std.proofs.Common.{◌≡◌, ◌<◌, ◌≤◌, ◌⊎◌, ℕ, Bool, true, false, List, [], ◌++◌, Option, Some, Err, refl, sym, ap, subst, ◌∙◌, inl, inr, arith}
+use Rattle.std.proofs.Common.{◌≡◌, ◌<◌, ◌≤◌, ◌⊎◌, ℕ, Bool, true, false, List, ◌++◌, Option, Some, Err, refl, sym, ap, subst, ◌∙◌, inl, inr, arith}
 use Rattle.std.proofs.lemmas.Bool.{cases_lt}
-use Rattle.std.proofs.lemmas.List.{append-nil}
 use Rattle.vt_term.specs.Screen.{State}
 use Rattle.ti_rows.specs.declared.rows.Row.TheVariants.{Bel}
 use Rattle.ti_conforms.specs.Certified.{Table, has}
@@ -9,8 +8,10 @@ use Rattle.cur_drawing.specs.declared.refusals.Refusal.{Refusal}
 use Rattle.cur_windows.specs.VirtualScreen.{Screen}
 use Rattle.cur_wires.specs.Wire.{Rose, last_count}
 use Rattle.cur_wires.specs.declared.wires.WireFault.{WireFault}
+use Rattle.cur_looks.specs.declared.beliefs.Mode.{Mode}
 use Rattle.cur_looks.specs.declared.inks.Ink.{Ink}
 use Rattle.cur_paint.specs.Beep.{RangShort}
+use Rattle.cur_paint.specs.Modes.{SetsMode, shown_mode}
 use Rattle.cur_paint.specs.Update.{Lawful}
 use Rattle.cur_paint.specs.declared.updates.Status.{Status}
 use Rattle.cur_paint.specs.declared.updates.Status.TheVariants.{Fresh, Known, Lost}
@@ -59,7 +60,8 @@ then_whole t o (s, WireFailed) h e = h refl
 step_whole : (t : Table) (s : Scene) (call : Call) → (step t s call).1 ≡ WireFailed → ⊥
 step_whole t s call = then_whole t (output_of call) (drawn t s call) (draws_answer t s call (drawn t s call).1 (drawn t s call).0 (Drawn refl))
 
-cut_sends : (t : Table) (s : Scene) (call : Call) (answer : Answer) (a : Scene) → CallStep t s call answer a → answer ≡ WireFailed → is_sent (output_of call) ≡ true
+-- a call that was cut short sends
+pub cut_sends : (t : Table) (s : Scene) (call : Call) (answer : Answer) (a : Scene) → CallStep t s call answer a → answer ≡ WireFailed → is_sent (output_of call) ≡ true
 cut_sends t s call answer a (Stepped f) e = absurd (step_whole t s call (ap (λ (y : Step). y.1) (sym f) ∙ e))
 cut_sends t s call answer a (NoRoom takes done f same) e = absurd (refused_unlike answer _ e f)
 cut_sends t s call answer a (Failed sent done f same) e = sent
@@ -102,35 +104,47 @@ rung_short {W} {C} went failures old new t before after e fault is h shown =
     let sends : RangShort went failures old new t before.session after.session = subst P is h in
     (sends.front, record { sends = sends; all = refl; shown = shown })
 
-narrowed : (t : Table) (A B : State → Type 0) (status : Status) (x y : List ℕ) (g : ℕ → ℕ → Ink) (w : Wanted) → ((s : State) → B s → A s) → x ≡ y → Lawful t A status x g w → Lawful t B status y g w
-narrowed t A B status x y g w f e h =
-    let P : List ℕ → Type 0 = λ b. Lawful t B status b g w in
-    subst P e (record { pieces = h.pieces; made = h.made; each = h.each; begins = h.begins; shows = λ s b. h.shows s (f s b) })
+narrowed : (t : Table) (A B : State → Type 0) (status : Status) (m n : Option Mode) (x y : List ℕ) (g : ℕ → ℕ → Ink) (w : Wanted) → ((s : State) → B s → A s) → m ≡ n → x ≡ y → Lawful t A status m x g w → Lawful t B status n y g w
+narrowed t A B status m n x y g w f same e h =
+    let P : List ℕ → Type 0 = λ b. Lawful t B status n b g w in
+    let Q : Option Mode → Type 0 = λ o. SetsMode t o w.cursor w.mode x in
+    subst P e (record { pieces = h.pieces; made = h.made; each = h.each; begins = h.begins; shows = λ s b. h.shows s (f s b); sets = subst Q same h.sets })
+
+-- the mode matters in a known session alone
+pub shown_same : (status : Status) (m n : Option Mode) → (status ≡ Known → m ≡ n) → shown_mode status m ≡ shown_mode status n
+shown_same Fresh m n h = refl
+shown_same Known m n h = h refl
+shown_same Lost m n h = refl
+
+not_sent : false ≡ true → ⊥
+not_sent e = cc
 
 -- from the states that may be met to some of them
 pub emitted : {W C : Type 0} (went : W → W → List ℕ → Type 0) (failures : W → ℕ) (old new : W) (t : Table) (partners : ℕ → Option ℕ) (v : Screen) (o : Emission) (answer : Answer) (bytes : List ℕ) (before after : Painted C)
-    (kind : State → Type 0) → ((s : State) → kind s → FitsIn t partners before s)
-    → Puts went failures old new t partners v o answer bytes before after → Emits (Says t partners kind before.session.status v before.mode o) answer bytes
-emitted went failures old new t partners v Nothing Done bytes before after kind f p = p.none
-emitted went failures old new t partners v Nothing WireFailed bytes before after kind f p = record { back = []; is = append-nil bytes ∙ p.none }
-emitted went failures old new t partners v Nothing (Was n) bytes before after kind f p = p.none
-emitted went failures old new t partners v Nothing (Refused r) bytes before after kind f p = p.none
-emitted went failures old new t partners v Update (Was n) bytes before after kind f p = p.none
-emitted went failures old new t partners v Update (Refused r) bytes before after kind f p = p.none
-emitted went failures old new t partners v Bell (Was n) bytes before after kind f p = p.none
-emitted went failures old new t partners v Bell (Refused r) bytes before after kind f p = p.none
-emitted went failures old new t partners v End (Was n) bytes before after kind f p = p.none
-emitted went failures old new t partners v End (Refused r) bytes before after kind f p = p.none
-emitted went failures old new t partners v Update Done bytes before after kind f p =
-    narrowed t (FitsIn t partners before) kind before.session.status p.refreshed.bytes bytes (ink_at t partners v) (wanted_of v before.mode) f (sym p.all) p.refreshed.lawful
-emitted went failures old new t partners v Update WireFailed bytes before after kind f p = record {
+    (kind : State → Type 0) (now : Option Mode) → ((s : State) → kind s → FitsIn t partners before s) → shown_mode before.session.status before.session.belief.mode ≡ now
+    → (answer ≡ WireFailed → is_sent o ≡ true) → Puts went failures old new t partners v o answer bytes before after → Emits (Says t partners kind before.session.status now v before.mode o) answer bytes
+emitted went failures old new t partners v Nothing Done bytes before after kind now f same cut p = p.none
+emitted went failures old new t partners v Nothing WireFailed bytes before after kind now f same cut p = absurd (not_sent (cut refl))
+emitted went failures old new t partners v Nothing (Was n) bytes before after kind now f same cut p = p.none
+emitted went failures old new t partners v Nothing (Refused r) bytes before after kind now f same cut p = p.none
+emitted went failures old new t partners v Update (Was n) bytes before after kind now f same cut p = p.none
+emitted went failures old new t partners v Update (Refused r) bytes before after kind now f same cut p = p.none
+emitted went failures old new t partners v Bell (Was n) bytes before after kind now f same cut p = p.none
+emitted went failures old new t partners v Bell (Refused r) bytes before after kind now f same cut p = p.none
+emitted went failures old new t partners v End (Was n) bytes before after kind now f same cut p = p.none
+emitted went failures old new t partners v End (Refused r) bytes before after kind now f same cut p = p.none
+emitted went failures old new t partners v Update Done bytes before after kind now f same cut p =
+    narrowed t (FitsIn t partners before) kind before.session.status _ now p.refreshed.bytes bytes (ink_at t partners v) (wanted_of v before.mode) f same (sym p.all) p.refreshed.lawful
+emitted went failures old new t partners v Update WireFailed bytes before after kind now f same cut p = record {
   back = p.cut.back;
-  is = narrowed t (FitsIn t partners before) kind before.session.status (p.cut.front ++ p.cut.back) (bytes ++ p.cut.back) (ink_at t partners v) (wanted_of v before.mode) f (ap (λ (l : List ℕ). l ++ p.cut.back) (sym p.all)) p.cut.lawful;
+  is = narrowed t (FitsIn t partners before) kind before.session.status _ now (p.cut.front ++ p.cut.back) (bytes ++ p.cut.back) (ink_at t partners v) (wanted_of v before.mode) f same (ap (λ (l : List ℕ). l ++ p.cut.back) (sym p.all)) p.cut.lawful;
+  some_left = p.cut.some_left;
 }
-emitted went failures old new t partners v Bell Done bytes before after kind f p = p.sends.is ∙ ap (λ (l : List ℕ). Some l) (sym p.all)
-emitted went failures old new t partners v Bell WireFailed bytes before after kind f p = record {
+emitted went failures old new t partners v Bell Done bytes before after kind now f same cut p = p.sends.is ∙ ap (λ (l : List ℕ). Some l) (sym p.all)
+emitted went failures old new t partners v Bell WireFailed bytes before after kind now f same cut p = record {
   back = p.sends.back;
   is = p.sends.is ∙ ap (λ (l : List ℕ). Some l) (p.sends.parts ∙ ap (λ (l : List ℕ). l ++ p.sends.back) (sym p.all));
+  some_left = p.sends.some_left;
 }
-emitted went failures old new t partners v End Done bytes before after kind f p = p.all
-emitted went failures old new t partners v End WireFailed bytes before after kind f p = record { back = p.sends.back; is = ap (λ (l : List ℕ). l ++ p.sends.back) p.all ∙ sym p.sends.parts }
+emitted went failures old new t partners v End Done bytes before after kind now f same cut p = p.all
+emitted went failures old new t partners v End WireFailed bytes before after kind now f same cut p = record { back = p.sends.back; is = ap (λ (l : List ℕ). l ++ p.sends.back) p.all ∙ sym p.sends.parts; some_left = p.sends.some_left }

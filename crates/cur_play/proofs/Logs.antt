@@ -1,5 +1,5 @@
 -- One call after another, with what went out so far and the log so far.
-use Rattle.std.proofs.Common.{◌≡◌, ℕ, ◌+◌, ◌*◌, ◌^◌, ◌<◌, ◌≤◌, true, List, [], ◌∷◌, ◌++◌, length, drop, Option, refl, sym, ap, subst, ◌∙◌, arith, append_assoc, length-append, get_or, add-one, Some, None}
+use Rattle.std.proofs.Common.{◌≡◌, ℕ, ◌+◌, ◌*◌, ◌^◌, ◌<◌, ◌≤◌, true, List, [], ◌∷◌, ◌++◌, length, drop, Option, refl, sym, ap, subst, ◌∙◌, arith, append_assoc, length-append, get_or, add-one, Some}
 use Rattle.std.specs.Prelude.{suc}
 use Rattle.std.specs.Borrow.{MutBor}
 use Rattle.std.proofs.Math.Seq.{drop-cons, drop-length}
@@ -18,15 +18,14 @@ use Rattle.cur_looks.proofs.Actions.{agrees_lost}
 use Rattle.cur_looks.specs.declared.beliefs.Belief.{Belief}
 use Rattle.cur_looks.specs.declared.inks.Ink.{Ink}
 use Rattle.cur_looks.specs.declared.beliefs.Mode.{Mode}
-use Rattle.cur_looks.specs.declared.beliefs.Place.{Place}
-use Rattle.cur_paint.specs.Limits.{IsPlaced}
+use Rattle.cur_paint.specs.Modes.{shown_mode}
 use Rattle.cur_paint.specs.Update.{Fits, IsFresh, Shows}
 use Rattle.cur_paint.specs.declared.updates.Status.{Status}
 use Rattle.cur_paint.specs.declared.updates.Status.TheVariants.{Fresh, Known, Lost}
 use Rattle.cur_update.specs.Inks.{ink_at}
-use Rattle.cur_update.specs.Painters.{Painted, place_of, wanted_of}
+use Rattle.cur_update.specs.Painters.{Painted, wanted_of}
 use Rattle.cur_calls.specs.declared.calls.Call.{Call}
-use Rattle.cur_play.proofs.Failures.{call_rose, emitted, rose_sooner}
+use Rattle.cur_play.proofs.Failures.{call_rose, cut_sends, emitted, rose_sooner, shown_same}
 use Rattle.cur_play.specs.Deliveries.{Carries, FitsIn, IsLast, IsSettled, IsShown}
 use Rattle.cur_play.specs.Log.{IsAfter, Moment, Plays, Subject, Tells, is_shown, last_after, mode_after, start, subject_of}
 use Rattle.cur_play.specs.Outputs.{poised}
@@ -100,7 +99,7 @@ pub record Logged {W C : Type 0} (about : Subject W) (old new : MutBor W) (count
   pub cols : last.cols ≡ about.table.cols
   pub is_last : IsLast about.table about.partners stage.painter last
   pub last_mode : Mode
-  pub settled : IsSettled stage.painter last last_mode
+  pub settled : IsSettled stage.painter last_mode
   pub counted : length log ≡ i
   pub few : length bytes ≤ i * 2 ^ 60
   pub plays : (rest : List LogEntry) (to : W) (all : List ℕ) → Plays about (moment new.now bytes (scene_of stage) last last_mode) (drop i calls) rest to all → Plays about (start about old.now) calls (log ++ rest) to all
@@ -127,23 +126,18 @@ last_same t partners Nothing answer p last d a e h = h
 last_same t partners Bell answer p last d a e h = h
 last_same t partners End answer p last d a e h = h
 
--- the same of the cursor
-settled_same : {C : Type 0} (o : Emission) (answer : Answer) (p : Painted C) (last : Screen) (last_mode : Mode) (d a : Scene) → (is_shown o answer ≡ true → a ≡ shown_scene d)
-    → IsSettled p (last_after o answer last d.screen) (mode_after o answer last_mode d.mode) → IsSettled p (last_after o answer last a.screen) (mode_after o answer last_mode a.mode)
-settled_same Update Done p last last_mode d a e h =
-    let P : Scene → Type 0 = λ x. IsSettled p x.screen x.mode in
+-- the same of the cursor's mode
+settled_same : {C : Type 0} (o : Emission) (answer : Answer) (p : Painted C) (last_mode : Mode) (d a : Scene) → (is_shown o answer ≡ true → a ≡ shown_scene d)
+    → IsSettled p (mode_after o answer last_mode d.mode) → IsSettled p (mode_after o answer last_mode a.mode)
+settled_same Update Done p last_mode d a e h =
+    let P : Scene → Type 0 = λ x. IsSettled p x.mode in
     subst P (sym (e refl)) h
-settled_same Update (Was n) p last last_mode d a e h = h
-settled_same Update (Refused r) p last last_mode d a e h = h
-settled_same Update WireFailed p last last_mode d a e h = h
-settled_same Nothing answer p last last_mode d a e h = h
-settled_same Bell answer p last last_mode d a e h = h
-settled_same End answer p last last_mode d a e h = h
-
--- the cursor is wanted nowhere, or where it was wanted last, and so where it is known to be
-placed_still : (want last now : Option Place) → IsPlaced want last → IsPlaced last now → IsPlaced want now
-placed_still None last now h k = tt
-placed_still (Some p) last now h k = let P : Option Place → Type 0 = λ x. IsPlaced x now in subst P h k
+settled_same Update (Was n) p last_mode d a e h = h
+settled_same Update (Refused r) p last_mode d a e h = h
+settled_same Update WireFailed p last_mode d a e h = h
+settled_same Nothing answer p last_mode d a e h = h
+settled_same Bell answer p last_mode d a e h = h
+settled_same End answer p last_mode d a e h = h
 
 -- ---- one call more
 
@@ -195,7 +189,9 @@ log_more {W} {V} {C} about laws wire count a m n z calls i call before after log
       bytes = refl;
       counted = (let exact : count z ≡ 0 + length bytes = out.counted (omega (arith, few, small)) in omega (arith, exact));
       emits = emitted {W = V} (λ x y c. Counts about.went (wire x) (wire y) (count x) (count y) c) (λ x. about.failures (wire x).now) m n t about.partners d.screen (output_of call) answer b (poised t before call) after.painter
-          (IsAfter t l.bytes) known carries.puts;
+          (IsAfter t l.bytes) (shown_mode before.painter.session.status (Some l.last_mode)) known
+          (shown_same before.painter.session.status before.painter.session.belief.mode (Some l.last_mode) l.settled)
+          (cut_sends t (scene_of before) call answer (scene_of after) step) carries.puts;
       failed = λ k. rose_sooner (about.failures (wire m).now) (about.failures (wire n).now) (about.failures (wire z).now)
           (call_rose {W = V} (λ x y c. Counts about.went (wire x) (wire y) (count x) (count y) c) (λ x. about.failures (wire x).now) m n t about.partners d.screen call (scene_of before) (scene_of after) answer b (poised t before call) after.painter step carries.puts k)
           (laws.counts (wire n).now (wire z).now [] passed.inner);
@@ -209,16 +205,17 @@ log_more {W} {V} {C} about laws wire count a m n z calls i call before after log
           let x : Ends s bytes S = ends_then A S s l.bytes b (l.fits s f) (carries.shows k) in
           record { after = x.after; runs = x.runs; there = shows_after t about.partners d (scene_of after) x.after (there k) x.there });
       bound = λ k. carries.bound k l.last l.rows l.cols l.is_last;
-      idle = λ k status u. (
-          let at : IsPlaced (place_of l.last.cursor) before.painter.session.belief.place × (before.painter.session.belief.mode ≡ Some l.last_mode) = l.settled status in
-          let shown : IsShown t d.screen (poised t before call) l.last = record {
+      idle = λ k status s f u. (
+          let fits : A s = known s f in
+          let shown : IsShown t about.partners d.screen (poised t before call) l.last s = record {
             known = status;
             same = u.same;
-            placed = placed_still (place_of d.screen.cursor) (place_of l.last.cursor) before.painter.session.belief.place u.placed at.0;
-            mode = at.1 ∙ ap (λ (m : Mode). Some m) (sym u.mode);
+            fits = fits;
+            cursor = u.cursor;
+            mode = l.settled status ∙ ap (λ (m : Mode). Some m) (sym u.mode);
             clear = u.clear;
           } in
-          empty_list b (carries.idle k l.last l.rows l.cols l.is_last shown));
+          empty_list b (carries.idle k l.last l.rows l.cols l.is_last s shown));
       last = refl;
       last_mode = refl;
     } in
@@ -232,7 +229,7 @@ log_more {W} {V} {C} about laws wire count a m n z calls i call before after log
       cols = last_sized (output_of call) answer l.last after.screen t.cols (λ x. x.cols) l.cols sized.cols;
       is_last = last_same t about.partners (output_of call) answer after.painter l.last d (scene_of after) there (carries.last l.last l.is_last);
       last_mode = last_mode;
-      settled = settled_same (output_of call) answer after.painter l.last l.last_mode d (scene_of after) there (carries.settled l.last l.last_mode l.settled);
+      settled = settled_same (output_of call) answer after.painter l.last_mode d (scene_of after) there (carries.settled l.last_mode l.settled);
       counted = omega (arith, l.counted, length-append log (e ∷ []));
       few = few;
       plays = λ rest to all h. (

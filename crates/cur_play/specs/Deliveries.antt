@@ -5,7 +5,7 @@ use Rattle.cur_windows.specs.VirtualScreen.{Screen}
 use Rattle.vt_term.specs.Ends.{Ends}
 use Rattle.ti_conforms.specs.Certified.{Table}
 use Rattle.cur_looks.specs.declared.beliefs.Mode.{Mode}
-use Rattle.cur_paint.specs.Limits.{IsPlaced}
+use Rattle.cur_paint.specs.Limits.{IsCursor}
 use Rattle.cur_paint.specs.Update.{Fits, Shows}
 use Rattle.cur_paint.specs.declared.updates.Status.TheVariants.{Known}
 use Rattle.cur_update.specs.Differ.{in_lines}
@@ -25,15 +25,17 @@ FitsIn t partners p s = Fits t (ink_at t partners p.shown) p.session.status p.se
 abbrev pub IsLast : {C : Type 0} → Table → (ℕ → Option ℕ) → Painted C → Screen → Type 0
 IsLast t partners p last = p.session.status ≡ Known → ink_at t partners p.shown ≡ ink_at t partners last
 
--- where the terminal is known, the cursor was shown last in this mode, and is known to be where this screen wants it
-abbrev pub IsSettled : {C : Type 0} → Painted C → Screen → Mode → Type 0
-IsSettled p last last_mode = p.session.status ≡ Known → IsPlaced (place_of last.cursor) p.session.belief.place × (p.session.belief.mode ≡ Some last_mode)
+-- where the terminal is known, the cursor was shown last in this mode
+abbrev pub IsSettled : {C : Type 0} → Painted C → Mode → Type 0
+IsSettled p last_mode = p.session.status ≡ Known → p.session.belief.mode ≡ Some last_mode
 
--- the terminal is known, shows this screen with the cursor and its mode, and isn't to be cleared
-pub record IsShown {C : Type 0} (t : Table) (v : Screen) (p : Painted C) (last : Screen) : Type 0 where
+-- the terminal is known, may be in this state and then shows this screen with the cursor and its mode, and isn't to be
+-- cleared
+pub record IsShown {C : Type 0} (t : Table) (partners : ℕ → Option ℕ) (v : Screen) (p : Painted C) (last : Screen) (s : State) : Type 0 where
   pub known : p.session.status ≡ Known
   pub same : in_lines last v t.cols t.rows ≡ 0
-  pub placed : IsPlaced (place_of v.cursor) p.session.belief.place
+  pub fits : FitsIn t partners p s
+  pub cursor : IsCursor (place_of v.cursor) s.screen.row s.screen.col
   pub mode : p.session.belief.mode ≡ Some p.mode
   pub clear : v.clearok ≡ false
 
@@ -48,10 +50,10 @@ pub record Carries {W C : Type 0} (went : W → W → List ℕ → Type 0) (fail
   -- and after a refresh that was done it shows the virtual screen
   pub shows : is_shown o answer ≡ true → (s : State) → FitsIn t partners before s → Ends s bytes (Shows t (ink_at t partners v) (wanted_of v before.mode))
   pub last : (last : Screen) → IsLast t partners before last → IsLast t partners after (last_after o answer last v)
-  pub settled : (last : Screen) (last_mode : Mode) → IsSettled before last last_mode → IsSettled after (last_after o answer last v) (mode_after o answer last_mode before.mode)
-  -- a refresh keeps its bound, done or cut short, and sends nothing where all is shown
+  pub settled : (last_mode : Mode) → IsSettled before last_mode → IsSettled after (mode_after o answer last_mode before.mode)
+  -- a refresh keeps its bound, done or cut short, and sends nothing where all is shown in a state that fits
   pub bound : o ≡ Update → (last : Screen) → last.rows ≡ t.rows → last.cols ≡ t.cols → IsLast t partners before last → length bytes ≤ most t before.session.status v.clearok last v
-  pub idle : o ≡ Update → (last : Screen) → last.rows ≡ t.rows → last.cols ≡ t.cols → IsLast t partners before last → IsShown t v before last → length bytes ≡ 0
+  pub idle : o ≡ Update → (last : Screen) → last.rows ≡ t.rows → last.cols ≡ t.cols → IsLast t partners before last → (s : State) → IsShown t partners v before last s → length bytes ≡ 0
   pub quiet : o ≡ Nothing → length bytes ≡ 0
   -- no call sends more than can be counted
   pub few : length bytes < 2 ^ 60

@@ -1,6 +1,6 @@
 -- What the log of a run says, wherever the wire failed: what each call did and sent, what the terminal then shows, and
 -- the most that a refresh sends (X/Open Curses Issue 7, refresh, doupdate, beep, endwin).
-use Rattle.std.specs.Prelude.{ℕ, ◌+◌, ◌*◌, ◌≤◌, ◌≡◌, Bool, true, false, List, [], ◌∷◌, ◌++◌, length, Option, Some}
+use Rattle.std.specs.Prelude.{ℕ, ◌+◌, ◌*◌, ◌<◌, ◌≤◌, ◌≡◌, Bool, true, false, List, [], ◌∷◌, ◌++◌, length, Option, Some}
 use Rattle.vt_term.specs.Screen.{State}
 use Rattle.vt_term.specs.Run.{Runs}
 use Rattle.vt_term.specs.Ends.{Ends}
@@ -10,7 +10,8 @@ use Rattle.cur_windows.specs.VirtualScreen.{Screen, new_screen}
 use Rattle.cur_wires.specs.Wire.{Rose}
 use Rattle.cur_looks.specs.declared.beliefs.Mode.{Mode}
 use Rattle.cur_paint.specs.Finish.{finish_text}
-use Rattle.cur_paint.specs.Limits.{IsPlaced, fresh_limit}
+use Rattle.cur_paint.specs.Limits.{IsCursor, fresh_limit}
+use Rattle.cur_paint.specs.Modes.{shown_mode}
 use Rattle.cur_paint.specs.Update.{IsFresh, Lawful, Shows}
 use Rattle.cur_paint.specs.declared.updates.Status.{Status}
 use Rattle.cur_paint.specs.declared.updates.Status.TheVariants.{Known}
@@ -65,18 +66,21 @@ pub record IsAfter (t : Table) (bytes : List ℕ) (s : State) : Type 0 where
 
 -- ---- what a call sends
 
--- What it is to send where nothing fails. The terminal is in a state of the kind, and the session has this status; the
--- virtual screen and the cursor's mode are those when the sending begins.
-abbrev pub Says : Table → (ℕ → Option ℕ) → (State → Type 0) → Status → Screen → Mode → Emission → List ℕ → Type 0
-Says t partners kind status v m Nothing bytes = bytes ≡ []
-Says t partners kind status v m Update bytes = Lawful t kind status bytes (ink_at t partners v) (wanted_of v m)
-Says t partners kind status v m Bell bytes = t.line_of Bel ≡ Some bytes
-Says t partners kind status v m End bytes = bytes ≡ finish_text t status
+-- What it is to send where nothing fails. The terminal is in a state of the kind, the session has this status, and the
+-- cursor is shown in the mode now, where that is known; the virtual screen and the cursor's mode are those when the
+-- sending begins.
+abbrev pub Says : Table → (ℕ → Option ℕ) → (State → Type 0) → Status → Option Mode → Screen → Mode → Emission
+    → List ℕ → Type 0
+Says t partners kind status now v m Nothing bytes = bytes ≡ []
+Says t partners kind status now v m Update bytes = Lawful t kind status now bytes (ink_at t partners v) (wanted_of v m)
+Says t partners kind status now v m Bell bytes = t.line_of Bel ≡ Some bytes
+Says t partners kind status now v m End bytes = bytes ≡ finish_text t status
 
--- the first bytes of something that is so
+-- the first bytes of something that is so, and not all of them
 pub record IsFront (whole : List ℕ → Type 0) (bytes : List ℕ) : Type 0 where
   pub back : List ℕ
   pub is : whole (bytes ++ back)
+  pub some_left : 0 < length back
 
 -- by the answer: all of it, or a front of it, and nothing where the call was refused
 abbrev pub Emits : (List ℕ → Type 0) → Answer → List ℕ → Type 0
@@ -108,11 +112,11 @@ most t Known false last v = (in_lines last v t.cols t.rows + 1) * cell_limit t
 most t Known true last v = fresh_limit t
 most t _ clear last v = fresh_limit t
 
--- No cell of the virtual screen differs from what was shown last, nor does the cursor's mode, and the cursor is wanted
--- where it was wanted then, or nowhere. Nothing is to be cleared.
-pub record IsUnchanged (t : Table) (last : Screen) (last_mode : Mode) (v : Screen) (m : Mode) : Type 0 where
+-- No cell of the virtual screen differs from what was shown last, nor does the cursor's mode, and the terminal, in this
+-- state, has its cursor where it is wanted, or it is wanted nowhere. Nothing is to be cleared.
+pub record IsUnchanged (t : Table) (last : Screen) (last_mode : Mode) (s : State) (v : Screen) (m : Mode) : Type 0 where
   pub same : in_lines last v t.cols t.rows ≡ 0
-  pub placed : IsPlaced (place_of v.cursor) (place_of last.cursor)
+  pub cursor : IsCursor (place_of v.cursor) s.screen.row s.screen.col
   pub mode : m ≡ last_mode
   pub clear : v.clearok ≡ false
 
@@ -127,7 +131,8 @@ abbrev pub Due : {W : Type 0} → Subject W → Moment W → Call → List ℕ �
 Due about before call =
     let t = about.table in
     let d = scene_at about before call in
-    Says t about.partners (IsAfter t before.bytes) before.scene.status d.screen d.mode (output_of call)
+    let now = shown_mode before.scene.status (Some before.last_mode) in
+    Says t about.partners (IsAfter t before.bytes) before.scene.status now d.screen d.mode (output_of call)
 
 -- the most that a refresh sends then
 abbrev pub most_at : {W : Type 0} → Subject W → Moment W → Call → ℕ
@@ -135,11 +140,11 @@ most_at about before call =
     let v = (scene_at about before call).screen in
     most about.table before.scene.status v.clearok before.last v
 
--- nothing differs from what was shown last
-abbrev pub IsUnchangedAt : {W : Type 0} → Subject W → Moment W → Call → Type 0
-IsUnchangedAt about before call =
+-- nothing differs from what was shown last, where the terminal is in this state
+abbrev pub IsUnchangedAt : {W : Type 0} → Subject W → Moment W → State → Call → Type 0
+IsUnchangedAt about before s call =
     let d = scene_at about before call in
-    IsUnchanged about.table before.last before.last_mode d.screen d.mode
+    IsUnchanged about.table before.last before.last_mode s d.screen d.mode
 
 -- every terminal that begins in a first state is so after the bytes, and takes all of them
 abbrev pub FromFresh : {W : Type 0} → Subject W → List ℕ → (State → Type 0) → Type 0
@@ -170,8 +175,10 @@ pub record Tells {W : Type 0} (about : Subject W) (before : Moment W) (call : Ca
   pub shows : is_shown (output_of call) e.answer ≡ true → FromFresh about after.bytes (ShowsScene about after.scene)
   -- a refresh keeps its bound, done or cut short
   pub bound : output_of call ≡ Update → length piece ≤ most_at about before call
-  -- it sends nothing where the terminal is known and nothing differs from what was shown last
-  pub idle : output_of call ≡ Update → before.scene.status ≡ Known → IsUnchangedAt about before call → piece ≡ []
+  -- it sends nothing where the terminal is known and nothing differs from what was shown last, with the cursor that the
+  -- terminal has after all that went out before
+  pub idle : output_of call ≡ Update → before.scene.status ≡ Known → (s : State) → IsAfter about.table before.bytes s
+      → IsUnchangedAt about before s call → piece ≡ []
   -- what was shown last
   pub last : after.last ≡ last_after (output_of call) e.answer before.last after.scene.screen
   pub last_mode : after.last_mode ≡ mode_after (output_of call) e.answer before.last_mode after.scene.mode

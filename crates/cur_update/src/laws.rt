@@ -2,16 +2,19 @@
 ghost use Rattle.std.specs.Prelude.{◌≡◌, ◌≤◌, ◌+◌, ◌*◌, ℕ, Option, Some};
 ghost use Rattle.cur_windows.specs.VirtualScreen.{Screen};
 ghost use Rattle.ti_conforms.specs.Certified.{Table, cell_limit};
+ghost use Rattle.vt_term.specs.Screen.{State};
+ghost use Rattle.cur_looks.specs.Beliefs.{Agrees};
 ghost use Rattle.cur_looks.specs.declared.beliefs.Belief.{Belief};
 ghost use Rattle.cur_looks.specs.declared.beliefs.Place.{Place};
 ghost use Rattle.cur_looks.specs.declared.beliefs.Mode.{Mode};
-ghost use Rattle.cur_paint.specs.Limits.{IsPlaced, paint_limit};
+ghost use Rattle.cur_paint.specs.Limits.{IsCursor, paint_limit};
 ghost use Rattle.cur_update.specs.Differ.{in_lines};
 ghost use Rattle.cur_update.specs.Inks.{ink_at};
 
 /// What a refresh from one virtual screen to another sends at most, where the terminal is known: the limit of
-/// a cell for each cell that differs, and once more for the cursor. Nothing where no cell differs,
-/// the mode is the shown one, and the cursor is where it is wanted.
+/// a cell for each cell that differs, and once more for the cursor. Nothing where no cell differs, the mode is the
+/// shown one, and the cursor of the terminal is where it is wanted, or is wanted nowhere: its cursor in any state that
+/// agrees with what is known.
 pub fn cells_bounded()
     ensures most { (t : Table) (partners : ℕ → Option ℕ) (v w : Screen) (b : Belief) (cursor : Option Place)
         (mode : Mode) → v.rows ≡ w.rows → v.cols ≡ w.cols
@@ -19,7 +22,8 @@ pub fn cells_bounded()
         ≤ (in_lines v w t.cols t.rows + 1) * cell_limit t }
     ensures none { (t : Table) (partners : ℕ → Option ℕ) (v w : Screen) (b : Belief) (cursor : Option Place)
         (mode : Mode) → v.rows ≡ w.rows → v.cols ≡ w.cols → in_lines v w t.cols t.rows ≡ 0
-        → IsPlaced cursor b.place → b.mode ≡ Some mode
+        → b.mode ≡ Some mode → (s : State) → Agrees t (ink_at t partners v) b s
+        → IsCursor cursor s.screen.row s.screen.col
         → paint_limit t (ink_at t partners v) (ink_at t partners w) b cursor mode ≡ 0 }
 {
     cur_paint::bounded();

@@ -21,7 +21,7 @@ ends_as s bytes A B f e = record { after = e.after; runs = e.runs; there = f e.a
 pub ends_sized : (rows cols : ℕ) (s : State) (bytes : List ℕ) (A B : State → Type 0) → IsOfSize rows cols s → ((t : State) → IsOfSize rows cols t → A t → B t) → Ends s bytes A → Ends s bytes B
 ends_sized rows cols s bytes A B size f e = record { after = e.after; runs = e.runs; there = f e.after (run_keeps rows cols s e.after bytes size e.runs) e.there }
 
-pub reaches_then : (P : List ℕ → Type 0) (A B C : State → Type 0) → Reaches P A B → Reaches P B C → Reaches P A C
+unfoldable pub reaches_then : (P : List ℕ → Type 0) (A B C : State → Type 0) → Reaches P A B → Reaches P B C → Reaches P A C
 reaches_then P A B C h k = record {
   bytes = h.bytes ++ k.bytes;
   pieces = h.pieces ++ k.pieces;
@@ -33,7 +33,7 @@ reaches_then P A B C h k = record {
 pub reaches_piece : (P : List ℕ → Type 0) (A B : State → Type 0) (bytes : List ℕ) → P bytes → ((s : State) → A s → Ends s bytes B) → Reaches P A B
 reaches_piece P A B bytes p f = record { bytes = bytes; pieces = bytes ∷ []; made = sym (append-nil bytes); each = (p, tt); ends = f }
 
-pub reaches_as : (P : List ℕ → Type 0) (A B C D : State → Type 0) → ((s : State) → C s → A s) → ((s : State) → B s → D s) → Reaches P A B → Reaches P C D
+unfoldable pub reaches_as : (P : List ℕ → Type 0) (A B C D : State → Type 0) → ((s : State) → C s → A s) → ((s : State) → B s → D s) → Reaches P A B → Reaches P C D
 reaches_as P A B C D f g h = record {
   bytes = h.bytes;
   pieces = h.pieces;

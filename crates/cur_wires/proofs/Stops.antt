@@ -1,8 +1,8 @@
 -- Steps that may fail, after one another.
-use Rattle.std.proofs.Common.{◌≡◌, ℕ, ◌+◌, ◌≤◌, List, [], ◌∷◌, ◌++◌, length, Result, Ok, Err, refl, sym, subst, arith}
+use Rattle.std.proofs.Common.{◌≡◌, ℕ, ◌+◌, ◌≤◌, List, [], ◌∷◌, ◌++◌, length, Result, Ok, Err, refl, sym, ap, subst, ◌∙◌, arith}
 use Rattle.std.proofs.lemmas.List.{append-nil}
 use Rattle.std.specs.Prelude.{OnOk}
-use Rattle.vt_term.specs.Screen.{State, Screen}
+use Rattle.vt_term.specs.Screen.{State}
 use Rattle.vt_term.specs.Text.{IsOpen}
 use Rattle.vt_term.proofs.Sequences.{empty_open}
 use Rattle.vt_term.proofs.Runs.{runs_nothing}
@@ -11,8 +11,7 @@ use Rattle.cur_wires.specs.Leads.{Leads}
 use Rattle.vt_term.specs.Ends.{Ends}
 use Rattle.cur_wires.proofs.Leads.{leads_then, leads_wider}
 use Rattle.cur_wires.proofs.Paints.{sends_then}
-use Rattle.cur_wires.specs.Steps.{then_kind, Steps}
-use Rattle.vt_term.specs.Ends.{Closed, Drives}
+use Rattle.cur_wires.specs.Steps.{then_kind, Spells, Steps}
 
 -- a step that failed ends the whole, whatever would have followed it: no plan of the rest is needed
 pub steps_fail : {W T E U F : Type 0} (went : W → W → List ℕ → Type 0) (failures : W → ℕ) (a b : W) (v : E) (u : F) (P : List ℕ → Type 0) (m n : ℕ) (D A B C : State → Type 0)
@@ -83,14 +82,6 @@ pub on_ok_map : {T E : Type 0} (r : Result T E) (P Q : Type 0) → (P → Q) →
 on_ok_map (Ok v) P Q f h = f h
 on_ok_map (Err v) P Q f h = tt
 
--- a string that drives the terminal, sent
-pub steps_line : {W T E : Type 0} (went : W → W → List ℕ → Type 0) (failures : W → ℕ) (a b : W) (answer : Result T E) (P : List ℕ → Type 0) (n : ℕ) (starts : Screen → Type 0) (wants : Screen → Screen → Type 0)
-    (D A B : State → Type 0) (bytes : List ℕ) → P bytes → length bytes ≤ n → Drives starts wants D bytes → ((s : State) → A s → s.rest ≡ []) → ((s : State) → A s → starts s.screen) → ((s : State) → A s → D s)
-    → ((s : State) → A s → Ends s bytes (Closed (wants s.screen)) → Ends s bytes B) → ((s : State) → B s → D s) → Sends went failures a b bytes answer → Steps went failures a b answer P n D A B
-steps_line went failures a b answer P n starts wants D A B bytes p le drives rest begins lost wanted f sends =
-    steps_sent went failures a b answer P n D A B bytes
-    (leads_line P n D A B bytes p le (λ s x. wanted s x (drives.right s (rest s x) (begins s x))) (λ s x front back e. drives.fronts s (rest s x) (lost s x) front back e)) f sends
-
 -- three steps, within a limit for all
 pub steps_three : {W T E U F V G : Type 0} (went : W → W → List ℕ → Type 0) (failures : W → ℕ) → IsWire went failures → (a b c d : W) (v : U) (w : V) (answer : Result T E) (P : List ℕ → Type 0) (m n k limit : ℕ) (D A B C H : State → Type 0)
     → (m + n) + k ≤ limit → Steps {T = U} {E = F} went failures a b (Ok v) P m D A B → Steps {T = V} {E = G} went failures b c (Ok w) P n D B C → Steps went failures c d answer P k D C H → Steps went failures a d answer P limit D A H
@@ -107,3 +98,43 @@ steps_two_fail went failures laws a b c v x u P m n limit D A B C H le f g =
 pub steps_none : {W T E : Type 0} (went : W → W → List ℕ → Type 0) (failures : W → ℕ) → IsWire went failures → (a : W) (v : T) (P : List ℕ → Type 0) (n : ℕ) (D A : State → Type 0)
     → ((s : State) → A s → s.rest ≡ []) → ((s : State) → A s → D s) → Steps {T = T} {E = E} went failures a a (Ok v) P n D A A
 steps_none went failures laws a v P n D A rest d = steps_nothing went failures laws a v P n D A A rest (λ s x. x) d
+
+-- ---- steps that send a text
+
+-- bytes that lead on, sent
+pub spells_sent : {W T E : Type 0} (went : W → W → List ℕ → Type 0) (failures : W → ℕ) (a b : W) (answer : Result T E) (P : List ℕ → Type 0) (n : ℕ) (D A B : State → Type 0) (bytes : List ℕ)
+    → Leads P n D A bytes B → ((s : State) → B s → D s) → Sends went failures a b bytes answer → Spells went failures a b answer bytes P n D A B
+spells_sent went failures a b (Ok v) P n D A B bytes h f k = record { step = record { bytes = bytes; leads = h; sends = k }; all = refl }
+spells_sent went failures a b (Err v) P n D A B bytes h f k = record { step = steps_sent went failures a b (Err v) P n D A B bytes h f k; all = tt }
+
+-- nothing is sent
+pub spells_nothing : {W T E : Type 0} (went : W → W → List ℕ → Type 0) (failures : W → ℕ) → IsWire went failures → (a : W) (v : T) (P : List ℕ → Type 0) (n : ℕ) (D A B : State → Type 0)
+    → ((s : State) → A s → s.rest ≡ []) → ((s : State) → A s → B s) → ((s : State) → A s → D s) → Spells {T = T} {E = E} went failures a a (Ok v) [] P n D A B
+unfolding steps_nothing
+spells_nothing went failures laws a v P n D A B rest f d = record { step = steps_nothing went failures laws a v P n D A B rest f d; all = refl }
+
+-- one text after another, within a limit for both
+pub spells_next : {W T E U F : Type 0} (went : W → W → List ℕ → Type 0) (failures : W → ℕ) → IsWire went failures → (a b c : W) (v : U) (answer : Result T E) (x y : List ℕ) (P : List ℕ → Type 0) (m n k : ℕ) (D A B C : State → Type 0)
+    → m + n ≤ k → Spells {T = U} {E = F} went failures a b (Ok v) x P m D A B → Spells went failures b c answer y P n D B C → Spells went failures a c answer (x ++ y) P k D A C
+unfolding steps_next steps_wider steps_then by_answer
+spells_next went failures laws a b c v (Ok w) x y P m n k D A B C le h j = record {
+  step = steps_next went failures laws a b c v (Ok w) P m n k D A B C le h.step j.step;
+  all = ap (λ (l : List ℕ). l ++ j.step.bytes) h.all ∙ ap (λ (l : List ℕ). x ++ l) j.all;
+}
+spells_next went failures laws a b c v (Err e) x y P m n k D A B C le h j = record {
+  step = steps_next went failures laws a b c v (Err e) P m n k D A B C le h.step j.step;
+  all = tt;
+}
+
+-- the same text by another name, under a greater limit
+pub spells_as : {W T E : Type 0} (went : W → W → List ℕ → Type 0) (failures : W → ℕ) (a b : W) (answer : Result T E) (x y : List ℕ) (P : List ℕ → Type 0) (m n : ℕ) (D A B : State → Type 0)
+    → x ≡ y → m ≤ n → Spells went failures a b answer x P m D A B → Spells went failures a b answer y P n D A B
+unfolding steps_wider
+spells_as went failures a b (Ok v) x y P m n D A B e le h = record {
+  step = steps_wider went failures a b (Ok v) P m n D A B A B le (λ s p. p) (λ s p. p) h.step;
+  all = h.all ∙ e;
+}
+spells_as went failures a b (Err v) x y P m n D A B e le h = record {
+  step = steps_wider went failures a b (Err v) P m n D A B A B le (λ s p. p) (λ s p. p) h.step;
+  all = tt;
+}

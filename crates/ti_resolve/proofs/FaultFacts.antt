@@ -9,7 +9,7 @@ use Rattle.ti_resolve.specs.declared.faults.ResolveFault.TheVariants.{NoSuchEntr
 use Rattle.ti_resolve.specs.Uses.{place_named, fields_at, names_at, uses_in}
 use Rattle.ti_resolve.specs.Fills.{fields_of_all, take_fields, start}
 use Rattle.ti_resolve.specs.Resolved.{IsResolved}
-use Rattle.ti_resolve.specs.Walk.{and_then, enter, follow_uses, go_to, holds, target, walk_at, walk_from, walk_of}
+use Rattle.ti_resolve.specs.Walk.{and_then, enter, follow_uses, go_to, holds, target, walk_from, walk_of}
 use Rattle.ti_resolve.specs.Faults.{AnswersOnce, AreDifferent, FaultAt, FaultFrom, FaultsAreSo, FaultsFromAreSo, Includes, Reaches, ReachesTooMany, itself, by_use, WalksResolve}
 use Rattle.ti_resolve.proofs.Law.{holds-append}
 use Rattle.ti_resolve.proofs.Once as Once

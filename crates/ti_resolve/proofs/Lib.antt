@@ -6,3 +6,5 @@ pub mod Taken
 pub mod Told
 pub mod Whole
 pub mod Once
+pub mod Firsts
+pub mod OriginFacts

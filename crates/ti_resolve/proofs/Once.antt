@@ -1,31 +1,30 @@
--- Uses stand for one list of fields at most.
+-- Uses stand for one list of entries at most.
 use Rattle.std.proofs.Common.{◌≡◌, ℕ, List, [], ◌∷◌, ◌++◌, Some, refl, sym, ap, ◌∙◌, subst}
-use Rattle.ti_source.specs.declared.types.Field.{Field}
 use Rattle.ti_source.specs.declared.types.RawEntry.{RawEntry}
 use Rattle.ti_caps.proofs.Entries.{same_entry}
-use Rattle.ti_resolve.specs.Resolved.{Expands, no_use, one_use, ExpandsOnce, IsResolvedAt, ResolvedAtOnce, ResolvedOnce}
-use Rattle.ti_resolve.specs.Uses.{place_named, fields_at, names_at, uses_in, own_in, first_about, value_given}
+use Rattle.ti_resolve.specs.Resolved.{Expands, no_use, one_use, ExpandsOnce, IsResolvedAt, IsWhole, ResolvedAtOnce, ResolvedOnce, own_of_all}
+use Rattle.ti_resolve.specs.Uses.{place_named, fields_at, uses_in, first_about, value_given}
 
 some_same : (a b : ℕ) → Some a ≡ Some b → a ≡ b
 some_same a b e = cc
 
--- how the uses of a list of names came to these fields
-record First (raws : List RawEntry) (name : List ℕ) (names : List (List ℕ)) (fields : List Field) : Type 0 where
+-- how the uses of a list of names came to these places
+record First (raws : List RawEntry) (name : List ℕ) (names : List (List ℕ)) (places : List ℕ) : Type 0 where
   place : ℕ
-  inner : List Field
-  rest : List Field
+  inner : List ℕ
+  rest : List ℕ
   found : place_named raws name ≡ Some place
   used : Expands raws (uses_in (fields_at raws place)) inner
   behind : Expands raws names rest
-  whole : fields ≡ (own_in (fields_at raws place) ++ inner) ++ rest
+  whole : places ≡ (place ∷ inner) ++ rest
 
-abbrev Came : List RawEntry → List (List ℕ) → List Field → Type 0
-Came raws [] fields = fields ≡ []
-Came raws (name ∷ names) fields = First raws name names fields
+abbrev Came : List RawEntry → List (List ℕ) → List ℕ → Type 0
+Came raws [] places = places ≡ []
+Came raws (name ∷ names) places = First raws name names places
 
-came : (raws : List RawEntry) (names : List (List ℕ)) (fields : List Field) → Expands raws names fields → Came raws names fields
-came raws names fields no_use = refl
-came raws names fields (one_use name others place inner rest found used behind) = record { place = place; inner = inner; rest = rest; found = found; used = used; behind = behind; whole = refl }
+came : (raws : List RawEntry) (names : List (List ℕ)) (places : List ℕ) → Expands raws names places → Came raws names places
+came raws names places no_use = refl
+came raws names places (one_use name others place inner rest found used behind) = record { place = place; inner = inner; rest = rest; found = found; used = used; behind = behind; whole = refl }
 
 pub expands_once : ExpandsOnce
 expands_once raws names one other no_use e = sym (came raws [] other e)
@@ -34,16 +33,25 @@ expands_once raws names one other (one_use name others place inner rest found us
     let same : f.place ≡ place = some_same f.place place (sym f.found ∙ found) in
     let inners : inner ≡ f.inner = expands_once raws (uses_in (fields_at raws place)) inner f.inner used (subst (λ p. Expands raws (uses_in (fields_at raws p)) f.inner) same f.used) in
     let rests : rest ≡ f.rest = expands_once raws others rest f.rest behind f.behind in
-    ap (λ i. (own_in (fields_at raws place) ++ i) ++ rest) inners
-    ∙ (ap (λ r. (own_in (fields_at raws place) ++ f.inner) ++ r) rests
-    ∙ (ap (λ p. (own_in (fields_at raws p) ++ f.inner) ++ f.rest) (sym same) ∙ sym f.whole))
+    ap (λ i. (place ∷ i) ++ rest) inners
+    ∙ (ap (λ r. (place ∷ f.inner) ++ r) rests
+    ∙ (ap (λ p. (p ∷ f.inner) ++ f.rest) (sym same) ∙ sym f.whole))
+
+-- an entry and all that it uses are one list
+whole_at_once : (raws : List RawEntry) (root : ℕ) (places others : List ℕ) → IsWhole raws root places → IsWhole raws root others → places ≡ others
+whole_at_once raws root places others w v =
+    let used : w.used ≡ v.used = expands_once raws (uses_in (fields_at raws root)) w.used v.used w.expands v.expands in
+    w.whole ∙ (ap (λ u. root ∷ u) used ∙ sym v.whole)
+
+pub whole_once : (raws : List RawEntry) (name : List ℕ) (root other_root : ℕ) (places others : List ℕ) → place_named raws name ≡ Some root → place_named raws name ≡ Some other_root → IsWhole raws root places → IsWhole raws other_root others → places ≡ others
+whole_once raws name root other_root places others found other_found w v =
+    whole_at_once raws root places others w (subst (λ p. IsWhole raws p others) (some_same other_root root (sym other_found ∙ found)) v)
 
 pub resolved_at_once : ResolvedAtOnce
 resolved_at_once raws root one other is_one is_other r s =
-    let used : r.whole.used ≡ s.whole.used = expands_once raws (uses_in (fields_at raws root)) r.whole.used s.whole.used r.whole.expands s.whole.expands in
-    let fields : r.fields ≡ s.fields = r.whole.whole ∙ (ap (λ u. own_in (fields_at raws root) ++ u) used ∙ sym s.whole.whole) in
+    let places : r.places ≡ s.places = whole_at_once raws root r.places s.places r.whole s.whole in
     same_entry one other is_one is_other (r.names ∙ sym s.names)
-    (λ place inside. r.values place inside ∙ (ap (λ fs. value_given (first_about place fs)) fields ∙ sym (s.values place inside)))
+    (λ place inside. r.values place inside ∙ (ap (λ ps. value_given (first_about place (own_of_all raws ps))) places ∙ sym (s.values place inside)))
 
 pub resolved_once : ResolvedOnce
 resolved_once raws name one other is_one is_other r s =

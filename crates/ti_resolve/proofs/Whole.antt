@@ -1,5 +1,5 @@
 -- What the calls of `resolve` give together.
-use Rattle.std.proofs.Common.{◌≡◌, ℕ, List, [], Some, None, Ok, Err, refl, sym, ap, ◌∙◌}
+use Rattle.std.proofs.Common.{◌≡◌, ℕ, List, Some, None, Ok, Err, refl, sym, ap, ◌∙◌}
 use Rattle.ti_caps.specs.Entry.{Content, value_at, bare_entry}
 use Rattle.ti_source.specs.declared.types.RawEntry.{RawEntry}
 use Rattle.ti_resolve.specs.declared.faults.ResolveFault.TheVariants.{NoSuchEntry}
@@ -7,6 +7,7 @@ use Rattle.ti_resolve.specs.Uses.{place_named, names_at, value_given}
 use Rattle.ti_resolve.specs.Fills.{fields_of_all, take_fields, start}
 use Rattle.ti_resolve.specs.Resolved.{IsResolvedAt}
 use Rattle.ti_resolve.specs.Walk.{walk_at, walk_from, walk_of}
+use Rattle.ti_resolve.proofs.Firsts.{fields_same}
 use Rattle.ti_resolve.proofs.Law.{walk_is_whole}
 use Rattle.ti_resolve.proofs.Taken.{taken_names, taken_values}
 
@@ -26,8 +27,8 @@ pub resolved_is : (raws : List RawEntry) (names after : List ℕ) (root : ℕ) (
 resolved_is raws names after root entry walked named is =
     let whole = walk_is_whole raws 65 root (names_at raws root) after walked in
     record {
-      fields = whole.0;
+      places = whole.0;
       whole = whole.1;
       names = ap (λ e. e.names) is ∙ (taken_names (start names) (fields_of_all raws after) ∙ (bare_names names ∙ named));
-      values = λ place inside. ap (λ e. value_at e place) is ∙ (taken_values names (fields_of_all raws after) place inside ∙ ap value_given (whole.2 place));
+      values = λ place inside. ap (λ e. value_at e place) is ∙ (taken_values names (fields_of_all raws after) place inside ∙ ap value_given (fields_same raws place after whole.0 whole.2));
     }

@@ -4,3 +4,4 @@ pub mod Index
 pub mod Walk
 pub mod Resolved
 pub mod Faults
+pub mod Origins

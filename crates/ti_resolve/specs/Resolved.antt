@@ -6,24 +6,29 @@ use Rattle.ti_source.specs.declared.types.Field.{Field}
 use Rattle.ti_source.specs.declared.types.RawEntry.{RawEntry}
 use Rattle.ti_resolve.specs.Uses.{place_named, fields_at, names_at, uses_in, own_in, first_about, value_given}
 
--- these uses, one after another, stand for these fields: for each the used entry's own fields, and then
+-- these uses, one after another, stand for the entries at these places: for each the used entry, and then
 -- what its own uses stand for
-pub data Expands (raws : List RawEntry) : List (List ℕ) → List Field → Type 0 where
+pub data Expands (raws : List RawEntry) : List (List ℕ) → List ℕ → Type 0 where
   no_use : Expands raws [] []
-  one_use : (name : List ℕ) (names : List (List ℕ)) (place : ℕ) (inner rest : List Field) → place_named raws name ≡ Some place → Expands raws (uses_in (fields_at raws place)) inner → Expands raws names rest → Expands raws (name ∷ names) ((own_in (fields_at raws place) ++ inner) ++ rest)
+  one_use : (name : List ℕ) (names : List (List ℕ)) (place : ℕ) (inner rest : List ℕ) → place_named raws name ≡ Some place → Expands raws (uses_in (fields_at raws place)) inner → Expands raws names rest → Expands raws (name ∷ names) ((place ∷ inner) ++ rest)
 
--- the whole list of fields of the entry at a place
-pub record IsWhole (raws : List RawEntry) (place : ℕ) (fields : List Field) : Type 0 where
-  pub used : List Field
+-- the entry at a place and all that it uses, in their order
+pub record IsWhole (raws : List RawEntry) (place : ℕ) (places : List ℕ) : Type 0 where
+  pub used : List ℕ
   pub expands : Expands raws (uses_in (fields_at raws place)) used
-  pub whole : fields ≡ own_in (fields_at raws place) ++ used
+  pub whole : places ≡ place ∷ used
+
+-- the list of all fields of the entries at these places, but those that include
+abbrev pub own_of_all : List RawEntry → List ℕ → List Field
+own_of_all raws [] = []
+own_of_all raws (place ∷ places) = own_in (fields_at raws place) ++ own_of_all raws places
 
 -- the entry at a place, with all that it uses
 pub record IsResolvedAt (raws : List RawEntry) (root : ℕ) (entry : Content) : Type 0 where
-  pub fields : List Field
-  pub whole : IsWhole raws root fields
+  pub places : List ℕ
+  pub whole : IsWhole raws root places
   pub names : entry.names ≡ names_at raws root
-  pub values : (place : ℕ) → place < 497 → value_at entry place ≡ value_given (first_about place fields)
+  pub values : (place : ℕ) → place < 497 → value_at entry place ≡ value_given (first_about place (own_of_all raws places))
 
 -- the entry that a name asks for: the first that has it
 pub record IsResolved (raws : List RawEntry) (name : List ℕ) (entry : Content) : Type 0 where
@@ -31,9 +36,9 @@ pub record IsResolved (raws : List RawEntry) (name : List ℕ) (entry : Content)
   pub found : place_named raws name ≡ Some root
   pub there : IsResolvedAt raws root entry
 
--- uses stand for one list of fields at most
+-- uses stand for one list of entries at most
 abbrev pub ExpandsOnce : Type 0
-ExpandsOnce = (raws : List RawEntry) (names : List (List ℕ)) (one other : List Field) → Expands raws names one → Expands raws names other → one ≡ other
+ExpandsOnce = (raws : List RawEntry) (names : List (List ℕ)) (one other : List ℕ) → Expands raws names one → Expands raws names other → one ≡ other
 
 -- so at a place there is one entry at most
 abbrev pub ResolvedAtOnce : Type 0

@@ -3,12 +3,14 @@
 
 mod faults;
 mod fill;
+mod origins;
 mod resolution;
 mod search;
 mod walk;
 
 pub use faults::ResolveFault;
+pub use origins::Origin;
 pub use resolution::{
-    answers_once, expands_once, faults_are_so, faults_from_are_so, resolve, resolve_at,
+    answers_once, expands_once, faults_are_so, faults_from_are_so, origin, resolve, resolve_at,
     resolved_at_once, resolved_once, walks_resolve,
 };

@@ -1,18 +1,20 @@
 //! An entry with all that it uses.
 
-ghost use Rattle.std.specs.Prelude.{◌≡◌, ◌<◌, [], IfOk, MatchResult, IsOk, length};
+ghost use Rattle.std.specs.Prelude.{◌≡◌, ◌<◌, [], Some, IfOk, MatchResult, IsOk, length};
 ghost use Rattle.std.specs.List.{AllByRecursion};
 ghost use Rattle.ti_source.specs.Raw.{IsRaw};
 ghost use Rattle.ti_resolve.specs.Faults.{AnswersOnce, FaultsAreSo, FaultsFromAreSo, WalksResolve};
+ghost use Rattle.ti_resolve.specs.Origins.{GivesValue, IsOrigin};
 ghost use Rattle.ti_resolve.specs.Resolved.{ExpandsOnce, IsResolved, IsResolvedAt, ResolvedAtOnce, ResolvedOnce};
 ghost use Rattle.ti_resolve.specs.Walk.{Gives, FailsBy, walk_at, walk_of};
 
 use crate::faults::ResolveFault;
 use crate::fill::filled;
+use crate::origins::{Origin, giving};
 use crate::search::{Index, names_of};
 use crate::walk::{Destination, MOST_USED, enter};
 use std::alloc::Global;
-use ti_caps::Entry;
+use ti_caps::{Cap, Entry};
 use ti_source::RawEntry;
 
 /// The places of the entries that the walk from the one at `root` enters, in that order.
@@ -59,6 +61,26 @@ fn resolve_in(alloc: Global, index: &Index<'_>, name: &[u8]) -> Result<Entry, Re
     }
 }
 
+/// Where the value of `cap` stands in the entry that `name` asks for, in entries with their index.
+fn origin_of(
+    alloc: Global,
+    index: &Index<'_>,
+    name: &[u8],
+    cap: Cap,
+) -> Result<Option<Origin>, ResolveFault>
+    ensures origin { IfOk result (λ found. IsOrigin index.now.raws.now name.now cap found) }
+    ensures value { IfOk result (λ found. GivesValue index.now.raws.now name.now cap found) }
+    ensures walk { MatchResult result (λ _. IsOk (walk_of index.now.raws.now name.now)) (λ fault. FailsBy fault (walk_of index.now.raws.now name.now)) }
+{
+    // the capability is in the table
+    let _ = cap.place();
+    let Some(root) = index.find(name) else {
+        return Err(ResolveFault::no_such_entry(alloc, name));
+    };
+    let entered = entered_from(alloc, index, root)?;
+    Ok(giving(index.raws, cap, entered.as_slice()))
+}
+
 /// The entry that a name asks for, with all that it uses: depth first and left to right, an entry's own
 /// fields before its uses. Of several fields about a capability the first decides, a cancellation too.
 ///
@@ -90,7 +112,28 @@ pub fn resolve_at(alloc: Global, raws: &[RawEntry], place: usize) -> Result<Entr
     resolve_from(alloc, &index, place)
 }
 
-/// A law: uses stand for one list of fields.
+/// Where the value of `cap` stands in the entry of `raws` that `name` asks for, with all that it uses: the first
+/// field about `cap`, in the order of `resolve`. None where the entry has no value of it.
+///
+/// The time is that of `resolve`, but that fields are passed over only up to that one.
+///
+/// # Errors
+/// Those of `resolve`.
+pub fn origin(
+    alloc: Global,
+    raws: &[RawEntry],
+    name: &[u8],
+    cap: Cap,
+) -> Result<Option<Origin>, ResolveFault>
+    ensures origin { IfOk result (λ found. IsOrigin raws.now name.now cap found) }
+    ensures value { IfOk result (λ found. GivesValue raws.now name.now cap found) }
+    ensures walk { MatchResult result (λ _. IsOk (walk_of raws.now name.now)) (λ fault. FailsBy fault (walk_of raws.now name.now)) }
+{
+    let index = Index::new(alloc, raws)?;
+    origin_of(alloc, &index, name, cap)
+}
+
+/// A law: uses stand for one list of entries.
 #[tactic(auto, using(crate::proofs::Once::expands_once))]
 pub fn expands_once()
     ensures { ExpandsOnce }

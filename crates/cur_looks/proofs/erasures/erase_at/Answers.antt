@@ -6,21 +6,17 @@ use Rattle.cur_looks.specs.Erasures.{erased}
 use Rattle.cur_looks.specs.Beliefs.{Agrees, ready_limit}
 use Rattle.cur_looks.proofs.erasures.erase_at.Goals as goal
 
-pub returns-in_err-reach_plainly : goal.returns-in_err-reach_plainly
-returns-in_err-reach_plainly g c =
+pub returns-in_err-reach_plainly-clause-step : goal.returns-in_err-reach_plainly-clause-step
+returns-in_err-reach_plainly-clause-step g c h =
     let e = err_from_is_err_and c.from_residual.result c.from_residual.ensures.1 in
     let t = g.C.Certificate.table c.args.checked.now in
     let b = c.args.belief.now in
-    rw e.1 (record {
-      step = λ h. steps_fail g.W.Wire.went g.W.Wire.failures c.args.wire.now c.reach_plainly.new.wire _ _ (IsPiece t) (ready_limit t) (cell_limit t) (IsLost t) (Agrees t h b) (Agrees t h c.reach_plainly.new.belief) (Agrees t (erased c.args.erasure c.args.at.row c.args.at.col h) c.reach_plainly.new.belief)
-          (omega arith) (c.in_err-reach_plainly.ensures.step h);
-    })
+    rw e.1 (steps_fail g.W.Wire.went g.W.Wire.failures c.args.wire.now c.reach_plainly.new.wire _ _ (IsPiece t) (ready_limit t) (cell_limit t) (IsLost t) (Agrees t h b) (Agrees t h c.reach_plainly.new.belief) (Agrees t (erased c.args.erasure c.args.at.row c.args.at.col h) c.reach_plainly.new.belief)
+    (omega arith) (c.in_err-reach_plainly.ensures.step h))
 
-pub returns : goal.returns
-returns g c =
+pub returns-clause-step : goal.returns-clause-step
+returns-clause-step g c h =
     let t = g.C.Certificate.table c.args.checked.now in
     let b = c.args.belief.now in
-    record {
-      step = λ h. steps_next g.W.Wire.went g.W.Wire.failures g.met.W.Wire.lawful c.args.wire.now c.reach_plainly.new.wire c.erase_here.new.wire _ c.erase_here.result (IsPiece t) (ready_limit t) (t.longest.erasure) (cell_limit t) (IsLost t)
-          (Agrees t h b) (Agrees t h c.reach_plainly.new.belief) (Agrees t (erased c.args.erasure c.args.at.row c.args.at.col h) c.reach_plainly.new.belief) (omega arith) (c.in_ok-reach_plainly.ensures.step h) (c.erase_here.ensures.step h);
-    }
+    steps_next g.W.Wire.went g.W.Wire.failures g.met.W.Wire.lawful c.args.wire.now c.reach_plainly.new.wire c.erase_here.new.wire _ c.erase_here.result (IsPiece t) (ready_limit t) (t.longest.erasure) (cell_limit t) (IsLost t)
+    (Agrees t h b) (Agrees t h c.reach_plainly.new.belief) (Agrees t (erased c.args.erasure c.args.at.row c.args.at.col h) c.reach_plainly.new.belief) (omega arith) (c.in_ok-reach_plainly.ensures.step h) (c.erase_here.ensures.step h)

@@ -1,7 +1,7 @@
-use Rattle.std.proofs.Common.{Some, arith, refl}
-use Rattle.cur_wires.proofs.Stops.{steps_nothing}
+use Rattle.std.proofs.Common.{Some, [], refl, sym, ap, arith}
+use Rattle.cur_wires.proofs.Stops.{spells_as, spells_nothing}
 use Rattle.ti_rows.specs.declared.rows.Row.TheVariants.{Cnorm}
-use Rattle.ti_conforms.specs.Certified.{IsPiece, IsLost}
+use Rattle.ti_conforms.specs.Certified.{IsPiece, IsLost, or_nothing, text_of}
 use Rattle.cur_looks.specs.Beliefs.{Agrees, Belief, Normal}
 use Rattle.cur_looks.proofs.Actions.{agrees_lost}
 use Rattle.cur_looks.proofs.Answers.{has_none}
@@ -12,12 +12,14 @@ pub returns-in-Some-clause-step : goal.returns-in-Some-clause-step
 returns-in-Some-clause-step g c h =
     let t = g.C.Certificate.table c.args.checked.now in
     let b = c.args.belief.now in
-    c.send_line.ensures.step t.longest.cnorm h h b _ (omega arith) (normal t h b)
+    c.send_line.ensures.text b _ (λ x. normal t x b) h
 
 pub returns-in-None-clause-step : goal.returns-in-None-clause-step
 returns-in-None-clause-step g c h =
     let t = g.C.Certificate.table c.args.checked.now in
     let b = c.args.belief.now in
     let d : Belief = record b { mode = Some Normal } in
-    steps_nothing g.W.Wire.went g.W.Wire.failures g.met.W.Wire.lawful c.args.wire.now tt (IsPiece t) _ (IsLost t) (Agrees t h b) (Agrees t h d) (λ s x. x.ready.rest)
-    (always_normal t (has_none t Cnorm (c.in-None.ensures.none refl)) h b) (agrees_lost t c.requires.checked h b)
+    let limit = t.longest.cnorm in
+    spells_as g.W.Wire.went g.W.Wire.failures c.args.wire.now c.args.wire.now _ [] (text_of t Cnorm) (IsPiece t) limit limit (IsLost t) (Agrees t h b) (Agrees t h d) (sym (ap or_nothing (c.in-None.ensures.none refl))) (omega arith)
+    (spells_nothing g.W.Wire.went g.W.Wire.failures g.met.W.Wire.lawful c.args.wire.now tt (IsPiece t) limit (IsLost t) (Agrees t h b) (Agrees t h d) (λ s x. x.ready.rest)
+    (always_normal t (has_none t Cnorm (c.in-None.ensures.none refl)) h b) (agrees_lost t c.requires.checked h b))

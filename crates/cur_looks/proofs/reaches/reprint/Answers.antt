@@ -1,4 +1,4 @@
-use Rattle.std.proofs.Common.{◌≡◌, ◌+◌, ℕ, Option, Some, Ok, sym, ap, ◌∙◌, arith}
+use Rattle.std.proofs.Common.{◌≡◌, ◌+◌, ℕ, Ok, sym, ap, ◌∙◌, arith}
 use Rattle.std.proofs.lemmas.Result.{err_from_is_err_and}
 use Rattle.cur_wires.proofs.Stops.{steps_fail, steps_next, steps_none, steps_wider}
 use Rattle.ti_conforms.specs.Certified.{IsPiece, IsLost}
@@ -14,7 +14,7 @@ loop-n-init g c =
     let b : Belief = c.args.belief.now in
     let here : c.args.from.col ≡ c.args.from.col + 0 = omega arith in
     record {
-      belief = ap (λ (o : Option Place). record b { place = o }) (c.requires.place ∙ ap (λ (n : ℕ). Some (record { row = c.args.from.row; col = n })) here);
+      belief = ap (λ (o : Place). record b { place = o }) (c.requires.place ∙ ap (λ (n : ℕ). record c.args.from { col = n }) here);
       step = λ h k. steps_none g.W.Wire.went g.W.Wire.failures g.met.W.Wire.lawful c.args.wire.now tt (IsPiece t) _ (IsLost t) (Agrees t h b) (λ s x. x.ready.rest) (agrees_lost t c.requires.checked h b);
     }
 
@@ -29,7 +29,7 @@ loop-n-preserved g c =
     let n = c.loop-n.n in
     let next : col + 1 ≡ c.args.from.col + (n + 1) = omega arith in
     record {
-      belief = c.print_at.ensures.belief ∙ ap (λ (x : Belief). record x { place = Some (record { row = row; col = col + 1 }) }) c.loop-n.invariant.belief ∙ ap (λ (m : ℕ). record b { place = Some (record { row = row; col = m }) }) next;
+      belief = c.print_at.ensures.belief ∙ ap (λ (x : Belief). record x { place = record { row = row; col = col + 1 } }) c.loop-n.invariant.belief ∙ ap (λ (m : ℕ). record b { place = record { row = row; col = m } }) next;
       step = λ h k. steps_next g.W.Wire.went g.W.Wire.failures g.met.W.Wire.lawful c.args.wire.now c.loop-n.wire c.print_at.new.wire _ (Ok tt) (IsPiece t) n 1 (n + 1) (IsLost t) (Agrees t h b) (Agrees t h a) (Agrees t h z) (omega arith)
           (c.loop-n.invariant.step h k)
           (steps_wider g.W.Wire.went g.W.Wire.failures c.loop-n.wire c.print_at.new.wire _ (IsPiece t) 1 1 (IsLost t) (Agrees t h a) (Agrees t (put_at row col c.at-ink.result h) z) (Agrees t h a) (Agrees t h z) (omega arith) (λ s x. x)

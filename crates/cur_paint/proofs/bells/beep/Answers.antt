@@ -45,5 +45,6 @@ returns-in-Err g c =
         held = some;
         fits = rung_short t c.rows.ensures.checked line is before.status some before.belief stops.front stops.back stops.parts;
         lost = refl;
+        some_left = stops.some_left;
       };
     }

@@ -1,10 +1,11 @@
 use Rattle.std.proofs.Common.{◌*◌, ap, arith}
 use Rattle.std.proofs.lemmas.Result.{err_from_is_err_and}
-use Rattle.cur_wires.proofs.Stops.{steps_fail, steps_next}
+use Rattle.cur_wires.proofs.Stops.{steps_fail}
 use Rattle.ti_conforms.specs.Certified.{IsPiece, IsLost}
 use Rattle.cur_looks.specs.Beliefs.{Agrees, changes, modes_limit}
 use Rattle.cur_looks.specs.declared.beliefs.Belief.{Belief}
 use Rattle.cur_paint.specs.Limits.{last_move, cursor_limit}
+use Rattle.cur_paint.proofs.ModeFacts.{move_short, sets_last}
 use Rattle.cur_paint.proofs.cursors.set_cursor.Goals as goal
 
 pub returns-in_err-show_as-clause-step : goal.returns-in_err-show_as-clause-step
@@ -13,14 +14,20 @@ returns-in_err-show_as-clause-step g c =
     let e = err_from_is_err_and c.from_residual.result c.from_residual.ensures.1 in
     let t = g.C.Certificate.table c.args.screens.now.checked.now in
     let b = c.args.belief.now in
-    rw e.1 (steps_fail g.W.Wire.went g.W.Wire.failures c.args.wire.now c.show_as.new.wire _ _ (IsPiece t) (changes b.mode c.args.wanted.mode * modes_limit t) (cursor_limit t b c.args.wanted.cursor c.args.wanted.mode) (IsLost t)
-    (Agrees t h b) (Agrees t h c.show_as.new.belief) (Agrees t h c.show_as.new.belief) (omega arith) (c.in_err-show_as.ensures.step h))
+    rw e.1 (record {
+      step = steps_fail g.W.Wire.went g.W.Wire.failures c.args.wire.now c.show_as.new.wire _ _ (IsPiece t) (changes b.mode c.args.wanted.mode * modes_limit t) (cursor_limit t b c.args.wanted.cursor c.args.wanted.mode) (IsLost t)
+          (Agrees t h b) (Agrees t h c.show_as.new.belief) (Agrees t h c.show_as.new.belief) (omega arith) (c.in_err-show_as.ensures.step h).step;
+      sets = tt;
+    })
 
 pub returns-clause-step : goal.returns-clause-step
 returns-clause-step g c =
     let h = g.N.Picture.cells c.args.screens.now.new.now in
     let t = g.C.Certificate.table c.args.screens.now.checked.now in
     let b = c.args.belief.now in
-    steps_next g.W.Wire.went g.W.Wire.failures g.met.W.Wire.lawful c.args.wire.now c.show_as.new.wire c.place_cursor.new.wire _ c.place_cursor.result (IsPiece t)
-    (changes b.mode c.args.wanted.mode * modes_limit t) (last_move c.show_as.new.belief.place c.args.wanted.cursor * t.longest.cup) (cursor_limit t b c.args.wanted.cursor c.args.wanted.mode) (IsLost t)
-    (Agrees t h b) (Agrees t h c.show_as.new.belief) (Agrees t h c.place_cursor.new.belief) (omega (arith, ap (λ (x : Belief). last_move x.place c.args.wanted.cursor * t.longest.cup) c.in_ok-show_as.ensures.belief)) (c.in_ok-show_as.ensures.step h) c.place_cursor.ensures.step
+    let w = c.args.wanted in
+    let d : Belief = c.show_as.new.belief in
+    sets_last g.W.Wire.went g.W.Wire.failures g.met.W.Wire.lawful c.args.wire.now c.show_as.new.wire c.place_cursor.new.wire _ c.place_cursor.result t
+    (changes b.mode w.mode * modes_limit t) (last_move t.cols d.place w.cursor * t.longest.cup) (cursor_limit t b w.cursor w.mode) b.mode w.cursor w.mode
+    (Agrees t h b) (Agrees t h d) (Agrees t h c.place_cursor.new.belief) (omega (arith, ap (λ (x : Belief). last_move t.cols x.place w.cursor * t.longest.cup) c.in_ok-show_as.ensures.belief))
+    (move_short t d.place w.cursor) (c.in_ok-show_as.ensures.step h) c.place_cursor.ensures.step

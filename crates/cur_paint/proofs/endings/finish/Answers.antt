@@ -18,6 +18,7 @@ returns-in_err-send_finish g c =
         failed = stops.failed;
         fits = λ h s fit. (finish_leads t c.rows.ensures.checked h before.status before.belief).leads.cut stops.front stops.back stops.parts s fit;
         lost = refl;
+        some_left = stops.some_left;
       };
     })
 

@@ -20,6 +20,7 @@ loop-done-init g c =
       idle = λ e. refl;
       step = steps_nothing g.W.Wire.went g.W.Wire.failures g.met.W.Wire.lawful c.args.wire.now tt (IsPiece t) _ (IsLost t) (Agrees t (mixed old new c.args.cells.row c.args.cells.from) b) (Agrees t (mixed old new c.args.cells.row (c.args.cells.from + 0)) b)
           (λ s x. x.ready.rest) (agrees_at t old new c.args.cells.row c.args.cells.from (c.args.cells.from + 0) b (omega arith)) (agrees_lost t c.requires.scene.checked (mixed old new c.args.cells.row c.args.cells.from) b);
+      mode = refl;
     }
 
 pub loop-done-preserved : goal.loop-done-preserved
@@ -43,6 +44,7 @@ loop-done-preserved g c =
           (span old new row from done * cell_limit t) (span old new row (from + done) n * cell_limit t) (span old new row from (done + n) * cell_limit t) (IsLost t)
           (Agrees t (mixed old new row from) b) (Agrees t (mixed old new row (from + done)) c.loop-done.belief) (Agrees t (mixed old new row (from + done + n)) c.mend_part.new.belief)
           (sum_limit _ _ _ (cell_limit t) (sym more)) c.loop-done.invariant.step c.in_ok-mend_part.ensures.step);
+      mode = c.in_ok-mend_part.ensures.mode ∙ c.loop-done.invariant.mode;
     }
 
 pub returns-in_err-mend_part-clause-step : goal.returns-in_err-mend_part-clause-step

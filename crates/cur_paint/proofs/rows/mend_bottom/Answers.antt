@@ -14,8 +14,8 @@ use Rattle.cur_paint.proofs.rows.mend_bottom.Goals as goal
 one_more : (a b n l : ℕ) → a + b ≤ n → 0 < b → a * l + l ≤ n * l
 one_more a b n l le lt = grind arith
 
-pub returns-in_err-mend_parts : goal.returns-in_err-mend_parts
-returns-in_err-mend_parts g c =
+pub returns-in_err-mend_parts-clause-step : goal.returns-in_err-mend_parts-clause-step
+returns-in_err-mend_parts-clause-step g c =
     let e = err_from_is_err_and c.from_residual.result c.from_residual.ensures.1 in
     let t = g.C.Certificate.table c.args.screens.now.checked.now in
     let b = c.args.belief.now in
@@ -26,17 +26,15 @@ returns-in_err-mend_parts g c =
     let col = c.args.columns.end in
     let first = span_parts old new row from t.cols (omega (arith, c.requires.start, c.requires.col)) in
     let parts = span_split old new row from col t.cols c.requires.start (omega (arith, c.requires.col)) in
-    rw e.1 (record {
-      step = steps_fail g.W.Wire.went g.W.Wire.failures c.args.wire.now c.mend_parts.new.wire _ _ (IsPiece t) (span old new row from (col - from) * cell_limit t) (span old new row 0 t.cols * cell_limit t) (IsLost t)
-          (Agrees t (mixed old new row 0) b) (Agrees t (mixed old new row (from + (col - from))) c.mend_parts.new.belief) (Agrees t new c.mend_parts.new.belief)
-          (times_grows _ _ (cell_limit t) (omega (arith, first, parts)))
-          (steps_wider g.W.Wire.went g.W.Wire.failures c.args.wire.now c.mend_parts.new.wire _ (IsPiece t) (span old new row from (col - from) * cell_limit t) (span old new row from (col - from) * cell_limit t) (IsLost t)
-          (Agrees t (mixed old new row from) b) (Agrees t (mixed old new row (from + (col - from))) c.mend_parts.new.belief) (Agrees t (mixed old new row 0) b) (Agrees t (mixed old new row (from + (col - from))) c.mend_parts.new.belief)
-          (omega arith) (front_shown t old new row from b c.requires.before) (λ s x. x) c.in_err-mend_parts.ensures.step);
-    })
+    rw e.1 (steps_fail g.W.Wire.went g.W.Wire.failures c.args.wire.now c.mend_parts.new.wire _ _ (IsPiece t) (span old new row from (col - from) * cell_limit t) (span old new row 0 t.cols * cell_limit t) (IsLost t)
+    (Agrees t (mixed old new row 0) b) (Agrees t (mixed old new row (from + (col - from))) c.mend_parts.new.belief) (Agrees t new c.mend_parts.new.belief)
+    (times_grows _ _ (cell_limit t) (omega (arith, first, parts)))
+    (steps_wider g.W.Wire.went g.W.Wire.failures c.args.wire.now c.mend_parts.new.wire _ (IsPiece t) (span old new row from (col - from) * cell_limit t) (span old new row from (col - from) * cell_limit t) (IsLost t)
+    (Agrees t (mixed old new row from) b) (Agrees t (mixed old new row (from + (col - from))) c.mend_parts.new.belief) (Agrees t (mixed old new row 0) b) (Agrees t (mixed old new row (from + (col - from))) c.mend_parts.new.belief)
+    (omega arith) (front_shown t old new row from b c.requires.before) (λ s x. x) c.in_err-mend_parts.ensures.step))
 
-pub returns : goal.returns
-returns g c =
+pub returns-clause-step : goal.returns-clause-step
+returns-clause-step g c =
     let t = g.C.Certificate.table c.args.screens.now.checked.now in
     let b = c.args.belief.now in
     let old = g.O.Picture.cells c.args.screens.now.old.now in
@@ -48,16 +46,14 @@ returns g c =
     let first = span_parts old new row from t.cols (omega (arith, c.requires.start, c.requires.col)) in
     let parts = span_split old new row from col t.cols c.requires.start (omega (arith, c.requires.col)) in
     let few = span old new row from (col - from) * cell_limit t in
-    record {
-      step = steps_next g.W.Wire.went g.W.Wire.failures g.met.W.Wire.lawful c.args.wire.now c.mend_parts.new.wire c.erase_from.new.wire _ c.erase_from.result (IsPiece t)
-          few (cell_limit t) (span old new row 0 t.cols * cell_limit t) (IsLost t)
-          (Agrees t (mixed old new row 0) b) (Agrees t (mixed old new row col) c.mend_parts.new.belief) (Agrees t new c.erase_from.new.belief)
-          (one_more _ (span old new row col (t.cols - col)) _ (cell_limit t) (omega (arith, first, parts)) c.requires.differs)
-          (steps_wider g.W.Wire.went g.W.Wire.failures c.args.wire.now c.mend_parts.new.wire _ (IsPiece t) few few (IsLost t)
-          (Agrees t (mixed old new row from) b) (Agrees t (mixed old new row (from + (col - from))) c.mend_parts.new.belief) (Agrees t (mixed old new row 0) b) (Agrees t (mixed old new row col) c.mend_parts.new.belief)
-          (omega arith) (front_shown t old new row from b c.requires.before) (agrees_at t old new row (from + (col - from)) col c.mend_parts.new.belief there) c.in_ok-mend_parts.ensures.step)
-          (steps_wider g.W.Wire.went g.W.Wire.failures c.mend_parts.new.wire c.erase_from.new.wire c.erase_from.result (IsPiece t) (cell_limit t) (cell_limit t) (IsLost t)
-          (Agrees t (mixed old new row col) c.mend_parts.new.belief) (Agrees t (erased Rest row col (mixed old new row col)) c.erase_from.new.belief)
-          (Agrees t (mixed old new row col) c.mend_parts.new.belief) (Agrees t new c.erase_from.new.belief)
-          (omega arith) (λ s x. x) (rest_done t old new row col c.erase_from.new.belief c.requires.blank) (c.erase_from.ensures.step (mixed old new row col) (mixed_before old new row col)));
-    }
+    steps_next g.W.Wire.went g.W.Wire.failures g.met.W.Wire.lawful c.args.wire.now c.mend_parts.new.wire c.erase_from.new.wire _ c.erase_from.result (IsPiece t)
+    few (cell_limit t) (span old new row 0 t.cols * cell_limit t) (IsLost t)
+    (Agrees t (mixed old new row 0) b) (Agrees t (mixed old new row col) c.mend_parts.new.belief) (Agrees t new c.erase_from.new.belief)
+    (one_more _ (span old new row col (t.cols - col)) _ (cell_limit t) (omega (arith, first, parts)) c.requires.differs)
+    (steps_wider g.W.Wire.went g.W.Wire.failures c.args.wire.now c.mend_parts.new.wire _ (IsPiece t) few few (IsLost t)
+    (Agrees t (mixed old new row from) b) (Agrees t (mixed old new row (from + (col - from))) c.mend_parts.new.belief) (Agrees t (mixed old new row 0) b) (Agrees t (mixed old new row col) c.mend_parts.new.belief)
+    (omega arith) (front_shown t old new row from b c.requires.before) (agrees_at t old new row (from + (col - from)) col c.mend_parts.new.belief there) c.in_ok-mend_parts.ensures.step)
+    (steps_wider g.W.Wire.went g.W.Wire.failures c.mend_parts.new.wire c.erase_from.new.wire c.erase_from.result (IsPiece t) (cell_limit t) (cell_limit t) (IsLost t)
+    (Agrees t (mixed old new row col) c.mend_parts.new.belief) (Agrees t (erased Rest row col (mixed old new row col)) c.erase_from.new.belief)
+    (Agrees t (mixed old new row col) c.mend_parts.new.belief) (Agrees t new c.erase_from.new.belief)
+    (omega arith) (λ s x. x) (rest_done t old new row col c.erase_from.new.belief c.requires.blank) (c.erase_from.ensures.step (mixed old new row col) (mixed_before old new row col)))

@@ -24,6 +24,7 @@ loop-row-init g c =
       idle = λ e. refl;
       step = steps_nothing g.W.Wire.went g.W.Wire.failures g.met.W.Wire.lawful c.args.wire.now tt (IsPiece t) (0 * cell_limit t) (IsLost t) (Agrees t old b) (Agrees t (mixed old new 0 0) b)
           (λ s x. x.ready.rest) (none_done t old new b) (agrees_lost t c.requires.scene.checked old b);
+      mode = refl;
     }
 
 pub loop-row-preserved : goal.loop-row-preserved
@@ -41,6 +42,7 @@ loop-row-preserved g c =
           (all_differ old new t.cols row * cell_limit t) (span old new row 0 t.cols * cell_limit t) (all_differ old new t.cols (row + 1) * cell_limit t) (IsLost t)
           (Agrees t old b) (Agrees t (mixed old new row 0) c.loop-row.belief) (Agrees t (mixed old new (row + 1) 0) c.mend_line.new.belief)
           (sum_limit _ _ _ (cell_limit t) more) c.loop-row.invariant.step c.in_ok-mend_line-in_default.ensures.step;
+      mode = c.in_ok-mend_line-in_default.ensures.mode ∙ c.loop-row.invariant.mode;
     }
 
 pub returns-in_err-mend_line-in_default-clause-step : goal.returns-in_err-mend_line-in_default-clause-step

@@ -13,4 +13,5 @@ invariant-loop-row g l =
       idle : all_differ s.old s.new s.table.cols l.row ≡ 0 → l.belief ≡ l.fn.belief;
       step : Mends {T = Unit {0}} {E = WireFault} g.W.Wire.went g.W.Wire.failures l.fn.wire l.wire (Ok tt) s.table
           (all_differ s.old s.new s.table.cols l.row) s.old (mended s l.row 0) l.fn.belief l.belief;
+      mode : l.belief.mode ≡ l.fn.belief.mode;
     }

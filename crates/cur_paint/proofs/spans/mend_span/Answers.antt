@@ -1,4 +1,4 @@
-use Rattle.std.proofs.Common.{◌≡◌, ◌+◌, ◌*◌, Ok, refl, sym, arith}
+use Rattle.std.proofs.Common.{◌≡◌, ◌+◌, ◌*◌, Ok, refl, sym, ◌∙◌, arith}
 use Rattle.std.proofs.lemmas.Result.{err_from_is_err_and}
 use Rattle.cur_looks.specs.Inks.{mixed}
 use Rattle.cur_paint.specs.Differ.{differs, span}
@@ -21,6 +21,7 @@ loop-done-init g c =
       idle = λ e. refl;
       step = steps_nothing g.W.Wire.went g.W.Wire.failures g.met.W.Wire.lawful c.args.wire.now tt (IsPiece t) _ (IsLost t) (Agrees t (mixed old new c.args.cells.row c.args.cells.from) b) (Agrees t (mixed old new c.args.cells.row (c.args.cells.from + 0)) b)
           (λ s x. x.ready.rest) (agrees_at t old new c.args.cells.row c.args.cells.from (c.args.cells.from + 0) b (omega arith)) (agrees_lost t c.requires.scene.checked (mixed old new c.args.cells.row c.args.cells.from) b);
+      mode = refl;
     }
 
 pub loop-done-preserved : goal.loop-done-preserved
@@ -47,6 +48,7 @@ loop-done-preserved g c =
           (span old new row from done * cell_limit t) (span old new row (from + done) n * cell_limit t) (span old new row from (done + n) * cell_limit t) (IsLost t)
           (Agrees t (mixed old new row from) b) (Agrees t (mixed old new row (from + done)) c.loop-done.belief) (Agrees t (mixed old new row (from + done + n)) c.print_alike.new.belief)
           (sum_limit _ _ _ (cell_limit t) (sym more)) c.loop-done.invariant.step then);
+      mode = c.in_ok-print_alike.ensures.mode ∙ c.in_ok-print_cell.ensures.mode ∙ c.loop-done.invariant.mode;
     }
 
 pub loop-done-preserved-then-shows : goal.loop-done-preserved-then-shows
@@ -70,6 +72,7 @@ loop-done-preserved-then-shows g c =
           (λ s x. agrees_at t old new row (from + done + 1) (from + (done + 1)) a (omega arith) s
           (agrees_as t (mixed old new row (from + done)) (mixed old new row (from + done + 1)) a (λ i j li lj. mixed_same old new row (from + done) i j e) s x))
           c.loop-done.invariant.step;
+      mode = c.loop-done.invariant.mode;
     }
 
 pub print_cell-requires-clause-changed : goal.print_cell-requires-clause-changed

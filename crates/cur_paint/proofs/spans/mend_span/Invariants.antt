@@ -10,6 +10,7 @@ invariant-loop-done g l = record {
       → l.belief ≡ l.fn.belief;
   step : MendsCells {T = Unit {0}} {E = WireFault} g.W.Wire.went g.W.Wire.failures l.fn.wire l.wire (Ok tt)
       (scene g.C.Certificate.table g.O.Picture.cells g.N.Picture.cells l.screens) (record l.cells { count = l.done }) l.fn.belief l.belief;
+  mode : l.belief.mode ≡ l.fn.belief.mode;
 }
 
 abbrev pub decreases-loop-done : goal.decreases-loop-done

@@ -1,4 +1,4 @@
-use Rattle.std.proofs.Common.{◌≡◌, ◌+◌, ◌*◌, Ok, refl, arith}
+use Rattle.std.proofs.Common.{◌≡◌, ◌+◌, ◌*◌, Ok, refl, ◌∙◌, arith}
 use Rattle.std.proofs.lemmas.Result.{err_from_is_err_and}
 use Rattle.cur_looks.specs.Inks.{mixed}
 use Rattle.cur_paint.specs.Differ.{differs, span}
@@ -19,6 +19,7 @@ loop-n-init g c =
       idle = λ e. refl;
       step = steps_nothing g.W.Wire.went g.W.Wire.failures g.met.W.Wire.lawful c.args.wire.now tt (IsPiece t) _ (IsLost t) (Agrees t (mixed old new c.args.cells.row c.args.cells.from) b) (Agrees t (mixed old new c.args.cells.row (c.args.cells.from + 0)) b)
           (λ s x. x.ready.rest) (agrees_at t old new c.args.cells.row c.args.cells.from (c.args.cells.from + 0) b (omega arith)) (agrees_lost t c.requires.scene.checked (mixed old new c.args.cells.row c.args.cells.from) b);
+      mode = refl;
     }
 
 pub loop-n-preserved : goal.loop-n-preserved
@@ -40,6 +41,7 @@ loop-n-preserved g c =
           (span old new row from n * cell_limit t) (differs old new row (from + n) * cell_limit t) (span old new row from (n + 1) * cell_limit t) (IsLost t)
           (Agrees t (mixed old new row from) b) (Agrees t (mixed old new row (from + n)) c.loop-n.belief) (Agrees t (mixed old new row (from + n + 1)) c.print_cell.new.belief)
           (sum_limit _ _ _ (cell_limit t) more) c.loop-n.invariant.step c.in_ok-print_cell.ensures.step);
+      mode = c.in_ok-print_cell.ensures.mode ∙ c.loop-n.invariant.mode;
     }
 
 pub returns-in_err-print_cell-clause-step : goal.returns-in_err-print_cell-clause-step

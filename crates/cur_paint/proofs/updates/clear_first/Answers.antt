@@ -25,9 +25,9 @@ returns-in_err-send_all-clause-step g c line is shown =
     let sent : List ℕ = c.unwrap.result.now in
     let its : t.line_of Clear ≡ Some sent = line_is t Clear c.line.result c.unwrap.result c.unwrap.ensures c.line.ensures.value in
     let limit : ℕ = paint_limit t (cleared b.brush.background) new d c.args.wanted.cursor c.args.wanted.mode in
-    let P : List ℕ → Type 0 = λ l. Anew {T = Unit {0}} {E = WireFault} g.W.Wire.went g.W.Wire.failures c.args.wire.now c.send_all.new.wire (Err e.0) t (length l + limit) (Agrees t shown b) (Agrees t new d) l in
+    let P : List ℕ → Type 0 = λ l. Anew {T = Unit {0}} {E = WireFault} g.W.Wire.went g.W.Wire.failures c.args.wire.now c.send_all.new.wire (Err e.0) t (length l + limit) (Agrees t shown b) (Agrees t new d) l b.mode c.args.wanted in
     rw e.1 (subst P (one_line (t.line_of Clear) sent line its is)
-    (anew_failed g.W.Wire.went g.W.Wire.failures c.args.wire.now c.send_all.new.wire _ t (length sent + limit) (Agrees t shown b) (Agrees t (cleared b.brush.background) d) (Agrees t new d) sent (agrees_lost t c.requires.scene.checked (cleared b.brush.background) d) (omega arith)
+    (anew_failed g.W.Wire.went g.W.Wire.failures c.args.wire.now c.send_all.new.wire _ t (length sent + limit) (Agrees t shown b) (Agrees t (cleared b.brush.background) d) (Agrees t new d) sent b.mode c.args.wanted (agrees_lost t c.requires.scene.checked (cleared b.brush.background) d) (omega arith)
     (clear_leads t c.requires.scene.checked sent its shown b) c.in_err-send_all.ensures.sends))
 
 pub returns-clause-step : goal.returns-clause-step
@@ -39,7 +39,7 @@ returns-clause-step g c line is shown =
     let sent : List ℕ = c.unwrap.result.now in
     let its : t.line_of Clear ≡ Some sent = line_is t Clear c.line.result c.unwrap.result c.unwrap.ensures c.line.ensures.value in
     let limit : ℕ = paint_limit t (cleared b.brush.background) new d c.args.wanted.cursor c.args.wanted.mode in
-    let P : List ℕ → Type 0 = λ l. Anew g.W.Wire.went g.W.Wire.failures c.args.wire.now c.paint.new.wire c.paint.result t (length l + limit) (Agrees t shown b) (Agrees t new c.paint.new.belief) l in
+    let P : List ℕ → Type 0 = λ l. Anew g.W.Wire.went g.W.Wire.failures c.args.wire.now c.paint.new.wire c.paint.result t (length l + limit) (Agrees t shown b) (Agrees t new c.paint.new.belief) l b.mode c.args.wanted in
     subst P (one_line (t.line_of Clear) sent line its is)
-    (anew_then g.W.Wire.went g.W.Wire.failures g.met.W.Wire.lawful c.args.wire.now c.send_all.new.wire c.paint.new.wire c.paint.result t (length sent + limit) (Agrees t shown b) (Agrees t (cleared b.brush.background) d) (Agrees t new c.paint.new.belief) sent
+    (anew_then g.W.Wire.went g.W.Wire.failures g.met.W.Wire.lawful c.args.wire.now c.send_all.new.wire c.paint.new.wire c.paint.result t (length sent + limit) (Agrees t shown b) (Agrees t (cleared b.brush.background) d) (Agrees t new c.paint.new.belief) sent b.mode c.args.wanted
     limit (omega arith) (clear_leads t c.requires.scene.checked sent its shown b) c.in_ok-send_all.ensures.sends c.paint.ensures.step)

@@ -1,11 +1,10 @@
 use Rattle.std.proofs.Common.{◌+◌, length}
 use Rattle.ti_rows.specs.declared.rows.Row.TheVariants.{Clear}
-use Rattle.cur_wires.proofs.Stops.{steps_wider}
-use Rattle.ti_conforms.specs.Certified.{IsPiece, IsLost}
 use Rattle.cur_looks.specs.Beliefs.{Agrees}
 use Rattle.cur_paint.specs.Cleared.{at_corner, cleared}
 use Rattle.cur_paint.specs.Limits.{paint_limit}
 use Rattle.cur_paint.proofs.Bounds.{fewer_enough}
+use Rattle.cur_paint.proofs.ModeFacts.{sets_wider}
 use Rattle.cur_paint.proofs.Reaches.{IsThere, there}
 use Rattle.cur_paint.proofs.updates.mend.Goals as goal
 
@@ -19,6 +18,7 @@ returns-then-is_better_cleared-clause-step g c =
     let k : IsThere (t.line_of Clear) = there (t.line_of Clear) c.requires.scene.checked.clears in
     let blank = cleared b.brush.background in
     let after = c.clear_first.new.belief in
-    steps_wider g.W.Wire.went g.W.Wire.failures c.args.wire.now c.clear_first.new.wire c.clear_first.result (IsPiece t) (length k.bytes + paint_limit t blank new (at_corner b) w.cursor w.mode) (paint_limit t old new b w.cursor w.mode) (IsLost t)
-    (Agrees t old b) (Agrees t new after) (Agrees t old b) (Agrees t new after)
-    (fewer_enough t (length k.bytes) blank old new b (at_corner b) w.cursor w.mode (c.is_better_cleared.ensures.fewer c.if-is_better_cleared.true k.bytes k.is)) (λ s x. x) (λ s x. x) (c.clear_first.ensures.step k.bytes k.is old).step
+    let anew = c.clear_first.ensures.step k.bytes k.is old in
+    sets_wider g.W.Wire.went g.W.Wire.failures c.args.wire.now c.clear_first.new.wire c.clear_first.result t (length k.bytes + paint_limit t blank new (at_corner b) w.cursor w.mode) (paint_limit t old new b w.cursor w.mode) b.mode w.cursor w.mode
+    (Agrees t old b) (Agrees t new after)
+    (fewer_enough t (length k.bytes) blank old new b (at_corner b) w.cursor w.mode (c.is_better_cleared.ensures.fewer c.if-is_better_cleared.true k.bytes k.is)) (record { step = anew.step; sets = anew.sets })

@@ -17,7 +17,7 @@ returns-in_err-send_all-clause-step g c =
     let new = g.N.Picture.cells c.args.screens.now.new.now in
     let blank : ℕ → ℕ → Ink = λ i j. blank_ink in
     let sends = rw c.resync.ensures.value at c.in_err-send_all.ensures.sends in
-    rw e.1 (anew_failed g.W.Wire.went g.W.Wire.failures c.args.wire.now c.send_all.new.wire _ t (fresh_limit t) (IsLeft t c.args.shown_as) (Agrees t blank (at_start c.args.shown_as)) (Agrees t new c.start_belief.result) t.resync (agrees_lost t c.requires.scene.checked blank (at_start c.args.shown_as)) (omega arith)
+    rw e.1 (anew_failed g.W.Wire.went g.W.Wire.failures c.args.wire.now c.send_all.new.wire _ t (fresh_limit t) (IsLeft t c.args.shown_as) (Agrees t blank (at_start c.args.shown_as)) (Agrees t new c.start_belief.result) t.resync c.args.shown_as c.args.wanted (agrees_lost t c.requires.scene.checked blank (at_start c.args.shown_as)) (omega arith)
     (resync_leads t c.requires.scene.checked c.args.shown_as) sends)
 
 pub returns-clause-step : goal.returns-clause-step
@@ -29,5 +29,5 @@ returns-clause-step g c =
     let start = at_start c.args.shown_as in
     let sends = rw c.resync.ensures.value at c.in_ok-send_all.ensures.sends in
     let steps = rw c.start_belief.ensures.value at c.paint.ensures.step in
-    anew_then g.W.Wire.went g.W.Wire.failures g.met.W.Wire.lawful c.args.wire.now c.send_all.new.wire c.paint.new.wire c.paint.result t (fresh_limit t) (IsLeft t c.args.shown_as) (Agrees t blank start) (Agrees t new c.paint.new.belief) t.resync
+    anew_then g.W.Wire.went g.W.Wire.failures g.met.W.Wire.lawful c.args.wire.now c.send_all.new.wire c.paint.new.wire c.paint.result t (fresh_limit t) (IsLeft t c.args.shown_as) (Agrees t blank start) (Agrees t new c.paint.new.belief) t.resync c.args.shown_as w
     (paint_limit t blank new start w.cursor w.mode) (fresh_enough t (length t.resync) blank new start w.cursor w.mode (omega arith)) (resync_leads t c.requires.scene.checked c.args.shown_as) sends steps

@@ -13,5 +13,5 @@ returns-in_err-draw g c =
 pub returns : goal.returns
 returns g c = record {
   refreshes = refreshed g.W.Wire.went g.W.Wire.failures c.args.wire.now c.draw.new.wire _ (g.C.Certificate.table c.args.screens.now.checked.now) (g.O.Picture.cells c.args.screens.now.old.now) (g.N.Picture.cells c.args.screens.now.new.now) c.args.wanted c.args.session.now c.draw.new.belief
-      c.requires.cursor c.in_ok-draw.ensures.draws;
+      c.in_ok-draw.ensures.draws;
 }

@@ -1,6 +1,5 @@
-use Rattle.std.proofs.Common.{◌∙◌, sym, ap, subst, rules}
+use Rattle.std.proofs.Common.{◌∙◌, sym, ap, subst}
 use Rattle.std.specs.Prelude.{IsTrue}
-use Rattle.std.proofs.lemmas.Result.{err_from_is_err_and}
 use Rattle.ti_caps.specs.Fits.{names_fit}
 use Rattle.ti_resolve.specs.Fills.{fields_of_all, take_fields, start}
 use Rattle.ti_resolve.proofs.Taken.{names_fit_at}

@@ -1,0 +1,49 @@
+-- Where the value of a capability stands that an entry has with all that it uses.
+use Rattle.std.specs.Prelude.{ℕ, ◌≡◌, Bool, true, false, List, [], ◌∷◌, Option, Some, None, if◌then◌else◌, slice_get, option_map}
+use Rattle.std.specs.List.{position}
+use Rattle.std.specs.Option.{option_or}
+use Rattle.ti_caps.specs.Entry.{Content, value_at}
+use Rattle.ti_source.specs.declared.types.Field.{Field}
+use Rattle.ti_source.specs.declared.types.Field.TheVariants.{Set}
+use Rattle.ti_source.specs.declared.types.RawEntry.{RawEntry}
+use Rattle.ti_resolve.specs.declared.origins.Origin.{Origin}
+use Rattle.ti_resolve.specs.Resolved.{IsResolved, IsWhole}
+use Rattle.ti_resolve.specs.Uses.{place_named, fields_at, is_about}
+
+abbrev pub origin_at : ℕ → ℕ → Origin
+origin_at entry field = record { entry = entry; field = field }
+
+-- the first field about a capability of the entry at a place
+unfoldable pub origin_in : List RawEntry → ℕ → ℕ → Option Origin
+origin_in raws cap place = option_map (origin_at place) (position (is_about cap) (fields_at raws place))
+
+-- what is found at the first place at which something is
+abbrev pub first_of : {X : Type 0} → (ℕ → Option X) → List ℕ → Option X
+first_of found [] = None
+first_of found (place ∷ places) = option_or (found place) (first_of found places)
+
+-- the field that stands there
+unfoldable pub field_there : List RawEntry → Origin → Option Field
+field_there raws origin = slice_get (fields_at raws origin.entry) origin.field
+
+abbrev pub is_set : Option Field → Bool
+is_set (Some (Set cap value)) = true
+is_set _ = false
+
+-- a field that cancels gives no value
+abbrev pub giving : List RawEntry → Option Origin → Option Origin
+giving raws None = None
+giving raws (Some origin) = if is_set (field_there raws origin) then Some origin else None
+
+-- The first field about the capability in the entry that a name asks for and all that it uses, in their
+-- order; or None, if there is no such field or it cancels.
+pub record IsOrigin (raws : List RawEntry) (name : List ℕ) (cap : ℕ) (origin : Option Origin) : Type 0 where
+  pub root : ℕ
+  pub places : List ℕ
+  pub found : place_named raws name ≡ Some root
+  pub whole : IsWhole raws root places
+  pub first : origin ≡ giving raws (first_of (origin_in raws cap) places)
+
+-- the field there sets the capability to the value that the entry has, and there is one if it has a value
+abbrev pub GivesValue : List RawEntry → List ℕ → ℕ → Option Origin → Type 0
+GivesValue raws name cap origin = (entry : Content) → IsResolved raws name entry → option_map (field_there raws) origin ≡ option_map (λ value. Some (Set cap value)) (value_at entry cap)
