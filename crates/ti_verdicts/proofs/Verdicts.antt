@@ -75,12 +75,20 @@ pub cert_lacks : (known remaining : Option (List ℕ)) (height width : ℕ) (ent
     → ((text : List ℕ) → remaining ≡ Some text → IsCertRefused height width text Failed told) → TellsFault path (Cert fault) failure → LacksCertificate known height width entry path failure
 cert_lacks known remaining height width entry path Failed told fault failure is left refused tells = elim (is_read_failed fault.kind) [
   | inl failed ↦ inl (subst (λ (k : CertFaultKind). IsOfKind path (fault_text fault) k failure) failed tells)
-  | inr other ↦ inr (Cert fault, known_left (λ text. IsFaultOf height width entry text (Cert fault)) known remaining left
-      (λ text l. record { first = unfailed height width text Failed fault other (subst (λ (t : VerifyFault). IsCertRefused height width text Failed t) is (refused text l)); differs = tt }), tells)
+  | inr other ↦ inr (
+    Cert fault,
+    known_left (λ text. IsFaultOf height width entry text (Cert fault)) known remaining left
+        (λ text l. record { first = unfailed height width text Failed fault other (subst (λ (t : VerifyFault). IsCertRefused height width text Failed t) is (refused text l)); differs = tt }),
+    tells,
+  )
 ]
 
 pub agree_lacks : (known remaining : Option (List ℕ)) (height width : ℕ) (entry : Content) (path : List ℕ) (told : VerifyFault) (fault : AgreeFault) (failure : Failure) → told ≡ Agree fault → IsLeft known remaining
     → ((text : List ℕ) → remaining ≡ Some text → IsAgreeRefused height width text entry told) → TellsFault path (Agree fault) failure → LacksCertificate known height width entry path failure
 agree_lacks known remaining height width entry path told fault failure is left differs tells =
-    inr (Agree fault, known_left (λ text. IsFaultOf height width entry text (Agree fault)) known remaining left
-      (λ text l. record { first = tt; differs = subst (λ (t : VerifyFault). IsAgreeRefused height width text entry t) is (differs text l) }), tells)
+    inr (
+      Agree fault,
+      known_left (λ text. IsFaultOf height width entry text (Agree fault)) known remaining left
+          (λ text l. record { first = tt; differs = subst (λ (t : VerifyFault). IsAgreeRefused height width text entry t) is (differs text l) }),
+      tells,
+    )

@@ -13,7 +13,7 @@ returns-in-Ok-verify_from-clause-hands_out g c =
       sends = e.sends;
       partners = e.acsc;
       accepted = known_left (λ text. IsTableOf c.args.size.rows c.args.size.cols text c.in-Ok-verify_from.checked) known (g.F.File.Read.remaining c.in-Ok.file) c.in-Ok.ensures.bytes
-        (λ text left. e.accepted text (ap g.F.File.Read.remaining c.new-reader.ensures ∙ left));
+          (λ text left. e.accepted text (ap g.F.File.Read.remaining c.new-reader.ensures ∙ left));
     }
 
 pub returns-in-Err-Cert-clause-failure : goal.returns-in-Err-Cert-clause-failure
