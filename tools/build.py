@@ -194,12 +194,13 @@ def main():
     with open(f"{TOP}/crates.txt", encoding="utf-8") as lock:
         # a second build waits, and then finds everything built
         fcntl.flock(lock, fcntl.LOCK_EX)
+        begun = time.time()
         build = Build()
         try:
             status = build.run()
             if not status:
-                # an edit that leaves the program as it was leaves its age too
-                os.utime(PROVED)
+                # an edit that leaves the program as it was leaves its age too, and one during the build is newer
+                os.utime(PROVED, (begun, begun))
             return status
         except KeyboardInterrupt:
             build.stop()
