@@ -588,9 +588,9 @@ def judge_certificate_stored(work):
         sys.exit(f"examples: check --out left {held}")
 
 
-def judge_explained(words, told, last):
-    """Ends the script where the last line of standard error is another one."""
-    if told.err.splitlines()[-1:] != [last.encode()]:
+def judge_explained(words, told, line):
+    """Ends the script where neither of the last two lines of standard error, which may be a hint, is this one."""
+    if line.encode() not in told.err.splitlines()[-2:]:
         sys.exit(f"examples: {words}: {told.err}")
 
 
