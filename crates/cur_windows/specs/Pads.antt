@@ -13,7 +13,7 @@ use Rattle.cur_windows.specs.Desks.{State, slot_of, grid_at, origin_at, on_scree
 use Rattle.cur_windows.specs.Creations.{root_added}
 use Rattle.cur_windows.specs.VirtualScreen.{Screen, shown}
 
--- so many rows and columns, from a row and a column on
+-- the rectangle of `rows` rows and `cols` columns from row `y` and column `x` on
 abbrev pub area : ℕ → ℕ → ℕ → ℕ → Area
 area y x rows cols = record { top = y; left = x; rows = rows; cols = cols }
 

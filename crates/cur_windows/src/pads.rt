@@ -45,8 +45,8 @@ impl Desk {
         Ok(())
     }
 
-    /// A new window that is a part of window `id` and shares its cells: so many rows and columns of it, from row `y` and
-    /// column `x` on. That the number is free, that there is such a window and that the part lies in it is the caller's
+    /// A new window that is a part of window `id` and shares its cells: `rows` rows and `cols` columns of it, from row `y`
+    /// and column `x` on. That the number is free, that there is such a window and that the part lies in it is the caller's
     /// condition.
     pub fn add_subpad(&mut self, n: usize, id: usize, y: u16, x: u16, rows: u16, cols: u16)
         requires number { n < 64 }
@@ -69,7 +69,7 @@ impl Desk {
         self.add_subwindow(n, id, &slot, area);
     }
 
-    /// A part of window `id`, so many rows and columns from row `y` and column `x` on, is copied to the virtual screen,
+    /// A part of window `id`, `rows` rows and `cols` columns from row `y` and column `x` on, is copied to the virtual screen,
     /// from row `to_y` and column `to_x` on. The screen's cursor becomes the window's if the window doesn't leave it and
     /// it lies in that part, else none; the window's `clearok` goes over to the screen. That there is such a window, that
     /// the part lies in it and, where it is copied to, on the screen, and that the screen has the desk's size is the
@@ -108,7 +108,7 @@ impl Desk {
         self.show_area(id, part, to, screen);
     }
 
-    // The same, for a rectangle and a place.
+    // Copies the rectangle `part` of window `id` to the place `to` of the virtual screen.
     fn show_area(&mut self, id: usize, part: Area, to: Place, screen: &mut Virtual)
         requires there { IsOk (spec.slot_of self.old id) }
         requires inside { IfOk (spec.slot_of self.old id)

@@ -124,7 +124,8 @@ fn resolved_entry(
     }
 }
 
-/// The entry at `place` in `raws`, or why it can't be had. Whatever names it has, and an entry before it, it is that one.
+/// The entry at `place` in `raws`, or why it can't be had. It is the one at that place even where an entry before it has
+/// the same names.
 pub fn entry_at(
     alloc: Global,
     raws: &[RawEntry],
