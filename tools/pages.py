@@ -366,7 +366,7 @@ def audit_page():
     return text[: text.index(FIRST) + len(FIRST)] + "\n" + audit_list() + "\n" + text[text.index(LAST):]
 
 
-# What the page of capabilities says in its own words: the parameters, and what a refusal usually means.
+# What the page of capabilities says in its own words: the parameters, and what a refusal may mean.
 SAID = {
     "clear": ("", "it homes or erases alone, or sends what T ignores"),
     "cup": ("row 0 to R-1, column 0 to C-1", "no `%i`, rows and columns swapped, or a move of another family of terminals"),
@@ -489,7 +489,7 @@ def capabilities_page():
                    "required; any other one may be absent. A string may have no other effect than what is wanted; `set` "
                    "and attribute strings may also switch character sets. All others of terminfo's capabilities are "
                    "unchecked, and nothing is said of them.") + "\n",
-           "| capability | parameters | starts | wanted | checked | usual causes of a no |", "|---|---|---|---|---|---|"]
+           "| capability | parameters | starts | wanted | checked | what a no may mean |", "|---|---|---|---|---|---|"]
     for name in names:
         params, cause = SAID[name]
         start = start_words(starts.get(name, starts["_"]))
