@@ -7,12 +7,14 @@ ghost use Rattle.ti_cert.specs.Clashes.{BeginsOpen};
 ghost use Rattle.ti_checker.specs.Resync as spec;
 ghost use Rattle.ti_checker.specs.Switches.{OfAllSent};
 ghost use Rattle.ti_conforms.specs.Conforms.{IsFit};
+ghost use Rattle.ti_conforms.specs.Resync.{resync_rows};
 ghost use Rattle.ti_rows.specs.Lists.{IsInRange};
 
 use crate::causes::No;
 use crate::sends::{checked_string, sent};
 use std::alloc::Global;
 use ti_caps::Entry;
+use ti_conforms::resync_rows;
 use ti_rows::Row;
 use vt_term::Size;
 
@@ -38,20 +40,15 @@ fn sent_for(alloc: Global, entry: &Entry, row: Row, size: Size) -> Result<Vec<u8
 fn resync_of(alloc: Global, entry: &Entry, size: Size) -> Result<Vec<u8>, No>
     requires fit { IsFit entry.now }
     requires written { EachWritten entry.now size.rows size.cols }
-    ensures sends { IfOk result (λ text. spec.SendsResync entry.now size.rows text.items) }
+    ensures sends { IfOk result (λ text. spec.SendsAll entry.now size.rows size.cols (resync_rows size.rows) text.items) }
     ensures refused { IfErr result (IsNo entry.now size.rows size.cols) }
 {
-    let enacs = sent_for(alloc, entry, Row::Enacs, size)?;
-    let sgr0 = sent_for(alloc, entry, Row::Sgr0, size)?;
-    let rmacs = sent_for(alloc, entry, Row::Rmacs, size)?;
-    let csr = sent_for(alloc, entry, Row::Csr(0, (size.rows - 1) as u16), size)?;
-    let clear = sent_for(alloc, entry, Row::Clear, size)?;
-    let mut text = sent_for(alloc, entry, Row::Smcup, size)?;
-    text.extend_from_slice(&enacs)?;
-    text.extend_from_slice(&sgr0)?;
-    text.extend_from_slice(&rmacs)?;
-    text.extend_from_slice(&csr)?;
-    text.extend_from_slice(&clear)?;
+    let rows = resync_rows(size);
+    let mut text = Vec::new(alloc);
+    for row in &rows {
+        let bytes = sent_for(alloc, entry, *row, size)?;
+        text.extend_from_slice(&bytes)?;
+    }
     Ok(text)
 }
 
