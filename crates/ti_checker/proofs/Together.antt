@@ -1,5 +1,5 @@
 -- Noes, and what leads out of an unknown state as a text.
-use Rattle.std.proofs.Common.{◌≡◌, inl, inr, ℕ, ◌-◌, ◌+◌, ◌<◌, suc, true, List, [], ◌∷◌, ◌++◌, Some, length, get_or, take, refl, sym, ap, subst, ◌∙◌, arith, absurd}
+use Rattle.std.proofs.Common.{◌≡◌, inl, inr, ℕ, ◌-◌, ◌+◌, ◌<◌, suc, true, List, [], ◌∷◌, ◌++◌, Some, length, get_or, take, zero, refl, sym, ap, subst, ◌∙◌, arith}
 use Rattle.std.proofs.lemmas.Bool.{cases_Bool}
 use Rattle.ti_caps.specs.Entry.{Content}
 use Rattle.ti_rows.specs.declared.rows.Row.{Row}
@@ -21,7 +21,7 @@ use Rattle.ti_cert.specs.Clashes.{BeginsOpen}
 use Rattle.ti_checker.specs.declared.causes.Cause.{Cause}
 use Rattle.ti_checker.specs.declared.causes.Cause.TheVariants.{FlagOut, Absent, AcsByte, Parm, StaticRead, Unfinished, Stuck, NotTame, BadLook, WrongEffect, NotShown, TooLong, NoResync, NoMemory}
 use Rattle.ti_checker.specs.declared.causes.No.{No}
-use Rattle.ti_checker.specs.Resync.{IsPart, SendsAll}
+use Rattle.ti_checker.specs.Resync.{AreInRange, IsPart, SendsAll}
 use Rattle.ti_conforms.specs.Resync.{resync_rows, texts_of}
 use Rattle.ti_conforms.proofs.Sendable.{in_order, texts_more}
 use Rattle.ti_checker.proofs.FitnessFacts.{within_before}
@@ -92,14 +92,17 @@ pub whole_screen : (rows cols : ℕ) → IsSize rows cols → IsInRange rows col
 whole_screen rows cols size = (omega (arith, size.0), omega (arith, size.0))
 
 -- the rows of a resynchronization are rows of the screen
-pub resync_ranges : (rows cols : ℕ) → IsSize rows cols → (i : ℕ) (d : Row) → i < 6 → IsInRange rows cols (get_or (resync_rows rows) i d)
-resync_ranges rows cols size 0 d lt = tt
-resync_ranges rows cols size 1 d lt = tt
-resync_ranges rows cols size 2 d lt = tt
-resync_ranges rows cols size 3 d lt = tt
-resync_ranges rows cols size 4 d lt = whole_screen rows cols size
-resync_ranges rows cols size 5 d lt = tt
-resync_ranges rows cols size (suc (suc (suc (suc (suc (suc i)))))) d lt = absurd (omega (arith, lt))
+in_range : (rows cols : ℕ) → IsSize rows cols → (i : ℕ) (d : Row) → i < 6 → IsInRange rows cols (get_or (resync_rows rows) i d)
+in_range rows cols size zero d lt = tt
+in_range rows cols size (suc zero) d lt = tt
+in_range rows cols size (suc (suc zero)) d lt = tt
+in_range rows cols size (suc (suc (suc zero))) d lt = tt
+in_range rows cols size (suc (suc (suc (suc zero)))) d lt = whole_screen rows cols size
+in_range rows cols size (suc (suc (suc (suc (suc zero))))) d lt = tt
+in_range rows cols size (suc (suc (suc (suc (suc (suc i)))))) d lt = absurd (omega (arith, lt))
+
+pub resync_ranges : (rows cols : ℕ) (given : List Row) → IsSize rows cols → given ≡ resync_rows rows → AreInRange rows cols given
+resync_ranges rows cols given size is = subst (λ (l : List Row). AreInRange rows cols l) (sym is) (in_range rows cols size)
 
 -- one row more is sent
 pub sent_more : (entry : Content) (height width : ℕ) (rows : List Row) (i : ℕ) (d row : Row) (text bytes new : List ℕ) → i < length rows → row ≡ get_or rows i d → IsInRange height width row → IsPart entry row bytes
@@ -107,12 +110,15 @@ pub sent_more : (entry : Content) (height width : ℕ) (rows : List Row) (i : �
 sent_more entry height width rows i d row text bytes new lt is range part before joined t agrees =
     texts_more t.line_of [] text new rows i d row lt is (joined ∙ ap (λ (xs : List ℕ). text ++ xs) (sym (same_part entry height width t agrees row range bytes part))) (before t agrees)
 
-resync_text : (entry : Content) (rows cols : ℕ) (t : Table) → EntryAgrees rows cols entry t.line_of → t.rows ≡ rows → (text : List ℕ) → SendsAll entry rows cols (resync_rows rows) text → resync t ≡ text
-resync_text entry rows cols t agrees rows_are text sends =
-    in_order t ∙ (ap (λ (n : ℕ). texts_of t.line_of (resync_rows n)) rows_are ∙ sym (sends t agrees))
+resync_text : (entry : Content) (rows cols : ℕ) (t : Table) → EntryAgrees rows cols entry t.line_of → t.rows ≡ rows → (given : List Row) → given ≡ resync_rows rows → (text : List ℕ)
+    → SendsAll entry rows cols given text → resync t ≡ text
+resync_text entry rows cols t agrees rows_are given is text sends =
+    in_order t ∙ (ap (λ (n : ℕ). texts_of t.line_of (resync_rows n)) rows_are ∙ (ap (λ (l : List Row). texts_of t.line_of l) (sym is) ∙ sym (sends t agrees)))
 
-pub escaped : (entry : Content) (rows cols : ℕ) (text : List ℕ) → SendsAll entry rows cols (resync_rows rows) text → (rest : List ℕ) → text ≡ 27 ∷ rest → OfAllSent entry rows cols (λ t. BeginsOpen t → ⊥)
-escaped entry rows cols text sends rest begins t h never = never rest (resync_text entry rows cols t h.sends h.rows_are text sends ∙ begins)
+pub escaped : (entry : Content) (rows cols : ℕ) (given : List Row) → given ≡ resync_rows rows → (text : List ℕ) → SendsAll entry rows cols given text → (rest : List ℕ) → text ≡ 27 ∷ rest
+    → OfAllSent entry rows cols (λ t. BeginsOpen t → ⊥)
+escaped entry rows cols given is text sends rest begins t h never = never rest (resync_text entry rows cols t h.sends h.rows_are given is text sends ∙ begins)
 
-pub stays_open : (entry : Content) (rows cols : ℕ) (text : List ℕ) → SendsAll entry rows cols (resync_rows rows) text → ((rest : List ℕ) → text ≡ 27 ∷ rest → ⊥) → OfAllSent entry rows cols (λ t. BeginsOpen t)
-stays_open entry rows cols text sends never t h rest e = never rest (sym (resync_text entry rows cols t h.sends h.rows_are text sends) ∙ e)
+pub stays_open : (entry : Content) (rows cols : ℕ) (given : List Row) → given ≡ resync_rows rows → (text : List ℕ) → SendsAll entry rows cols given text → ((rest : List ℕ) → text ≡ 27 ∷ rest → ⊥)
+    → OfAllSent entry rows cols (λ t. BeginsOpen t)
+stays_open entry rows cols given is text sends never t h rest e = never rest (sym (resync_text entry rows cols t h.sends h.rows_are given is text sends) ∙ e)

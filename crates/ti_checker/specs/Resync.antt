@@ -1,7 +1,8 @@
 -- What an entry sends to lead a terminal out of an unknown state (terminfo(5), "Initialization" and "Line Graphics").
-use Rattle.std.specs.Prelude.{ℕ, ◌≡◌, true, false, List, [], Some}
+use Rattle.std.specs.Prelude.{ℕ, ◌<◌, ◌≡◌, true, false, List, [], length, slice_index_or, Some}
 use Rattle.ti_caps.specs.Entry.{Content}
 use Rattle.ti_rows.specs.declared.rows.Row.{Row}
+use Rattle.ti_rows.specs.Lists.{IsInRange}
 use Rattle.ti_conforms.specs.Sends.{Sends}
 use Rattle.ti_conforms.specs.Entries.{is_checked, string_of, EntryAgrees}
 use Rattle.ti_conforms.specs.Resync.{texts_of}
@@ -19,6 +20,9 @@ pub record SendsFor (entry : Content) (row : Row) (bytes : List ℕ) : Type 0 wh
 pub record IsPart (entry : Content) (row : Row) (bytes : List ℕ) : Type 0 where
   pub checked : is_checked entry row ≡ true → SendsFor entry row bytes
   pub unchecked : is_checked entry row ≡ false → bytes ≡ []
+
+abbrev pub AreInRange : ℕ → ℕ → List Row → Type 0
+AreInRange height width rows = (i : ℕ) (d : Row) → i < length rows → IsInRange height width (slice_index_or rows i d)
 
 -- What the entry sends for these rows, one after another: the lines of each table that has just what the entry sends.
 abbrev pub SendsAll : Content → ℕ → ℕ → List Row → List ℕ → Type 0

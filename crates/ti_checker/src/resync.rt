@@ -7,7 +7,6 @@ ghost use Rattle.ti_cert.specs.Clashes.{BeginsOpen};
 ghost use Rattle.ti_checker.specs.Resync as spec;
 ghost use Rattle.ti_checker.specs.Switches.{OfAllSent};
 ghost use Rattle.ti_conforms.specs.Conforms.{IsFit};
-ghost use Rattle.ti_conforms.specs.Resync.{resync_rows};
 ghost use Rattle.ti_rows.specs.Lists.{IsInRange};
 
 use crate::causes::No;
@@ -35,17 +34,17 @@ fn sent_for(alloc: Global, entry: &Entry, row: Row, size: Size) -> Result<Vec<u8
     }
 }
 
-/// What the entry sends to lead a terminal out of an unknown state.
+/// What the entry sends for these rows, one after another.
 #[tactic(auto, using(crate::proofs::Together::memory_no))]
-fn resync_of(alloc: Global, entry: &Entry, size: Size) -> Result<Vec<u8>, No>
+fn sent_for_all(alloc: Global, entry: &Entry, rows: &[Row], size: Size) -> Result<Vec<u8>, No>
     requires fit { IsFit entry.now }
     requires written { EachWritten entry.now size.rows size.cols }
-    ensures sends { IfOk result (λ text. spec.SendsAll entry.now size.rows size.cols (resync_rows size.rows) text.items) }
+    requires ranges { spec.AreInRange size.rows size.cols rows.now }
+    ensures sends { IfOk result (λ text. spec.SendsAll entry.now size.rows size.cols rows.now text.items) }
     ensures refused { IfErr result (IsNo entry.now size.rows size.cols) }
 {
-    let rows = resync_rows(size);
     let mut text = Vec::new(alloc);
-    for row in &rows {
+    for row in rows {
         let bytes = sent_for(alloc, entry, *row, size)?;
         text.extend_from_slice(&bytes)?;
     }
@@ -67,6 +66,6 @@ pub(crate) fn escapes(alloc: Global, entry: &Entry, size: Size) -> Result<bool, 
     ensures no { IfOk result (λ begins. begins ≡ false → OfAllSent entry.now size.rows size.cols (λ t. BeginsOpen t)) }
     ensures refused { IfErr result (IsNo entry.now size.rows size.cols) }
 {
-    let text = resync_of(alloc, entry, size)?;
+    let text = sent_for_all(alloc, entry, &resync_rows(size), size)?;
     Ok(begins_with_escape(&text))
 }
