@@ -67,7 +67,7 @@ pub margins_set : (t : Table) (f : Frame) (b : Belief) (top bottom : ℕ) → Re
 margins_set t f b top bottom = record {
   starts = λ s h. any_of t f b s h;
   ends = λ s u h sized closed w. by_screen t (Framed t (record { top = top; bottom = bottom; cells = f.cells; place = None }) b) u
-      (record s.screen { top = top; bottom = bottom; row = u.screen.row; col = u.screen.col; pending = u.screen.pending }) sized closed w.wants
+      (record s.screen { top = top; bottom = bottom; row = u.screen.row; col = u.screen.col; pending = u.screen.pending }) sized closed w.wants.others
       (λ k. record {
         sized = k;
         rest = refl;
