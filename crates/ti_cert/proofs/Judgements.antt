@@ -377,8 +377,3 @@ pub recorded_at : (rows cols r q : ℕ) (st : Start) (row : Row) (ts us : List (
     → record_of rows cols (start_of rows cols row) us ≡ Some e
 recorded_at rows cols r q st row ts us e h er eq es et = sym (h ∙ (ap (λ (s : Start). record_of r q s ts) es ∙ (ap (λ (x : List (List ℕ)). record_of r q (start_of r q row) x) et
     ∙ (ap (λ (n : ℕ). record_of n q (start_of n q row) us) er ∙ ap (λ (n : ℕ). record_of rows n (start_of rows n row) us) eq))))
-
--- ---- the first byte of some rows' strings
-
-first_left : (o : Option (List ℕ)) (xs : List ℕ) (b : ℕ) (bytes : List ℕ) → o ≡ Some (b ∷ bytes) → head_of (or_nothing o ++ xs) ≡ Some b
-first_left _ xs b bytes refl = refl
