@@ -2,9 +2,13 @@
 use Rattle.std.specs.Prelude.{ℕ, ℤ, pos, nat_lt, ◌≡◌, ◌⊎◌, Bool, true, false, List, [], length, take, Result, Ok, Err}
 use Rattle.ti_caps.specs.Entry.{Content}
 use Rattle.ti_cert.specs.Table.{Content as Strings}
+use Rattle.ti_checker.specs.No.{IsNo}
+use Rattle.ti_checker.specs.declared.causes.No.{No}
+use Rattle.ti_verdicts.specs.Refusals.{no_text}
 use Rattle.curses_c.specs.Codes.{failure_code}
 use Rattle.curses_c.specs.Entries.{Gives, IsCertified, IsShown, IsUncertified, Lacks}
 use Rattle.curses_c.specs.declared.codes.Failure.{Failure}
+use Rattle.curses_c.specs.declared.codes.Failure.TheVariants.{NoMemory}
 
 -- the text is the certificate of the entry that the bytes give
 pub record Certifies (bytes name : List ℕ) (rows cols : ℕ) (text : List ℕ) : Type 0 where
@@ -20,6 +24,22 @@ pub record DeniesEntry (bytes name : List ℕ) (rows cols : ℕ) (e : Failure) :
 
 abbrev pub Denies : List ℕ → List ℕ → ℕ → ℕ → Failure → Type 0
 Denies bytes name rows cols e = Lacks rows cols e ⊎ DeniesEntry bytes name rows cols e
+
+-- a no that is so of the entry, and its words
+pub record IsReason (entry : Content) (rows cols : ℕ) (words : List ℕ) : Type 0 where
+  pub refusal : No
+  pub is : IsNo entry rows cols refusal
+  pub says : words ≡ no_text refusal
+
+-- without a no there are no words
+pub record Reasons (bytes name : List ℕ) (rows cols : ℕ) (words : List ℕ) : Type 0 where
+  pub entry : Content
+  pub gives : Gives bytes name entry
+  pub reason : (words ≡ []) ⊎ IsReason entry rows cols words
+
+abbrev pub SameWords : {A E : Type 0} → Result A E → Result A Failure → Type 0
+SameWords (Ok words) result = result ≡ Ok words
+SameWords (Err e) result = result ≡ Err NoMemory
 
 -- where it is too long nothing is written
 abbrev pub FillsBy : Bool → List ℕ → List ℕ → List ℕ → ℤ → Type 0

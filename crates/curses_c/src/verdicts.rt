@@ -4,7 +4,9 @@ ghost use Rattle.curses_c.specs.Verdicts as spec;
 
 use crate::codes::{Failure, OK, failure_code};
 use crate::entries::{Subject, certificate_of, checked_by, describe};
-use std::alloc::Global;
+use std::alloc::{AllocError, Global};
+use ti_checker::{Cause, check};
+use ti_verdicts::no_words;
 
 /// Writes the certificate of an entry for `rows` and `cols` to the start of `room`: the entry of the compiled file
 /// `entry`, or of `name` in the source text `entry`. `needed` is its length, or 0 where there is none.
@@ -35,6 +37,51 @@ fn certificate(alloc: Global, subject: &Subject<'_>) -> Result<Vec<u8>, Failure>
 {
     let described = describe(alloc, subject)?;
     certificate_of(alloc, &described)
+}
+
+/// Writes why an entry has no certificate to the start of `room`: the line that begins with `no`. `needed` is its
+/// length, or 0 where the entry has a certificate.
+#[unsafe(no_mangle)]
+pub extern "C" fn ticurses_raw_reason(
+    alloc: Global,
+    entry: &[u8],
+    name: &[u8],
+    rows: u16,
+    cols: u16,
+    room: &mut [u8],
+    needed: &mut usize,
+) -> i32
+    ensures { spec.Answers (spec.Reasons entry.now name.now rows cols) (λ _. Unit {0}) room.old room.new needed.new result }
+{
+    let subject = Subject {
+        bytes: entry,
+        name,
+        rows,
+        cols,
+    };
+    deliver(reason(alloc, &subject), room, needed)
+}
+
+fn reason(alloc: Global, subject: &Subject<'_>) -> Result<Vec<u8>, Failure>
+    ensures { IfOk result (λ words. spec.Reasons subject.now.bytes.now subject.now.name.now subject.now.rows subject.now.cols words.items) }
+{
+    let described = describe(alloc, subject)?;
+    let Err(no) = check(alloc, &described.entry, described.size) else {
+        return Ok(Vec::new(alloc));
+    };
+    match no.cause {
+        Cause::NoMemory => Err(Failure::NoMemory),
+        _ => or_no_memory(no_words(alloc, &no)),
+    }
+}
+
+fn or_no_memory(words: Result<Vec<u8>, AllocError>) -> Result<Vec<u8>, Failure>
+    ensures { spec.SameWords words result }
+{
+    match words {
+        Ok(words) => Ok(words),
+        Err(_) => Err(Failure::NoMemory),
+    }
 }
 
 /// Writes the text of an answer to the start of `room`, if it has room for it.
