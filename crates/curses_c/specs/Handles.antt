@@ -1,0 +1,20 @@
+-- What a handle owns.
+use Rattle.std.specs.Prelude.{ℕ, ◌==◌, ◌≡◌, Option, Some, None, is_some}
+use base.Fml.{Fml, ftrue}
+use denote.RawPtr.{Ptr}
+use denote.RattleType.{RattleType}
+use Rattle.std.specs.Box.Ownership.{box_owns}
+use Rattle.libc.specs.Heap.{chunk}
+
+-- an open handle owns the block at its pointer, any other nothing
+abbrev pub held_at : (R : RattleType) → Ptr → Option R.Denot → Fml
+held_at R p (Some v) = box_owns chunk R p v
+held_at R p None = ftrue
+
+-- the number that an open handle has; no other handle has it ("curs" in ASCII)
+abbrev pub mark : ℕ
+mark = 1668641395
+
+-- the number tells whether something is held
+abbrev pub IsMarked : {X : Type 0} → ℕ → Option X → Type 0
+IsMarked state held = (state == mark) ≡ is_some held
