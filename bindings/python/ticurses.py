@@ -250,7 +250,8 @@ class Session:
     def output(self, most=65536):
         """Takes the first of the bytes that wait, at most so many."""
         room = ctypes.create_string_buffer(max(most, 1))
-        return room.raw[: _RAW.ticurses_raw_output(self._handle, room, most)]
+        taken = _RAW.ticurses_raw_output(self._handle, room, max(most, 0))
+        return room.raw[:taken]
 
     def lost(self):
         """Bytes that were taken did not all get to the terminal: the next refresh begins anew."""
