@@ -155,7 +155,7 @@ static inline int ticurses_verify(const void *entry, size_t entry_len, const voi
                                ticurses_bytes(certificate), certificate_len);
 }
 
-/* Opens a session; one that was open is closed, also where the answer is not TICURSES_OK. With no
+/* Opens a session; one that was open is closed, whatever the answer is (but TICURSES_NULL). With no
  * certificate (a length of 0) it checks the entry itself, which takes some milliseconds more. Its first
  * refresh clears the terminal, whatever that shows. A session keeps its size: where the terminal's
  * changes, open it anew and draw again. */

@@ -10,6 +10,7 @@
 #include <stdlib.h>
 #include <string.h>
 #include <sys/ioctl.h>
+#include <termios.h>
 #include <unistd.h>
 
 #ifdef __cplusplus
@@ -70,6 +71,25 @@ static inline void ticurses_size(int fd, uint16_t *rows, uint16_t *cols) {
     }
     *rows = size.ws_row < 2 ? 2 : size.ws_row > 200 ? 200 : size.ws_row;
     *cols = size.ws_col < 2 ? 2 : size.ws_col > 500 ? 500 : size.ws_col;
+}
+
+/* Has the terminal pass on bytes unaltered, which a refresh needs (it may move down by a newline), and keys
+ * as they are pressed, without showing them. Keys that send signals go on doing so. `before` becomes what it
+ * was like; ticurses_set_cooked sets it back. Both give 0, or -1 with errno. */
+static inline int ticurses_set_raw(int fd, struct termios *before) {
+    struct termios raw;
+    if (tcgetattr(fd, before) != 0) return -1;
+    raw = *before;
+    raw.c_lflag &= ~(tcflag_t)(ICANON | ECHO);
+    raw.c_iflag &= ~(tcflag_t)(ICRNL | IXON);
+    raw.c_oflag &= ~(tcflag_t)OPOST;
+    raw.c_cc[VMIN] = 1;
+    raw.c_cc[VTIME] = 0;
+    return tcsetattr(fd, TCSANOW, &raw);
+}
+
+static inline int ticurses_set_cooked(int fd, const struct termios *before) {
+    return tcsetattr(fd, TCSANOW, before);
 }
 
 /* Writes what waits in a session to a descriptor, also one that doesn't block, and returns when all of

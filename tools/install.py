@@ -29,8 +29,10 @@ Name: ticurses
 Description: Curses sessions with a proved refresh
 Version: {version}
 Cflags: -I${{includedir}}
-Libs: -L${{libdir}} -lticurses
+Libs: -L${{libdir}}{found} -lticurses
 """
+# where programs find shared libraries by themselves; elsewhere a program is told where
+KNOWN = ("/lib", "/usr/lib")
 
 
 class Failed(Exception):
@@ -102,7 +104,8 @@ def place(path, folder, name=None, mode=0o644):
 def install(room, destination, prefix, libdir, python):
     """Copies all files to where they go."""
     with open(f"{room}/ticurses.pc", "w", encoding="utf-8") as file:
-        file.write(PKGCONFIG.format(prefix=prefix, libdir=libdir, version=VERSION))
+        found = "" if libdir in KNOWN else " -Wl,-rpath,${libdir}"
+        file.write(PKGCONFIG.format(prefix=prefix, libdir=libdir, version=VERSION, found=found))
     for header in ("ticurses.h", "ticurses_terminal.h"):
         place(f"{TOP}/include/{header}", f"{destination}{prefix}/include")
     place(f"{room}/libticurses.a", f"{destination}{libdir}")

@@ -1,11 +1,13 @@
 """Curses sessions with a proved refresh: ctypes over the library of ticurses.
 
+    before = ticurses.set_raw()
     with ticurses.Session(ticurses.find_entry(), *ticurses.terminal_size()) as session:
         session.call("newwin 1 5 24 2 4", "box 1 - -", "move 1 2 5", "addstr 1 Hello", "refresh 1")
         session.send()
-        input()
+        os.read(0, 1)
         session.call("endwin")
         session.send()
+    ticurses.set_cooked(before)
 
 Calls are lines in the language of scripts (man 5 ticurses-script). What a refresh sends waits in the session until it
 is taken (`output`) and written, or both at once (`send`). What isn't done raises an `Error`, whose `code` is a `Code`.
@@ -300,6 +302,23 @@ def find_entry(term=None):
                 with open(path, "rb") as file:
                     return file.read()
     raise FileNotFoundError(errno.ENOENT, "there is no terminfo entry", term)
+
+
+def set_raw(fd=0):
+    """Has the terminal pass on bytes unaltered, which a refresh needs (it may move down by a newline), and keys as they
+    are pressed, without showing them. Keys that send signals go on doing so. Gives what `set_cooked` sets back."""
+    before, raw = termios.tcgetattr(fd), termios.tcgetattr(fd)
+    raw[3] &= ~(termios.ICANON | termios.ECHO)
+    raw[0] &= ~(termios.ICRNL | termios.IXON)
+    raw[1] &= ~termios.OPOST
+    raw[6][termios.VMIN], raw[6][termios.VTIME] = 1, 0
+    termios.tcsetattr(fd, termios.TCSANOW, raw)
+    return before
+
+
+def set_cooked(before, fd=0):
+    """Sets the terminal back to what it was like."""
+    termios.tcsetattr(fd, termios.TCSANOW, before)
 
 
 def terminal_size(fd=1):

@@ -7,7 +7,6 @@
 #include <fcntl.h>
 #include <signal.h>
 #include <sys/stat.h>
-#include <termios.h>
 
 /* the windows: PAGE is a pad, the others are parts of the screen */
 enum { FRAME = 1, PAGE, HEAD, LOG, STATUS, HELP };
@@ -296,16 +295,6 @@ static void drain(struct monitor *m) {
     }
 }
 
-static void set_raw(struct monitor *m) {
-    struct termios raw = m->before;
-    raw.c_lflag &= ~(tcflag_t)(ICANON | ECHO);
-    raw.c_iflag &= ~(tcflag_t)(ICRNL | IXON);
-    raw.c_oflag &= ~(tcflag_t)OPOST;
-    raw.c_cc[VMIN] = 1;
-    raw.c_cc[VTIME] = 0;
-    tcsetattr(STDIN_FILENO, TCSADRAIN, &raw);
-}
-
 /* Leaves the terminal as other programs want it; waits at most two seconds for one that takes nothing. */
 static void restore(struct monitor *m) {
     ticurses_callf(&m->session, "endwin");
@@ -314,7 +303,7 @@ static void restore(struct monitor *m) {
         poll(&room, 1, 100);
         drain(m);
     }
-    tcsetattr(STDIN_FILENO, TCSANOW, &m->before);
+    ticurses_set_cooked(STDIN_FILENO, &m->before);
 }
 
 /* Stops as ^Z asks for, and goes on with a terminal of which nothing is known. */
@@ -322,7 +311,7 @@ static void stop(struct monitor *m) {
     stopped = 0;
     restore(m);
     raise(SIGSTOP);
-    set_raw(m);
+    ticurses_set_raw(STDIN_FILENO, &m->before);
     note(m, ticurses_lost(&m->session));
     m->taken = m->sent = 0;
     m->is_changed = 1;
@@ -422,7 +411,7 @@ int main(int argc, char **argv) {
     const char *name = strrchr(argv[1], '/') ? strrchr(argv[1], '/') + 1 : argv[1];
     m.name = drawable(name, strlen(name));
     m.fd = open("/dev/tty", O_WRONLY | O_NONBLOCK | O_NOCTTY);
-    if (m.fd < 0 || tcgetattr(STDIN_FILENO, &m.before) != 0) {
+    if (m.fd < 0 || !isatty(STDIN_FILENO)) {
         fprintf(stderr, "monitor: no terminal\n");
         return 2;
     }
@@ -430,7 +419,7 @@ int main(int argc, char **argv) {
     note(&m, m.name ? open_session(&m) : TICURSES_NO_MEMORY);
     if (m.code == TICURSES_OK) {
         take_signals();
-        set_raw(&m);
+        ticurses_set_raw(STDIN_FILENO, &m.before);
         run(&m);
         restore(&m);
     }

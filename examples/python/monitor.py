@@ -195,14 +195,6 @@ class Monitor:
                 self.is_ending = self.is_ending or self.failures >= 5
                 return
 
-    def set_raw(self):
-        raw = termios.tcgetattr(0)
-        raw[3] &= ~(termios.ICANON | termios.ECHO)
-        raw[0] &= ~(termios.ICRNL | termios.IXON)
-        raw[1] &= ~termios.OPOST
-        raw[6][termios.VMIN], raw[6][termios.VTIME] = 1, 0
-        termios.tcsetattr(0, termios.TCSADRAIN, raw)
-
     def restore(self):
         """Leaves the terminal as other programs want it; waits at most two seconds for one that takes nothing."""
         self.session.call("endwin")
@@ -212,7 +204,7 @@ class Monitor:
             select.select([], [self.fd], [], 0.1)
             self.drain()
         try:
-            termios.tcsetattr(0, termios.TCSANOW, self.before)
+            ticurses.set_cooked(self.before)
         except termios.error as error:
             # the terminal is gone
             if error.args[0] != errno.EIO:
@@ -222,7 +214,7 @@ class Monitor:
         """Stops as ^Z asks for, and goes on with a terminal of which nothing is known."""
         self.restore()
         os.kill(os.getpid(), signal.SIGSTOP)
-        self.set_raw()
+        self.before = ticurses.set_raw()
         self.session.lost()
         self.piece, self.is_changed = b"", True
 
@@ -311,7 +303,7 @@ def main():
     except (OSError, termios.error, ticurses.Error) as error:
         sys.exit(f"monitor.py: {error}")
     monitor.take_signals()
-    monitor.set_raw()
+    monitor.before = ticurses.set_raw()
     try:
         ended = monitor.run()
     finally:
