@@ -126,10 +126,13 @@ class Terminal:
 
 
 class Multiplexer:
-    """A program in a pane of tmux."""
+    """A program in a pane of tmux. Each has a server of its own, since one that ends takes a while."""
+
+    count = 0
 
     def __init__(self, work, rows, cols, words, environment):
-        self.socket = f"{work}/tmux"
+        Multiplexer.count += 1
+        self.socket = f"{work}/tmux{Multiplexer.count}"
         line = ["env", *[f"{key}={value}" for key, value in environment.items()], *words]
         quoted = " ".join("'" + it.replace("'", "'\\''") + "'" for it in line)
         size = ["-x", str(cols), "-y", str(rows)]
@@ -138,6 +141,8 @@ class Multiplexer:
     def run(self, *words):
         environment = {**os.environ, "LC_ALL": "C.UTF-8", "TERM": "screen"}
         ran = subprocess.run(["tmux", "-u", "-S", self.socket, *words], env=environment, stdout=subprocess.PIPE)
+        if ran.returncode:
+            sys.exit(f"tmux {words} ended with status {ran.returncode}")
         return ran.stdout.decode("utf-8", "replace")
 
     def press(self, *keys):
