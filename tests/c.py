@@ -4,6 +4,7 @@ terminals; each answer, cut outputs, many sessions and calls; with valgrind and 
 import os
 import re
 import shutil
+import signal
 import subprocess
 import sys
 import time
@@ -188,8 +189,15 @@ def check_blocked(words, environment):
 
 
 def check_ends(words, environment, status):
-    """A signal ends it, and the terminal is as other programs want it."""
+    """It can be stopped, and a signal ends it; both leave the terminal as other programs want it."""
     terminal = Terminal(20, 60, words, environment)
+    terminal.shows(monitored(20, 60, "poem.txt", TEXT, LOGGED).text())
+    # the key that stops it
+    terminal.press(b"\x1a")
+    terminal.stops()
+    if "hidden" in fed(20, 60, terminal.sent):
+        sys.exit(f"stopped, the monitor left {terminal.sent[-99:]!r}")
+    terminal.program.send_signal(signal.SIGCONT)
     terminal.shows(monitored(20, 60, "poem.txt", TEXT, LOGGED).text())
     # the key of the terminal's interrupt
     terminal.press(b"\x03")

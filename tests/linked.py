@@ -111,6 +111,18 @@ class Terminal:
                 return
         sys.exit(f"the screen is\n{seen}\nand was to be\n{screen}\nafter {self.sent[self.begun:]!r}")
 
+    def stops(self):
+        """Waits until the program is stopped."""
+        end = time.monotonic() + PATIENCE
+        while time.monotonic() < end:
+            while self.read(0.05):
+                pass
+            state = held_in(f"/proc/{self.program.pid}/stat").rpartition(b")")[2].split()[0]
+            if state == b"T":
+                return
+        self.program.kill()
+        sys.exit("the program does not stop")
+
     def ends(self):
         """Waits for the end, and gives the status as the shell tells it."""
         end = time.monotonic() + PATIENCE
