@@ -11,10 +11,20 @@ import time
 from concurrent.futures import ThreadPoolExecutor
 
 from linked import (
-    SANITIZED, STRICT, Multiplexer, Terminal, compiled, fed, installed, missing, monitored, rooms, terminfo, ticurses,
+    SANITIZED,
+    Multiplexer,
+    Terminal,
+    compiled,
+    fed,
+    installed,
+    missing,
+    monitored,
+    rooms,
+    terminfo,
+    ticurses,
 )
 from scripts import SHOWN, STORED
-from trying import PROGRAM, TOP, held_in, write
+from trying import TOP, held_in, write
 
 TERMINALS = f"{TOP}/examples/terminals.ti"
 WRAPPED = ["-Wl,--wrap=malloc", "-Wl,--wrap=realloc", "-Wl,--wrap=free"]

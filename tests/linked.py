@@ -13,7 +13,7 @@ import tempfile
 import termios
 import time
 
-from trying import PROGRAM, TOP, Case, held_in, run_cases, write
+from trying import PROGRAM, TOP, Case, held_in, run_cases
 
 STRICT = ["-Wall", "-Wextra", "-pedantic", "-Werror"]
 SANITIZED = ["-g", "-fsanitize=address,undefined", "-fno-sanitize-recover=all"]

@@ -3,7 +3,6 @@ monitor of examples/python, which sends what that of examples/c sends."""
 
 import os
 import re
-import shutil
 import subprocess
 import sys
 
