@@ -16,6 +16,7 @@ from linked import (
     Terminal,
     compiled,
     fed,
+    greeted,
     installed,
     missing,
     monitored,
@@ -61,6 +62,28 @@ def check_header(prefix, work):
         if exported != declared:
             sys.exit(f"libticurses.so exports {sorted(exported)}, and the header declares {sorted(declared)}")
     print("c: the headers compile as C and as C++ without a warning; the shared library exports what they declare")
+
+
+def check_manual(prefix, work):
+    """The manual page has the calls of the headers with their arguments, and a program that compiles."""
+    page = held_in(f"{TOP}/man/ticurses.3").decode()
+    headers = [held_in(f"{TOP}/include/{it}").decode() for it in ("ticurses.h", "ticurses_terminal.h")]
+    found = r"^static inline ([^()=]*?)(ticurses_\w+)\(([^)]*)\)[^;{]*\{"
+    declared = [it for header in headers for it in re.findall(found, header, re.M)]
+    declared = {name: (kind.strip(), re.sub(r"\s+", " ", words)) for kind, name, words in declared}
+    # what the others are made of
+    for name in ("ticurses_bytes", "ticurses_is_bad", "ticurses_entry_in"):
+        del declared[name]
+    written = {}
+    for kind, first, rest in re.findall(r"^\.Ft (.*)\n\.F[no] (\w+)(.*(?:\n\.Fa .*)*)", page, re.M):
+        written[first] = (kind.strip('"').strip(), ", ".join(re.findall(r'"([^"]*)"', rest)))
+    if declared != written:
+        both = [(it, declared.get(it), written.get(it)) for it in sorted({*declared, *written})]
+        sys.exit("the manual page and the headers differ: " + "\n".join(map(str, (it for it in both if it[1] != it[2]))))
+    example = page.partition(".Bd -literal\n")[2].partition(".Ed\n")[0].replace("\\e", "\\")
+    write(f"{work}/example.c", example.encode())
+    compiled(prefix, f"{work}/example.c", f"{work}/example", "-std=c99")
+    print(f"c: man/ticurses.3 has the {len(written)} calls of the headers, and its program compiles")
 
 
 def play(player, work, entry, rows, cols, script, piece):
@@ -228,12 +251,33 @@ def check_panes(work, words, variables, hello=None):
     pane.close()
     if hello:
         pane = Multiplexer(work, 9, 40, [hello], {"TERM": "screen-256color"})
-        edge, inner = "q" * 22, " " * 22
-        box = [f"l{edge}k", f"x{inner}x", "x     Hello from C     x", f"x{inner}x", f"m{edge}j"]
-        pane.shows(["", "", *[" " * 8 + it for it in box]])
+        pane.shows(greeted(9, 40).lines())
         pane.press("x")
         pane.shows(["ended 0"])
         pane.close()
+
+
+def check_page(prefix, work, environment):
+    """The program of docs/LIBRARY.md is that of the examples. Its line compiles it in an empty folder, and it draws."""
+    page = held_in(f"{TOP}/docs/LIBRARY.md").decode()
+    blocks = [re.sub(r"^    ", "", it, flags=re.M) for it in re.findall(r"(?:^    .*\n|^\n(?=    ))+", page, re.M)]
+    [program] = [it.strip("\n") + "\n" for it in blocks if "int main" in it]
+    if program.encode() != held_in(f"{TOP}/examples/c/hello.c"):
+        sys.exit("the program of docs/LIBRARY.md is not examples/c/hello.c")
+    if missing("c", "pkg-config"):
+        return
+    os.mkdir(f"{work}/empty")
+    write(f"{work}/empty/hello.c", program.encode())
+    [line] = [it.strip() for it in blocks if it.strip().startswith("cc hello.c")]
+    search = {**os.environ, "PKG_CONFIG_PATH": f"{prefix}/lib/pkgconfig"}
+    if subprocess.run(["sh", "-c", line], cwd=f"{work}/empty", env=search).returncode:
+        sys.exit(f"the line of docs/LIBRARY.md fails: {line}")
+    terminal = Terminal(9, 40, [f"{work}/empty/hello"], environment)
+    terminal.shows(greeted(9, 40).text())
+    terminal.press(b"x")
+    if terminal.ends():
+        sys.exit("hello did not end as it should")
+    print("c: the program of docs/LIBRARY.md compiles by its line in an empty folder, and draws what it calls")
 
 
 def check_examples(prefix, work):
@@ -242,6 +286,7 @@ def check_examples(prefix, work):
     source = f"{TOP}/examples/c/monitor.c"
     monitor = compiled(prefix, source, f"{work}/monitor", "-std=c99", "-g")
     hello = compiled(prefix, f"{TOP}/examples/c/hello.c", f"{work}/hello", "-std=c99")
+    check_page(prefix, work, environment)
     watch([monitor, *files], environment, growing(files[1]))
     check_blocked([monitor, *written(work)], environment)
     check_ends([monitor, *files], environment, 130)
@@ -266,6 +311,7 @@ def main():
     with rooms() as work:
         prefix = installed(work)
         check_header(prefix, work)
+        check_manual(prefix, work)
         player = compiled(prefix, f"{TOP}/tests/c/player.c", f"{work}/player", *SANITIZED)
         check_scripts(player, work)
         check_answers(prefix, work)

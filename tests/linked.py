@@ -201,7 +201,7 @@ class Screen:
 
     def __init__(self, rows, cols):
         self.cells = [[(" ", "")] * cols for _ in range(rows)]
-        self.cursor = (0, 0)
+        self.cursor, self.is_hidden = (0, 0), True
 
     def write(self, row, col, text, look=""):
         for at, byte in enumerate(text):
@@ -228,8 +228,18 @@ class Screen:
                     start = at
 
     def text(self):
-        lines = [*self.lines(), "cursor {} {} hidden".format(*self.cursor), *self.looks()]
+        cursor = "cursor {} {}".format(*self.cursor) + " hidden" * self.is_hidden
+        lines = [*self.lines(), cursor, *self.looks()]
         return "".join(f"{it}\n" for it in lines)
+
+
+def greeted(rows, cols):
+    """The screen of `hello`: a window of 5 by 24 in the middle, white on blue, with a box and a text."""
+    screen, top, left = Screen(rows, cols), (rows - 5) // 2, (cols - 24) // 2
+    screen.box(top, left, 5, 24, "f7b4")
+    screen.write(top + 2, left + 6, "Hello from C", "Bf7b4")
+    screen.cursor, screen.is_hidden = (top + 2, left + 18), False
+    return screen
 
 
 def monitored(rows, cols, name, held, logged, top=0, left=0, helps=False):
