@@ -141,7 +141,8 @@ def _library():
     """The library, with the types of its calls."""
     own, name = os.environ.get("TICURSES_LIBRARY"), "libticurses.so.0"
     installed = os.path.normpath(os.path.join(os.path.dirname(os.path.abspath(__file__)), "..", "..", name))
-    library = ctypes.CDLL(own or (installed if os.path.exists(installed) else name))
+    # it keeps the interpreter's lock, so that no two threads are in one session
+    library = ctypes.PyDLL(own or (installed if os.path.exists(installed) else name))
     for call, (result, arguments) in _CALLS.items():
         function = getattr(library, f"ticurses_raw_{call}")
         function.restype, function.argtypes = result, arguments
@@ -152,7 +153,13 @@ _RAW = _library()
 
 
 def _bytes(text):
-    return text.encode("latin-1", "replace") if isinstance(text, str) else bytes(text)
+    """What is no ASCII becomes bytes that are refused."""
+    return text.encode("utf-8", "surrogateescape") if isinstance(text, str) else bytes(text)
+
+
+def _window(number):
+    """A window's number that ctypes passes as it is; what doesn't fit is no window's."""
+    return number if 0 <= number < 64 else 64
 
 
 def _numbers(rows, cols):
@@ -219,9 +226,9 @@ class Session:
         _is_done(_RAW.ticurses_raw_call(self._handle, text, len(text)))
 
     def addstr(self, window, text):
-        """Writes a text of any bytes at the cursor of a window."""
+        """Writes a text at the cursor of a window: bytes, or a string of ASCII. Others are refused."""
         text = _bytes(text)
-        _is_done(_RAW.ticurses_raw_addstr(self._handle, window, text, len(text)))
+        _is_done(_RAW.ticurses_raw_addstr(self._handle, _window(window), text, len(text)))
 
     def cursor(self, window):
         """The row and the column of a window's cursor."""
@@ -233,7 +240,7 @@ class Session:
 
     def _pair(self, call, window):
         one, other = _SHORT(0), _SHORT(0)
-        _is_done(call(self._handle, window, one, other))
+        _is_done(call(self._handle, _window(window), one, other))
         return one.value, other.value
 
     def cell(self, window, row, col):
@@ -241,7 +248,7 @@ class Session:
         cell = _Cell()
         if not (0 <= row < 65536 and 0 <= col < 65536):
             raise Error(Code.OUT_OF_WINDOW)
-        _is_done(_RAW.ticurses_raw_cell(self._handle, window, row, col, cell))
+        _is_done(_RAW.ticurses_raw_cell(self._handle, _window(window), row, col, cell))
         return Cell(chr(cell.byte), Attrs(cell.attrs), cell.pair)
 
     @property
