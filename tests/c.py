@@ -238,6 +238,17 @@ def check_ends(words, environment, status):
         sys.exit(f"after an interrupt the monitor left {terminal.sent[-99:]!r}")
 
 
+def check_refused(words, work):
+    """A terminal of which a string is wrong: the monitor says which, and sends nothing."""
+    wrong = "w|w,\n\tclear=\\E[H\\E[2J, cup=\\E[%i%p1%d;%p2%dH, sgr0=\\E[m, op=\\E[m,\n"
+    os.makedirs(f"{work}/wrong/w")
+    ticurses(["tic", "--out", f"{work}/wrong/w/w", "--", "-:w"], wrong.encode())
+    terminal = Terminal(20, 60, words, {"TERMINFO": f"{work}/wrong", "TERM": "w"})
+    status, text = terminal.ends(), b"monitor: a string of the entry is wrong: no op: WrongEffect\r\n"
+    if status != 1 or terminal.sent != text:
+        sys.exit(f"the monitor refuses a terminal by {terminal.sent!r}, status {status}")
+
+
 def check_panes(work, words, variables, hello=None):
     """The same in tmux, as the entry of its terminal drives it."""
     pane = Multiplexer(work, 20, 60, words, {**variables, "TERM": "screen-256color"})
@@ -290,6 +301,7 @@ def check_examples(prefix, work):
     watch([monitor, *files], environment, growing(files[1]))
     check_blocked([monitor, *written(work)], environment)
     check_ends([monitor, *files], environment, 130)
+    check_refused([monitor, *files], work)
     sanitized = compiled(prefix, source, f"{work}/sanitized", "-std=c99", *SANITIZED)
     watch([sanitized, *files], environment, growing(files[1]))
     tried = "the address sanitizer"

@@ -104,6 +104,8 @@ def check_certificates(made, work):
     hold(made.reason(WRONG, 6, 24, "w") == line, "the reason differs", made.reason(WRONG, 6, 24, "w"), line)
     text = raises(made, made.Code.NO_CERTIFICATE, made.check, WRONG, 6, 24, "w")
     hold(text.endswith(line), "the error lacks the reason", text)
+    text = raises(made, made.Code.NO_CERTIFICATE, made.Session, WRONG, 6, 24, "w")
+    hold(text.endswith(line), "the error lacks the reason", text)
 
 
 def check_scripts(made, work):

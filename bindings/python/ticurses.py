@@ -218,7 +218,8 @@ class Session:
         """Opens it anew, as after a change of size. Without a certificate the entry is checked."""
         entry, name, certificate = _bytes(entry), _bytes(name), _bytes(certificate)
         words = (entry, len(entry), name, len(name), *_numbers(rows, cols), certificate, len(certificate))
-        _is_done(_RAW.ticurses_raw_open(self._handle, *words))
+        code = _RAW.ticurses_raw_open(self._handle, *words)
+        _is_done(code, reason(entry, rows, cols, name) if code == Code.NO_CERTIFICATE else "")
 
     def call(self, *lines):
         """Makes calls, one a line, up to the first that isn't done."""

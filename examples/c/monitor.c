@@ -401,6 +401,15 @@ static void run(struct monitor *m) {
     }
 }
 
+/* Says why it ended. */
+static void explain(struct monitor *m) {
+    char reason[256];
+    size_t len = 0;
+    if (m->code == TICURSES_NO_CERTIFICATE)
+        ticurses_reason(m->entry, m->entry_len, NULL, 0, m->rows, m->cols, reason, sizeof reason, &len);
+    fprintf(stderr, "monitor: %s%s%.*s\n", ticurses_text(m->code), len ? ": " : "", (int)len, reason);
+}
+
 int main(int argc, char **argv) {
     static struct monitor m;
     m.log.fd = argc == 3 ? open(argv[2], O_RDONLY) : -1;
@@ -426,7 +435,7 @@ int main(int argc, char **argv) {
     ticurses_close(&m.session);
     free_text(&m.text);
     free(m.name);
-    if (m.code != TICURSES_OK) fprintf(stderr, "monitor: %s\n", ticurses_text(m.code));
+    if (m.code != TICURSES_OK) explain(&m);
     if (ended) {
         signal(ended, SIG_DFL);
         raise(ended);
