@@ -12,6 +12,7 @@ from concurrent.futures import ThreadPoolExecutor
 
 from linked import (
     SANITIZED,
+    WRONG,
     Multiplexer,
     Terminal,
     compiled,
@@ -240,9 +241,8 @@ def check_ends(words, environment, status):
 
 def check_refused(words, work):
     """A terminal of which a string is wrong: the monitor says which, and sends nothing."""
-    wrong = "w|w,\n\tclear=\\E[H\\E[2J, cup=\\E[%i%p1%d;%p2%dH, sgr0=\\E[m, op=\\E[m,\n"
     os.makedirs(f"{work}/wrong/w")
-    ticurses(["tic", "--out", f"{work}/wrong/w/w", "--", "-:w"], wrong.encode())
+    ticurses(["tic", "--out", f"{work}/wrong/w/w", "--", "-:w"], WRONG.encode())
     terminal = Terminal(20, 60, words, {"TERMINFO": f"{work}/wrong", "TERM": "w"})
     status, text = terminal.ends(), b"monitor: a string of the entry is wrong: no op: WrongEffect\r\n"
     if status != 1 or terminal.sent != text:

@@ -17,6 +17,11 @@ from trying import PROGRAM, TOP, Case, held_in, run_cases
 
 STRICT = ["-Wall", "-Wextra", "-pedantic", "-Werror"]
 SANITIZED = ["-g", "-fsanitize=address,undefined", "-fno-sanitize-recover=all"]
+# an entry of which a string is wrong
+WRONG = (
+    "w|w,\n\tclear=\\E[H\\E[2J, cup=\\E[%i%p1%d;%p2%dH, sgr0=\\E[m,\n"
+    "\tsetaf=\\E[3%p1%dm, setab=\\E[4%p1%dm, op=\\E[m,\n"
+)
 # a program that is slower than this has failed
 PATIENCE = 60
 

@@ -7,13 +7,11 @@ import subprocess
 import sys
 
 import c as c_tests
-from linked import compiled, installed, missing, rooms, terminfo, ticurses
+from linked import WRONG, compiled, installed, missing, rooms, terminfo, ticurses
 from scripts import STORED
 from trying import TOP, held_in, write
 
 TERMINALS = f"{TOP}/examples/terminals.ti"
-# an entry of which a string is wrong, and what the program says of it
-WRONG = "w|w,\n\tclear=\\E[H\\E[2J, cup=\\E[%i%p1%d;%p2%dH, sgr0=\\E[m, op=\\E[m,\n"
 
 
 def module(prefix):
