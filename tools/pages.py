@@ -20,7 +20,7 @@ PARTS = [
     ("The terminal", ["vt_effects", "vt_term", "vt_screen", "grids"]),
     ("Certificates", ["ti_checker", "ti_cert", "ti_lines", "ti_conforms", "ti_rows"]),
     ("Windows", ["cur_pads", "cur_windows", "cur_drawing"]),
-    ("Painting", ["cur_play", "cur_calls", "cur_update", "cur_paint", "cur_looks", "cur_wires"]),
+    ("Painting", ["cur_play", "cur_calls", "cur_update", "cur_paint", "cur_scrolls", "cur_looks", "cur_wires"]),
     ("Benchmarks", ["bench_parm"]),
 ]
 

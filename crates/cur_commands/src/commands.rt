@@ -2,7 +2,7 @@
 ghost use Rattle.std.specs.Prelude.{◌≡◌, ◌⊎◌, IfErr, IfOk, OnOk};
 ghost use Rattle.cur_commands.specs.Commands.{FailsToPlay, FailsToShow, IsPlayed, IsShown};
 
-use crate::preparations::prepare;
+use crate::preparations::{Ready, prepare};
 use crate::runs::play_calls;
 use crate::scripts::calls_of;
 use crate::shows::show_calls;
@@ -27,8 +27,13 @@ pub fn play_script<F: Files, O: Output>(
     ensures kept { F.holds files.new ≡ F.holds files.old }
 {
     let ready = prepare(alloc, words, files, remarks)?;
-    let calls = calls_of(alloc, words.script, ready.text.as_slice(), remarks)?;
-    let _log = play_calls(alloc, &ready.checked, calls.as_slice(), out)?;
+    let Ready {
+        size: _,
+        checked,
+        text,
+    } = ready;
+    let calls = calls_of(alloc, words.script, text.as_slice(), remarks)?;
+    let _log = play_calls(alloc, checked, calls.as_slice(), out)?;
     Ok(())
 }
 
@@ -44,7 +49,12 @@ pub fn show_script<F: Files>(
     ensures kept { F.holds files.new ≡ F.holds files.old }
 {
     let ready = prepare(alloc, words, files, remarks)?;
-    let calls = calls_of(alloc, words.script, ready.text.as_slice(), remarks)?;
-    let text = show_calls(alloc, &ready.checked, calls.as_slice())?;
+    let Ready {
+        size: _,
+        checked,
+        text,
+    } = ready;
+    let calls = calls_of(alloc, words.script, text.as_slice(), remarks)?;
+    let text = show_calls(alloc, checked, calls.as_slice())?;
     Ok(Reply::of_text(alloc, text))
 }

@@ -17,13 +17,13 @@ use ti_conforms::Certificate;
 /// # Errors
 /// `NoMemory` where there is none for the session or the log; then nothing was written. `Output` after the run where
 /// the output has failed.
-pub fn play_calls<C: Certificate, O: Output>(
+pub fn play_calls<C: Certificate + Drop, O: Output>(
     alloc: Global,
-    checked: &C,
+    checked: C,
     calls: &[Call<'_>],
     out: &mut O,
 ) -> Result<Log, Failure>
-    ensures ran { IfOk result (λ log. Ran (unfailing (C.table checked.now) (C.partners checked.now)) (O.contents out.old) (O.contents out.new) calls.now log.entries.items) }
+    ensures ran { IfOk result (λ log. Ran (unfailing (C.table checked) (C.partners checked)) (O.contents out.old) (O.contents out.new) calls.now log.entries.items) }
     ensures through { IfOk result (λ log. AreThrough log.entries.items) }
     ensures failure { IfErr result (λ e. IsUnplayed O.has_failed out.old out.new e) }
 {
@@ -37,15 +37,15 @@ pub fn play_calls<C: Certificate, O: Output>(
 }
 
 /// Plays the calls on an output, of which nothing is held back before or after.
-fn play_held<C: Certificate, O: Output>(
+fn play_held<C: Certificate + Drop, O: Output>(
     alloc: Global,
-    checked: &C,
+    checked: C,
     calls: &[Call<'_>],
     held: &mut Held<'_, O>,
 ) -> Result<Log, Failure>
     requires nothing { held.old.buffer.now ≡ [] }
     requires unfailed { held.old.failures ≡ 0 }
-    ensures ran { IfOk result (λ log. Ran (unfailing (C.table checked.now) (C.partners checked.now)) (O.contents held.old.output.now) (O.contents held.new.output.now) calls.now log.entries.items) }
+    ensures ran { IfOk result (λ log. Ran (unfailing (C.table checked) (C.partners checked)) (O.contents held.old.output.now) (O.contents held.new.output.now) calls.now log.entries.items) }
     ensures through { IfOk result (λ log. AreThrough log.entries.items) }
     ensures failure { IfErr result (λ e. IsUnplayed O.has_failed held.old.output.now held.new.output.now e) }
     ensures same { held.new.output.ghost_name ≡ held.old.output.ghost_name }

@@ -16,12 +16,12 @@ use vt_term::{Size, Terminal};
 /// Plays `calls` on a terminal in its reset state, of the size of `checked`: a line for each call that was refused, and
 /// then the terminal's screen. The terminal takes all that is sent, so that there is an answer but where there is no
 /// memory.
-pub fn show_calls<C: Certificate>(
+pub fn show_calls<C: Certificate + Drop>(
     alloc: Global,
-    checked: &C,
+    checked: C,
     calls: &[Call<'_>],
 ) -> Result<Vec<u8>, AllocError>
-    ensures { IfOk result (λ text. ShowsRun (C.table checked.now) (C.partners checked.now) (C.table checked.now).rows (C.table checked.now).cols calls.now text.items) }
+    ensures { IfOk result (λ text. ShowsRun (C.table checked) (C.partners checked) (C.table checked).rows (C.table checked).cols calls.now text.items) }
 {
     let size = Size::new(checked.rows(), checked.cols()).unwrap();
     let mut taken = Taken::new(alloc);
@@ -33,13 +33,13 @@ pub fn show_calls<C: Certificate>(
 }
 
 /// Plays calls, and keeps what they send; an error also where there was no memory to keep it.
-fn play_in_memory<C: Certificate>(
+fn play_in_memory<C: Certificate + Drop>(
     alloc: Global,
-    checked: &C,
+    checked: C,
     calls: &[Call<'_>],
     taken: &mut Taken,
 ) -> Result<Log, AllocError>
-    ensures ran { IfOk result (λ log. Ran (unfailing (C.table checked.now) (C.partners checked.now)) (Some taken.old.bytes.items) (Some taken.new.bytes.items) calls.now log.entries.items) }
+    ensures ran { IfOk result (λ log. Ran (unfailing (C.table checked) (C.partners checked)) (Some taken.old.bytes.items) (Some taken.new.bytes.items) calls.now log.entries.items) }
     ensures through { IfOk result (λ log. AreThrough log.entries.items) }
 {
     let log = run(alloc, checked, calls, taken)?;

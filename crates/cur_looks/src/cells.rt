@@ -86,7 +86,7 @@ fn is_recolored(now: Brush, wanted: Brush) -> bool
 }
 
 /// Makes the brush `wanted`.
-pub(crate) fn brush_as<C: Certificate, W: Wire>(
+pub fn brush_as<C: Certificate, W: Wire>(
     checked: &C,
     belief: &mut Belief,
     wire: &mut W,

@@ -17,7 +17,7 @@ mod targets;
 mod texts;
 
 pub use beliefs::{Belief, Mode, Place};
-pub use cells::{blank_tail, put_cell};
+pub use cells::{blank_tail, brush_as, put_cell};
 pub use erasures::{ErasedPart, erase_at, erase_from, erasing_line};
 pub use inks::{Blank, Brush, Ink, Picture, byte_as, is_same};
 pub use modes::show_as;

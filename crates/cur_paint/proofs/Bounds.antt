@@ -154,3 +154,16 @@ fewer_enough t n blank old new b d cursor mode lt =
     let c : (x + 1) * l ≡ x * l + l = grind arith in
     let m : y * l + l ≤ paint_limit t old new b cursor mode = one_more y l (is_settled t.cols b cursor mode) (omega (arith, lt)) in
     omega (arith, a, e, k, c, m, most t blank new d cursor mode)
+
+-- a scroll, and then what fewer cells take by as many as it counts for
+pub scrolled_enough : (t : Table) (k : ℕ) (moved old new : ℕ → ℕ → Ink) (b d : Belief) (cursor : Option Place) (mode : Mode) → 0 < k → k + all_differ moved new t.cols t.rows ≤ all_differ old new t.cols t.rows
+    → k * cell_limit t + paint_limit t moved new d cursor mode ≤ paint_limit t old new b cursor mode
+scrolled_enough t k moved old new b d cursor mode some le =
+    let x = all_differ moved new t.cols t.rows in
+    let y = all_differ old new t.cols t.rows in
+    let l = cell_limit t in
+    let a : (k + x) * l ≤ y * l = times_grows (k + x) y l le in
+    let e : (k + x) * l ≡ k * l + x * l = grind arith in
+    let c : (x + 1) * l ≡ x * l + l = grind arith in
+    let m : y * l + l ≤ paint_limit t old new b cursor mode = one_more y l (is_settled t.cols b cursor mode) (omega (arith, le, some)) in
+    omega (arith, a, e, c, m, most t moved new d cursor mode)

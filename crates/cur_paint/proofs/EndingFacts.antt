@@ -81,7 +81,7 @@ both_ends s bytes A B h k = record { after = h.after; runs = h.runs; there = (h.
 screen_back : (t : Table) (s u : State) → Visible t s → IsOfSize t.rows t.cols u → u.rest ≡ [] → Ended t Rmcup s.screen u.screen → IsLost t u → IsFresh t u
 screen_back t s u h sized closed w lost =
     let x = u.screen in
-    by_screen t (IsFresh t) u (record s.screen { grid = x.grid; row = x.row; col = x.col; pending = x.pending; rendition = x.rendition; charset = x.charset }) sized closed w.wants
+    by_screen t (IsFresh t) u (record s.screen { grid = x.grid; row = x.row; col = x.col; pending = x.pending; rendition = x.rendition; charset = x.charset }) sized closed w.wants.others
     (λ k. record {
       lost = record { sized = k; tame = record { autowrap = h.ready.tame.autowrap; inserting = h.ready.tame.inserting }; reached = lost.reached; margins = λ e. record { top = h.ready.whole.top; bottom = h.ready.whole.bottom }; visible = λ e. h.visible };
       rest = refl;

@@ -36,6 +36,7 @@ refreshed went failures a z v t shown g w before after d = record {
     sets = d.sets;
   };
   fits = d.step.leads.ends;
+  cut = d.step.leads.cut;
   known = refl;
   there = d.there;
   mode = d.mode;
@@ -65,6 +66,10 @@ completed t A status now bytes front back g w pieces made each begins ends c par
       sets = near_more (move_limit t w.cursor) (mode_text t now w.mode) k.bytes bytes (sets_anyway t now w.cursor w.mode k.bytes c.sets);
     })
 
+-- a front of a front
+pub front_of_front : (bytes front back x y : List ℕ) → bytes ≡ front ++ back → front ≡ x ++ y → bytes ≡ x ++ (y ++ back)
+front_of_front bytes front back x y whole part = whole ∙ ap (λ (l : List ℕ). l ++ back) part ∙ append_assoc x y back
+
 pub cut_short : {W T E : Type 0} (went : W → W → List ℕ → Type 0) (failures : W → ℕ) (a z : W) (v : E) (t : Table) (shown g : ℕ → ℕ → Ink) (w : Wanted) (before : Knowledge) (after : Belief)
     → IsChecked t → CanShow t g → IsWithin t w.cursor → CanHide t w.mode
     → Draws {T = T} {E = E} went failures a z (Err v) t shown g w before.status before.belief after → CutShort went failures a z t shown g w before (record { status = Lost; belief = after })
@@ -79,6 +84,7 @@ cut_short went failures a z v t shown g w before after checked fit within can d 
       bound = omega (arith, d.step.leads.bound, ap length stops.parts, length-append stops.front stops.back);
       lawful = completed t (Fits t shown before.status before.belief) before.status (shown_mode before.status before.belief.mode) d.step.bytes stops.front stops.back g w d.step.leads.pieces d.step.leads.made d.step.leads.each d.begins d.step.leads.ends k stops.parts;
       fits = d.step.leads.cut stops.front stops.back stops.parts;
+      cut = λ x y e. d.step.leads.cut x (y ++ stops.back) (front_of_front d.step.bytes stops.front stops.back x y stops.parts e);
       lost = refl;
       some_left = omega (arith, stops.some_left, length-append stops.back k.reach.bytes);
     }

@@ -96,6 +96,8 @@ pub record Refreshed {W : Type 0} (went : W → W → List ℕ → Type 0) (old 
   pub lawful : Lawful t (Fits t shown before.status before.belief) before.status
       (shown_mode before.status before.belief.mode) bytes g w
   pub fits : (s : State) → Fits t shown before.status before.belief s → Ends s bytes (Fits t g Known after.belief)
+  -- a front of them leads to a state that fits a lost session
+  pub cut : (front back : List ℕ) → bytes ≡ front ++ back → (s : State) → Fits t shown before.status before.belief s → Ends s front (IsLost t)
   pub known : after.status ≡ Known
   pub there : IsPlaced t.cols w.cursor after.belief.place
   pub mode : after.belief.mode ≡ Some w.mode
@@ -111,6 +113,8 @@ pub record CutShort {W : Type 0} (went : W → W → List ℕ → Type 0) (failu
   pub lawful : Lawful t (Fits t shown before.status before.belief) before.status
       (shown_mode before.status before.belief.mode) (front ++ back) g w
   pub fits : (s : State) → Fits t shown before.status before.belief s → Ends s front (IsLost t)
+  -- and so does a front of this front
+  pub cut : (x y : List ℕ) → front ≡ x ++ y → (s : State) → Fits t shown before.status before.belief s → Ends s x (IsLost t)
   pub lost : after.status ≡ Lost
   pub some_left : 0 < length back
 

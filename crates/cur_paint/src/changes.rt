@@ -1,6 +1,8 @@
 //! Which columns of a line may differ.
 ghost use Rattle.std.specs.Prelude.{◌≡◌, ◌≤◌, ℕ};
 
+use cur_scrolls::Scroll;
+
 /// Columns of a line: from one on, and before another.
 #[derive(Clone, Copy)]
 pub struct Columns {
@@ -22,6 +24,11 @@ pub trait Changes {
         ensures within { result.end ≤ cols }
         ensures same { (old new : ℕ → ℕ → Ink) → between self.now old new
             → IsSameOutside old new row result.from result.end cols };
+
+    /// How lines may have moved from the one screen to the other, if that is known. Nothing is promised of it.
+    fn scroll(&self) -> Option<Scroll> {
+        None
+    }
 }
 
 /// Any column may differ.

@@ -10,6 +10,7 @@ mod laws;
 mod parts;
 mod rows;
 mod screens;
+mod scrolls;
 mod spans;
 mod updates;
 

@@ -15,6 +15,7 @@ use crate::changes::{Changes, Whole};
 use crate::clears::{leaves_fewer, may_become_blanks, saves};
 use crate::cursors::paint;
 use crate::screens::Screens;
+use crate::scrolls::{scroll_first, useful_scroll};
 use cur_looks::{Belief, Blank, Brush, Ink, Mode, Picture, Place, Row};
 use cur_wires::{Wire, WireFault, send_all};
 use ti_conforms::Certificate;
@@ -176,7 +177,8 @@ fn is_better_cleared<C: Certificate, O: Picture, N: Picture, D: Changes>(
         && leaves_fewer(&blank, screens.old, screens.new, rows, cols, clear)
 }
 
-/// From a known state: mends what differs, or clears all and paints it, where that is likely to take fewer bytes.
+/// From a known state: mends what differs. Before that the terminal scrolls, where `changes` name a scroll that leaves
+/// fewer cells to be mended; or all is cleared and painted, where that is likely to take fewer bytes.
 fn mend<C: Certificate, O: Picture, N: Picture, D: Changes, W: Wire>(
     screens: &Screens<'_, C, O, N>,
     belief: &mut Belief,
@@ -193,6 +195,9 @@ fn mend<C: Certificate, O: Picture, N: Picture, D: Changes, W: Wire>(
     ensures step { Paints W.went W.failures wire.old wire.new result (scene C.table O.cells N.cells screens.now)
         wanted.cursor wanted.mode belief.old belief.new }
 {
+    if let Some(scroll) = useful_scroll(screens, changes) {
+        return scroll_first(screens, belief, wire, scroll, wanted);
+    }
     if is_better_cleared(screens, belief.brush.background, changes) {
         return clear_first(screens, belief, wire, wanted);
     }

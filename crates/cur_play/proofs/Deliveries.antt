@@ -1,5 +1,5 @@
 -- From what a call puts on the wire to what that does to the terminal.
-use Rattle.std.proofs.Common.{◌≡◌, ℕ, ◌+◌, ◌*◌, ◌<◌, ◌≤◌, ◌^◌, Bool, true, false, List, [], length, Option, Some, refl, sym, ap, subst, ◌∙◌, arith}
+use Rattle.std.proofs.Common.{◌≡◌, ℕ, ◌+◌, ◌*◌, ◌<◌, ◌≤◌, ◌^◌, Bool, true, false, List, [], ◌∷◌, ◌++◌, length, Option, Some, refl, sym, ap, subst, ◌∙◌, arith}
 use Rattle.std.proofs.Math.Nat.{le_refl}
 use Rattle.vt_term.specs.Screen.{State}
 use Rattle.vt_term.specs.Size.{IsSize}
@@ -9,8 +9,9 @@ use Rattle.cur_windows.specs.VirtualScreen.{Screen}
 use Rattle.cur_wires.specs.Wire.{IsWire}
 use Rattle.vt_term.specs.Ends.{Ends}
 use Rattle.ti_rows.specs.declared.rows.Row.TheVariants.{Bel}
-use Rattle.ti_conforms.specs.Certified.{Table, IsLost, IsSmall, cell_limit}
+use Rattle.ti_conforms.specs.Certified.{Table, IsChecked, IsLost, IsSmall, cell_limit}
 use Rattle.cur_looks.specs.Beliefs.{Agrees}
+use Rattle.cur_looks.proofs.Actions.{agrees_lost}
 use Rattle.cur_looks.specs.declared.beliefs.Belief.{Belief}
 use Rattle.cur_looks.specs.declared.beliefs.Mode.{Mode}
 use Rattle.cur_looks.specs.declared.beliefs.Place.{Place}
@@ -44,6 +45,22 @@ fits_open : (t : Table) (g : ℕ → ℕ → Ink) (status : Status) (b : Belief)
 fits_open t g Fresh b s f = f.lost.sized.state.rest
 fits_open t g Known b s f = f.ready.sized.state.rest
 fits_open t g Lost b s f = f.sized.state.rest
+
+pub fits_lost : (t : Table) → IsChecked t → (g : ℕ → ℕ → Ink) (status : Status) (b : Belief) (s : State) → Fits t g status b s → IsLost t s
+fits_lost t checked g Fresh b s f = f.lost
+fits_lost t checked g Known b s f = agrees_lost t checked g b s f
+fits_lost t checked g Lost b s f = f
+
+only_nothing : (front back : List ℕ) → [] ≡ front ++ back → front ≡ []
+only_nothing [] back e = refl
+only_nothing (x ∷ front) back e = absurd (cc)
+
+-- of nothing only nothing is a front
+cut_nothing : {C : Type 0} (t : Table) → IsChecked t → (partners : ℕ → Option ℕ) (before : Painted C) (front back : List ℕ) → [] ≡ front ++ back → (s : State) → FitsIn t partners before s → Ends s front (IsLost t)
+cut_nothing t checked partners before front back e s f =
+    let g = ink_at t partners before.shown in
+    subst (λ (l : List ℕ). Ends s l (IsLost t)) (sym (only_nothing front back e))
+    (record { after = s; runs = runs_nothing s (fits_open t g before.session.status before.session.belief s f); there = fits_lost t checked g before.session.status before.session.belief s f })
 
 -- nothing went out
 stays : {C : Type 0} (t : Table) (partners : ℕ → Option ℕ) (before after : Painted C) → after.session ≡ before.session → after.shown ≡ before.shown → (s : State) → FitsIn t partners before s → Ends s [] (FitsIn t partners after)
@@ -107,14 +124,15 @@ puts_as : {W C : Type 0} (went : W → W → List ℕ → Type 0) (failures : W 
     → x ≡ y → Puts went failures old new t partners v o answer x before after → Puts went failures old new t partners v o answer y before after
 puts_as {W} {C} went failures old new t partners v o answer x y before after e p = let P : List ℕ → Type 0 = λ b. Puts went failures old new t partners v o answer b before after in subst P e p
 
-quietly : {W C : Type 0} (went : W → W → List ℕ → Type 0) (failures : W → ℕ) → IsWire went failures → (old new : W) (t : Table) (partners : ℕ → Option ℕ) (v : Screen) (o : Emission) (answer : Answer) (bytes : List ℕ) (before after : Painted C)
+quietly : {W C : Type 0} (went : W → W → List ℕ → Type 0) (failures : W → ℕ) → IsWire went failures → (old new : W) (t : Table) → IsChecked t → (partners : ℕ → Option ℕ) (v : Screen) (o : Emission) (answer : Answer) (bytes : List ℕ) (before after : Painted C)
     → is_shown o answer ≡ false → ((last : Screen) → last_after o answer last v ≡ last) → IsQuiet old new bytes before after → Puts went failures old new t partners v o answer bytes before after
     → Carries went failures old new t partners v o answer before after
-quietly {W} went failures laws old new t partners v o answer bytes before after none same q puts = record {
+quietly {W} went failures laws old new t checked partners v o answer bytes before after none same q puts = record {
   bytes = [];
   sent = (let P : W → Type 0 = λ w. went old w [] in subst P (sym q.wire) (laws.nothing old));
   puts = puts_as went failures old new t partners v o answer bytes [] before after q.none puts;
   fits = stays t partners before after q.session q.shown;
+  cut = cut_nothing t checked partners before;
   shows = λ e. absurd (cc);
   last = λ last h. (let P : Screen → Type 0 = λ x. IsLast t partners after x in
       subst P (sym (same last)) (keeps_last t partners before after last (λ k. ap (λ (x : Knowledge). x.status) (sym q.session) ∙ k) q.shown h));
@@ -128,13 +146,14 @@ quietly {W} went failures laws old new t partners v o answer bytes before after 
 -- all went out, or a front of it, without showing the screen
 otherwise : {W C : Type 0} (went : W → W → List ℕ → Type 0) (failures : W → ℕ) (old new : W) (t : Table) (partners : ℕ → Option ℕ) (v : Screen) (o : Emission) (answer : Answer) (before after : Painted C) (bytes : List ℕ)
     → is_shown o answer ≡ false → ((last : Screen) → last_after o answer last v ≡ last) → (o ≡ Update → ⊥) → (o ≡ Nothing → ⊥)
-    → went old new bytes → ((s : State) → FitsIn t partners before s → Ends s bytes (FitsIn t partners after)) → (after.session.status ≡ Known → after.session ≡ before.session) → after.shown ≡ before.shown → length bytes < 2 ^ 60
+    → went old new bytes → ((s : State) → FitsIn t partners before s → Ends s bytes (FitsIn t partners after)) → ((front back : List ℕ) → bytes ≡ front ++ back → (s : State) → FitsIn t partners before s → Ends s front (IsLost t)) → (after.session.status ≡ Known → after.session ≡ before.session) → after.shown ≡ before.shown → length bytes < 2 ^ 60
     → Puts went failures old new t partners v o answer bytes before after → Carries went failures old new t partners v o answer before after
-otherwise went failures old new t partners v o answer before after bytes none same other some sent fits kept same_screen few puts = record {
+otherwise went failures old new t partners v o answer before after bytes none same other some sent fits cut kept same_screen few puts = record {
   bytes = bytes;
   sent = sent;
   puts = puts;
   fits = fits;
+  cut = cut;
   shows = λ e. absurd (cc);
   last = λ last h. (let P : Screen → Type 0 = λ x. IsLast t partners after x in subst P (sym (same last)) (keeps_last t partners before after last (λ k. ap (λ (x : Knowledge). x.status) (sym (kept k)) ∙ k) same_screen h));
   settled = λ m h. settled_on before after o answer m none kept h;
@@ -162,6 +181,7 @@ showed went failures old new t partners v bytes before after laws size small hig
       sent = r.sent;
       puts = puts_as went failures old new t partners v Update Done bytes r.bytes before after p.all p;
       fits = λ s f. refit t (ink_at t partners v) (ink_at t partners after.shown) Known after.session.status after.session.belief r.bytes s (ap (ink_at t partners) p.shown) r.known (r.fits s f);
+      cut = r.cut;
       shows = λ e s f. r.lawful.shows s f;
       last = λ last h k. ap (ink_at t partners) p.shown;
       settled = λ m h k. r.mode;
@@ -182,6 +202,7 @@ showed_short went failures old new t partners v bytes before after laws size sma
       sent = r.sent;
       puts = puts_as went failures old new t partners v Update WireFailed bytes r.front before after p.all p;
       fits = λ s f. refit t (ink_at t partners after.shown) (ink_at t partners after.shown) Lost after.session.status after.session.belief r.front s refl r.lost (r.fits s f);
+      cut = r.cut;
       shows = λ e. absurd (cc);
       last = λ last h k. absurd (lost_unknown after.session.status r.lost k);
       settled = λ m h k. absurd (lost_unknown after.session.status r.lost k);
@@ -201,34 +222,34 @@ same_session t partners before after bytes s e f x =
     let Q : Screen → Type 0 = λ d. Fits t (ink_at t partners d) before.session.status before.session.belief x.after in
     record { after = x.after; runs = x.runs; there = subst P (sym e) (subst Q (sym f) x.there) }
 
-pub carries : {W C : Type 0} (went : W → W → List ℕ → Type 0) (failures : W → ℕ) → IsWire went failures → IsBound → (old new : W) (t : Table) (partners : ℕ → Option ℕ) (v : Screen) (o : Emission) (answer : Answer) (bytes : List ℕ) (before after : Painted C) → IsSize t.rows t.cols → IsSmall t → v.rows ≡ t.rows → v.cols ≡ t.cols
+pub carries : {W C : Type 0} (went : W → W → List ℕ → Type 0) (failures : W → ℕ) → IsWire went failures → IsBound → (old new : W) (t : Table) (partners : ℕ → Option ℕ) (v : Screen) (o : Emission) (answer : Answer) (bytes : List ℕ) (before after : Painted C) → IsChecked t → v.rows ≡ t.rows → v.cols ≡ t.cols
     → Puts went failures old new t partners v o answer bytes before after → Carries went failures old new t partners v o answer before after
-carries went failures wire laws old new t partners v Nothing answer bytes before after size small high wide p = quietly went failures wire old new t partners v Nothing answer bytes before after refl (λ l. refl) p p
-carries went failures wire laws old new t partners v Update Done bytes before after size small high wide p = showed went failures old new t partners v bytes before after laws size small high wide p
-carries went failures wire laws old new t partners v Update WireFailed bytes before after size small high wide p = showed_short went failures old new t partners v bytes before after laws size small high wide p
-carries went failures wire laws old new t partners v Update (Was n) bytes before after size small high wide p = quietly went failures wire old new t partners v Update (Was n) bytes before after refl (λ l. refl) p p
-carries went failures wire laws old new t partners v Update (Refused r) bytes before after size small high wide p = quietly went failures wire old new t partners v Update (Refused r) bytes before after refl (λ l. refl) p p
-carries went failures wire laws old new t partners v Bell (Was n) bytes before after size small high wide p = quietly went failures wire old new t partners v Bell (Was n) bytes before after refl (λ l. refl) p p
-carries went failures wire laws old new t partners v Bell (Refused r) bytes before after size small high wide p = quietly went failures wire old new t partners v Bell (Refused r) bytes before after refl (λ l. refl) p p
-carries went failures wire laws old new t partners v End (Was n) bytes before after size small high wide p = quietly went failures wire old new t partners v End (Was n) bytes before after refl (λ l. refl) p p
-carries went failures wire laws old new t partners v End (Refused r) bytes before after size small high wide p = quietly went failures wire old new t partners v End (Refused r) bytes before after refl (λ l. refl) p p
-carries went failures wire laws old new t partners v Bell Done bytes before after size small high wide p =
+carries went failures wire laws old new t partners v Nothing answer bytes before after checked high wide p = quietly went failures wire old new t checked partners v Nothing answer bytes before after refl (λ l. refl) p p
+carries went failures wire laws old new t partners v Update Done bytes before after checked high wide p = showed went failures old new t partners v bytes before after laws checked.size checked.small high wide p
+carries went failures wire laws old new t partners v Update WireFailed bytes before after checked high wide p = showed_short went failures old new t partners v bytes before after laws checked.size checked.small high wide p
+carries went failures wire laws old new t partners v Update (Was n) bytes before after checked high wide p = quietly went failures wire old new t checked partners v Update (Was n) bytes before after refl (λ l. refl) p p
+carries went failures wire laws old new t partners v Update (Refused r) bytes before after checked high wide p = quietly went failures wire old new t checked partners v Update (Refused r) bytes before after refl (λ l. refl) p p
+carries went failures wire laws old new t partners v Bell (Was n) bytes before after checked high wide p = quietly went failures wire old new t checked partners v Bell (Was n) bytes before after refl (λ l. refl) p p
+carries went failures wire laws old new t partners v Bell (Refused r) bytes before after checked high wide p = quietly went failures wire old new t checked partners v Bell (Refused r) bytes before after refl (λ l. refl) p p
+carries went failures wire laws old new t partners v End (Was n) bytes before after checked high wide p = quietly went failures wire old new t checked partners v End (Was n) bytes before after refl (λ l. refl) p p
+carries went failures wire laws old new t partners v End (Refused r) bytes before after checked high wide p = quietly went failures wire old new t checked partners v End (Refused r) bytes before after refl (λ l. refl) p p
+carries went failures wire laws old new t partners v Bell Done bytes before after checked high wide p =
     let r = p.sends in
     otherwise went failures old new t partners v Bell Done before after r.line refl (λ l. refl) (λ e. cc) (λ e. cc) r.sent
-    (λ s f. same_session t partners before after r.line s r.same p.shown (r.fits (ink_at t partners before.shown) s f)) (λ k. r.same) p.shown (line_few t Bel r.line r.is small)
+    (λ s f. same_session t partners before after r.line s r.same p.shown (r.fits (ink_at t partners before.shown) s f)) (λ x y e. r.cut x y e (ink_at t partners before.shown)) (λ k. r.same) p.shown (line_few t Bel r.line r.is checked.small)
     (puts_as went failures old new t partners v Bell Done bytes r.line before after p.all p)
-carries went failures wire laws old new t partners v Bell WireFailed bytes before after size small high wide p =
+carries went failures wire laws old new t partners v Bell WireFailed bytes before after checked high wide p =
     let r = p.sends in
     otherwise went failures old new t partners v Bell WireFailed before after r.front refl (λ l. refl) (λ e. cc) (λ e. cc) r.sent
-    (λ s f. to_lost t partners after r.front s r.lost (r.fits (ink_at t partners before.shown) s f)) (λ k. absurd (lost_unknown after.session.status r.lost k)) p.shown (front_few r.line r.front r.back r.parts (line_few t Bel r.line r.is small))
+    (λ s f. to_lost t partners after r.front s r.lost (r.fits (ink_at t partners before.shown) s f)) (λ x y e. r.cut x y e (ink_at t partners before.shown)) (λ k. absurd (lost_unknown after.session.status r.lost k)) p.shown (front_few r.line r.front r.back r.parts (line_few t Bel r.line r.is checked.small))
     (puts_as went failures old new t partners v Bell WireFailed bytes r.front before after p.all p)
-carries went failures wire laws old new t partners v End Done bytes before after size small high wide p =
+carries went failures wire laws old new t partners v End Done bytes before after checked high wide p =
     let r = p.sends in
     otherwise went failures old new t partners v End Done before after (finish_text t before.session.status) refl (λ l. refl) (λ e. cc) (λ e. cc) r.sent
-    (λ s f. refit t (ink_at t partners after.shown) (ink_at t partners after.shown) Fresh after.session.status after.session.belief _ s refl r.fresh (r.fits (ink_at t partners before.shown) s f)) (λ k. absurd (fresh_unknown after.session.status r.fresh k)) p.shown (finish_few t before.session.status small)
+    (λ s f. refit t (ink_at t partners after.shown) (ink_at t partners after.shown) Fresh after.session.status after.session.belief _ s refl r.fresh (r.fits (ink_at t partners before.shown) s f)) (λ x y e. r.cut x y e (ink_at t partners before.shown)) (λ k. absurd (fresh_unknown after.session.status r.fresh k)) p.shown (finish_few t before.session.status checked.small)
     (puts_as went failures old new t partners v End Done bytes (finish_text t before.session.status) before after p.all p)
-carries went failures wire laws old new t partners v End WireFailed bytes before after size small high wide p =
+carries went failures wire laws old new t partners v End WireFailed bytes before after checked high wide p =
     let r = p.sends in
     otherwise went failures old new t partners v End WireFailed before after r.front refl (λ l. refl) (λ e. cc) (λ e. cc) r.sent
-    (λ s f. to_lost t partners after r.front s r.lost (r.fits (ink_at t partners before.shown) s f)) (λ k. absurd (lost_unknown after.session.status r.lost k)) p.shown (front_few (finish_text t before.session.status) r.front r.back r.parts (finish_few t before.session.status small))
+    (λ s f. to_lost t partners after r.front s r.lost (r.fits (ink_at t partners before.shown) s f)) (λ x y e. r.cut x y e (ink_at t partners before.shown)) (λ k. absurd (lost_unknown after.session.status r.lost k)) p.shown (front_few (finish_text t before.session.status) r.front r.back r.parts (finish_few t before.session.status checked.small))
     (puts_as went failures old new t partners v End WireFailed bytes r.front before after p.all p)

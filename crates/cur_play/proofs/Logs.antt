@@ -14,7 +14,7 @@ use Rattle.cur_wires.specs.Counted.{Counts, counts_joins}
 use Rattle.vt_term.specs.Ends.{Ends}
 use Rattle.cur_wires.proofs.Leads.{ends_then}
 use Rattle.ti_conforms.specs.Certified.{Table, IsChecked, IsLost}
-use Rattle.cur_looks.proofs.Actions.{agrees_lost}
+use Rattle.cur_play.proofs.Deliveries.{fits_lost}
 use Rattle.cur_looks.specs.declared.beliefs.Belief.{Belief}
 use Rattle.cur_looks.specs.declared.inks.Ink.{Ink}
 use Rattle.cur_looks.specs.declared.beliefs.Mode.{Mode}
@@ -141,10 +141,6 @@ settled_same End answer p last_mode d a e h = h
 
 -- ---- one call more
 
-fits_lost : (t : Table) → IsChecked t → (g : ℕ → ℕ → Ink) (status : Status) (b : Belief) (s : State) → Fits t g status b s → IsLost t s
-fits_lost t checked g Fresh b s f = f.lost
-fits_lost t checked g Known b s f = agrees_lost t checked g b s f
-fits_lost t checked g Lost b s f = f
 
 empty_list : {X : Type 0} (xs : List X) → length xs ≡ 0 → xs ≡ []
 empty_list [] e = refl

@@ -181,7 +181,7 @@ carried : {W C : Type 0} (went : W → W → List ℕ → Type 0) (failures : W 
     → Carries went failures old new t partners (drawn t (scene_of p) call).0.screen (output_of call) a (poised t p call) r
 carried went failures laws bound old new t partners p call a bytes r checked rows cols h =
     let k = drawn_sizes t (scene_of p) call in
-    carries went failures laws bound old new t partners (drawn t (scene_of p) call).0.screen (output_of call) a bytes (poised t p call) r checked.size checked.small (k.rows ∙ rows) (k.cols ∙ cols) h
+    carries went failures laws bound old new t partners (drawn t (scene_of p) call).0.screen (output_of call) a bytes (poised t p call) r checked (k.rows ∙ rows) (k.cols ∙ cols) h
 
 pub played_done : {W C : Type 0} (went : W → W → List ℕ → Type 0) (failures : W → ℕ) → IsWire went failures → IsBound → (old new : W) (table : C → Table) (partners : C → ℕ → Option ℕ) (d : State) (v : Screen) (p : Painted C) (call : Call)
     (mid_desk : State) (mid_screen : Screen) (q : Painted C) (drawn_answer : Answer) (a : Answer) (o : Emission) (bytes : List ℕ) (w : Screen) (r : Painted C)

@@ -1,9 +1,9 @@
 -- What a call's bytes do to the terminal, whatever of its states it is in, and how many they are.
-use Rattle.std.specs.Prelude.{ℕ, ◌<◌, ◌≤◌, ◌^◌, ◌≡◌, true, false, List, length, Option, Some}
+use Rattle.std.specs.Prelude.{ℕ, ◌<◌, ◌≤◌, ◌^◌, ◌≡◌, true, false, List, ◌++◌, length, Option, Some}
 use Rattle.vt_term.specs.Screen.{State}
 use Rattle.cur_windows.specs.VirtualScreen.{Screen}
 use Rattle.vt_term.specs.Ends.{Ends}
-use Rattle.ti_conforms.specs.Certified.{Table}
+use Rattle.ti_conforms.specs.Certified.{Table, IsLost}
 use Rattle.cur_looks.specs.declared.beliefs.Mode.{Mode}
 use Rattle.cur_paint.specs.Limits.{IsCursor}
 use Rattle.cur_paint.specs.Update.{Fits, Shows}
@@ -47,6 +47,8 @@ pub record Carries {W C : Type 0} (went : W → W → List ℕ → Type 0) (fail
   pub puts : Puts went failures old new t partners v o answer bytes before after
   -- every state that fits before, run over the bytes, fits after
   pub fits : (s : State) → FitsIn t partners before s → Ends s bytes (FitsIn t partners after)
+  -- run over a front of the bytes, it is one that fits a lost session
+  pub cut : (front back : List ℕ) → bytes ≡ front ++ back → (s : State) → FitsIn t partners before s → Ends s front (IsLost t)
   -- and after a refresh that was done it shows the virtual screen
   pub shows : is_shown o answer ≡ true → (s : State) → FitsIn t partners before s → Ends s bytes (Shows t (ink_at t partners v) (wanted_of v before.mode))
   pub last : (last : Screen) → IsLast t partners before last → IsLast t partners after (last_after o answer last v)

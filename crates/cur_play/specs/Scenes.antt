@@ -7,7 +7,7 @@ use Rattle.ti_conforms.specs.Certified.{Table}
 use Rattle.cur_looks.specs.declared.beliefs.Mode.{Mode}
 use Rattle.cur_looks.specs.declared.beliefs.Mode.TheVariants.{Normal}
 use Rattle.cur_paint.specs.declared.updates.Status.{Status}
-use Rattle.cur_paint.specs.declared.updates.Status.TheVariants.{Fresh}
+use Rattle.cur_paint.specs.declared.updates.Status.TheVariants.{Fresh, Lost}
 use Rattle.cur_update.specs.Painters.{Painted}
 
 -- what the calls are about
@@ -40,3 +40,7 @@ pub record IsStage (t : Table) (d : State) (v : Screen) : Type 0 where
   pub cols : v.cols ≡ t.cols
   pub desk_rows : d.rows ≡ t.rows
   pub desk_cols : d.cols ≡ t.cols
+
+-- nothing is known of the terminal any more
+abbrev pub lost_stage : {C : Type 0} → Stage C → Stage C
+lost_stage p = record p { painter = record p.painter { session = record p.painter.session { status = Lost } } }

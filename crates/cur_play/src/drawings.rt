@@ -16,7 +16,7 @@ use ti_conforms::Certificate;
 pub(crate) fn draw<C: Certificate>(
     desk: &mut Desk,
     screen: &mut Virtual,
-    painter: &mut Painter<'_, C>,
+    painter: &mut Painter<C>,
     call: &Call<'_>,
 ) -> Answer
     requires rows { (screen.old).rows ≡ (desk.old).rows }
@@ -42,7 +42,7 @@ pub(crate) fn draw<C: Certificate>(
 fn show<C: Certificate>(
     desk: &mut Desk,
     screen: &mut Virtual,
-    painter: &mut Painter<'_, C>,
+    painter: &mut Painter<C>,
     call: &Call<'_>,
 ) -> Answer
     requires rows { (screen.old).rows ≡ (desk.old).rows }

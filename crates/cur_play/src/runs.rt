@@ -32,13 +32,13 @@ pub struct Log {
 /// that where the wire failed in it; the terminal takes all of it; and each refresh that was done has made a terminal
 /// in its first state show the virtual screen, fed with the first bytes of the run, as many as its entry tells. An
 /// error where there was no memory for the session or the log; then nothing was sent.
-pub fn run<C: Certificate, W: Wire>(
+pub fn run<C: Certificate + Drop, W: Wire>(
     alloc: Global,
-    checked: &C,
+    checked: C,
     calls: &[Call<'_>],
     wire: &mut W,
 ) -> Result<Log, AllocError>
-    ensures ran { IfOk result (λ log. Ran (subject_of W.went W.failures (C.table checked.now) (C.partners checked.now)) wire.old wire.new calls.now log.entries.items) }
+    ensures ran { IfOk result (λ log. Ran (subject_of W.went W.failures (C.table checked) (C.partners checked)) wire.old wire.new calls.now log.entries.items) }
     ensures refused { OnErr result (wire.new ≡ wire.old) }
 {
     let mut direct = Direct { wire };
@@ -46,13 +46,13 @@ pub fn run<C: Certificate, W: Wire>(
 }
 
 /// A run on a wire behind a reference.
-fn run_direct<C: Certificate, W: Wire>(
+fn run_direct<C: Certificate + Drop, W: Wire>(
     alloc: Global,
-    checked: &C,
+    checked: C,
     calls: &[Call<'_>],
     direct: &mut Direct<'_, W>,
 ) -> Result<Log, AllocError>
-    ensures ran { IfOk result (λ log. Ran (subject_of W.went W.failures (C.table checked.now) (C.partners checked.now)) direct.old.wire.now direct.new.wire.now calls.now log.entries.items) }
+    ensures ran { IfOk result (λ log. Ran (subject_of W.went W.failures (C.table checked) (C.partners checked)) direct.old.wire.now direct.new.wire.now calls.now log.entries.items) }
     ensures refused { OnErr result (direct.new.wire.now ≡ direct.old.wire.now) }
     ensures same { direct.new.wire.ghost_name ≡ direct.old.wire.ghost_name }
 {
@@ -61,13 +61,13 @@ fn run_direct<C: Certificate, W: Wire>(
 
 /// The same as `run`, on a wire that may hold back what it took: what a call has sent is passed on before the next
 /// call, and after the last one.
-pub fn run_paced<C: Certificate, W: Paced>(
+pub fn run_paced<C: Certificate + Drop, W: Paced>(
     alloc: Global,
-    checked: &C,
+    checked: C,
     calls: &[Call<'_>],
     wire: &mut W,
 ) -> Result<Log, AllocError>
-    ensures ran { IfOk result (λ log. Ran (subject_of W.went W.failures (C.table checked.now) (C.partners checked.now)) wire.old wire.new calls.now log.entries.items) }
+    ensures ran { IfOk result (λ log. Ran (subject_of W.went W.failures (C.table checked) (C.partners checked)) wire.old wire.new calls.now log.entries.items) }
     ensures refused { OnErr result (wire.new ≡ wire.old) }
 {
     let entries = Vec::with_capacity(alloc, calls.len())?;
@@ -79,8 +79,8 @@ pub fn run_paced<C: Certificate, W: Paced>(
 }
 
 /// Plays the calls, with an entry for each. What each has sent is passed on before the next one.
-fn play_all<C: Certificate, W: Paced>(
-    session: Session<'_, C>,
+fn play_all<C: Certificate + Drop, W: Paced>(
+    session: Session<C>,
     calls: &[Call<'_>],
     log: Vec<LogEntry>,
     wire: &mut Counted<'_, W>,
@@ -90,7 +90,7 @@ fn play_all<C: Certificate, W: Paced>(
     requires empty { log.items ≡ [] }
     requires len { vec_len log ≡ 0 }
     requires none { wire.old.sent ≡ 0 }
-    ensures ran { RanOn (subject_of W.went W.failures (C.table session.entry.painter.checked) (C.partners session.entry.painter.checked)) wire.old.wire wire.new.wire calls.now result.items }
+    ensures ran { RanOn (subject_of W.went W.failures (C.table session.painter.checked) (C.partners session.painter.checked)) wire.old.wire wire.new.wire calls.now result.items }
 {
     let mut session = session;
     let mut log = log;

@@ -47,7 +47,7 @@ pub(crate) fn output_of(call: &Call<'_>) -> Emission
 /// Sends it.
 pub(crate) fn send<C: Certificate, W: Wire>(
     screen: &mut Virtual,
-    painter: &mut Painter<'_, C>,
+    painter: &mut Painter<C>,
     output: Emission,
     wire: &mut W,
 ) -> Answer
@@ -69,7 +69,7 @@ pub(crate) fn send<C: Certificate, W: Wire>(
 /// Makes the terminal show the virtual screen.
 fn update<C: Certificate, W: Wire>(
     screen: &mut Virtual,
-    painter: &mut Painter<'_, C>,
+    painter: &mut Painter<C>,
     wire: &mut W,
 ) -> Answer
     requires rows { (screen.old).rows ≡ (C.table painter.old.checked).rows }
@@ -89,7 +89,7 @@ fn update<C: Certificate, W: Wire>(
 }
 
 /// Rings the bell.
-fn ring<C: Certificate, W: Wire>(painter: &mut Painter<'_, C>, wire: &mut W) -> Answer
+fn ring<C: Certificate, W: Wire>(painter: &mut Painter<C>, wire: &mut W) -> Answer
     ensures delivers { (screen : Screen) → Delivers (C.table painter.old.checked) Emission.Bell screen painter.old.session.status result screen painter.new.session.status }
     ensures puts { (screen : Screen) → (bytes : List ℕ) × Puts W.went W.failures wire.old wire.new (C.table painter.old.checked) (C.partners painter.old.checked) screen Emission.Bell result bytes painter.old painter.new }
     ensures certificate { painter.new.checked ≡ painter.old.checked }
@@ -103,7 +103,7 @@ fn ring<C: Certificate, W: Wire>(painter: &mut Painter<'_, C>, wire: &mut W) -> 
 }
 
 /// Ends the program's screen.
-fn finish<C: Certificate, W: Wire>(painter: &mut Painter<'_, C>, wire: &mut W) -> Answer
+fn finish<C: Certificate, W: Wire>(painter: &mut Painter<C>, wire: &mut W) -> Answer
     ensures delivers { (screen : Screen) → Delivers (C.table painter.old.checked) Emission.End screen painter.old.session.status result screen painter.new.session.status }
     ensures puts { (screen : Screen) → (bytes : List ℕ) × Puts W.went W.failures wire.old wire.new (C.table painter.old.checked) (C.partners painter.old.checked) screen Emission.End result bytes painter.old painter.new }
     ensures certificate { painter.new.checked ≡ painter.old.checked }

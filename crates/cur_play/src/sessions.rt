@@ -4,7 +4,7 @@ ghost use Rattle.ti_conforms.specs.Certified.{IsChecked};
 ghost use Rattle.cur_play.specs.Deliveries.{Carries};
 ghost use Rattle.cur_play.specs.Drawings.{SameSizes};
 ghost use Rattle.cur_play.specs.Outputs.{poised};
-ghost use Rattle.cur_play.specs.Scenes.{IsStage, first, scene_of, stage_of};
+ghost use Rattle.cur_play.specs.Scenes.{IsStage, first, lost_stage, scene_of, stage_of};
 ghost use Rattle.cur_play.specs.Steps.{CallStep, drawn, output_of};
 
 use crate::answers::Answer;
@@ -19,13 +19,13 @@ use ti_conforms::Certificate;
 
 /// A session on the terminal of a verified certificate.
 #[derive(Drop)]
-pub struct Session<'a, C: Certificate> {
+pub struct Session<C: Certificate> {
     desk: Desk,
     screen: Virtual,
-    painter: Painter<'a, C>,
+    painter: Painter<C>,
 }
 
-impl<'a, C: Certificate> Model for Session<'a, C> {
+impl<C: Certificate> Model for Session<C> {
     ghost use Rattle.ti_conforms.specs.Certified.{IsChecked};
     ghost use Rattle.cur_play.specs.Scenes.{Stage, IsStage};
 
@@ -36,11 +36,13 @@ impl<'a, C: Certificate> Model for Session<'a, C> {
     ghost invariant = { λ s. IsStage (C.table s.painter.checked) s.desk s.screen × IsChecked (C.table s.painter.checked) };
 }
 
-impl<'a, C: Certificate> Session<'a, C> {
+impl<C: Certificate> Session<C> {
     /// A session that has sent nothing: window 0 and the virtual screen are blank. An error where a growth was refused.
-    pub fn open(alloc: Global, checked: &'a C) -> Result<Session<'a, C>, AllocError>
-        ensures scene { IfOk result (λ s. scene_of s ≡ first (C.table checked.now)) }
-        ensures certificate { IfOk result (λ s. s.painter.checked ≡ checked.now) }
+    pub fn open(alloc: Global, checked: C) -> Result<Session<C>, AllocError>
+    where
+        C: Drop,
+        ensures scene { IfOk result (λ s. scene_of s ≡ first (C.table checked)) }
+        ensures certificate { IfOk result (λ s. s.painter.checked ≡ checked) }
     {
         let size = Size::new(checked.rows(), checked.cols()).unwrap();
         let desk = Desk::new(alloc, size)?;
@@ -51,6 +53,21 @@ impl<'a, C: Certificate> Session<'a, C> {
             screen,
             painter,
         })
+    }
+
+    /// Forgets what is known of the terminal, for where not all that was sent got there: the session is lost, and the
+    /// next refresh begins anew. Nothing is sent.
+    pub fn lose(&mut self)
+        ensures { self.new ≡ lost_stage self.old }
+    {
+        self.painter.lose();
+    }
+
+    /// The windows.
+    pub fn desk(&self) -> &Desk
+        ensures { result.now ≡ self.now.desk }
+    {
+        &self.desk
     }
 
     /// Does a call. `newwin`, `newpad` and `dupwin` take memory, and are refused with `NoMemory` where there is none; all
@@ -78,7 +95,7 @@ impl<'a, C: Certificate> Session<'a, C> {
 fn play<C: Certificate, W: Wire>(
     desk: &mut Desk,
     screen: &mut Virtual,
-    painter: &mut Painter<'_, C>,
+    painter: &mut Painter<C>,
     call: &Call<'_>,
     wire: &mut W,
 ) -> Answer

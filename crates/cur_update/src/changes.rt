@@ -5,7 +5,8 @@ ghost use Rattle.cur_windows.specs.VirtualScreen.{colors_at};
 
 use cur_drawing::{Cell, PAIRS, first_diff, last_diff};
 use cur_paint::{Changes, Columns};
-use cur_windows::Virtual;
+use cur_scrolls::Scroll;
+use cur_windows::{Hint, Virtual};
 use ti_conforms::Certificate;
 
 /// The screen that was shown last, and the one to be shown.
@@ -38,6 +39,25 @@ impl<'a, C: Certificate> Changes for Shift<'a, C> {
         }
         changed_columns(self.shown.row(row as u16), self.screen.row(row as u16))
     }
+
+    fn scroll(&self) -> Option<Scroll> {
+        scroll_of(self.screen.hint()?)
+    }
+}
+
+/// The scroll that `hint` names, if it names one: by as many lines as the region has at most.
+fn scroll_of(hint: Hint) -> Option<Scroll> {
+    let lines = u32::from(hint.bottom.saturating_sub(hint.top).saturating_add(1));
+    let count = hint.up.unsigned_abs().min(lines) as u16;
+    if count == 0 {
+        return None;
+    }
+    Some(Scroll {
+        top: hint.top,
+        bottom: hint.bottom,
+        count,
+        up: hint.up > 0,
+    })
 }
 
 /// The columns in which two lines of one length may differ: none where they are equal.

@@ -1,7 +1,7 @@
 //! A painter, which makes a terminal show the virtual screen.
 ghost use Rattle.std.specs.Prelude.{◌≡◌, IfOk, OnOk, OnErr};
 ghost use Rattle.cur_looks.specs.declared.beliefs.Mode.TheVariants.{Normal};
-ghost use Rattle.cur_paint.specs.declared.updates.Status.TheVariants.{Fresh};
+ghost use Rattle.cur_paint.specs.declared.updates.Status.TheVariants.{Fresh, Lost};
 ghost use Rattle.cur_paint.specs.Finish.{Finishes};
 ghost use Rattle.cur_paint.specs.Update.{Refreshes};
 ghost use Rattle.cur_windows.specs.VirtualScreen.{new_screen};
@@ -15,7 +15,7 @@ use crate::inks::{has_line, means_of};
 use crate::screens::{PrintedScreen, all_cells};
 use cur_drawing::{Refusal, place_below};
 use cur_looks::{Mode, Place, Row};
-use cur_paint::{Knowledge, Screens, Wanted};
+use cur_paint::{Knowledge, Screens, Status, Wanted};
 use cur_windows::{Size, Virtual};
 use cur_wires::{Wire, WireFault};
 use std::alloc::{AllocError, Global};
@@ -24,31 +24,33 @@ use ti_conforms::Certificate;
 
 /// A painter for the terminal of a verified certificate: what that shows, and what is known of it.
 #[derive(Drop)]
-pub struct Painter<'a, C: Certificate> {
-    checked: &'a C,
+pub struct Painter<C: Certificate> {
+    checked: C,
     shown: Virtual,
     session: Knowledge,
     mode: Mode,
 }
 
-impl<'a, C: Certificate> Model for Painter<'a, C> {
+impl<C: Certificate> Model for Painter<C> {
     ghost use Rattle.cur_update.specs.Painters.{Painted, IsPainter};
 
     ghost Value = { Painted C };
 
-    ghost view = { λ p. record { checked = p.checked.now; shown = p.shown; session = p.session; mode = p.mode } };
+    ghost view = { λ p. record { checked = p.checked; shown = p.shown; session = p.session; mode = p.mode } };
 
-    ghost invariant = { λ p. IsPainter (C.table p.checked.now) p.shown p.mode };
+    ghost invariant = { λ p. IsPainter (C.table p.checked) p.shown p.mode };
 }
 
-impl<'a, C: Certificate> Painter<'a, C> {
+impl<C: Certificate> Painter<C> {
     /// A painter of a fresh session: nothing was sent, the screen is blank, and the cursor's mode is 1. An
     /// error where a growth was refused.
-    pub fn start(alloc: Global, checked: &'a C) -> Result<Painter<'a, C>, AllocError>
-        ensures certificate { IfOk result (λ p. p.checked ≡ checked.now) }
+    pub fn start(alloc: Global, checked: C) -> Result<Painter<C>, AllocError>
+    where
+        C: Drop,
+        ensures certificate { IfOk result (λ p. p.checked ≡ checked) }
         ensures fresh { IfOk result (λ p. p.session.status ≡ Fresh) }
         ensures shown { IfOk result
-            (λ p. p.shown ≡ new_screen (C.table checked.now).rows (C.table checked.now).cols) }
+            (λ p. p.shown ≡ new_screen (C.table checked).rows (C.table checked).cols) }
         ensures mode { IfOk result (λ p. p.mode ≡ Normal) }
     {
         let size = Size::new(checked.rows(), checked.cols()).unwrap();
@@ -78,7 +80,7 @@ impl<'a, C: Certificate> Painter<'a, C> {
     {
         let wanted = wanted_of(screen, self.mode);
         refresh(
-            self.checked,
+            &self.checked,
             &mut self.shown,
             &mut self.session,
             wire,
@@ -98,7 +100,7 @@ impl<'a, C: Certificate> Painter<'a, C> {
         let Some(n) = place_below(n, 3) else {
             return Err(Refusal::BadRegion);
         };
-        if !(has_line(self.checked, Row::Civis) && has_line(self.checked, Row::Cnorm)) {
+        if !(has_line(&self.checked, Row::Civis) && has_line(&self.checked, Row::Cnorm)) {
             return Err(Refusal::NoCap);
         }
         let before = mode_number(self.mode);
@@ -114,7 +116,15 @@ impl<'a, C: Certificate> Painter<'a, C> {
             self.old.session self.new.session }
         ensures others { self.new ≡ record self.old { session = self.new.session } }
     {
-        cur_paint::finish(self.checked, &mut self.session, wire)
+        cur_paint::finish(&self.checked, &mut self.session, wire)
+    }
+
+    /// Forgets what is known of the terminal, for where not all that was sent got there: the session is lost, and the
+    /// next refresh begins anew. Nothing is sent.
+    pub fn lose(&mut self)
+        ensures { self.new ≡ record self.old { session = record self.old.session { status = Lost } } }
+    {
+        self.session.status = Status::Lost;
     }
 
     /// Rings the bell: sends just `bel`. Refused with `NoCap` where the entry has no `bel`, then with
@@ -125,7 +135,7 @@ impl<'a, C: Certificate> Painter<'a, C> {
             self.old.session self.new.session }
         ensures others { self.new ≡ record self.old { session = self.new.session } }
     {
-        ring(self.checked, &mut self.session, wire)
+        ring(&self.checked, &mut self.session, wire)
     }
 }
 

@@ -281,7 +281,8 @@ impl Desk {
         self.border(id, &Border::sides(vertical, horizontal))
     }
 
-    /// Changes nothing: a refresh doesn't use the terminal's own insertion and deletion of lines.
+    /// Changes nothing: a refresh scrolls by the terminal's own strings wherever that takes fewer bytes, and doesn't use
+    /// its insertion and deletion of lines.
     pub fn idlok(&self, id: usize, _on: bool) -> Result<(), Refusal>
         ensures { spec.step self.now result ≡ spec.unchanged self.now id }
     {

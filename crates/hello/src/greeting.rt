@@ -12,12 +12,12 @@ use std::alloc::Global;
 const GREETING: usize = 1;
 
 /// Shows the greeting on a terminal to which nothing was sent, and hands out the painter that knows what it shows.
-pub fn greet<'a, C: Certificate, W: Wire>(
+pub fn greet<C: Certificate + Drop, W: Wire>(
     alloc: Global,
-    checked: &'a C,
+    checked: C,
     wire: &mut W,
-) -> Result<Painter<'a, C>>
-    ensures shown { OnOk result (Greets W.went wire.old wire.new (C.table checked.now) (C.partners checked.now)) }
+) -> Result<Painter<C>>
+    ensures shown { OnOk result (Greets W.went wire.old wire.new (C.table checked) (C.partners checked)) }
 {
     let size = Size::new(checked.rows(), checked.cols()).unwrap();
     let screen = greeting_screen(alloc, size)?;

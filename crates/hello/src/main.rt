@@ -17,7 +17,7 @@ fn main(rt: HostRuntime) -> Result<()> {
     let words: Vec<String> = env::args(&rt)?.skip(1).collect(rt.alloc())?;
     let checked = checked_by(&rt, words.as_slice())?;
     let mut wire = Console::new(BufWriter::new(rt.alloc(), rt.stdout())?);
-    let mut painter = greet(rt.alloc(), &checked, &mut wire)?;
+    let mut painter = greet(rt.alloc(), checked, &mut wire)?;
     wire.flush()?;
     rt.read_line(&mut String::new(rt.alloc()))?;
     painter.finish(&mut wire)?;

@@ -36,7 +36,8 @@ use Rattle.ti_cert.specs.Clashes.{IsClash, GoesTogether, kind_of}
 use Rattle.ti_cert.specs.declared.clashes.Clash.{Clash}
 use Rattle.ti_cert.specs.declared.faults.CertFaultKind.{CertFaultKind}
 use Rattle.ti_cert.specs.Seen.{LeadsAs, AreSeen, ChangesBy, NoLine, ByLine, IsFound, parts_of, Leads, AreSettled, NoneClashes}
-use Rattle.ti_cert.specs.Table.{checked_of, first_or, first_of_resync, Changes, NoString, OfString}
+use Rattle.ti_cert.specs.Table.{checked_of, head_of, first_of_resync, Changes, NoString, OfString}
+use Rattle.ti_conforms.proofs.Sendable.{in_order}
 use Rattle.ti_cert.specs.declared.clashes.Resync.{Resync}
 use Rattle.ti_cert.proofs.Together as clashing
 use Rattle.ti_cert.proofs.GroupFacts.{there_some}
@@ -91,25 +92,9 @@ same_change s row _ bytes tokens effect there whole recorded (OfString b t ts w 
     let effects : e ≡ effect = same_Some e effect (sym r ∙ (ap (λ (x : List (List ℕ)). record_of s.rows s.cols (start_of s.rows s.cols row) x) tokens_same.0 ∙ recorded)) in
     ap (λ (x : Effect). Some x.charset) effects
 
-abbrev pub head_of : List ℕ → Option ℕ
-head_of [] = None
-head_of (b ∷ bytes) = Some b
-
-first_head : (o : Option (List ℕ)) (xs : List ℕ) (next : Option ℕ) → next ≡ head_of xs → first_or o next ≡ head_of (or_nothing o ++ xs)
-first_head None xs next h = h
-first_head (Some []) xs next h = h
-first_head (Some (b ∷ bytes)) xs next h = refl
-
 tail_of : (xs : List ℕ) (b : ℕ) → head_of xs ≡ Some b → (rest : List ℕ) × (xs ≡ b ∷ rest)
 tail_of [] b h = absurd (none-some b h)
 tail_of (x ∷ xs) b h = (xs, ap (λ (y : ℕ). y ∷ xs) (same_Some x b h))
-
-join_six : (a b c d e f : List ℕ) → a ++ (b ++ (c ++ (d ++ (e ++ (f ++ []))))) ≡ ((a ++ b) ++ (c ++ d)) ++ (e ++ f)
-join_six a b c d e f =
-    ap (λ (x : List ℕ). a ++ (b ++ (c ++ (d ++ (e ++ x))))) (append-nil f)
-    ∙ (ap (λ (x : List ℕ). a ++ (b ++ x)) (sym (append_assoc c d (e ++ f)))
-    ∙ (sym (append_assoc a b ((c ++ d) ++ (e ++ f)))
-    ∙ sym (append_assoc (a ++ b) (c ++ d) (e ++ f))))
 
 leads_by : (settled : Charsets) (o : Option Sets) (graphic : Bool) (x : Sets) → Leads settled o graphic → o ≡ Some x → (c : Charset) → closing.has settled c ≡ true → is_graphic (designated x c) ≡ graphic
 leads_by settled None graphic x h e = cc
@@ -162,17 +147,8 @@ active k settled smacs rmacs s r g q Smcup bytes tokens effect there whole recor
 active k settled smacs rmacs s r g q Rmcup bytes tokens effect there whole recorded ch h = tt
 active k settled smacs rmacs s r g q Bel bytes tokens effect there whole recorded ch h = tt
 
--- a resynchronization begins with the first byte of the first string that has one
 pub resync_head : (k : Known) (settled : Charsets) → first_of_resync k.strings ≡ head_of (resync (checked_of k settled))
-unfolding resync_of
-resync_head k settled = heads ∙ ap (λ (xs : List ℕ). head_of xs) (join_six (part_of Smcup) (part_of Enacs) (part_of Sgr0) (part_of Rmacs) (part_of (Csr 0 (k.strings.rows - 1))) (part_of Clear))
-  where
-    part_of : Row → List ℕ
-    part_of row = or_nothing (string_in k.strings row)
-
-    heads : first_of_resync k.strings ≡ head_of (part_of Smcup ++ (part_of Enacs ++ (part_of Sgr0 ++ (part_of Rmacs ++ (part_of (Csr 0 (k.strings.rows - 1)) ++ (part_of Clear ++ []))))))
-    heads = first_head (string_in k.strings Smcup) _ _ (first_head (string_in k.strings Enacs) _ _ (first_head (string_in k.strings Sgr0) _ _ (first_head (string_in k.strings Rmacs) _ _
-        (first_head (string_in k.strings (Csr 0 (k.strings.rows - 1))) _ _ (first_head (string_in k.strings Clear) [] None refl)))))
+resync_head k settled = ap (λ (xs : List ℕ). head_of xs) (sym (in_order (checked_of k settled)))
 
 pub resync_begins : (k : Known) (settled : Charsets) → first_of_resync k.strings ≡ Some 27 → (rest : List ℕ) × (resync (checked_of k settled) ≡ 27 ∷ rest)
 resync_begins k settled escape = tail_of (resync (checked_of k settled)) 27 (sym (resync_head k settled) ∙ escape)

@@ -5,7 +5,7 @@ use Rattle.ti_lines.specs.Text.{cut_of}
 use Rattle.ti_lines.specs.Reader.{Rose, AtEnd}
 use Rattle.ti_lines.proofs.Gaves.{gave_nothing}
 use Rattle.ti_conforms.specs.Table.{Table}
-use Rattle.ti_lines.specs.Judgements.{fault_at, AtLine, Passes, Fails, TooLong, JudgedLine, JudgedLines, JudgedFrom, Judged, GivesOr, Outcome, Whole, Early, Cuts, Reports}
+use Rattle.ti_lines.specs.Judgements.{fault_at, AtLine, Passes, Fails, TooLong, JudgedLine, JudgedLines, JudgedFrom, Judged, LastCall, GivesOr, Outcome, Whole, Early, Cuts, Reports}
 use Rattle.ti_lines.specs.declared.judgements.LineFault.{LineFault}
 use Rattle.ti_cert.specs.Clashes.{kind_of}
 use Rattle.ti_cert.specs.declared.clashes.Clash.{Clash}
@@ -247,38 +247,42 @@ no_memory_read k e f = cc
 same_answer : (e f : LineFault CertFaultKind) (a : Result (Unit {0}) (LineFault CertFaultKind)) → a ≡ Err e → a ≡ Err f → e ≡ f
 same_answer e f a p q = cc
 
-abbrev LineFails : Result (Unit {0}) (LineFault CertFaultKind) → ℕ → Type 0
-LineFails answer number = IfErr answer (λ fault. fault.kind ≡ ReadFailed → fault.line ≡ number)
+abbrev AtLineRead : Result (Unit {0}) (LineFault CertFaultKind) → List ℕ → Type 0
+AtLineRead answer given = IfErr answer (λ fault. IsLineRead given (record { line = fault.line; kind = fault.kind }))
 
 -- what was taken from a reader, and where it failed
 takes : {R : Type 0} (p q : Progress) (rows cols : ℕ) (left : R → List ℕ → Type 0) (failures : R → ℕ) (reader after : R) (answer : Result (Unit {0}) (LineFault CertFaultKind)) → Starts rows cols p
-    → Reports progress_rules limit p q left failures reader after answer → Takes left failures reader after (LineFails answer)
-takes {R} p q rows cols left failures reader after answer s r = record { given = r.given; gave = r.gave; few = r.few; reading = by_answer answer r.outcome }
+    → Reports progress_rules limit p q left failures reader after answer → Takes left failures reader after (AtLineRead answer)
+takes {R} p q rows cols left failures reader after answer s r = record { given = r.given; gave = r.gave; few = r.few; reading = by_answer answer r.outcome r.last }
   where
     of_text : (text : List ℕ) (e : LineFault CertFaultKind) → Judged progress_rules limit p text (Err e) ⊎ (e.kind ≡ NoMemory) → e.kind ≡ ReadFailed → ⊥
     of_text text e (inl h) k = text_unread rows cols text e (text_related p rows cols text (Err e) s h) k
     of_text text e (inr h) k = no_memory_read e.kind h k
 
-    by_answer : (a : Result (Unit {0}) (LineFault CertFaultKind)) → Outcome progress_rules limit p q (AtEnd left after) (Rose (failures reader) (failures after)) r.given a → LineFails a (length (cut_of r.given).lines + 1)
-    by_answer (Ok x) o = tt
-    by_answer (Err e) (Whole end h) = λ k. absurd (of_text r.given e h k)
-    by_answer (Err e) (Early h) = λ k. absurd (of_text (r.given ++ []) e (h []) k)
-    by_answer (Err e) (Cuts fault is kind line failed) = λ k. ap (λ (f : LineFault CertFaultKind). f.line) (same_answer e fault (Err e) refl is) ∙ line
+    by_answer : (a : Result (Unit {0}) (LineFault CertFaultKind)) → Outcome progress_rules limit p q (AtEnd left after) (Rose (failures reader) (failures after)) r.given a → IfErr a (λ e. LastCall r.given e.line) → AtLineRead a r.given
+    by_answer (Ok x) o l = tt
+    by_answer (Err e) (Whole end h) l = record { last = l; failed = λ k. absurd (of_text r.given e h k) }
+    by_answer (Err e) (Early h) l = record { last = l; failed = λ k. absurd (of_text (r.given ++ []) e (h []) k) }
+    by_answer (Err e) (Cuts fault is kind line failed) l = record { last = l; failed = λ k. ap (λ (f : LineFault CertFaultKind). f.line) (same_answer e fault (Err e) refl is) ∙ line }
 
-pub takes_by : {R : Type 0} (left : R → List ℕ → Type 0) (failures : R → ℕ) (old new : R) (P Q : ℕ → Type 0) → ((n : ℕ) → P n → Q n) → Takes left failures old new P → Takes left failures old new Q
-takes_by left failures old new P Q f t = record { given = t.given; gave = t.gave; few = t.few; reading = f (length (cut_of t.given).lines + 1) t.reading }
+pub takes_by : {R : Type 0} (left : R → List ℕ → Type 0) (failures : R → ℕ) (old new : R) (P Q : List ℕ → Type 0) → ((given : List ℕ) → P given → Q given) → Takes left failures old new P → Takes left failures old new Q
+takes_by left failures old new P Q f t = record { given = t.given; gave = t.gave; few = t.few; reading = f t.given t.reading }
 
-pub takes_nothing : {R : Type 0} (left : R → List ℕ → Type 0) (failures : R → ℕ) (reader : R) (P : ℕ → Type 0) → ((n : ℕ) → P n) → Takes left failures reader reader P
-takes_nothing left failures reader P f = record { given = []; gave = gave_nothing left failures reader; few = omega arith; reading = f (length (cut_of []).lines + 1) }
+pub takes_nothing : {R : Type 0} (left : R → List ℕ → Type 0) (failures : R → ℕ) (reader : R) (P : List ℕ → Type 0) → P [] → Takes left failures reader reader P
+takes_nothing left failures reader P so = record { given = []; gave = gave_nothing left failures reader; few = omega arith; reading = so }
 
 -- nothing failed while a table was made
 pub taken : {R : Type 0} (p q : Progress) (rows cols : ℕ) (left : R → List ℕ → Type 0) (failures : R → ℕ) (reader after : R) (table : Content) → Starts rows cols p
     → Reports progress_rules limit p q left failures reader after (read) → Takes left failures reader after (λ n. IfErr (Ok table) (IsLineRead n))
-taken p q rows cols left failures reader after table s r = takes_by left failures reader after (LineFails (read)) (λ n. IfErr (Ok table) (IsLineRead n)) (λ n t. tt) (takes p q rows cols left failures reader after (read) s r)
+taken p q rows cols left failures reader after table s r = takes_by left failures reader after (AtLineRead (read)) (λ n. IfErr (Ok table) (IsLineRead n)) (λ n t. tt) (takes p q rows cols left failures reader after (read) s r)
 
 pub failed_at : {R : Type 0} (p q : Progress) (rows cols : ℕ) (left : R → List ℕ → Type 0) (failures : R → ℕ) (reader after : R) (fault : LineFault CertFaultKind) → Starts rows cols p
     → Reports {X = Unit {0}} progress_rules limit p q left failures reader after (Err fault) → Takes left failures reader after (λ n. IsLineRead n (record { line = fault.line; kind = fault.kind }))
 failed_at p q rows cols left failures reader after fault s r = takes p q rows cols left failures reader after (Err fault) s r
 
-pub refused_unread : (n : ℕ) (fault : CertFault) → fault.kind ≡ NoMemory → IsLineRead n fault
-refused_unread n fault e = λ k. absurd (no_memory_read fault.kind e k)
+-- nothing was read
+pub refused_unread : (fault : CertFault) → fault.kind ≡ NoMemory → fault.line ≡ 1 → IsLineRead [] fault
+refused_unread fault e first = record {
+  failed = λ k. absurd (no_memory_read fault.kind e k);
+  last = record { before = []; piece = []; parts = refl; few = omega arith; open_line = omega (arith, first) };
+}

@@ -1,5 +1,5 @@
 -- The table that a certificate makes, and what is known of it.
-use Rattle.std.specs.Prelude.{ℕ, ◌-◌, ◌≡◌, List, [], ◌∷◌, Option, Some, None}
+use Rattle.std.specs.Prelude.{ℕ, ◌≡◌, List, [], ◌∷◌, Option, Some, None}
 use Rattle.vt_effects.specs.declared.effects.Sets.{Sets}
 use Rattle.vt_effects.specs.Record.{record_of}
 use Rattle.vt_effects.specs.declared.effects.Effect.{Effect}
@@ -8,9 +8,9 @@ use Rattle.ti_conforms.specs.declared.closures.Charsets.{Charsets}
 use Rattle.ti_conforms.specs.Charsets.{can_have}
 use Rattle.ti_conforms.specs.Closures as closing
 use Rattle.ti_rows.specs.declared.rows.Row.{Row}
-use Rattle.ti_rows.specs.declared.rows.Row.TheVariants.{Clear, Sgr0, Csr, Rmacs, Smcup, Enacs}
 use Rattle.ti_rows.specs.Asked.{start_of}
 use Rattle.ti_conforms.specs.Certified.{sendable}
+use Rattle.ti_conforms.specs.Resync.{resync_rows, texts_of}
 use Rattle.ti_conforms.specs.Table.{Table, resync_of}
 use Rattle.ti_cert.specs.Strings.{Strings, string_in}
 use Rattle.ti_cert.specs.Known.{Known}
@@ -42,15 +42,14 @@ table_of c = checked_of c.known c.settled
 abbrev pub certified : Content → Table
 certified c = sendable (table_of c)
 
--- the first byte of a string that is there, or else this one
-abbrev pub first_or : Option (List ℕ) → Option ℕ → Option ℕ
-first_or None next = next
-first_or (Some []) next = next
-first_or (Some (b ∷ bytes)) next = Some b
+-- the first of some bytes
+abbrev pub head_of : List ℕ → Option ℕ
+head_of [] = None
+head_of (b ∷ bytes) = Some b
 
+-- the first byte of a resynchronization
 abbrev pub first_of_resync : Strings → Option ℕ
-first_of_resync s = first_or (string_in s Smcup) (first_or (string_in s Enacs) (first_or (string_in s Sgr0) (first_or (string_in s Rmacs)
-    (first_or (string_in s (Csr 0 (s.rows - 1))) (first_or (string_in s Clear) None)))))
+first_of_resync s = head_of (texts_of (λ row. string_in s row) (resync_rows s.rows))
 
 -- what the row's string does to the charsets, nothing where there is none
 pub data Changes (s : Strings) (row : Row) : Option Sets → Type 0 where

@@ -6,7 +6,7 @@ use Rattle.ti_lines.specs.declared.row_lines.RowLine.{RowLine}
 use Rattle.ti_lines.specs.Texts.{IsCertificateText}
 use Rattle.ti_lines.specs.Reader.{Gave}
 use Rattle.ti_lines.specs.Text.{cut_of}
-use Rattle.ti_lines.specs.Judgements.{fault_at}
+use Rattle.ti_lines.specs.Judgements.{fault_at, LastCall}
 use Rattle.ti_lines.specs.declared.judgements.LineFault.{LineFault}
 use Rattle.ti_cert.specs.Strings.{string_in}
 use Rattle.ti_cert.specs.Table.{Content}
@@ -35,21 +35,22 @@ abbrev pub IsCertRefused : ℕ → ℕ → List ℕ → Type 0 → VerifyFault �
 IsCertRefused rows cols text Failed (Cert fault) = IsRefused rows cols text Failed fault
 IsCertRefused rows cols text Failed (Agree fault) = Unit {0}
 
--- a reader that failed did so in this line
-abbrev pub IsLineRead : ℕ → CertFault → Type 0
-IsLineRead number fault = fault.kind ≡ ReadFailed → fault.line ≡ number
+-- A reader that failed did so in the line after those that were given whole. Once the line with the fault is whole, the reader isn't
+-- called.
+pub record IsLineRead (given : List ℕ) (fault : CertFault) : Type 0 where
+  pub failed : fault.kind ≡ ReadFailed → fault.line ≡ length (cut_of given).lines + 1
+  pub last : LastCall given fault.line
 
-abbrev pub IsCertLineRead : ℕ → VerifyFault → Type 0
-IsCertLineRead number (Cert fault) = IsLineRead number fault
-IsCertLineRead number (Agree fault) = Unit {0}
+abbrev pub IsCertLineRead : List ℕ → VerifyFault → Type 0
+IsCertLineRead given (Cert fault) = IsLineRead given fault
+IsCertLineRead given (Agree fault) = Unit {0}
 
--- What a call takes from its reader: at most one byte more than a certificate may have; and what is so of the number of the line being
--- read, which is the one after those that were given whole.
-pub record Takes {R : Type 0} (left : R → List ℕ → Type 0) (failures : R → ℕ) (old new : R) (IsSo : ℕ → Type 0) : Type 0 where
+-- What a call takes from its reader: at most one byte more than a certificate may have; and what is so of the bytes that were given.
+pub record Takes {R : Type 0} (left : R → List ℕ → Type 0) (failures : R → ℕ) (old new : R) (IsSo : List ℕ → Type 0) : Type 0 where
   pub given : List ℕ
   pub gave : Gave left failures old new given
   pub few : length given ≤ limit + 1
-  pub reading : IsSo (length (cut_of given).lines + 1)
+  pub reading : IsSo given
 
 -- No text has two answers.
 abbrev pub OneAnswer : Type 0

@@ -240,6 +240,7 @@ impl Judge for Progress {
 fn started(alloc: Global, size: Size) -> Result<Progress, CertFault>
     ensures ok { IfOk result (spec.Starts size.rows size.cols) }
     ensures err { IfErr result (λ fault. fault.kind ≡ CertFaultKind.NoMemory) }
+    ensures line { IfErr result (λ fault. fault.line ≡ 1) }
 {
     match Progress::new(alloc, size) {
         Ok(progress) => Ok(progress),
@@ -251,7 +252,8 @@ fn started(alloc: Global, size: Size) -> Result<Progress, CertFault>
 }
 
 /// Judges the certificate that a reader has left, line by line as it arrives. What is kept is the table
-/// alone, never the text.
+/// alone, never the text. At most 67,108,865 bytes are read, and the reader isn't called once the line with the
+/// fault is whole.
 ///
 /// # Errors
 /// The first fault of the text with its line, `ReadFailed` where the reader failed in this call, and
@@ -267,7 +269,7 @@ pub fn audit_from<R: Reader>(alloc: Global, reader: &mut R, size: Size) -> Resul
         → IfErr result (IsRefused size.rows size.cols text (Rose (R.failures reader.old) (R.failures reader.new))) }
     ensures basic { (home el : Bool) → R.left reader.old (basic_text size.rows size.cols home el)
         → IfErr result (IsStopped (Rose (R.failures reader.old) (R.failures reader.new))) }
-    ensures takes { Takes R.left R.failures reader.old reader.new (λ number. IfErr result (IsLineRead number)) }
+    ensures takes { Takes R.left R.failures reader.old reader.new (λ given. IfErr result (IsLineRead given)) }
 {
     let mut progress = started(alloc, size)?;
     match judge_lines(alloc, LIMIT, reader, &mut progress) {

@@ -6,6 +6,7 @@ ghost use Rattle.ti_cert.specs.Clashes as clashes;
 ghost use Rattle.ti_cert.specs.Known.{Holds};
 ghost use Rattle.ti_cert.specs.Strings.{has_group, string_in};
 ghost use Rattle.ti_cert.specs.Table as spec;
+ghost use Rattle.ti_conforms.specs.Resync.{texts_of};
 ghost use Rattle.ti_rows.specs.declared.rows.Row.TheVariants as rows;
 
 use crate::clashes::{Clash, Resync, first_clash};
@@ -14,7 +15,7 @@ use crate::known::Known;
 use crate::strings::Strings;
 use crate::tokens::row_effect;
 use std::alloc::Global;
-use ti_conforms::Charsets;
+use ti_conforms::{Charsets, resync_rows};
 use ti_rows::Row;
 use vt_effects::Sets;
 use vt_term::Scanner;
@@ -55,27 +56,23 @@ fn resync_of(scanner: &mut Scanner, strings: &Strings) -> Result<Resync, CertFau
     })
 }
 
-/// The first byte of the row's string, or else this one.
-fn first_or(strings: &Strings, row: Row, next: Option<u8>) -> Option<u8>
-    ensures { result ≡ spec.first_or (string_in strings.now row) next }
+/// The first byte of the strings of these rows.
+fn first_byte(strings: &Strings, rows: &[Row]) -> Option<u8>
+    ensures { result ≡ spec.head_of (texts_of (λ row. string_in strings.now row) rows.now) }
 {
-    match strings.get(row) {
-        Some([first, ..]) => Some(*first),
-        _ => next,
+    for row in rows {
+        if let Some([first, ..]) = strings.get(*row) {
+            return Some(*first);
+        }
     }
+    None
 }
 
 /// The first byte of what leads a terminal out of a state that isn't known.
 fn first_of_resync(strings: &Strings) -> Option<u8>
     ensures { result ≡ spec.first_of_resync strings.now }
 {
-    let bottom = (strings.size().rows - 1) as u16;
-    let clear = first_or(strings, Row::Clear, None);
-    let csr = first_or(strings, Row::Csr(0, bottom), clear);
-    let rmacs = first_or(strings, Row::Rmacs, csr);
-    let sgr0 = first_or(strings, Row::Sgr0, rmacs);
-    let enacs = first_or(strings, Row::Enacs, sgr0);
-    first_or(strings, Row::Smcup, enacs)
+    first_byte(strings, &resync_rows(strings.size()))
 }
 
 /// The lines that a certificate needs.

@@ -176,7 +176,7 @@ pub fn verify_from<R: Reader>(
     ensures basic { IsBasic entry.now size.rows size.cols
         → R.left reader.old (basic_text_of entry.now size.rows size.cols)
         → IfErr result (IsVerifyStopped (Rose (R.failures reader.old) (R.failures reader.new))) }
-    ensures takes { Takes R.left R.failures reader.old reader.new (λ number. IfErr result (IsCertLineRead number)) }
+    ensures takes { Takes R.left R.failures reader.old reader.new (λ given. IfErr result (IsCertLineRead given)) }
     ensures conforms { IfOk result (λ _. Conforms entry.now size.rows size.cols) }
     ensures rows { IfOk result (λ checked. checked.known.strings.rows ≡ size.rows) }
     ensures cols { IfOk result (λ checked. checked.known.strings.cols ≡ size.cols) }

@@ -105,7 +105,7 @@ row_keeps entry rows cols stands t h row range starts keeps bytes there = elim (
 
 pub csr_keeps : (entry : Content) (rows cols : ℕ) → IsSize rows cols → EachStands entry rows cols → OfAllSent entry rows cols (λ t. KeepsSets t (widening t))
 csr_keeps entry rows cols size stands t h = subst (λ (n : ℕ). KeepsSets t (Csr 0 (n - 1))) (sym h.rows_are)
-    (row_keeps entry rows cols stands t h (Csr 0 (rows - 1)) (whole_screen rows cols size) (λ c. starts_any rows cols c size) (λ l s u w. ap (λ (x : Screen). x.charset) w))
+    (row_keeps entry rows cols stands t h (Csr 0 (rows - 1)) (whole_screen rows cols size) (λ c. starts_any rows cols c size) (λ l s u w. ap (λ (x : Screen). x.charset) w.others))
 
 pub clear_keeps : (entry : Content) (rows cols : ℕ) → IsSize rows cols → EachStands entry rows cols → OfAllSent entry rows cols (λ t. KeepsSets t Clear)
 clear_keeps entry rows cols size stands t h = row_keeps entry rows cols stands t h Clear tt (λ c. starts_free rows cols c size) (λ l s u w. ap (λ (x : Screen). x.charset) w)

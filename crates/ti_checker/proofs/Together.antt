@@ -1,13 +1,13 @@
 -- Noes, and what leads out of an unknown state as a text.
-use Rattle.std.proofs.Common.{◌≡◌, inl, inr, ℕ, ◌-◌, true, List, [], ◌∷◌, ◌++◌, Some, refl, sym, ap, subst, ◌∙◌, append_assoc, arith}
+use Rattle.std.proofs.Common.{◌≡◌, inl, inr, ℕ, ◌-◌, ◌+◌, ◌<◌, suc, true, List, [], ◌∷◌, ◌++◌, Some, length, get_or, take, zero, refl, sym, ap, subst, ◌∙◌, arith}
 use Rattle.std.proofs.lemmas.Bool.{cases_Bool}
 use Rattle.ti_caps.specs.Entry.{Content}
 use Rattle.ti_rows.specs.declared.rows.Row.{Row}
-use Rattle.ti_rows.specs.declared.rows.Row.TheVariants.{Clear, Csr, Smcup, Enacs, Sgr0, Rmacs}
+use Rattle.ti_rows.specs.declared.rows.Row.TheVariants.{Clear, Csr}
 use Rattle.ti_rows.specs.Lists.{IsInRange}
 use Rattle.ti_conforms.specs.Sends.{Sends}
 use Rattle.ti_conforms.specs.Entries.{is_checked, string_of, EntryAgrees}
-use Rattle.ti_conforms.specs.Table.{Table, or_nothing, text_of, widening, resync, resync_of}
+use Rattle.ti_conforms.specs.Table.{Table, or_nothing, text_of, resync}
 use Rattle.ti_conforms.specs.Conforms.{IsFit}
 use Rattle.ti_conforms.specs.Unfit.{IsUnfit, cap_of_unfit}
 use Rattle.ti_conforms.specs.declared.fitness.Unfit.{Unfit}
@@ -21,7 +21,9 @@ use Rattle.ti_cert.specs.Clashes.{BeginsOpen}
 use Rattle.ti_checker.specs.declared.causes.Cause.{Cause}
 use Rattle.ti_checker.specs.declared.causes.Cause.TheVariants.{FlagOut, Absent, AcsByte, Parm, StaticRead, Unfinished, Stuck, NotTame, BadLook, WrongEffect, NotShown, TooLong, NoResync, NoMemory}
 use Rattle.ti_checker.specs.declared.causes.No.{No}
-use Rattle.ti_checker.specs.Resync.{IsPart, SendsResync}
+use Rattle.ti_checker.specs.Resync.{AreInRange, IsPart, SendsAll}
+use Rattle.ti_conforms.specs.Resync.{resync_rows, texts_of}
+use Rattle.ti_conforms.proofs.Sendable.{in_order, texts_more}
 use Rattle.ti_checker.proofs.FitnessFacts.{within_before}
 
 pub by_reason : (entry : Content) (refusal : No) (why : Unfit) → IsUnfit entry why → refusal.cap ≡ cap_of_unfit why → refusal.params.items ≡ [] → refusal.cause ≡ cause_of_unfit why → IsOfEntry entry refusal
@@ -86,35 +88,37 @@ same_part entry rows cols t agrees row range bytes p = elim (cases_Bool (is_chec
   | inr unchecked ↦ ap or_nothing ((agrees row range).unchecked unchecked) ∙ sym (p.unchecked unchecked)
 ]
 
-flat : (a b c d e f : List ℕ) → ((a ++ b) ++ (c ++ d)) ++ (e ++ f) ≡ a ++ (b ++ (c ++ (d ++ (e ++ f))))
-flat a b c d e f =
-    append_assoc (a ++ b) (c ++ d) (e ++ f)
-    ∙ (append_assoc a b ((c ++ d) ++ (e ++ f))
-    ∙ ap (λ (x : List ℕ). a ++ (b ++ x)) (append_assoc c d (e ++ f)))
-
-resync_is : (t : Table) (a b c d e f : List ℕ) → text_of t Smcup ≡ a → text_of t Enacs ≡ b → text_of t Sgr0 ≡ c → text_of t Rmacs ≡ d → text_of t (widening t) ≡ e → text_of t Clear ≡ f
-    → resync t ≡ a ++ (b ++ (c ++ (d ++ (e ++ f))))
-unfolding resync_of
-resync_is t a b c d e f pa pb pc pd pe pf =
-    flat (text_of t Smcup) (text_of t Enacs) (text_of t Sgr0) (text_of t Rmacs) (text_of t (widening t)) (text_of t Clear) ∙ cc (pa, pb, pc, pd, pe, pf)
-
-resync_text : (entry : Content) (rows cols : ℕ) (t : Table) → EntryAgrees rows cols entry t.line_of → t.rows ≡ rows → IsInRange rows cols (Csr 0 (rows - 1)) → (text : List ℕ) → SendsResync entry rows text → resync t ≡ text
-resync_text entry rows cols t agrees rows_are tall text p =
-    let csr : text_of t (widening t) ≡ p.csr = ap (λ (n : ℕ). text_of t (Csr 0 (n - 1))) rows_are ∙ same_part entry rows cols t agrees (Csr 0 (rows - 1)) tall p.csr p.widens in
-    resync_is t p.smcup p.enacs p.sgr0 p.rmacs p.csr p.clear
-    (same_part entry rows cols t agrees Smcup tt p.smcup p.enters)
-    (same_part entry rows cols t agrees Enacs tt p.enacs p.enables)
-    (same_part entry rows cols t agrees Sgr0 tt p.sgr0 p.makes_plain)
-    (same_part entry rows cols t agrees Rmacs tt p.rmacs p.leaves)
-    csr
-    (same_part entry rows cols t agrees Clear tt p.clear p.clears)
-    ∙ sym p.joined
-
 pub whole_screen : (rows cols : ℕ) → IsSize rows cols → IsInRange rows cols (Csr 0 (rows - 1))
 whole_screen rows cols size = (omega (arith, size.0), omega (arith, size.0))
 
-pub escaped : (entry : Content) (rows cols : ℕ) (text : List ℕ) → IsSize rows cols → SendsResync entry rows text → (rest : List ℕ) → text ≡ 27 ∷ rest → OfAllSent entry rows cols (λ t. BeginsOpen t → ⊥)
-escaped entry rows cols text size p rest begins t h never = never rest (resync_text entry rows cols t h.sends h.rows_are (whole_screen rows cols size) text p ∙ begins)
+-- the rows of a resynchronization are rows of the screen
+in_range : (rows cols : ℕ) → IsSize rows cols → (i : ℕ) (d : Row) → i < 6 → IsInRange rows cols (get_or (resync_rows rows) i d)
+in_range rows cols size zero d lt = tt
+in_range rows cols size (suc zero) d lt = tt
+in_range rows cols size (suc (suc zero)) d lt = tt
+in_range rows cols size (suc (suc (suc zero))) d lt = tt
+in_range rows cols size (suc (suc (suc (suc zero)))) d lt = whole_screen rows cols size
+in_range rows cols size (suc (suc (suc (suc (suc zero))))) d lt = tt
+in_range rows cols size (suc (suc (suc (suc (suc (suc i)))))) d lt = absurd (omega (arith, lt))
 
-pub stays_open : (entry : Content) (rows cols : ℕ) (text : List ℕ) → IsSize rows cols → SendsResync entry rows text → ((rest : List ℕ) → text ≡ 27 ∷ rest → ⊥) → OfAllSent entry rows cols (λ t. BeginsOpen t)
-stays_open entry rows cols text size p never t h rest e = never rest (sym (resync_text entry rows cols t h.sends h.rows_are (whole_screen rows cols size) text p) ∙ e)
+pub resync_ranges : (rows cols : ℕ) (given : List Row) → IsSize rows cols → given ≡ resync_rows rows → AreInRange rows cols given
+resync_ranges rows cols given size is = subst (λ (l : List Row). AreInRange rows cols l) (sym is) (in_range rows cols size)
+
+-- one row more is sent
+pub sent_more : (entry : Content) (height width : ℕ) (rows : List Row) (i : ℕ) (d row : Row) (text bytes new : List ℕ) → i < length rows → row ≡ get_or rows i d → IsInRange height width row → IsPart entry row bytes
+    → SendsAll entry height width (take i rows) text → new ≡ text ++ bytes → SendsAll entry height width (take (i + 1) rows) new
+sent_more entry height width rows i d row text bytes new lt is range part before joined t agrees =
+    texts_more t.line_of [] text new rows i d row lt is (joined ∙ ap (λ (xs : List ℕ). text ++ xs) (sym (same_part entry height width t agrees row range bytes part))) (before t agrees)
+
+resync_text : (entry : Content) (rows cols : ℕ) (t : Table) → EntryAgrees rows cols entry t.line_of → t.rows ≡ rows → (given : List Row) → given ≡ resync_rows rows → (text : List ℕ)
+    → SendsAll entry rows cols given text → resync t ≡ text
+resync_text entry rows cols t agrees rows_are given is text sends =
+    in_order t ∙ (ap (λ (n : ℕ). texts_of t.line_of (resync_rows n)) rows_are ∙ (ap (λ (l : List Row). texts_of t.line_of l) (sym is) ∙ sym (sends t agrees)))
+
+pub escaped : (entry : Content) (rows cols : ℕ) (given : List Row) → given ≡ resync_rows rows → (text : List ℕ) → SendsAll entry rows cols given text → (rest : List ℕ) → text ≡ 27 ∷ rest
+    → OfAllSent entry rows cols (λ t. BeginsOpen t → ⊥)
+escaped entry rows cols given is text sends rest begins t h never = never rest (resync_text entry rows cols t h.sends h.rows_are given is text sends ∙ begins)
+
+pub stays_open : (entry : Content) (rows cols : ℕ) (given : List Row) → given ≡ resync_rows rows → (text : List ℕ) → SendsAll entry rows cols given text → ((rest : List ℕ) → text ≡ 27 ∷ rest → ⊥)
+    → OfAllSent entry rows cols (λ t. BeginsOpen t)
+stays_open entry rows cols given is text sends never t h rest e = never rest (sym (resync_text entry rows cols t h.sends h.rows_are given is text sends) ∙ e)

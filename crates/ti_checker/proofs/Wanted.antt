@@ -136,14 +136,14 @@ one_end rows cols l Smso e p one st h = standout_asked rows cols l e p h
 one_end rows cols l Enacs e p one st h = h
 one_end rows cols l Smacs e p one st h = h
 one_end rows cols l Rmacs e p one st h = h
-one_end rows cols l (Csr top bottom) e p one st h = h
+one_end rows cols l (Csr top bottom) e p one st h = h.others
 one_end rows cols l Ind e p one st h = h ∙ ap (λ (z : Bool). record (screen_of rows cols p) { grid = (applied (asked (seen_by e p) Ind e) (screen_of rows cols p)).grid; pending = z }) (calm_end e.ends_pending p.pending st.0.pending)
 one_end rows cols l Ri e p one st h = h ∙ ap (λ (z : Bool). record (screen_of rows cols p) { grid = (applied (asked (seen_by e p) Ri e) (screen_of rows cols p)).grid; pending = z }) (calm_end e.ends_pending p.pending st.0.pending)
 one_end rows cols l Civis e p one st h = h
 one_end rows cols l Cnorm e p one st h = h
 one_end rows cols l Cvvis e p one st h = never one
-one_end rows cols l Smcup e p one st h = h
-one_end rows cols l Rmcup e p one st h = h
+one_end rows cols l Smcup e p one st h = h.others
+one_end rows cols l Rmcup e p one st h = h.others
 one_end rows cols l Bel e p one st h = h
 
 -- what is wanted of a row of one end fails where the ends differ

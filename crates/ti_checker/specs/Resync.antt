@@ -1,10 +1,12 @@
 -- What an entry sends to lead a terminal out of an unknown state (terminfo(5), "Initialization" and "Line Graphics").
-use Rattle.std.specs.Prelude.{ℕ, ◌-◌, ◌≡◌, true, false, List, [], ◌++◌, Some}
+use Rattle.std.specs.Prelude.{ℕ, ◌<◌, ◌≡◌, true, false, List, [], length, slice_index_or, Some}
 use Rattle.ti_caps.specs.Entry.{Content}
 use Rattle.ti_rows.specs.declared.rows.Row.{Row}
-use Rattle.ti_rows.specs.declared.rows.Row.TheVariants.{Clear, Csr, Smcup, Enacs, Sgr0, Rmacs}
+use Rattle.ti_rows.specs.Lists.{IsInRange}
 use Rattle.ti_conforms.specs.Sends.{Sends}
-use Rattle.ti_conforms.specs.Entries.{is_checked, string_of}
+use Rattle.ti_conforms.specs.Entries.{is_checked, string_of, EntryAgrees}
+use Rattle.ti_conforms.specs.Resync.{texts_of}
+use Rattle.ti_conforms.specs.Table.{Table}
 
 -- the entry's string sends the bytes for the row
 pub record SendsFor (entry : Content) (row : Row) (bytes : List ℕ) : Type 0 where
@@ -19,18 +21,9 @@ pub record IsPart (entry : Content) (row : Row) (bytes : List ℕ) : Type 0 wher
   pub checked : is_checked entry row ≡ true → SendsFor entry row bytes
   pub unchecked : is_checked entry row ≡ false → bytes ≡ []
 
--- `smcup`, `enacs`, `sgr0`, `rmacs`, `csr` of the whole screen and `clear`, one after another
-pub record SendsResync (entry : Content) (rows : ℕ) (text : List ℕ) : Type 0 where
-  pub smcup : List ℕ
-  pub enters : IsPart entry Smcup smcup
-  pub enacs : List ℕ
-  pub enables : IsPart entry Enacs enacs
-  pub sgr0 : List ℕ
-  pub makes_plain : IsPart entry Sgr0 sgr0
-  pub rmacs : List ℕ
-  pub leaves : IsPart entry Rmacs rmacs
-  pub csr : List ℕ
-  pub widens : IsPart entry (Csr 0 (rows - 1)) csr
-  pub clear : List ℕ
-  pub clears : IsPart entry Clear clear
-  pub joined : text ≡ smcup ++ (enacs ++ (sgr0 ++ (rmacs ++ (csr ++ clear))))
+abbrev pub AreInRange : ℕ → ℕ → List Row → Type 0
+AreInRange height width rows = (i : ℕ) (d : Row) → i < length rows → IsInRange height width (slice_index_or rows i d)
+
+-- What the entry sends for these rows, one after another: the lines of each table that has just what the entry sends.
+abbrev pub SendsAll : Content → ℕ → ℕ → List Row → List ℕ → Type 0
+SendsAll entry height width rows text = (t : Table) → EntryAgrees height width entry t.line_of → text ≡ texts_of t.line_of rows

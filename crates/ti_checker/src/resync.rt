@@ -13,6 +13,7 @@ use crate::causes::No;
 use crate::sends::{checked_string, sent};
 use std::alloc::Global;
 use ti_caps::Entry;
+use ti_conforms::resync_rows;
 use ti_rows::Row;
 use vt_term::Size;
 
@@ -33,25 +34,20 @@ fn sent_for(alloc: Global, entry: &Entry, row: Row, size: Size) -> Result<Vec<u8
     }
 }
 
-/// What the entry sends to lead a terminal out of an unknown state.
+/// What the entry sends for these rows, one after another.
 #[tactic(auto, using(crate::proofs::Together::memory_no))]
-fn resync_of(alloc: Global, entry: &Entry, size: Size) -> Result<Vec<u8>, No>
+fn sent_for_all(alloc: Global, entry: &Entry, rows: &[Row], size: Size) -> Result<Vec<u8>, No>
     requires fit { IsFit entry.now }
     requires written { EachWritten entry.now size.rows size.cols }
-    ensures sends { IfOk result (λ text. spec.SendsResync entry.now size.rows text.items) }
+    requires ranges { spec.AreInRange size.rows size.cols rows.now }
+    ensures sends { IfOk result (λ text. spec.SendsAll entry.now size.rows size.cols rows.now text.items) }
     ensures refused { IfErr result (IsNo entry.now size.rows size.cols) }
 {
-    let enacs = sent_for(alloc, entry, Row::Enacs, size)?;
-    let sgr0 = sent_for(alloc, entry, Row::Sgr0, size)?;
-    let rmacs = sent_for(alloc, entry, Row::Rmacs, size)?;
-    let csr = sent_for(alloc, entry, Row::Csr(0, (size.rows - 1) as u16), size)?;
-    let clear = sent_for(alloc, entry, Row::Clear, size)?;
-    let mut text = sent_for(alloc, entry, Row::Smcup, size)?;
-    text.extend_from_slice(&enacs)?;
-    text.extend_from_slice(&sgr0)?;
-    text.extend_from_slice(&rmacs)?;
-    text.extend_from_slice(&csr)?;
-    text.extend_from_slice(&clear)?;
+    let mut text = Vec::new(alloc);
+    for row in rows {
+        let bytes = sent_for(alloc, entry, *row, size)?;
+        text.extend_from_slice(&bytes)?;
+    }
     Ok(text)
 }
 
@@ -70,6 +66,6 @@ pub(crate) fn escapes(alloc: Global, entry: &Entry, size: Size) -> Result<bool, 
     ensures no { IfOk result (λ begins. begins ≡ false → OfAllSent entry.now size.rows size.cols (λ t. BeginsOpen t)) }
     ensures refused { IfErr result (IsNo entry.now size.rows size.cols) }
 {
-    let text = resync_of(alloc, entry, size)?;
+    let text = sent_for_all(alloc, entry, &resync_rows(size), size)?;
     Ok(begins_with_escape(&text))
 }

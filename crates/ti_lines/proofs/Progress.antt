@@ -1,10 +1,10 @@
 -- Judging line after line: where it stands, and how it ends.
-use Rattle.std.proofs.Common.{◌≡◌, ℕ, suc, ◌+◌, ◌-◌, ◌<◌, ◌≤◌, inl, inr, List, [], ◌∷◌, ◌++◌, None, Some, Result, Ok, Err, length, take, drop, refl, sym, ap, subst, ◌∙◌, arith, append_assoc, length-append, length-take}
-use Rattle.std.proofs.lemmas.List.{length-drop}
+use Rattle.std.proofs.Common.{◌≡◌, ℕ, suc, ◌+◌, ◌-◌, ◌<◌, ◌≤◌, inl, inr, List, [], ◌∷◌, ◌++◌, None, Some, Result, Ok, Err, IfErr, length, take, drop, refl, sym, ap, subst, ◌∙◌, arith, append_assoc, length-append, length-take}
+use Rattle.std.proofs.lemmas.List.{append-nil, length-drop}
 use Rattle.ti_lines.specs.Reader.{Gave}
 use Rattle.ti_lines.specs.Text.{Cut, cut_of, line_end}
-use Rattle.ti_lines.specs.Lines.{Reading, Takes, IsNext, HaltsBy}
-use Rattle.ti_lines.specs.Judgements.{Rules, fault_at, AtLine, JudgedFrom, Judged, FailsBy, Gives, Whole, Early, Cuts, Reports, Closes, halted, Progress}
+use Rattle.ti_lines.specs.Lines.{Reading, Takes, Refills, NotAtAll, InPieces, IsNext, HaltsBy}
+use Rattle.ti_lines.specs.Judgements.{Rules, fault_at, AtLine, JudgedFrom, Judged, FailsBy, Gives, Whole, Early, Cuts, LastCall, Reports, Closes, halted, Progress}
 use Rattle.ti_lines.specs.declared.judgements.LineFault.{LineFault}
 use Rattle.ti_lines.specs.declared.lines.Next.{Next}
 use Rattle.ti_lines.specs.declared.lines.Next.TheVariants.{Line, End, Unended, Long}
@@ -21,9 +21,33 @@ progress_start rules limit t left failures r = record {
   budget = omega arith;
   bound = omega arith;
   few = omega arith;
+  last = record { before = []; piece = []; parts = refl; few = omega arith; open_line = omega arith };
   lines = λ text. omega arith;
   rest = λ text answer h. h;
 }
+
+-- what the last call gave, where more was taken
+call_further : {R T F : Type 0} (rules : Rules T F) (limit : ℕ) (start : T) (left : R → List ℕ → Type 0) (failures : R → ℕ) (old a : R) (r : Reading) (number : ℕ) (t : T) (bytes : List ℕ)
+    (p : Progress rules limit start left failures old a r number t) → Refills r.unread bytes → LastCall (p.passed ++ (r.unread ++ bytes)) number
+call_further rules limit start left failures old a r number t bytes p (NotAtAll none) =
+    subst (λ (l : List ℕ). LastCall (p.passed ++ l) number) (sym (ap (λ (l : List ℕ). r.unread ++ l) none ∙ append-nil r.unread)) p.last
+call_further rules limit start left failures old a r number t bytes p (InPieces before piece parts few unended) =
+    let alone : length (cut_of (r.unread ++ before)).lines ≡ 0 = ap (λ (c : Cut). length c.lines) (cut_alone (r.unread ++ before) unended) in
+    record {
+      before = p.passed ++ (r.unread ++ before);
+      piece = piece;
+      parts = ap (λ (l : List ℕ). p.passed ++ l) (ap (λ (l : List ℕ). r.unread ++ l) parts ∙ sym (append_assoc r.unread before piece)) ∙ sym (append_assoc p.passed (r.unread ++ before) piece);
+      few = few;
+      open_line = omega (arith, p.lines (r.unread ++ before), alone);
+    }
+
+later_line : (given : List ℕ) (number : ℕ) → LastCall given number → LastCall given (number + 1)
+later_line given number c = record { before = c.before; piece = c.piece; parts = c.parts; few = c.few; open_line = omega (arith, c.open_line) }
+
+-- the fault is in the line that is being read
+called_last : {X F : Type 0} (answer : Result X (LineFault F)) (given : List ℕ) (number : ℕ) → LastCall given number → IfErr answer (λ e. e.line ≡ number) → IfErr answer (λ e. LastCall given e.line)
+called_last (Ok x) given number c same = tt
+called_last (Err e) given number c same = subst (λ (n : ℕ). LastCall given n) (sym same) c
 
 pub progress_takes : {R T F : Type 0} (rules : Rules T F) (limit : ℕ) (start : T) (left : R → List ℕ → Type 0) (failures : R → ℕ) (old a b : R) (r s : Reading) (number : ℕ) (t : T)
     → Progress rules limit start left failures old a r number t → Takes left failures r a s b → Progress rules limit start left failures old b s number t
@@ -36,6 +60,7 @@ progress_takes {R} rules limit start left failures old a b r s number t p q =
       budget = omega (arith, p.budget, q.budget);
       bound = q.bound;
       few = p.few;
+      last = subst (λ (l : List ℕ). LastCall (p.passed ++ l) number) (sym q.unread) (call_further rules limit start left failures old a r number t q.bytes p q.refills);
       lines = p.lines;
       rest = λ text answer h. p.rest text answer (subst (λ (n : ℕ). JudgedFrom rules n number t text answer) q.budget h);
     }
@@ -61,6 +86,7 @@ progress_line {R} rules limit start left failures old a r number t u n p h lt is
       budget = omega (arith, p.budget, long, lt);
       bound = omega (arith, p.bound, length-drop (n + 1) r.unread, lt);
       few = omega (arith, p.few, long);
+      last = subst (λ (l : List ℕ). LastCall l (number + 1)) whole (later_line (p.passed ++ r.unread) number p.last);
       lines = λ text.
           let e : length (cut_of ((p.passed ++ (take n r.unread ++ 10 ∷ [])) ++ text)).lines + 1 ≡ number + length (cut_of (take n r.unread ++ 10 ∷ text)).lines =
           ap (λ l. length (cut_of l).lines + 1) (joined text) ∙ p.lines (take n r.unread ++ 10 ∷ text) in
@@ -96,7 +122,7 @@ whole_from rules limit start left failures old a r number t p back answer h =
 pub exit_halted : {R X T F : Type 0} (rules : Rules T F) (limit : ℕ) (start new : T) (left : R → List ℕ → Type 0) (failures : R → ℕ) (old b a : R) (r : Reading) (number : ℕ) (t : T) (h : Halt)
     → Progress rules limit start left failures old a r number t → failures old ≤ failures b → HaltsBy (failures b) (failures a) h → line_end r.unread ≡ None → Reports {X = X} rules limit start new left failures old a (Err (halted rules number h))
 exit_halted rules limit start new left failures old b a r number t NoMemory p le h none =
-    record { given = p.passed ++ r.unread; gave = p.gave; few = few_given rules limit start left failures old a r number t p; outcome = Early (λ back. inr refl) }
+    record { given = p.passed ++ r.unread; gave = p.gave; few = few_given rules limit start left failures old a r number t p; last = p.last; outcome = Early (λ back. inr refl) }
 exit_halted rules limit start new left failures old b a r number t ReadFailed p le h none =
     let alone : length (cut_of r.unread).lines ≡ 0 = ap (λ (c : Cut). length c.lines) (cut_alone r.unread none) in
     let line : number ≡ length (cut_of (p.passed ++ r.unread)).lines + 1 = omega (arith, p.lines r.unread, alone) in
@@ -104,13 +130,14 @@ exit_halted rules limit start new left failures old b a r number t ReadFailed p 
       given = p.passed ++ r.unread;
       gave = p.gave;
       few = few_given rules limit start left failures old a r number t p;
+      last = p.last;
       outcome = Cuts (fault_at number rules.read_failed) refl refl line (rose_later (failures old) (failures b) (failures a) le h);
     }
 
 -- a line has a fault
 pub exit_line : {R X T F : Type 0} (rules : Rules T F) (limit : ℕ) (start new : T) (left : R → List ℕ → Type 0) (failures : R → ℕ) (old a : R) (r : Reading) (number : ℕ) (t : T) (n : ℕ) (e : LineFault F)
-    → Progress rules limit start left failures old a r number t → line_end r.unread ≡ Some n → n < r.budget → FailsBy rules e (AtLine number (rules.line t (take n r.unread))) → Reports {X = X} rules limit start new left failures old a (Err e)
-exit_line {R} {X} {T} {F} rules limit start new left failures old a r number t n e p h lt fails =
+    → Progress rules limit start left failures old a r number t → line_end r.unread ≡ Some n → n < r.budget → FailsBy rules e (AtLine number (rules.line t (take n r.unread))) → e.line ≡ number → Reports {X = X} rules limit start new left failures old a (Err e)
+exit_line {R} {X} {T} {F} rules limit start new left failures old a r number t n e p h lt fails same =
     let b : Begins r.unread n = begins r.unread n h in
     let size : length (take n r.unread) ≡ n = omega (arith, length-take n r.unread, b.within) in
     let small : length (take n r.unread) < r.budget = omega (arith, size, lt) in
@@ -118,6 +145,7 @@ exit_line {R} {X} {T} {F} rules limit start new left failures old a r number t n
       given = p.passed ++ r.unread;
       gave = p.gave;
       few = few_given rules limit start left failures old a r number t p;
+      last = subst (λ (n : ℕ). LastCall (p.passed ++ r.unread) n) (sym same) p.last;
       outcome = Early (λ back.
           let parts : r.unread ++ back ≡ take n r.unread ++ 10 ∷ (drop (suc n) r.unread ++ back) = ap (λ (l : List ℕ). l ++ back) b.parts ∙ append_assoc (take n r.unread) (10 ∷ drop (suc n) r.unread) back in
           let Q : List ℕ → Type 0 = λ l. JudgedFrom rules r.budget number t l (Err e) in
@@ -130,28 +158,31 @@ exit_line {R} {X} {T} {F} rules limit start new left failures old a r number t n
 
 -- there is no line
 pub exit_closed : {R X T F : Type 0} (rules : Rules T F) (limit : ℕ) (start new : T) (left : R → List ℕ → Type 0) (failures : R → ℕ) (old a : R) (r : Reading) (number : ℕ) (t : T) (next : Next) (answer : Result X (LineFault F))
-    → Progress rules limit start left failures old a r number t → IsNext left r a next → ((n : ℕ) → next ≡ Line n → ⊥) → Closes rules next number t new answer → Reports rules limit start new left failures old a answer
-exit_closed rules limit start new left failures old a r number t (Line n) answer p is not_line closes = absurd (not_line n refl)
-exit_closed {R} {X} {T} {F} rules limit start new left failures old a r number t End answer p is not_line closes =
+    → Progress rules limit start left failures old a r number t → IsNext left r a next → ((n : ℕ) → next ≡ Line n → ⊥) → Closes rules next number t new answer → IfErr answer (λ e. e.line ≡ number) → Reports rules limit start new left failures old a answer
+exit_closed rules limit start new left failures old a r number t (Line n) answer p is not_line closes same = absurd (not_line n refl)
+exit_closed {R} {X} {T} {F} rules limit start new left failures old a r number t End answer p is not_line closes same =
     let ends : (x : Result T (LineFault F)) → AtLine number (rules.end t) x → Judged rules limit start (p.passed ++ r.unread) x =
     λ x h. let Q : List ℕ → Type 0 = λ l. JudgedFrom rules r.budget number t l x in p.rest r.unread x (subst Q (sym is.0) (judge_end rules r.budget number t x h)) in
     record {
       given = p.passed ++ r.unread;
       gave = p.gave;
       few = few_given rules limit start left failures old a r number t p;
+      last = called_last answer (p.passed ++ r.unread) number p.last same;
       outcome = Whole is.1 (gives_passes rules new answer (AtLine number (rules.end t)) (Judged rules limit start (p.passed ++ r.unread)) ends closes);
     }
-exit_closed rules limit start new left failures old a r number t Unended answer p is not_line closes =
+exit_closed rules limit start new left failures old a r number t Unended answer p is not_line closes same =
     record {
       given = p.passed ++ r.unread;
       gave = p.gave;
       few = few_given rules limit start left failures old a r number t p;
+      last = called_last answer (p.passed ++ r.unread) number p.last same;
       outcome = Whole is.2 (rw closes (inl (p.rest r.unread (Err (fault_at number rules.no_line)) (judge_unended rules r.budget number t r.unread is.1 is.0))));
     }
-exit_closed rules limit start new left failures old a r number t Long answer p is not_line closes =
+exit_closed rules limit start new left failures old a r number t Long answer p is not_line closes same =
     record {
       given = p.passed ++ r.unread;
       gave = p.gave;
       few = few_given rules limit start left failures old a r number t p;
+      last = called_last answer (p.passed ++ r.unread) number p.last same;
       outcome = Early (λ back. rw closes (inl (whole_from rules limit start left failures old a r number t p back (Err (fault_at number rules.no_line)) (judge_long rules r.budget number t r.unread back is))));
     }

@@ -1,6 +1,6 @@
 -- A text judged line by line: the first fault with its line, or what its lines make.
-use Rattle.std.specs.Prelude.{ℕ, ◌+◌, ◌-◌, ◌<◌, ◌≤◌, ◌≡◌, ◌⊎◌, List, [], ◌∷◌, ◌++◌, length, Result, Ok, Err}
-use Rattle.ti_lines.specs.Reader.{AtEnd, Gave, Rose}
+use Rattle.std.specs.Prelude.{ℕ, ◌+◌, ◌-◌, ◌<◌, ◌≤◌, ◌≡◌, ◌⊎◌, List, [], ◌∷◌, ◌++◌, length, Result, Ok, Err, IfErr}
+use Rattle.ti_lines.specs.Reader.{AtEnd, Gave, Rose, piece_limit}
 use Rattle.ti_lines.specs.Text.{Cut, cut_of}
 use Rattle.ti_lines.specs.Lines.{Reading}
 use Rattle.ti_lines.specs.declared.lines.Next.{Next}
@@ -87,11 +87,21 @@ pub data Outcome {X T F : Type 0} (rules : Rules T F) (limit : ℕ) (old new : T
   Early : ((back : List ℕ) → Gives rules new answer (Judged rules limit old (given ++ back))) → Outcome rules limit old new Ended Failed given answer
   Cuts : (fault : LineFault F) → answer ≡ Err fault → fault.kind ≡ rules.read_failed → fault.line ≡ length (cut_of given).lines + 1 → Failed → Outcome rules limit old new Ended Failed given answer
 
--- What a reader gave in a call, at most one byte past the limit, and the answer of it.
+-- These bytes were given, a piece of them by the last call, and when it was made, the line of this number was not whole.
+pub record LastCall (given : List ℕ) (number : ℕ) : Type 0 where
+  pub before : List ℕ
+  pub piece : List ℕ
+  pub parts : given ≡ before ++ piece
+  pub few : length piece ≤ piece_limit
+  pub open_line : length (cut_of before).lines < number
+
+-- What a reader gave in a call, at most one byte past the limit, and the answer of it. Once the line with the fault is
+-- whole, the reader isn't called.
 pub record Reports {R X T F : Type 0} (rules : Rules T F) (limit : ℕ) (old new : T) (left : R → List ℕ → Type 0) (failures : R → ℕ) (reader after : R) (answer : Result X (LineFault F)) : Type 0 where
   pub given : List ℕ
   pub gave : Gave left failures reader after given
   pub few : length given ≤ limit + 1
+  pub last : IfErr answer (λ e. LastCall given e.line)
   pub outcome : Outcome rules limit old new (AtEnd left after) (Rose (failures reader) (failures after)) given answer
 
 -- the answer is that of this text, or the reader failed
@@ -106,5 +116,6 @@ pub record Progress {R T F : Type 0} (rules : Rules T F) (limit : ℕ) (start : 
   pub budget : r.budget + length passed ≡ limit
   pub bound : length r.unread ≤ r.budget + 1
   pub few : number ≤ length passed + 1
+  pub last : LastCall (passed ++ r.unread) number
   pub lines : (text : List ℕ) → length (cut_of (passed ++ text)).lines + 1 ≡ number + length (cut_of text).lines
   pub rest : (text : List ℕ) (answer : Result T (LineFault F)) → JudgedFrom rules r.budget number t text answer → Judged rules limit start (passed ++ text) answer

@@ -1,6 +1,6 @@
 -- A reader of lines: what it has taken and not passed yet.
 use Rattle.std.specs.Prelude.{ℕ, ◌+◌, ◌<◌, ◌≤◌, ◌≡◌, ◌==◌, nat_lt, if◌then◌else◌, true, List, [], ◌++◌, None, Some, length}
-use Rattle.ti_lines.specs.Reader.{AtEnd, Gave, Rose}
+use Rattle.ti_lines.specs.Reader.{AtEnd, Gave, Rose, piece_limit}
 use Rattle.ti_lines.specs.Text.{line_end, is_long}
 use Rattle.ti_lines.specs.declared.lines.Next.{Next}
 use Rattle.ti_lines.specs.declared.lines.Next.TheVariants.{Line, End, Unended, Long}
@@ -13,6 +13,11 @@ pub record Reading : Type 0 where
   -- how many bytes more may be passed
   pub budget : ℕ
 
+-- Nothing more was taken, or the last call gave a piece of it, and no line was whole when it was made.
+pub data Refills (unread bytes : List ℕ) : Type 0 where
+  NotAtAll : bytes ≡ [] → Refills unread bytes
+  InPieces : (before piece : List ℕ) → bytes ≡ before ++ piece → length piece ≤ piece_limit → line_end (unread ++ before) ≡ None → Refills unread bytes
+
 -- more bytes were taken, and none passed
 pub record Takes {R : Type 0} (left : R → List ℕ → Type 0) (failures : R → ℕ) (old : Reading) (reader : R) (new : Reading) (after : R) : Type 0 where
   pub bytes : List ℕ
@@ -20,6 +25,7 @@ pub record Takes {R : Type 0} (left : R → List ℕ → Type 0) (failures : R �
   pub unread : new.unread ≡ old.unread ++ bytes
   pub budget : new.budget ≡ old.budget
   pub bound : length new.unread ≤ new.budget + 1
+  pub refills : Refills old.unread bytes
 
 -- what is so of what comes next
 abbrev pub IsNext : {R : Type 0} → (R → List ℕ → Type 0) → Reading → R → Next → Type 0

@@ -21,6 +21,10 @@ pub record Gave {R : Type 0} (left : R → List ℕ → Type 0) (failures : R �
   pub tells : (all : List ℕ) → left old all → Follows (left new) bytes all
   pub counts : failures old ≤ failures new
 
+-- the most bytes that one call of a reader is asked for
+abbrev pub piece_limit : ℕ
+piece_limit = 4096
+
 -- no bytes are left
 abbrev pub AtEnd : {R : Type 0} → (R → List ℕ → Type 0) → R → Type 0
 AtEnd left r = (all : List ℕ) → left r all → all ≡ []

@@ -85,6 +85,7 @@ fn judge_line<J: Judge>(
     ensures judges { OnOk result (J.rules.line judge.old (take count lines.old.unread) (Ok judge.new)) }
     ensures passes { OnOk result (lines.new ≡ record { unread = drop (count + 1) lines.old.unread; budget = lines.old.budget - (count + 1) }) }
     ensures fails { IfErr result (λ e. FailsBy J.rules e (AtLine line (J.rules.line judge.old (take count lines.old.unread)))) }
+    ensures number { IfErr result (λ e. e.line ≡ line) }
 {
     match judge.judge(alloc, front(lines.unread(), count)) {
         Ok(()) => {
@@ -96,7 +97,8 @@ fn judge_line<J: Judge>(
 }
 
 fn finished<J: Judge>(alloc: Global, judge: &mut J, line: u64) -> Result<(), LineFault<J::Fault>>
-    ensures { Gives J.rules judge.new result (AtLine line (J.rules.end judge.old)) }
+    ensures gives { Gives J.rules judge.new result (AtLine line (J.rules.end judge.old)) }
+    ensures number { IfErr result (λ e. e.line ≡ line) }
 {
     match judge.finish(alloc) {
         Ok(()) => Ok(()),
@@ -111,7 +113,8 @@ fn close<J: Judge>(
     next: Next,
     line: u64,
 ) -> Result<(), LineFault<J::Fault>>
-    ensures { Closes J.rules next line judge.old judge.new result }
+    ensures closes { Closes J.rules next line judge.old judge.new result }
+    ensures number { IfErr result (λ e. e.line ≡ line) }
 {
     match next {
         Next::End => finished(alloc, judge, line),
@@ -150,8 +153,8 @@ fn judge_all<R: Reader, J: Judge>(
 /// is judged. All lines together may have `limit` bytes, LFs included.
 ///
 /// The answer is one that the text has by the rules, and `judge` then holds what its lines make; or
-/// the reader failed in this call. At most one byte past the limit is read, and after a fault the reader isn't called.
-/// Of a reader whose bytes aren't known the answer is that of some bytes that it gave.
+/// the reader failed in this call. At most one byte past the limit is read, and the reader isn't called once the line
+/// with the fault is whole. Of a reader whose bytes aren't known the answer is that of some bytes that it gave.
 ///
 /// # Errors
 /// The first fault of the text with its line, by the rules of `judge`: the fault of a line, that of

@@ -191,8 +191,10 @@ impl Lines {
     }
 
     /// Takes more bytes and returns how many, 0 at the end. The last is at most one past the budget.
+    #[tactic(auto, using(crate::proofs::Gaves::filled))]
     fn fill<R: Reader>(&mut self, reader: &mut R) -> Result<usize, Halt>
-        requires { length self.old.unread ≤ self.old.budget }
+        requires allowed { length self.old.unread ≤ self.old.budget }
+        requires unended { line_end self.old.unread ≡ None }
         ensures takes { Takes R.left R.failures self.old reader.old self.new reader.new }
         ensures same { OnErr result (self.new ≡ self.old) }
         ensures count { IfOk result (λ n. length self.new.unread ≡ length self.old.unread + n) }

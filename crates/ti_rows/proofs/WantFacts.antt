@@ -1,17 +1,19 @@
 -- A record that the table asks for does what is wanted.
 use Rattle.std.proofs.Common.{◌≡◌, ℕ, Bool, true, false, ◌||◌, if◌then◌else◌, Option, inl, inr, refl, sym, ap, ◌∙◌, subst}
 use Rattle.vt_term.specs.Color.{Color}
-use Rattle.vt_term.specs.Look.{Rendition}
+use Rattle.vt_term.specs.Look.{Rendition, blank}
 use Rattle.vt_term.specs.Screen.{Screen}
 use Rattle.vt_effects.specs.declared.effects.Effect.{Effect}
 use Rattle.vt_effects.specs.declared.effects.Rendering.{Rendering}
-use Rattle.vt_effects.specs.Effect.{applied, switched, inked, rendered}
+use Rattle.vt_effects.specs.declared.effects.Erasure.{Erasure}
+use Rattle.vt_effects.specs.declared.effects.Erasure.TheVariants as erasures
+use Rattle.vt_effects.specs.Effect.{applied, switched, inked, rendered, erased}
 use Rattle.vt_effects.specs.Record.{switch_of}
 use Rattle.ti_rows.specs.Rows.{Marks, Looks, Row, Clear, Cup, Home, Cr, Hpa, Vpa, Cub1, Cuf1, Cuu1, Cud1, Cub, Cuf, Cuu, Cud, El, El1, Ed, Ech, Sgr, Sgr0, Setaf, Setab, Op, Smul, Rev, Blink, Dim, Bold, Invis, Smso, Enacs, Smacs, Rmacs, Csr, Ind, Ri, Civis, Cnorm, Cvvis, Smcup, Rmcup, Bel}
 use Rattle.ti_rows.specs.Looks.{shown}
 use Rattle.ti_rows.specs.Starts.{Starts}
-use Rattle.ti_rows.specs.Wants.{Wants, Appears, HasJust, marked, adding}
-use Rattle.ti_rows.specs.Asked.{asked, on_or_kept, is_on, ink_of, defaults_both_inks, just, with_marks_on, rendering}
+use Rattle.ti_rows.specs.Wants.{Wants, Appears, HasJust, ErasesOnce, Nothing, Everything, ToLineEnd, FromLineStart, ToScreenEnd, NextCells, StaysOrEnds, Bounds, Enters, marked, adding}
+use Rattle.ti_rows.specs.Asked.{asked, on_or_kept, is_on, ink_of, defaults_both_inks, just, with_marks_on, rendering, bounding, entering}
 
 ends_calm : (b p : Bool) → p ≡ false → (if b then false else p) ≡ p
 ends_calm true p h = sym h
@@ -55,6 +57,25 @@ appears : (b : Bool) (s : Screen) → Appears s (record s { visible = switched (
 appears true s = inl refl
 appears false s = inr refl
 
+-- the six erasures of a record
+erases_once : (x : Erasure) (s : Screen) → ErasesOnce s (erased x s.row s.col (blank s.rendition) s.grid)
+erases_once erasures.Nothing s = Nothing refl
+erases_once erasures.Screen s = Everything refl
+erases_once erasures.Tail s = ToLineEnd refl
+erases_once erasures.Head s = FromLineStart refl
+erases_once erasures.Rest s = ToScreenEnd refl
+erases_once (erasures.Next n) s = NextCells n refl
+
+stays_or_ends : (ends before : Bool) → StaysOrEnds before (if ends then false else before)
+stays_or_ends true before = inr refl
+stays_or_ends false before = inl refl
+
+bounds : (top bottom : ℕ) (e : Effect) (s : Screen) → Bounds top bottom s (applied (bounding top bottom e) s)
+bounds top bottom e s = record { others = refl; pending = stays_or_ends e.ends_pending s.pending }
+
+enters : (e : Effect) (s : Screen) → Enters s (applied (entering e) s)
+enters e s = record { others = refl; cells = erases_once e.erasure s; pending = stays_or_ends e.ends_pending s.pending }
+
 asked_wanted : (rows cols : ℕ) (l : Looks) (row : Row) (e : Effect) (s : Screen) → Starts rows cols row s → Wants l row s (applied (asked l row e) s)
 asked_wanted rows cols l Clear e s h = refl
 asked_wanted rows cols l (Cup row col) e s h = refl
@@ -89,14 +110,14 @@ asked_wanted rows cols l Smso e s h = rendition_set (with_marks_on l.standout) _
 asked_wanted rows cols l Enacs e s h = refl
 asked_wanted rows cols l Smacs e s h = refl
 asked_wanted rows cols l Rmacs e s h = refl
-asked_wanted rows cols l (Csr top bottom) e s h = refl
+asked_wanted rows cols l (Csr top bottom) e s h = bounds top bottom e s
 asked_wanted rows cols l Ind e s h = ap (λ (p : Bool). record s { grid = (applied (asked l Ind e) s).grid; pending = p }) (ends_calm e.ends_pending s.pending h.0.pending)
 asked_wanted rows cols l Ri e s h = ap (λ (p : Bool). record s { grid = (applied (asked l Ri e) s).grid; pending = p }) (ends_calm e.ends_pending s.pending h.0.pending)
 asked_wanted rows cols l Civis e s h = refl
 asked_wanted rows cols l Cnorm e s h = refl
 asked_wanted rows cols l Cvvis e s h = appears (is_on e.visible) s
-asked_wanted rows cols l Smcup e s h = refl
-asked_wanted rows cols l Rmcup e s h = refl
+asked_wanted rows cols l Smcup e s h = enters e s
+asked_wanted rows cols l Rmcup e s h = enters e s
 asked_wanted rows cols l Bel e s h = refl
 
 pub asked_is_wanted : (rows cols : ℕ) (l : Looks) (row : Row) (e : Effect) → e ≡ asked l row e → (s : Screen) → Starts rows cols row s → Wants l row s (applied e s)

@@ -2,7 +2,7 @@
 use Rattle.std.specs.Prelude.{ℕ, ◌+◌, ◌-◌, ◌≡◌, ◌⊎◌, ◌==◌, ◌&&◌, ◌||◌, nat_le, nat_lt, Bool, true, false, Option, Some, None, if◌then◌else◌}
 use Rattle.vt_term.specs.Color.{Color}
 use Rattle.vt_term.specs.Look.{Rendition, plain, blank}
-use Rattle.vt_term.specs.Grid.{drawn, scrolled_up, scrolled_down}
+use Rattle.vt_term.specs.Grid.{Grid, drawn, scrolled_up, scrolled_down}
 use Rattle.vt_term.specs.Screen.{Screen}
 use Rattle.ti_rows.specs.Looks.{shown}
 use Rattle.ti_rows.specs.Rows.{Marks, Looks, Row, Clear, Cup, Home, Cr, Hpa, Vpa, Cub1, Cuf1, Cuu1, Cud1, Cub, Cuf, Cuu, Cud, El, El1, Ed, Ech, Sgr, Sgr0, Setaf, Setab, Op, Smul, Rev, Blink, Dim, Bold, Invis, Smso, Enacs, Smacs, Rmacs, Csr, Ind, Ri, Civis, Cnorm, Cvvis, Smcup, Rmcup, Bel}
@@ -39,16 +39,59 @@ Renders r s t = t ≡ record s { rendition = r; charset = t.charset }
 abbrev pub HasJust : Marks → Screen → Screen → Type 0
 HasJust m s t = Renders (marked m s.rendition.foreground s.rendition.background) s t ⊎ Renders (marked m None None) s t
 
--- cells around the cursor become blank
+-- the cells around the cursor that an erasure chooses: to the line's end, from its start, to the screen's end, and so
+-- many to the right (ECMA-48 8.3.41, 8.3.39, 8.3.38)
+abbrev pub to_line_end : Screen → ℕ → ℕ → Bool
+to_line_end s i j = (i == s.row) && nat_le s.col j
+
+abbrev pub from_line_start : Screen → ℕ → ℕ → Bool
+from_line_start s i j = (i == s.row) && nat_le j s.col
+
+abbrev pub to_screen_end : Screen → ℕ → ℕ → Bool
+to_screen_end s i j = nat_lt s.row i || ((i == s.row) && nat_le s.col j)
+
+abbrev pub next_cells : ℕ → Screen → ℕ → ℕ → Bool
+next_cells n s i j = (i == s.row) && (nat_le s.col j && nat_lt j (s.col + n))
+
+-- the chosen cells become blank, on the background of the start
+abbrev pub with_blanks : (ℕ → ℕ → Bool) → Screen → Grid
+with_blanks chosen s = drawn (λ i j old. if chosen i j then blank s.rendition else old) s.grid
+
+-- they do, and all else stays
 abbrev pub Blanks : (ℕ → ℕ → Bool) → Screen → Screen → Type 0
-Blanks chosen s t = t ≡ record s { grid = drawn (λ i j old. if chosen i j then blank s.rendition else old) s.grid }
+Blanks chosen s t = t ≡ record s { grid = with_blanks chosen s }
+
+-- the cells after one erasure at most, around the cursor of the start
+pub data ErasesOnce (s : Screen) (cells : Grid) : Type 0 where
+  Nothing : cells ≡ s.grid → ErasesOnce s cells
+  Everything : cells ≡ with_blanks (λ i j. true) s → ErasesOnce s cells
+  ToLineEnd : cells ≡ with_blanks (to_line_end s) s → ErasesOnce s cells
+  FromLineStart : cells ≡ with_blanks (from_line_start s) s → ErasesOnce s cells
+  ToScreenEnd : cells ≡ with_blanks (to_screen_end s) s → ErasesOnce s cells
+  NextCells : (n : ℕ) → cells ≡ with_blanks (next_cells n s) s → ErasesOnce s cells
+
+-- a pending wrap stays or ends, and none begins
+abbrev pub StaysOrEnds : Bool → Bool → Type 0
+StaysOrEnds before after = (after ≡ before) ⊎ (after ≡ false)
+
+-- the margins become these lines; the cursor may go anywhere, a pending wrap may end, and all else stays
+pub record Bounds (top bottom : ℕ) (s t : Screen) : Type 0 where
+  pub others : t ≡ record s { top = top; bottom = bottom; row = t.row; col = t.col; pending = t.pending }
+  pub pending : StaysOrEnds s.pending t.pending
+
+-- a program's screen begins or ends: one erasure at most; the cursor may go anywhere, a pending wrap may end, rendition
+-- and sets are free, and all else stays
+pub record Enters (s t : Screen) : Type 0 where
+  pub others : t ≡ record s { grid = t.grid; row = t.row; col = t.col; pending = t.pending; rendition = t.rendition; charset = t.charset }
+  pub cells : ErasesOnce s t.grid
+  pub pending : StaysOrEnds s.pending t.pending
 
 -- the cursor becomes visible, or all stays
 abbrev pub Appears : Screen → Screen → Type 0
 Appears s t = (t ≡ record s { visible = true }) ⊎ (t ≡ s)
 
--- what a row's string makes of a start: each equation is on what it changes, and all else stays. The sets, and what a
--- string that enters or leaves a program's screen makes of it, are free where the end stands on the right as well
+-- what a row's string makes of a start: each equation is on what it changes, and all else stays. The sets are free where
+-- the end stands on the right as well
 abbrev pub Wants : Looks → Row → Screen → Screen → Type 0
 Wants l Clear s t = t ≡ record s { grid = drawn (λ i j old. blank s.rendition) s.grid; row = 0; col = 0; pending = false }
 Wants l (Cup row col) s t = t ≡ record s { row = row; col = col; pending = false }
@@ -64,10 +107,10 @@ Wants l (Cub n) s t = t ≡ record s { col = s.col - n }
 Wants l (Cuf n) s t = t ≡ record s { col = s.col + n }
 Wants l (Cuu n) s t = t ≡ record s { row = s.row - n }
 Wants l (Cud n) s t = t ≡ record s { row = s.row + n }
-Wants l El s t = Blanks (λ i j. (i == s.row) && nat_le s.col j) s t
-Wants l El1 s t = Blanks (λ i j. (i == s.row) && nat_le j s.col) s t
-Wants l Ed s t = Blanks (λ i j. nat_lt s.row i || ((i == s.row) && nat_le s.col j)) s t
-Wants l (Ech n) s t = Blanks (λ i j. (i == s.row) && (nat_le s.col j && nat_lt j (s.col + n))) s t
+Wants l El s t = Blanks (to_line_end s) s t
+Wants l El1 s t = Blanks (from_line_start s) s t
+Wants l Ed s t = Blanks (to_screen_end s) s t
+Wants l (Ech n) s t = Blanks (next_cells n s) s t
 Wants l (Sgr a) s t = HasJust (shown l a) s t
 Wants l Sgr0 s t = Renders plain s t
 Wants l (Setaf c) s t = t ≡ record s { rendition = record s.rendition { foreground = Some c } }
@@ -83,12 +126,12 @@ Wants l Smso s t = Renders (adding l.standout s.rendition) s t
 Wants l Enacs s t = t ≡ record s { charset = t.charset }
 Wants l Smacs s t = t ≡ record s { charset = t.charset }
 Wants l Rmacs s t = t ≡ record s { charset = t.charset }
-Wants l (Csr top bottom) s t = t ≡ record s { top = top; bottom = bottom; row = t.row; col = t.col; pending = t.pending }
+Wants l (Csr top bottom) s t = Bounds top bottom s t
 Wants l Ind s t = t ≡ record s { grid = scrolled_up s.top s.bottom 1 (blank s.rendition) s.grid }
 Wants l Ri s t = t ≡ record s { grid = scrolled_down s.top s.bottom 1 (blank s.rendition) s.grid }
 Wants l Civis s t = t ≡ record s { visible = false }
 Wants l Cnorm s t = t ≡ record s { visible = true }
 Wants l Cvvis s t = Appears s t
-Wants l Smcup s t = t ≡ record s { grid = t.grid; row = t.row; col = t.col; pending = t.pending; rendition = t.rendition; charset = t.charset }
-Wants l Rmcup s t = t ≡ record s { grid = t.grid; row = t.row; col = t.col; pending = t.pending; rendition = t.rendition; charset = t.charset }
+Wants l Smcup s t = Enters s t
+Wants l Rmcup s t = Enters s t
 Wants l Bel s t = t ≡ s

@@ -17,6 +17,7 @@ mod watchers;
 
 pub use certifiers::{Certifier, Checker};
 pub use checks::check_entry;
+pub use refusals::no_words;
 pub use surveys::survey_files;
 pub use verifications::{checked_at, verify_certificate};
 pub use watchers::Watcher;

@@ -1,7 +1,8 @@
-use Rattle.std.proofs.Common.{◌≡◌, ℕ, true, false, List, Some, refl, sym, ◌∙◌}
+use Rattle.std.proofs.Common.{◌≡◌, ℕ, true, false, List, ◌++◌, Some, refl, sym, ◌∙◌}
 use Rattle.ti_rows.specs.declared.rows.Row.TheVariants.{Bel}
 use Rattle.cur_paint.specs.declared.updates.Status.TheVariants.{Lost}
 use Rattle.cur_paint.proofs.BellFacts.{rung_fits, rung_short}
+use Rattle.cur_paint.proofs.UpdateFacts.{front_of_front}
 use Rattle.cur_paint.proofs.bells.beep.Goals as goal
 
 not_both : true ≡ false → ⊥
@@ -22,6 +23,7 @@ returns-in-Ok g c =
         same = refl;
         held = some;
         fits = rung_fits t c.rows.ensures.checked line is before.status some before.belief;
+        cut = λ x y e. rung_short t c.rows.ensures.checked line is before.status some before.belief x y e;
       };
     }
 
@@ -44,6 +46,8 @@ returns-in-Err g c =
         failed = stops.failed;
         held = some;
         fits = rung_short t c.rows.ensures.checked line is before.status some before.belief stops.front stops.back stops.parts;
+        cut = λ x y e. rung_short t c.rows.ensures.checked line is before.status some before.belief x (y ++ stops.back)
+            (front_of_front line stops.front stops.back x y stops.parts e);
         lost = refl;
         some_left = stops.some_left;
       };

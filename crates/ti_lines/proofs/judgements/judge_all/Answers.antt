@@ -33,7 +33,7 @@ returns-in_err-judge_line-in-Line g c =
     let is = subst (λ n. IsNext L c.next.new.self c.next.new.reader n) c.in-Line.is c.in-Ok.ensures.next in
     let e = err_from_is_err_and c.from_residual.result c.from_residual.ensures.1 in
     rw (e.1, e.2) (exit_line rules c.args.limit c.args.judge.now c.judge_line.new.judge L F c.args.reader.now c.next.new.reader c.next.new.self c.loop-next.line c.loop-next.judge c.in-Line.count _ p is.0 is.1
-    c.in_err-judge_line-in-Line.ensures.fails)
+    c.in_err-judge_line-in-Line.ensures.fails c.in_err-judge_line-in-Line.ensures.number)
 
 pub returns-in_default : goal.returns-in_default
 returns-in_default g c =
@@ -42,7 +42,7 @@ returns-in_default g c =
     let F = g.R.Reader.failures in
     let p = progress_takes rules c.args.limit c.args.judge.now L F c.args.reader.now c.loop-next.reader c.next.new.reader c.loop-next.lines c.next.new.self c.loop-next.line c.loop-next.judge c.loop-next.invariant c.in-Ok.ensures.takes in
     exit_closed rules c.args.limit c.args.judge.now c.close.new.judge L F c.args.reader.now c.next.new.reader c.next.new.self c.loop-next.line c.loop-next.judge c.in-Ok.next c.close.result p c.in-Ok.ensures.next
-    (λ n e. c.in_default.not-Line n e) c.close.ensures
+    (λ n e. c.in_default.not-Line n e) c.close.ensures.closes c.close.ensures.number
 
 pub loop-next-preserved : goal.loop-next-preserved
 loop-next-preserved g c =

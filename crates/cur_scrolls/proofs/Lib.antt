@@ -1,0 +1,2 @@
+pub mod FrameFacts
+pub mod Shifts

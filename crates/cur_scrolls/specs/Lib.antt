@@ -1,0 +1,2 @@
+pub mod Scrolls
+pub mod Frames

@@ -1,0 +1,96 @@
+//! A region of the screen that the terminal scrolls.
+ghost use Rattle.std.specs.Prelude.{◌≡◌, ◌+◌, ◌*◌, ◌<◌, ◌≤◌, ℕ, OnOk};
+ghost use Rattle.ti_conforms.specs.Certified.{IsChecked, cell_limit};
+ghost use Rattle.cur_looks.specs.declared.beliefs.Belief.{Belief};
+ghost use Rattle.cur_looks.specs.declared.inks.Ink.{Ink};
+ghost use Rattle.cur_looks.specs.Steps.{Makes};
+ghost use Rattle.cur_scrolls.specs.Scrolls.{CanScroll, shifted};
+ghost use Rattle.cur_scrolls.specs.Frames.{Frame, Moves, at_edge, whole};
+
+use crate::frames::{send_row, set_frame};
+use crate::scrolls::{Scroll, edge, first_blank, scroll_row};
+use cur_looks::{Belief, Brush, Place, brush_as};
+use cur_wires::{Wire, WireFault};
+use ti_conforms::Certificate;
+
+/// Moves the region's lines as `scroll` says, one line after the other, from where that is done.
+fn scroll_at_edge<C: Certificate, W: Wire>(
+    checked: &C,
+    wire: &mut W,
+    scroll: Scroll,
+) -> Result<(), WireFault>
+    requires checked { IsChecked (C.table checked.now) }
+    requires lines { CanScroll (C.table checked.now) scroll }
+    ensures step { (g : ℕ → ℕ → Ink) (b : Belief) → Moves W.went W.failures wire.old wire.new result
+        (C.table checked.now) (scroll.count * (C.table checked.now).longest.scroll)
+        (at_edge scroll g) (at_edge scroll (shifted scroll g)) b }
+{
+    for _line in 0..scroll.count {
+        send_row(checked, wire, scroll_row(scroll))?;
+    }
+    Ok(())
+}
+
+/// Moves the region's lines as `scroll` says; then the margins are the whole screen, and the cursor is at the start of
+/// the line `row`.
+fn scroll_and_widen<C: Certificate, W: Wire>(
+    checked: &C,
+    wire: &mut W,
+    scroll: Scroll,
+    row: u16,
+) -> Result<(), WireFault>
+    requires checked { IsChecked (C.table checked.now) }
+    requires lines { CanScroll (C.table checked.now) scroll }
+    requires row { row < (C.table checked.now).rows }
+    ensures step { (g : ℕ → ℕ → Ink) (b : Belief) → Moves W.went W.failures wire.old wire.new result
+        (C.table checked.now) (scroll.count * (C.table checked.now).longest.scroll
+        + ((C.table checked.now).longest.scroll + (C.table checked.now).longest.cup))
+        (at_edge scroll g) (whole (C.table checked.now) (shifted scroll g) row) b }
+{
+    scroll_at_edge(checked, wire, scroll)?;
+    set_frame(checked, wire, 0, (checked.rows() - 1) as u16, row)
+}
+
+/// The same from any margins.
+fn scroll_region<C: Certificate, W: Wire>(
+    checked: &C,
+    wire: &mut W,
+    scroll: Scroll,
+    row: u16,
+) -> Result<(), WireFault>
+    requires checked { IsChecked (C.table checked.now) }
+    requires lines { CanScroll (C.table checked.now) scroll }
+    requires row { row < (C.table checked.now).rows }
+    ensures step { (f : Frame) (b : Belief) → Moves W.went W.failures wire.old wire.new result
+        (C.table checked.now) ((scroll.count + 2) * (C.table checked.now).longest.scroll
+        + 2 * (C.table checked.now).longest.cup)
+        f (whole (C.table checked.now) (shifted scroll f.cells) row) b }
+{
+    set_frame(checked, wire, scroll.top, scroll.bottom, edge(scroll))?;
+    scroll_and_widen(checked, wire, scroll, row)
+}
+
+/// Moves lines as `scroll` says, by the terminal's own scrolling: in the plain brush, within margins that are the whole
+/// screen again at the end. The lines that come in are blank, and no other line changes. At a failure the terminal is
+/// lost, whatever its margins are.
+pub fn scroll_lines<C: Certificate, W: Wire>(
+    checked: &C,
+    belief: &mut Belief,
+    wire: &mut W,
+    scroll: Scroll,
+) -> Result<(), WireFault>
+    requires lines { CanScroll (C.table checked.now) scroll }
+    ensures step { Makes W.went W.failures wire.old wire.new result (C.table checked.now)
+        ((scroll.count + 4) * cell_limit (C.table checked.now)) (shifted scroll) belief.old belief.new }
+    ensures mode { OnOk result (belief.new.mode ≡ belief.old.mode) }
+{
+    // only this call's contract says that the certificate is verified
+    let _ = checked.rows();
+    brush_as(checked, belief, wire, Brush::plain())?;
+    let row = first_blank(scroll);
+    belief.place = Place {
+        row: row as usize,
+        col: 0,
+    };
+    scroll_region(checked, wire, scroll, row)
+}
