@@ -288,4 +288,5 @@ def main():
     print(f"scripts: {len(REFUSED)} lines are refused, and a closed output is told after the run, as is a disk that is full after each byte of an example")
 
 
-main()
+if __name__ == "__main__":
+    main()

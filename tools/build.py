@@ -1,5 +1,6 @@
 #!/usr/bin/env python3
 """Proves and builds the program and the crates that it stands on, as many side by side as there are processors.
+With the word `curses_c` it does so for the library for C.
 
 Each crate is built in a room of its own: a folder with links to its files and to the built libraries below it. The
 toolchain lets no two runs work in one folder, and most crates stand on the same few. What was proved goes back to the
@@ -17,8 +18,8 @@ import subprocess
 import sys
 import time
 
-from crates import TOP, below, listed
-from sources import PROGRAM, PROVED, is_newer, size_of
+from crates import TOP, below, heads, listed
+from sources import ARCHIVE, LIBRARY, PROGRAM, PROVED, is_newer, size_of
 
 # a check of one crate takes about so many bytes of memory
 NEEDS = 3_000_000_000
@@ -56,7 +57,7 @@ class Room:
         os.makedirs(here, exist_ok=True)
         os.rename(here, there)
         with open(f"{self.top}/crates.txt", "w", encoding="utf-8") as file:
-            file.writelines(f"{crate}: {' '.join(self.uses[crate])}\n" for crate in self.names)
+            file.writelines(f"{heads()[crate]}: {' '.join(self.uses[crate])}\n" for crate in self.names)
 
     def leave(self):
         """Gives the crate its out/ back, also that of a build which was killed."""
@@ -74,9 +75,9 @@ class Room:
 class Build:
     """The crates that are built, those that are going, and those that are left."""
 
-    def __init__(self):
+    def __init__(self, top):
         self.uses = listed()
-        self.names = below([PROGRAM], self.uses)
+        self.names = below([top], self.uses)
         self.rooms = {name: Room(name, below([name], self.uses), self.uses) for name in self.names}
         above = {name: [other for other in self.names if name in self.uses[other]] for name in self.names}
         self.sizes = {name: size_of(name) for name in self.names}
@@ -90,7 +91,7 @@ class Build:
             room.leave()
 
     def ready(self):
-        """The crates whose libraries are built, first the one with the longest way to the program."""
+        """The crates whose libraries are built, first the one with the longest way to the top."""
         waiting = [name for name in self.names if name not in self.built and name not in self.going]
         free = [name for name in waiting if {*self.uses[name]} & {*self.names} <= {*self.built}]
         return sorted(free, key=self.length.get, reverse=True)
@@ -187,20 +188,21 @@ class Build:
 
 
 def main():
-    if is_newer(PROVED):
+    top, made, what = (ARCHIVE, LIBRARY, "library") if sys.argv[1:] == [ARCHIVE] else (PROGRAM, PROVED, "program")
+    if is_newer(made):
         return 0
-    print("ticurses: proving and building the program, which takes a while from nothing", file=sys.stderr, flush=True)
+    print(f"ticurses: proving and building the {what}, which takes a while from nothing", file=sys.stderr, flush=True)
     signal.signal(signal.SIGTERM, signal.default_int_handler)
     with open(f"{TOP}/crates.txt", encoding="utf-8") as lock:
         # a second build waits, and then finds everything built
         fcntl.flock(lock, fcntl.LOCK_EX)
         begun = time.time()
-        build = Build()
+        build = Build(top)
         try:
             status = build.run()
             if not status:
-                # an edit that leaves the program as it was leaves its age too, and one during the build is newer
-                os.utime(PROVED, (begun, begun))
+                # an edit that leaves what is made as it was leaves its age too, and one during the build is newer
+                os.utime(made, (begun, begun))
             return status
         except KeyboardInterrupt:
             build.stop()

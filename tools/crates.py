@@ -8,12 +8,21 @@ import sys
 TOP = os.path.dirname(os.path.dirname(os.path.abspath(__file__)))
 
 
-def listed(top=TOP):
-    """The libraries that each crate's line names, by the crate's name."""
+def rows(top):
+    """What is before the colon of each line, and what is after it."""
     with open(f"{top}/crates.txt", encoding="utf-8") as file:
         lines = [line.partition("#")[0] for line in file]
-    rows = [line.partition(":") for line in lines if line.strip()]
-    return {name.split()[0]: uses.replace(",", " ").split() for name, _, uses in rows}
+    return [line.partition(":")[::2] for line in lines if line.strip()]
+
+
+def listed(top=TOP):
+    """The libraries that each crate's line names, by the crate's name."""
+    return {head.split()[0]: uses.replace(",", " ").split() for head, uses in rows(top)}
+
+
+def heads(top=TOP):
+    """What each crate's line has before the colon: its name, and perhaps its kind."""
+    return {head.split()[0]: head.strip() for head, _ in rows(top)}
 
 
 def below(names, uses=None):

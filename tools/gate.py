@@ -15,7 +15,10 @@ from concurrent.futures import ThreadPoolExecutor
 from crates import TOP, listed
 
 # the scripts that run the program, which `rt ci` leaves built
-OF_PROGRAM = {"compiled.sh", "examples.sh", "expansions.sh", "hello.sh", "infocmp.sh", "manual.sh", "reality.sh", "screens.sh", "scripts.sh", "tour.sh"}
+OF_PROGRAM = {
+    "c.sh", "compiled.sh", "examples.sh", "expansions.sh", "hello.sh", "infocmp.sh", "manual.sh", "python.sh", "reality.sh",
+    "screens.sh", "scripts.sh", "tour.sh",
+}
 
 
 def minutes(since):

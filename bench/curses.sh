@@ -1,0 +1,61 @@
+#!/bin/sh
+# What a refresh takes of processor time, and how many bytes it sends, for a C program that is compiled against this
+# library and against ncurses (curses_scenes.c): the same calls, with the same entry, into a file; both by turns, the best
+# of five. A refresh is counted with the calls that draw what it shows. The line `open` is opening a session, with the
+# check of the entry in it. Where the two leave different screens, a line says so.
+# curses.sh [ROWSxCOLS..]: 24x80 50x132 200x500 if none is given. ENTRY is the terminal, xterm-256color if it isn't set.
+set -eu
+cd -- "$(dirname -- "$0")"
+work=$(mktemp -d)
+trap 'rm -rf "$work"' EXIT
+entry=${ENTRY:-xterm-256color}
+
+../install PREFIX="$work/prefix" >"$work/log"
+if ! cc -O2 -DNCURSES -o "$work/ncurses" curses_scenes.c -lncurses 2>"$work/log"; then
+    echo "curses: a C compiler, ncurses or its headers are missing" >&2
+    exit 1
+fi
+cc -O2 -I"$work/prefix/include" -o "$work/ticurses" curses_scenes.c "$work/prefix/lib/libticurses.a"
+mkdir "$work/terminfo"
+infocmp -x "$entry" >"$work/source"
+tic -x -o "$work/terminfo" "$work/source" 2>"$work/log"
+TERMINFO=$work/terminfo
+export TERMINFO
+compiled=$(find "$work/terminfo" -name "$entry" -type f)
+program=../crates/ticurses/out/ticurses
+
+# runs ROWS COLS SCENE
+runs() {
+    turns=5
+    while [ "$turns" -gt 0 ]; do
+        echo "ticurses $("$work/ticurses" "$compiled" "$1" "$2" "$3" "$work/ticurses.out")"
+        echo "ncurses $("$work/ncurses" "$entry" "$1" "$2" "$3" "$work/ncurses.out")"
+        turns=$((turns - 1))
+    done
+}
+
+# table ROWS COLS
+table() {
+    printf '%-10s %12s %12s %7s %10s %10s\n' "$1 by $2" "ticurses, us" "ncurses, us" "ratio" "bytes" "bytes"
+    for scene in full cell typing log windows pad colours open; do
+        runs "$1" "$2" "$scene" >"$work/times"
+        awk -v scene="$scene" '
+            !($1 in best) || $2 < best[$1] { best[$1] = $2; sent[$1] = $3 }
+            END {
+                ratio = best["ticurses"] / best["ncurses"]
+                printf "%-10s %12.1f %12.1f", scene, best["ticurses"] / 1000, best["ncurses"] / 1000
+                printf " %7.2f %10d %10d\n", ratio, sent["ticurses"], sent["ncurses"]
+            }' "$work/times"
+        [ "$scene" != open ] && [ -x "$program" ] || continue
+        for one in ticurses ncurses; do
+            "$program" feed "$1" "$2" "$work/$one.out" >"$work/$one.screen" 2>&1 || :
+        done
+        cmp -s "$work/ticurses.screen" "$work/ncurses.screen" ||
+            echo "curses: $scene: the screens differ at $1 by $2" >&2
+    done
+}
+
+[ $# -gt 0 ] || set -- 24x80 50x132 200x500
+for size in "$@"; do
+    table "${size%x*}" "${size#*x}"
+done

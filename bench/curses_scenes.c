@@ -1,0 +1,373 @@
+/* curses_scenes ENTRY ROWS COLS SCENE OUTPUT: draws a scene some hundred times on a terminal of this
+ * size, into a file, and prints the processor time and the bytes of a refresh, with the calls before
+ * it: `NANOSECONDS BYTES REFRESHES`. Built with -DNCURSES it draws with ncurses, where ENTRY is a
+ * terminal's name, and else with ticurses, where it is a compiled file. The scene `open` opens a
+ * session instead, which for ticurses has the check of the entry in it. */
+#define _XOPEN_SOURCE 700
+#include <fcntl.h>
+#include <stdarg.h>
+#include <stdint.h>
+#include <stdio.h>
+#include <stdlib.h>
+#include <string.h>
+#include <time.h>
+#include <unistd.h>
+
+static int rows, cols;
+
+#ifdef NCURSES
+
+#define NCURSES_NOMACROS
+#include <curses.h>
+
+static WINDOW *windows[8];
+static FILE *stream;
+static const char *terminal;
+
+static void begin(void) {
+    FILE *input = fopen("/dev/null", "r");
+    if (!newterm(terminal, stream, input)) exit(3);
+    nonl();
+    typeahead(-1);
+    start_color();
+    use_default_colors();
+    windows[0] = stdscr;
+}
+static void finish(void) {
+    endwin();
+}
+static void make_window(int w, int l, int c, int y, int x) {
+    windows[w] = newwin(l, c, y, x);
+}
+static void make_pad(int w, int l, int c) {
+    windows[w] = newpad(l, c);
+}
+static void move_window(int w, int y, int x) {
+    mvwin(windows[w], y, x);
+}
+static void draw_box(int w) {
+    box(windows[w], 0, 0);
+}
+static void go(int w, int y, int x) {
+    wmove(windows[w], y, x);
+}
+static void put(int w, int byte) {
+    waddch(windows[w], (chtype)byte);
+}
+static void text(int w, const char *bytes, int len) {
+    waddnstr(windows[w], bytes, len);
+}
+static void bold(int w, int is_on) {
+    is_on ? wattron(windows[w], A_BOLD) : wattroff(windows[w], A_BOLD);
+}
+static void colour(int w, int pair) {
+    wcolor_set(windows[w], (short)pair, NULL);
+}
+static void make_pair(int pair, int fore, int back) {
+    init_pair((short)pair, (short)fore, (short)back);
+}
+static void set_scroll(int w) {
+    scrollok(windows[w], TRUE);
+    idlok(windows[w], TRUE);
+}
+static void scroll_up(int w) {
+    wscrl(windows[w], 1);
+}
+static void copy(int w) {
+    touchwin(windows[w]);
+    wnoutrefresh(windows[w]);
+}
+static void show(int w) {
+    wnoutrefresh(windows[w]);
+    doupdate();
+}
+static void show_all(void) {
+    doupdate();
+}
+static void show_pad(int w, int y, int x) {
+    prefresh(windows[w], y, x, 0, 0, rows - 1, cols - 1);
+}
+static long position(void) {
+    return lseek(fileno(stream), 0, SEEK_CUR);
+}
+static void prepare(const char *entry, const char *output) {
+    char size[16];
+    snprintf(size, sizeof size, "%d", rows);
+    setenv("LINES", size, 1);
+    snprintf(size, sizeof size, "%d", cols);
+    setenv("COLUMNS", size, 1);
+    setenv("NCURSES_NO_PADDING", "1", 1);
+    terminal = entry;
+    stream = fopen(output, "w");
+    if (!stream) exit(3);
+}
+
+#else
+
+#include <ticurses.h>
+
+static ticurses session;
+static char entry_bytes[32768];
+static size_t entry_len;
+static int out;
+
+/* Writes what a refresh sends. */
+static void drain(void) {
+    static char piece[65536];
+    size_t count;
+    while ((count = ticurses_output(&session, piece, sizeof piece)) > 0)
+        if (write(out, piece, count) != (ssize_t)count) exit(3);
+}
+
+static void done(int code) {
+    if (code == TICURSES_OK) return;
+    fprintf(stderr, "curses_scenes: %s\n", ticurses_text(code));
+    exit(3);
+}
+
+static void begin(void) {
+    done(ticurses_open(&session, entry_bytes, entry_len, NULL, 0, (uint16_t)rows, (uint16_t)cols, NULL, 0));
+}
+static void finish(void) {
+    ticurses_close(&session);
+}
+static void make_window(int w, int l, int c, int y, int x) {
+    done(ticurses_callf(&session, "newwin %d %d %d %d %d", w, l, c, y, x));
+}
+static void make_pad(int w, int l, int c) {
+    done(ticurses_callf(&session, "newpad %d %d %d", w, l, c));
+}
+static void move_window(int w, int y, int x) {
+    done(ticurses_callf(&session, "mvwin %d %d %d", w, y, x));
+}
+static void draw_box(int w) {
+    done(ticurses_callf(&session, "box %d - -", w));
+}
+static void go(int w, int y, int x) {
+    done(ticurses_callf(&session, "move %d %d %d", w, y, x));
+}
+static void put(int w, int byte) {
+    done(ticurses_callf(&session, "addch %d %02x", w, (unsigned)byte));
+}
+static void text(int w, const char *bytes, int len) {
+    done(ticurses_addstr(&session, (size_t)w, bytes, (size_t)len));
+}
+static void bold(int w, int is_on) {
+    done(ticurses_callf(&session, "%s %d B", is_on ? "attron" : "attroff", w));
+}
+static void colour(int w, int pair) {
+    done(ticurses_callf(&session, "color_set %d %d", w, pair));
+}
+static void make_pair(int pair, int fore, int back) {
+    done(ticurses_callf(&session, "init_pair %d %d %d", pair, fore, back));
+}
+static void set_scroll(int w) {
+    done(ticurses_callf(&session, "scrollok %d 1\nidlok %d 1", w, w));
+}
+static void scroll_up(int w) {
+    done(ticurses_callf(&session, "scroll %d 1", w));
+}
+static void copy(int w) {
+    done(ticurses_callf(&session, "noutrefresh %d", w));
+}
+static void show(int w) {
+    done(ticurses_callf(&session, "refresh %d", w));
+    drain();
+}
+static void show_all(void) {
+    done(ticurses_call(&session, "doupdate", 8));
+    drain();
+}
+static void show_pad(int w, int y, int x) {
+    done(ticurses_callf(&session, "prefresh %d %d %d 0 0 %d %d", w, y, x, rows - 1, cols - 1));
+    drain();
+}
+static long position(void) {
+    return lseek(out, 0, SEEK_CUR);
+}
+static void prepare(const char *entry, const char *output) {
+    FILE *file = fopen(entry, "rb");
+    entry_len = file ? fread(entry_bytes, 1, sizeof entry_bytes, file) : 0;
+    if (file) fclose(file);
+    out = open(output, O_WRONLY | O_CREAT | O_TRUNC, 0666);
+    if (out < 0) exit(3);
+}
+
+#endif
+
+/* -- the scenes -- */
+
+static uint32_t state = 4711;
+
+static int number(int below) {
+    state = (uint32_t)((uint64_t)state * 16807 % 2147483647);
+    return (int)(state % (uint32_t)below);
+}
+
+/* Words, from a place of the pool that is another one each time. */
+static char pool[8192 + 512];
+
+static void fill_pool(void) {
+    static const char *const list[] = {"ls",        "total",    "make", "cc1",  "warning",    "error",
+                                       "src/lib.c", "Makefile", "4096", "root", "drwxr-xr-x", "README"};
+    size_t at = 0;
+    while (at + 16 < sizeof pool) at += (size_t)snprintf(pool + at, sizeof pool - at, "%s ", list[number(12)]);
+    memset(pool + at, '.', sizeof pool - at);
+}
+
+static const char *words(int len) {
+    return pool + number((int)sizeof pool - len);
+}
+
+/* All but the last cell of the last row, which some terminals can't have without scrolling. */
+static int width(int row) {
+    return cols - (row == rows - 1);
+}
+
+static void fill(int w) {
+    for (int row = 0; row < rows; row++) {
+        go(w, row, 0);
+        text(w, words(width(row)), width(row));
+    }
+}
+
+static void set_page(void) {
+    fill(0);
+    show(0);
+}
+
+static void full(int step) {
+    (void)step;
+    fill(0);
+    show(0);
+}
+
+static void one_cell(int step) {
+    go(0, number(rows), number(cols - 1));
+    put(0, 'A' + step % 26);
+    show(0);
+}
+
+static void typed(int step) {
+    int at = step % (rows * (cols - 1));
+    go(0, at / (cols - 1), at % (cols - 1));
+    put(0, 'a' + step % 26);
+    show(0);
+}
+
+static void set_log(void) {
+    set_scroll(0);
+    set_page();
+}
+
+static void logged(int step) {
+    (void)step;
+    scroll_up(0);
+    go(0, rows - 1, 0);
+    text(0, words(cols - 1), cols - 1 - number(cols / 2));
+    show(0);
+}
+
+static void set_windows(void) {
+    set_page();
+    for (int w = 1; w <= 2; w++) {
+        make_window(w, rows / 3, cols / 3, w, w);
+        draw_box(w);
+        for (int row = 1; row < rows / 3 - 1; row++) {
+            go(w, row, 1);
+            text(w, words(cols / 3 - 2), cols / 3 - 2);
+        }
+    }
+}
+
+static void moved(int step) {
+    int down = rows - rows / 3, right = cols - cols / 3;
+    move_window(1, step % down, step * 2 % right);
+    move_window(2, (step * 3 + 5) % down, (step + 9) % right);
+    copy(0);
+    copy(1);
+    copy(2);
+    show_all();
+}
+
+static void set_pad(void) {
+    int height = rows * 3, length = cols + cols / 2 < 1000 ? cols + cols / 2 : 1000;
+    make_pad(3, height, length);
+    for (int row = 0; row < height; row++) {
+        go(3, row, 0);
+        text(3, words(length - 1), length - 1);
+    }
+}
+
+static void padded(int step) {
+    show_pad(3, step % (rows * 2), step % (cols / 2));
+}
+
+static void set_colours(void) {
+    for (int pair = 1; pair < 64; pair++) make_pair(pair, pair % 8, pair / 8);
+    set_page();
+}
+
+static void coloured(int step) {
+    for (int row = 0; row < rows; row++) {
+        for (int col = 0; col + 8 <= width(row); col += 8) {
+            colour(0, 1 + (row + col / 8 + step) % 63);
+            bold(0, (row + step) % 2);
+            go(0, row, col);
+            text(0, words(8), 8);
+        }
+    }
+    show(0);
+}
+
+static void none(void) {}
+
+static void opened(int step) {
+    (void)step;
+    finish();
+    begin();
+}
+
+static const struct scene {
+    const char *name;
+    void (*set)(void);
+    void (*step)(int);
+    /* how often, on a screen of 24 by 80 */
+    int count;
+    int by_size;
+} scenes[] = {
+    {"full", none, full, 1000, 1},
+    {"cell", set_page, one_cell, 20000, 0},
+    {"typing", set_page, typed, 20000, 0},
+    {"log", set_log, logged, 2000, 1},
+    {"windows", set_windows, moved, 2000, 1},
+    {"pad", set_pad, padded, 1000, 1},
+    {"colours", set_colours, coloured, 500, 1},
+    {"open", none, opened, 20, 0},
+};
+
+static long now(void) {
+    struct timespec time;
+    clock_gettime(CLOCK_PROCESS_CPUTIME_ID, &time);
+    return time.tv_sec * 1000000000L + time.tv_nsec;
+}
+
+int main(int argc, char **argv) {
+    const struct scene *scene = NULL;
+    if (argc != 6) return 2;
+    rows = atoi(argv[2]);
+    cols = atoi(argv[3]);
+    for (size_t at = 0; at < sizeof scenes / sizeof *scenes; at++)
+        if (!strcmp(argv[4], scenes[at].name)) scene = &scenes[at];
+    if (!scene) return 2;
+    prepare(argv[1], argv[5]);
+    fill_pool();
+    begin();
+    scene->set();
+    int count = scene->by_size ? scene->count * 1920 / (rows * cols) + 8 : scene->count;
+    long from = position(), began = now();
+    for (int step = 0; step < count; step++) scene->step(step);
+    long took = now() - began;
+    printf("%ld %ld %d\n", took / count, (position() - from) / count, count);
+    return 0;
+}

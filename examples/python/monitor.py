@@ -1,0 +1,318 @@
+#!/usr/bin/env python3
+"""monitor.py FILE [LOG]: shows a file, of which the keys move the part that is seen, and below it the last lines of a
+log as they come. It makes the same calls as examples/c/monitor.c."""
+
+import collections
+import errno
+import os
+import select
+import signal
+import sys
+import termios
+
+import ticurses
+
+# the windows: PAGE is a pad, the others are parts of the screen
+FRAME, PAGE, HEAD, LOG, STATUS, HELP = range(1, 7)
+# the colour pairs
+LIGHT, BAD, WARNING = range(1, 4)
+# a pad has at most so many lines and columns, and so many lines of the log are kept
+PAD_MAX, KEPT = 1000, 200
+# what the last byte of a key was
+PLAIN, ESCAPE, INTRODUCER = range(3)
+
+HELP_LINES = [
+    "up, down, k, j     a line",
+    "b, space           a page",
+    "left, right, h, l  eight columns",
+    "g, G               the ends",
+    "^L                 draw anew",
+    "q                  quit",
+]
+# the letters that stand for keys which send a sequence
+LETTERS = {"A": "k", "B": "j", "C": "l", "D": "h", "H": "g", "F": "G"}
+NUMBERS = {1: "g", 4: "G", 5: "b", 6: " "}
+
+
+def drawable(line):
+    """A line as it is drawn: tabs are spaces, and what can't stand in a cell is a question mark."""
+    line = line.expandtabs(8)
+    return bytes(it if 32 <= it <= 126 else 63 for it in line)[: PAD_MAX - 1].decode("ascii")
+
+
+class Log:
+    """The last lines of a file that grows."""
+
+    def __init__(self, path):
+        self.fd = os.open(path, os.O_RDONLY) if path else None
+        self.kept, self.partial = collections.deque(maxlen=KEPT), b""
+
+    def added(self):
+        """The lines that were added since. A file that became shorter is read from its start."""
+        if self.fd is None:
+            return
+        if os.fstat(self.fd).st_size < os.lseek(self.fd, 0, os.SEEK_CUR):
+            os.lseek(self.fd, 0, os.SEEK_SET)
+            self.partial = b""
+        while piece := os.read(self.fd, 4096):
+            *whole, self.partial = (self.partial + piece).split(b"\n")
+            for line in whole:
+                self.kept.append(drawable(line[:256])[:255])
+                yield self.kept[-1]
+
+
+class Monitor:
+    def __init__(self, path, log):
+        with open(path, "rb") as file:
+            held = file.read()
+        self.lines = [drawable(it) for it in (held[:-1] if held.endswith(b"\n") else held).split(b"\n")] if held else []
+        self.name, self.log = drawable(os.path.basename(os.fsencode(path))), Log(log)
+        self.fd = os.open("/dev/tty", os.O_WRONLY | os.O_NONBLOCK | os.O_NOCTTY)
+        self.before = termios.tcgetattr(0)
+        self.entry, self.session, self.piece = ticurses.find_entry(), None, b""
+        self.top = self.left = self.base = self.failures = 0
+        self.is_helping = self.is_ending = self.is_changed = False
+        self.key, self.number = PLAIN, 0
+        self.signals = collections.Counter()
+        self.open_session()
+
+    # -- the screen --
+
+    def open_session(self):
+        """Opens the session, also anew, for the size that the terminal has now, and draws all windows."""
+        self.rows, self.cols = ticurses.terminal_size(self.fd)
+        if self.session is None:
+            self.session = ticurses.Session(self.entry, self.rows, self.cols)
+        else:
+            self.session.open(self.entry, self.rows, self.cols)
+        # of a piece that is given up, the terminal may have got a part
+        if self.piece:
+            self.session.lost()
+        self.piece = b""
+        self.is_small, self.is_changed = self.rows < 10 or self.cols < 40, True
+        self.log_rows = (self.rows - 4) // 3
+        self.page_rows, self.page_cols = self.rows - 4 - self.log_rows, self.cols - 2
+        self.pad_rows = max(self.page_rows, min(len(self.lines), PAD_MAX))
+        self.pad_cols = max(self.page_cols, min(max(map(len, self.lines), default=0) + 1, PAD_MAX))
+        self.base = 0
+        self.session.call(f"init_pair {LIGHT} 7 4", f"init_pair {BAD} 7 1", f"init_pair {WARNING} 0 3")
+        try:
+            self.session.call("curs_set 0")
+        except ticurses.Error as error:
+            # without strings for it the cursor stays visible
+            if error.code != ticurses.Code.NO_CAP:
+                raise
+        if self.is_small:
+            self.session.call("addstr 0 small")
+        else:
+            self.make_windows()
+
+    def make_windows(self):
+        """Makes the windows of a screen that is large enough."""
+        call, cols, frame_rows = self.session.call, self.cols, self.rows - 2 - self.log_rows
+        call(f"newwin {FRAME} {frame_rows} {cols} 0 0", f"box {FRAME} - -", f"move {FRAME} 0 2", f"attron {FRAME} B")
+        call(f"addstr {FRAME}  {self.name[: cols - 6]} ")
+        call(f"newpad {PAGE} {self.pad_rows} {self.pad_cols}")
+        call(f"newwin {HEAD} 1 {cols} {frame_rows} 0", f"hline {HEAD} - {cols}")
+        call(f"move {HEAD} 0 2", f"addstr {HEAD}  log ")
+        call(f"newwin {LOG} {self.log_rows} {cols} {frame_rows + 1} 0", f"scrollok {LOG} 1")
+        call(f"newwin {STATUS} 1 {cols} {self.rows - 1} 0", f"bkgd {STATUS} 20:{LIGHT}")
+        call(f"newwin {HELP} 8 36 1 {(cols - 36) // 2}", f"bkgd {HELP} 20:{LIGHT}", f"box {HELP} - -")
+        for row, line in enumerate(HELP_LINES):
+            call(f"move {HELP} {row + 1} 2", f"addstr {HELP} {line}")
+        self.fill_page()
+        for line in self.log.kept:
+            self.show_logged(line)
+
+    def fill_page(self):
+        """Writes the lines of the text that are in the pad."""
+        self.session.call(f"erase {PAGE}")
+        for row, line in enumerate(self.lines[self.base : self.base + self.pad_rows]):
+            self.session.call(f"move {PAGE} {row} 0")
+            self.session.addstr(PAGE, line)
+
+    def show_logged(self, line):
+        """Writes a line of the log below those that are there."""
+        if self.is_small:
+            return
+        pair = BAD if "error" in line else WARNING if "warning" in line else 0
+        self.session.call(f"scroll {LOG} 1", f"move {LOG} {self.log_rows - 1} 0", f"color_set {LOG} {pair}")
+        self.session.addstr(LOG, line[: self.cols - 1])
+        self.session.call(f"color_set {LOG} 0")
+        self.is_changed = True
+
+    def place_page(self):
+        """Keeps the part that is seen within the text, and the pad round it."""
+        count = len(self.lines)
+        self.top = max(0, min(self.top, count - self.page_rows))
+        self.left = max(0, min(self.left, self.pad_cols - self.page_cols))
+        if self.top < self.base or self.top + self.page_rows > self.base + self.pad_rows:
+            self.base = max(0, min(self.top - (self.pad_rows - self.page_rows) // 2, count - self.pad_rows))
+            self.fill_page()
+
+    def draw_status(self):
+        count = len(self.lines)
+        last = min(count, self.top + self.page_rows)
+        seen = f" lines {min(self.top + 1, last)}-{last} of {count}, column {self.left}"
+        line = f"{seen}, {self.rows} by {self.cols}; ? for help"
+        self.session.call(f"erase {STATUS}")
+        self.session.addstr(STATUS, line[: self.cols - 1])
+
+    def draw(self):
+        """Has the session send what makes the terminal show all windows as they are."""
+        self.is_changed = False
+        if self.is_small:
+            self.session.call("refresh 0")
+            return
+        self.place_page()
+        self.draw_status()
+        part = f"{self.top - self.base} {self.left} 1 1 {self.page_rows} {self.page_cols}"
+        self.session.call(f"noutrefresh {FRAME}", f"pnoutrefresh {PAGE} {part}")
+        self.session.call(f"noutrefresh {HEAD}", f"noutrefresh {LOG}", f"noutrefresh {STATUS}")
+        if self.is_helping:
+            self.session.call(f"noutrefresh {HELP}")
+        self.session.call("doupdate")
+
+    # -- the terminal --
+
+    def is_pending(self):
+        """Whether bytes are still to be written."""
+        return bool(self.piece) or self.session.waiting > 0
+
+    def drain(self):
+        """Writes as much as the descriptor takes now. After an error the next refresh begins anew."""
+        while self.is_pending():
+            self.piece = self.piece or self.session.output(4096)
+            try:
+                self.piece = self.piece[os.write(self.fd, self.piece) :]
+                self.failures = 0
+            except BlockingIOError:
+                return
+            except OSError:
+                self.session.lost()
+                self.piece, self.is_changed = b"", True
+                self.failures += 1
+                self.is_ending = self.is_ending or self.failures >= 5
+                return
+
+    def restore(self):
+        """Leaves the terminal as other programs want it; waits at most two seconds for one that takes nothing."""
+        self.session.call("endwin")
+        for _ in range(20):
+            if not self.is_pending() or self.failures >= 5:
+                break
+            select.select([], [self.fd], [], 0.1)
+            self.drain()
+        try:
+            ticurses.set_cooked(self.before)
+        except termios.error as error:
+            # the terminal is gone
+            if error.args[0] != errno.EIO:
+                raise
+
+    def stop(self):
+        """Stops as ^Z asks for, and goes on with a terminal of which nothing is known."""
+        self.restore()
+        os.kill(os.getpid(), signal.SIGSTOP)
+        self.before = ticurses.set_raw()
+        self.session.lost()
+        self.piece, self.is_changed = b"", True
+
+    def take_signals(self):
+        """A signal is counted, and wakes the wait for keys."""
+        self.woken, waking = os.pipe()
+        os.set_blocking(self.woken, False)
+        os.set_blocking(waking, False)
+        signal.set_wakeup_fd(waking, warn_on_full_buffer=False)
+        for name in ("SIGWINCH", "SIGTSTP", "SIGINT", "SIGTERM", "SIGHUP", "SIGQUIT"):
+            signal.signal(getattr(signal, name), lambda number, _: self.signals.update([number]))
+
+    # -- the keys --
+
+    def act(self, letter):
+        self.is_changed = True
+        if letter in "kj":
+            self.top += 1 if letter == "j" else -1
+        elif letter in "b ":
+            self.top += self.page_rows if letter == " " else -self.page_rows
+        elif letter in "hl":
+            self.left += 8 if letter == "l" else -8
+        elif letter in "gG":
+            self.top = len(self.lines) if letter == "G" else 0
+        elif letter == "?":
+            self.is_helping = not self.is_helping
+        elif letter == "\f":
+            self.session.lost()
+        elif letter == "q":
+            self.is_ending = True
+        else:
+            self.is_changed = False
+
+    def take_byte(self, byte):
+        """A byte of a key; sequences may come in parts."""
+        if self.key == ESCAPE:
+            self.key, self.number = INTRODUCER if byte in "[O" else PLAIN, 0
+        elif self.key == INTRODUCER and byte in "0123456789":
+            self.number = self.number * 10 + int(byte) if self.number < 100 else 1000
+        elif self.key == INTRODUCER:
+            self.key = PLAIN
+            self.act((NUMBERS.get(self.number) if byte == "~" else LETTERS.get(byte)) or "\0")
+        elif byte == "\x1b":
+            self.key = ESCAPE
+        else:
+            self.act(byte)
+
+    def take_keys(self):
+        keys = os.read(0, 64).decode("latin-1")
+        self.is_ending = self.is_ending or not keys
+        for byte in keys:
+            self.take_byte(byte)
+
+    def wait(self):
+        """Waits a tenth of a second for a key, a signal, or room for what is pending."""
+        ready = select.select([0, self.woken], [self.fd] if self.is_pending() else [], [], 0.1)[0]
+        if self.woken in ready:
+            os.read(self.woken, 64)
+        if 0 in ready:
+            self.take_keys()
+
+    def run(self):
+        """Draws, writes and waits until a key or a signal ends it, and gives the signal. Nothing is drawn while the
+        terminal takes no more bytes, so that a slow one gets the last state and not each."""
+        while not self.is_ending:
+            if self.signals.pop(signal.SIGTSTP, 0):
+                self.stop()
+            if self.signals.pop(signal.SIGWINCH, 0):
+                self.open_session()
+            if self.signals:
+                return min(self.signals)
+            for line in self.log.added():
+                self.show_logged(line)
+            if self.is_changed and not self.is_pending():
+                self.draw()
+            self.drain()
+            self.wait()
+        return None
+
+
+def main():
+    if len(sys.argv) not in (2, 3):
+        sys.exit("usage: monitor.py FILE [LOG]")
+    try:
+        monitor = Monitor(*sys.argv[1:], *[None] * (3 - len(sys.argv)))
+    except (OSError, termios.error, ticurses.Error) as error:
+        sys.exit(f"monitor.py: {error}")
+    monitor.take_signals()
+    monitor.before = ticurses.set_raw()
+    try:
+        ended = monitor.run()
+    finally:
+        monitor.restore()
+        monitor.session.close()
+    if ended:
+        signal.signal(ended, signal.SIG_DFL)
+        os.kill(os.getpid(), ended)
+
+
+if __name__ == "__main__":
+    main()

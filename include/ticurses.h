@@ -1,0 +1,285 @@
+/* ticurses for C: certificates of terminfo entries, and curses sessions with a proved refresh.
+ *
+ * A session draws on one terminal. It is opened for the terminal's entry and size, takes calls of
+ * curses as lines of text, and what a refresh sends waits in it until the program takes it and writes
+ * it to the terminal:
+ *
+ *     ticurses session = {0};
+ *     code = ticurses_open(&session, entry, entry_len, NULL, 0, 24, 80, NULL, 0);
+ *     code = ticurses_callf(&session, "move 0 %d %d\naddstr 0 Hello\nrefresh 0", row, col);
+ *     while ((count = ticurses_output(&session, piece, sizeof piece)) > 0) .. write(fd, piece, count) ..
+ *     code = ticurses_call(&session, "endwin", 6);                        and write what waits
+ *     ticurses_close(&session);
+ *
+ * ticurses_terminal.h finds the entry and the size, and does the writing. Link with -lticurses.
+ *
+ * Bytes are handed over as a pointer and a length. Where the length is 0, the pointer may be null. A
+ * session is a `ticurses` that begins as {0} (in C++ {}). A program passes its address, and doesn't
+ * read, copy or write what is in it. Sessions are independent of each other, and any number may be
+ * open. On one session one call is made at a time. The library takes memory by malloc, realloc and
+ * free; it opens no file, writes none, and keeps nothing outside of sessions.
+ *
+ * A call answers one of the codes below: 0 (TICURSES_OK) where it was done. Null pointers, sessions
+ * that aren't open, short buffers and lines that are no call are answers. What is undefined: a pointer
+ * that isn't null and doesn't lead to as many bytes as its length says; two pointers of one call to the
+ * same bytes; a session that didn't begin as {0} or whose words the program wrote; two calls on one
+ * session at the same time. */
+#ifndef TICURSES_H
+#define TICURSES_H
+
+#include <stdarg.h>
+#include <stddef.h>
+#include <stdint.h>
+#include <stdio.h>
+#include <stdlib.h>
+
+#if defined(__GNUC__)
+#define TICURSES_PRINTF(at, rest) __attribute__((format(printf, at, rest)))
+#else
+#define TICURSES_PRINTF(at, rest)
+#endif
+
+#ifdef __cplusplus
+extern "C" {
+#endif
+
+enum ticurses_code {
+    TICURSES_OK = 0,
+    /* A call of curses is refused, and has changed nothing but what it says of itself (a string stops
+     * at the character that is refused). In the language of scripts the names are NoWindow,
+     * OutOfWindow, and so on. */
+    TICURSES_NO_WINDOW = 1,         /* the number is not that of a window */
+    TICURSES_OUT_OF_WINDOW = 2,     /* the place or the part is not in the window */
+    TICURSES_OUT_OF_SCREEN = 3,     /* the place or the part is not on the screen */
+    TICURSES_HAS_CHILDREN = 4,      /* the window has subwindows */
+    TICURSES_IS_SUB = 5,            /* the window is a subwindow */
+    TICURSES_PAD_KIND = 6,          /* the call takes no pad, or it takes only pads */
+    TICURSES_NO_SCROLL = 7,         /* the text goes past the last line, and the window may not scroll */
+    TICURSES_BAD_REGION = 8,        /* a size, a range or a mode that does not exist */
+    TICURSES_NUMBER_USED = 9,       /* the number is that of a window already */
+    TICURSES_BAD_CELL = 10,         /* the byte cannot stand in a cell */
+    TICURSES_FULL = 11,             /* window numbers are 0 to 63 */
+    TICURSES_NO_MEMORY = 12,        /* out of memory */
+    TICURSES_IS_SCREEN = 13,        /* window 0 stays */
+    TICURSES_NO_CAP = 14,           /* the entry lacks the strings for it */
+    TICURSES_IS_LOST = 15,          /* what the terminal shows is not known */
+    TICURSES_BAD_PAIR = 16,         /* pairs are 0 to 63, pair 0 cannot be changed, and colors are 0 to 7 */
+    /* and of the calls of this header */
+    TICURSES_OUTPUT_FAILED = 17,    /* no memory for the bytes of a refresh; the next refresh begins anew */
+    TICURSES_BAD_LINE = 18,         /* a line is no call; none of the lines was done */
+    TICURSES_TOO_LONG = 19,         /* more than 1048576 bytes of lines */
+    TICURSES_CLOSED = 20,           /* the session is not open */
+    TICURSES_BAD_SIZE = 21,         /* not 2 to 200 rows and 2 to 500 columns */
+    TICURSES_BAD_ENTRY = 22,        /* the entry cannot be read, or the source has none of this name */
+    TICURSES_BAD_CERTIFICATE = 23,  /* the certificate is not one of this entry and size */
+    TICURSES_NO_CERTIFICATE = 24,   /* a string of the entry is wrong; ticurses_reason says which */
+    TICURSES_NO_ROOM = 25,          /* the buffer is too short; nothing was written to it */
+    TICURSES_NULL = 26              /* a pointer is null, or a length is above PTRDIFF_MAX */
+};
+
+typedef struct ticurses { void *at; size_t state; } ticurses;
+
+/* What stands in a place of a window: a byte from 32 to 126, attributes, and a colour pair from 0 to 63. */
+typedef struct ticurses_cell { uint8_t byte, attrs, pair; } ticurses_cell;
+
+/* The attributes of a cell, with their letters in the language of scripts. */
+enum ticurses_attrs {
+    TICURSES_STANDOUT = 1,     /* S */
+    TICURSES_UNDERLINE = 2,    /* U */
+    TICURSES_REVERSE = 4,      /* R */
+    TICURSES_BLINK = 8,        /* K */
+    TICURSES_DIM = 16,         /* D */
+    TICURSES_BOLD = 32,        /* B */
+    TICURSES_INVISIBLE = 64,   /* I */
+    TICURSES_ALTCHARSET = 128  /* A, line drawing */
+};
+
+/* What the library exports. Pointers may not be null: programs call the functions below, which test them. */
+int32_t ticurses_raw_check(const uint8_t *entry, size_t entry_len, const uint8_t *name, size_t name_len, uint16_t rows,
+                           uint16_t cols, uint8_t *room, size_t room_len, size_t *needed);
+int32_t ticurses_raw_reason(const uint8_t *entry, size_t entry_len, const uint8_t *name, size_t name_len, uint16_t rows,
+                            uint16_t cols, uint8_t *room, size_t room_len, size_t *needed);
+int32_t ticurses_raw_verify(const uint8_t *entry, size_t entry_len, const uint8_t *name, size_t name_len, uint16_t rows,
+                            uint16_t cols, const uint8_t *certificate, size_t certificate_len);
+int32_t ticurses_raw_open(ticurses *session, const uint8_t *entry, size_t entry_len, const uint8_t *name,
+                          size_t name_len, uint16_t rows, uint16_t cols, const uint8_t *certificate,
+                          size_t certificate_len);
+int32_t ticurses_raw_call(ticurses *session, const uint8_t *text, size_t len);
+int32_t ticurses_raw_addstr(ticurses *session, size_t window, const uint8_t *text, size_t len);
+int32_t ticurses_raw_cursor(ticurses *session, size_t window, uint16_t *row, uint16_t *col);
+int32_t ticurses_raw_size(ticurses *session, size_t window, uint16_t *rows, uint16_t *cols);
+int32_t ticurses_raw_cell(ticurses *session, size_t window, uint16_t row, uint16_t col, ticurses_cell *cell);
+size_t ticurses_raw_waiting(ticurses *session);
+size_t ticurses_raw_output(ticurses *session, uint8_t *room, size_t room_len);
+int32_t ticurses_raw_lost(ticurses *session);
+void ticurses_raw_close(ticurses *session);
+
+static inline const uint8_t *ticurses_bytes(const void *at) { return at ? (const uint8_t *)at : (const uint8_t *)""; }
+static inline int ticurses_is_bad(const void *at, size_t len) { return (!at && len) || len > PTRDIFF_MAX; }
+
+/* Writes the certificate of an entry for a size. With a name, `entry` is a terminfo source text, of
+ * which the entry of this name is meant; without one it is a compiled entry. *needed becomes the
+ * certificate's length, also where that is more than the room has (TICURSES_NO_ROOM), and 0 where there
+ * is no certificate: TICURSES_BAD_SIZE, TICURSES_BAD_ENTRY, TICURSES_NO_CERTIFICATE,
+ * TICURSES_NO_MEMORY. */
+static inline int ticurses_check(const void *entry, size_t entry_len, const void *name, size_t name_len, uint16_t rows,
+                                 uint16_t cols, void *room, size_t room_len, size_t *needed) {
+    uint8_t none;
+    if (ticurses_is_bad(entry, entry_len) || ticurses_is_bad(name, name_len) ||
+        ticurses_is_bad(room, room_len) || !needed)
+        return TICURSES_NULL;
+    return ticurses_raw_check(ticurses_bytes(entry), entry_len, ticurses_bytes(name), name_len, rows, cols,
+                              room ? (uint8_t *)room : &none, room_len, needed);
+}
+
+/* Writes why an entry has no certificate: the first string that is wrong, in the words of `ticurses
+ * check`, as in "no op: WrongEffect". They are *needed bytes, at most 256, without a newline or a zero
+ * byte at the end; *needed is 0 where the entry has a certificate. */
+static inline int ticurses_reason(const void *entry, size_t entry_len, const void *name, size_t name_len, uint16_t rows,
+                                  uint16_t cols, void *room, size_t room_len, size_t *needed) {
+    uint8_t none;
+    if (ticurses_is_bad(entry, entry_len) || ticurses_is_bad(name, name_len) ||
+        ticurses_is_bad(room, room_len) || !needed)
+        return TICURSES_NULL;
+    return ticurses_raw_reason(ticurses_bytes(entry), entry_len, ticurses_bytes(name), name_len, rows, cols,
+                               room ? (uint8_t *)room : &none, room_len, needed);
+}
+
+/* TICURSES_OK if the certificate shows that each checked string of the entry does what programs rely on. */
+static inline int ticurses_verify(const void *entry, size_t entry_len, const void *name, size_t name_len, uint16_t rows,
+                                  uint16_t cols, const void *certificate, size_t certificate_len) {
+    if (ticurses_is_bad(entry, entry_len) || ticurses_is_bad(name, name_len) ||
+        ticurses_is_bad(certificate, certificate_len))
+        return TICURSES_NULL;
+    return ticurses_raw_verify(ticurses_bytes(entry), entry_len, ticurses_bytes(name), name_len, rows, cols,
+                               ticurses_bytes(certificate), certificate_len);
+}
+
+/* Opens a session; one that was open is closed, whatever the answer is (but TICURSES_NULL). With no
+ * certificate (a length of 0) it checks the entry itself, which takes some milliseconds more. Its first
+ * refresh clears the terminal, whatever that shows. A session keeps its size: where the terminal's
+ * changes, open it anew and draw again. */
+static inline int ticurses_open(ticurses *session, const void *entry, size_t entry_len, const void *name,
+                                size_t name_len, uint16_t rows, uint16_t cols, const void *certificate,
+                                size_t certificate_len) {
+    if (!session || ticurses_is_bad(entry, entry_len) || ticurses_is_bad(name, name_len) ||
+        ticurses_is_bad(certificate, certificate_len))
+        return TICURSES_NULL;
+    return ticurses_raw_open(session, ticurses_bytes(entry), entry_len, ticurses_bytes(name), name_len, rows, cols,
+                             ticurses_bytes(certificate), certificate_len);
+}
+
+/* Makes calls, one a line, in the language of scripts (man 5 ticurses-script), up to the first that
+ * isn't done, and gives the code of that one. If any line is no call (TICURSES_BAD_LINE), none is made. */
+static inline int ticurses_call(ticurses *session, const char *text, size_t len) {
+    return !session || ticurses_is_bad(text, len) ? TICURSES_NULL
+                                                  : ticurses_raw_call(session, ticurses_bytes(text), len);
+}
+
+/* The same, with the lines made as by printf. A %s whose text has a newline makes two lines of it: text
+ * of which a program doesn't know what it holds is for ticurses_addstr. */
+static inline int ticurses_callf(ticurses *session, const char *format, ...) TICURSES_PRINTF(2, 3);
+static inline int ticurses_callf(ticurses *session, const char *format, ...) {
+    char line[512], *text = line;
+    va_list rest, again;
+    int len, code;
+    if (!session || !format) return TICURSES_NULL;
+    va_start(rest, format);
+    va_copy(again, rest);
+    len = vsnprintf(line, sizeof line, format, rest);
+    va_end(rest);
+    if (len >= (int)sizeof line) {
+        text = (char *)malloc((size_t)len + 1);
+        if (text) vsnprintf(text, (size_t)len + 1, format, again);
+    }
+    va_end(again);
+    if (!text) return TICURSES_NO_MEMORY;
+    code = len < 0 ? TICURSES_TOO_LONG : ticurses_call(session, text, (size_t)len);
+    if (text != line) free(text);
+    return code;
+}
+
+/* addstr, of any bytes: a newline clears to the end of the line and goes on in the next one, a tab is
+ * spaces to the next multiple of 8, other controls are written as ^X, and a byte above 127 is refused
+ * (TICURSES_BAD_CELL). What comes before a byte that is refused is written. */
+static inline int ticurses_addstr(ticurses *session, size_t window, const void *text, size_t len) {
+    return !session || ticurses_is_bad(text, len)
+               ? TICURSES_NULL
+               : ticurses_raw_addstr(session, window, ticurses_bytes(text), len);
+}
+
+/* Where the cursor of a window is, in the window (getyx). For this and the next two: where the answer
+ * isn't TICURSES_OK, what the pointers lead to stays as it is. */
+static inline int ticurses_cursor(ticurses *session, size_t window, uint16_t *row, uint16_t *col) {
+    return !session || !row || !col ? TICURSES_NULL : ticurses_raw_cursor(session, window, row, col);
+}
+
+/* How many lines and columns a window or a pad has (getmaxyx). */
+static inline int ticurses_window_size(ticurses *session, size_t window, uint16_t *rows, uint16_t *cols) {
+    return !session || !rows || !cols ? TICURSES_NULL : ticurses_raw_size(session, window, rows, cols);
+}
+
+/* What stands in a place of a window or a pad (mvwinch). */
+static inline int ticurses_cell_at(ticurses *session, size_t window, uint16_t row, uint16_t col, ticurses_cell *cell) {
+    return !session || !cell ? TICURSES_NULL : ticurses_raw_cell(session, window, row, col, cell);
+}
+
+/* How many bytes wait to be written to the terminal. */
+static inline size_t ticurses_waiting(ticurses *session) { return session ? ticurses_raw_waiting(session) : 0; }
+
+/* Takes the first of them, as many as there is room for, and gives their number: 0 where none wait.
+ * Once a program has written all bytes in this order, the terminal shows the screen of the last
+ * refresh. */
+static inline size_t ticurses_output(ticurses *session, void *room, size_t room_len) {
+    return !session || !room || room_len > PTRDIFF_MAX ? 0 : ticurses_raw_output(session, (uint8_t *)room, room_len);
+}
+
+/* Some of the bytes that were taken did not get to the terminal, or something else wrote to it: what
+ * waits is thrown away, and the next refresh begins anew and repairs whatever the terminal shows.
+ * Windows and the screen stay. */
+static inline int ticurses_lost(ticurses *session) { return session ? ticurses_raw_lost(session) : TICURSES_NULL; }
+
+/* Frees the session, and what waits in it. Nothing is sent: the call `endwin`, whose bytes are written
+ * as any others, leaves the terminal as other programs want it. A session that isn't open stays so. */
+static inline void ticurses_close(ticurses *session) {
+    if (session) ticurses_raw_close(session);
+}
+
+/* What a code says, in words. */
+static inline const char *ticurses_text(int code) {
+    static const char *const texts[] = {
+        "done",
+        "the number is not that of a window",
+        "the place or the part is not in the window",
+        "the place or the part is not on the screen",
+        "the window has subwindows",
+        "the window is a subwindow",
+        "the call takes no pad, or it takes only pads",
+        "the text goes past the last line, and the window may not scroll",
+        "a size, a range or a mode that does not exist",
+        "the number is that of a window already",
+        "the byte cannot stand in a cell",
+        "window numbers are 0 to 63",
+        "out of memory",
+        "window 0 stays",
+        "the entry lacks the strings for it",
+        "what the terminal shows is not known",
+        "pairs are 0 to 63, pair 0 cannot be changed, and colors are 0 to 7",
+        "out of memory for what a refresh sends",
+        "a line is no call",
+        "the lines are too long",
+        "the session is not open",
+        "a terminal has 2 to 200 rows and 2 to 500 columns",
+        "the entry cannot be read",
+        "the certificate is not one of this entry and size",
+        "a string of the entry is wrong",
+        "the buffer is too short",
+        "a pointer is null",
+    };
+    return code >= 0 && code < (int)(sizeof texts / sizeof *texts) ? texts[code] : "no code of ticurses";
+}
+
+#ifdef __cplusplus
+}
+#endif
+#endif

@@ -1,0 +1,161 @@
+"""The Python module over the library for C: what it sends, answers and raises, beside the program and the header; the
+monitor of examples/python, which sends what that of examples/c sends."""
+
+import os
+import re
+import subprocess
+import sys
+
+import c as c_tests
+from linked import WRONG, compiled, installed, missing, rooms, terminfo, ticurses
+from scripts import STORED
+from trying import TOP, held_in, write
+
+TERMINALS = f"{TOP}/examples/terminals.ti"
+
+
+def module(prefix):
+    """The module, as it is installed."""
+    [folder] = [at for at, _, names in os.walk(f"{prefix}/lib") if "ticurses.py" in names]
+    sys.path.insert(0, folder)
+    import ticurses as made
+
+    if os.path.dirname(made.__file__) != folder:
+        sys.exit(f"python: the module is {made.__file__}")
+    return made, folder
+
+
+def hold(holds, what, *seen):
+    if not holds:
+        sys.exit(f"python: {what}: {seen}")
+
+
+def raises(made, code, call, *words):
+    """The call raises the error of this code; gives its text."""
+    try:
+        call(*words)
+    except made.Error as error:
+        hold(error.code == code, "another code", error.code, code, words)
+        return str(error)
+    return sys.exit(f"python: {words} raises nothing, and {code!r} was wanted")
+
+
+def check_names(made, prefix, work):
+    """The codes, their words and the attributes are those of the header."""
+    header = held_in(f"{prefix}/include/ticurses.h").decode()
+    codes = {name: int(number) for name, number in re.findall(r"^    TICURSES_(\w+) = (\d+)", header, re.M)}
+    attrs = dict(re.findall(r"^    TICURSES_(\w+) = (\d+),? +/\* \w(?: \*/|,)", header, re.M))
+    attrs = {name: int(number) for name, number in attrs.items()}
+    hold(attrs == {it.name: it.value for it in made.Attrs}, "the attributes differ", attrs)
+    codes = {name: number for name, number in codes.items() if name not in attrs}
+    del codes["NULL"]
+    hold(codes == {it.name: it.value for it in made.Code}, "the codes differ", codes)
+    loop = "for (int i = 0; i < 26; i++) puts(ticurses_text(i));"
+    write(f"{work}/texts.c", f"#include <ticurses.h>\nint main(void) {{ {loop} }}\n".encode())
+    texts = subprocess.run([compiled(prefix, f"{work}/texts.c", f"{work}/texts")], stdout=subprocess.PIPE, text=True)
+    hold(texts.stdout.splitlines() == [made.TEXTS[it] for it in made.Code], "the words differ", texts.stdout)
+
+
+def check_calls(made):
+    source = held_in(TERMINALS)
+    session = made.Session(source, 6, 24, name="xc")
+    session.call("init_pair 5 1 2", "newwin 1 3 10 2 4", "color_set 1 5", "attrset 1 BU", "move 1 1 2", "addch 1 41/R")
+    hold(session.cursor(1) == (1, 3) and session.window_size(1) == (3, 10), "the window differs", session.cursor(1))
+    cell = session.cell(1, 1, 2)
+    look = made.Attrs.BOLD | made.Attrs.UNDERLINE | made.Attrs.REVERSE
+    hold(cell == ("A", look, 5), "the cell differs", cell)
+    session.addstr(0, "a\nb")
+    hold(session.cell(0, 1, 0).byte == "b", "no newline")
+    hold(session.waiting == 0, "something waits")
+    session.call("refresh 0")
+    waits = session.waiting
+    hold(waits > 5 and len(session.output(3)) == 3 and session.waiting == waits - 3, "the count differs", waits)
+    hold(len(session.output()) == waits - 3 and session.output() == b"" and session.output(0) == b"", "more waits")
+    session.lost()
+    raises(made, made.Code.IS_LOST, session.call, "beep 0")
+    raises(made, made.Code.NO_WINDOW, session.cell, 9, 0, 0)
+    raises(made, made.Code.OUT_OF_WINDOW, session.cell, 0, 70000, 0)
+    raises(made, made.Code.BAD_LINE, session.call, "move 0")
+    raises(made, made.Code.BAD_CELL, session.addstr, 0, b"\xff")
+    raises(made, made.Code.BAD_CELL, session.addstr, 0, "\u00e9")
+    raises(made, made.Code.FULL, session.addstr, 2**64, "a")
+    raises(made, made.Code.FULL, session.cursor, -1)
+    raises(made, made.Code.BAD_SIZE, session.open, source, 6, 70000)
+    raises(made, made.Code.CLOSED, session.call, "doupdate")
+    session.close()
+    session.close()
+    raises(made, made.Code.BAD_ENTRY, made.Session, b"", 6, 24)
+
+
+def check_certificates(made, work):
+    """Certificates and reasons are those of the program."""
+    source = held_in(TERMINALS)
+    wanted = ticurses(["check", "terminals.ti:vt", "6", "24"])
+    hold(made.check(source, 6, 24, "vt") == wanted, "the certificate differs")
+    made.verify(source, 6, 24, wanted, "vt")
+    raises(made, made.Code.BAD_CERTIFICATE, made.verify, source, 6, 24, wanted[:-1], "vt")
+    hold(made.reason(source, 6, 24, "vt") == "", "a reason without a fault")
+    write(f"{work}/wrong.ti", WRONG.encode())
+    words = [f"{TOP}/crates/ticurses/out/ticurses", "check", f"{work}/wrong.ti:w", "6", "24"]
+    told = subprocess.run(words, stdout=subprocess.PIPE, stderr=subprocess.PIPE).stderr.decode()
+    [line] = re.findall(r"^refused: (.*)$", told, re.M)
+    hold(made.reason(WRONG, 6, 24, "w") == line, "the reason differs", made.reason(WRONG, 6, 24, "w"), line)
+    text = raises(made, made.Code.NO_CERTIFICATE, made.check, WRONG, 6, 24, "w")
+    hold(text.endswith(line), "the error lacks the reason", text)
+    text = raises(made, made.Code.NO_CERTIFICATE, made.Session, WRONG, 6, 24, "w")
+    hold(text.endswith(line), "the error lacks the reason", text)
+
+
+def check_scripts(made, work):
+    """The examples' scripts: what is sent is what `play` sends."""
+    for name, (entry, rows, cols) in STORED.items():
+        certificate = ticurses(["check", f"terminals.ti:{entry}", str(rows), str(cols)])
+        write(f"{work}/certificate", certificate)
+        script = held_in(f"{TOP}/examples/{name}.script")
+        wanted = ticurses(["play", f"terminals.ti:{entry}", str(rows), str(cols), f"{work}/certificate", "{}"], script)
+        sent = b""
+        with made.Session(held_in(TERMINALS), rows, cols, entry, certificate) as session:
+            for line in script.decode().splitlines():
+                try:
+                    session.call(line)
+                except made.Error as error:
+                    hold(error.code <= made.Code.BAD_PAIR, "a line is no call", line)
+                while piece := session.output(100):
+                    sent += piece
+        hold(sent == wanted, "the library sends something else than `play`", name, sent)
+
+
+def check_monitor(prefix, folder, work):
+    """The monitor in Python shows and sends what the one in C does."""
+    environment = {"TERMINFO": terminfo(work, "xc"), "TERM": "xc", "PYTHONPATH": folder, "PYTHONDONTWRITEBYTECODE": "1"}
+    words = [sys.executable, f"{TOP}/examples/python/monitor.py"]
+    monitor = compiled(prefix, f"{TOP}/examples/c/monitor.c", f"{work}/monitor", "-std=c99")
+    sent = []
+    for run in (words, [monitor]):
+        files = c_tests.written(work)
+        sent.append(c_tests.watch([*run, *files], environment, c_tests.growing(files[1])))
+    hold(sent[0] == sent[1], "the two monitors send something else", *sent)
+    c_tests.check_blocked([*words, *c_tests.written(work)], environment)
+    c_tests.check_ends([*words, *c_tests.written(work)], environment, 130)
+    if not missing("python", "tmux"):
+        c_tests.check_panes(work, [*words, *c_tests.written(work)], {"PYTHONPATH": folder})
+        print("python: the monitor shows in tmux what its calls draw")
+
+
+def main():
+    if missing("python", "cc"):
+        return
+    with rooms() as work:
+        prefix = installed(work)
+        made, folder = module(prefix)
+        check_names(made, prefix, work)
+        check_calls(made)
+        check_certificates(made, work)
+        check_scripts(made, work)
+        print("python: codes, answers, certificates, reasons and scripts are those of the header and of the program")
+        check_monitor(prefix, folder, work)
+        print("python: the monitor shows what its calls draw, and sends what the one in C sends")
+
+
+if __name__ == "__main__":
+    main()
