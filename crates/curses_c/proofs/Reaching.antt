@@ -1,5 +1,5 @@
 -- From single calls to what the terminal comes to.
-use Rattle.std.proofs.Common.{◌≡◌, ℕ, true, List, [], ◌∷◌, ◌++◌, take, drop, length, Option, refl, sym, ap, subst, ◌∙◌, append_assoc}
+use Rattle.std.proofs.Common.{◌≡◌, ℕ, List, [], ◌∷◌, ◌++◌, take, drop, length, Option, refl, sym, ap, subst, ◌∙◌, append_assoc}
 use Rattle.std.proofs.lemmas.List.{append-nil}
 use lib.ListN.{take-append-drop}
 use Rattle.vt_term.specs.Ends.{Ends}
@@ -18,12 +18,9 @@ use Rattle.cur_paint.specs.declared.updates.Status.TheVariants.{Fresh}
 use Rattle.cur_update.specs.Inks.{ink_at}
 use Rattle.cur_update.specs.Painters.{Painted}
 use Rattle.cur_play.specs.Deliveries.{FitsIn}
-use Rattle.cur_play.specs.Log.{is_shown}
 use Rattle.cur_play.specs.Scenes.{Scene, Stage}
-use Rattle.cur_play.specs.Steps.{output_of}
 use Rattle.cur_play.specs.declared.answers.Answer.{Answer}
-use Rattle.cur_play.specs.declared.sends.Emission.TheVariants.{Nothing}
-use Rattle.curses_c.specs.Held.{Hands, Loses, Makes}
+use Rattle.curses_c.specs.Held.{Hands, Makes}
 use Rattle.curses_c.specs.Laws.{Played, Begun, Called, Took, Rests, Still, Drew, TookMore, FitsHeld, ShowsAfter, Begins, CallsReach, RefreshesShow, LossesFit, OpeningsBegin}
 use Rattle.curses_c.specs.declared.held.Held.{Held}
 
