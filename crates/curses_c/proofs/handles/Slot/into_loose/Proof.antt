@@ -24,11 +24,10 @@ use denote.Steps.{nothing, heard}
 use denote.Triple.Walked.{Stays, stay_dropped, Goes-dropped, walk_of}
 use Rattle.core.proofs.alloc.Calls.{Al, handle_tells}
 use Rattle.std.specs.Box.Ownership.{box_owns}
-use Rattle.libc.specs.Heap.{chunk}
 use Rattle.std.specs.contracts.alloc.Global as heap
 use Rattle.std.proofs.alloc.Global.TheLaws as heap_laws
 use Rattle.std.specs.contracts.impls.GlobalAllocator.TheImpl.{ghosts}
-use Rattle.curses_c.specs.Handles.{held_at}
+use Rattle.curses_c.specs.Handles.{held_at, chunk}
 use Rattle.curses_c.proofs.Looses.{two, two_typed, loose_in}
 use Rattle.curses_c.proofs.Slots.{word, slot_out, held_of}
 use Rattle.curses_c.specs.contracts.held.Held as held
