@@ -6,7 +6,7 @@ use crate::remarks::Remarks;
 use crate::seen::{SHOWN, Seen};
 use std::alloc::{AllocError, Global};
 use ti_caps::{Cap, Entry, name};
-use ti_conforms::{Unfit, acsc, first_unfit};
+use ti_conforms::{Unfit, first_unfit};
 use ti_rows::Params;
 use vt_term::Size;
 
@@ -50,12 +50,19 @@ pub fn explain_disagreement(
     remarks: &mut Remarks,
 ) {
     match first_unfit(entry) {
-        Some(Unfit::FlagOut(cap)) => explain_flag(cap, remarks),
-        Some(Unfit::Absent(row)) => explain_absent(row.cap(), remarks),
-        Some(Unfit::AcsByte) => {
-            let _ = explain_pairs(alloc, entry.get_string(acsc()), remarks);
-        }
+        Some(why) => explain_unfit(alloc, entry, why, remarks),
         None => remarks.add(path.as_bytes(), other_words(cap)),
+    }
+}
+
+/// Explains why no certificate can be one of `entry`.
+fn explain_unfit(alloc: Global, entry: &Entry, why: Unfit, remarks: &mut Remarks) {
+    match why {
+        Unfit::FlagOut(_) => explain_flag(why.cap(), remarks),
+        Unfit::Absent(_) => explain_absent(why.cap(), remarks),
+        Unfit::AcsByte => {
+            let _ = explain_pairs(alloc, entry.get_string(why.cap()), remarks);
+        }
     }
 }
 
