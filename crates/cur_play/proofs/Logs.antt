@@ -141,7 +141,6 @@ settled_same End answer p last_mode d a e h = h
 
 -- ---- one call more
 
-
 empty_list : {X : Type 0} (xs : List X) → length xs ≡ 0 → xs ≡ []
 empty_list [] e = refl
 empty_list (x ∷ xs) e = absurd (omega (arith, e))

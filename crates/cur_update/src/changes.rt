@@ -3,10 +3,11 @@ ghost use Rattle.std.specs.Prelude.{◌≡◌, ◌<◌, ◌≤◌, ℕ, true, le
 ghost use Rattle.cur_drawing.specs.Differences.{AreEqualIn};
 ghost use Rattle.cur_windows.specs.VirtualScreen.{colors_at};
 
+use crate::scrolls::{found_scroll, scroll_of};
 use cur_drawing::{Cell, PAIRS, first_diff, last_diff};
 use cur_paint::{Changes, Columns};
 use cur_scrolls::Scroll;
-use cur_windows::{Hint, Virtual};
+use cur_windows::Virtual;
 use ti_conforms::Certificate;
 
 /// The screen that was shown last, and the one to be shown.
@@ -41,23 +42,11 @@ impl<'a, C: Certificate> Changes for Shift<'a, C> {
     }
 
     fn scroll(&self) -> Option<Scroll> {
-        scroll_of(self.screen.hint()?)
+        match self.screen.hint() {
+            Some(hint) => scroll_of(hint),
+            None => found_scroll(self.shown, self.screen),
+        }
     }
-}
-
-/// The scroll that `hint` names, if it names one: by as many lines as the region has at most.
-fn scroll_of(hint: Hint) -> Option<Scroll> {
-    let lines = u32::from(hint.bottom.saturating_sub(hint.top).saturating_add(1));
-    let count = hint.up.unsigned_abs().min(lines) as u16;
-    if count == 0 {
-        return None;
-    }
-    Some(Scroll {
-        top: hint.top,
-        bottom: hint.bottom,
-        count,
-        up: hint.up > 0,
-    })
 }
 
 /// The columns in which two lines of one length may differ: none where they are equal.

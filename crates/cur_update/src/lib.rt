@@ -7,6 +7,7 @@ mod inks;
 mod laws;
 mod painters;
 mod screens;
+mod scrolls;
 
 pub use bells::Unsent;
 pub use cur_paint::{Knowledge, Status};

@@ -209,7 +209,8 @@ KIND is one of, for the certificate (with `line N:` before it):
   BadLook          an attribute looks like another one, or the line drawing set can stay active
 for the certificate and the entry:
   Disagree CAP P..  the entry sends something else than the line of this capability and these parameters has, or
-                    only one of the two has it, or no certificate is for an entry with this capability
+                    only one of the two has it; or no certificate is for an entry that has this flag or number, or
+                    that lacks this string
 for the size:
   BadSize  ROWS is not 2 to 200, or COLS is not 2 to 500
 for the entry: each KIND of `ticurses tic --help`.

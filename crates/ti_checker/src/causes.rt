@@ -99,7 +99,7 @@ impl From<AllocError> for No {
 
 impl No {
     /// What is wrong with a capability, whatever its parameters.
-    pub(crate) fn of(cap: Cap, cause: Cause) -> No
+    pub fn of(cap: Cap, cause: Cause) -> No
         ensures cap { result.cap ≡ cap }
         ensures params { result.params.items ≡ [] }
         ensures cause { result.cause ≡ cause }
@@ -112,7 +112,7 @@ impl No {
     }
 
     /// What is wrong with the row's capability for the row's parameters.
-    pub(crate) fn at(row: Row, cause: Cause) -> No
+    pub fn at(row: Row, cause: Cause) -> No
         ensures cap { result.cap ≡ cap_of row }
         ensures params { result.params.items ≡ params row }
         ensures cause { result.cause ≡ cause }

@@ -112,7 +112,7 @@ fn judged(row: Row, found: Option<Effect>, size: Size, looks: &mut Looks) -> Res
 
 /// What rows are judged in, one after another.
 #[derive(Drop)]
-pub(crate) struct Judge {
+pub struct Judge {
     /// How attributes look.
     looks: Looks,
     /// What the string of the row that was judged last sends.

@@ -20,6 +20,8 @@ mod trials;
 
 pub use causes::{Cause, No};
 pub use checks::check;
+pub use judgements::Judge;
 pub use note_list::{CheckNote, notes};
 pub use note_texts::note_lines;
 pub use probes::Probe;
+pub use sends::checked_string;

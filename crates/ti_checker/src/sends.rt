@@ -12,7 +12,7 @@ use ti_conforms::{SendFault, is_checked, send_into};
 use ti_rows::Row;
 
 /// The entry's string for `row`, where the entry has it and it is checked.
-pub(crate) fn checked_string(entry: &Entry, row: Row) -> Option<&[u8]>
+pub fn checked_string(entry: &Entry, row: Row) -> Option<&[u8]>
     ensures checked { IfSome result (λ string. entries.is_checked entry.now row ≡ true) }
     ensures there { IfSome result (λ string. entries.string_of entry.now row ≡ Some string.now) }
     ensures none { IfNone result (entries.is_checked entry.now row ≡ false) }

@@ -62,17 +62,23 @@ pub fn checked_at<F: Files>(
         Err(VerifyFault::Cert(fault)) => {
             Err(cert_failure(alloc, path, size, &fault, &reader, remarks))
         }
-        Err(VerifyFault::Agree(fault)) => Err(agree_failure(alloc, path, &fault, remarks)),
+        Err(VerifyFault::Agree(fault)) => Err(agree_failure(alloc, path, entry, &fault, remarks)),
     }
 }
 
-/// The failure of the certificate at `path`, with which the entry doesn't agree, as `fault` says.
-fn agree_failure(alloc: Global, path: &str, fault: &AgreeFault, remarks: &mut Remarks) -> Failure
+/// The failure of the certificate at `path`, with which `entry` doesn't agree, as `fault` says.
+fn agree_failure(
+    alloc: Global,
+    path: &str,
+    entry: &Entry,
+    fault: &AgreeFault,
+    remarks: &mut Remarks,
+) -> Failure
     ensures { TellsFault path.now (VerifyFault.Agree fault.now) result }
 {
     match fault {
         AgreeFault::Disagree { cap, params } => {
-            explain_disagreement(path, *cap, remarks);
+            explain_disagreement(alloc, path, entry, *cap, remarks);
             verdict(disagreement_words(alloc, *cap, params.as_slice()))
         }
         AgreeFault::NoMemory => Failure::NoMemory,

@@ -1,10 +1,12 @@
 //! Why a certificate is refused: its line, and what was to stand there.
 
+use crate::checked_strings::{explain_absent, explain_flag, explain_pairs};
 use crate::numbers::push_numbers;
 use crate::remarks::Remarks;
 use crate::seen::{SHOWN, Seen};
 use std::alloc::{AllocError, Global};
-use ti_caps::{Cap, Kind, kind, name};
+use ti_caps::{Cap, Entry, name};
+use ti_conforms::{Unfit, acsc, first_unfit};
 use ti_rows::Params;
 use vt_term::Size;
 
@@ -38,15 +40,35 @@ pub fn explain_line(
     Ok(())
 }
 
-/// Explains that the entry sends something else than the certificate at `path` has for `cap`.
-pub fn explain_disagreement(path: &str, cap: Cap, remarks: &mut Remarks) {
-    let words: &[u8] = match kind(cap) {
-        Kind::String =>
+/// Explains why the certificate at `path` isn't one of `entry`: no certificate can be, for a flag, a number or a string
+/// that is missing; or else what a disagreement about `cap` means.
+pub fn explain_disagreement(
+    alloc: Global,
+    path: &str,
+    entry: &Entry,
+    cap: Cap,
+    remarks: &mut Remarks,
+) {
+    match first_unfit(entry) {
+        Some(Unfit::FlagOut(cap)) => explain_flag(cap, remarks),
+        Some(Unfit::Absent(row)) => explain_absent(row.cap(), remarks),
+        Some(Unfit::AcsByte) => {
+            let _ = explain_pairs(alloc, entry.get_string(acsc()), remarks);
+        }
+        None => remarks.add(path.as_bytes(), other_words(cap)),
+    }
+}
+
+/// What is other in an entry than in a certificate, in a string of the alternate characters or of a line.
+fn other_words(cap: Cap) -> &'static [u8] {
+    match name(cap) {
+        b"acsc" =>
+            b": the entry does not have the alternate characters that the certificate has, or only one of the two has \
+              some",
+        _ =>
             b": for this string and these parameters the entry does not send what the certificate's line has, or \
               only one of the two has it",
-        _ => b": no certificate is for an entry with this capability",
-    };
-    remarks.add(path.as_bytes(), words);
+    }
 }
 
 /// As much of `line` as is shown.

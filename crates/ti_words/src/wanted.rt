@@ -143,6 +143,7 @@ fn mode_words(row: Row) -> &'static [u8] {
         Row::Civis => b"the cursor is hidden, and nothing else changes",
         Row::Cnorm => b"the cursor is visible, and nothing else changes",
         Row::Cvvis => b"nothing changes, but that the cursor may become visible",
-        _ => b"the scrolling region and the cursor's visibility stay, and nothing scrolls",
+        _ =>
+            b"cells change by one erasure at most, and the scrolling region and the cursor's visibility stay",
     }
 }

@@ -1,0 +1,120 @@
+//! Lines that have moved, found by a look at few of them.
+ghost use Rattle.std.specs.Prelude.{◌≡◌, ◌+◌, ◌-◌, ◌<◌, ◌≤◌, IfSome};
+
+use cur_drawing::first_diff;
+use cur_scrolls::Scroll;
+use cur_windows::{Hint, Virtual};
+
+/// The scroll that `hint` names, if it names one: by as many lines as the region has at most.
+pub(crate) fn scroll_of(hint: Hint) -> Option<Scroll> {
+    let lines = u32::from(hint.bottom.saturating_sub(hint.top).saturating_add(1));
+    let count = hint.up.unsigned_abs().min(lines) as u16;
+    if count == 0 {
+        return None;
+    }
+    Some(Scroll {
+        top: hint.top,
+        bottom: hint.bottom,
+        count,
+        up: hint.up > 0,
+    })
+}
+
+/// Whether line `to` of the screen `new` isn't line `from` of the screen `old`.
+fn differs(old: &Virtual, new: &Virtual, from: u16, to: u16) -> bool
+    requires from { from < (old.now).rows }
+    requires to { to < (new.now).rows }
+    requires cols { (old.now).cols ≡ (new.now).cols }
+{
+    first_diff(old.row(from), new.row(to)).is_some()
+}
+
+/// The first of their lines before line `end` that differs on two screens.
+fn first_changed(old: &Virtual, new: &Virtual, end: u16) -> Option<u16>
+    requires rows { (old.now).rows ≡ (new.now).rows }
+    requires cols { (old.now).cols ≡ (new.now).cols }
+    requires end { end ≤ (new.now).rows }
+    ensures { IfSome result (λ y. y < end) }
+{
+    for y in 0..end {
+        if differs(old, new, y, y) {
+            return Some(y);
+        }
+    }
+    None
+}
+
+/// The last of their lines before line `end` that differs on two screens.
+fn last_changed(old: &Virtual, new: &Virtual, end: u16) -> Option<u16>
+    requires rows { (old.now).rows ≡ (new.now).rows }
+    requires cols { (old.now).cols ≡ (new.now).cols }
+    requires end { end ≤ (new.now).rows }
+    ensures { IfSome result (λ y. y < end) }
+{
+    for k in 0..end {
+        let y = end - 1 - k;
+        if differs(old, new, y, y) {
+            return Some(y);
+        }
+    }
+    None
+}
+
+/// By how many of the lines from `top` to `bottom` those of the screen `old` have moved on the screen `new`, as far as
+/// two lines show: at most half of them.
+fn moved_between(old: &Virtual, new: &Virtual, top: u16, bottom: u16) -> Option<Scroll>
+    requires rows { (old.now).rows ≡ (new.now).rows }
+    requires cols { (old.now).cols ≡ (new.now).cols }
+    requires top { top ≤ bottom }
+    requires within { bottom < (new.now).rows }
+{
+    let half = (bottom - top) / 2;
+    for less in 0..half {
+        let count = less + 1;
+        let up = !differs(old, new, top + count, top)
+            && !differs(old, new, top + half + count, top + half);
+        let down = !differs(old, new, bottom - count, bottom)
+            && !differs(old, new, bottom - half - count, bottom - half);
+        if up || down {
+            return Some(Scroll {
+                top,
+                bottom,
+                count,
+                up,
+            });
+        }
+    }
+    None
+}
+
+/// Whether of three lines, in the upper part, the middle and the lower part, two differ, so that it is worth a look at
+/// the others.
+fn differ_much(old: &Virtual, new: &Virtual, rows: u16) -> bool
+    requires rows { (old.now).rows ≡ (new.now).rows }
+    requires cols { (old.now).cols ≡ (new.now).cols }
+    requires all { rows ≡ (new.now).rows }
+    requires some { 0 < rows }
+{
+    let middle = differs(old, new, rows / 2, rows / 2);
+    let upper = differs(old, new, rows / 4, rows / 4);
+    match (middle, upper) {
+        (true, true) => true,
+        (false, false) => false,
+        _ => differs(old, new, rows - 1 - rows / 4, rows - 1 - rows / 4),
+    }
+}
+
+/// A scroll by which much of the screen `old` may have become the screen `new`, as far as few of their lines show.
+pub(crate) fn found_scroll(old: &Virtual, new: &Virtual) -> Option<Scroll> {
+    let (rows, cols) = old.size();
+    let (new_rows, new_cols) = new.size();
+    if rows != new_rows || cols != new_cols || rows == 0 {
+        return None;
+    }
+    if !differ_much(old, new, rows) {
+        return None;
+    }
+    let bottom = last_changed(old, new, rows)?;
+    let top = first_changed(old, new, bottom)?;
+    moved_between(old, new, top, bottom)
+}

@@ -1,0 +1,4 @@
+mod Looses
+mod Making
+mod Reaching
+mod Slots

@@ -1,0 +1,68 @@
+-- What a terminal comes to that gets the bytes that a program takes, by runs of a terminal alone.
+use Rattle.std.specs.Prelude.{ℕ, ◌≡◌, true, List, [], ◌++◌, take}
+use Rattle.vt_term.specs.Ends.{Ends}
+use Rattle.vt_term.specs.Screen.{State}
+use Rattle.ti_cert.specs.Table.{certified}
+use Rattle.ti_cert.specs.Verified.{partner_in}
+use Rattle.ti_conforms.specs.Certified.{IsChecked}
+use Rattle.cur_calls.specs.declared.calls.Call.{Call}
+use Rattle.cur_paint.specs.Update.{IsFresh, Shows}
+use Rattle.cur_update.specs.Inks.{ink_at}
+use Rattle.cur_update.specs.Painters.{wanted_of}
+use Rattle.cur_play.specs.Deliveries.{FitsIn}
+use Rattle.cur_play.specs.Log.{is_shown}
+use Rattle.cur_play.specs.Outputs.{poised}
+use Rattle.cur_play.specs.Scenes.{first, scene_of}
+use Rattle.cur_play.specs.Steps.{drawn, output_of}
+use Rattle.cur_play.specs.declared.answers.Answer.{Answer}
+use Rattle.cur_play.specs.declared.sends.Emission.TheVariants.{Nothing}
+use Rattle.curses_c.specs.Held.{Hands, Loses, Makes}
+use Rattle.curses_c.specs.declared.held.Held.{Held}
+
+-- calls on a session, and what the program took of the bytes that wait
+pub data Played (h : Held) : List ℕ → Held → Type 0 where
+  Begun : (taken : List ℕ) (k : Held) → taken ≡ [] → k ≡ h → Played h taken k
+  Called : (taken : List ℕ) (mid k : Held) (call : Call) (answer : Answer) → Played h taken mid → Makes mid call answer k → Played h taken k
+  Took : (before taken : List ℕ) (mid k : Held) (room : List ℕ) (count : ℕ) → Played h before mid → Hands mid room count k → taken ≡ before ++ take count mid.outbox.waiting → Played h taken k
+
+-- the same, of calls that send nothing
+pub data Rests (h : Held) : List ℕ → Held → Type 0 where
+  Still : (taken : List ℕ) (k : Held) → taken ≡ [] → k ≡ h → Rests h taken k
+  Drew : (taken : List ℕ) (mid k : Held) (call : Call) (answer : Answer) → Rests h taken mid → Makes mid call answer k → output_of call ≡ Nothing → Rests h taken k
+  TookMore : (before taken : List ℕ) (mid k : Held) (room : List ℕ) (count : ℕ) → Rests h before mid → Hands mid room count k → taken ≡ before ++ take count mid.outbox.waiting → Rests h taken k
+
+-- the states that the terminal may be in where nothing waits
+abbrev pub FitsHeld : Held → State → Type 0
+FitsHeld h s = FitsIn (certified h.session.painter.checked) (partner_in h.session.painter.checked) h.session.painter s
+
+-- the terminal shows the screen that is the virtual one when the call sends
+abbrev pub ShowsAfter : Held → Call → State → Type 0
+ShowsAfter h call s =
+    let t = certified h.session.painter.checked in
+    let v = (drawn t (scene_of h.session) call).0.screen in
+    Shows t (ink_at t (partner_in h.session.painter.checked) v) (wanted_of v (poised t h.session call).mode) s
+
+-- a session of which nothing waits, and a state that the terminal may be in
+pub record Begins (h : Held) (s : State) : Type 0 where
+  pub nothing : h.outbox.waiting ≡ []
+  pub checked : IsChecked (certified h.session.painter.checked)
+  pub fits : FitsHeld h s
+
+-- All that was taken and all that waits leads the terminal to a state that fits.
+abbrev pub CallsReach : Type 0
+CallsReach = (h k : Held) (taken : List ℕ) (s : State) → Played h taken k → Begins h s → Ends s (taken ++ k.outbox.waiting) (FitsHeld k)
+
+-- After a refresh that was done, once nothing waits, the terminal that got all that was taken shows the screen.
+abbrev pub RefreshesShow : Type 0
+RefreshesShow = (h mid k last : Held) (taken more : List ℕ) (call : Call) (answer : Answer) (s : State) → Played h taken mid → Makes mid call answer k → is_shown (output_of call) answer ≡ true
+    → Rests k more last → last.outbox.waiting ≡ [] → Begins h s → Ends s (taken ++ more) (ShowsAfter mid call)
+
+-- Where the terminal got only a front of what was sent, all begins anew from its state once the session is lost.
+abbrev pub LossesFit : Type 0
+LossesFit = (h mid k : Held) (taken front back : List ℕ) (s : State) → Played h taken mid → taken ++ mid.outbox.waiting ≡ front ++ back → Loses mid k → Begins h s
+    → Ends s front (Begins k)
+
+-- A session that was opened begins with each fresh terminal.
+abbrev pub OpeningsBegin : Type 0
+OpeningsBegin = (h : Held) (s : State) → scene_of h.session ≡ first (certified h.session.painter.checked) → h.outbox.waiting ≡ [] → IsChecked (certified h.session.painter.checked)
+    → IsFresh (certified h.session.painter.checked) s → Begins h s

@@ -1,0 +1,9 @@
+pub mod Codes
+pub mod Entries
+pub mod Handles
+pub mod Held
+pub mod Laws
+pub mod Outbox
+pub mod Queries
+pub mod Sessions
+pub mod Verdicts

@@ -1,0 +1,70 @@
+-- What the calls on certificates answer.
+use Rattle.std.specs.Prelude.{ℕ, ℤ, pos, nat_lt, ◌≡◌, ◌⊎◌, Bool, true, false, List, [], length, take, Result, Ok, Err}
+use Rattle.ti_caps.specs.Entry.{Content}
+use Rattle.ti_cert.specs.Table.{Content as Strings}
+use Rattle.ti_checker.specs.No.{IsNo}
+use Rattle.ti_checker.specs.declared.causes.No.{No}
+use Rattle.ti_verdicts.specs.Refusals.{no_text}
+use Rattle.curses_c.specs.Codes.{failure_code}
+use Rattle.curses_c.specs.Entries.{Gives, IsCertified, IsShown, IsUncertified, Lacks}
+use Rattle.curses_c.specs.declared.codes.Failure.{Failure}
+use Rattle.curses_c.specs.declared.codes.Failure.TheVariants.{NoMemory}
+
+-- the text is the certificate of the entry that the bytes give
+pub record Certifies (bytes name : List ℕ) (rows cols : ℕ) (text : List ℕ) : Type 0 where
+  pub entry : Content
+  pub gives : Gives bytes name entry
+  pub certified : IsCertified entry rows cols text
+
+-- the size or the entry is lacking, or there is a no
+pub record DeniesEntry (bytes name : List ℕ) (rows cols : ℕ) (e : Failure) : Type 0 where
+  pub entry : Content
+  pub gives : Gives bytes name entry
+  pub refused : IsUncertified entry rows cols e
+
+abbrev pub Denies : List ℕ → List ℕ → ℕ → ℕ → Failure → Type 0
+Denies bytes name rows cols e = Lacks rows cols e ⊎ DeniesEntry bytes name rows cols e
+
+-- a no that is so of the entry, and its words
+pub record IsReason (entry : Content) (rows cols : ℕ) (words : List ℕ) : Type 0 where
+  pub refusal : No
+  pub is : IsNo entry rows cols refusal
+  pub says : words ≡ no_text refusal
+
+-- without a no there are no words
+pub record Reasons (bytes name : List ℕ) (rows cols : ℕ) (words : List ℕ) : Type 0 where
+  pub entry : Content
+  pub gives : Gives bytes name entry
+  pub reason : (words ≡ []) ⊎ IsReason entry rows cols words
+
+abbrev pub SameWords : {A E : Type 0} → Result A E → Result A Failure → Type 0
+SameWords (Ok words) result = result ≡ Ok words
+SameWords (Err e) result = result ≡ Err NoMemory
+
+-- where it is too long nothing is written
+abbrev pub FillsBy : Bool → List ℕ → List ℕ → List ℕ → ℤ → Type 0
+FillsBy true text old new code = (new ≡ old) × (code ≡ pos 25)
+FillsBy false text old new code = (take (length text) new ≡ text) × (code ≡ pos 0)
+
+abbrev pub Fills : List ℕ → List ℕ → List ℕ → ℤ → Type 0
+Fills text old new code = FillsBy (nat_lt (length old) (length text)) text old new code
+
+abbrev pub Delivers : {V : Type 0} → (V → List ℕ) → Result V Failure → List ℕ → List ℕ → ℕ → ℤ → Type 0
+Delivers items (Ok text) old new needed code = (needed ≡ length (items text)) × Fills (items text) old new code
+Delivers items (Err e) old new needed code = (needed ≡ 0) × (new ≡ old) × (code ≡ failure_code e)
+
+-- a text of which this holds is delivered, or there is a failure of which that holds
+abbrev pub Answers : (List ℕ → Type 0) → (Failure → Type 0) → List ℕ → List ℕ → ℕ → ℤ → Type 0
+Answers Some Fails old new needed code =
+    ((text : List ℕ) × Some text × (needed ≡ length text) × Fills text old new code)
+    ⊎ ((e : Failure) × Fails e × (needed ≡ 0) × (new ≡ old) × (code ≡ failure_code e))
+
+-- the entry conforms, and sends the strings of a verified certificate
+pub record IsVerified (bytes name : List ℕ) (rows cols : ℕ) : Type 0 where
+  pub entry : Content
+  pub gives : Gives bytes name entry
+  pub checked : Strings
+  pub shown : IsShown entry rows cols checked
+
+abbrev pub Verifies : List ℕ → List ℕ → ℕ → ℕ → ℤ → Type 0
+Verifies bytes name rows cols code = (IsVerified bytes name rows cols × (code ≡ pos 0)) ⊎ ((e : Failure) × (code ≡ failure_code e))

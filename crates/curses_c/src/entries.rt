@@ -1,0 +1,154 @@
+//! Entries, sizes and certificates from what a program hands over.
+ghost use Rattle.std.specs.Prelude.{◌≡◌, IfErr, IfOk};
+ghost use Rattle.ti_checker.specs.Certificate.{IsCertificateOf};
+ghost use Rattle.ti_conforms.specs.Conforms.{Conforms};
+ghost use Rattle.vt_term.specs.Size.{IsSize};
+ghost use Rattle.curses_c.specs.Entries as spec;
+
+use crate::codes::Failure;
+use std::alloc::Global;
+use ti_caps::Entry;
+use ti_cert::{AgreeFault, CertFaultKind, Checked, VerifyFault, verify};
+use ti_checker::{Cause, No, check};
+use ti_compiled::{PackFault, decode};
+use ti_resolve::{ResolveFault, resolve};
+use ti_source::{FaultKind, read};
+use vt_term::Size;
+
+/// What a program asks about: the entry of a compiled file, or the one of a name in a source text, on a terminal of a
+/// size.
+#[derive(Clone, Copy)]
+pub struct Subject<'a> {
+    /// The file or the text.
+    pub bytes: &'a [u8],
+    /// The entry's name; empty for a compiled file.
+    pub name: &'a [u8],
+    pub rows: u16,
+    pub cols: u16,
+}
+
+/// An entry and a size.
+#[derive(Drop)]
+pub struct Described {
+    pub entry: Entry,
+    pub size: Size,
+}
+
+/// The size of `subject`, and then its entry.
+pub fn describe(alloc: Global, subject: &Subject<'_>) -> Result<Described, Failure>
+    ensures given { IfOk result (λ d. spec.Gives subject.now.bytes.now subject.now.name.now d.entry) }
+    ensures rows { IfOk result (λ d. d.size.rows ≡ subject.now.rows) }
+    ensures cols { IfOk result (λ d. d.size.cols ≡ subject.now.cols) }
+    ensures lacks { IfErr result (spec.Lacks subject.now.rows subject.now.cols) }
+{
+    let size = size_of(subject.rows, subject.cols)?;
+    let entry = entry_of(alloc, subject.bytes, subject.name)?;
+    Ok(Described { entry, size })
+}
+
+/// The size of a terminal.
+fn size_of(rows: u16, cols: u16) -> Result<Size, Failure>
+    ensures rows { IfOk result (λ size. size.rows ≡ rows) }
+    ensures cols { IfOk result (λ size. size.cols ≡ cols) }
+    ensures within { IfOk result (λ size. IsSize rows cols) }
+    ensures lacks { IfErr result (λ e. (e ≡ Failure.BadSize) × (IsSize rows cols → ⊥)) }
+{
+    match Size::new(rows as usize, cols as usize) {
+        Some(size) => Ok(size),
+        None => Err(Failure::BadSize),
+    }
+}
+
+/// The entry of a compiled file, or, where there is a name, of a source text.
+fn entry_of(alloc: Global, bytes: &[u8], name: &[u8]) -> Result<Entry, Failure>
+    ensures given { IfOk result (spec.Gives bytes.now name.now) }
+    ensures lacks { IfErr result spec.IsOfEntry }
+{
+    match name {
+        [] => packed_entry(alloc, bytes),
+        _ => source_entry(alloc, bytes, name),
+    }
+}
+
+fn packed_entry(alloc: Global, bytes: &[u8]) -> Result<Entry, Failure>
+    ensures given { IfOk result (spec.GivesPacked bytes.now) }
+    ensures lacks { IfErr result spec.IsOfEntry }
+{
+    let Ok(packed) = decode(bytes) else {
+        return Err(Failure::BadEntry);
+    };
+    match packed.to_entry(alloc) {
+        Ok(entry) => Ok(entry),
+        Err(PackFault::NoMemory) => Err(Failure::NoMemory),
+        Err(_) => Err(Failure::BadEntry),
+    }
+}
+
+fn source_entry(alloc: Global, text: &[u8], name: &[u8]) -> Result<Entry, Failure>
+    ensures given { IfOk result (spec.GivesNamed text.now name.now) }
+    ensures lacks { IfErr result spec.IsOfEntry }
+{
+    let raws = match read(alloc, text) {
+        Ok(raws) => raws,
+        Err(fault) => return Err(source_failure(fault.kind)),
+    };
+    match resolve(alloc, raws.as_slice(), name) {
+        Ok(entry) => Ok(entry),
+        Err(ResolveFault::NoMemory) => Err(Failure::NoMemory),
+        Err(_) => Err(Failure::BadEntry),
+    }
+}
+
+fn source_failure(kind: FaultKind) -> Failure
+    ensures { spec.IsOfEntry result }
+{
+    match kind {
+        FaultKind::NoMemory => Failure::NoMemory,
+        _ => Failure::BadEntry,
+    }
+}
+
+/// What `certificate` shows of an entry.
+pub fn checked_by(
+    alloc: Global,
+    described: &Described,
+    certificate: &[u8],
+) -> Result<Checked, Failure>
+    ensures shown { IfOk result (spec.IsShown described.now.entry described.now.size.rows described.now.size.cols) }
+{
+    match verify(alloc, &described.entry, described.size, certificate) {
+        Ok(checked) => Ok(checked),
+        Err(fault) => Err(verify_failure(&fault)),
+    }
+}
+
+fn verify_failure(fault: &VerifyFault) -> Failure {
+    match fault {
+        VerifyFault::Cert(fault) => match fault.kind {
+            CertFaultKind::NoMemory => Failure::NoMemory,
+            _ => Failure::BadCertificate,
+        },
+        VerifyFault::Agree(AgreeFault::NoMemory) => Failure::NoMemory,
+        VerifyFault::Agree(_) => Failure::BadCertificate,
+    }
+}
+
+/// The certificate of an entry.
+pub fn certificate_of(alloc: Global, described: &Described) -> Result<Vec<u8>, Failure>
+    ensures certified { IfOk result (λ text. spec.IsCertified described.now.entry described.now.size.rows described.now.size.cols text.items) }
+    ensures refused { IfErr result (spec.IsUncertified described.now.entry described.now.size.rows described.now.size.cols) }
+{
+    match check(alloc, &described.entry, described.size) {
+        Ok(text) => Ok(text),
+        Err(no) => Err(no_failure(&no)),
+    }
+}
+
+fn no_failure(no: &No) -> Failure
+    ensures { spec.IsOfCause no.now.cause result }
+{
+    match no.cause {
+        Cause::NoMemory => Failure::NoMemory,
+        _ => Failure::NoCertificate,
+    }
+}

@@ -1,0 +1,15 @@
+//! ticurses for programs in C: certificates, and sessions by a handle.
+#![tactic(auto)]
+
+mod codes;
+mod entries;
+mod handles;
+mod held;
+pub mod laws;
+mod loose;
+mod outbox;
+mod queries;
+mod sessions;
+mod verdicts;
+
+pub use handles::Handle;

@@ -1,0 +1,126 @@
+//! What programs ask of a window.
+ghost use Rattle.std.specs.Prelude.{◌≡◌};
+ghost use Rattle.cur_windows.specs.Queries.{window_of};
+ghost use Rattle.cur_windows.specs.Sizes.{window_size};
+ghost use Rattle.cur_windows.specs.Views.{seen};
+ghost use Rattle.curses_c.specs.Queries.{Asks, Tells, cell_seen, cursor_in};
+
+use crate::codes::{Failure, OK, failure_code, refusal_code};
+use crate::handles::Handle;
+use bitflags::Flags;
+use cur_drawing::Cell;
+use cur_windows::{Desk, Refusal, View};
+use std::alloc::Global;
+
+/// What stands in one place.
+#[repr(C)]
+#[derive(Clone, Copy)]
+pub struct Standing {
+    pub byte: u8,
+    pub attrs: u8,
+    pub pair: u8,
+}
+
+/// The place of a window's cursor in the window (`getyx`).
+#[unsafe(no_mangle)]
+pub extern "C" fn ticurses_raw_cursor(
+    alloc: Global,
+    handle: &mut Handle,
+    window: usize,
+    row: &mut u16,
+    col: &mut u16,
+) -> i32
+    ensures { Asks (λ h. cursor_in (window_of h.session.desk window)) (handle.old).slot.held (handle.new).slot.held (row.old, col.old) (row.new, col.new) result }
+{
+    let Some(held) = handle.take(alloc) else {
+        return failure_code(Failure::Closed);
+    };
+    let answer = cursor_of(held.session.desk(), window);
+    handle.put(held);
+    tell_two(answer, row, col)
+}
+
+fn cursor_of(desk: &Desk, window: usize) -> Result<(u16, u16), Refusal>
+    ensures { result ≡ cursor_in (window_of desk.now window) }
+{
+    let window = desk.window(window)?;
+    Ok((window.row, window.col))
+}
+
+/// How many lines and columns a window has (`getmaxyx`).
+#[unsafe(no_mangle)]
+pub extern "C" fn ticurses_raw_size(
+    alloc: Global,
+    handle: &mut Handle,
+    window: usize,
+    rows: &mut u16,
+    cols: &mut u16,
+) -> i32
+    ensures { Asks (λ h. window_size h.session.desk window) (handle.old).slot.held (handle.new).slot.held (rows.old, cols.old) (rows.new, cols.new) result }
+{
+    let Some(held) = handle.take(alloc) else {
+        return failure_code(Failure::Closed);
+    };
+    let answer = held.session.desk().window_size(window);
+    handle.put(held);
+    tell_two(answer, rows, cols)
+}
+
+/// Writes two numbers to where the program wants them, if there are any.
+fn tell_two(answer: Result<(u16, u16), Refusal>, first: &mut u16, second: &mut u16) -> i32
+    ensures { Tells answer (first.old, second.old) (first.new, second.new) result }
+{
+    match answer {
+        Ok((one, other)) => {
+            *first = one;
+            *second = other;
+            OK
+        }
+        Err(refusal) => refusal_code(refusal),
+    }
+}
+
+/// What stands at `row`, `col` of a window (`mvwinch`, but for the cursor, which stays).
+#[unsafe(no_mangle)]
+pub extern "C" fn ticurses_raw_cell(
+    alloc: Global,
+    handle: &mut Handle,
+    window: usize,
+    row: u16,
+    col: u16,
+    cell: &mut Standing,
+) -> i32
+    ensures { Asks (λ h. cell_seen (seen h.session.desk window) row col) (handle.old).slot.held (handle.new).slot.held cell.old cell.new result }
+{
+    let Some(held) = handle.take(alloc) else {
+        return failure_code(Failure::Closed);
+    };
+    let answer = standing_at(held.session.desk(), window, row, col);
+    handle.put(held);
+    match answer {
+        Ok(found) => {
+            *cell = found;
+            OK
+        }
+        Err(refusal) => refusal_code(refusal),
+    }
+}
+
+fn standing_at(desk: &Desk, window: usize, row: u16, col: u16) -> Result<Standing, Refusal>
+    ensures { result ≡ cell_seen (seen desk.now window) row col }
+{
+    let part = desk.view(window)?;
+    if row >= part.rows() {
+        return Err(Refusal::OutOfWindow);
+    }
+    let line = part.row(row);
+    if col as usize >= line.len() {
+        return Err(Refusal::OutOfWindow);
+    }
+    let cell = line[col as usize];
+    Ok(Standing {
+        byte: cell.byte(),
+        attrs: cell.attrs().bits(),
+        pair: cell.pair(),
+    })
+}

@@ -1,0 +1,158 @@
+//! The calls on sessions.
+ghost use Rattle.std.specs.Prelude.{◌≡◌, None, IfOk, length, pos, take};
+ghost use Rattle.cur_calls.specs.declared.calls.Call.TheVariants.{Addstr};
+ghost use Rattle.cur_calls.specs.Texts.{script_of};
+ghost use Rattle.cur_play.specs.declared.answers.Answer.{Answer};
+ghost use Rattle.curses_c.specs.Codes.{answer_code};
+ghost use Rattle.curses_c.specs.Entries.{IsShown};
+ghost use Rattle.curses_c.specs.Held.{Hands, Loses, Makes, Says};
+ghost use Rattle.curses_c.specs.Sessions.{Answers, IsOpened, Opens, closed};
+
+use crate::codes::{Failure, OK, answer_code, failure_code};
+use crate::entries::{Described, Subject, certificate_of, checked_by, describe};
+use crate::handles::Handle;
+use crate::held::Held;
+use std::alloc::Global;
+use ti_cert::Checked;
+
+/// Opens a session on the terminal of `rows` and `cols` that an entry drives: the one of the compiled file `entry`, or
+/// of `name` in the source text `entry`. Without a `certificate` it makes one. What the handle held before is closed.
+#[unsafe(no_mangle)]
+pub extern "C" fn ticurses_raw_open(
+    alloc: Global,
+    handle: &mut Handle,
+    entry: &[u8],
+    name: &[u8],
+    rows: u16,
+    cols: u16,
+    certificate: &[u8],
+) -> i32
+    ensures { Opens entry.now name.now rows cols result (handle.new).slot.held }
+{
+    let _ = handle.take(alloc);
+    let subject = Subject {
+        bytes: entry,
+        name,
+        rows,
+        cols,
+    };
+    match open(alloc, &subject, certificate) {
+        Ok(held) => {
+            handle.put(held);
+            OK
+        }
+        Err(failure) => failure_code(failure),
+    }
+}
+
+fn open(
+    alloc: Global,
+    subject: &Subject<'_>,
+    certificate: &[u8],
+) -> Result<Box<Held, Global>, Failure>
+    ensures { IfOk result (λ b. IsOpened subject.now.bytes.now subject.now.name.now subject.now.rows subject.now.cols b.value) }
+{
+    let described = describe(alloc, subject)?;
+    let checked = checked_for(alloc, &described, certificate)?;
+    let Ok(held) = Held::open(alloc, checked) else {
+        return Err(Failure::NoMemory);
+    };
+    match Box::new(alloc, held) {
+        Ok(held) => Ok(held),
+        Err(_) => Err(Failure::NoMemory),
+    }
+}
+
+/// What `certificate` shows, or, where it is empty, what one that is made here does.
+fn checked_for(alloc: Global, described: &Described, certificate: &[u8]) -> Result<Checked, Failure>
+    ensures { IfOk result (IsShown described.now.entry described.now.size.rows described.now.size.cols) }
+{
+    if certificate.is_empty() {
+        let text = certificate_of(alloc, described)?;
+        checked_by(alloc, described, text.as_slice())
+    } else {
+        checked_by(alloc, described, certificate)
+    }
+}
+
+/// Closes a session; a handle that holds none stays as it is. Nothing is sent: `endwin` comes before it.
+#[unsafe(no_mangle)]
+pub extern "C" fn ticurses_raw_close(alloc: Global, handle: &mut Handle)
+    ensures { (handle.new).slot.held ≡ None }
+{
+    let _ = handle.take(alloc);
+}
+
+/// Does the calls of a script, `text`, up to the first that isn't done. What they send waits to be taken.
+#[unsafe(no_mangle)]
+pub extern "C" fn ticurses_raw_call(alloc: Global, handle: &mut Handle, text: &[u8]) -> i32
+    ensures { Answers closed (Says (script_of text.now)) (handle.old).slot.held result (handle.new).slot.held }
+{
+    let Some(held) = handle.take(alloc) else {
+        return failure_code(Failure::Closed);
+    };
+    let mut held = held;
+    let code = held.script(alloc, text);
+    handle.put(held);
+    code
+}
+
+/// `addstr` in `window`, of a `text` that may have any bytes.
+#[unsafe(no_mangle)]
+pub extern "C" fn ticurses_raw_addstr(
+    alloc: Global,
+    handle: &mut Handle,
+    window: usize,
+    text: &[u8],
+) -> i32
+    ensures { Answers closed (λ h code k. (answer : Answer) × Makes h (Addstr window text.now) answer k × (code ≡ answer_code answer)) (handle.old).slot.held result (handle.new).slot.held }
+{
+    let Some(held) = handle.take(alloc) else {
+        return failure_code(Failure::Closed);
+    };
+    let mut held = held;
+    let code = answer_code(held.addstr(window, text));
+    handle.put(held);
+    code
+}
+
+/// How many bytes wait.
+#[unsafe(no_mangle)]
+pub extern "C" fn ticurses_raw_waiting(alloc: Global, handle: &mut Handle) -> usize
+    ensures { Answers 0 (λ h count k. (k ≡ h) × (count ≡ length h.outbox.waiting)) (handle.old).slot.held result (handle.new).slot.held }
+{
+    let Some(held) = handle.take(alloc) else {
+        return 0;
+    };
+    let count = held.outbox.len();
+    handle.put(held);
+    count
+}
+
+/// Moves the first of the bytes that wait to the start of `room`, as many as it has room for, and gives their number.
+#[unsafe(no_mangle)]
+pub extern "C" fn ticurses_raw_output(alloc: Global, handle: &mut Handle, room: &mut [u8]) -> usize
+    ensures { Answers 0 (λ h count k. Hands h room.old count k × (take count room.new ≡ take count h.outbox.waiting)) (handle.old).slot.held result (handle.new).slot.held }
+{
+    let Some(held) = handle.take(alloc) else {
+        return 0;
+    };
+    let mut held = held;
+    let count = held.take_into(room);
+    handle.put(held);
+    count
+}
+
+/// Some of what was sent did not reach the terminal: what waits is thrown away, and the next refresh begins anew.
+#[unsafe(no_mangle)]
+pub extern "C" fn ticurses_raw_lost(alloc: Global, handle: &mut Handle) -> i32
+    ensures { Answers closed (λ h code k. Loses h k × (code ≡ pos 0)) (handle.old).slot.held result (handle.new).slot.held }
+{
+    let Some(held) = handle.take(alloc) else {
+        return failure_code(Failure::Closed);
+    };
+    let mut held = held;
+    held.lose();
+    handle.put(held);
+    OK
+}

@@ -1,0 +1,144 @@
+//! The calls on certificates, which keep nothing.
+ghost use Rattle.std.specs.Prelude.{IfErr, IfOk};
+ghost use Rattle.curses_c.specs.Verdicts as spec;
+
+use crate::codes::{Failure, OK, failure_code};
+use crate::entries::{Subject, certificate_of, checked_by, describe};
+use std::alloc::{AllocError, Global};
+use ti_checker::{Cause, check};
+use ti_verdicts::no_words;
+
+/// Writes the certificate of an entry for `rows` and `cols` to the start of `room`: the entry of the compiled file
+/// `entry`, or of `name` in the source text `entry`. `needed` is its length, or 0 where there is none.
+#[unsafe(no_mangle)]
+pub extern "C" fn ticurses_raw_check(
+    alloc: Global,
+    entry: &[u8],
+    name: &[u8],
+    rows: u16,
+    cols: u16,
+    room: &mut [u8],
+    needed: &mut usize,
+) -> i32
+    ensures { spec.Answers (spec.Certifies entry.now name.now rows cols) (spec.Denies entry.now name.now rows cols) room.old room.new needed.new result }
+{
+    let subject = Subject {
+        bytes: entry,
+        name,
+        rows,
+        cols,
+    };
+    deliver(certificate(alloc, &subject), room, needed)
+}
+
+fn certificate(alloc: Global, subject: &Subject<'_>) -> Result<Vec<u8>, Failure>
+    ensures certified { IfOk result (λ text. spec.Certifies subject.now.bytes.now subject.now.name.now subject.now.rows subject.now.cols text.items) }
+    ensures denied { IfErr result (spec.Denies subject.now.bytes.now subject.now.name.now subject.now.rows subject.now.cols) }
+{
+    let described = describe(alloc, subject)?;
+    certificate_of(alloc, &described)
+}
+
+/// Writes why an entry has no certificate to the start of `room`: the line that begins with `no`. `needed` is its
+/// length, or 0 where the entry has a certificate.
+#[unsafe(no_mangle)]
+pub extern "C" fn ticurses_raw_reason(
+    alloc: Global,
+    entry: &[u8],
+    name: &[u8],
+    rows: u16,
+    cols: u16,
+    room: &mut [u8],
+    needed: &mut usize,
+) -> i32
+    ensures { spec.Answers (spec.Reasons entry.now name.now rows cols) (λ _. Unit {0}) room.old room.new needed.new result }
+{
+    let subject = Subject {
+        bytes: entry,
+        name,
+        rows,
+        cols,
+    };
+    deliver(reason(alloc, &subject), room, needed)
+}
+
+fn reason(alloc: Global, subject: &Subject<'_>) -> Result<Vec<u8>, Failure>
+    ensures { IfOk result (λ words. spec.Reasons subject.now.bytes.now subject.now.name.now subject.now.rows subject.now.cols words.items) }
+{
+    let described = describe(alloc, subject)?;
+    let Err(no) = check(alloc, &described.entry, described.size) else {
+        return Ok(Vec::new(alloc));
+    };
+    match no.cause {
+        Cause::NoMemory => Err(Failure::NoMemory),
+        _ => or_no_memory(no_words(alloc, &no)),
+    }
+}
+
+fn or_no_memory(words: Result<Vec<u8>, AllocError>) -> Result<Vec<u8>, Failure>
+    ensures { spec.SameWords words result }
+{
+    match words {
+        Ok(words) => Ok(words),
+        Err(_) => Err(Failure::NoMemory),
+    }
+}
+
+/// Writes the text of an answer to the start of `room`, if it has room for it.
+fn deliver(answer: Result<Vec<u8>, Failure>, room: &mut [u8], needed: &mut usize) -> i32
+    ensures { spec.Delivers (λ text. text.items) answer room.old room.new needed.new result }
+{
+    match answer {
+        Ok(text) => {
+            *needed = text.len();
+            fill(text.as_slice(), room)
+        }
+        Err(failure) => {
+            *needed = 0;
+            failure_code(failure)
+        }
+    }
+}
+
+fn fill(text: &[u8], room: &mut [u8]) -> i32
+    ensures { spec.Fills text.now room.old room.new result }
+{
+    if text.len() > room.len() {
+        return failure_code(Failure::NoRoom);
+    }
+    room[..text.len()].copy_from_slice(text);
+    OK
+}
+
+/// Whether `certificate` shows that each checked string of an entry does on a terminal of `rows` and `cols` what programs
+/// rely on.
+#[unsafe(no_mangle)]
+pub extern "C" fn ticurses_raw_verify(
+    alloc: Global,
+    entry: &[u8],
+    name: &[u8],
+    rows: u16,
+    cols: u16,
+    certificate: &[u8],
+) -> i32
+    ensures { spec.Verifies entry.now name.now rows cols result }
+{
+    let subject = Subject {
+        bytes: entry,
+        name,
+        rows,
+        cols,
+    };
+    match verified(alloc, &subject, certificate) {
+        Ok(()) => OK,
+        Err(failure) => failure_code(failure),
+    }
+}
+
+fn verified(alloc: Global, subject: &Subject<'_>, certificate: &[u8]) -> Result<(), Failure>
+    ensures { IfOk result (λ _. spec.IsVerified subject.now.bytes.now subject.now.name.now subject.now.rows subject.now.cols) }
+{
+    let described = describe(alloc, subject)?;
+    let _checked = checked_by(alloc, &described, certificate)?;
+    Ok(())
+}

@@ -1,0 +1,3 @@
+pub mod Lacks
+pub mod RowFaults
+pub mod AllFaults

@@ -1,0 +1,107 @@
+//! The first faulty row of each checked capability.
+
+ghost use Rattle.std.specs.Prelude.{◌≡◌, ◌≢◌, ◌<◌, ◌++◌, ◌∷◌, [], IfNone, IfSome, OnOk};
+ghost use Rattle.ti_faults.specs.RowFaults as spec;
+ghost use Rattle.ti_rows.specs.Lists.{IsFirst};
+ghost use Rattle.ti_rows.specs.Names.{order};
+
+use std::alloc::{AllocError, Global};
+use ti_caps::Entry;
+use ti_checker::{Cause, Judge, No, checked_string};
+use ti_rows::Row;
+use vt_term::Size;
+
+/// The first row, from the capability's row `first` on, for which the string is at fault.
+fn string_fault(
+    alloc: Global,
+    string: &[u8],
+    first: Row,
+    size: Size,
+    judge: &mut Judge,
+) -> Option<No>
+    requires { IsFirst size.rows size.cols first }
+    ensures none { IfNone result (spec.SendsAllRight size.rows size.cols string.now (order first)) }
+    ensures some { IfSome result (spec.IsStringFault size.rows size.cols string.now (order first)) }
+{
+    let mut row = first;
+    loop {
+        match judge.judge_row(alloc, string, row, size) {
+            Ok(_) => (),
+            Err(cause) => return Some(No::at(row, cause)),
+        }
+        match row.next(size) {
+            Some(next) => row = next,
+            None => return None,
+        }
+    }
+}
+
+/// The first faulty row of the capability at this place in the order of names, where it is checked.
+fn cap_fault(
+    alloc: Global,
+    entry: &Entry,
+    place: usize,
+    size: Size,
+    judge: &mut Judge,
+) -> Option<No>
+    requires { place < 42 }
+    ensures none { IfNone result (spec.CapStands entry.now size.rows size.cols place) }
+    ensures some { IfSome result (spec.IsCapFault entry.now size.rows size.cols place) }
+{
+    let Some(first) = Row::first(place) else {
+        return None;
+    };
+    match checked_string(entry, first) {
+        Some(string) => string_fault(alloc, string, first, size, judge),
+        None => None,
+    }
+}
+
+/// Adds what is said of the capability at this place.
+#[tactic(auto, using(crate::proofs::Caps::stands_added, crate::proofs::Caps::fault_added))]
+fn push_cap_fault(
+    alloc: Global,
+    entry: &Entry,
+    place: usize,
+    size: Size,
+    judge: &mut Judge,
+    nos: &mut Vec<No>,
+) -> Result<(), AllocError>
+    requires { place < 42 }
+    ensures { OnOk result (spec.AddsCap entry.now size.rows size.cols place nos.old.items nos.new.items) }
+{
+    match cap_fault(alloc, entry, place, size, judge) {
+        None => Ok(()),
+        Some(no) => push_claim(no, nos),
+    }
+}
+
+/// Adds a no, unless memory ran out.
+fn push_claim(no: No, nos: &mut Vec<No>) -> Result<(), AllocError>
+    ensures claims { OnOk result (no.cause ≢ Cause.NoMemory) }
+    ensures added { OnOk result (nos.new.items ≡ nos.old.items ++ no ∷ []) }
+{
+    match no.cause {
+        Cause::NoMemory => Err(AllocError),
+        _ => {
+            nos.push(no)?;
+            Ok(())
+        }
+    }
+}
+
+/// Adds the first faulty row of each checked capability, in the order of names.
+pub(crate) fn push_row_faults(
+    alloc: Global,
+    entry: &Entry,
+    size: Size,
+    nos: &mut Vec<No>,
+) -> Result<(), AllocError>
+    ensures { OnOk result (spec.AddsCaps entry.now size.rows size.cols 42 nos.old.items nos.new.items) }
+{
+    let mut judge = Judge::new(alloc)?;
+    for place in 0..42 {
+        push_cap_fault(alloc, entry, place, size, &mut judge, nos)?;
+    }
+    Ok(())
+}
