@@ -2,7 +2,8 @@
 # What a refresh takes of processor time, and how many bytes it sends, for a C program that is compiled against this
 # library and against ncurses (curses_scenes.c): the same calls, with the same entry, into a file; both by turns, the best
 # of five. A refresh is counted with the calls that draw what it shows. The line `open` is opening a session, with the
-# check of the entry in it. Where the two leave different screens, a line says so.
+# check of the entry in it. The entry is without `rep`, which ticurses doesn't use. Where the two leave other characters
+# on the screen, a line says so; colours of blanks and the cursor of a pad are not compared.
 # curses.sh [ROWSxCOLS..]: 24x80 50x132 200x500 if none is given. ENTRY is the terminal, xterm-256color if it isn't set.
 set -eu
 cd -- "$(dirname -- "$0")"
@@ -17,7 +18,8 @@ if ! cc -O2 -DNCURSES -o "$work/ncurses" curses_scenes.c -lncurses 2>"$work/log"
 fi
 cc -O2 -I"$work/prefix/include" -o "$work/ticurses" curses_scenes.c "$work/prefix/lib/libticurses.a"
 mkdir "$work/terminfo"
-infocmp -x "$entry" >"$work/source"
+# the terminal of `feed` has no `rep`
+infocmp -1 -x "$entry" | grep -v '^.rep=' >"$work/source"
 tic -x -o "$work/terminfo" "$work/source" 2>"$work/log"
 TERMINFO=$work/terminfo
 export TERMINFO
@@ -48,7 +50,7 @@ table() {
             }' "$work/times"
         [ "$scene" != open ] && [ -x "$program" ] || continue
         for one in ticurses ncurses; do
-            "$program" feed "$1" "$2" "$work/$one.out" >"$work/$one.screen" 2>&1 || :
+            "$program" feed "$1" "$2" "$work/$one.out" 2>&1 | head -n "$1" >"$work/$one.screen"
         done
         cmp -s "$work/ticurses.screen" "$work/ncurses.screen" ||
             echo "curses: $scene: the screens differ at $1 by $2" >&2

@@ -156,9 +156,11 @@ static inline int ticurses_verify(const void *entry, size_t entry_len, const voi
 }
 
 /* Opens a session; one that was open is closed, whatever the answer is (but TICURSES_NULL). With no
- * certificate (a length of 0) it checks the entry itself, which takes some milliseconds more. Its first
- * refresh clears the terminal, whatever that shows. A session keeps its size: where the terminal's
- * changes, open it anew and draw again. */
+ * certificate (a length of 0) it checks the entry itself, which takes some milliseconds more. The
+ * terminal is taken to be as after a reset, and its first refresh clears it; after ticurses_lost the
+ * first refresh leads to the screen from whatever state the terminal is in, also within a sequence that
+ * was cut. A session keeps its size: where the terminal's changes, open it anew, call ticurses_lost, and
+ * draw again. */
 static inline int ticurses_open(ticurses *session, const void *entry, size_t entry_len, const void *name,
                                 size_t name_len, uint16_t rows, uint16_t cols, const void *certificate,
                                 size_t certificate_len) {

@@ -40,8 +40,8 @@ static inline size_t ticurses_entry_in(const char *folder, size_t folder_len, co
  * its length; 0 if there is none. It is sought where ncurses seeks: $TERMINFO, ~/.terminfo, the folders
  * of $TERMINFO_DIRS, /etc/terminfo, /lib/terminfo, /usr/share/terminfo. */
 static inline size_t ticurses_entry(const char *term, void *room, size_t room_len) {
-    static const char system[] = "/etc/terminfo:/lib/terminfo:/usr/share/terminfo:/usr/lib/terminfo";
-    const char *own = getenv("TERMINFO"), *home = getenv("HOME"), *lists[2] = {getenv("TERMINFO_DIRS"), system};
+    static const char known[] = "/etc/terminfo:/lib/terminfo:/usr/share/terminfo:/usr/lib/terminfo";
+    const char *own = getenv("TERMINFO"), *home = getenv("HOME"), *lists[2] = {getenv("TERMINFO_DIRS"), known};
     char folder[1024];
     size_t got;
     if (!term) term = getenv("TERM");

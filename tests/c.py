@@ -8,13 +8,13 @@ import signal
 import subprocess
 import sys
 import time
-from concurrent.futures import ThreadPoolExecutor
 
 from linked import (
     SANITIZED,
     WRONG,
     Multiplexer,
     Terminal,
+    all_fed,
     compiled,
     fed,
     greeted,
@@ -41,7 +41,8 @@ HEADER = f"{TOP}/include/ticurses.h"
 
 def names_of_codes():
     """The names of the header's codes, by number, as the language of scripts writes them."""
-    found = re.findall(r"^    TICURSES_(\w+) = (\d+)", held_in(HEADER).decode(), re.M)
+    codes = re.search(r"^enum ticurses_code \{(.*?)^\}", held_in(HEADER).decode(), re.M | re.S)[1]
+    found = re.findall(r"^    TICURSES_(\w+) = (\d+)", codes, re.M)
     return {int(number): name.title().replace("_", "") for name, number in found}
 
 
@@ -137,11 +138,10 @@ def check_cuts(prefix, work):
             rest = rest[int(length) + 1 :]
         if [it[0] for it in cuts] != list(range(len(cuts))) or {it[1] for it in cuts} != {1, 2, 3}:
             sys.exit(f"the cuts of {entry} are {[it[:2] for it in cuts]}")
-        with ThreadPoolExecutor(len(os.sched_getaffinity(0))) as pool:
-            screens = pool.map(lambda cut: fed(6, 24, cut[2]), cuts)
-            for (place, refresh, sent), screen in zip(cuts, screens):
-                if screen != wanted[refresh - 1]:
-                    sys.exit(f"{entry}: after a cut at byte {place} and a repair, {sent!r}, the screen is\n{screen}")
+        screens = all_fed(6, 24, [it[2] for it in cuts])
+        for (place, refresh, sent), screen in zip(cuts, screens):
+            if screen != wanted[refresh - 1]:
+                sys.exit(f"{entry}: after a cut at byte {place} and a repair, {sent!r}, the screen is\n{screen}")
         print(f"c: {entry}: three refreshes cut at each of {len(cuts)} bytes, and the next one repairs the screen")
 
 

@@ -74,6 +74,12 @@ def fed(rows, cols, sent):
     return ticurses(["feed", str(rows), str(cols), "{}"], sent).decode("latin-1")
 
 
+def all_fed(rows, cols, sent):
+    """The screens that each of these leaves."""
+    told = run_cases(PROGRAM, [Case(["feed", str(rows), str(cols), "{}"], it) for it in sent])
+    return [it.out.decode("latin-1") for it in told]
+
+
 class Terminal:
     """A program on a terminal of this size, of which the bytes are kept that it sends."""
 

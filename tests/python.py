@@ -43,11 +43,11 @@ def raises(made, code, call, *words):
 def check_names(made, prefix, work):
     """The codes, their words and the attributes are those of the header."""
     header = held_in(f"{prefix}/include/ticurses.h").decode()
-    codes = {name: int(number) for name, number in re.findall(r"^    TICURSES_(\w+) = (\d+)", header, re.M)}
-    attrs = dict(re.findall(r"^    TICURSES_(\w+) = (\d+),? +/\* \w(?: \*/|,)", header, re.M))
-    attrs = {name: int(number) for name, number in attrs.items()}
+    codes, attrs = (
+        {name: int(number) for name, number in re.findall(r"^    TICURSES_(\w+) = (\d+)", enum, re.M)}
+        for enum in re.findall(r"^enum ticurses_\w+ \{(.*?)^\}", header, re.M | re.S)
+    )
     hold(attrs == {it.name: it.value for it in made.Attrs}, "the attributes differ", attrs)
-    codes = {name: number for name, number in codes.items() if name not in attrs}
     del codes["NULL"]
     hold(codes == {it.name: it.value for it in made.Code}, "the codes differ", codes)
     loop = "for (int i = 0; i < 26; i++) puts(ticurses_text(i));"
@@ -71,8 +71,10 @@ def check_calls(made):
     waits = session.waiting
     hold(waits > 5 and len(session.output(3)) == 3 and session.waiting == waits - 3, "the count differs", waits)
     hold(len(session.output()) == waits - 3 and session.output() == b"" and session.output(0) == b"", "more waits")
-    session.lost()
-    raises(made, made.Code.IS_LOST, session.call, "beep 0")
+    raises(made, made.Code.NO_CAP, session.call, "beep 0")
+    other = made.Session(source, 6, 24, name="vt")
+    other.lost()
+    raises(made, made.Code.IS_LOST, other.call, "beep 0")
     raises(made, made.Code.NO_WINDOW, session.cell, 9, 0, 0)
     raises(made, made.Code.OUT_OF_WINDOW, session.cell, 0, 70000, 0)
     raises(made, made.Code.BAD_LINE, session.call, "move 0")

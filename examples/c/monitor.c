@@ -207,8 +207,8 @@ static int open_session(struct monitor *m) {
     ticurses_size(m->fd, &m->rows, &m->cols);
     int code = ticurses_open(&m->session, m->entry, m->entry_len, NULL, 0, m->rows, m->cols, NULL, 0);
     if (code != TICURSES_OK) return code;
-    /* of a piece that is given up, the terminal may have got a part */
-    if (m->sent < m->taken) note(m, ticurses_lost(&m->session));
+    /* what the terminal shows, and whether it got a part of what an earlier session sent, isn't known */
+    note(m, ticurses_lost(&m->session));
     m->taken = m->sent = 0;
     m->is_small = m->rows < 10 || m->cols < 40;
     m->is_changed = 1;

@@ -85,9 +85,8 @@ class Monitor:
             self.session = ticurses.Session(self.entry, self.rows, self.cols)
         else:
             self.session.open(self.entry, self.rows, self.cols)
-        # of a piece that is given up, the terminal may have got a part
-        if self.piece:
-            self.session.lost()
+        # what the terminal shows, and whether it got a part of what an earlier session sent, isn't known
+        self.session.lost()
         self.piece = b""
         self.is_small, self.is_changed = self.rows < 10 or self.cols < 40, True
         self.log_rows = (self.rows - 4) // 3

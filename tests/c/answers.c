@@ -407,7 +407,7 @@ static void many_calls(void) {
     IS(TICURSES_OK, OPEN(&session, "xt", 24, 80));
     IS(TICURSES_OK, CALL(&session, "newwin 1 10 40 3 5\nscrollok 1 1"));
     for (int step = 0; step < 25000 / scale; step++) {
-        if (step == 250 / scale) before = bytes;
+        if (step == 250) before = bytes;
         IS(TICURSES_OK, ticurses_callf(&session, "move 0 %d %d\naddstr 1 %d \nnoutrefresh 0\nrefresh 1", step % 24,
                                        step % 80, step * 7));
         drain(&session, room);
