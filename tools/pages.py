@@ -175,8 +175,8 @@ def closure(roots):
 
 # ---- exported clauses
 
-def clauses(text, at):
-    """The clauses of the function whose parameters begin after `at`, as one text."""
+def each_clause(text, at):
+    """The clauses of the function whose parameters begin after `at`: each one's kind, name (or none) and text."""
     found, i, depth = [], at, 0
     while i < len(text):
         char = text[i]
@@ -187,19 +187,23 @@ def clauses(text, at):
         elif char == ";" and depth == 0:
             break
         elif char == "{" and depth == 0:
-            before = text[at:i].rstrip()
-            is_clause = re.search(rf"\b(requires|ensures)(\s+{WORD})?$", before)
+            head = re.search(rf"\b(requires|ensures)(?:\s+({WORD}))?$", text[at:i].rstrip())
             end, inner = i + 1, 1
             while inner and end < len(text):
                 inner += {"{": 1, "}": -1}.get(text[end], 0)
                 end += 1
-            if not is_clause:
+            if not head:
                 break
-            found.append(text[i:end])
+            found.append((head.group(1), head.group(2) or "", text[i:end]))
             i = end
             continue
         i += 1
-    return "\n".join(found)
+    return found
+
+
+def clauses(text, at):
+    """The clauses of the function whose parameters begin after `at`, as one text."""
+    return "\n".join(text for _, _, text in each_clause(text, at))
 
 
 def block_at(text, at):
