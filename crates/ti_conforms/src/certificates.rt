@@ -36,3 +36,30 @@ pub trait Certificate {
     fn partner(&self, letter: u8) -> Option<u8>
         ensures value { result ≡ partners self.now letter };
 }
+
+/// A certificate that is lent.
+impl<'a, C: Certificate> Certificate for &'a C {
+    ghost table = { λ c. C.table c.now };
+
+    ghost partners = { λ c letter. C.partners c.now letter };
+
+    fn rows(&self) -> usize {
+        (**self).rows()
+    }
+
+    fn cols(&self) -> usize {
+        (**self).cols()
+    }
+
+    fn line(&self, row: Row) -> Option<&[u8]> {
+        (**self).line(row)
+    }
+
+    fn resync(&self) -> &[u8] {
+        (**self).resync()
+    }
+
+    fn partner(&self, letter: u8) -> Option<u8> {
+        (**self).partner(letter)
+    }
+}
