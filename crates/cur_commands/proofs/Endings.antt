@@ -12,7 +12,7 @@ use Rattle.cur_play.specs.Log.{Ran}
 use Rattle.cur_play.specs.declared.runs.LogEntry.{LogEntry}
 use Rattle.cur_commands.specs.Shows.{IsTaken, RanWhole, ShowsRun, refusals_text}
 use Rattle.cur_commands.specs.Through.{AreThrough, unfailing}
-use Rattle.ti_cert.specs.Table.{Content as Strings}
+use Rattle.ti_cert.specs.Table.{CheckedTable as Strings}
 use Rattle.ti_commands.specs.Contents.{Held}
 use Rattle.ti_commands.specs.declared.failure.Failure.{Failure}
 use Rattle.cur_calls.specs.declared.calls.Call.{Call}

@@ -1,7 +1,7 @@
 -- What `play` and `show` reply, by what their files hold. `table` and `partners` are what a painter may know of the
 -- strings of a verified entry.
 use Rattle.std.specs.Prelude.{◌≡◌, ◌⊎◌, ℕ, Bool, List, Option, Ok}
-use Rattle.ti_cert.specs.Table.{Content as Strings}
+use Rattle.ti_cert.specs.Table.{CheckedTable as Strings}
 use Rattle.ti_commands.specs.Contents.{Held}
 use Rattle.ti_commands.specs.Replies.{IsText}
 use Rattle.ti_commands.specs.declared.failure.Failure.{Failure}

@@ -8,7 +8,7 @@ use Rattle.cur_wires.specs.Steps.{Spells, Steps}
 use Rattle.cur_wires.proofs.Stops.{leads_line, spells_as, spells_sent, steps_sent}
 use Rattle.cur_wires.proofs.Completion.{ends_sized}
 use Rattle.ti_rows.specs.declared.rows.Row.{Row}
-use Rattle.ti_conforms.specs.Certified.{Table, IsLost, IsReady, IsChecked, IsLine, IsPiece, Line, Ended, limit_of, or_nothing, text_of}
+use Rattle.ti_conforms.specs.Certified.{Table, IsLost, IsReady, IsChecked, IsCheckedLine, IsPiece, Line, Ended, limit_of, or_nothing, text_of}
 use Rattle.cur_looks.specs.Beliefs.{Agrees, Belief, Turns}
 use Rattle.cur_looks.specs.declared.inks.Ink.{Ink}
 
@@ -27,14 +27,14 @@ agrees_lost t checked g b s h = ready_lost t checked s h.ready
 -- what a line does
 pub line_ends : (t : Table) → IsChecked t → (row : Row) (bytes : List ℕ) → t.line_of row ≡ Some bytes → (g h : ℕ → ℕ → Ink) (b c : Belief) → Turns t row g b h c → (s : State) → Agrees t g b s → Ends s bytes (Agrees t h c)
 line_ends t checked row bytes is g h b c turns s x =
-    let line : IsLine t row bytes = checked.lines row bytes is in
+    let line : IsCheckedLine t row bytes = checked.lines row bytes is in
     ends_sized t.rows t.cols s bytes (Closed (Ended t row s.screen)) (Agrees t h c) x.ready.sized (λ u sized k. turns.ends s u x sized k.rest k.screen) (line.drives.right s x.ready.rest (turns.starts s x))
 
 -- one line, of which a front leaves a lost state
 pub line_leads : (t : Table) → IsChecked t → (row : Row) (bytes : List ℕ) → t.line_of row ≡ Some bytes → (n : ℕ) → length bytes ≤ n → (g h : ℕ → ℕ → Ink) (b c : Belief) → Turns t row g b h c → Leads (IsPiece t) n (IsLost t) (Agrees t g b) bytes (Agrees t h c)
 line_leads t checked row bytes is n le g h b c turns =
     leads_line (IsPiece t) n (IsLost t) (Agrees t g b) (Agrees t h c) bytes (Line row is) le (line_ends t checked row bytes is g h b c turns)
-    (λ s x front back e. (let line : IsLine t row bytes = checked.lines row bytes is in line.drives.fronts s x.ready.rest (agrees_lost t checked g b s x) front back e))
+    (λ s x front back e. (let line : IsCheckedLine t row bytes = checked.lines row bytes is in line.drives.fronts s x.ready.rest (agrees_lost t checked g b s x) front back e))
 
 -- a line, sent where its row starts
 pub line_sent : {W T E : Type 0} (went : W → W → List ℕ → Type 0) (failures : W → ℕ) (a z : W) (answer : Result T E) (t : Table) → IsChecked t → (row : Row) (bytes : List ℕ) → t.line_of row ≡ Some bytes

@@ -7,7 +7,7 @@ use Rattle.cur_wires.proofs.Completion.{ends_sized}
 use Rattle.ti_rows.specs.declared.rows.Row.TheVariants.{Bel}
 use Rattle.cur_looks.specs.declared.beliefs.Belief.{Belief}
 use Rattle.cur_looks.specs.declared.inks.Ink.{Ink}
-use Rattle.ti_conforms.specs.Certified.{Table, IsLost, IsChecked, IsLine, Ended}
+use Rattle.ti_conforms.specs.Certified.{Table, IsLost, IsChecked, IsCheckedLine, Ended}
 use Rattle.cur_looks.specs.Beliefs.{Agrees, Turns}
 use Rattle.cur_looks.proofs.Actions.{agrees_lost}
 use Rattle.cur_looks.proofs.Turns.{free_of, by_screen}
@@ -33,7 +33,7 @@ rung t g b = record {
 
 rung_fresh : (t : Table) → IsChecked t → (line : List ℕ) → t.line_of Bel ≡ Some line → (s : State) → IsFresh t s → Ends s line (IsFresh t)
 rung_fresh t checked line is s h =
-    let its : IsLine t Bel line = checked.lines Bel line is in
+    let its : IsCheckedLine t Bel line = checked.lines Bel line is in
     ends_sized t.rows t.cols s line (Closed (Ended t Bel s.screen)) (IsFresh t) h.lost.sized
     (λ u sized k. by_screen t (IsFresh t) u s.screen sized k.rest k.screen.wants
     (λ size. record {

@@ -15,7 +15,7 @@ use Rattle.ti_rows.specs.declared.rows.Row.TheVariants.{Cup, Sgr0, Rmacs, Cnorm,
 use Rattle.ti_rows.specs.Starts.{Starts}
 use Rattle.cur_looks.specs.declared.beliefs.Belief.{Belief}
 use Rattle.cur_looks.specs.declared.inks.Ink.{Ink}
-use Rattle.ti_conforms.specs.Certified.{Table, IsLost, IsReady, IsChecked, IsLine, IsPiece, Line, Ended, or_nothing, text_of}
+use Rattle.ti_conforms.specs.Certified.{Table, IsLost, IsReady, IsChecked, IsCheckedLine, IsPiece, Line, Ended, or_nothing, text_of}
 use Rattle.cur_looks.proofs.Actions.{ready_lost}
 use Rattle.cur_looks.proofs.Turns.{any_of, free_of, by_screen}
 use Rattle.cur_paint.specs.Cleared.{IsLeft}
@@ -45,7 +45,7 @@ row_leads : (t : Table) → IsChecked t → (row : Row) (B : State → Type 0) �
     → (o : Option (List ℕ)) → t.line_of row ≡ o → Leads (IsPiece t) (length (or_nothing o)) (IsLost t) (IsReady t) (or_nothing o) B
 row_leads t checked row B starts ends without None e = still (IsPiece t) (IsLost t) (IsReady t) B (λ s h. h.rest) (without (ap (λ (o : Option (List ℕ)). is_some o) e)) (ready_lost t checked)
 row_leads t checked row B starts ends without (Some line) e =
-    let its : IsLine t row line = checked.lines row line e in
+    let its : IsCheckedLine t row line = checked.lines row line e in
     leads_line (IsPiece t) (length line) (IsLost t) (IsReady t) B line (Line row e) (omega arith)
     (λ s h. ends_sized t.rows t.cols s line (Closed (Ended t row s.screen)) B h.sized (λ u sized k. ends s u h sized k.rest k.screen) (its.drives.right s h.rest (starts s h)))
     (λ s h front back parts. its.drives.fronts s h.rest (ready_lost t checked s h) front back parts)
@@ -93,7 +93,7 @@ screen_back t s u h sized closed w lost =
 back_leads : (t : Table) → IsChecked t → (o : Option (List ℕ)) → t.line_of Rmcup ≡ o → Leads (IsPiece t) (length (or_nothing o)) (IsLost t) (Visible t) (or_nothing o) (IsFresh t)
 back_leads t checked None e = still (IsPiece t) (IsLost t) (Visible t) (IsFresh t) (λ s h. h.ready.rest) (fresh_of t checked) (λ s h. ready_lost t checked s h.ready)
 back_leads t checked (Some line) e =
-    let its : IsLine t Rmcup line = checked.lines Rmcup line e in
+    let its : IsCheckedLine t Rmcup line = checked.lines Rmcup line e in
     leads_line (IsPiece t) (length line) (IsLost t) (Visible t) (IsFresh t) line (Line Rmcup e) (omega arith)
     (λ s h. ends_sized t.rows t.cols s line (λ u. Closed (Ended t Rmcup s.screen) u × IsLost t u) (IsFresh t) h.ready.sized (λ u sized k. screen_back t s u h sized k.0.rest k.0.screen k.1)
     (both_ends s line (Closed (Ended t Rmcup s.screen)) (IsLost t) (its.drives.right s h.ready.rest (free_of t s h.ready)) (its.drives.fronts s h.ready.rest (ready_lost t checked s h.ready) line [] (sym (append-nil line)))))

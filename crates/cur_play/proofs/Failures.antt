@@ -28,7 +28,7 @@ use Rattle.cur_play.specs.Drawings.{Drawn}
 use Rattle.cur_play.specs.Log.{Emits, Says}
 use Rattle.cur_play.specs.Outputs.{Puts, Told}
 use Rattle.cur_play.specs.Scenes.{Scene}
-use Rattle.cur_play.specs.Steps.{CallStep, Stepped, NoRoom, Failed, Step, drawn, is_sent, output_of, rung, sent, step, then_sent}
+use Rattle.cur_play.specs.Steps.{CallStep, Stepped, NoRoom, Failed, Step, drawn, is_sent, output_of, rung, sent, call_step, then_sent}
 use Rattle.cur_play.specs.declared.answers.Answer.{Answer}
 use Rattle.cur_play.specs.declared.answers.Answer.TheVariants.{Done, Was, Refused, WireFailed}
 use Rattle.cur_play.specs.declared.sends.Emission.{Emission}
@@ -57,7 +57,7 @@ then_whole t o (s, Was n) h e = cc
 then_whole t o (s, Refused r) h e = cc
 then_whole t o (s, WireFailed) h e = h refl
 
-step_whole : (t : Table) (s : Scene) (call : Call) → (step t s call).1 ≡ WireFailed → ⊥
+step_whole : (t : Table) (s : Scene) (call : Call) → (call_step t s call).1 ≡ WireFailed → ⊥
 step_whole t s call = then_whole t (output_of call) (drawn t s call) (draws_answer t s call (drawn t s call).1 (drawn t s call).0 (Drawn refl))
 
 -- a call that was cut short sends
@@ -76,9 +76,9 @@ cut_rose went failures old new t partners v End bytes before after h k = h.sends
 -- a call that was cut short has seen a failure
 pub call_rose : {W C : Type 0} (went : W → W → List ℕ → Type 0) (failures : W → ℕ) (old new : W) (t : Table) (partners : ℕ → Option ℕ) (v : Screen) (call : Call) (s a : Scene) (answer : Answer) (bytes : List ℕ) (before after : Painted C)
     → CallStep t s call answer a → Puts went failures old new t partners v (output_of call) answer bytes before after → answer ≡ WireFailed → Rose (failures old) (failures new)
-call_rose {W} {C} went failures old new t partners v call s a answer bytes before after step puts e =
+call_rose {W} {C} went failures old new t partners v call s a answer bytes before after call_step puts e =
     let P : Answer → Type 0 = λ x. Puts went failures old new t partners v (output_of call) x bytes before after in
-    cut_rose went failures old new t partners v (output_of call) bytes before after (subst P e puts) (cut_sends t s call answer a step e)
+    cut_rose went failures old new t partners v (output_of call) bytes before after (subst P e puts) (cut_sends t s call answer a call_step e)
 
 stays_last : (m n : ℕ) → m ≡ last_count → n ≡ last_count → (k : ℕ) → n ≤ k → (n < k) ⊎ (k ≤ n) → Rose m k
 stays_last m n e f k le (inl lt) = inl (omega (arith, e, f, lt))

@@ -27,7 +27,7 @@ use Rattle.cur_update.specs.Painters.{Painted, wanted_of}
 use Rattle.cur_calls.specs.declared.calls.Call.{Call}
 use Rattle.cur_play.proofs.Failures.{call_rose, cut_sends, emitted, rose_sooner, shown_same}
 use Rattle.cur_play.specs.Deliveries.{Carries, FitsIn, IsLast, IsSettled, IsShown}
-use Rattle.cur_play.specs.Log.{IsAfter, Moment, Plays, Subject, Tells, is_shown, last_after, mode_after, start, subject_of}
+use Rattle.cur_play.specs.Log.{IsAfter, Moment, Plays, Subject, Tells, is_shown, last_after, mode_after, first_moment, subject_of}
 use Rattle.cur_play.specs.Outputs.{poised}
 use Rattle.cur_play.specs.Runs.{RanOn}
 use Rattle.cur_play.specs.Scenes.{IsStage, Scene, Stage, first, scene_of}
@@ -102,7 +102,7 @@ pub record Logged {W C : Type 0} (about : Subject W) (old new : MutBor W) (count
   pub settled : IsSettled stage.painter last_mode
   pub counted : length log ≡ i
   pub few : length bytes ≤ i * 2 ^ 60
-  pub plays : (rest : List LogEntry) (to : W) (all : List ℕ) → Plays about (moment new.now bytes (scene_of stage) last last_mode) (drop i calls) rest to all → Plays about (start about old.now) calls (log ++ rest) to all
+  pub plays : (rest : List LogEntry) (to : W) (all : List ℕ) → Plays about (moment new.now bytes (scene_of stage) last last_mode) (drop i calls) rest to all → Plays about (first_moment about old.now) calls (log ++ rest) to all
 
 last_sized : (o : Emission) (answer : Answer) (last v : Screen) (n : ℕ) (f : Screen → ℕ) → f last ≡ n → f v ≡ n → f (last_after o answer last v) ≡ n
 last_sized Update Done last v n f e h = h
@@ -229,7 +229,7 @@ log_more {W} {V} {C} about laws wire count a m n z calls i call before after log
       few = few;
       plays = λ rest to all h. (
           let R : List Call → Type 0 = λ y. Plays about was y (e ∷ rest) to all in
-          let T : List LogEntry → Type 0 = λ y. Plays about (start about a.now) calls y to all in
+          let T : List LogEntry → Type 0 = λ y. Plays about (first_moment about a.now) calls y to all in
           let here : Plays about was (call ∷ drop (i + 1) calls) (e ∷ rest) to all = (next, tells, h) in
           subst T (sym (append_assoc log (e ∷ []) rest)) (l.plays (e ∷ rest) to all (subst R (sym left) here)));
     }
@@ -269,7 +269,7 @@ log_none {W} about laws a to calls stage log none begins empty =
       few = omega arith;
       plays = λ rest last_wire all h. (
           let P : Scene → Type 0 = λ x. Plays about (moment a.now [] x (new_screen t.rows t.cols) (first t).mode) calls rest last_wire all in
-          let R : List LogEntry → Type 0 = λ l. Plays about (start about a.now) calls (l ++ rest) last_wire all in
+          let R : List LogEntry → Type 0 = λ l. Plays about (first_moment about a.now) calls (l ++ rest) last_wire all in
           subst R (sym nil) (subst P begins h));
     }
 
@@ -283,7 +283,7 @@ log_whole {W} about laws a z to calls i stage log all l = record {
     plays = (
         let none : drop i calls ≡ [] = ap (λ (n : ℕ). drop n calls) all ∙ drop-length calls in
         let P : List Call → Type 0 = λ x. Plays about (moment z.now l.bytes (scene_of stage) l.last l.last_mode) x [] z.now l.bytes in
-        let R : List LogEntry → Type 0 = λ x. Plays about (start about a.now) calls x z.now l.bytes in
+        let R : List LogEntry → Type 0 = λ x. Plays about (first_moment about a.now) calls x z.now l.bytes in
         let over : P [] = (laws.nothing z.now, refl) in
         subst R (append-nil log) (l.plays [] z.now l.bytes (subst P (sym none) over)));
   };

@@ -11,7 +11,7 @@ use Rattle.ti_conforms.specs.Certified.{Table, IsLost}
 use Rattle.cur_wires.specs.Wire.{IsWire, Rose}
 use Rattle.cur_paint.specs.Update.{IsFresh}
 use Rattle.cur_calls.specs.declared.calls.Call.{Call}
-use Rattle.cur_play.specs.Log.{Moment, Plays, Ran, Subject, Tells, start, subject_of}
+use Rattle.cur_play.specs.Log.{Moment, Plays, Ran, Subject, Tells, first_moment, subject_of}
 use Rattle.cur_play.specs.Borrowed.{PassesOf}
 use Rattle.cur_play.specs.declared.answers.Answer.TheVariants.{WireFailed}
 use Rattle.cur_play.specs.declared.runs.LogEntry.{LogEntry}
@@ -32,7 +32,7 @@ ran_further about laws old mid new calls log r k =
       bytes = r.bytes;
       sent = subst P (append-nil r.bytes) (laws.joins old mid new r.bytes [] r.sent k);
       counted = r.counted;
-      plays = plays_further about laws (start about old) calls log mid new r.bytes r.plays k;
+      plays = plays_further about laws (first_moment about old) calls log mid new r.bytes r.plays k;
     }
 
 -- ---- from one wire to another
@@ -91,7 +91,7 @@ ran_over went failures tells fails f IsWell k t partners old new calls log r w =
   bytes = r.bytes;
   sent = k.goes old new r.bytes r.sent w;
   counted = r.counted;
-  plays = plays_over went failures tells fails f IsWell k t partners (start (subject_of went failures t partners) old) calls log new r.bytes r.plays w;
+  plays = plays_over went failures tells fails f IsWell k t partners (first_moment (subject_of went failures t partners) old) calls log new r.bytes r.plays w;
 }
 
 direct_follows : {W V : Type 0} (went : W → W → List ℕ → Type 0) (failures : W → ℕ) (wire : V → MutBor W) → Follows (PassesOf went wire) (λ v. failures (wire v).now) went failures (λ v. (wire v).now) (λ v. Unit {0})
@@ -115,7 +115,7 @@ plays_taken about before (call ∷ calls) (e ∷ log) new all h k s f = plays_ta
 
 -- a terminal that began in a first state takes all that was sent
 pub ran_taken : {W : Type 0} (about : Subject W) (old new : W) (calls : List Call) (log : List LogEntry) → (r : Ran about old new calls log) → (s : State) → IsFresh about.table s → Ends s r.bytes (IsLost about.table)
-ran_taken about old new calls log r s f = plays_taken about (start about old) calls log new r.bytes r.plays (λ u g. record { after = u; runs = runs_nothing u g.lost.sized.state.rest; there = g.lost }) s f
+ran_taken about old new calls log r s f = plays_taken about (first_moment about old) calls log new r.bytes r.plays (λ u g. record { after = u; runs = runs_nothing u g.lost.sized.state.rest; there = g.lost }) s f
 
 plays_through : {W : Type 0} (about : Subject W) → ((a b : W) → Rose (about.failures a) (about.failures b) → ⊥) → (before : Moment W) (calls : List Call) (log : List LogEntry) (new : W) (all : List ℕ) → Plays about before calls log new all
     → AllByRecursion (λ (e : LogEntry). e.answer ≡ WireFailed → ⊥) log
@@ -127,4 +127,4 @@ plays_through about never before (call ∷ calls) (e ∷ log) new all h = (λ a.
 -- where no failure is counted no call was cut short
 pub ran_through : {W : Type 0} (about : Subject W) → ((a b : W) → Rose (about.failures a) (about.failures b) → ⊥) → (old new : W) (calls : List Call) (log : List LogEntry) → Ran about old new calls log
     → AllByRecursion (λ (e : LogEntry). e.answer ≡ WireFailed → ⊥) log
-ran_through about never old new calls log r = plays_through about never (start about old) calls log new r.bytes r.plays
+ran_through about never old new calls log r = plays_through about never (first_moment about old) calls log new r.bytes r.plays

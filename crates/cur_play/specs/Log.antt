@@ -49,8 +49,8 @@ pub record Moment (W : Type 0) : Type 0 where
   pub last : Screen
   pub last_mode : Mode
 
-abbrev pub start : {W : Type 0} → Subject W → W → Moment W
-start about wire = record {
+abbrev pub first_moment : {W : Type 0} → Subject W → W → Moment W
+first_moment about wire = record {
   wire = wire;
   bytes = [];
   scene = first about.table;
@@ -197,4 +197,4 @@ pub record Ran {W : Type 0} (about : Subject W) (old new : W) (calls : List Call
   pub bytes : List ℕ
   pub sent : about.went old new bytes
   pub counted : length log ≡ length calls
-  pub plays : Plays about (start about old) calls log new bytes
+  pub plays : Plays about (first_moment about old) calls log new bytes

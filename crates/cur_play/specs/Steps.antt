@@ -92,8 +92,8 @@ then_sent t o (s, Was n) = (s, Was n)
 then_sent t o (s, Refused r) = (s, Refused r)
 then_sent t o (s, WireFailed) = (s, WireFailed)
 
-abbrev pub step : Table → Scene → Call → Step
-step t s call = then_sent t (output_of call) (drawn t s call)
+abbrev pub call_step : Table → Scene → Call → Step
+call_step t s call = then_sent t (output_of call) (drawn t s call)
 
 abbrev pub is_sent : Emission → Bool
 is_sent Nothing = false
@@ -101,7 +101,7 @@ is_sent _ = true
 
 -- One call: it is as defined; or there was no memory for what it makes; or the wire failed, and then what was copied stands.
 pub data CallStep (t : Table) (before : Scene) (call : Call) (answer : Answer) (after : Scene) : Type 0 where
-  Stepped : (after, answer) ≡ step t before call → CallStep t before call answer after
-  NoRoom : takes_memory call ≡ true → (step t before call).1 ≡ Done → answer ≡ Refused NoMemory → after ≡ before → CallStep t before call answer after
-  Failed : is_sent (output_of call) ≡ true → (step t before call).1 ≡ Done → answer ≡ WireFailed → after ≡ record (drawn t before call).0 { status = Lost }
+  Stepped : (after, answer) ≡ call_step t before call → CallStep t before call answer after
+  NoRoom : takes_memory call ≡ true → (call_step t before call).1 ≡ Done → answer ≡ Refused NoMemory → after ≡ before → CallStep t before call answer after
+  Failed : is_sent (output_of call) ≡ true → (call_step t before call).1 ≡ Done → answer ≡ WireFailed → after ≡ record (drawn t before call).0 { status = Lost }
       → CallStep t before call answer after

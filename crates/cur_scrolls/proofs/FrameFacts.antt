@@ -14,7 +14,7 @@ use Rattle.cur_wires.proofs.Completion.{ends_sized}
 use Rattle.ti_rows.specs.declared.rows.Row.{Row}
 use Rattle.ti_rows.specs.declared.rows.Row.TheVariants.{Cup, Csr, Ind, Ri}
 use Rattle.ti_rows.specs.Starts.{IsAny, IsCalmAnywhere}
-use Rattle.ti_conforms.specs.Certified.{Table, IsChecked, IsLine, IsLost, IsPiece, Line, Ended, cell_limit, has, limit_of}
+use Rattle.ti_conforms.specs.Certified.{Table, IsChecked, IsCheckedLine, IsLost, IsPiece, Line, Ended, cell_limit, has, limit_of}
 use Rattle.ti_conforms.specs.Table.{widening}
 use Rattle.cur_looks.specs.Inks.{rendition_of, look_of, blank_ink, plain_brush, IsColored}
 use Rattle.cur_looks.specs.Beliefs.{Agrees, brush_limit}
@@ -42,14 +42,14 @@ framed_lost t checked widens f b s h = record {
 
 row_ends : (t : Table) → IsChecked t → (row : Row) (bytes : List ℕ) → t.line_of row ≡ Some bytes → (f h : Frame) (b : Belief) → Reframes t row f h b → (s : State) → Framed t f b s → Ends s bytes (Framed t h b)
 row_ends t checked row bytes is f h b turns s x =
-    let line : IsLine t row bytes = checked.lines row bytes is in
+    let line : IsCheckedLine t row bytes = checked.lines row bytes is in
     ends_sized t.rows t.cols s bytes (Closed (Ended t row s.screen)) (Framed t h b) x.sized (λ u sized k. turns.ends s u x sized k.rest k.screen) (line.drives.right s x.rest (turns.starts s x))
 
 row_leads : (t : Table) → IsChecked t → has t (widening t) ≡ true → (row : Row) (bytes : List ℕ) → t.line_of row ≡ Some bytes → (n : ℕ) → length bytes ≤ n → (f h : Frame) (b : Belief) → Reframes t row f h b
     → Leads (IsPiece t) n (IsLost t) (Framed t f b) bytes (Framed t h b)
 row_leads t checked widens row bytes is n le f h b turns =
     leads_line (IsPiece t) n (IsLost t) (Framed t f b) (Framed t h b) bytes (Line row is) le (row_ends t checked row bytes is f h b turns)
-    (λ s x front back e. (let line : IsLine t row bytes = checked.lines row bytes is in line.drives.fronts s x.rest (framed_lost t checked widens f b s x) front back e))
+    (λ s x front back e. (let line : IsCheckedLine t row bytes = checked.lines row bytes is in line.drives.fronts s x.rest (framed_lost t checked widens f b s x) front back e))
 
 pub row_sent : {W T E : Type 0} (went : W → W → List ℕ → Type 0) (failures : W → ℕ) (a z : W) (answer : Result T E) (t : Table) → IsChecked t → has t (widening t) ≡ true → (row : Row) (bytes : List ℕ) → t.line_of row ≡ Some bytes
     → (n : ℕ) (f h : Frame) (b : Belief) → limit_of t row ≤ n → Reframes t row f h b → Sends went failures a z bytes answer → Moves went failures a z answer t n f h b

@@ -7,7 +7,7 @@ use Rattle.vt_term.specs.Screen.{State}
 use Rattle.vt_term.proofs.Runs.{runs_nothing}
 use Rattle.cur_wires.specs.Leads.{Within, Past}
 use Rattle.cur_wires.proofs.Leads.{ends_then, meet}
-use Rattle.ti_cert.specs.Table.{Content, certified}
+use Rattle.ti_cert.specs.Table.{CheckedTable, certified}
 use Rattle.ti_cert.specs.Verified.{partner_in}
 use Rattle.ti_conforms.specs.Certified.{Table, IsChecked, IsLost}
 use Rattle.cur_calls.specs.declared.calls.Call.{Call}
@@ -51,8 +51,8 @@ made mid k call answer taken s m r =
     let all : List ℕ = taken ++ mid.outbox.waiting in
     let t = certified mid.session.painter.checked in
     let same : all ++ x ≡ taken ++ k.outbox.waiting = append_assoc taken mid.outbox.waiting x ∙ ap (λ (l : List ℕ). taken ++ l) (sym m.carries.sent.waiting) in
-    let Fits : Content → State → Type 0 = λ c s. FitsIn (certified c) (partner_in c) k.session.painter s in
-    let Lost : Content → State → Type 0 = λ c s. IsLost (certified c) s in
+    let Fits : CheckedTable → State → Type 0 = λ c s. FitsIn (certified c) (partner_in c) k.session.painter s in
+    let Lost : CheckedTable → State → Type 0 = λ c s. IsLost (certified c) s in
     let whole : Ends s (all ++ x) (Fits mid.session.painter.checked) = ends_then (FitsHeld mid) (Fits mid.session.painter.checked) s all x r.whole m.carries.fits in
     let cut : (front back : List ℕ) → all ++ x ≡ front ++ back → Ends s front (Lost mid.session.painter.checked) = λ front back e.
     elim (meet front back all x (sym e)) [
@@ -60,15 +60,15 @@ made mid k call answer taken s m r =
       | Past y p q ↦ r.cut front y p
     ] in
     let both : (Ends s (all ++ x) (Fits mid.session.painter.checked)) × ((front back : List ℕ) → all ++ x ≡ front ++ back → Ends s front (Lost mid.session.painter.checked)) = (whole, cut) in
-    let there = subst (λ (c : Content). (Ends s (all ++ x) (Fits c)) × ((front back : List ℕ) → all ++ x ≡ front ++ back → Ends s front (Lost c))) (sym m.certificate) both in
-    subst (λ (l : List ℕ). Reached k l s) same (record { whole = there.0; cut = there.1; checked = subst (λ (c : Content). IsChecked (certified c)) (sym m.certificate) r.checked })
+    let there = subst (λ (c : CheckedTable). (Ends s (all ++ x) (Fits c)) × ((front back : List ℕ) → all ++ x ≡ front ++ back → Ends s front (Lost c))) (sym m.certificate) both in
+    subst (λ (l : List ℕ). Reached k l s) same (record { whole = there.0; cut = there.1; checked = subst (λ (c : CheckedTable). IsChecked (certified c)) (sym m.certificate) r.checked })
 
 -- what is handed out changes nothing of what was sent
 took : (mid k : Held) (room : List ℕ) (count : ℕ) (sent : List ℕ) (s : State) → Hands mid room count k → Reached mid sent s → Reached k sent s
 took mid k room count sent s hands r =
-    let P : Stage Content → Type 0 = λ p. (Ends s sent (FitsIn (certified p.painter.checked) (partner_in p.painter.checked) p.painter)) × ((front back : List ℕ) → sent ≡ front ++ back → Ends s front (IsLost (certified p.painter.checked))) in
+    let P : Stage CheckedTable → Type 0 = λ p. (Ends s sent (FitsIn (certified p.painter.checked) (partner_in p.painter.checked) p.painter)) × ((front back : List ℕ) → sent ≡ front ++ back → Ends s front (IsLost (certified p.painter.checked))) in
     let there : P k.session = subst P (sym hands.session) (r.whole, r.cut) in
-    record { whole = there.0; cut = there.1; checked = subst (λ (p : Stage Content). IsChecked (certified p.painter.checked)) (sym hands.session) r.checked }
+    record { whole = there.0; cut = there.1; checked = subst (λ (p : Stage CheckedTable). IsChecked (certified p.painter.checked)) (sym hands.session) r.checked }
 
 nothing_sent : {C : Type 0} (t : Table) → IsChecked t → (partners : ℕ → Option ℕ) (p : Painted C) (s : State) → FitsIn t partners p s → Ends s [] (FitsIn t partners p)
 nothing_sent t checked partners p s f =
@@ -114,9 +114,9 @@ refreshes_show h mid k last taken more call answer s p m shown rests none b =
 pub losses_fit : LossesFit
 losses_fit h mid k taken front back s p e loses b =
     let r = reached h mid taken s p b in
-    let Lost : Stage Content → State → Type 0 = λ q t. IsChecked (certified q.painter.checked) × FitsIn (certified q.painter.checked) (partner_in q.painter.checked) q.painter t in
+    let Lost : Stage CheckedTable → State → Type 0 = λ q t. IsChecked (certified q.painter.checked) × FitsIn (certified q.painter.checked) (partner_in q.painter.checked) q.painter t in
     let x = r.cut front back e in
-    let there : Lost k.session x.after = subst (λ (q : Stage Content). Lost q x.after) (sym loses.session) (r.checked, x.there) in
+    let there : Lost k.session x.after = subst (λ (q : Stage CheckedTable). Lost q x.after) (sym loses.session) (r.checked, x.there) in
     record { after = x.after; runs = x.runs; there = record { nothing = loses.waiting; checked = there.0; fits = there.1 } }
 
 pub openings_begin : OpeningsBegin

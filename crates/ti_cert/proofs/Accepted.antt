@@ -14,18 +14,18 @@ use Rattle.ti_conforms.specs.Conforms.{IsFit, Conforms}
 use Rattle.ti_conforms.proofs.Conformity.{agreed_conforms}
 use Rattle.ti_conforms.proofs.Together.{agreed_stand_together}
 use Rattle.ti_conforms.specs.Looks.{LooksStand}
-use Rattle.ti_cert.specs.Strings.{string_in, total}
+use Rattle.ti_cert.specs.Strings.{row_string, total}
 use Rattle.ti_cert.specs.Certificates.{limit}
 use Rattle.ti_cert.specs.Table as tables
 use Rattle.ti_cert.specs.Verified.{IsVerified, Resyncs}
 
-pub verified : (entry : Content) (t : tables.Content) (rows cols : ℕ) → IsFit entry → IsJudged (tables.table_of t) → EntryAgrees t.known.strings.rows t.known.strings.cols entry (λ row. string_in t.known.strings row)
+pub verified : (entry : Content) (t : tables.CheckedTable) (rows cols : ℕ) → IsFit entry → IsJudged (tables.table_of t) → EntryAgrees t.known.strings.rows t.known.strings.cols entry (λ row. row_string t.known.strings row)
     → t.known.strings.rows ≡ rows → t.known.strings.cols ≡ cols → Conforms entry rows cols
 verified entry t rows cols fit judged agrees r c =
     subst (λ (n : ℕ). Conforms entry rows n) c (subst (λ (n : ℕ). Conforms entry n t.known.strings.cols) r (agreed_conforms entry (tables.table_of t) fit judged agrees))
 
-pub is_verified : (entry : Content) (t : tables.Content) (rows cols : ℕ) → IsSize rows cols → IsFit entry → IsJudged (tables.table_of t) → LooksStand (tables.table_of t)
-    → EntryAgrees t.known.strings.rows t.known.strings.cols entry (λ row. string_in t.known.strings row) → t.known.strings.rows ≡ rows → t.known.strings.cols ≡ cols → total t.known.strings < limit → IsVerified t
+pub is_verified : (entry : Content) (t : tables.CheckedTable) (rows cols : ℕ) → IsSize rows cols → IsFit entry → IsJudged (tables.table_of t) → LooksStand (tables.table_of t)
+    → EntryAgrees t.known.strings.rows t.known.strings.cols entry (λ row. row_string t.known.strings row) → t.known.strings.rows ≡ rows → t.known.strings.cols ≡ cols → total t.known.strings < limit → IsVerified t
 is_verified entry t rows cols size fit judged looks agrees r c few = record {
   size = subst (λ (n : ℕ). IsSize n t.known.strings.cols) (sym r) (subst (λ (n : ℕ). IsSize rows n) (sym c) size);
   few = few;
@@ -34,16 +34,16 @@ is_verified entry t rows cols size fit judged looks agrees r c few = record {
   looks = looks;
 }
 
-pub agrees_at : (entry : Content) (t : tables.Content) (rows cols : ℕ) → EntryAgrees t.known.strings.rows t.known.strings.cols entry (λ row. string_in t.known.strings row)
-    → t.known.strings.rows ≡ rows → t.known.strings.cols ≡ cols → EntryAgrees rows cols entry (λ row. string_in t.known.strings row)
+pub agrees_at : (entry : Content) (t : tables.CheckedTable) (rows cols : ℕ) → EntryAgrees t.known.strings.rows t.known.strings.cols entry (λ row. row_string t.known.strings row)
+    → t.known.strings.rows ≡ rows → t.known.strings.cols ≡ cols → EntryAgrees rows cols entry (λ row. row_string t.known.strings row)
 agrees_at entry t rows cols agrees r c =
-    subst (λ (n : ℕ). EntryAgrees rows n entry (λ row. string_in t.known.strings row)) c (subst (λ (n : ℕ). EntryAgrees n t.known.strings.cols entry (λ row. string_in t.known.strings row)) r agrees)
+    subst (λ (n : ℕ). EntryAgrees rows n entry (λ row. row_string t.known.strings row)) c (subst (λ (n : ℕ). EntryAgrees n t.known.strings.cols entry (λ row. row_string t.known.strings row)) r agrees)
 
 -- from a lost state
-pub resyncs : (t : tables.Content) → IsVerified t → Resyncs (tables.table_of t)
+pub resyncs : (t : tables.CheckedTable) → IsVerified t → Resyncs (tables.table_of t)
 resyncs t v s lost = v.holds.resyncs (has (tables.table_of t) Cnorm) s lost
 
-pub line_right : (t : tables.Content) (row : Row) → IsVerified t → (o : Option (Bor (List ℕ))) → option_copied o ≡ (tables.table_of t).line_of row → IfSome o (λ b. LineHolds (tables.table_of t) row b.now)
+pub line_right : (t : tables.CheckedTable) (row : Row) → IsVerified t → (o : Option (Bor (List ℕ))) → option_copied o ≡ (tables.table_of t).line_of row → IfSome o (λ b. LineHolds (tables.table_of t) row b.now)
 line_right t row v None e = tt
 line_right t row v (Some b) e = v.holds.lines row b.now (sym e)
 

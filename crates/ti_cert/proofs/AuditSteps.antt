@@ -23,13 +23,13 @@ use Rattle.ti_rows.specs.Asked.{start_of, asked}
 use Rattle.ti_lines.specs.declared.row_lines.RowLine.{RowLine}
 use Rattle.ti_lines.specs.Heads.{IsSizeText, IsAcscText, is_end}
 use Rattle.ti_lines.specs.RowLines.{IsTextOf}
-use Rattle.ti_cert.specs.Strings.{Strings, allows, group_at, string_in, has_group, total, Adds}
+use Rattle.ti_cert.specs.Strings.{Strings, allows, group_at, row_string, has_group, total, Adds}
 use Rattle.ti_cert.specs.Certificates.{missing_line, rival, Said, Nothing, Sized, Listing, Ended, speaks_of, looks_of, IsWholeText, IsMisfit, JudgesRow, Cut, Wild, Untrue, Unasked, Stands as RowStands, JudgesLast, Lacks, Clashes, Closes, JudgesLater, IsLast, IsRow, IsMisplaced, IsNone, JudgesSecond, HasPairs as SecondHasPairs, HasNoPairs as SecondHasNoPairs, HasSize, HasNoSize, JudgesLine}
 use Rattle.ti_conforms.specs.Judged.{IsJudged}
 use Rattle.ti_conforms.specs.Looks.{no_looks}
 use Rattle.ti_cert.specs.Known.{Known, Holds, IsKept, HasRecord, looks_with}
 use Rattle.ti_cert.specs.Table.{checked_of}
-use Rattle.ti_cert.specs.Order.{Precedes, HasLine, HasCap, HasBytes, IsRequired, IsComplete, IsInPlace}
+use Rattle.ti_cert.specs.Order.{Precedes, HasLine, HasCap, GivesBytes, IsRequiredLine, IsComplete, IsInPlace}
 use Rattle.ti_cert.specs.Clashes.{IsClash, GoesTogether}
 use Rattle.ti_cert.specs.Places.{missing, place_fault}
 use Rattle.ti_cert.specs.Audits.{settled_of, Lists, IsLastRow, IsUpTo, Stands, Tells, Steps, Becomes, AnswersLine, AnswersLater, AnswersRow, AnswersLast, OrNoMemory, IsTokenFault, Misshows, NoRecord, Another, NotAsked, IsMisplacedBy, HasPairs, HasNoPairs, HasNoMemory, LacksRecord, NotSplit, NotRecorded, RanOut, LacksNeeded, NoClear, NoSgr0, NoWidening, IsConcluded, ConcludesBy, Lacking, Together, NoRoom}
@@ -61,7 +61,7 @@ pub not_asked : (k : Known) (row : Row) (stated : Effect) (tokens : List (List �
 not_asked k row stated tokens kind effect looks recorded same l never misfit = subst (λ (s : Effect). Misshows k row s tokens kind) same
     (NotAsked recorded (λ h. never (h ∙ ap (λ (x : Looks). asked x row effect) (sym l))) misfit)
 
-pub not_split : (s : Strings) (row : Row) (bytes : List ℕ) (kind : CertFaultKind) → string_in s row ≡ Some bytes → IsTokenFault bytes kind → LacksRecord s kind
+pub not_split : (s : Strings) (row : Row) (bytes : List ℕ) (kind : CertFaultKind) → row_string s row ≡ Some bytes → IsTokenFault bytes kind → LacksRecord s kind
 not_split s row bytes kind there (inl f) = NotSplit row bytes there f.1
 not_split s row bytes kind there (inr e) = RanOut e
 
@@ -228,18 +228,18 @@ has_needed : (p : Progress) (lines : List RowLine) (kind : CertFaultKind) → St
 has_needed p lines kind st complete (NoClear none) = complete Clear (record { range = tt; absent = absent; before = tt; due = inl (inl refl) })
   where
     absent : HasLine lines Clear → ⊥
-    absent h = none-some h.line.bytes (sym none ∙ (ap (λ (r : Row). string_in p.known.strings r) (sym h.of_row) ∙ st.lists.kept h.line h.among))
+    absent h = none-some h.line.bytes (sym none ∙ (ap (λ (r : Row). row_string p.known.strings r) (sym h.of_row) ∙ st.lists.kept h.line h.among))
 has_needed p lines kind st complete (NoSgr0 none) = complete Sgr0 (record { range = tt; absent = absent; before = tt; due = inl (inr (inr refl)) })
   where
     absent : HasLine lines Sgr0 → ⊥
-    absent h = none-some h.line.bytes (sym none ∙ (ap (λ (r : Row). string_in p.known.strings r) (sym h.of_row) ∙ st.lists.kept h.line h.among))
+    absent h = none-some h.line.bytes (sym none ∙ (ap (λ (r : Row). row_string p.known.strings r) (sym h.of_row) ∙ st.lists.kept h.line h.among))
 has_needed p lines kind st complete (NoWidening some none) = complete (Csr 0 (p.known.strings.rows - 1)) (record { range = range; absent = absent; before = tt; due = inr (inl (has_cap lines (Csr 0 1) (Csr 0 (p.known.strings.rows - 1)) refl (sym (st.lists.groups (Csr 0 1)) ∙ some))) })
   where
     range : (0 < p.known.strings.rows - 1) × (p.known.strings.rows - 1 < p.size.rows)
     range = let two = p.size.limits.0 in let r : p.known.strings.rows ≡ p.size.rows = st.rows in (omega (arith, two, r), omega (arith, two, r))
 
     absent : HasLine lines (Csr 0 (p.known.strings.rows - 1)) → ⊥
-    absent h = none-some h.line.bytes (sym none ∙ (ap (λ (r : Row). string_in p.known.strings r) (sym h.of_row) ∙ st.lists.kept h.line h.among))
+    absent h = none-some h.line.bytes (sym none ∙ (ap (λ (r : Row). row_string p.known.strings r) (sym h.of_row) ∙ st.lists.kept h.line h.among))
 
 pub last_clashes : (p : Progress) (kind : CertFaultKind) (has_pairs : Bool) → has_pairs ≡ is_some p.acsc → None ≡ missing p.size.rows p.size.cols p.place.last 42 → (Holds p.known → ConcludesBy p.known has_pairs kind) → OrNoMemory kind (AnswersLast p)
 last_clashes p kind has_pairs same none h = by_kind (is_no_memory kind)
@@ -295,14 +295,14 @@ first_lines k lines row l = record { there = there; below = below }
             × (get_or (group_at k.strings (order row)) (rank k.strings.rows k.strings.cols other) x ≡ x))
             ⊎ ((length (group_at k.strings (order row)) ≤ rank k.strings.rows k.strings.cols other) × (slice_get (group_at k.strings (order row)) (rank k.strings.rows k.strings.cols other) ≡ None)) → HasLine lines other
         by_string (inl h) =
-            let is : string_in k.strings other ≡ Some h.0 = if_true (allows k.strings.rows k.strings.cols other) (slice_get (group_at k.strings (order other)) (rank k.strings.rows k.strings.cols other)) (is_allowed k.strings.rows k.strings.cols other range)
+            let is : row_string k.strings other ≡ Some h.0 = if_true (allows k.strings.rows k.strings.cols other) (slice_get (group_at k.strings (order other)) (rank k.strings.rows k.strings.cols other)) (is_allowed k.strings.rows k.strings.cols other range)
             ∙ (ap (λ (n : ℕ). slice_get (group_at k.strings n) (rank k.strings.rows k.strings.cols other)) same ∙ h.2) in
             let f = l.found other h.0 is in record { line = f.line; among = f.among; of_row = f.of_row }
         by_string (inr h) = let g = h.0 in absurd (omega (arith, g, lt))
 
     below : (other : Row) → HasLine lines other → order other ≡ order row → rank k.strings.rows k.strings.cols other < length (group_at k.strings (order row))
     below other h same = subst (λ (n : ℕ). rank k.strings.rows k.strings.cols other < length (group_at k.strings n)) same
-        (there_within k.strings other h.line.bytes (ap (λ (r : Row). string_in k.strings r) (sym h.of_row) ∙ l.kept h.line h.among))
+        (there_within k.strings other h.line.bytes (ap (λ (r : Row). row_string k.strings r) (sym h.of_row) ∙ l.kept h.line h.among))
 
 abbrev pub fault_in_place : Progress → Row → Option CertFaultKind
 fault_in_place p row = place_fault p.known.strings.rows p.known.strings.cols p.place.last (length (group_at p.known.strings (order row))) row
@@ -358,12 +358,12 @@ lists_more k lines line new l a looks = record {
   total_is = let new_is = a.total_is in let old_is = l.total_is in omega (arith, new_is, old_is);
 }
   where
-    by_only : (row : Row) (bytes : List ℕ) → (string_in k.strings row ≡ Some bytes) ⊎ ((row ≡ line.row) × (bytes ≡ line.bytes)) → HasBytes (line ∷ lines) row bytes
+    by_only : (row : Row) (bytes : List ℕ) → (row_string k.strings row ≡ Some bytes) ⊎ ((row ≡ line.row) × (bytes ≡ line.bytes)) → GivesBytes (line ∷ lines) row bytes
     by_only row bytes (inl h) = let f = l.found row bytes h in record { line = f.line; among = inr f.among; of_row = f.of_row; bytes_are = f.bytes_are }
     by_only row bytes (inr e) = record { line = line; among = inl refl; of_row = sym e.0; bytes_are = sym e.1 }
 
-    kept : (other : RowLine) → IsAmong (line ∷ lines) other → string_in new.strings other.row ≡ Some other.bytes
-    kept other (inl e) = subst (λ (x : RowLine). string_in new.strings x.row ≡ Some x.bytes) (sym e) a.there
+    kept : (other : RowLine) → IsAmong (line ∷ lines) other → row_string new.strings other.row ≡ Some other.bytes
+    kept other (inl e) = subst (λ (x : RowLine). row_string new.strings x.row ≡ Some x.bytes) (sym e) a.there
     kept other (inr h) = a.kept other.row other.bytes (l.kept other h)
 
 -- it is the last, and nothing is missing before it
@@ -383,7 +383,7 @@ last_more rows cols lines line i = record {
     of_cap row other (inl e) o = inr (sym o ∙ ap (λ (x : RowLine). order x.row) e)
     of_cap row other (inr h) o = inl (record { line = other; among = h; of_cap = o })
 
-    due : (row : Row) → IsRequired row ⊎ (HasCap (line ∷ lines) row ⊎ (order row ≡ order line.row)) → IsRequired row ⊎ (HasCap lines row ⊎ (order row ≡ order line.row))
+    due : (row : Row) → IsRequiredLine row ⊎ (HasCap (line ∷ lines) row ⊎ (order row ≡ order line.row)) → IsRequiredLine row ⊎ (HasCap lines row ⊎ (order row ≡ order line.row))
     due row (inl d) = inl d
     due row (inr (inl c)) = inr (of_cap row c.line c.among c.of_cap)
     due row (inr (inr o)) = inr (inr o)
@@ -450,7 +450,7 @@ starts_so p s looks holds none last = record {
   cols = ap (λ (x : Strings). x.cols) s;
   holds = holds;
   lists = record {
-    found = λ row bytes h. absurd (none_at_first p.size.rows p.size.cols row bytes (ap (λ (x : Strings). string_in x row) (sym s) ∙ h));
+    found = λ row bytes h. absurd (none_at_first p.size.rows p.size.cols row bytes (ap (λ (x : Strings). row_string x row) (sym s) ∙ h));
     kept = λ line among. absurd among;
     groups = λ row. ap (λ (x : Strings). has_group x row) s ∙ ap (λ (g : List (List ℕ)). not (length g == 0)) (empty_group 42 (order row));
     looks = looks;

@@ -11,9 +11,9 @@ use Rattle.ti_rows.specs.Lists.{IsInRange}
 use Rattle.ti_lines.specs.declared.row_lines.RowLine.{RowLine}
 use Rattle.ti_lines.specs.declared.judgements.LineFault.{LineFault}
 use Rattle.ti_conforms.specs.Entries.{has_string, is_checked, string_of, EntrySends}
-use Rattle.ti_cert.specs.Strings.{string_in}
+use Rattle.ti_cert.specs.Strings.{row_string}
 use Rattle.ti_cert.specs.Table as tables
-use Rattle.ti_cert.specs.Order.{HasBytes}
+use Rattle.ti_cert.specs.Order.{GivesBytes}
 use Rattle.ti_cert.specs.Certificates.{Said, Ended}
 use Rattle.ti_cert.specs.Texts.{IsTableOf}
 use Rattle.ti_cert.specs.Basic.{basic_bytes, basic_line, is_basic, basic_rows, basic_text_of, IsBasic, IsBasicTable, IsVerifyStopped, BasicAgrees}
@@ -85,10 +85,10 @@ table_for entry table t = record { fit = t.basic.fit; pairs = pairs.0 ∙ sym t.
     are : AreBasic table.known.strings.rows table.known.strings.cols (has_string entry Home) (has_string entry El) lines
     are = are_basic table.known.strings.rows table.known.strings.cols (has_string entry Home) (has_string entry El)
 
-    there : (row : Row) → IsAmong (rows_of entry table.known.strings.rows table.known.strings.cols) row → string_in table.known.strings row ≡ Some (basic_bytes row)
+    there : (row : Row) → IsAmong (rows_of entry table.known.strings.rows table.known.strings.cols) row → row_string table.known.strings row ≡ Some (basic_bytes row)
     there row among = t.made.kept (basic_line row) (subst (λ (l : List RowLine). IsAmong l (basic_line row)) (sym pairs.1) (are.all row among))
 
-    checked : (row : Row) → IsInRange table.known.strings.rows table.known.strings.cols row → is_checked entry row ≡ true → EntrySends entry (string_in table.known.strings row) row
+    checked : (row : Row) → IsInRange table.known.strings.rows table.known.strings.cols row → is_checked entry row ≡ true → EntrySends entry (row_string table.known.strings row) row
     checked row range on =
         let s = some_string (string_of entry row) (and_parts (has_string entry row) _ on).0 in
         record {
@@ -97,9 +97,9 @@ table_for entry table t = record { fit = t.basic.fit; pairs = pairs.0 ∙ sym t.
           sends = record { bytes = basic_bytes row; sends = t.basic.sends row range on s.0 s.1; line_has = there row (among_checked entry table.known.strings.rows table.known.strings.cols row t.basic range on) };
         }
 
-    unchecked : (row : Row) → is_checked entry row ≡ false → string_in table.known.strings row ≡ None
-    unchecked row off = no_string (string_in table.known.strings row) (λ bytes found.
-        let h : HasBytes lines row bytes = subst (λ (l : List RowLine). HasBytes l row bytes) pairs.1 (t.made.found row bytes found) in
+    unchecked : (row : Row) → is_checked entry row ≡ false → row_string table.known.strings row ≡ None
+    unchecked row off = no_string (row_string table.known.strings row) (λ bytes found.
+        let h : GivesBytes lines row bytes = subst (λ (l : List RowLine). GivesBytes l row bytes) pairs.1 (t.made.found row bytes found) in
         let k = (are.each h.line h.among).0 in
         let on = checked_kind entry table.known.strings.rows table.known.strings.cols row t.basic (kind_of table.known.strings.rows table.known.strings.cols (has_string entry Home) (has_string entry El) row
         (subst (λ (r : Row). IsAmong (rows_of entry table.known.strings.rows table.known.strings.cols) r) h.of_row k)) in
@@ -107,17 +107,17 @@ table_for entry table t = record { fit = t.basic.fit; pairs = pairs.0 ∙ sym t.
 
 -- ---- what that says of agreeing
 
-abbrev IsOf : Content → tables.Content → ℕ → ℕ → Type 0
+abbrev IsOf : Content → tables.CheckedTable → ℕ → ℕ → Type 0
 IsOf entry table rows cols = IsSize rows cols × IsBasic entry rows cols × IsTableOf rows cols (basic_text_of entry rows cols) table
 
-pub basic_table_at : (entry : Content) (table : tables.Content) (rows cols : ℕ) → table.known.strings.rows ≡ rows → table.known.strings.cols ≡ cols → IsSize rows cols → IsBasic entry rows cols
+pub basic_table_at : (entry : Content) (table : tables.CheckedTable) (rows cols : ℕ) → table.known.strings.rows ≡ rows → table.known.strings.cols ≡ cols → IsSize rows cols → IsBasic entry rows cols
     → IsTableOf rows cols (basic_text_of entry rows cols) table → IsBasicTable entry table
 basic_table_at entry table rows cols r c size b made =
     let all : IsOf entry table rows cols = (size, b, made) in
     let own : IsOf entry table table.known.strings.rows table.known.strings.cols = subst (λ (n : ℕ). IsOf entry table n table.known.strings.cols) (sym r) (subst (λ (n : ℕ). IsOf entry table rows n) (sym c) all) in
     record { size = own.0; basic = own.1; made = own.2 }
 
-pub none_disagrees : (entry : Content) (table : tables.Content) (fault : AgreeFault) → IsBasicTable entry table → IsDisagreeing table entry fault → fault ≡ NoMemory
+pub none_disagrees : (entry : Content) (table : tables.CheckedTable) (fault : AgreeFault) → IsBasicTable entry table → IsDisagreeing table entry fault → fault ≡ NoMemory
 none_disagrees entry table (Disagree cap numbers) t h = let f = table_for entry table t in absurd (excludes_yes table entry cap numbers.items h f.fit f.pairs f.agrees)
 none_disagrees entry table NoMemory t h = refl
 

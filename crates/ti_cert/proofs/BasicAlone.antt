@@ -12,7 +12,7 @@ use Rattle.ti_rows.specs.declared.rows.Row.{Row}
 use Rattle.ti_rows.specs.declared.rows.Row.TheVariants.{Home, El}
 use Rattle.ti_rows.specs.Asked.{start_of}
 use Rattle.ti_lines.specs.declared.row_lines.RowLine.{RowLine}
-use Rattle.ti_lines.specs.Texts.{texts_of, ended}
+use Rattle.ti_lines.specs.Texts.{line_texts, ended}
 use Rattle.ti_conforms.specs.Sends.{Sends}
 use Rattle.ti_conforms.specs.Entries.{has_string, string_of}
 use Rattle.ti_cert.specs.Order.{Precedes, HasLine}
@@ -111,7 +111,7 @@ reversed_only xs x a = subst (λ (l : List RowLine). IsAmong l x) (reverse-rever
 
 pub alone : BasicAlone
 unfolding basic_text
-alone entry rows cols text lines size b is sent = sym certificate.spelled.spelled ∙ ap (λ (ls : List RowLine). ended (texts_of (record { rows = rows; cols = cols; acsc = None; lines = ls }))) all
+alone entry rows cols text lines size b is sent = sym certificate.spelled.spelled ∙ ap (λ (ls : List RowLine). ended (line_texts (record { rows = rows; cols = cols; acsc = None; lines = ls }))) all
   where
     certificate : IsCertificate rows cols text None (reverse lines)
     certificate = that_of_certificate rows cols text None lines is

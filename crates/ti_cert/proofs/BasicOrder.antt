@@ -9,7 +9,7 @@ use Rattle.ti_rows.specs.declared.rows.Row.TheVariants.{Clear, Cup, Home, El, Sg
 use Rattle.ti_rows.specs.Names.{order}
 use Rattle.ti_rows.specs.Lists.{IsInRange}
 use Rattle.ti_lines.specs.declared.row_lines.RowLine.{RowLine}
-use Rattle.ti_cert.specs.Order.{Precedes, HasLine, HasCap, IsRequired, IsOfCap, IsLacking, IsComplete, IsInPlace}
+use Rattle.ti_cert.specs.Order.{Precedes, HasLine, HasCap, IsRequiredLine, IsOfCap, IsLacking, IsComplete, IsInPlace}
 use Rattle.ti_cert.specs.Basic.{basic_line, is_basic, places, only_if, basic_rows}
 use Rattle.ti_cert.proofs.Preservation.{among_front, among_behind}
 use Rattle.ti_cert.proofs.Singleness.{never_itself, never_back}
@@ -242,7 +242,7 @@ by_place_of home el _ = refl
 pub same_kind : (home el : Bool) (a b : Row) → order a ≡ order b → is_basic home el a ≡ is_basic home el b
 same_kind home el a b e = by_place_of home el a ∙ (ap (listed_at home el) e ∙ sym (by_place_of home el b))
 
-required_listed : (home el : Bool) (row : Row) → IsRequired row → is_basic home el row ≡ true
+required_listed : (home el : Bool) (row : Row) → IsRequiredLine row → is_basic home el row ≡ true
 required_listed home el row (inl e) = same_kind home el row Clear e
 required_listed home el row (inr (inl e)) = same_kind home el row (Cup 0 0) e
 required_listed home el row (inr (inr e)) = same_kind home el row Sgr0 e
@@ -265,7 +265,7 @@ ready_first rows cols home el = record {
 }
 
 due_listed : (home el : Bool) (before : List RowLine) (next : Option Row) (row : Row) → ((line : RowLine) → IsAmong before line → is_basic home el line.row ≡ true) → (IsOfCap next row → is_basic home el row ≡ true)
-    → IsRequired row ⊎ (HasCap before row ⊎ IsOfCap next row) → is_basic home el row ≡ true
+    → IsRequiredLine row ⊎ (HasCap before row ⊎ IsOfCap next row) → is_basic home el row ≡ true
 due_listed home el before next row listed own (inl d) = required_listed home el row d
 due_listed home el before next row listed own (inr (inl c)) = same_kind home el row c.line.row (sym c.of_cap) ∙ listed c.line c.among
 due_listed home el before next row listed own (inr (inr o)) = own o

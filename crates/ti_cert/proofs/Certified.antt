@@ -4,19 +4,19 @@ use Rattle.ti_rows.specs.declared.rows.Row.{Row}
 use Rattle.ti_rows.specs.declared.rows.Row.TheVariants.{Sgr, Sgr0, Smacs, Rmacs}
 use Rattle.ti_rows.specs.Names.{no_attributes}
 use Rattle.ti_conforms.specs.Charsets.{reset_charset}
-use Rattle.ti_conforms.specs.Certified.{IsLine, IsChecked, HasSingles, text_of, lengths, singles}
+use Rattle.ti_conforms.specs.Certified.{IsCheckedLine, IsChecked, HasSingles, text_of, lengths, singles}
 use Rattle.ti_conforms.specs.Looks.{SingleLooks}
 use Rattle.ti_conforms.specs.Sets.{AtReset}
 use Rattle.ti_conforms.specs.Table.{has}
 use Rattle.ti_conforms.specs.Resync.{resync_rows}
 use Rattle.ti_conforms.proofs.Sendable.{drives, resyncs, resync_fronts, pieces_of, each_piece, line_there, made}
 use Rattle.ti_cert.specs.Lengths.{longest_line, longest_change, longest_in, singly}
-use Rattle.ti_cert.specs.Table.{Content, table_of, certified}
+use Rattle.ti_cert.specs.Table.{CheckedTable, table_of, certified}
 use Rattle.ti_cert.specs.Verified.{IsVerified}
 use Rattle.ti_cert.proofs.Lengths.{short}
 use Rattle.ti_cert.proofs.Smallness.{is_small}
 
-line : (c : Content) → IsVerified c → (row : Row) (bytes : List ℕ) → (certified c).line_of row ≡ Some bytes → IsLine (certified c) row bytes
+line : (c : CheckedTable) → IsVerified c → (row : Row) (bytes : List ℕ) → (certified c).line_of row ≡ Some bytes → IsCheckedLine (certified c) row bytes
 line c v row bytes h = record {
   drives = drives (table_of c) v.holds row bytes h;
   short = short c v.together row bytes (line_there (table_of c) row bytes h) h;
@@ -26,7 +26,7 @@ not_taken : (b : Bool) (m n : ℕ) → b ≡ false → (if b then m else n) ≡ 
 not_taken true m n h = cc
 not_taken false m n h = refl
 
-single_looks : (c : Content) → SingleLooks (λ row. has (table_of c) row) c.known.looks → SingleLooks (λ row. has (certified c) row) c.known.looks
+single_looks : (c : CheckedTable) → SingleLooks (λ row. has (table_of c) row) c.known.looks → SingleLooks (λ row. has (certified c) row) c.known.looks
 single_looks c l = record {
   underline = l.underline;
   reverse = l.reverse;
@@ -37,7 +37,7 @@ single_looks c l = record {
   standout = l.standout;
 }
 
-has_singles : (c : Content) → IsVerified c → has (certified c) (Sgr no_attributes) ≡ false → HasSingles (certified c)
+has_singles : (c : CheckedTable) → IsVerified c → has (certified c) (Sgr no_attributes) ≡ false → HasSingles (certified c)
 unfolding longest_in
 has_singles c v h = record {
   looks = single_looks c (v.looks h);
@@ -52,7 +52,7 @@ second_false : (a b : Bool) → b ≡ false → (a && b) ≡ false
 second_false true b h = h
 second_false false b h = refl
 
-pub is_checked : (c : Content) → IsVerified c → IsChecked (certified c)
+pub is_checked : (c : CheckedTable) → IsVerified c → IsChecked (certified c)
 is_checked c v = record {
   size = v.size;
   small = is_small c v.few;

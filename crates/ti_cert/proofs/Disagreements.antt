@@ -15,8 +15,8 @@ use Rattle.ti_conforms.specs.Entries.{acsc, is_checked, has_string, EntrySends, 
 use Rattle.ti_conforms.specs.declared.agreement.Disagreement as sends
 use Rattle.ti_conforms.specs.declared.agreement.Disagreement.TheVariants as other
 use Rattle.ti_conforms.specs.Conforms.{IsFit, xmc, hc, gn, os}
-use Rattle.ti_cert.specs.Strings.{Strings, allows, group_at, has_group, string_in}
-use Rattle.ti_cert.specs.Table.{Content}
+use Rattle.ti_cert.specs.Strings.{Strings, allows, group_at, has_group, row_string}
+use Rattle.ti_cert.specs.Table.{CheckedTable}
 use Rattle.ti_conforms.specs.Unfit.{is_flag_out, IsRequired, HasMisfit, IsUnfit, cap_of_unfit}
 use Rattle.ti_conforms.specs.declared.fitness.Unfit.{Unfit}
 use Rattle.ti_conforms.specs.declared.fitness.Unfit.TheVariants.{FlagOut, Absent, AcsByte}
@@ -30,7 +30,7 @@ use Rattle.ti_cert.proofs.Ranges.{is_allowed}
 -- ---- what is found
 
 -- a capability with a line has one for its first parameter list
-first_there : (s : Strings) (row : Row) → IsFirst s.rows s.cols row → SomeLine (λ r. string_in s r) (order row) → (x : List ℕ) × (string_in s row ≡ Some x)
+first_there : (s : Strings) (row : Row) → IsFirst s.rows s.cols row → SomeLine (λ r. row_string s r) (order row) → (x : List ℕ) × (row_string s row ≡ Some x)
 first_there s row first some =
     let there : has_group s some.row ≡ true = there_some s some.row some.bytes some.there in
     let x = first_string (group_at s (order row)) (ap (λ (n : ℕ). not (length (group_at s n) == 0)) (sym some.of_cap) ∙ there) in (
@@ -39,46 +39,46 @@ first_there s row first some =
           ∙ (ap (λ (k : ℕ). slice_get (group_at s (order row)) k) first.rank_zero ∙ x.1),
     )
 
-other_at : (table : Content) (entry : caps.Content) (row : Row) (fault : AgreeFault) → IsFit entry → table.acsc ≡ string_at entry acsc → IsAtRow row fault → IsInRange table.known.strings.rows table.known.strings.cols row
-    → (LineAgrees entry (string_in table.known.strings row) row → ⊥) → IsDisagreeing table entry fault
+other_at : (table : CheckedTable) (entry : caps.Content) (row : Row) (fault : AgreeFault) → IsFit entry → table.acsc ≡ string_at entry acsc → IsAtRow row fault → IsInRange table.known.strings.rows table.known.strings.cols row
+    → (LineAgrees entry (row_string table.known.strings row) row → ⊥) → IsDisagreeing table entry fault
 other_at table entry row (Disagree cap numbers) fit pairs at range differs = OtherLine fit pairs (record { row = row; cap_is = at.0; params_are = at.1; range = range; differs = differs })
 other_at table entry row NoMemory fit pairs at range differs = absurd at
 
-sends_other : (table : Content) (entry : caps.Content) (rows cols : ℕ) (row : Row) (fault : AgreeFault) → IsFit entry → table.acsc ≡ string_at entry acsc → rows ≡ table.known.strings.rows → cols ≡ table.known.strings.cols → IsAtRow row fault
-    → IsInRange rows cols row → is_checked entry row ≡ true → (EntrySends entry (string_in table.known.strings row) row → ⊥) → IsDisagreeing table entry fault
+sends_other : (table : CheckedTable) (entry : caps.Content) (rows cols : ℕ) (row : Row) (fault : AgreeFault) → IsFit entry → table.acsc ≡ string_at entry acsc → rows ≡ table.known.strings.rows → cols ≡ table.known.strings.cols → IsAtRow row fault
+    → IsInRange rows cols row → is_checked entry row ≡ true → (EntrySends entry (row_string table.known.strings row) row → ⊥) → IsDisagreeing table entry fault
 sends_other table entry rows cols row fault fit pairs r c at range checked differs =
     other_at table entry row fault fit pairs at (subst (λ (n : ℕ). IsInRange table.known.strings.rows n row) c (subst (λ (n : ℕ). IsInRange n cols row) r range)) (λ l. differs (l.checked checked))
 
-sends_none : (table : Content) (entry : caps.Content) (rows cols : ℕ) (row : Row) (fault : AgreeFault) → IsFit entry → table.acsc ≡ string_at entry acsc → rows ≡ table.known.strings.rows → cols ≡ table.known.strings.cols → IsAtRow row fault
-    → IsFirst rows cols row → is_checked entry row ≡ false → SomeLine (λ r. string_in table.known.strings r) (order row) → IsDisagreeing table entry fault
+sends_none : (table : CheckedTable) (entry : caps.Content) (rows cols : ℕ) (row : Row) (fault : AgreeFault) → IsFit entry → table.acsc ≡ string_at entry acsc → rows ≡ table.known.strings.rows → cols ≡ table.known.strings.cols → IsAtRow row fault
+    → IsFirst rows cols row → is_checked entry row ≡ false → SomeLine (λ r. row_string table.known.strings r) (order row) → IsDisagreeing table entry fault
 sends_none table entry rows cols row fault fit pairs r c at first unchecked some =
     let is_first : IsFirst table.known.strings.rows table.known.strings.cols row = subst (λ (n : ℕ). IsFirst table.known.strings.rows n row) c (subst (λ (n : ℕ). IsFirst n cols row) r first) in
     let x = first_there table.known.strings row is_first some in
     other_at table entry row fault fit pairs at is_first.range (λ l. let no : None ≡ Some x.0 = sym (l.unchecked unchecked) ∙ x.1 in cc no)
 
 -- by what is found of the lines
-pub line_differs : (table : Content) (entry : caps.Content) (rows cols : ℕ) (e : sends.Disagreement) (row : Row) (fault : AgreeFault) → IsFit entry → table.acsc ≡ string_at entry acsc → rows ≡ table.known.strings.rows → cols ≡ table.known.strings.cols → IsAtRow row fault
-    → e ≡ other.Disagree row → IsNotAgreed rows cols entry (λ r. string_in table.known.strings r) e → IsDisagreeing table entry fault
+pub line_differs : (table : CheckedTable) (entry : caps.Content) (rows cols : ℕ) (e : sends.Disagreement) (row : Row) (fault : AgreeFault) → IsFit entry → table.acsc ≡ string_at entry acsc → rows ≡ table.known.strings.rows → cols ≡ table.known.strings.cols → IsAtRow row fault
+    → e ≡ other.Disagree row → IsNotAgreed rows cols entry (λ r. row_string table.known.strings r) e → IsDisagreeing table entry fault
 line_differs table entry rows cols e row fault fit pairs r c at is h =
-    let f = subst (λ (x : sends.Disagreement). IsNotAgreed rows cols entry (λ r. string_in table.known.strings r) x) is h in
+    let f = subst (λ (x : sends.Disagreement). IsNotAgreed rows cols entry (λ r. row_string table.known.strings r) x) is h in
     sends_other table entry rows cols row fault fit pairs r c at f.0 f.1 f.2
 
-pub line_unwanted : (table : Content) (entry : caps.Content) (rows cols : ℕ) (e : sends.Disagreement) (row : Row) (fault : AgreeFault) → IsFit entry → table.acsc ≡ string_at entry acsc → rows ≡ table.known.strings.rows → cols ≡ table.known.strings.cols → IsAtRow row fault
-    → e ≡ other.Unwanted row → IsNotAgreed rows cols entry (λ r. string_in table.known.strings r) e → IsDisagreeing table entry fault
+pub line_unwanted : (table : CheckedTable) (entry : caps.Content) (rows cols : ℕ) (e : sends.Disagreement) (row : Row) (fault : AgreeFault) → IsFit entry → table.acsc ≡ string_at entry acsc → rows ≡ table.known.strings.rows → cols ≡ table.known.strings.cols → IsAtRow row fault
+    → e ≡ other.Unwanted row → IsNotAgreed rows cols entry (λ r. row_string table.known.strings r) e → IsDisagreeing table entry fault
 line_unwanted table entry rows cols e row fault fit pairs r c at is h =
-    let f = subst (λ (x : sends.Disagreement). IsNotAgreed rows cols entry (λ r. string_in table.known.strings r) x) is h in
+    let f = subst (λ (x : sends.Disagreement). IsNotAgreed rows cols entry (λ r. row_string table.known.strings r) x) is h in
     sends_none table entry rows cols row fault fit pairs r c at f.0 f.1 f.2
 
-pub unfit_at : (table : Content) (entry : caps.Content) (why : Unfit) (cap : ℕ) (fault : AgreeFault) → cap ≡ cap_of_unfit why → IsAtCap cap fault → IsUnfit entry why → IsDisagreeing table entry fault
+pub unfit_at : (table : CheckedTable) (entry : caps.Content) (why : Unfit) (cap : ℕ) (fault : AgreeFault) → cap ≡ cap_of_unfit why → IsAtCap cap fault → IsUnfit entry why → IsDisagreeing table entry fault
 unfit_at table entry why cap (Disagree named numbers) is at h = RuledOut why h (at.0 ∙ is) at.1
 unfit_at table entry why cap NoMemory is at h = absurd at
 
-pub pairs_at : (table : Content) (entry : caps.Content) (cap : ℕ) (fault : AgreeFault) → IsFit entry → IsAtCap cap fault → cap ≡ acsc → (table.acsc ≡ string_at entry acsc → ⊥) → IsDisagreeing table entry fault
+pub pairs_at : (table : CheckedTable) (entry : caps.Content) (cap : ℕ) (fault : AgreeFault) → IsFit entry → IsAtCap cap fault → cap ≡ acsc → (table.acsc ≡ string_at entry acsc → ⊥) → IsDisagreeing table entry fault
 pairs_at table entry cap (Disagree named numbers) fit at is differs = OtherPairs fit (at.0 ∙ is) differs at.1
 pairs_at table entry cap NoMemory fit at is differs = absurd at
 
 -- of the table of a text
-pub text_disagrees : (rows cols : ℕ) (text : List ℕ) (entry : caps.Content) (table : Content) (fault : AgreeFault) → table.known.strings.rows ≡ rows → table.known.strings.cols ≡ cols → IsTableOf rows cols text table
+pub text_disagrees : (rows cols : ℕ) (text : List ℕ) (entry : caps.Content) (table : CheckedTable) (fault : AgreeFault) → table.known.strings.rows ≡ rows → table.known.strings.cols ≡ cols → IsTableOf rows cols text table
     → IsDisagreeing table entry fault → TextDisagrees rows cols text entry fault
 text_disagrees rows cols text entry table fault r c made h = record { table = table; rows_are = r; cols_are = c; made = made; disagrees = h }
 
@@ -123,8 +123,8 @@ none_unfit entry (FlagOut cap) fit h = flag_not_out entry cap fit h.1
 none_unfit entry (Absent row) fit h = none_lacking entry row fit h.lacking.required h.lacking.absent
 none_unfit entry AcsByte fit h = none_misfit entry fit h.1
 
-pub excludes_yes : (table : Content) (entry : caps.Content) (cap : ℕ) (numbers : List ℕ) → IsDisagreement table entry cap numbers → IsFit entry → table.acsc ≡ string_at entry acsc
-    → EntryAgrees table.known.strings.rows table.known.strings.cols entry (λ row. string_in table.known.strings row) → ⊥
+pub excludes_yes : (table : CheckedTable) (entry : caps.Content) (cap : ℕ) (numbers : List ℕ) → IsDisagreement table entry cap numbers → IsFit entry → table.acsc ≡ string_at entry acsc
+    → EntryAgrees table.known.strings.rows table.known.strings.cols entry (λ row. row_string table.known.strings row) → ⊥
 excludes_yes table entry cap numbers (RuledOut why h is e) fit pairs lines = none_unfit entry why fit h
 excludes_yes table entry cap numbers (OtherPairs f is differs e) fit pairs lines = differs pairs
 excludes_yes table entry cap numbers (OtherLine f p h) fit pairs lines = h.differs (lines h.row h.range)

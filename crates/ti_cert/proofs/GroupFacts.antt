@@ -18,7 +18,7 @@ use Rattle.ti_rows.specs.Names.{order}
 use Rattle.ti_rows.specs.Lists.{rank}
 use Rattle.ti_rows.proofs.NameFacts.{orders_small}
 use Rattle.ti_rows.proofs.ListFacts.{one_of_rank}
-use Rattle.ti_cert.specs.Strings.{Strings, allows, group_at, string_in, has_group, total, Adds}
+use Rattle.ti_cert.specs.Strings.{Strings, allows, group_at, row_string, has_group, total, Adds}
 use Rattle.ti_cert.proofs.Ranges.{in_range, is_allowed, is_less}
 
 pub get_more : {A : Type 0} (xs : List A) (x y : A) (k : ℕ) → slice_get (xs ++ x ∷ []) k ≡ Some y → (slice_get xs k ≡ Some y) ⊎ ((k ≡ length xs) × (y ≡ x))
@@ -52,7 +52,7 @@ same_or_not : (a b : ℕ) (t : Bool) → (a == b) ≡ t → (a ≡ b) ⊎ (a ≢
 same_or_not a b true h = inl (grind (arith, nat_tests))
 same_or_not a b false h = inr (λ e. grind (arith, nat_tests))
 
-pub there_within : (s : Strings) (row : Row) (bytes : List ℕ) → string_in s row ≡ Some bytes → rank s.rows s.cols row < length (group_at s (order row))
+pub there_within : (s : Strings) (row : Row) (bytes : List ℕ) → row_string s row ≡ Some bytes → rank s.rows s.cols row < length (group_at s (order row))
 there_within s row bytes h =
     let p = if_some (allows s.rows s.cols row) (slice_get (group_at s (order row)) (rank s.rows s.cols row)) bytes h in
     slice_get_within (group_at s (order row)) (rank s.rows s.cols row) bytes p.1
@@ -65,7 +65,7 @@ not_zero (suc n) k h = not_false (suc n == 0) (grind (arith, nat_tests))
     not_false true e = absurd (true≢false e)
     not_false false e = refl
 
-pub there_some : (s : Strings) (row : Row) (bytes : List ℕ) → string_in s row ≡ Some bytes → has_group s row ≡ true
+pub there_some : (s : Strings) (row : Row) (bytes : List ℕ) → row_string s row ≡ Some bytes → has_group s row ≡ true
 there_some s row bytes h = not_zero (length (group_at s (order row))) (rank s.rows s.cols row) (there_within s row bytes h)
 
 not_empty : (xs : List (List ℕ)) (x : List ℕ) → not (length (xs ++ x ∷ []) == 0) ≡ true
@@ -122,7 +122,7 @@ adds rows cols groups row bytes g many fits place made = record {
         ∙ (ap (λ (xs : List (List ℕ)). not (length xs == 0)) (here ∙ made) ∙ not_empty before bytes)
     joined other false e = ap (λ (xs : List (List ℕ)). not (length xs == 0)) (get_or-set_other groups (order row) (order other) g [] (other_places (order other) (order row) e))
 
-    kept_that : (other : Row) (found : List ℕ) → string_in old other ≡ Some found → string_in new other ≡ Some found
+    kept_that : (other : Row) (found : List ℕ) → row_string old other ≡ Some found → row_string new other ≡ Some found
     kept_that other found h =
         let p = if_some (allows rows cols other) (slice_get (group_at old (order other)) (rank rows cols other)) found h in
         if_true (allows rows cols other) (slice_get (group_at new (order other)) (rank rows cols other)) p.0 ∙ by_place p.1 (same_or_not (order other) (order row) (order other == order row) refl)
@@ -134,18 +134,18 @@ adds rows cols groups row bytes g many fits place made = record {
         by_place e (inr differ) = ap (λ (xs : List (List ℕ)). slice_get xs (rank rows cols other)) (get_or-set_other groups (order row) (order other) g [] differ) ∙ e
 
     in_group : (other : Row) (found : List ℕ) → allows rows cols other ≡ true → order other ≡ order row
-        → (slice_get before (rank rows cols other) ≡ Some found) ⊎ ((rank rows cols other ≡ length before) × (found ≡ bytes)) → (string_in old other ≡ Some found) ⊎ ((other ≡ row) × (found ≡ bytes))
+        → (slice_get before (rank rows cols other) ≡ Some found) ⊎ ((rank rows cols other ≡ length before) × (found ≡ bytes)) → (row_string old other ≡ Some found) ⊎ ((other ≡ row) × (found ≡ bytes))
     in_group other found ok same (inl e) = inl (if_true (allows rows cols other) (slice_get (group_at old (order other)) (rank rows cols other)) ok ∙ (ap (λ (n : ℕ). slice_get (slice_index_or groups n []) (rank rows cols other)) same ∙ e))
     in_group other found ok same (inr e) = inr (one_of_rank rows cols other row (in_range rows cols other ok) (in_range rows cols row fits) same (e.0 ∙ sym place), e.1)
 
     decided : (other : Row) (found : List ℕ) → allows rows cols other ≡ true → slice_get (group_at new (order other)) (rank rows cols other) ≡ Some found
-        → (order other ≡ order row) ⊎ (order other ≢ order row) → (string_in old other ≡ Some found) ⊎ ((other ≡ row) × (found ≡ bytes))
+        → (order other ≡ order row) ⊎ (order other ≢ order row) → (row_string old other ≡ Some found) ⊎ ((other ≡ row) × (found ≡ bytes))
     decided other found ok h (inl same) = in_group other found ok same (get_more before bytes found (rank rows cols other)
         (ap (λ (xs : List (List ℕ)). slice_get xs (rank rows cols other)) (sym (ap (λ (n : ℕ). slice_index_or (slice_set groups (order row) g) n []) same ∙ (here ∙ made))) ∙ h))
     decided other found ok h (inr differ) = inl (if_true (allows rows cols other) (slice_get (group_at old (order other)) (rank rows cols other)) ok
         ∙ (ap (λ (xs : List (List ℕ)). slice_get xs (rank rows cols other)) (sym (get_or-set_other groups (order row) (order other) g [] differ)) ∙ h))
 
-    only_that : (other : Row) (found : List ℕ) → string_in new other ≡ Some found → (string_in old other ≡ Some found) ⊎ ((other ≡ row) × (found ≡ bytes))
+    only_that : (other : Row) (found : List ℕ) → row_string new other ≡ Some found → (row_string old other ≡ Some found) ⊎ ((other ≡ row) × (found ≡ bytes))
     only_that other found h =
         let p = if_some (allows rows cols other) (slice_get (group_at new (order other)) (rank rows cols other)) found h in
         decided other found p.0 p.1 (same_or_not (order other) (order row) (order other == order row) refl)
@@ -164,7 +164,7 @@ first_string [] h = absurd (true≢false (sym h))
 first_string (x ∷ xs) h = (x, refl)
 
 -- a capability that has strings has the first
-pub some_line : (s : Strings) (row : Row) → IsSize s.rows s.cols → has_group s row ≡ true → SomeLine (λ r. string_in s r) (order row)
+pub some_line : (s : Strings) (row : Row) → IsSize s.rows s.cols → has_group s row ≡ true → SomeLine (λ r. row_string s r) (order row)
 some_line s row size h =
     let f : HasFirst (order row) = firsts_in_order (order row) (orders_small row) in
     let g : IsFirst s.rows s.cols f.row = firsts_in_range s.rows s.cols (order row) f.row size f.is_first in
@@ -185,7 +185,7 @@ no_string : (g : List (List ℕ)) (k : ℕ) → not (length g == 0) ≡ false �
 no_string [] k h = refl
 no_string (x ∷ xs) k h = absurd (true≢false (sym (not_zero (length (x ∷ xs)) 0 (omega arith)) ∙ h))
 
-pub no_line : (s : Strings) (row : Row) → has_group s row ≡ false → (other : Row) → order other ≡ order row → string_in s other ≡ None
+pub no_line : (s : Strings) (row : Row) → has_group s row ≡ false → (other : Row) → order other ≡ order row → row_string s other ≡ None
 no_line s row h other same = none_of_none (allows s.rows s.cols other) (slice_get (group_at s (order other)) (rank s.rows s.cols other))
     (no_string (group_at s (order other)) (rank s.rows s.cols other) (ap (λ (n : ℕ). not (length (group_at s n) == 0)) same ∙ h))
 
@@ -194,7 +194,7 @@ empty_group zero n = refl
 empty_group (suc m) zero = refl
 empty_group (suc m) (suc n) = empty_group m n
 
-pub none_at_first : (rows cols : ℕ) (row : Row) (bytes : List ℕ) → string_in (record { rows = rows; cols = cols; groups = replicate 42 [] }) row ≡ Some bytes → ⊥
+pub none_at_first : (rows cols : ℕ) (row : Row) (bytes : List ℕ) → row_string (record { rows = rows; cols = cols; groups = replicate 42 [] }) row ≡ Some bytes → ⊥
 none_at_first rows cols row bytes h =
     let p = if_some (allows rows cols row) (slice_get (slice_index_or (replicate {A = List (List ℕ)} 42 []) (order row) []) (rank rows cols row)) bytes h in
     none-some bytes (ap (λ (g : List (List ℕ)). slice_get g (rank rows cols row)) (sym (empty_group 42 (order row))) ∙ p.1)

@@ -27,9 +27,9 @@ use Rattle.ti_rows.specs.declared.rows.Row.TheVariants.{Clear, Cup, Home, Cr, Hp
 use Rattle.ti_rows.specs.Asked.{start_of, asked}
 use Rattle.ti_rows.specs.declared.rows.Looks.{Looks}
 use Rattle.ti_conforms.specs.Table.{Table, or_nothing, resync, Activates, resync_of}
-use Rattle.ti_conforms.specs.Judged.{JudgedLine, ChangesSets, changed, left_of, IsJudged}
+use Rattle.ti_conforms.specs.Judged.{AskedLine, ChangesSets, changed, left_of, IsJudged}
 use Rattle.ti_conforms.specs.Judged as judging
-use Rattle.ti_cert.specs.Strings.{Strings, string_in, has_group}
+use Rattle.ti_cert.specs.Strings.{Strings, row_string, has_group}
 use Rattle.ti_cert.specs.Known.{Known, IsKept, IsChange, IsFrom, IsTold, Holds}
 use Rattle.ti_cert.specs.Audits.{IsConcluded, ConcludesBy, Together}
 use Rattle.ti_cert.specs.Clashes.{IsClash, GoesTogether, kind_of}
@@ -78,12 +78,12 @@ some_there None h = cc
 there_is : (o : Option (List ℕ)) (x : List ℕ) → o ≡ Some x → is_some o ≡ true
 there_is o x e = ap (λ (p : Option (List ℕ)). is_some p) e
 
-pub change_there : (s : Strings) (row : Row) (o : Option Sets) → Changes s row o → is_some (string_in s row) ≡ is_some o
+pub change_there : (s : Strings) (row : Row) (o : Option Sets) → Changes s row o → is_some (row_string s row) ≡ is_some o
 change_there s row _ (NoString none) = ap (λ (p : Option (List ℕ)). is_some p) none
 change_there s row _ (OfString bytes there tokens whole effect recorded) = ap (λ (p : Option (List ℕ)). is_some p) there
 
 -- a string's change is that of its line
-same_change : (s : Strings) (row : Row) (o : Option Sets) (bytes : List ℕ) (tokens : List (List ℕ)) (effect : Effect) → string_in s row ≡ Some bytes → Splits bytes tokens []
+same_change : (s : Strings) (row : Row) (o : Option Sets) (bytes : List ℕ) (tokens : List (List ℕ)) (effect : Effect) → row_string s row ≡ Some bytes → Splits bytes tokens []
     → record_of s.rows s.cols (start_of s.rows s.cols row) tokens ≡ Some effect → Changes s row o → o ≡ Some effect.charset
 same_change s row _ bytes tokens effect there whole recorded (NoString none) = let wrong : None ≡ Some bytes = sym none ∙ there in cc
 same_change s row _ bytes tokens effect there whole recorded (OfString b t ts w e r) =
@@ -101,7 +101,7 @@ leads_by settled None graphic x h e = cc
 leads_by settled (Some y) graphic x h e = λ c there. ap (λ (z : Sets). is_graphic (designated z c)) (sym (same_Some y x e)) ∙ h c there
 
 active : (k : Known) (settled : Charsets) (smacs rmacs : Option Sets) → Changes k.strings Smacs smacs → Changes k.strings Rmacs rmacs → Leads settled smacs true → Leads settled rmacs false
-    → (row : Row) (bytes : List ℕ) (tokens : List (List ℕ)) (effect : Effect) → string_in k.strings row ≡ Some bytes → Splits bytes tokens []
+    → (row : Row) (bytes : List ℕ) (tokens : List (List ℕ)) (effect : Effect) → row_string k.strings row ≡ Some bytes → Splits bytes tokens []
     → record_of k.strings.rows k.strings.cols (start_of k.strings.rows k.strings.cols row) tokens ≡ Some effect
     → (c : Charset) → closing.has settled c ≡ true → Activates row (designated effect.charset c)
 active k settled smacs rmacs s r g q Clear bytes tokens effect there whole recorded ch h = tt
@@ -167,7 +167,7 @@ line_change k settled row _ (OfString bytes there tokens whole effect recorded) 
     ByLine bytes there effect.charset (record { tokens = tokens; whole = whole; leads = record_sets k.strings.rows k.strings.cols row tokens effect recorded })
 
 -- what a line does by its record
-line_leads : (k : Known) (h : Holds k) (row : Row) (bytes : List ℕ) (there : string_in k.strings row ≡ Some bytes) → LeadsAs bytes (h.lines row bytes there).effect.charset
+line_leads : (k : Known) (h : Holds k) (row : Row) (bytes : List ℕ) (there : row_string k.strings row ≡ Some bytes) → LeadsAs bytes (h.lines row bytes there).effect.charset
 line_leads k h row bytes there =
     let l : IsKept k h.all row bytes = h.lines row bytes there in
     record { tokens = l.tokens; whole = l.whole; leads = record_sets k.strings.rows k.strings.cols row l.tokens l.effect l.has.recorded }
@@ -195,7 +195,7 @@ seen_of k settled h = record {
       record { change = l.effect.charset; leads = line_leads k h row bytes there; reached = l.reached; settled = l.settled };
 }
 
-keeps_sets : (k : Known) → Holds k → (row : Row) → ((l : Looks) (e : Effect) (c : Charset) → designated (asked l row e).charset c ≡ c) → (bytes : List ℕ) → string_in k.strings row ≡ Some bytes → LeadsAs bytes kept
+keeps_sets : (k : Known) → Holds k → (row : Row) → ((l : Looks) (e : Effect) (c : Charset) → designated (asked l row e).charset c ≡ c) → (bytes : List ℕ) → row_string k.strings row ≡ Some bytes → LeadsAs bytes kept
 keeps_sets k h row same bytes there =
     let l : IsKept k h.all row bytes = h.lines row bytes there in
     record {
@@ -222,9 +222,9 @@ found_of k settled r smacs escapes h s begun opened = record {
 -- what is known of all lines at the end of a certificate
 pub record Ends (k : Known) (settled : Charsets) (r : Resync) (smacs : Option Sets) (has_acsc escapes : Bool) : Type 0 where
   pub holds : Holds k
-  pub clear : is_some (string_in k.strings Clear) ≡ true
-  pub sgr0_there : is_some (string_in k.strings Sgr0) ≡ true
-  pub csr : has_group k.strings (Csr 0 1) ≡ true → is_some (string_in k.strings (Csr 0 (k.strings.rows - 1))) ≡ true
+  pub clear : is_some (row_string k.strings Clear) ≡ true
+  pub sgr0_there : is_some (row_string k.strings Sgr0) ≡ true
+  pub csr : has_group k.strings (Csr 0 1) ≡ true → is_some (row_string k.strings (Csr 0 (k.strings.rows - 1))) ≡ true
   pub strings : ChangeCharsets k r smacs
   pub found : IsFound (checked_of k settled) k.reach k.changes r smacs escapes
   pub all : AreSettled k.reach k.changes r settled
@@ -239,7 +239,7 @@ judged k settled r smacs has_acsc escapes p = record {
   clears = clear_there.1;
   sgr0_bytes = sgr0_found.0;
   makes_plain = sgr0_found.1;
-  widens = λ top bottom there. p.csr (let found = some_there (string_in k.strings (Csr top bottom)) there in there_some k.strings (Csr top bottom) found.0 found.1);
+  widens = λ top bottom there. p.csr (let found = some_there (row_string k.strings (Csr top bottom)) there in there_some k.strings (Csr top bottom) found.0 found.1);
   changes = record { smcup = r.smcup; enacs = r.enacs; sgr0 = r.sgr0; rmacs = r.rmacs };
   smcup = change Smcup r.smcup p.strings.smcup_is;
   enacs = change Enacs r.enacs p.strings.enacs_is;
@@ -267,7 +267,7 @@ judged k settled r smacs has_acsc escapes p = record {
     is_reached : (c : Charset) → can_have k.reach c ≡ true → Reached all c
     is_reached c h = can_reached all c (ap (λ (x : Reach). can_have x c) (sym p.holds.reach_is) ∙ h)
 
-    line : (row : Row) (bytes : List ℕ) → string_in k.strings row ≡ Some bytes → JudgedLine (checked_of k settled) row bytes
+    line : (row : Row) (bytes : List ℕ) → row_string k.strings row ≡ Some bytes → AskedLine (checked_of k settled) row bytes
     line row bytes there =
         let l : IsKept k all row bytes = p.holds.lines row bytes there in
         record {
@@ -282,23 +282,23 @@ judged k settled r smacs has_acsc escapes p = record {
           active = active k settled smacs r.rmacs p.strings.smacs_is p.strings.rmacs_is p.none.graphic p.none.plain row bytes l.tokens l.effect there l.whole l.has.recorded;
         }
 
-    clear_there : (x : List ℕ) × (string_in k.strings Clear ≡ Some x)
-    clear_there = some_there (string_in k.strings Clear) p.clear
+    clear_there : (x : List ℕ) × (row_string k.strings Clear ≡ Some x)
+    clear_there = some_there (row_string k.strings Clear) p.clear
 
-    sgr0_found : (x : List ℕ) × (string_in k.strings Sgr0 ≡ Some x)
-    sgr0_found = some_there (string_in k.strings Sgr0) p.sgr0_there
+    sgr0_found : (x : List ℕ) × (row_string k.strings Sgr0 ≡ Some x)
+    sgr0_found = some_there (row_string k.strings Sgr0) p.sgr0_there
 
     change : (row : Row) (o : Option Sets) → Changes k.strings row o → ChangesSets (checked_of k settled) row o
-    change row o h = by_string (string_in k.strings row) refl
+    change row o h = by_string (row_string k.strings row) refl
       where
-        by_string : (s : Option (List ℕ)) → string_in k.strings row ≡ s → ChangesSets (checked_of k settled) row o
+        by_string : (s : Option (List ℕ)) → row_string k.strings row ≡ s → ChangesSets (checked_of k settled) row o
         by_string None e = judging.NoLine e (none_of o (sym (change_there k.strings row o h) ∙ ap (λ (x : Option (List ℕ)). is_some x) e))
           where
             none_of : (q : Option Sets) → is_some q ≡ false → q ≡ None
             none_of None f = refl
             none_of (Some x) f = cc
         by_string (Some bytes) e =
-            let l : JudgedLine (checked_of k settled) row bytes = line row bytes e in
+            let l : AskedLine (checked_of k settled) row bytes = line row bytes e in
             judging.ByLine bytes e l (same_change k.strings row o bytes l.tokens l.effect e l.whole l.recorded h)
 
     left_same : (c : Charset) → designated_all sets c ≡ left_of (record { smcup = r.smcup; enacs = r.enacs; sgr0 = r.sgr0; rmacs = r.rmacs }) c
@@ -330,9 +330,9 @@ judged k settled r smacs has_acsc escapes p = record {
     settled_can c (First _ h) = first_can c (p.all.first_sound c h)
     settled_can d (After c _ s l) = subst (λ (x : Charset). Reached all x) (sym l.leads) (change_reached all l.change (p.holds.changes l.change l.among) c (settled_can c s))
 
-    no_sets : (is_some (string_in k.strings Smacs) && is_some (string_in k.strings Rmacs)) ≡ false → (has_acsc && (is_some smacs && is_some r.rmacs)) ≡ false
+    no_sets : (is_some (row_string k.strings Smacs) && is_some (row_string k.strings Rmacs)) ≡ false → (has_acsc && (is_some smacs && is_some r.rmacs)) ≡ false
     no_sets off = both_off has_acsc (is_some smacs && is_some r.rmacs) (ap (λ (b : Bool). b && is_some r.rmacs) (sym (change_there k.strings Smacs smacs p.strings.smacs_is))
-        ∙ (ap (λ (b : Bool). is_some (string_in k.strings Smacs) && b) (sym (change_there k.strings Rmacs r.rmacs p.strings.rmacs_is)) ∙ off))
+        ∙ (ap (λ (b : Bool). is_some (row_string k.strings Smacs) && b) (sym (change_there k.strings Rmacs r.rmacs p.strings.rmacs_is)) ∙ off))
       where
         both_off : (a b : Bool) → b ≡ false → (a && b) ≡ false
         both_off true b h = h
@@ -343,8 +343,8 @@ judged k settled r smacs has_acsc escapes p = record {
 
 -- ---- the end of a certificate
 
-pub concluded : (k : Known) (settled : Charsets) (r : Resync) (smacs : Option Sets) (has_acsc escapes : Bool) (changes : List Sets) → changes ≡ k.changes → Holds k → is_some (string_in k.strings Clear) ≡ true
-    → is_some (string_in k.strings Sgr0) ≡ true → (has_group k.strings (Csr 0 1) ≡ true → is_some (string_in k.strings (Csr 0 (k.strings.rows - 1))) ≡ true) → ChangeCharsets k r smacs
+pub concluded : (k : Known) (settled : Charsets) (r : Resync) (smacs : Option Sets) (has_acsc escapes : Bool) (changes : List Sets) → changes ≡ k.changes → Holds k → is_some (row_string k.strings Clear) ≡ true
+    → is_some (row_string k.strings Sgr0) ≡ true → (has_group k.strings (Csr 0 1) ≡ true → is_some (row_string k.strings (Csr 0 (k.strings.rows - 1))) ≡ true) → ChangeCharsets k r smacs
     → (escapes ≡ true → first_of_resync k.strings ≡ Some 27) → (escapes ≡ false → first_of_resync k.strings ≡ Some 27 → ⊥) → AreSettled k.reach changes r settled
     → NoneClashes settled smacs r.rmacs (has_acsc && (is_some smacs && is_some r.rmacs)) escapes → ((t : Table) → IsFound t k.reach changes r smacs escapes → GoesTogether has_acsc t) → IsConcluded k has_acsc settled
 concluded k settled r smacs has_acsc escapes changes same holds clear sgr0 csr strings begun opened all none goes =

@@ -9,8 +9,8 @@ use Rattle.ti_rows.specs.Names.{order, no_attributes}
 use Rattle.ti_rows.specs.Lists.{rank}
 use Rattle.ti_conforms.specs.Table as strings
 use Rattle.ti_conforms.specs.Together.{StandTogether}
-use Rattle.ti_cert.specs.Strings.{Strings, allows, group_at, string_in}
-use Rattle.ti_cert.specs.Table.{Content, table_of, certified}
+use Rattle.ti_cert.specs.Strings.{Strings, allows, group_at, row_string}
+use Rattle.ti_cert.specs.Table.{CheckedTable, table_of, certified}
 use Rattle.ti_conforms.specs.Certified.{or_nothing, limit_of, line_in}
 use Rattle.ti_cert.specs.Lengths.{greatest, longest_line, longest_change, singly, longest_in}
 
@@ -24,7 +24,7 @@ at_most (y ∷ ys) zero x h = let e : length y ≡ length x = ap length (same_So
 at_most (y ∷ ys) (suc k) x h = let further : length x ≤ greatest ys = at_most ys k x h in omega arith
 
 -- the string of a row is at most as long as the longest of its capability
-pub within : (s : Strings) (row : Row) (bytes : List ℕ) → string_in s row ≡ Some bytes → length bytes ≤ longest_line s row
+pub within : (s : Strings) (row : Row) (bytes : List ℕ) → row_string s row ≡ Some bytes → length bytes ≤ longest_line s row
 within s row bytes h = at_most (group_at s (order row)) (rank s.rows s.cols row) bytes (allowed (allows s.rows s.cols row) (slice_get (group_at s (order row)) (rank s.rows s.cols row)) bytes h)
 
 -- a line that has a limit of its own
@@ -39,10 +39,10 @@ there_is : (o : Option (List ℕ)) (x : List ℕ) → o ≡ Some x → is_some o
 there_is o x e = ap (λ (p : Option (List ℕ)). is_some p) e
 
 -- where one set of attributes has a line, so has the empty one
-sgr_within : (c : Content) → StandTogether (table_of c) → (row : Row) (bytes : List ℕ) → (strings.has (table_of c) row ≡ true → strings.has (table_of c) (Sgr no_attributes) ≡ true)
-    → longest_line c.known.strings row ≡ longest_line c.known.strings (Sgr no_attributes) → string_in c.known.strings row ≡ Some bytes → length bytes ≤ longest_change c.known.strings
+sgr_within : (c : CheckedTable) → StandTogether (table_of c) → (row : Row) (bytes : List ℕ) → (strings.has (table_of c) row ≡ true → strings.has (table_of c) (Sgr no_attributes) ≡ true)
+    → longest_line c.known.strings row ≡ longest_line c.known.strings (Sgr no_attributes) → row_string c.known.strings row ≡ Some bytes → length bytes ≤ longest_change c.known.strings
 sgr_within c together row bytes same longest h =
-    let there : strings.has (table_of c) (Sgr no_attributes) ≡ true = same (there_is (string_in c.known.strings row) bytes h) in
+    let there : strings.has (table_of c) (Sgr no_attributes) ≡ true = same (there_is (row_string c.known.strings row) bytes h) in
     let e : longest_change c.known.strings ≡ max (longest_line c.known.strings (Sgr no_attributes)) (longest_line c.known.strings Sgr0)
     = taken (strings.has (table_of c) (Sgr no_attributes)) (max (longest_line c.known.strings (Sgr no_attributes)) (longest_line c.known.strings Sgr0)) (singly c.known.strings) there in
     let w : length bytes ≤ longest_line c.known.strings row = within c.known.strings row bytes h in
@@ -55,7 +55,7 @@ clear_within t bytes h =
     omega (arith, length-append (strings.resync_front t) (strings.text_of t (strings.widening t) ++ strings.text_of t Clear), length-append (strings.text_of t (strings.widening t)) (strings.text_of t Clear))
 
 -- each line is within its limit
-pub short : (c : Content) → StandTogether (table_of c) → (row : Row) (bytes : List ℕ) → string_in c.known.strings row ≡ Some bytes → line_in (table_of c) row ≡ Some bytes → length bytes ≤ limit_of (certified c) row
+pub short : (c : CheckedTable) → StandTogether (table_of c) → (row : Row) (bytes : List ℕ) → row_string c.known.strings row ≡ Some bytes → line_in (table_of c) row ≡ Some bytes → length bytes ≤ limit_of (certified c) row
 unfolding longest_in
 short c together Clear bytes h l = clear_within (table_of c) bytes h
 short c together (Cup row col) bytes h l = within c.known.strings (Cup row col) bytes h

@@ -11,7 +11,7 @@ use Rattle.ti_rows.proofs.ListFacts.{firsts_in_range, next_follows, ranks_below,
 use Rattle.ti_conforms.proofs.Walks.{same_count}
 use Rattle.ti_lines.specs.declared.row_lines.RowLine.{RowLine}
 use Rattle.ti_cert.specs.Strings.{allows}
-use Rattle.ti_cert.specs.Order.{Precedes, HasLine, HasCap, IsRequired, IsLacking, IsFirstLacking, IsComplete}
+use Rattle.ti_cert.specs.Order.{Precedes, HasLine, HasCap, IsRequiredLine, IsLacking, IsFirstLacking, IsComplete}
 use Rattle.ti_cert.specs.Places.{next_within, is_between, required, missing_behind, missing}
 use Rattle.ti_cert.specs.Audits.{IsLastRow, IsUpTo}
 use Rattle.ti_cert.proofs.Ranges.{is_allowed}
@@ -50,13 +50,13 @@ pub record Lacks (rows cols : ℕ) (lines : List RowLine) (n : ℕ) (row : Row) 
   pub range : IsInRange rows cols row
   pub absent : HasLine lines row → ⊥
   pub before : order row < n
-  pub due : IsRequired row ⊎ HasCap lines row
+  pub due : IsRequiredLine row ⊎ HasCap lines row
 
 -- a due line stands behind the last one
-pub lacks_behind : (rows cols : ℕ) (lines : List RowLine) (last row : Row) → IsLastRow rows cols lines last → IsInRange rows cols row → (HasLine lines row → ⊥) → IsRequired row ⊎ HasCap lines row → Precedes rows cols last row
+pub lacks_behind : (rows cols : ℕ) (lines : List RowLine) (last row : Row) → IsLastRow rows cols lines last → IsInRange rows cols row → (HasLine lines row → ⊥) → IsRequiredLine row ⊎ HasCap lines row → Precedes rows cols last row
 lacks_behind rows cols lines last row l range absent due = by_place (which_first rows cols row last range l.range)
   where
-    with_due : IsRequired row ⊎ HasCap lines row → Precedes rows cols row last → ⊥
+    with_due : IsRequiredLine row ⊎ HasCap lines row → Precedes rows cols row last → ⊥
     with_due (inl d) p = l.complete row (record { range = range; absent = absent; before = p; due = inl d })
     with_due (inr d) p = l.complete row (record { range = range; absent = absent; before = p; due = inr (inl d) })
 
@@ -94,8 +94,8 @@ record IsFirstRequired (rows cols from to : ℕ) (row : Row) : Type 0 where
   rank_zero : rank rows cols row ≡ 0
   from_is : from ≤ order row
   to_is : order row < to
-  needed : IsRequired row
-  first : (other : Row) → IsRequired other → from ≤ order other → order row ≤ order other
+  needed : IsRequiredLine row
+  first : (other : Row) → IsRequiredLine other → from ≤ order other → order row ≤ order other
 
 between : (from n to : ℕ) → is_between from n to ≡ true → (from ≤ n) × (n < to)
 between from n to h = let p = and_parts (nat_le from n) (nat_lt n to) h in (leb-true from n p.0, ltb-true n to p.1)
@@ -114,7 +114,7 @@ first_at rows cols n row size small h =
     let g : IsFirst rows cols row = firsts_in_range rows cols n row size h in
     (g.range, g.rank_zero, ap order (sym same) ∙ f.ordered)
 
-at_least : (from n to : ℕ) (row other : Row) → order row ≡ n → IsRequired other → from ≤ order other → ((m : ℕ) → (m ≡ 4) ⊎ ((m ≡ 14) ⊎ (m ≡ 36)) → from ≤ m → n ≤ m) → order row ≤ order other
+at_least : (from n to : ℕ) (row other : Row) → order row ≡ n → IsRequiredLine other → from ≤ order other → ((m : ℕ) → (m ≡ 4) ⊎ ((m ≡ 14) ⊎ (m ≡ 36)) → from ≤ m → n ≤ m) → order row ≤ order other
 at_least from n to row other o r f least = let h = least (order other) r f in omega (arith, o, h)
 
 required_some : (rows cols from to : ℕ) (row : Row) → IsSize rows cols → required from to ≡ Some row → IsFirstRequired rows cols from to row
@@ -162,10 +162,10 @@ required_some rows cols from to row size h = by_clear (is_between from 4 to) ref
 not_first : (n : ℕ) {A : Type 0} → n < 42 → first_in_order n ≡ None → A
 not_first n small h = let f : HasFirst n = firsts_in_order n small in absurd (none-some f.row (sym h ∙ f.is_first))
 
-required_none : (from to : ℕ) → required from to ≡ None → (row : Row) → IsRequired row → from ≤ order row → order row < to → ⊥
+required_none : (from to : ℕ) → required from to ≡ None → (row : Row) → IsRequiredLine row → from ≤ order row → order row < to → ⊥
 required_none from to h row r f t = by_clear (is_between from 4 to) refl h
   where
-    which : is_between from 4 to ≡ false → is_between from 14 to ≡ false → is_between from 36 to ≡ false → IsRequired row → ⊥
+    which : is_between from 4 to ≡ false → is_between from 14 to ≡ false → is_between from 36 to ≡ false → IsRequiredLine row → ⊥
     which a b c (inl e) = not_between from 4 to a (omega (arith, e, f)) (omega (arith, e, t))
     which a b c (inr (inl e)) = not_between from 14 to b (omega (arith, e, f)) (omega (arith, e, t))
     which a b c (inr (inr e)) = not_between from 36 to c (omega (arith, e, f)) (omega (arith, e, t))
@@ -188,7 +188,7 @@ pub record IsFirstLack (rows cols : ℕ) (lines : List RowLine) (n : ℕ) (row :
   pub first : (other : Row) → Lacks rows cols lines n other → (other ≡ row) ⊎ Precedes rows cols row other
 
 by_required : (rows cols : ℕ) (lines : List RowLine) (from n : ℕ) (row : Row) → IsFirstRequired rows cols from n row → (HasCap lines row → ⊥)
-    → ((other : Row) → Lacks rows cols lines n other → IsRequired other × (from ≤ order other)) → IsFirstLack rows cols lines n row
+    → ((other : Row) → Lacks rows cols lines n other → IsRequiredLine other × (from ≤ order other)) → IsFirstLack rows cols lines n row
 by_required rows cols lines from n row q none others = record {
   lacks = record { range = q.range; absent = λ h. none (record { line = h.line; among = h.among; of_cap = ap order h.of_row }); before = q.to_is; due = inl q.needed };
   first = λ other l. by_order other l (q.first other (others other l).0 (others other l).1);
@@ -203,14 +203,14 @@ by_required rows cols lines from n row q none others = record {
 
 -- behind a last line whose capability is whole, or is that of the place, a lacking line is a required one of a later capability
 later_required : (rows cols : ℕ) (lines : List RowLine) (last : Row) (n : ℕ) → IsSize rows cols → IsLastRow rows cols lines last → (order last < n → next rows cols last ≡ None)
-    → (other : Row) → Lacks rows cols lines n other → IsRequired other × (order last + 1 ≤ order other)
+    → (other : Row) → Lacks rows cols lines n other → IsRequiredLine other × (order last + 1 ≤ order other)
 later_required rows cols lines last n size l whole other k = by_place (lacks_behind rows cols lines last other l k.range k.absent k.due)
   where
-    by_due : order last < order other → IsRequired other ⊎ HasCap lines other → IsRequired other × (order last + 1 ≤ order other)
+    by_due : order last < order other → IsRequiredLine other ⊎ HasCap lines other → IsRequiredLine other × (order last + 1 ≤ order other)
     by_due h (inl d) = (d, omega (arith, h))
     by_due h (inr d) = absurd (none_beyond rows cols lines last other l h d)
 
-    by_place : Precedes rows cols last other → IsRequired other × (order last + 1 ≤ order other)
+    by_place : Precedes rows cols last other → IsRequiredLine other × (order last + 1 ≤ order other)
     by_place (inl h) = by_due h k.due
     by_place (inr h) = let o = k.before in absurd (none_after rows cols last other size l.range (whole (omega (arith, h.0, o))) k.range (sym h.0) h.1)
 
@@ -218,7 +218,7 @@ pub missing_some : (rows cols : ℕ) (lines : List RowLine) (last : Option Row) 
 missing_some rows cols lines None n row size none h =
     by_required rows cols lines 0 n row (required_some rows cols 0 n row size h) (λ c. none c.line c.among) (λ other k. (of_due k.due, omega arith))
   where
-    of_due : {other : Row} → IsRequired other ⊎ HasCap lines other → IsRequired other
+    of_due : {other : Row} → IsRequiredLine other ⊎ HasCap lines other → IsRequiredLine other
     of_due (inl d) = d
     of_due (inr c) = absurd (none c.line c.among)
 missing_some rows cols lines (Some last) n row size l h = by_next (next_within rows cols last) refl h
@@ -266,7 +266,7 @@ missing_some rows cols lines (Some last) n row size l h = by_next (next_within r
 pub missing_none : (rows cols : ℕ) (lines : List RowLine) (last : Option Row) (n : ℕ) → IsSize rows cols → IsUpTo rows cols lines last → missing rows cols last n ≡ None → (row : Row) → Lacks rows cols lines n row → ⊥
 missing_none rows cols lines None n size none h row k = required_none 0 n h row (of_due k.due) (omega arith) k.before
   where
-    of_due : {other : Row} → IsRequired other ⊎ HasCap lines other → IsRequired other
+    of_due : {other : Row} → IsRequiredLine other ⊎ HasCap lines other → IsRequiredLine other
     of_due (inl d) = d
     of_due (inr c) = absurd (none c.line c.among)
 missing_none rows cols lines (Some last) n size l h row k = by_next (next_within rows cols last) refl h
@@ -286,7 +286,7 @@ missing_none rows cols lines (Some last) n size l h row k = by_next (next_within
 lacks_at_end : (rows cols : ℕ) (lines : List RowLine) (row : Row) → IsLacking rows cols lines None row → Lacks rows cols lines 42 row
 lacks_at_end rows cols lines row k = record { range = k.range; absent = k.absent; before = orders_small row; due = due k.due }
   where
-    due : IsRequired row ⊎ (HasCap lines row ⊎ ⊥) → IsRequired row ⊎ HasCap lines row
+    due : IsRequiredLine row ⊎ (HasCap lines row ⊎ ⊥) → IsRequiredLine row ⊎ HasCap lines row
     due (inl d) = inl d
     due (inr (inl c)) = inr c
     due (inr (inr z)) = absurd z
@@ -296,7 +296,7 @@ missing_at_end rows cols lines last row size up h =
     let m = missing_some rows cols lines last 42 row size up h in
     record { lacking = record { range = m.lacks.range; absent = m.lacks.absent; before = tt; due = due m.lacks.due }; first = λ other k. m.first other (lacks_at_end rows cols lines other k) }
   where
-    due : IsRequired row ⊎ HasCap lines row → IsRequired row ⊎ (HasCap lines row ⊎ ⊥)
+    due : IsRequiredLine row ⊎ HasCap lines row → IsRequiredLine row ⊎ (HasCap lines row ⊎ ⊥)
     due (inl d) = inl d
     due (inr c) = inr (inl c)
 

@@ -10,7 +10,7 @@ use Rattle.ti_rows.proofs.NameFacts.{firsts_in_order, orders_small}
 use Rattle.ti_rows.proofs.ListFacts.{next_follows}
 use Rattle.ti_lines.specs.declared.row_lines.RowLine.{RowLine}
 use Rattle.ti_cert.specs.Strings.{allows}
-use Rattle.ti_cert.specs.Order.{Precedes, HasLine, HasCap, IsRequired, IsLacking, IsFirstLacking, IsLate, IsBehind, IsInPlace}
+use Rattle.ti_cert.specs.Order.{Precedes, HasLine, HasCap, IsRequiredLine, IsLacking, IsFirstLacking, IsLate, IsBehind, IsInPlace}
 use Rattle.ti_cert.specs.Places.{next_within, missing, expected, or_row, is_late, or_missing, early_fault, place_fault}
 use Rattle.ti_cert.specs.Certificates.{missing_line, Said, JudgesRow, NotAllowed, TooLate, TooEarly}
 use Rattle.ti_cert.specs.Audits.{IsLastRow, IsUpTo}
@@ -67,7 +67,7 @@ own_lacking : (rows cols : ℕ) (lines : List RowLine) (last : Option Row) (row 
     → (other : Row) → IsLacking rows cols lines (Some row) other → (order other ≡ order row) × (rank rows cols other < rank rows cols row)
 own_lacking rows cols lines last row size up none other k = by_before k.before k.due
   where
-    by_before : Precedes rows cols other row → IsRequired other ⊎ (HasCap lines other ⊎ (order other ≡ order row)) → (order other ≡ order row) × (rank rows cols other < rank rows cols row)
+    by_before : Precedes rows cols other row → IsRequiredLine other ⊎ (HasCap lines other ⊎ (order other ≡ order row)) → (order other ≡ order row) × (rank rows cols other < rank rows cols row)
     by_before (inr h) due = h
     by_before (inl h) (inl d) = absurd (missing_none rows cols lines last (order row) size up none other (record { range = k.range; absent = k.absent; before = h; due = inl d }))
     by_before (inl h) (inr (inl d)) = absurd (missing_none rows cols lines last (order row) size up none other (record { range = k.range; absent = k.absent; before = h; due = inr d }))
@@ -83,11 +83,11 @@ missing_first rows cols lines last row m size up h = record {
     q : IsFirstLack rows cols lines (order row) m
     q = missing_some rows cols lines last (order row) m size up h
 
-    onto : IsRequired m ⊎ HasCap lines m → IsRequired m ⊎ (HasCap lines m ⊎ (order m ≡ order row))
+    onto : IsRequiredLine m ⊎ HasCap lines m → IsRequiredLine m ⊎ (HasCap lines m ⊎ (order m ≡ order row))
     onto (inl d) = inl d
     onto (inr d) = inr (inl d)
 
-    by_before : (other : Row) → IsLacking rows cols lines (Some row) other → Precedes rows cols other row → IsRequired other ⊎ (HasCap lines other ⊎ (order other ≡ order row)) → (other ≡ m) ⊎ Precedes rows cols m other
+    by_before : (other : Row) → IsLacking rows cols lines (Some row) other → Precedes rows cols other row → IsRequiredLine other ⊎ (HasCap lines other ⊎ (order other ≡ order row)) → (other ≡ m) ⊎ Precedes rows cols m other
     by_before other k (inl b) (inl d) = q.first other (record { range = k.range; absent = k.absent; before = b; due = inl d })
     by_before other k (inl b) (inr (inl d)) = q.first other (record { range = k.range; absent = k.absent; before = b; due = inr d })
     by_before other k (inl b) (inr (inr o)) = absurd (omega (arith, b, o))

@@ -20,7 +20,7 @@ use Rattle.ti_rows.specs.Looks.{learned, shown}
 use Rattle.ti_rows.specs.Asked.{start_of, asked, rendering, just, ink_of, defaults_both_inks, with_marks_on}
 use Rattle.ti_rows.proofs.Answers.{earlier_kept}
 use Rattle.ti_conforms.specs.Table.{settles}
-use Rattle.ti_cert.specs.Strings.{Strings, string_in, has_group, Adds}
+use Rattle.ti_cert.specs.Strings.{Strings, row_string, has_group, Adds}
 use Rattle.ti_cert.specs.Known.{Known, looks_with, HasRecord, IsKept, IsChange, IsFrom, IsTold, Holds, with_change}
 use Rattle.ti_cert.specs.Certificates.{rival}
 use Rattle.ti_conforms.specs.Looks.{LooksAlone, no_looks}
@@ -200,10 +200,10 @@ holds_more k strings row bytes tokens effect looks reach changes h a whole looks
     sized : (l : Looks) (r : Row) (ts : List (List ℕ)) (e : Effect) → HasRecord k.strings.rows k.strings.cols l r ts e → HasRecord strings.rows strings.cols l r ts e
     sized l r ts e p = subst (λ (n : ℕ). HasRecord n strings.cols l r ts e) (sym a.rows_kept) (subst (λ (n : ℕ). HasRecord k.strings.rows n l r ts e) (sym a.cols_kept) p)
 
-    same_asked : (r : Row) (b : List ℕ) (f : Effect) → string_in k.strings r ≡ Some b → asked k.looks r f ≡ asked looks r f
+    same_asked : (r : Row) (b : List ℕ) (f : Effect) → row_string k.strings r ≡ Some b → asked k.looks r f ≡ asked looks r f
     same_asked r b f there = either_keeps k row effect r f (has_group k.strings (rival row)) refl (there_some k.strings r b there) (a.later r b there) ∙ ap (λ (l : Looks). asked l r f) (sym looks_are)
 
-    old_line : (r : Row) (b : List ℕ) → string_in k.strings r ≡ Some b → IsKept k h.all r b → IsKept new (h.all ++ tokens) r b
+    old_line : (r : Row) (b : List ℕ) → row_string k.strings r ≡ Some b → IsKept k h.all r b → IsKept new (h.all ++ tokens) r b
     old_line r b there p = record {
       tokens = p.tokens;
       whole = p.whole;
@@ -223,7 +223,7 @@ holds_more k strings row bytes tokens effect looks reach changes h a whole looks
       settled = λ q. subst (λ (xs : List Sets). IsAmong xs effect.charset) (sym changes_so) (new_among (settles row) k.changes effect.charset q);
     }
 
-    line : (r : Row) (b : List ℕ) → (string_in k.strings r ≡ Some b) ⊎ ((r ≡ row) × (b ≡ bytes)) → IsKept new (h.all ++ tokens) r b
+    line : (r : Row) (b : List ℕ) → (row_string k.strings r ≡ Some b) ⊎ ((r ≡ row) × (b ≡ bytes)) → IsKept new (h.all ++ tokens) r b
     line r b (inl there) = old_line r b there (h.lines r b there)
     line r b (inr e) = subst (λ (x : Row). IsKept new (h.all ++ tokens) x b) (sym e.0) (subst (λ (y : List ℕ). IsKept new (h.all ++ tokens) row y) (sym e.1) new_line)
 
@@ -262,7 +262,7 @@ pub holds_at_first : (strings : Strings) (reach : Reach) (changes : List Sets) (
 holds_at_first strings reach changes rows cols s r c = record {
   all = [];
   reach_is = r;
-  lines = λ row bytes there. absurd (none_at_first rows cols row bytes (subst (λ (x : Strings). string_in x row ≡ Some bytes) s there));
+  lines = λ row bytes there. absurd (none_at_first rows cols row bytes (subst (λ (x : Strings). row_string x row ≡ Some bytes) s there));
   changes = λ x among. absurd (subst (λ (xs : List Sets). IsAmong xs x) c among);
   from_lines = λ token among. absurd among;
   told = λ x among. absurd (subst (λ (xs : List Sets). IsAmong xs x) c among);

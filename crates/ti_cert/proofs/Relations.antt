@@ -11,8 +11,8 @@ use Rattle.ti_cert.specs.Clashes.{kind_of}
 use Rattle.ti_cert.specs.declared.clashes.Clash.{Clash}
 use Rattle.ti_cert.specs.declared.clashes.Clash.TheVariants as clashes
 use Rattle.ti_cert.specs.Certificates.{Said, Nothing, Sized, Listing, Ended, Mislooks, Misdoes, JudgesRow, NotAllowed, TooLate, TooEarly, Cut, Wild, Untrue, Unasked, Stands, JudgesLast, Lacks, Clashes, Closes, JudgesLater, IsLast, IsRow, IsMisplaced, IsNone, HasPairs, HasNoPairs, HasSize, HasNoSize, JudgesLine, JudgesEnd, rules_of, limit, IsAnswer}
-use Rattle.ti_cert.specs.Table.{Content}
-use Rattle.ti_cert.specs.Strings.{string_in, total}
+use Rattle.ti_cert.specs.Table.{CheckedTable}
+use Rattle.ti_cert.specs.Strings.{row_string, total}
 use Rattle.ti_cert.specs.Known.{Known}
 use Rattle.ti_cert.specs.Texts.{IsTableOf, IsRefused, IsCertRefused, IsLineRead, Takes}
 use Rattle.ti_cert.specs.declared.faults.VerifyFault.{VerifyFault}
@@ -122,23 +122,23 @@ whole_read {R} p q rows cols left failures reader after s r = by_outcome r.outco
     by_outcome (Early h) = by_answer (r.given ++ []) (h [])
     by_outcome (Cuts fault e kind line failed) = cc
 
-pub table_of_text : (p q : Progress) (rows cols : ℕ) (text : List ℕ) (table : Content) → Starts rows cols p → Judged progress_rules limit p text (Ok q) → IsTableMade q table → IsTableOf rows cols text table
+pub table_of_text : (p q : Progress) (rows cols : ℕ) (text : List ℕ) (table : CheckedTable) → Starts rows cols p → Judged progress_rules limit p text (Ok q) → IsTableMade q table → IsTableOf rows cols text table
 table_of_text p q rows cols text table s h made =
     let f = text_related p rows cols text (Ok q) s h in
     let st = stands_at q q.awaited f.pairs f.lines f.tells in
     record {
       lines = f.lines;
       says = subst (λ (o : Option (List ℕ)). IsAnswer rows cols text (Ok (Ended o f.lines))) (sym (made.acsc ∙ st.1)) f.is;
-      found = λ row bytes there. st.0.lists.found row bytes (ap (λ (k : Known). string_in k.strings row) (sym made.known) ∙ there);
-      kept = λ line among. ap (λ (k : Known). string_in k.strings line.row) made.known ∙ st.0.lists.kept line among;
+      found = λ row bytes there. st.0.lists.found row bytes (ap (λ (k : Known). row_string k.strings row) (sym made.known) ∙ there);
+      kept = λ line among. ap (λ (k : Known). row_string k.strings line.row) made.known ∙ st.0.lists.kept line among;
     }
 
-pub sizes_of_table : (q : Progress) (rows cols : ℕ) (table : Content) → ReadWhole q rows cols → IsTableMade q table → (table.known.strings.rows ≡ rows) × (table.known.strings.cols ≡ cols)
+pub sizes_of_table : (q : Progress) (rows cols : ℕ) (table : CheckedTable) → ReadWhole q rows cols → IsTableMade q table → (table.known.strings.rows ≡ rows) × (table.known.strings.cols ≡ cols)
 sizes_of_table q rows cols table w made =
     let st = stands_at q q.awaited w.whole.pairs w.whole.lines w.whole.tells in
     (ap (λ (k : Known). k.strings.rows) made.known ∙ (st.0.rows ∙ w.rows_are), ap (λ (k : Known). k.strings.cols) made.known ∙ (st.0.cols ∙ w.cols_are))
 
-pub few_of_table : (q : Progress) (rows cols : ℕ) (table : Content) → ReadWhole q rows cols → IsTableMade q table → total table.known.strings < limit
+pub few_of_table : (q : Progress) (rows cols : ℕ) (table : CheckedTable) → ReadWhole q rows cols → IsTableMade q table → total table.known.strings < limit
 few_of_table q rows cols table w made = subst (λ (k : Known). total k.strings < limit) (sym made.known) w.few
 
 pub text_refused : (p q : Progress) (rows cols : ℕ) (text : List ℕ) (Failed : Type 0) (fault : LineFault CertFaultKind) → Starts rows cols p
@@ -272,7 +272,7 @@ pub takes_nothing : {R : Type 0} (left : R → List ℕ → Type 0) (failures : 
 takes_nothing left failures reader P so = record { given = []; gave = gave_nothing left failures reader; few = omega arith; reading = so }
 
 -- nothing failed while a table was made
-pub taken : {R : Type 0} (p q : Progress) (rows cols : ℕ) (left : R → List ℕ → Type 0) (failures : R → ℕ) (reader after : R) (table : Content) → Starts rows cols p
+pub taken : {R : Type 0} (p q : Progress) (rows cols : ℕ) (left : R → List ℕ → Type 0) (failures : R → ℕ) (reader after : R) (table : CheckedTable) → Starts rows cols p
     → Reports progress_rules limit p q left failures reader after (read) → Takes left failures reader after (λ n. IfErr (Ok table) (IsLineRead n))
 taken p q rows cols left failures reader after table s r = takes_by left failures reader after (AtLineRead (read)) (λ n. IfErr (Ok table) (IsLineRead n)) (λ n t. tt) (takes p q rows cols left failures reader after (read) s r)
 

@@ -21,8 +21,8 @@ use Rattle.ti_lines.proofs.HeadsRead.{acsc_each}
 use Rattle.ti_lines.specs.Text.{cut_of}
 use Rattle.ti_lines.specs.Judgements.{fault_at, AtLine, Passes, Fails, TooLong, JudgedLine, JudgedLines, JudgedFrom, Judged}
 use Rattle.ti_lines.specs.declared.judgements.LineFault.{LineFault}
-use Rattle.ti_cert.specs.Strings.{string_in}
-use Rattle.ti_cert.specs.Order.{Precedes, HasBytes, IsFirstLacking, IsComplete, IsLate, IsBehind}
+use Rattle.ti_cert.specs.Strings.{row_string}
+use Rattle.ti_cert.specs.Order.{Precedes, GivesBytes, IsFirstLacking, IsComplete, IsLate, IsBehind}
 use Rattle.ti_cert.specs.Clashes.{Misswitches, StaysGraphic, BeginsOpen, IsClash, GoesTogether, kind_of, OfLines}
 use Rattle.ti_cert.specs.declared.clashes.Clash.{Clash}
 use Rattle.ti_cert.specs.declared.clashes.Clash.TheVariants as clashes
@@ -206,10 +206,10 @@ alike rows cols lines Is Has p q = record {
   line_is = λ row. each_way (p.table.line_of row) (q.table.line_of row) (λ b e. over row b (p.found row b e)) (λ b e. back row b (q.found row b e));
 }
   where
-    over : (row : Row) (b : List ℕ) → HasBytes lines row b → q.table.line_of row ≡ Some b
+    over : (row : Row) (b : List ℕ) → GivesBytes lines row b → q.table.line_of row ≡ Some b
     over row b h = ap (λ (r : Row). q.table.line_of r) (sym h.of_row) ∙ (q.kept h.line h.among ∙ ap (λ (x : List ℕ). Some x) h.bytes_are)
 
-    back : (row : Row) (b : List ℕ) → HasBytes lines row b → p.table.line_of row ≡ Some b
+    back : (row : Row) (b : List ℕ) → GivesBytes lines row b → p.table.line_of row ≡ Some b
     back row b h = ap (λ (r : Row). p.table.line_of r) (sym h.of_row) ∙ (p.kept h.line h.among ∙ ap (λ (x : List ℕ). Some x) h.bytes_are)
 
 part_alike : (t u : Table) → IsAlike t u → (row : Row) → text_of t row ≡ text_of u row
@@ -438,16 +438,16 @@ one_table rows cols text t u p q =
     let same = same_end t.acsc u.acsc p.lines q.lines (Ok (Ended t.acsc p.lines)) (Ok (Ended u.acsc q.lines)) refl refl
     (one_answer rows cols text (Ok (Ended t.acsc p.lines)) (Ok (Ended u.acsc q.lines)) p.says q.says) in (
       same.0,
-      λ row. each_way (string_in t.known.strings row) (string_in u.known.strings row)
-          (λ b e. over row b (subst (λ (l : List RowLine). HasBytes l row b) same.1 (p.found row b e)))
-          (λ b e. back row b (subst (λ (l : List RowLine). HasBytes l row b) (sym same.1) (q.found row b e))),
+      λ row. each_way (row_string t.known.strings row) (row_string u.known.strings row)
+          (λ b e. over row b (subst (λ (l : List RowLine). GivesBytes l row b) same.1 (p.found row b e)))
+          (λ b e. back row b (subst (λ (l : List RowLine). GivesBytes l row b) (sym same.1) (q.found row b e))),
     )
   where
-    over : (row : Row) (b : List ℕ) → HasBytes q.lines row b → string_in u.known.strings row ≡ Some b
-    over row b h = ap (λ (r : Row). string_in u.known.strings r) (sym h.of_row) ∙ (q.kept h.line h.among ∙ ap (λ (x : List ℕ). Some x) h.bytes_are)
+    over : (row : Row) (b : List ℕ) → GivesBytes q.lines row b → row_string u.known.strings row ≡ Some b
+    over row b h = ap (λ (r : Row). row_string u.known.strings r) (sym h.of_row) ∙ (q.kept h.line h.among ∙ ap (λ (x : List ℕ). Some x) h.bytes_are)
 
-    back : (row : Row) (b : List ℕ) → HasBytes p.lines row b → string_in t.known.strings row ≡ Some b
-    back row b h = ap (λ (r : Row). string_in t.known.strings r) (sym h.of_row) ∙ (p.kept h.line h.among ∙ ap (λ (x : List ℕ). Some x) h.bytes_are)
+    back : (row : Row) (b : List ℕ) → GivesBytes p.lines row b → row_string t.known.strings row ≡ Some b
+    back row b h = ap (λ (r : Row). row_string t.known.strings r) (sym h.of_row) ∙ (p.kept h.line h.among ∙ ap (λ (x : List ℕ). Some x) h.bytes_are)
 
 never_ends : (a : Option (List ℕ)) (l : List RowLine) (e : LineFault CertFaultKind) → (x y : Answer) → x ≡ Ok (Ended a l) → y ≡ Err e → x ≡ y → ⊥
 never_ends a l e x y ex ey h = cc

@@ -8,7 +8,7 @@ use Rattle.ti_rows.specs.declared.rows.Row.{Row}
 use Rattle.ti_rows.specs.declared.rows.Row.TheVariants.{Sgr, Smul, Rev, Blink, Dim, Bold, Invis, Smso}
 use Rattle.ti_rows.specs.Names.{order, no_attributes}
 use Rattle.ti_rows.specs.Looks.{learned}
-use Rattle.ti_cert.specs.Strings.{Strings, group_at, has_group, string_in, Adds}
+use Rattle.ti_cert.specs.Strings.{Strings, group_at, has_group, row_string, Adds}
 use Rattle.ti_cert.specs.Known.{Known, looks_with}
 use Rattle.ti_cert.specs.Certificates.{rival}
 use Rattle.ti_conforms.specs.Looks.{SingleLooks, LooksAlone}
@@ -123,8 +123,8 @@ first_there [] = refl
 first_there (x ∷ xs) = sym (not_zero (length (x ∷ xs)) 0 (omega arith))
 
 -- a capability without parameters has strings where it has a line
-pub looks_stand : (s : Strings) (l : Looks) → LooksAlone (λ row. has_group s row) l → LooksAlone (λ row. is_some (string_in s row)) l
-looks_stand s l looks off = kept (λ row. has_group s row) (λ row. is_some (string_in s row)) l (looks (sym (there 35) ∙ off)) (there 40) (there 29) (there 1) (there 18) (there 2) (there 27) (there 39)
+pub looks_stand : (s : Strings) (l : Looks) → LooksAlone (λ row. has_group s row) l → LooksAlone (λ row. is_some (row_string s row)) l
+looks_stand s l looks off = kept (λ row. has_group s row) (λ row. is_some (row_string s row)) l (looks (sym (there 35) ∙ off)) (there 40) (there 29) (there 1) (there 18) (there 2) (there 27) (there 39)
   where
     there : (n : ℕ) → is_some (slice_get (group_at s n) 0) ≡ not (length (group_at s n) == 0)
     there n = first_there (group_at s n)

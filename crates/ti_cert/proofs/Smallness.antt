@@ -9,8 +9,8 @@ use Rattle.ti_rows.specs.Names.{order, no_attributes}
 use Rattle.ti_rows.specs.Right.{sets_visible}
 use Rattle.ti_conforms.specs.Table as strings
 use Rattle.ti_cert.specs.Certificates.{limit}
-use Rattle.ti_cert.specs.Strings.{Strings, group_at, string_in, total}
-use Rattle.ti_cert.specs.Table.{Content, table_of, certified}
+use Rattle.ti_cert.specs.Strings.{Strings, group_at, row_string, total}
+use Rattle.ti_cert.specs.Table.{CheckedTable, table_of, certified}
 use Rattle.ti_conforms.specs.Certified.{IsSmall, cell_limit, or_nothing}
 use Rattle.ti_cert.specs.Lengths.{greatest, longest_line, longest_change, singly, longest_in}
 use Rattle.ti_cert.proofs.Lengths.{within}
@@ -35,20 +35,20 @@ longest_few s row few =
     omega (arith, a, b, few)
 
 -- the bytes of a row's string, or none
-part_few : (s : Strings) (row : Row) (o : Option (List ℕ)) → string_in s row ≡ o → total s < limit → length (or_nothing o) < 2 ^ 26
+part_few : (s : Strings) (row : Row) (o : Option (List ℕ)) → row_string s row ≡ o → total s < limit → length (or_nothing o) < 2 ^ 26
 part_few s row None e few = omega arith
 part_few s row (Some x) e few = omega (arith, within s row x e, longest_few s row few)
 
-string_few : (c : Content) (row : Row) → total c.known.strings < limit → length (or_nothing ((table_of c).line_of row)) < 2 ^ 26
-string_few c row few = part_few c.known.strings row (string_in c.known.strings row) refl few
+string_few : (c : CheckedTable) (row : Row) → total c.known.strings < limit → length (or_nothing ((table_of c).line_of row)) < 2 ^ 26
+string_few c row few = part_few c.known.strings row (row_string c.known.strings row) refl few
 
-sent_few : (s : Strings) (row : Row) (o : Option (List ℕ)) → string_in s row ≡ o → total s < limit → length (strings.or_nothing o) < 2 ^ 26
+sent_few : (s : Strings) (row : Row) (o : Option (List ℕ)) → row_string s row ≡ o → total s < limit → length (strings.or_nothing o) < 2 ^ 26
 sent_few s row None e few = omega arith
 sent_few s row (Some x) e few = omega (arith, within s row x e, longest_few s row few)
 
 -- so where the row's string is a part of a resynchronization
-resync_part_few : (c : Content) (row : Row) → total c.known.strings < limit → length (strings.text_of (table_of c) row) < 2 ^ 26
-resync_part_few c row few = sent_few c.known.strings row (string_in c.known.strings row) refl few
+resync_part_few : (c : CheckedTable) (row : Row) → total c.known.strings < limit → length (strings.text_of (table_of c) row) < 2 ^ 26
+resync_part_few c row few = sent_few c.known.strings row (row_string c.known.strings row) refl few
 
 held_back : (b : Bool) (o : Option (List ℕ)) (n : ℕ) → length (or_nothing o) < n → length (or_nothing (if b then None else o)) < n
 held_back true o n h = omega (arith, h)
@@ -58,14 +58,14 @@ either : (b : Bool) (m n k : ℕ) → m < k → n < k → (if b then m else n) <
 either true m n k h j = h
 either false m n k h j = j
 
-change_few : (c : Content) → total c.known.strings < limit → longest_change c.known.strings < 2 ^ 30
+change_few : (c : CheckedTable) → total c.known.strings < limit → longest_change c.known.strings < 2 ^ 30
 change_few c few =
     let line : longest_line c.known.strings (Sgr no_attributes) < 2 ^ 26 = longest_few c.known.strings (Sgr no_attributes) few in
     let plain : longest_line c.known.strings Sgr0 < 2 ^ 26 = longest_few c.known.strings Sgr0 few in
     either (strings.has (table_of c) (Sgr no_attributes)) (max (longest_line c.known.strings (Sgr no_attributes)) (longest_line c.known.strings Sgr0)) (singly c.known.strings) (2 ^ 30) (omega (arith, line, plain))
     (omega (arith, string_few c Sgr0 few, string_few c Smul few, string_few c Rev few, string_few c Blink few, string_few c Dim few, string_few c Bold few, string_few c Invis few, string_few c Smso few))
 
-cell_few : (c : Content) → total c.known.strings < limit → cell_limit (certified c) < 2 ^ 31
+cell_few : (c : CheckedTable) → total c.known.strings < limit → cell_limit (certified c) < 2 ^ 31
 unfolding longest_in
 cell_few c few =
     let s : Strings = c.known.strings in
@@ -91,7 +91,7 @@ cell_few c few =
     let scroll : max (longest_line s (Csr 0 1)) (max (longest_line s Ind) (longest_line s Ri)) < 2 ^ 26 = omega (arith, csr, ind, ri) in
     omega (arith, cup, setaf, setab, op, sets, erasure, scroll, civis, cnorm, cvvis, change)
 
-resync_few : (c : Content) → total c.known.strings < limit → length (strings.resync (table_of c)) < 2 ^ 29
+resync_few : (c : CheckedTable) → total c.known.strings < limit → length (strings.resync (table_of c)) < 2 ^ 29
 unfolding strings.resync_of
 resync_few c few =
     let t : strings.Table = table_of c in
@@ -116,7 +116,7 @@ resync_few c few =
       resync_part_few c Clear few,
     )
 
-pub is_small : (c : Content) → total c.known.strings < limit → IsSmall (certified c)
+pub is_small : (c : CheckedTable) → total c.known.strings < limit → IsSmall (certified c)
 is_small c few = record {
   lines = λ row. held_back (sets_visible row && not (strings.has (table_of c) Cnorm)) ((table_of c).line_of row) (2 ^ 26) (string_few c row few);
   cell = cell_few c few;

@@ -12,7 +12,7 @@ use Rattle.ti_rows.specs.Names.{name_of}
 use Rattle.ti_rows.specs.Params.{params}
 use Rattle.hex.specs.Hex.{lower_digits}
 use Rattle.hex.proofs.HexLemmas.{length-encode_with}
-use Rattle.ti_lines.specs.Texts.{acsc_lines, row_lines, ended, HasBytes}
+use Rattle.ti_lines.specs.Texts.{acsc_lines, row_lines, ended, IsAcsc}
 use Rattle.ti_lines.specs.Text.{IsText, cut_of}
 use Rattle.ti_lines.proofs.Texts.{text_is}
 use Rattle.ti_lines.specs.Judgements.{Passes, Fails, TooLong, JudgedLine, JudgedLines, JudgedFrom, Judged}
@@ -184,7 +184,7 @@ record IsAll (rows cols budget : ℕ) (texts : List (List ℕ)) (last : List ℕ
   lines : List RowLine
   texts_are : acsc_lines pairs ++ row_lines lines ≡ texts
   last_is : last ≡ []
-  acsc : HasBytes pairs
+  acsc : IsAcsc pairs
   final_is : final ≡ reverse lines ++ []
   each : AllByRecursion IsLine lines
   stand : StandInOrder rows cols [] lines
@@ -201,7 +201,7 @@ second_passes rows cols budget number text texts last pairs final u small (HasPa
       lines = r.lines;
       texts_are = ap (λ (o : Option (List ℕ)). acsc_lines o ++ row_lines r.lines) r.pairs_are ∙ (ap (λ (x : List ℕ). x ∷ row_lines r.lines) is.spelled ∙ ap (λ (x : List (List ℕ)). text ∷ x) r.texts_are);
       last_is = r.last_is;
-      acsc = subst (λ (o : Option (List ℕ)). HasBytes o) (sym r.pairs_are) is.bytes_are;
+      acsc = subst (λ (o : Option (List ℕ)). IsAcsc o) (sym r.pairs_are) is.bytes_are;
       final_is = r.final_is;
       each = r.each;
       stand = r.stand;
@@ -227,7 +227,7 @@ second_of rows cols budget number (text ∷ texts) last pairs final p = by_line 
           lines = r.lines;
           texts_are = ap (λ (o : Option (List ℕ)). acsc_lines o ++ row_lines r.lines) r.pairs_are ∙ r.texts_are;
           last_is = r.last_is;
-          acsc = subst (λ (o : Option (List ℕ)). HasBytes o) (sym r.pairs_are) tt;
+          acsc = subst (λ (o : Option (List ℕ)). IsAcsc o) (sym r.pairs_are) tt;
           final_is = r.final_is;
           each = r.each;
           stand = r.stand;
@@ -246,7 +246,7 @@ record IsFirst (rows cols budget : ℕ) (texts : List (List ℕ)) (last : List �
   size : IsSizeText (size_text rows cols) rows cols
   texts_are : size_text rows cols ∷ (acsc_lines pairs ++ row_lines lines) ≡ texts
   last_is : last ≡ []
-  acsc : HasBytes pairs
+  acsc : IsAcsc pairs
   final_is : final ≡ reverse lines ++ []
   each : AllByRecursion IsLine lines
   stand : StandInOrder rows cols [] lines

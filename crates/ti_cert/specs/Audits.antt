@@ -15,11 +15,11 @@ use Rattle.ti_lines.specs.Heads.{IsAcscText}
 use Rattle.ti_lines.specs.Judgements.{Rules}
 use Rattle.ti_cert.specs.Known.{Known, Holds, looks_with}
 use Rattle.ti_cert.specs.Certificates.{Said, Nothing, Sized, Listing, Ended, speaks_of, looks_of, IsWholeText, IsMisfit, JudgesRow, JudgesLast, JudgesLater, JudgesLine, JudgesEnd}
-use Rattle.ti_cert.specs.Order.{Precedes, HasLine, HasBytes, IsComplete}
+use Rattle.ti_cert.specs.Order.{Precedes, HasLine, GivesBytes, IsComplete}
 use Rattle.ti_cert.specs.Clashes.{IsClash, GoesTogether, kind_of}
 use Rattle.ti_cert.specs.declared.clashes.Clash.{Clash}
-use Rattle.ti_cert.specs.Strings.{Strings, string_in, has_group, total}
-use Rattle.ti_cert.specs.Table.{Content, checked_of}
+use Rattle.ti_cert.specs.Strings.{Strings, row_string, has_group, total}
+use Rattle.ti_cert.specs.Table.{CheckedTable, checked_of}
 use Rattle.ti_cert.specs.declared.audits.Progress.{Progress}
 use Rattle.ti_cert.specs.declared.audits.Awaited.{Awaited}
 use Rattle.ti_cert.specs.declared.audits.Awaited.TheVariants as lines_awaited
@@ -33,8 +33,8 @@ all_bytes (line ∷ lines) = length line.bytes + all_bytes lines
 
 -- the strings are those of the lines, and attributes look as these tell
 pub record Lists (k : Known) (lines : List RowLine) : Type 0 where
-  pub found : (row : Row) (bytes : List ℕ) → string_in k.strings row ≡ Some bytes → HasBytes lines row bytes
-  pub kept : (line : RowLine) → IsAmong lines line → string_in k.strings line.row ≡ Some line.bytes
+  pub found : (row : Row) (bytes : List ℕ) → row_string k.strings row ≡ Some bytes → GivesBytes lines row bytes
+  pub kept : (line : RowLine) → IsAmong lines line → row_string k.strings line.row ≡ Some line.bytes
   pub groups : (row : Row) → has_group k.strings row ≡ speaks_of lines row
   pub looks : k.looks ≡ looks_of lines
   pub total_is : total k.strings ≡ all_bytes lines
@@ -112,7 +112,7 @@ abbrev pub settled_of : Awaited → Option Charsets
 settled_of (lines_awaited.Ended settled) = Some settled
 settled_of _ = None
 
-pub record IsTableMade (p : Progress) (table : Content) : Type 0 where
+pub record IsTableMade (p : Progress) (table : CheckedTable) : Type 0 where
   pub known : table.known ≡ p.known
   pub acsc : table.acsc ≡ p.acsc
 
@@ -150,15 +150,15 @@ pub data IsMisplacedBy (text : List ℕ) (kind : CertFaultKind) : Type 0 where
 
 -- a string has no record, or memory ran out
 pub data LacksRecord (s : Strings) (kind : CertFaultKind) : Type 0 where
-  NotSplit : (row : Row) (bytes : List ℕ) → string_in s row ≡ Some bytes → (IsWholeText bytes → ⊥) → LacksRecord s kind
-  NotRecorded : (row : Row) (bytes : List ℕ) → string_in s row ≡ Some bytes → (tokens : List (List ℕ)) → Splits bytes tokens [] → record_of s.rows s.cols (start_of s.rows s.cols row) tokens ≡ None → LacksRecord s kind
+  NotSplit : (row : Row) (bytes : List ℕ) → row_string s row ≡ Some bytes → (IsWholeText bytes → ⊥) → LacksRecord s kind
+  NotRecorded : (row : Row) (bytes : List ℕ) → row_string s row ≡ Some bytes → (tokens : List (List ℕ)) → Splits bytes tokens [] → record_of s.rows s.cols (start_of s.rows s.cols row) tokens ≡ None → LacksRecord s kind
   RanOut : kind ≡ NoMemory → LacksRecord s kind
 
 -- a line that has to be there isn't
 pub data LacksNeeded (s : Strings) (kind : CertFaultKind) : Type 0 where
-  NoClear : string_in s Clear ≡ None → LacksNeeded s kind
-  NoSgr0 : string_in s Sgr0 ≡ None → LacksNeeded s kind
-  NoWidening : has_group s (Csr 0 1) ≡ true → string_in s (Csr 0 (s.rows - 1)) ≡ None → LacksNeeded s kind
+  NoClear : row_string s Clear ≡ None → LacksNeeded s kind
+  NoSgr0 : row_string s Sgr0 ≡ None → LacksNeeded s kind
+  NoWidening : has_group s (Csr 0 1) ≡ true → row_string s (Csr 0 (s.rows - 1)) ≡ None → LacksNeeded s kind
 
 -- what is known where nothing is wrong with them
 pub record IsConcluded (k : Known) (has_pairs : Bool) (settled : Charsets) : Type 0 where

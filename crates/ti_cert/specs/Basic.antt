@@ -15,10 +15,10 @@ use Rattle.ti_conforms.specs.Sends.{Sends}
 use Rattle.ti_conforms.specs.Entries.{acsc, has_string, is_checked, string_of, EntryAgrees}
 use Rattle.ti_conforms.specs.Conforms.{IsFit}
 use Rattle.ti_lines.specs.declared.row_lines.RowLine.{RowLine}
-use Rattle.ti_lines.specs.Texts.{texts_of, ended}
+use Rattle.ti_lines.specs.Texts.{line_texts, ended}
 use Rattle.ti_conforms.specs.Charsets.{IsAmong}
 use Rattle.ti_cert.specs.Order.{HasLine}
-use Rattle.ti_cert.specs.Strings.{string_in}
+use Rattle.ti_cert.specs.Strings.{row_string}
 use Rattle.ti_cert.specs.Table as tables
 use Rattle.ti_cert.specs.Certificates.{Ended, IsAnswer}
 use Rattle.ti_cert.specs.Texts.{IsTableOf}
@@ -78,7 +78,7 @@ abbrev pub basic_rows : ℕ → ℕ → Bool → Bool → List Row
 basic_rows rows cols home el = Clear ∷ (places rows cols ++ (only_if el El ++ (only_if home Home ++ Sgr0 ∷ [])))
 
 unfoldable pub basic_text : ℕ → ℕ → Bool → Bool → List ℕ
-basic_text rows cols home el = ended (texts_of (record { rows = rows; cols = cols; acsc = None; lines = map basic_line (basic_rows rows cols home el) }))
+basic_text rows cols home el = ended (line_texts (record { rows = rows; cols = cols; acsc = None; lines = map basic_line (basic_rows rows cols home el) }))
 
 -- the basic text of an entry
 abbrev pub basic_text_of : Content → ℕ → ℕ → List ℕ
@@ -97,19 +97,19 @@ IsVerifyStopped Failed (Cert fault) = IsStopped Failed fault
 IsVerifyStopped Failed (Agree fault) = fault ≡ agreeing.NoMemory
 
 -- the table of a basic entry's text
-pub record IsBasicTable (entry : Content) (table : tables.Content) : Type 0 where
+pub record IsBasicTable (entry : Content) (table : tables.CheckedTable) : Type 0 where
   pub size : IsSize table.known.strings.rows table.known.strings.cols
   pub basic : IsBasic entry table.known.strings.rows table.known.strings.cols
   pub made : IsTableOf table.known.strings.rows table.known.strings.cols (basic_text_of entry table.known.strings.rows table.known.strings.cols) table
 
 -- is just what the entry sends
-pub record IsTableFor (entry : Content) (table : tables.Content) : Type 0 where
+pub record IsTableFor (entry : Content) (table : tables.CheckedTable) : Type 0 where
   pub fit : IsFit entry
   pub pairs : table.acsc ≡ string_at entry acsc
-  pub agrees : EntryAgrees table.known.strings.rows table.known.strings.cols entry (λ row. string_in table.known.strings row)
+  pub agrees : EntryAgrees table.known.strings.rows table.known.strings.cols entry (λ row. row_string table.known.strings row)
 
 abbrev pub BasicAgrees : Type 0
-BasicAgrees = (entry : Content) (table : tables.Content) → IsBasicTable entry table → IsTableFor entry table
+BasicAgrees = (entry : Content) (table : tables.CheckedTable) → IsBasicTable entry table → IsTableFor entry table
 
 -- these lines, and no others, are what the entry sends
 pub record AreSent (entry : Content) (rows cols : ℕ) (lines : List RowLine) : Type 0 where

@@ -8,7 +8,7 @@ use Rattle.ti_rows.specs.declared.rows.Row.TheVariants.{Smacs, Rmacs}
 use Rattle.ti_conforms.specs.Table.{Table, resync, Activates}
 use Rattle.ti_conforms.specs.Sets.{CanHave, LeadsBy, CanSettle, has_sets}
 use Rattle.ti_lines.specs.declared.row_lines.RowLine.{RowLine}
-use Rattle.ti_cert.specs.Order.{HasBytes}
+use Rattle.ti_cert.specs.Order.{GivesBytes}
 use Rattle.ti_cert.specs.declared.clashes.Clash.{Clash}
 use Rattle.ti_cert.specs.declared.clashes.Clash.TheVariants as clashes
 use Rattle.ti_cert.specs.declared.faults.CertFaultKind.{CertFaultKind}
@@ -69,6 +69,6 @@ pub record OfLines (rows cols : ℕ) (lines : List RowLine) (Is : Table → Type
   pub table : Table
   pub rows_are : table.rows ≡ rows
   pub cols_are : table.cols ≡ cols
-  pub found : (row : Row) (bytes : List ℕ) → table.line_of row ≡ Some bytes → HasBytes lines row bytes
+  pub found : (row : Row) (bytes : List ℕ) → table.line_of row ≡ Some bytes → GivesBytes lines row bytes
   pub kept : (line : RowLine) → IsAmong lines line → table.line_of line.row ≡ Some line.bytes
   pub is : Is table

@@ -8,8 +8,8 @@ use Rattle.ti_rows.specs.Names.{cap_of}
 use Rattle.ti_rows.specs.Params.{params}
 use Rattle.ti_conforms.specs.Entries.{acsc, LineAgrees, EntryAgrees}
 use Rattle.ti_conforms.specs.Conforms.{IsFit}
-use Rattle.ti_cert.specs.Strings.{string_in}
-use Rattle.ti_cert.specs.Table.{Content}
+use Rattle.ti_cert.specs.Strings.{row_string}
+use Rattle.ti_cert.specs.Table.{CheckedTable}
 use Rattle.ti_cert.specs.Texts.{IsTableOf}
 use Rattle.ti_conforms.specs.Unfit.{IsUnfit, cap_of_unfit}
 use Rattle.ti_conforms.specs.declared.fitness.Unfit.{Unfit}
@@ -20,28 +20,28 @@ use Rattle.ti_cert.specs.declared.faults.VerifyFault.TheVariants.{Cert, Agree}
 
 -- The line of this capability and these parameters, which the size allows, isn't just what the entry sends: it has other
 -- bytes, or isn't there, or is there though the capability isn't checked.
-pub record HasOtherLine (table : Content) (entry : caps.Content) (cap : ℕ) (numbers : List ℕ) : Type 0 where
+pub record HasOtherLine (table : CheckedTable) (entry : caps.Content) (cap : ℕ) (numbers : List ℕ) : Type 0 where
   pub row : Row
   pub cap_is : cap ≡ cap_of row
   pub params_are : numbers ≡ params row
   pub range : IsInRange table.known.strings.rows table.known.strings.cols row
-  pub differs : LineAgrees entry (string_in table.known.strings row) row → ⊥
+  pub differs : LineAgrees entry (row_string table.known.strings row) row → ⊥
 
 -- What is told first: why no certificate is for the entry as a whole, by the capability of the first such reason; then that its pairs
 -- of alternate characters are others; both without parameters. Then a line.
-pub data IsDisagreement (table : Content) (entry : caps.Content) (cap : ℕ) (numbers : List ℕ) : Type 0 where
+pub data IsDisagreement (table : CheckedTable) (entry : caps.Content) (cap : ℕ) (numbers : List ℕ) : Type 0 where
   RuledOut : (why : Unfit) → IsUnfit entry why → cap ≡ cap_of_unfit why → numbers ≡ [] → IsDisagreement table entry cap numbers
   OtherPairs : IsFit entry → cap ≡ acsc → (table.acsc ≡ string_at entry acsc → ⊥) → numbers ≡ [] → IsDisagreement table entry cap numbers
   OtherLine : IsFit entry → table.acsc ≡ string_at entry acsc → HasOtherLine table entry cap numbers → IsDisagreement table entry cap numbers
 
 -- running out of memory claims nothing
-abbrev pub IsDisagreeing : Content → caps.Content → AgreeFault → Type 0
+abbrev pub IsDisagreeing : CheckedTable → caps.Content → AgreeFault → Type 0
 IsDisagreeing table entry (Disagree cap numbers) = IsDisagreement table entry cap numbers.items
 IsDisagreeing table entry NoMemory = Unit {0}
 
 -- the table of a text disagrees so
 pub record TextDisagrees (rows cols : ℕ) (text : List ℕ) (entry : caps.Content) (fault : AgreeFault) : Type 0 where
-  pub table : Content
+  pub table : CheckedTable
   pub rows_are : table.known.strings.rows ≡ rows
   pub cols_are : table.known.strings.cols ≡ cols
   pub made : IsTableOf rows cols text table
@@ -63,5 +63,5 @@ IsAtRow row NoMemory = ⊥
 
 -- Where one is so, the certificate isn't that of the entry.
 abbrev pub DisagreementExcludesYes : Type 0
-DisagreementExcludesYes = (table : Content) (entry : caps.Content) (cap : ℕ) (numbers : List ℕ) → IsDisagreement table entry cap numbers → IsFit entry → table.acsc ≡ string_at entry acsc
-    → EntryAgrees table.known.strings.rows table.known.strings.cols entry (λ row. string_in table.known.strings row) → ⊥
+DisagreementExcludesYes = (table : CheckedTable) (entry : caps.Content) (cap : ℕ) (numbers : List ℕ) → IsDisagreement table entry cap numbers → IsFit entry → table.acsc ≡ string_at entry acsc
+    → EntryAgrees table.known.strings.rows table.known.strings.cols entry (λ row. row_string table.known.strings row) → ⊥

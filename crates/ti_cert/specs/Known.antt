@@ -11,7 +11,7 @@ use Rattle.ti_rows.specs.declared.rows.Row.{Row}
 use Rattle.ti_rows.specs.Looks.{learned}
 use Rattle.ti_rows.specs.Asked.{start_of, asked}
 use Rattle.ti_conforms.specs.Table.{settles}
-use Rattle.ti_cert.specs.Strings.{Strings, string_in, has_group}
+use Rattle.ti_cert.specs.Strings.{Strings, row_string, has_group}
 use Rattle.ti_conforms.specs.Looks.{LooksAlone}
 use Rattle.ti_cert.specs.Certificates.{rival}
 
@@ -65,7 +65,7 @@ pub record IsChange (all : List (List ℕ)) (change : Sets) : Type 0 where
 pub record IsFrom (k : Known) (token : List ℕ) : Type 0 where
   pub row : Row
   pub bytes : List ℕ
-  pub there : string_in k.strings row ≡ Some bytes
+  pub there : row_string k.strings row ≡ Some bytes
   pub tokens : List (List ℕ)
   pub whole : Splits bytes tokens []
   pub among : IsAmong tokens token
@@ -74,7 +74,7 @@ pub record IsFrom (k : Known) (token : List ℕ) : Type 0 where
 pub record IsTold (k : Known) (change : Sets) : Type 0 where
   pub row : Row
   pub bytes : List ℕ
-  pub there : string_in k.strings row ≡ Some bytes
+  pub there : row_string k.strings row ≡ Some bytes
   pub keeps : settles row ≡ true
   pub tokens : List (List ℕ)
   pub whole : Splits bytes tokens []
@@ -85,7 +85,7 @@ pub record IsTold (k : Known) (change : Sets) : Type 0 where
 pub record Holds (k : Known) : Type 0 where
   pub all : List (List ℕ)
   pub reach_is : k.reach ≡ reach_of all
-  pub lines : (row : Row) (bytes : List ℕ) → string_in k.strings row ≡ Some bytes → IsKept k all row bytes
+  pub lines : (row : Row) (bytes : List ℕ) → row_string k.strings row ≡ Some bytes → IsKept k all row bytes
   pub changes : (change : Sets) → IsAmong k.changes change → IsChange all change
   pub from_lines : (token : List ℕ) → IsAmong all token → IsFrom k token
   pub told : (change : Sets) → IsAmong k.changes change → IsTold k change

@@ -6,7 +6,7 @@ use Rattle.ti_rows.specs.declared.rows.Row.TheVariants.{Cup, El, El1, Ed, Ech, S
 use Rattle.ti_rows.specs.Names.{order, no_attributes}
 use Rattle.ti_conforms.specs.Certified.{singles}
 use Rattle.ti_conforms.specs.Table.{Longest, or_nothing}
-use Rattle.ti_cert.specs.Strings.{Strings, group_at, string_in}
+use Rattle.ti_cert.specs.Strings.{Strings, group_at, row_string}
 
 -- the greatest length among these, 0 where there are none
 abbrev pub greatest : List (List ℕ) → ℕ
@@ -19,12 +19,12 @@ longest_line s row = greatest (group_at s (order row))
 
 -- `sgr0` and the strings of single attributes, one after another
 abbrev pub singly : Strings → ℕ
-singly s = length (or_nothing (string_in s Sgr0)) + sum_by (λ row. length (or_nothing (string_in s row))) singles
+singly s = length (or_nothing (row_string s Sgr0)) + sum_by (λ row. length (or_nothing (row_string s row))) singles
 
 -- what changes the attributes: one line, or else those strings
 abbrev pub longest_change : Strings → ℕ
 longest_change s =
-    if is_some (string_in s (Sgr no_attributes))
+    if is_some (row_string s (Sgr no_attributes))
     then max (longest_line s (Sgr no_attributes)) (longest_line s Sgr0)
     else singly s
 

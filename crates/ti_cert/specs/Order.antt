@@ -24,15 +24,15 @@ pub record HasCap (lines : List RowLine) (row : Row) : Type 0 where
   pub of_cap : order line.row ≡ order row
 
 -- one of them says that the row has these bytes
-pub record HasBytes (lines : List RowLine) (row : Row) (bytes : List ℕ) : Type 0 where
+pub record GivesBytes (lines : List RowLine) (row : Row) (bytes : List ℕ) : Type 0 where
   pub line : RowLine
   pub among : IsAmong lines line
   pub of_row : line.row ≡ row
   pub bytes_are : line.bytes ≡ bytes
 
 -- every certificate has lines about these capabilities
-abbrev pub IsRequired : Row → Type 0
-IsRequired row = (order row ≡ order Clear) ⊎ ((order row ≡ order (Cup 0 0)) ⊎ (order row ≡ order Sgr0))
+abbrev pub IsRequiredLine : Row → Type 0
+IsRequiredLine row = (order row ≡ order Clear) ⊎ ((order row ≡ order (Cup 0 0)) ⊎ (order row ≡ order Sgr0))
 
 -- what comes next is a line about this row, or, at `None`, the last line of the text
 abbrev pub IsBefore : ℕ → ℕ → Option Row → Row → Type 0
@@ -49,7 +49,7 @@ pub record IsLacking (rows cols : ℕ) (lines : List RowLine) (next : Option Row
   pub range : IsInRange rows cols row
   pub absent : HasLine lines row → ⊥
   pub before : IsBefore rows cols next row
-  pub due : IsRequired row ⊎ (HasCap lines row ⊎ IsOfCap next row)
+  pub due : IsRequiredLine row ⊎ (HasCap lines row ⊎ IsOfCap next row)
 
 -- the first such row
 pub record IsFirstLacking (rows cols : ℕ) (lines : List RowLine) (next : Option Row) (row : Row) : Type 0 where

@@ -12,12 +12,12 @@ use Rattle.ti_rows.specs.Asked.{start_of}
 use Rattle.ti_conforms.specs.Certified.{sendable}
 use Rattle.ti_conforms.specs.Resync.{resync_rows, texts_of}
 use Rattle.ti_conforms.specs.Table.{Table, resync_of}
-use Rattle.ti_cert.specs.Strings.{Strings, string_in}
+use Rattle.ti_cert.specs.Strings.{Strings, row_string}
 use Rattle.ti_cert.specs.Known.{Known}
 use Rattle.ti_cert.specs.Lengths.{longest_in}
 
 -- the strings with what tells how they may be used
-pub record Content : Type 0 where
+pub record CheckedTable : Type 0 where
   pub known : Known
   pub acsc : Option (List ℕ)
   pub settled : Charsets
@@ -27,19 +27,19 @@ abbrev pub checked_of : Known → Charsets → Table
 checked_of k settled = record {
   rows = k.strings.rows;
   cols = k.strings.cols;
-  line_of = λ row. string_in k.strings row;
+  line_of = λ row. row_string k.strings row;
   looks = k.looks;
   reached = λ c. can_have k.reach c;
   settled = λ c. closing.has settled c;
-  resync = resync_of k.strings.rows (λ row. string_in k.strings row);
+  resync = resync_of k.strings.rows (λ row. row_string k.strings row);
   longest = longest_in k.strings;
 }
 
-abbrev pub table_of : Content → Table
+abbrev pub table_of : CheckedTable → Table
 table_of c = checked_of c.known c.settled
 
 -- what a painter sends of it
-abbrev pub certified : Content → Table
+abbrev pub certified : CheckedTable → Table
 certified c = sendable (table_of c)
 
 -- the first of some bytes
@@ -49,10 +49,10 @@ head_of (b ∷ bytes) = Some b
 
 -- the first byte of a resynchronization
 abbrev pub first_of_resync : Strings → Option ℕ
-first_of_resync s = head_of (texts_of (λ row. string_in s row) (resync_rows s.rows))
+first_of_resync s = head_of (texts_of (λ row. row_string s row) (resync_rows s.rows))
 
 -- what the row's string does to the charsets, nothing where there is none
 pub data Changes (s : Strings) (row : Row) : Option Sets → Type 0 where
-  NoString : string_in s row ≡ None → Changes s row None
-  OfString : (bytes : List ℕ) → string_in s row ≡ Some bytes → (tokens : List (List ℕ)) → Splits bytes tokens [] → (effect : Effect)
+  NoString : row_string s row ≡ None → Changes s row None
+  OfString : (bytes : List ℕ) → row_string s row ≡ Some bytes → (tokens : List (List ℕ)) → Splits bytes tokens [] → (effect : Effect)
       → record_of s.rows s.cols (start_of s.rows s.cols row) tokens ≡ Some effect → Changes s row (Some effect.charset)

@@ -8,9 +8,9 @@ use Rattle.ti_lines.specs.Reader.{Gave}
 use Rattle.ti_lines.specs.Text.{cut_of}
 use Rattle.ti_lines.specs.Judgements.{fault_at, LastCall}
 use Rattle.ti_lines.specs.declared.judgements.LineFault.{LineFault}
-use Rattle.ti_cert.specs.Strings.{string_in}
-use Rattle.ti_cert.specs.Table.{Content}
-use Rattle.ti_cert.specs.Order.{HasBytes, IsComplete, IsInPlace}
+use Rattle.ti_cert.specs.Strings.{row_string}
+use Rattle.ti_cert.specs.Table.{CheckedTable}
+use Rattle.ti_cert.specs.Order.{GivesBytes, IsComplete, IsInPlace}
 use Rattle.ti_cert.specs.Certificates.{Said, Ended, HasEffect, IsAskedFor, IsAnswer, limit}
 use Rattle.ti_cert.specs.declared.faults.CertFault.{CertFault}
 use Rattle.ti_cert.specs.declared.faults.CertFaultKind.{CertFaultKind}
@@ -19,11 +19,11 @@ use Rattle.ti_cert.specs.declared.faults.VerifyFault.{VerifyFault}
 use Rattle.ti_cert.specs.declared.faults.VerifyFault.TheVariants.{Cert, Agree}
 
 -- the text is that of a certificate for this size, and the table has just the pairs and the bytes of its lines
-pub record IsTableOf (rows cols : ℕ) (text : List ℕ) (table : Content) : Type 0 where
+pub record IsTableOf (rows cols : ℕ) (text : List ℕ) (table : CheckedTable) : Type 0 where
   pub lines : List RowLine
   pub says : IsAnswer rows cols text (Ok (Ended table.acsc lines))
-  pub found : (row : Row) (bytes : List ℕ) → string_in table.known.strings row ≡ Some bytes → HasBytes lines row bytes
-  pub kept : (line : RowLine) → IsAmong lines line → string_in table.known.strings line.row ≡ Some line.bytes
+  pub found : (row : Row) (bytes : List ℕ) → row_string table.known.strings row ≡ Some bytes → GivesBytes lines row bytes
+  pub kept : (line : RowLine) → IsAmong lines line → row_string table.known.strings line.row ≡ Some line.bytes
 
 -- the text's first fault, at its line; or memory ran out, or the reader failed
 abbrev pub IsRefused : ℕ → ℕ → List ℕ → Type 0 → CertFault → Type 0
@@ -58,12 +58,12 @@ OneAnswer = (rows cols : ℕ) (text : List ℕ) (one other : Result Said (LineFa
 
 -- So tables of the same text have the same pairs and the same strings,
 abbrev pub OneTable : Type 0
-OneTable = (rows cols : ℕ) (text : List ℕ) (one other : Content) → IsTableOf rows cols text one → IsTableOf rows cols text other
-    → (one.acsc ≡ other.acsc) × ((row : Row) → string_in one.known.strings row ≡ string_in other.known.strings row)
+OneTable = (rows cols : ℕ) (text : List ℕ) (one other : CheckedTable) → IsTableOf rows cols text one → IsTableOf rows cols text other
+    → (one.acsc ≡ other.acsc) × ((row : Row) → row_string one.known.strings row ≡ row_string other.known.strings row)
 
 -- and a text that has a table is refused only where memory runs out,
 abbrev pub NoOther : Type 0
-NoOther = (rows cols : ℕ) (text : List ℕ) (table : Content) (fault : CertFault) → IsTableOf rows cols text table → IsRefused rows cols text ⊥ fault → fault.kind ≡ NoMemory
+NoOther = (rows cols : ℕ) (text : List ℕ) (table : CheckedTable) (fault : CertFault) → IsTableOf rows cols text table → IsRefused rows cols text ⊥ fault → fault.kind ≡ NoMemory
 
 -- and one that has none always for the same fault in the same line.
 abbrev pub OneFault : Type 0

@@ -14,9 +14,9 @@ use Rattle.ti_conforms.specs.Together.{StandTogether}
 use Rattle.ti_conforms.specs.Looks.{LooksStand}
 use Rattle.ti_cert.specs.Strings.{total}
 use Rattle.ti_cert.specs.Certificates.{limit}
-use Rattle.ti_cert.specs.Table.{Content, table_of}
+use Rattle.ti_cert.specs.Table.{CheckedTable, table_of}
 
-pub record IsVerified (c : Content) : Type 0 where
+pub record IsVerified (c : CheckedTable) : Type 0 where
   pub size : IsSize c.known.strings.rows c.known.strings.cols
   -- all strings together have fewer bytes than a certificate may have, 2^26
   pub few : total c.known.strings < limit
@@ -44,12 +44,12 @@ listed (Some pairs) letter = partner_of pairs letter
 
 -- What a letter of the alternate set is sent as (terminfo(5), "Line Graphics"): its partner in `acsc` where the sets can
 -- be switched.
-abbrev pub partner_in : Content → ℕ → Option ℕ
+abbrev pub partner_in : CheckedTable → ℕ → Option ℕ
 partner_in c letter = if has (table_of c) Smacs && has (table_of c) Rmacs then listed c.acsc letter else None
 
 -- from every state that output cut off at any byte may leave, to a blank screen at rest
 abbrev pub Resyncs : Table → Type 0
 Resyncs t = (s : State) → IsLost t s → Ends s (resync t) (IsResynced t s.screen.visible)
 
-abbrev pub IsResync : Content → List ℕ → Type 0
+abbrev pub IsResync : CheckedTable → List ℕ → Type 0
 IsResync c text = text ≡ resync (table_of c)

@@ -6,7 +6,7 @@ ghost use Rattle.ti_conforms.specs.Conforms as conforms;
 ghost use Rattle.ti_conforms.specs.Entries as entries;
 ghost use Rattle.ti_cert.specs.Basic.{IsBasicTable};
 ghost use Rattle.ti_cert.specs.Disagreements as spec;
-ghost use Rattle.ti_cert.specs.Strings.{string_in};
+ghost use Rattle.ti_cert.specs.Strings.{row_string};
 
 use crate::faults::AgreeFault;
 use crate::table::Table;
@@ -32,7 +32,7 @@ fn lines_agree(alloc: Global, table: &Table, entry: &Entry) -> Result<(), AgreeF
     requires fit { conforms.IsFit entry.now }
     requires pairs { table.now.acsc ≡ string_at entry.now entries.acsc }
     ensures lines { OnOk result (entries.EntryAgrees table.now.known.strings.rows table.now.known.strings.cols entry.now
-        (λ row. string_in table.now.known.strings row)) }
+        (λ row. row_string table.now.known.strings row)) }
     ensures disagrees { IfErr result (spec.IsDisagreeing table.now entry.now) }
 {
     match entry_agrees(alloc, table.size(), entry, table) {
@@ -74,7 +74,7 @@ pub fn agrees(alloc: Global, table: &Table, entry: &Entry) -> Result<(), AgreeFa
     ensures fit { OnOk result (conforms.IsFit entry.now) }
     ensures acsc { OnOk result (table.now.acsc ≡ string_at entry.now entries.acsc) }
     ensures lines { OnOk result (entries.EntryAgrees table.now.known.strings.rows table.now.known.strings.cols entry.now
-        (λ row. string_in table.now.known.strings row)) }
+        (λ row. row_string table.now.known.strings row)) }
     ensures disagrees { IfErr result (spec.IsDisagreeing table.now entry.now) }
     ensures basic { IsBasicTable entry.now table.now → IfErr result (λ fault. fault ≡ AgreeFault.NoMemory) }
 {

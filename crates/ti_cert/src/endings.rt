@@ -4,7 +4,7 @@ ghost use Rattle.std.specs.Prelude.{◌≡◌, ◌-◌, IfOk, IfErr, OnOk, Some,
 ghost use Rattle.ti_cert.specs.Audits.{LacksRecord, LacksNeeded, IsConcluded, ConcludesBy};
 ghost use Rattle.ti_cert.specs.Clashes as clashes;
 ghost use Rattle.ti_cert.specs.Known.{Holds};
-ghost use Rattle.ti_cert.specs.Strings.{has_group, string_in};
+ghost use Rattle.ti_cert.specs.Strings.{has_group, row_string};
 ghost use Rattle.ti_cert.specs.Table as spec;
 ghost use Rattle.ti_conforms.specs.Resync.{texts_of};
 ghost use Rattle.ti_rows.specs.declared.rows.Row.TheVariants as rows;
@@ -58,7 +58,7 @@ fn resync_of(scanner: &mut Scanner, strings: &Strings) -> Result<Resync, CertFau
 
 /// The first byte of the strings of these rows.
 fn first_byte(strings: &Strings, rows: &[Row]) -> Option<u8>
-    ensures { result ≡ spec.head_of (texts_of (λ row. string_in strings.now row) rows.now) }
+    ensures { result ≡ spec.head_of (texts_of (λ row. row_string strings.now row) rows.now) }
 {
     for row in rows {
         if let Some([first, ..]) = strings.get(*row) {
@@ -78,10 +78,10 @@ fn first_of_resync(strings: &Strings) -> Option<u8>
 /// The lines that a certificate needs.
 fn check_needed(strings: &Strings) -> Result<(), CertFaultKind>
     ensures fails { IfErr result (LacksNeeded strings.now) }
-    ensures clear { OnOk result (is_some (string_in strings.now rows.Clear) ≡ true) }
-    ensures sgr0 { OnOk result (is_some (string_in strings.now rows.Sgr0) ≡ true) }
+    ensures clear { OnOk result (is_some (row_string strings.now rows.Clear) ≡ true) }
+    ensures sgr0 { OnOk result (is_some (row_string strings.now rows.Sgr0) ≡ true) }
     ensures csr { OnOk result (has_group strings.now (rows.Csr 0 1) ≡ true
-        → is_some (string_in strings.now (rows.Csr 0 (strings.now.rows - 1))) ≡ true) }
+        → is_some (row_string strings.now (rows.Csr 0 (strings.now.rows - 1))) ≡ true) }
 {
     let whole = Row::Csr(0, (strings.size().rows - 1) as u16);
     if strings.get(Row::Clear).is_none() {

@@ -77,7 +77,7 @@ impl Strings {
     /// The string of a row, where there is one.
     #[tactic(auto, using(crate::proofs::Ranges::in_range))]
     pub fn get(&self, row: Row) -> Option<&[u8]>
-        ensures { option_copied result ≡ spec.string_in self.now row }
+        ensures { option_copied result ≡ spec.row_string self.now row }
     {
         if allows(self.size, row) {
             self.groups[row.order()].get(row.rank(self.size))
@@ -88,9 +88,9 @@ impl Strings {
 
     pub fn has(&self, row: Row) -> bool
         ensures value { result ≡ spec.has_group self.now row }
-        ensures some { result ≡ true → SomeLine (λ r. spec.string_in self.now r) (order row) }
+        ensures some { result ≡ true → SomeLine (λ r. spec.row_string self.now r) (order row) }
         ensures none { result ≡ false → (other : rows.Row) → order other ≡ order row
-            → spec.string_in self.now other ≡ None }
+            → spec.row_string self.now other ≡ None }
     {
         let _ = &self.size;
         self.count(row) != 0

@@ -3,7 +3,7 @@
 ghost use Rattle.std.specs.Prelude.{◌≡◌, option_copied};
 ghost use Rattle.ti_conforms.specs.Judged.{IsJudged};
 ghost use Rattle.ti_conforms.specs.Looks.{LooksStand};
-ghost use Rattle.ti_cert.specs.Strings.{string_in};
+ghost use Rattle.ti_cert.specs.Strings.{row_string};
 ghost use Rattle.ti_cert.specs.Table as spec;
 
 use crate::known::Known;
@@ -24,9 +24,9 @@ pub struct Table {
 impl Model for Table {
     ghost use Rattle.ti_conforms.specs.Judged.{IsJudged};
     ghost use Rattle.ti_conforms.specs.Looks.{LooksStand};
-    ghost use Rattle.ti_cert.specs.Table.{Content, checked_of};
+    ghost use Rattle.ti_cert.specs.Table.{CheckedTable, checked_of};
 
-    ghost Value = { Content };
+    ghost Value = { CheckedTable };
 
     ghost view = { λ t. record { known = t.known; acsc = t.acsc; settled = t.settled } };
 
@@ -63,7 +63,7 @@ impl Table {
 
     /// The bytes of the row's line, where there is one.
     pub fn bytes(&self, row: Row) -> Option<&[u8]>
-        ensures { option_copied result ≡ string_in self.now.known.strings row }
+        ensures { option_copied result ≡ row_string self.now.known.strings row }
     {
         self.known.strings.get(row)
     }
@@ -78,9 +78,9 @@ impl Table {
 }
 
 impl LinesByRow for Table {
-    ghost use Rattle.ti_cert.specs.Strings.{string_in};
+    ghost use Rattle.ti_cert.specs.Strings.{row_string};
 
-    ghost line_of = { λ t row. string_in t.known.strings row };
+    ghost line_of = { λ t row. row_string t.known.strings row };
 
     fn line(&self, row: Row) -> Option<&[u8]> {
         self.bytes(row)

@@ -34,10 +34,10 @@ pub struct Checked {
 }
 
 impl Model for Checked {
-    ghost use Rattle.ti_cert.specs.Table.{Content};
+    ghost use Rattle.ti_cert.specs.Table.{CheckedTable};
     ghost use Rattle.ti_cert.specs.Verified.{IsVerified, IsResync};
 
-    ghost Value = { Content };
+    ghost Value = { CheckedTable };
 
     ghost view = { λ c. c.table };
 

@@ -19,7 +19,7 @@ use Rattle.ti_rows.specs.Names.{order}
 use Rattle.ti_rows.proofs.NameFacts.{orders_small}
 use Rattle.ti_rows.proofs.Rightness.{recorded_is_right}
 use Rattle.ti_lines.specs.declared.row_lines.RowLine.{RowLine}
-use Rattle.ti_lines.specs.Texts.{texts_of, ended}
+use Rattle.ti_lines.specs.Texts.{line_texts, ended}
 use Rattle.ti_conforms.specs.Entries.{has_string, is_checked, string_of}
 use Rattle.ti_cert.specs.Basic.{basic_bytes, basic_effect, basic_line, basic_rows, basic_text, basic_text_of, IsBasic}
 use Rattle.ti_cert.specs.Certificates.{Ended, IsAnswer}
@@ -121,8 +121,8 @@ lines_are entry rows cols lines size b are =
 pub text_is_basic : (entry : Content) (rows cols : ℕ) (lines : List RowLine) → IsSize rows cols → IsBasic entry rows cols → AreLines entry rows cols (λ row. order row < 42) lines → text_with entry rows cols lines ≡ basic_text_of entry rows cols
 unfolding basic_text
 text_is_basic entry rows cols lines size b are =
-    ap (λ (pairs : Option (List ℕ)). ended (texts_of (record { rows = rows; cols = cols; acsc = pairs; lines = lines }))) b.no_pairs
-    ∙ ap (λ (ls : List RowLine). ended (texts_of (record { rows = rows; cols = cols; acsc = None; lines = ls }))) (lines_are entry rows cols lines size b are)
+    ap (λ (pairs : Option (List ℕ)). ended (line_texts (record { rows = rows; cols = cols; acsc = pairs; lines = lines }))) b.no_pairs
+    ∙ ap (λ (ls : List RowLine). ended (line_texts (record { rows = rows; cols = cols; acsc = None; lines = ls }))) (lines_are entry rows cols lines size b are)
 
 pub draft_is_basic : (entry : Content) (rows cols : ℕ) (text : List ℕ) → IsSize rows cols → IsBasic entry rows cols → IsDrafted entry rows cols (λ row. order row < 42) text → text ++ last ≡ basic_text_of entry rows cols
 draft_is_basic entry rows cols text size b d =

@@ -9,7 +9,7 @@ use Rattle.ti_rows.specs.Names.{order}
 use Rattle.std.specs.List.{slice_get}
 use Rattle.ti_conforms.specs.Sends.{Sends}
 use Rattle.ti_conforms.specs.Entries.{acsc, is_checked, EntryAgrees}
-use Rattle.ti_cert.specs.Strings.{allows, group_at, string_in}
+use Rattle.ti_cert.specs.Strings.{allows, group_at, row_string}
 use Rattle.ti_cert.specs.Table as tables
 use Rattle.ti_cert.specs.Certificates.{Ended, IsAnswer}
 use Rattle.ti_cert.specs.Texts.{IsTableOf}
@@ -31,10 +31,10 @@ is_sent entry rows cols line_of agrees row bytes range there = elim (cases_Bool 
   | inr unchecked ↦ absurd (none-some bytes (sym ((agrees row range).unchecked unchecked) ∙ there))
 ]
 
-pub certified : (entry : Content) (t : tables.Content) (rows cols : ℕ) (text : List ℕ) → IsTableOf rows cols text t → t.acsc ≡ string_at entry acsc
-    → EntryAgrees t.known.strings.rows t.known.strings.cols entry (λ row. string_in t.known.strings row) → t.known.strings.rows ≡ rows → t.known.strings.cols ≡ cols → IsCertificateOf entry rows cols text
+pub certified : (entry : Content) (t : tables.CheckedTable) (rows cols : ℕ) (text : List ℕ) → IsTableOf rows cols text t → t.acsc ≡ string_at entry acsc
+    → EntryAgrees t.known.strings.rows t.known.strings.cols entry (λ row. row_string t.known.strings row) → t.known.strings.rows ≡ rows → t.known.strings.cols ≡ cols → IsCertificateOf entry rows cols text
 certified entry t rows cols text is pairs agrees r c =
-    let all : EntryAgrees rows cols entry (λ row. string_in t.known.strings row) = agrees_at entry t rows cols agrees r c in
+    let all : EntryAgrees rows cols entry (λ row. row_string t.known.strings row) = agrees_at entry t rows cols agrees r c in
     record {
       lines = is.lines;
       says = subst (λ (o : Option (List ℕ)). IsAnswer rows cols text (Ok (Ended o is.lines))) pairs is.says;
@@ -44,7 +44,7 @@ certified entry t rows cols text is pairs agrees r c =
           within (allows t.known.strings.rows t.known.strings.cols line.row) (slice_get (group_at t.known.strings (order line.row)) (rank t.known.strings.rows t.known.strings.cols line.row)) line.bytes there in
           let range : IsInRange rows cols line.row =
           subst (λ (n : ℕ). IsInRange rows n line.row) c (subst (λ (n : ℕ). IsInRange n t.known.strings.cols line.row) r (in_range t.known.strings.rows t.known.strings.cols line.row allowed)) in
-          is_sent entry rows cols (λ row. string_in t.known.strings row) all line.row line.bytes range there;
+          is_sent entry rows cols (λ row. row_string t.known.strings row) all line.row line.bytes range there;
       complete = λ row range checked.
           let s = (all row range).checked checked in
           let h = is.found row s.sends.bytes s.sends.line_has in

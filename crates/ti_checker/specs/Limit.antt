@@ -7,7 +7,7 @@ use Rattle.ti_rows.specs.Lists.{IsInRange}
 use Rattle.ti_lines.specs.declared.row_lines.RowLine.{RowLine}
 use Rattle.ti_lines.specs.Heads.{size_text}
 use Rattle.ti_lines.specs.RowLines.{line_text}
-use Rattle.ti_lines.specs.Texts.{acsc_lines, texts_of, ended}
+use Rattle.ti_lines.specs.Texts.{acsc_lines, line_texts, ended}
 use Rattle.ti_conforms.specs.Sends.{Sends}
 use Rattle.ti_conforms.specs.Entries.{acsc, is_checked}
 use Rattle.ti_cert.specs.Order.{HasLine, Precedes}
@@ -33,7 +33,7 @@ pub record AreLines (entry : Content) (rows cols : ℕ) (Holds : Row → Type 0)
 
 -- the text with the entry's size and pairs, these lines, and `end`
 abbrev pub text_with : Content → ℕ → ℕ → List RowLine → List ℕ
-text_with entry rows cols lines = ended (texts_of (record { rows = rows; cols = cols; acsc = string_at entry acsc; lines = lines }))
+text_with entry rows cols lines = ended (line_texts (record { rows = rows; cols = cols; acsc = string_at entry acsc; lines = lines }))
 
 -- this row, and those before it
 abbrev pub IsUpTo : ℕ → ℕ → Row → Row → Type 0

@@ -17,7 +17,7 @@ use Rattle.ti_rows.specs.declared.rows.Row.TheVariants.{Clear, Smcup, Enacs, Sgr
 use Rattle.ti_rows.specs.Asked.{start_of}
 use Rattle.ti_conforms.specs.Table.{Table, or_nothing, text_of, widening, resync, resync_front, resync_of}
 use Rattle.ti_conforms.specs.Sets.{CanHave, AtReset, AfterToken, LeadsBy, CanSettle, AfterResync, AfterLine, SetsHold}
-use Rattle.ti_conforms.specs.Judged.{JudgedLine, ChangesSets, NoLine, ByLine, changed, left_of, IsJudged}
+use Rattle.ti_conforms.specs.Judged.{AskedLine, ChangesSets, NoLine, ByLine, changed, left_of, IsJudged}
 use Rattle.ti_conforms.proofs.Judgements.{over_steps}
 
 over_append : (ts us : List (List ℕ)) (c : Charset) → charset_over (ts ++ us) c ≡ charset_over us (charset_over ts c)
@@ -25,7 +25,7 @@ over_append [] us c = refl
 over_append (t ∷ ts) us c = over_append ts us (charset_after (function_of t) c)
 
 -- the tokens of a line do to the sets what its record says
-line_sets : (t : Table) (row : Row) (bytes : List ℕ) (l : JudgedLine t row bytes) (c : Charset) → charset_over l.tokens c ≡ designated l.effect.charset c
+line_sets : (t : Table) (row : Row) (bytes : List ℕ) (l : AskedLine t row bytes) (c : Charset) → charset_over l.tokens c ≡ designated l.effect.charset c
 line_sets t row bytes l c =
     let s : Screen = record (reset_screen t.rows t.cols) { charset = c } in
     let sets : SetsAs l.effect s (steps l.tokens s) = (records_tell t.rows t.cols (start_of t.rows t.cols row) l.tokens l.effect l.recorded).settings s refl (record { autowrap = refl; inserting = refl }) in
@@ -39,7 +39,7 @@ each_among P (t ∷ ts) x h (inr a) = each_among P ts x h.1 a
 reached : (t : Table) → IsJudged t → (c : Charset) → CanHave t c → t.reached c ≡ true
 reached t j c (AtReset _ e) = ap (λ (x : Charset). t.reached x) e ∙ j.starts
 reached t j d (AfterToken c _ token p o e) =
-    let l : JudgedLine t o.row o.bytes = j.lines o.row o.bytes o.there in
+    let l : AskedLine t o.row o.bytes = j.lines o.row o.bytes o.there in
     let same = one_splitting o.bytes o.tokens l.tokens [] [] o.whole l.whole in
     let among : IsAmong l.tokens token = subst (λ (ts : List (List ℕ)). IsAmong ts token) (sym same.0) o.among in
     ap (λ (x : Charset). t.reached x) e ∙ each_among (λ x. (b : Charset) → t.reached b ≡ true → t.reached (charset_after (function_of x) b) ≡ true) l.tokens token l.stays among c (reached t j c p)
@@ -60,7 +60,7 @@ leads_joined a b f g p q = record {
 leads_nothing : Leads [] (λ c. c)
 leads_nothing = record { tokens = []; whole = empty_splits; leads = λ c. refl }
 
-leads_line : (t : Table) (row : Row) (bytes : List ℕ) (l : JudgedLine t row bytes) → Leads bytes (λ c. designated l.effect.charset c)
+leads_line : (t : Table) (row : Row) (bytes : List ℕ) (l : AskedLine t row bytes) → Leads bytes (λ c. designated l.effect.charset c)
 leads_line t row bytes l = record { tokens = l.tokens; whole = l.whole; leads = line_sets t row bytes l }
 
 leads_part : (t : Table) (row : Row) (change : Option Sets) → ChangesSets t row change → Leads (text_of t row) (λ c. changed change c)
@@ -74,12 +74,12 @@ leads_kept bytes f p same = record { tokens = p.tokens; whole = p.whole; leads =
 
 widen_keeps : (t : Table) (j : IsJudged t) (o : Option (List ℕ)) → t.line_of (widening t) ≡ o → Leads (or_nothing o) (λ c. c)
 widen_keeps t j None e = leads_nothing
-widen_keeps t j (Some bytes) e = let l : JudgedLine t (widening t) bytes = j.lines (widening t) bytes e in
+widen_keeps t j (Some bytes) e = let l : AskedLine t (widening t) bytes = j.lines (widening t) bytes e in
     leads_kept bytes (λ c. designated l.effect.charset c) (leads_line t (widening t) bytes l) (λ c. ap (λ (x : Effect). designated x.charset c) l.asked_for)
 
 clear_keeps : (t : Table) (j : IsJudged t) (o : Option (List ℕ)) → t.line_of Clear ≡ o → Leads (or_nothing o) (λ c. c)
 clear_keeps t j None e = leads_nothing
-clear_keeps t j (Some bytes) e = let l : JudgedLine t Clear bytes = j.lines Clear bytes e in
+clear_keeps t j (Some bytes) e = let l : AskedLine t Clear bytes = j.lines Clear bytes e in
     leads_kept bytes (λ c. designated l.effect.charset c) (leads_line t Clear bytes l) (λ c. ap (λ (x : Effect). designated x.charset c) l.asked_for)
 
 pub leads_resync : (t : Table) (j : IsJudged t) → Leads (resync t) (λ c. left_of j.changes c)
@@ -99,7 +99,7 @@ led bytes f c d p l =
 settled : (t : Table) (j : IsJudged t) (c : Charset) → CanSettle t c → t.settled c ≡ true
 settled t j d (AfterResync c _ p l) = ap (λ (x : Charset). t.settled x) (led (resync t) (λ c. left_of j.changes c) c d (leads_resync t j) l) ∙ j.first_settled c (reached t j c p)
 settled t j d (AfterLine c _ row bytes p there keeps l) =
-    let line : JudgedLine t row bytes = j.lines row bytes there in
+    let line : AskedLine t row bytes = j.lines row bytes there in
     ap (λ (x : Charset). t.settled x) (led bytes (λ c. designated line.effect.charset c) c d (leads_line t row bytes line) l) ∙ line.settles keeps c (settled t j c p)
 
 pub sets_hold : (t : Table) → IsJudged t → SetsHold t

@@ -25,7 +25,7 @@ use Rattle.vt_term.specs.Ends.{Closed, Ends}
 use Rattle.ti_conforms.specs.Lines.{StaysIn, MayBeCut}
 use Rattle.ti_conforms.proofs.Fronts.{fronts_stay}
 use Rattle.ti_conforms.specs.Table.{Table, has, widening, Activates, Ended}
-use Rattle.ti_conforms.specs.Judged.{JudgedLine, IsJudged}
+use Rattle.ti_conforms.specs.Judged.{AskedLine, IsJudged}
 use Rattle.ti_conforms.specs.Holds.{LineHolds}
 
 pub over_steps : (ts : List (List ℕ)) (s : Screen) → (steps ts s).charset ≡ charset_over ts s.charset
@@ -36,13 +36,13 @@ over_stays : (among : Charset → Bool) (ts : List (List ℕ)) (c : Charset) →
 over_stays among [] c stays h = h
 over_stays among (t ∷ ts) c stays h = over_stays among ts (charset_after (function_of t) c) stays.1 (stays.0 c h)
 
-pub right : (t : Table) (row : Row) (bytes : List ℕ) → JudgedLine t row bytes → IsRight t.rows t.cols t.looks row bytes
+pub right : (t : Table) (row : Row) (bytes : List ℕ) → AskedLine t row bytes → IsRight t.rows t.cols t.looks row bytes
 right t row bytes l = recorded_is_right t.rows t.cols t.looks row bytes l.tokens l.effect l.whole l.recorded l.asked_for
 
 activates_as : (row : Row) (c d : Charset) → d ≡ c → Activates row c → Activates row d
 activates_as row c d e h = subst (λ (x : Charset). Activates row x) (sym e) h
 
-pub ends : (t : Table) (row : Row) (bytes : List ℕ) → JudgedLine t row bytes → (s : State) → s.rest ≡ [] → Starts t.rows t.cols row s.screen → Ends s bytes (Closed (Ended t row s.screen))
+pub ends : (t : Table) (row : Row) (bytes : List ℕ) → AskedLine t row bytes → (s : State) → s.rest ≡ [] → Starts t.rows t.cols row s.screen → Ends s bytes (Closed (Ended t row s.screen))
 ends t row bytes l s rest start =
     let same : steps l.tokens s.screen ≡ applied l.effect s.screen = record_right t.rows t.cols (start_of t.rows t.cols row) l.tokens l.effect l.recorded s.screen (starts_allowed t.rows t.cols row s.screen start) in
     let charset : (steps l.tokens s.screen).charset ≡ designated l.effect.charset s.screen.charset = ap (λ (x : Screen). x.charset) same in
@@ -73,7 +73,7 @@ kept_visible : (t : Table) (row : Row) (tokens : List (List ℕ)) (b : Bool) →
 kept_visible t row tokens false e keeps shows none = keeps e
 kept_visible t row tokens true e keeps shows none = let no : false ≡ true = sym none ∙ shows e in absurd (false≢true no)
 
-pub may_be_cut : (t : Table) (row : Row) (bytes : List ℕ) → IsJudged t → t.line_of row ≡ Some bytes → JudgedLine t row bytes → (sets_visible row ≡ true → has t Cnorm ≡ true) → MayBeCut t.rows (has t (widening t)) (has t Cnorm) t.reached bytes
+pub may_be_cut : (t : Table) (row : Row) (bytes : List ℕ) → IsJudged t → t.line_of row ≡ Some bytes → AskedLine t row bytes → (sets_visible row ≡ true → has t Cnorm ≡ true) → MayBeCut t.rows (has t (widening t)) (has t Cnorm) t.reached bytes
 may_be_cut t row bytes j there l shows =
     let r : IsRight t.rows t.cols t.looks row bytes = right t row bytes l in
     let same = one_splitting bytes r.tokens l.tokens [] [] r.whole l.whole in
@@ -88,7 +88,7 @@ may_be_cut t row bytes j there l shows =
 
 pub line : (t : Table) → IsJudged t → (row : Row) (bytes : List ℕ) → t.line_of row ≡ Some bytes → LineHolds t row bytes
 line t j row bytes there =
-    let l : JudgedLine t row bytes = j.lines row bytes there in
+    let l : AskedLine t row bytes = j.lines row bytes there in
     record {
       right = right t row bytes l;
       ends = ends t row bytes l;

@@ -16,20 +16,20 @@ use Rattle.ti_conforms.specs.Lines.{HasLine, free_start, IsQuiet, SetsMargins, C
 use Rattle.ti_conforms.specs.Resync.{Settles}
 use Rattle.ti_conforms.proofs.Leads.{quiet_settles, nothing_settles, settles_then, resync_leads}
 use Rattle.ti_conforms.specs.Table.{Table, has, or_nothing, text_of, widening, resync, resync_front, resync_of}
-use Rattle.ti_conforms.specs.Judged.{JudgedLine, ChangesSets, NoLine, ByLine, changed, left_of, IsJudged}
+use Rattle.ti_conforms.specs.Judged.{AskedLine, ChangesSets, NoLine, ByLine, changed, left_of, IsJudged}
 
 -- a line of one of the four rows, or none, with what it does to the rendition
 record SettlesBy (t : Table) (row : Row) (change : Option Sets) : Type 0 where
   render : Rendition → Rendition
   settles : Settles t.rows t.cols (text_of t row) render (changed change)
 
-has_line : (t : Table) (row : Row) (bytes : List ℕ) (l : JudgedLine t row bytes) → HasLine t.rows t.cols (start_of t.rows t.cols row) bytes l.effect
+has_line : (t : Table) (row : Row) (bytes : List ℕ) (l : AskedLine t row bytes) → HasLine t.rows t.cols (start_of t.rows t.cols row) bytes l.effect
 has_line t row bytes l = record { tokens = l.tokens; whole = l.whole; recorded = l.recorded }
 
 part_is : (t : Table) (row : Row) (o : Option (List ℕ)) → t.line_of row ≡ o → text_of t row ≡ or_nothing o
 part_is t row o e = ap or_nothing e
 
-by_line : (t : Table) (row : Row) (change : Option Sets) (bytes : List ℕ) (l : JudgedLine t row bytes) → IsQuiet l.effect → t.line_of row ≡ Some bytes → change ≡ Some l.effect.charset
+by_line : (t : Table) (row : Row) (change : Option Sets) (bytes : List ℕ) (l : AskedLine t row bytes) → IsQuiet l.effect → t.line_of row ≡ Some bytes → change ≡ Some l.effect.charset
     → Settles t.rows t.cols (text_of t row) (λ r. rendered l.effect.rendition r) (changed change)
 by_line t row change bytes l q there is =
     let s : Settles t.rows t.cols bytes (λ r. rendered l.effect.rendition r) (λ c. designated l.effect.charset c) = quiet_settles t.rows t.cols (start_of t.rows t.cols row) bytes l.effect (has_line t row bytes l) q in
@@ -42,20 +42,20 @@ no_line t row change none is =
     let moved : Settles t.rows t.cols (text_of t row) (λ r. r) (λ c. c) = subst (λ (b : List ℕ). Settles t.rows t.cols b (λ r. r) (λ c. c)) (sym (part_is t row None none)) (nothing_settles t.rows t.cols) in
     subst (λ (o : Option Sets). Settles t.rows t.cols (text_of t row) (λ r. r) (changed o)) (sym is) moved
 
-settles_by : (t : Table) (row : Row) (change : Option Sets) → ((bytes : List ℕ) (l : JudgedLine t row bytes) → IsQuiet l.effect) → ChangesSets t row change → SettlesBy t row change
+settles_by : (t : Table) (row : Row) (change : Option Sets) → ((bytes : List ℕ) (l : AskedLine t row bytes) → IsQuiet l.effect) → ChangesSets t row change → SettlesBy t row change
 settles_by t row change quiet (NoLine none is) = record { render = λ r. r; settles = no_line t row change none is }
 settles_by t row change quiet (ByLine bytes there l is) = record { render = λ r. rendered l.effect.rendition r; settles = by_line t row change bytes l (quiet bytes l) there is }
 
-quiet_smcup : (t : Table) (bytes : List ℕ) (l : JudgedLine t Smcup bytes) → IsQuiet l.effect
+quiet_smcup : (t : Table) (bytes : List ℕ) (l : AskedLine t Smcup bytes) → IsQuiet l.effect
 quiet_smcup t bytes l = record { margins = ap (λ (e : Effect). e.margins) l.asked_for; visible = ap (λ (e : Effect). e.visible) l.asked_for }
 
-quiet_enacs : (t : Table) (bytes : List ℕ) (l : JudgedLine t Enacs bytes) → IsQuiet l.effect
+quiet_enacs : (t : Table) (bytes : List ℕ) (l : AskedLine t Enacs bytes) → IsQuiet l.effect
 quiet_enacs t bytes l = record { margins = ap (λ (e : Effect). e.margins) l.asked_for; visible = ap (λ (e : Effect). e.visible) l.asked_for }
 
-quiet_sgr0 : (t : Table) (bytes : List ℕ) (l : JudgedLine t Sgr0 bytes) → IsQuiet l.effect
+quiet_sgr0 : (t : Table) (bytes : List ℕ) (l : AskedLine t Sgr0 bytes) → IsQuiet l.effect
 quiet_sgr0 t bytes l = record { margins = ap (λ (e : Effect). e.margins) l.asked_for; visible = ap (λ (e : Effect). e.visible) l.asked_for }
 
-quiet_rmacs : (t : Table) (bytes : List ℕ) (l : JudgedLine t Rmacs bytes) → IsQuiet l.effect
+quiet_rmacs : (t : Table) (bytes : List ℕ) (l : AskedLine t Rmacs bytes) → IsQuiet l.effect
 quiet_rmacs t bytes l = record { margins = ap (λ (e : Effect). e.margins) l.asked_for; visible = ap (λ (e : Effect). e.visible) l.asked_for }
 
 -- after `sgr0` and `rmacs` the rendition is the default one
@@ -64,13 +64,13 @@ record MakesPlain (t : Table) (sgr0 rmacs : Option Sets) : Type 0 where
   makes : (r : Rendition) → render r ≡ plain
   settles : Settles t.rows t.cols (text_of t Sgr0 ++ text_of t Rmacs) render (λ c. changed rmacs (changed sgr0 c))
 
-sgr0_plain : (t : Table) (bytes : List ℕ) (l : JudgedLine t Sgr0 bytes) (r : Rendition) → rendered l.effect.rendition r ≡ plain
+sgr0_plain : (t : Table) (bytes : List ℕ) (l : AskedLine t Sgr0 bytes) (r : Rendition) → rendered l.effect.rendition r ≡ plain
 sgr0_plain t bytes l r = ap (λ (e : Effect). rendered e.rendition r) l.asked_for
 
-rmacs_keeps : (t : Table) (bytes : List ℕ) (l : JudgedLine t Rmacs bytes) (r : Rendition) → rendered l.effect.rendition r ≡ r
+rmacs_keeps : (t : Table) (bytes : List ℕ) (l : AskedLine t Rmacs bytes) (r : Rendition) → rendered l.effect.rendition r ≡ r
 rmacs_keeps t bytes l r = ap (λ (e : Effect). rendered e.rendition r) l.asked_for
 
-with_rmacs : (t : Table) (bytes : List ℕ) (l : JudgedLine t Sgr0 bytes) (sgr0 rmacs : Option Sets) → Settles t.rows t.cols (text_of t Sgr0) (λ r. rendered l.effect.rendition r) (changed sgr0) → ChangesSets t Rmacs rmacs → MakesPlain t sgr0 rmacs
+with_rmacs : (t : Table) (bytes : List ℕ) (l : AskedLine t Sgr0 bytes) (sgr0 rmacs : Option Sets) → Settles t.rows t.cols (text_of t Sgr0) (λ r. rendered l.effect.rendition r) (changed sgr0) → ChangesSets t Rmacs rmacs → MakesPlain t sgr0 rmacs
 with_rmacs t bytes l sgr0 rmacs first (NoLine none is) = record {
   render = λ r. rendered l.effect.rendition r;
   makes = sgr0_plain t bytes l;
@@ -86,7 +86,7 @@ makes_plain : (t : Table) (j : IsJudged t) → ChangesSets t Sgr0 j.changes.sgr0
 makes_plain t j (NoLine none is) = let no : None ≡ Some j.sgr0_bytes = sym none ∙ j.makes_plain in cc
 makes_plain t j (ByLine bytes there l is) = with_rmacs t bytes l j.changes.sgr0 j.changes.rmacs (by_line t Sgr0 j.changes.sgr0 bytes l (quiet_sgr0 t bytes l) there is) j.rmacs
 
-sets_whole : (t : Table) (bytes : List ℕ) (l : JudgedLine t (widening t) bytes) → SetsMargins t.rows l.effect
+sets_whole : (t : Table) (bytes : List ℕ) (l : AskedLine t (widening t) bytes) → SetsMargins t.rows l.effect
 sets_whole t bytes l = record {
   margins = ap (λ (e : Effect). e.margins) l.asked_for;
   rendition = ap (λ (e : Effect). e.rendition) l.asked_for;
@@ -96,9 +96,9 @@ sets_whole t bytes l = record {
 
 may_widen : (t : Table) (j : IsJudged t) (o : Option (List ℕ)) → t.line_of (widening t) ≡ o → MayWiden t.rows t.cols (or_nothing o) (is_some o)
 may_widen t j None e = Absent refl
-may_widen t j (Some bytes) e = let l : JudgedLine t (widening t) bytes = j.lines (widening t) bytes e in Present (start_of t.rows t.cols (widening t)) l.effect (has_line t (widening t) bytes l) (sets_whole t bytes l)
+may_widen t j (Some bytes) e = let l : AskedLine t (widening t) bytes = j.lines (widening t) bytes e in Present (start_of t.rows t.cols (widening t)) l.effect (has_line t (widening t) bytes l) (sets_whole t bytes l)
 
-clears_all : (t : Table) (bytes : List ℕ) (l : JudgedLine t Clear bytes) → Clears l.effect
+clears_all : (t : Table) (bytes : List ℕ) (l : AskedLine t Clear bytes) → Clears l.effect
 clears_all t bytes l = record {
   row = ap (λ (e : Effect). e.row) l.asked_for;
   col = ap (λ (e : Effect). e.col) l.asked_for;
@@ -121,7 +121,7 @@ resyncs t j shows s known =
     settles_then t.rows t.cols (text_of t Smcup) (text_of t Enacs) a.render b.render (changed j.changes.smcup) (changed j.changes.enacs) a.settles b.settles in
     let front : Settles t.rows t.cols (resync_front t) (λ r. p.render (b.render (a.render r))) (λ c. left_of j.changes c) =
     settles_then t.rows t.cols (text_of t Smcup ++ text_of t Enacs) (text_of t Sgr0 ++ text_of t Rmacs) (λ r. b.render (a.render r)) p.render (λ c. changed j.changes.enacs (changed j.changes.smcup c)) (λ c. changed j.changes.rmacs (changed j.changes.sgr0 c)) first p.settles in
-    let l : JudgedLine t Clear j.clear_bytes = j.lines Clear j.clear_bytes j.clears in
+    let l : AskedLine t Clear j.clear_bytes = j.lines Clear j.clear_bytes j.clears in
     let same : text_of t Clear ≡ j.clear_bytes = part_is t Clear (Some j.clear_bytes) j.clears in
     let clear : HasLine t.rows t.cols (free_start t.rows t.cols) (text_of t Clear) l.effect = subst (λ (x : List ℕ). HasLine t.rows t.cols (free_start t.rows t.cols) x l.effect) (sym same) (has_line t Clear j.clear_bytes l) in
     resync_leads t.rows t.cols (has t (widening t)) shows (resync_front t) (text_of t (widening t)) (text_of t Clear) j.rest (λ r. p.render (b.render (a.render r))) (λ c. left_of j.changes c) t.reached l.effect

@@ -9,13 +9,13 @@ use Rattle.ti_conforms.specs.declared.closures.Charsets.{Charsets}
 use Rattle.std.proofs.Math.Bool.{beq}
 use Rattle.ti_conforms.specs.declared.reach.Reach.{Reach}
 use Rattle.ti_conforms.specs.Charsets.{IsAmong, can_have}
-use Rattle.ti_conforms.specs.Closures.{Settled, First, After, SomeLeads, bit, number_of, has, StaysFrom, LeadsOut, Leaves, designated_all}
+use Rattle.ti_conforms.specs.Closures.{Settled, First, After, SomeLeads, bit, charset_number, has, StaysFrom, LeadsOut, Leaves, designated_all}
 
 bit_small : (b : Bool) → bit b < 2
 bit_small true = omega arith
 bit_small false = omega arith
 
-pub number_small : (c : Charset) → number_of c < 8
+pub number_small : (c : Charset) → charset_number c < 8
 number_small c = omega (arith, bit_small c.g0_graphic, bit_small c.g1_graphic, bit_small c.shifted_out)
 
 pub stays_none : (s : Charsets) (c : Charset) → StaysFrom s [] c
@@ -88,11 +88,11 @@ left_sound reach changes old new added c can is sound only d h = which (only d h
     which (inr e) = record { before = c; there = can; leads = e ∙ is }
 
 abbrev pub AllLeft : Reach → List Sets → Charsets → ℕ → Type 0
-AllLeft reach changes s k = (c : Charset) → number_of c ≡ k → can_have reach c ≡ true → has s (designated_all changes c) ≡ true
+AllLeft reach changes s k = (c : Charset) → charset_number c ≡ k → can_have reach c ≡ true → has s (designated_all changes c) ≡ true
 
 pub all_left : (reach : Reach) (changes : List Sets) (old new : Charsets) (n : ℕ) → ((k : ℕ) → k < n → AllLeft reach changes old k) → ((c : Charset) → has old c ≡ true → has new c ≡ true) → AllLeft reach changes new n
     → (k : ℕ) → k < n + 1 → AllLeft reach changes new k
 all_left reach changes old new n before more here = below_more (AllLeft reach changes new) n (λ k lt c e h. more (designated_all changes c) (before k lt c e h)) here
 
 pub left_complete : (reach : Reach) (changes : List Sets) (s : Charsets) (n : ℕ) → 8 ≤ n → ((k : ℕ) → k < n → AllLeft reach changes s k) → (d : Charset) → Leaves reach changes d → has s d ≡ true
-left_complete reach changes s n le all d l = let lt : number_of l.before < n = omega (arith, number_small l.before) in ap (λ (z : Charset). has s z) l.leads ∙ all (number_of l.before) lt l.before refl l.there
+left_complete reach changes s n le all d l = let lt : charset_number l.before < n = omega (arith, number_small l.before) in ap (λ (z : Charset). has s z) l.leads ∙ all (charset_number l.before) lt l.before refl l.there

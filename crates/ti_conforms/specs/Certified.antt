@@ -63,7 +63,7 @@ abbrev pub cell_limit : Table → ℕ
 cell_limit t = t.longest.cup + t.longest.sgr + t.longest.setaf + t.longest.setab + t.longest.op + t.longest.sets + t.longest.erasure + t.longest.scroll
     + t.longest.civis + t.longest.cnorm + t.longest.cvvis + 1
 
-pub record IsLine (t : Table) (row : Row) (bytes : List ℕ) : Type 0 where
+pub record IsCheckedLine (t : Table) (row : Row) (bytes : List ℕ) : Type 0 where
   pub drives : Drives (Starts t.rows t.cols row) (Ended t row) (IsLost t) bytes
   pub short : length bytes ≤ limit_of t row
 
@@ -103,7 +103,7 @@ pub record IsSmall (t : Table) : Type 0 where
 pub record IsChecked (t : Table) : Type 0 where
   pub size : IsSize t.rows t.cols
   pub small : IsSmall t
-  pub lines : (row : Row) (bytes : List ℕ) → t.line_of row ≡ Some bytes → IsLine t row bytes
+  pub lines : (row : Row) (bytes : List ℕ) → t.line_of row ≡ Some bytes → IsCheckedLine t row bytes
   pub moves : (r c : ℕ) → r < t.rows → c < t.cols → has t (Cup r c) ≡ true
   pub clears : has t Clear ≡ true
   pub plain : has t Sgr0 ≡ true

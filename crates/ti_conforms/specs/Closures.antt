@@ -23,12 +23,12 @@ abbrev pub bit : Bool → ℕ
 bit true = 1
 bit false = 0
 
-abbrev pub number_of : Charset → ℕ
-number_of c = bit c.g0_graphic + 2 * bit c.g1_graphic + 4 * bit c.shifted_out
+abbrev pub charset_number : Charset → ℕ
+charset_number c = bit c.g0_graphic + 2 * bit c.g1_graphic + 4 * bit c.shifted_out
 
 -- whether the charset is in the set
 abbrev pub has : Charsets → Charset → Bool
-has s c = slice_index_or s.members (number_of c) false
+has s c = slice_index_or s.members (charset_number c) false
 
 -- how many charsets aren't in the set
 abbrev pub absent : Charsets → ℕ

@@ -15,7 +15,7 @@ use Rattle.ti_conforms.specs.Sets.{has_sets}
 use Rattle.ti_conforms.specs.Table.{Table, has, resync, widening, settles, Activates}
 
 -- the record of the bytes from the row's start is the one that the table asks for
-pub record JudgedLine (t : Table) (row : Row) (bytes : List ℕ) : Type 0 where
+pub record AskedLine (t : Table) (row : Row) (bytes : List ℕ) : Type 0 where
   pub tokens : List (List ℕ)
   pub whole : Splits bytes tokens []
   pub effect : Effect
@@ -28,7 +28,7 @@ pub record JudgedLine (t : Table) (row : Row) (bytes : List ℕ) : Type 0 where
 -- what a line does to the sets, nothing where there is no line
 pub data ChangesSets (t : Table) (row : Row) (change : Option Sets) : Type 0 where
   NoLine : t.line_of row ≡ None → change ≡ None → ChangesSets t row change
-  ByLine : (bytes : List ℕ) → t.line_of row ≡ Some bytes → (line : JudgedLine t row bytes) → change ≡ Some line.effect.charset → ChangesSets t row change
+  ByLine : (bytes : List ℕ) → t.line_of row ≡ Some bytes → (line : AskedLine t row bytes) → change ≡ Some line.effect.charset → ChangesSets t row change
 
 abbrev pub changed : Option Sets → Charset → Charset
 changed None c = c
@@ -45,7 +45,7 @@ abbrev pub left_of : Changes → Charset → Charset
 left_of c charset = changed c.rmacs (changed c.sgr0 (changed c.enacs (changed c.smcup charset)))
 
 pub record IsJudged (t : Table) : Type 0 where
-  pub lines : (row : Row) (bytes : List ℕ) → t.line_of row ≡ Some bytes → JudgedLine t row bytes
+  pub lines : (row : Row) (bytes : List ℕ) → t.line_of row ≡ Some bytes → AskedLine t row bytes
   pub clear_bytes : List ℕ
   pub clears : t.line_of Clear ≡ Some clear_bytes
   pub sgr0_bytes : List ℕ

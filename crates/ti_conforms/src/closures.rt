@@ -1,7 +1,7 @@
 //! Sets of charsets, and what strings lead them to.
 
 ghost use Rattle.std.specs.Prelude.{◌≡◌, ◌⊎◌, ◌<◌, ◌+◌, IfSome, IfNone, ℕ, List, true, false, not};
-ghost use Rattle.ti_conforms.specs.Closures.{Settled, SomeLeads, LeadsOut, Leaves, StaysFrom, absent, designated_all, has, number_of, or_kept};
+ghost use Rattle.ti_conforms.specs.Closures.{Settled, SomeLeads, LeadsOut, Leaves, StaysFrom, absent, designated_all, has, charset_number, or_kept};
 ghost use Rattle.ti_conforms.specs.Table.{settles};
 ghost use Rattle.vt_effects.specs.Effect.{designated, switched};
 ghost use Rattle.vt_term.specs.Screen.{Charset, is_graphic};
@@ -18,7 +18,7 @@ pub struct Charsets {
 }
 
 fn number_of(charset: Charset) -> usize
-    ensures value { result ≡ number_of charset }
+    ensures value { result ≡ charset_number charset }
     ensures range { result < 8 }
 {
     usize::from(charset.g0_graphic)
@@ -28,7 +28,7 @@ fn number_of(charset: Charset) -> usize
 
 /// The charset of this number, below 8.
 fn charset_at(number: usize) -> Charset
-    ensures { (c : Charset) → number_of c ≡ number → result ≡ c }
+    ensures { (c : Charset) → charset_number c ≡ number → result ≡ c }
 {
     Charset {
         g0_graphic: number % 2 == 1,

@@ -27,7 +27,7 @@ use Rattle.ti_lines.specs.declared.words.Word.TheVariants.{Row, Col, EndsPending
 use Rattle.ti_lines.specs.declared.words.Marks.{Marks}
 use Rattle.ti_lines.specs.declared.words.Found.{Found}
 use Rattle.ti_lines.specs.EffectText.{row_name, col_name, ink_name, look_name, set_name, is_dot, switch_letter, ink_letter, move_text, pending_text, erasure_text, scroll_text, look_text, ink_text, set_text, rows_text, visible_text, lettered, texts, nonempty, words, IsPlainMove, IsPlainErasure, IsPlainRegion, IsPlain}
-use Rattle.ti_lines.specs.EffectReader.{rank, marked, put, put_next, with_word, with_words, word_at}
+use Rattle.ti_lines.specs.EffectReader.{rank, with_marks, put, put_next, with_word, with_words, word_at}
 use Rattle.ti_lines.proofs.TextCuts.{AllLack}
 use Rattle.ti_lines.proofs.Glyphs.{mark_letters, set_letters}
 use Rattle.ti_lines.proofs.Forms.{word_text, IsPlainWord, IsWord, word_written, IsRead, fixed_read, row_to, row_back, row_forward, col_to, col_back, col_forward, next_read, region_read, look_read, ink_read, set_read}
@@ -262,12 +262,12 @@ marks_kept m h =
     ∙ ap (λ (s : Switch). record none_marked { negative = s; concealed = m.concealed }) (switch_kept 49 48 m.negative refl refl e.0)
     ∙ ap (λ (s : Switch). record none_marked { concealed = s }) (switch_kept 49 48 m.concealed refl refl f.0)
 
-look_says : (m : Marks) (e : Effect) → marked none_marked e.rendition ≡ e.rendition → Says 5 (lettered look_name (mark_letters m)) e (record e { rendition = marked m e.rendition })
+look_says : (m : Marks) (e : Effect) → with_marks none_marked e.rendition ≡ e.rendition → Says 5 (lettered look_name (mark_letters m)) e (record e { rendition = with_marks m e.rendition })
 look_says m e k = by_dots (list_all is_dot (mark_letters m)) refl
   where
-    by_dots : (t : Bool) → list_all is_dot (mark_letters m) ≡ t → Says 5 (lettered look_name (mark_letters m)) e (record e { rendition = marked m e.rendition })
+    by_dots : (t : Bool) → list_all is_dot (mark_letters m) ≡ t → Says 5 (lettered look_name (mark_letters m)) e (record e { rendition = with_marks m e.rendition })
     by_dots true h = Silent (cond-true (list_all is_dot (mark_letters m)) [] (look_name ++ mark_letters m) h)
-        (ap (λ (x : Marks). record e { rendition = marked x e.rendition }) (marks_kept m h) ∙ ap (λ (r : Rendering). record e { rendition = r }) k)
+        (ap (λ (x : Marks). record e { rendition = with_marks x e.rendition }) (marks_kept m h) ∙ ap (λ (r : Rendering). record e { rendition = r }) k)
     by_dots false h = Spoken (Looks m) (look_read m h) refl refl
 
 ink_says : (f b : Ink) (e : Effect) → e.rendition.foreground ≡ inks.Kept → e.rendition.background ≡ inks.Kept
@@ -332,7 +332,7 @@ abbrev marks : Effect → Marks
 marks e = record { bold = e.rendition.bold; faint = e.rendition.faint; underline = e.rendition.underline; blink = e.rendition.blink; negative = e.rendition.negative; concealed = e.rendition.concealed }
 
 abbrev looked : Effect → Effect
-looked e = record (scrolled e) { rendition = marked (marks e) unchanged.rendition }
+looked e = record (scrolled e) { rendition = with_marks (marks e) unchanged.rendition }
 
 abbrev inked : Effect → Effect
 inked e = record (scrolled e) { rendition = e.rendition }

@@ -182,8 +182,8 @@ rank (Chooses s) = 7
 rank (Rows r) = 8
 rank (Shows s) = 9
 
-abbrev pub marked : Marks → Rendering → Rendering
-marked m r = record r { bold = m.bold; faint = m.faint; underline = m.underline; blink = m.blink; negative = m.negative; concealed = m.concealed }
+abbrev pub with_marks : Marks → Rendering → Rendering
+with_marks m r = record r { bold = m.bold; faint = m.faint; underline = m.underline; blink = m.blink; negative = m.negative; concealed = m.concealed }
 
 abbrev pub put : Word → Effect → Effect
 put (Row m) e = record e { row = m }
@@ -191,7 +191,7 @@ put (Col m) e = record e { col = m }
 put EndsPending e = record e { ends_pending = true }
 put (Erases x) e = record e { erasure = x }
 put (Scrolls x) e = record e { scroll = x }
-put (Looks m) e = record e { rendition = marked m e.rendition }
+put (Looks m) e = record e { rendition = with_marks m e.rendition }
 put (Inks f b) e = record e { rendition = record e.rendition { foreground = f; background = b } }
 put (Chooses s) e = record e { charset = s }
 put (Rows r) e = record e { margins = Some r }

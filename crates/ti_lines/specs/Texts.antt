@@ -22,24 +22,24 @@ abbrev pub row_lines : List RowLine → List (List ℕ)
 row_lines [] = end_text ∷ []
 row_lines (line ∷ lines) = line_text line ∷ row_lines lines
 
-abbrev pub texts_of : Certificate → List (List ℕ)
-texts_of c = size_text c.rows c.cols ∷ (acsc_lines c.acsc ++ row_lines c.lines)
+abbrev pub line_texts : Certificate → List (List ℕ)
+line_texts c = size_text c.rows c.cols ∷ (acsc_lines c.acsc ++ row_lines c.lines)
 
 -- an LF after each
 abbrev pub ended : List (List ℕ) → List ℕ
 ended [] = []
 ended (line ∷ lines) = line ++ 10 ∷ ended lines
 
-abbrev pub HasBytes : Option (List ℕ) → Type 0
-HasBytes None = Unit {0}
-HasBytes (Some bytes) = IsBytes bytes
+abbrev pub IsAcsc : Option (List ℕ) → Type 0
+IsAcsc None = Unit {0}
+IsAcsc (Some bytes) = IsBytes bytes
 
 -- the text of a certificate that says this
 pub record IsCertificateText (text : List ℕ) (c : Certificate) : Type 0 where
   pub size : IsSizeText (size_text c.rows c.cols) c.rows c.cols
-  pub acsc : HasBytes c.acsc
+  pub acsc : IsAcsc c.acsc
   pub lines : AllByRecursion IsLine c.lines
-  pub spelled : ended (texts_of c) ≡ text
+  pub spelled : ended (line_texts c) ≡ text
 
 -- no text is that of two lines
 abbrev pub OneLine : Type 0

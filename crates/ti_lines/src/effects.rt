@@ -143,7 +143,7 @@ fn put(word: Word, effect: Effect) -> Effect
 }
 
 fn marked(marks: Marks, rendition: Rendering) -> Rendering
-    ensures { result ≡ spec.marked marks rendition }
+    ensures { result ≡ spec.with_marks marks rendition }
 {
     Rendering {
         bold: marks.bold,

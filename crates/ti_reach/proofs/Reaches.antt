@@ -10,7 +10,7 @@ use Rattle.ti_reach.specs.declared.MissKind.{MissKind}
 -- bytes that the string sends, judged
 pub place_reached : (string : List ℕ) (rows cols row col : ℕ) (bytes : List ℕ) (judged : Result (Unit {0}) MissKind)
     → sent string (spec.place row col) ≡ Ok bytes
-    → OnOk judged (spec.IsWhole bytes) → OnOk judged (Run.Reaches rows cols bytes row col) → OnOk judged (spec.Reaches string rows cols row col)
+    → OnOk judged (spec.IsWhole bytes) → OnOk judged (Run.Reaches rows cols bytes row col) → OnOk judged (spec.StringReaches string rows cols row col)
 place_reached string rows cols row col bytes (Ok _) sends whole leads = record { bytes = bytes; sends = sends; whole = whole; leads = leads }
 place_reached string rows cols row col bytes (Err _) sends whole leads = tt
 

@@ -25,7 +25,7 @@ IsWhole bytes = (tokens : List (List ℕ)) × Splits bytes tokens []
 
 -- the string can be expanded for this place, what it sends (its delays are not sent) is whole tokens, and
 -- from every state at rest they leave the cursor of a terminal of this size there
-pub record Reaches (string : List ℕ) (rows cols row col : ℕ) : Type 0 where
+pub record StringReaches (string : List ℕ) (rows cols row col : ℕ) : Type 0 where
   pub bytes : List ℕ
   pub sends : sent string (place row col) ≡ Ok bytes
   pub whole : IsWhole bytes
@@ -33,11 +33,11 @@ pub record Reaches (string : List ℕ) (rows cols row col : ℕ) : Type 0 where
 
 -- the places of a row to the left of a column are reached
 abbrev pub ReachesInRow : List ℕ → ℕ → ℕ → ℕ → ℕ → Type 0
-ReachesInRow string rows cols row end = (col : ℕ) → col < end → Reaches string rows cols row col
+ReachesInRow string rows cols row end = (col : ℕ) → col < end → StringReaches string rows cols row col
 
 -- every place of the screen is reached
 abbrev pub ServesAsCup : List ℕ → ℕ → ℕ → Type 0
-ServesAsCup string rows cols = (row col : ℕ) → row < rows → col < cols → Reaches string rows cols row col
+ServesAsCup string rows cols = (row col : ℕ) → row < rows → col < cols → StringReaches string rows cols row col
 
 -- the string can't be expanded for this place
 abbrev pub HasFaultAt : List ℕ → ℕ → ℕ → Type 0

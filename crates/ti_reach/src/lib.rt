@@ -93,7 +93,7 @@ fn reach_place(
 ) -> Result<(), MissKind>
     requires row_in { row < size.rows }
     requires col_in { col < size.cols }
-    ensures reached { OnOk result (spec.Reaches string.now size.rows size.cols row col) }
+    ensures reached { OnOk result (spec.StringReaches string.now size.rows size.cols row col) }
     ensures why { IfErr result (λ kind. spec.TellsWhy string.now size.rows size.cols row col kind) }
 {
     send(alloc, string, row, col, bytes)?;

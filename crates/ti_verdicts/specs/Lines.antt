@@ -49,13 +49,13 @@ abbrev pub AnswersTo : {C : Type 0} → (C → Content → ℕ → ℕ → List 
 AnswersTo certifies refuses asked = Answers (certifies asked.certifier.now) (refuses asked.certifier.now) asked.size.rows asked.size.cols
 
 -- what can't be had is refused, in free words
-abbrev pub IsRefused : List ℕ → Type 0
-IsRefused words = (told : List ℕ) × (words ≡ codes " refused: " ++ told)
+abbrev pub IsRefusalText : List ℕ → Type 0
+IsRefusalText words = (told : List ℕ) × (words ≡ codes " refused: " ++ told)
 
 -- the words of an entry that is there, or of one that can't be had
 abbrev pub IsTold : (Content → List ℕ → Type 0) → Result Content CommandRefusal → List ℕ → Type 0
 IsTold Says (Ok entry) words = Says entry words
-IsTold Says (Err refusal) words = IsRefused words
+IsTold Says (Err refusal) words = IsRefusalText words
 
 -- ---- lines
 
@@ -79,7 +79,7 @@ pub record IsFileLine (Says : Content → List ℕ → Type 0) (packed : Content
 
 -- the line of a path whose file has no entries
 abbrev pub IsPathLine : List ℕ → List ℕ → Type 0
-IsPathLine path line = (words : List ℕ) × IsRefused words × (line ≡ line_of path words)
+IsPathLine path line = (words : List ℕ) × IsRefusalText words × (line ≡ line_of path words)
 
 -- ---- a file
 
@@ -95,7 +95,7 @@ pub record HasEntry (Says : Content → List ℕ → Type 0) (bytes line : List 
   pub told : IsFileLine Says packed line
 
 -- or it has a fault
-pub record LacksEntry (path bytes line : List ℕ) : Type 0 where
+pub record IsFaultyFile (path bytes line : List ℕ) : Type 0 where
   pub fault : PackFault
   pub faulty : read_of bytes ≡ Err fault
   pub told : IsPathLine path line
@@ -113,7 +113,7 @@ pub record LacksEntries (path bytes line : List ℕ) : Type 0 where
   pub told : IsPathLine path line
 
 abbrev pub AreLinesBy : Bool → (Content → List ℕ → Type 0) → List ℕ → List ℕ → List ℕ → Type 0
-AreLinesBy true Says path bytes lines = HasEntry Says bytes lines ⊎ LacksEntry path bytes lines
+AreLinesBy true Says path bytes lines = HasEntry Says bytes lines ⊎ IsFaultyFile path bytes lines
 AreLinesBy false Says path bytes lines = HasEntries Says bytes lines ⊎ LacksEntries path bytes lines
 
 -- the lines of a file: its first bytes show whether it is compiled

@@ -77,7 +77,7 @@ fn answer<C: Certifier>(
 
 /// That something can't be had, and `why`, which `tally` counts.
 fn refused(alloc: Global, why: &[u8], tally: &mut Tally) -> Result<Vec<u8>, AllocError>
-    ensures { IfOk result (λ words. spec.IsRefused words.items) }
+    ensures { IfOk result (λ words. spec.IsRefusalText words.items) }
 {
     tally.add_refused();
     let mut words = Vec::from_slice(alloc, b" refused: ")?;

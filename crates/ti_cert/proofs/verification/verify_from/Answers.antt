@@ -1,6 +1,6 @@
 use Rattle.ti_conforms.specs.Conforms.{Conforms}
 use Rattle.ti_conforms.specs.Entries.{EntryAgrees}
-use Rattle.ti_cert.specs.Strings.{string_in}
+use Rattle.ti_cert.specs.Strings.{row_string}
 use Rattle.ti_cert.specs.Table.{table_of}
 use Rattle.ti_cert.specs.Table as tables
 use Rattle.ti_cert.specs.Verified.{Resyncs}
@@ -22,15 +22,15 @@ pub handed_out-requires : goal.handed_out-requires
 handed_out-requires g c = is_verified c.args.entry.now c.in-Ok.table c.args.size.rows c.args.size.cols c.args.size.limits c.in-Ok-agrees.ensures.fit c.in-Ok.ensures.judged c.in-Ok.ensures.looks c.in-Ok-agrees.ensures.lines c.in-Ok.ensures.rows c.in-Ok.ensures.cols c.in-Ok.ensures.few
 
 pub returns-in-Ok-agrees-clause-conforms : goal.returns-in-Ok-agrees-clause-conforms
-returns-in-Ok-agrees-clause-conforms g c = at_ok (λ (t : tables.Content). Conforms c.args.entry.now c.args.size.rows c.args.size.cols) c.in-Ok.table c.handed_out.result c.handed_out.ensures.same
+returns-in-Ok-agrees-clause-conforms g c = at_ok (λ (t : tables.CheckedTable). Conforms c.args.entry.now c.args.size.rows c.args.size.cols) c.in-Ok.table c.handed_out.result c.handed_out.ensures.same
     (verified c.args.entry.now c.in-Ok.table c.args.size.rows c.args.size.cols c.in-Ok-agrees.ensures.fit c.in-Ok.ensures.judged c.in-Ok-agrees.ensures.lines c.in-Ok.ensures.rows c.in-Ok.ensures.cols)
 
 pub returns-in-Ok-agrees-clause-sends : goal.returns-in-Ok-agrees-clause-sends
-returns-in-Ok-agrees-clause-sends g c = at_ok (λ (t : tables.Content). EntryAgrees c.args.size.rows c.args.size.cols c.args.entry.now (λ row. string_in t.known.strings row)) c.in-Ok.table c.handed_out.result c.handed_out.ensures.same
+returns-in-Ok-agrees-clause-sends g c = at_ok (λ (t : tables.CheckedTable). EntryAgrees c.args.size.rows c.args.size.cols c.args.entry.now (λ row. row_string t.known.strings row)) c.in-Ok.table c.handed_out.result c.handed_out.ensures.same
     (agrees_at c.args.entry.now c.in-Ok.table c.args.size.rows c.args.size.cols c.in-Ok-agrees.ensures.lines c.in-Ok.ensures.rows c.in-Ok.ensures.cols)
 
 pub returns-in-Ok-agrees-clause-resyncs : goal.returns-in-Ok-agrees-clause-resyncs
-returns-in-Ok-agrees-clause-resyncs g c = at_ok (λ (t : tables.Content). Resyncs (table_of t)) c.in-Ok.table c.handed_out.result c.handed_out.ensures.same
+returns-in-Ok-agrees-clause-resyncs g c = at_ok (λ (t : tables.CheckedTable). Resyncs (table_of t)) c.in-Ok.table c.handed_out.result c.handed_out.ensures.same
     (resyncs c.in-Ok.table (is_verified c.args.entry.now c.in-Ok.table c.args.size.rows c.args.size.cols c.args.size.limits c.in-Ok-agrees.ensures.fit c.in-Ok.ensures.judged c.in-Ok.ensures.looks c.in-Ok-agrees.ensures.lines c.in-Ok.ensures.rows c.in-Ok.ensures.cols c.in-Ok.ensures.few))
 
 pub returns-in-Ok-agrees-clause-refused : goal.returns-in-Ok-agrees-clause-refused

@@ -1,7 +1,7 @@
 use Rattle.std.proofs.Common.{below_more, ◌≡◌, ◌<◌, true, false, refl, arith, ap, ◌∙◌, subst, sym}
 use Rattle.std.proofs.lemmas.Bool.{false≢true}
 use Rattle.vt_term.specs.Screen.{Charset}
-use Rattle.ti_conforms.specs.Closures.{StaysFrom, has, number_of}
+use Rattle.ti_conforms.specs.Closures.{StaysFrom, has, charset_number}
 use Rattle.ti_conforms.proofs.Settlements.{number_small, none_there}
 use Rattle.ti_conforms.proofs.closures.Charsets.outside.Goals as goal
 use Rattle.ti_conforms.proofs.closures.Charsets.outside.Goals.{then-has+else-is_some, else-has}
@@ -16,4 +16,4 @@ loop-number-preserved c = below_more _ _ c.loop-number.invariant (λ x e h.
     ]))
 
 pub returns-clause-none : goal.returns-clause-none
-returns-clause-none c = λ x h. let lt : number_of x < c.loop-number.number = omega (arith, number_small x) in c.loop-number.invariant (number_of x) lt x refl h
+returns-clause-none c = λ x h. let lt : charset_number x < c.loop-number.number = omega (arith, number_small x) in c.loop-number.invariant (charset_number x) lt x refl h
