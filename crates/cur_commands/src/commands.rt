@@ -21,7 +21,8 @@ pub fn play_script<F: Files, O: Output>(
     out: &mut O,
     remarks: &mut Remarks,
 ) -> Result<(), Failure>
-    ensures played { OnOk result (IsPlayed ⟦<Checked as Certificate>⟧.table ⟦<Checked as Certificate>⟧.partners (F.holds files.old) words.now (O.contents out.old) (O.contents out.new)) }
+    ensures played { OnOk result (IsPlayed ⟦<Checked as Certificate>⟧.table ⟦<Checked as Certificate>⟧.partners
+        (F.holds files.old) words.now (O.contents out.old) (O.contents out.new)) }
     ensures failure { IfErr result (λ e. FailsToPlay (F.holds files.old) words.now O.has_failed out.old out.new e) }
     ensures unwritten { IfErr result (λ e. (e ≡ Failure.Output) ⊎ (out.new ≡ out.old)) }
     ensures kept { F.holds files.new ≡ F.holds files.old }
@@ -44,7 +45,8 @@ pub fn show_script<F: Files>(
     files: &mut F,
     remarks: &mut Remarks,
 ) -> Result<Reply, Failure>
-    ensures reply { IfOk result (λ reply. IsShown ⟦<Checked as Certificate>⟧.table ⟦<Checked as Certificate>⟧.partners (F.holds files.old) words.now reply) }
+    ensures reply { IfOk result (λ reply. IsShown ⟦<Checked as Certificate>⟧.table ⟦<Checked as Certificate>⟧.partners
+        (F.holds files.old) words.now reply) }
     ensures failure { IfErr result (λ e. FailsToShow (F.holds files.old) words.now e) }
     ensures kept { F.holds files.new ≡ F.holds files.old }
 {

@@ -23,7 +23,8 @@ pub struct Held<'a, O> {
 impl<'a, O: Output> Held<'a, O> {
     /// Hands the output all that is held back.
     pub fn flush(&mut self)
-        ensures holds { Holds O.contents O.has_failed self.old.output self.new.output self.old.buffer.now self.new.buffer.now self.old.failures self.new.failures [] }
+        ensures holds { Holds O.contents O.has_failed self.old.output self.new.output self.old.buffer.now
+            self.new.buffer.now self.old.failures self.new.failures [] }
         ensures emptied { self.new.failures ≡ 0 → self.new.buffer.now ≡ [] }
     {
         if self.failures > 0 {
@@ -41,8 +42,10 @@ impl<'a, O: Output> Held<'a, O> {
         requires room { self.old.failures ≡ 0 → length self.old.buffer.now < 65536 }
         ensures some { IfOk result (λ n. 0 < n) }
         ensures within { IfOk result (λ n. n ≤ length piece.now) }
-        ensures held { IfOk result (λ n. Holds O.contents O.has_failed self.old.output self.new.output self.old.buffer.now self.new.buffer.now self.old.failures self.new.failures (take n piece.now)) }
-        ensures failed { OnErr result (Holds O.contents O.has_failed self.old.output self.new.output self.old.buffer.now self.new.buffer.now self.old.failures self.new.failures []) }
+        ensures held { IfOk result (λ n. Holds O.contents O.has_failed self.old.output self.new.output
+            self.old.buffer.now self.new.buffer.now self.old.failures self.new.failures (take n piece.now)) }
+        ensures failed { OnErr result (Holds O.contents O.has_failed self.old.output self.new.output
+            self.old.buffer.now self.new.buffer.now self.old.failures self.new.failures []) }
         ensures rose { OnErr result (Rose self.old.failures self.new.failures) }
     {
         if self.failures > 0 {

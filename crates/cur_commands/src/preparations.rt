@@ -26,7 +26,8 @@ pub fn prepare<F: Files>(
     files: &mut F,
     remarks: &mut Remarks,
 ) -> Result<Ready, Failure>
-    ensures ready { IfOk result (λ ready. Prepared (F.holds files.old) words.now ready.size.rows ready.size.cols ready.checked ready.text.items) }
+    ensures ready { IfOk result (λ ready. Prepared (F.holds files.old) words.now ready.size.rows ready.size.cols
+        ready.checked ready.text.items) }
     ensures failure { IfErr result (λ e. FailsToPrepare (F.holds files.old) words.now e) }
     ensures kept { F.holds files.new ≡ F.holds files.old }
 {

@@ -23,7 +23,8 @@ pub fn play_calls<C: Certificate + Drop, O: Output>(
     calls: &[Call<'_>],
     out: &mut O,
 ) -> Result<Log, Failure>
-    ensures ran { IfOk result (λ log. Ran (unfailing (C.table checked) (C.partners checked)) (O.contents out.old) (O.contents out.new) calls.now log.entries.items) }
+    ensures ran { IfOk result (λ log. Ran (unfailing (C.table checked) (C.partners checked)) (O.contents out.old)
+        (O.contents out.new) calls.now log.entries.items) }
     ensures through { IfOk result (λ log. AreThrough log.entries.items) }
     ensures failure { IfErr result (λ e. IsUnplayed O.has_failed out.old out.new e) }
 {
@@ -45,7 +46,8 @@ fn play_held<C: Certificate + Drop, O: Output>(
 ) -> Result<Log, Failure>
     requires nothing { held.old.buffer.now ≡ [] }
     requires unfailed { held.old.failures ≡ 0 }
-    ensures ran { IfOk result (λ log. Ran (unfailing (C.table checked) (C.partners checked)) (O.contents held.old.output.now) (O.contents held.new.output.now) calls.now log.entries.items) }
+    ensures ran { IfOk result (λ log. Ran (unfailing (C.table checked) (C.partners checked))
+        (O.contents held.old.output.now) (O.contents held.new.output.now) calls.now log.entries.items) }
     ensures through { IfOk result (λ log. AreThrough log.entries.items) }
     ensures failure { IfErr result (λ e. IsUnplayed O.has_failed held.old.output.now held.new.output.now e) }
     ensures same { held.new.output.ghost_name ≡ held.old.output.ghost_name }

@@ -21,7 +21,8 @@ pub fn show_calls<C: Certificate + Drop>(
     checked: C,
     calls: &[Call<'_>],
 ) -> Result<Vec<u8>, AllocError>
-    ensures { IfOk result (λ text. ShowsRun (C.table checked) (C.partners checked) (C.table checked).rows (C.table checked).cols calls.now text.items) }
+    ensures { IfOk result (λ text. ShowsRun (C.table checked) (C.partners checked) (C.table checked).rows
+        (C.table checked).cols calls.now text.items) }
 {
     let size = Size::new(checked.rows(), checked.cols()).unwrap();
     let mut taken = Taken::new(alloc);
@@ -39,7 +40,8 @@ fn play_in_memory<C: Certificate + Drop>(
     calls: &[Call<'_>],
     taken: &mut Taken,
 ) -> Result<Log, AllocError>
-    ensures ran { IfOk result (λ log. Ran (unfailing (C.table checked) (C.partners checked)) (Some taken.old.bytes.items) (Some taken.new.bytes.items) calls.now log.entries.items) }
+    ensures ran { IfOk result (λ log. Ran (unfailing (C.table checked) (C.partners checked))
+        (Some taken.old.bytes.items) (Some taken.new.bytes.items) calls.now log.entries.items) }
     ensures through { IfOk result (λ log. AreThrough log.entries.items) }
 {
     let log = run(alloc, checked, calls, taken)?;

@@ -40,8 +40,10 @@ impl Wire for Taken {
         requires { 0 < length piece.now }
         ensures some { IfOk result (λ n. 0 < n) }
         ensures within { IfOk result (λ n. n ≤ length piece.now) }
-        ensures sent { IfOk result (λ n. Stores self.old.bytes.items self.new.bytes.items self.old.failures self.new.failures (take n piece.now)) }
-        ensures unsent { OnErr result (Stores self.old.bytes.items self.new.bytes.items self.old.failures self.new.failures []) }
+        ensures sent { IfOk result (λ n. Stores self.old.bytes.items self.new.bytes.items self.old.failures
+            self.new.failures (take n piece.now)) }
+        ensures unsent { OnErr result (Stores self.old.bytes.items self.new.bytes.items self.old.failures
+            self.new.failures []) }
         ensures failed { OnErr result (Rose self.old.failures self.new.failures) }
     {
         if self.bytes.extend_from_slice(piece).is_err() {

@@ -38,7 +38,8 @@ pub fn run<C: Certificate + Drop, W: Wire>(
     calls: &[Call<'_>],
     wire: &mut W,
 ) -> Result<Log, AllocError>
-    ensures ran { IfOk result (λ log. Ran (subject_of W.went W.failures (C.table checked) (C.partners checked)) wire.old wire.new calls.now log.entries.items) }
+    ensures ran { IfOk result (λ log. Ran (subject_of W.went W.failures (C.table checked) (C.partners checked))
+        wire.old wire.new calls.now log.entries.items) }
     ensures refused { OnErr result (wire.new ≡ wire.old) }
 {
     let mut direct = Direct { wire };
@@ -52,7 +53,8 @@ fn run_direct<C: Certificate + Drop, W: Wire>(
     calls: &[Call<'_>],
     direct: &mut Direct<'_, W>,
 ) -> Result<Log, AllocError>
-    ensures ran { IfOk result (λ log. Ran (subject_of W.went W.failures (C.table checked) (C.partners checked)) direct.old.wire.now direct.new.wire.now calls.now log.entries.items) }
+    ensures ran { IfOk result (λ log. Ran (subject_of W.went W.failures (C.table checked) (C.partners checked))
+        direct.old.wire.now direct.new.wire.now calls.now log.entries.items) }
     ensures refused { OnErr result (direct.new.wire.now ≡ direct.old.wire.now) }
     ensures same { direct.new.wire.ghost_name ≡ direct.old.wire.ghost_name }
 {
@@ -67,7 +69,8 @@ pub fn run_paced<C: Certificate + Drop, W: Paced>(
     calls: &[Call<'_>],
     wire: &mut W,
 ) -> Result<Log, AllocError>
-    ensures ran { IfOk result (λ log. Ran (subject_of W.went W.failures (C.table checked) (C.partners checked)) wire.old wire.new calls.now log.entries.items) }
+    ensures ran { IfOk result (λ log. Ran (subject_of W.went W.failures (C.table checked) (C.partners checked))
+        wire.old wire.new calls.now log.entries.items) }
     ensures refused { OnErr result (wire.new ≡ wire.old) }
 {
     let entries = Vec::with_capacity(alloc, calls.len())?;
@@ -90,7 +93,8 @@ fn play_all<C: Certificate + Drop, W: Paced>(
     requires empty { log.items ≡ [] }
     requires len { vec_len log ≡ 0 }
     requires none { wire.old.sent ≡ 0 }
-    ensures ran { RanOn (subject_of W.went W.failures (C.table session.painter.checked) (C.partners session.painter.checked)) wire.old.wire wire.new.wire calls.now result.items }
+    ensures ran { RanOn (subject_of W.went W.failures (C.table session.painter.checked)
+        (C.partners session.painter.checked)) wire.old.wire wire.new.wire calls.now result.items }
 {
     let mut session = session;
     let mut log = log;

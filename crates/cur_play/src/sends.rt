@@ -53,8 +53,11 @@ pub(crate) fn send<C: Certificate, W: Wire>(
 ) -> Answer
     requires rows { (screen.old).rows ≡ (C.table painter.old.checked).rows }
     requires cols { (screen.old).cols ≡ (C.table painter.old.checked).cols }
-    ensures delivers { Delivers (C.table painter.old.checked) output screen.old painter.old.session.status result screen.new painter.new.session.status }
-    ensures puts { (bytes : List ℕ) × Puts W.went W.failures wire.old wire.new (C.table painter.old.checked) (C.partners painter.old.checked) screen.old output result bytes painter.old painter.new }
+    ensures delivers { Delivers (C.table painter.old.checked) output screen.old painter.old.session.status result
+        screen.new painter.new.session.status }
+    ensures puts { (bytes : List ℕ)
+        × Puts W.went W.failures wire.old wire.new (C.table painter.old.checked) (C.partners painter.old.checked)
+        screen.old output result bytes painter.old painter.new }
     ensures certificate { painter.new.checked ≡ painter.old.checked }
     ensures mode { painter.new.mode ≡ painter.old.mode }
 {
@@ -74,8 +77,11 @@ fn update<C: Certificate, W: Wire>(
 ) -> Answer
     requires rows { (screen.old).rows ≡ (C.table painter.old.checked).rows }
     requires cols { (screen.old).cols ≡ (C.table painter.old.checked).cols }
-    ensures delivers { Delivers (C.table painter.old.checked) Emission.Update screen.old painter.old.session.status result screen.new painter.new.session.status }
-    ensures puts { (bytes : List ℕ) × Puts W.went W.failures wire.old wire.new (C.table painter.old.checked) (C.partners painter.old.checked) screen.old Emission.Update result bytes painter.old painter.new }
+    ensures delivers { Delivers (C.table painter.old.checked) Emission.Update screen.old painter.old.session.status
+        result screen.new painter.new.session.status }
+    ensures puts { (bytes : List ℕ)
+        × Puts W.went W.failures wire.old wire.new (C.table painter.old.checked) (C.partners painter.old.checked)
+        screen.old Emission.Update result bytes painter.old painter.new }
     ensures certificate { painter.new.checked ≡ painter.old.checked }
     ensures mode { painter.new.mode ≡ painter.old.mode }
 {
@@ -90,8 +96,12 @@ fn update<C: Certificate, W: Wire>(
 
 /// Rings the bell.
 fn ring<C: Certificate, W: Wire>(painter: &mut Painter<C>, wire: &mut W) -> Answer
-    ensures delivers { (screen : Screen) → Delivers (C.table painter.old.checked) Emission.Bell screen painter.old.session.status result screen painter.new.session.status }
-    ensures puts { (screen : Screen) → (bytes : List ℕ) × Puts W.went W.failures wire.old wire.new (C.table painter.old.checked) (C.partners painter.old.checked) screen Emission.Bell result bytes painter.old painter.new }
+    ensures delivers { (screen : Screen)
+        → Delivers (C.table painter.old.checked) Emission.Bell screen painter.old.session.status result screen
+        painter.new.session.status }
+    ensures puts { (screen : Screen) → (bytes : List ℕ)
+        × Puts W.went W.failures wire.old wire.new (C.table painter.old.checked) (C.partners painter.old.checked)
+        screen Emission.Bell result bytes painter.old painter.new }
     ensures certificate { painter.new.checked ≡ painter.old.checked }
     ensures mode { painter.new.mode ≡ painter.old.mode }
 {
@@ -104,8 +114,12 @@ fn ring<C: Certificate, W: Wire>(painter: &mut Painter<C>, wire: &mut W) -> Answ
 
 /// Ends the program's screen.
 fn finish<C: Certificate, W: Wire>(painter: &mut Painter<C>, wire: &mut W) -> Answer
-    ensures delivers { (screen : Screen) → Delivers (C.table painter.old.checked) Emission.End screen painter.old.session.status result screen painter.new.session.status }
-    ensures puts { (screen : Screen) → (bytes : List ℕ) × Puts W.went W.failures wire.old wire.new (C.table painter.old.checked) (C.partners painter.old.checked) screen Emission.End result bytes painter.old painter.new }
+    ensures delivers { (screen : Screen)
+        → Delivers (C.table painter.old.checked) Emission.End screen painter.old.session.status result screen
+        painter.new.session.status }
+    ensures puts { (screen : Screen) → (bytes : List ℕ)
+        × Puts W.went W.failures wire.old wire.new (C.table painter.old.checked) (C.partners painter.old.checked)
+        screen Emission.End result bytes painter.old painter.new }
     ensures certificate { painter.new.checked ≡ painter.old.checked }
     ensures mode { painter.new.mode ≡ painter.old.mode }
 {

@@ -74,8 +74,11 @@ impl<C: Certificate> Session<C> {
     /// other calls take none. On `WireFailed` a front of what the call sends went out, what was copied to the virtual
     /// screen stands, and the session is lost.
     pub fn call<W: Wire>(&mut self, call: &Call<'_>, wire: &mut W) -> Answer
-        ensures step { CallStep (C.table self.old.painter.checked) (scene_of self.old) call.now result (scene_of self.new) }
-        ensures carries { Carries W.went W.failures wire.old wire.new (C.table self.old.painter.checked) (C.partners self.old.painter.checked) (drawn (C.table self.old.painter.checked) (scene_of self.old) call.now).0.screen
+        ensures step { CallStep (C.table self.old.painter.checked) (scene_of self.old) call.now result
+            (scene_of self.new) }
+        ensures carries { Carries W.went W.failures wire.old wire.new (C.table self.old.painter.checked)
+            (C.partners self.old.painter.checked) (drawn (C.table self.old.painter.checked) (scene_of self.old)
+            call.now).0.screen
             (output_of call.now) result (poised (C.table self.old.painter.checked) self.old call.now) self.new.painter }
         ensures stage { IsStage (C.table self.new.painter.checked) self.new.desk self.new.screen }
         ensures checked { IsChecked (C.table self.new.painter.checked) }
@@ -104,9 +107,13 @@ fn play<C: Certificate, W: Wire>(
     requires cols { (screen.old).cols ≡ (C.table painter.old.checked).cols }
     requires desk_rows { (desk.old).rows ≡ (C.table painter.old.checked).rows }
     requires desk_cols { (desk.old).cols ≡ (C.table painter.old.checked).cols }
-    ensures step { CallStep (C.table painter.old.checked) (scene_of (stage_of desk.old screen.old painter.old)) call.now result (scene_of (stage_of desk.new screen.new painter.new)) }
-    ensures carries { Carries W.went W.failures wire.old wire.new (C.table painter.old.checked) (C.partners painter.old.checked) (drawn (C.table painter.old.checked) (scene_of (stage_of desk.old screen.old painter.old)) call.now).0.screen
-        (output_of call.now) result (poised (C.table painter.old.checked) (stage_of desk.old screen.old painter.old) call.now) painter.new }
+    ensures step { CallStep (C.table painter.old.checked) (scene_of (stage_of desk.old screen.old painter.old))
+        call.now result (scene_of (stage_of desk.new screen.new painter.new)) }
+    ensures carries { Carries W.went W.failures wire.old wire.new (C.table painter.old.checked)
+        (C.partners painter.old.checked) (drawn (C.table painter.old.checked)
+        (scene_of (stage_of desk.old screen.old painter.old)) call.now).0.screen
+        (output_of call.now) result (poised (C.table painter.old.checked) (stage_of desk.old screen.old painter.old)
+        call.now) painter.new }
     ensures sizes { SameSizes desk.old screen.old desk.new screen.new }
     ensures certificate { painter.new.checked ≡ painter.old.checked }
 {

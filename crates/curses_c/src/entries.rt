@@ -135,8 +135,10 @@ fn verify_failure(fault: &VerifyFault) -> Failure {
 
 /// The certificate of an entry.
 pub fn certificate_of(alloc: Global, described: &Described) -> Result<Vec<u8>, Failure>
-    ensures certified { IfOk result (λ text. spec.IsCertified described.now.entry described.now.size.rows described.now.size.cols text.items) }
-    ensures refused { IfErr result (spec.IsUncertified described.now.entry described.now.size.rows described.now.size.cols) }
+    ensures certified { IfOk result (λ text. spec.IsCertified described.now.entry described.now.size.rows
+        described.now.size.cols text.items) }
+    ensures refused { IfErr result (spec.IsUncertified described.now.entry described.now.size.rows
+        described.now.size.cols) }
 {
     match check(alloc, &described.entry, described.size) {
         Ok(text) => Ok(text),

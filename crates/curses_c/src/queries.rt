@@ -30,7 +30,8 @@ pub extern "C" fn ticurses_raw_cursor(
     row: &mut u16,
     col: &mut u16,
 ) -> i32
-    ensures { Asks (λ h. cursor_in (window_of h.session.desk window)) (handle.old).slot.held (handle.new).slot.held (row.old, col.old) (row.new, col.new) result }
+    ensures { Asks (λ h. cursor_in (window_of h.session.desk window)) (handle.old).slot.held (handle.new).slot.held
+        (row.old, col.old) (row.new, col.new) result }
 {
     let Some(held) = handle.take(alloc) else {
         return failure_code(Failure::Closed);
@@ -56,7 +57,8 @@ pub extern "C" fn ticurses_raw_size(
     rows: &mut u16,
     cols: &mut u16,
 ) -> i32
-    ensures { Asks (λ h. window_size h.session.desk window) (handle.old).slot.held (handle.new).slot.held (rows.old, cols.old) (rows.new, cols.new) result }
+    ensures { Asks (λ h. window_size h.session.desk window) (handle.old).slot.held (handle.new).slot.held
+        (rows.old, cols.old) (rows.new, cols.new) result }
 {
     let Some(held) = handle.take(alloc) else {
         return failure_code(Failure::Closed);
@@ -90,7 +92,8 @@ pub extern "C" fn ticurses_raw_cell(
     col: u16,
     cell: &mut Standing,
 ) -> i32
-    ensures { Asks (λ h. cell_seen (seen h.session.desk window) row col) (handle.old).slot.held (handle.new).slot.held cell.old cell.new result }
+    ensures { Asks (λ h. cell_seen (seen h.session.desk window) row col) (handle.old).slot.held (handle.new).slot.held
+        cell.old cell.new result }
 {
     let Some(held) = handle.take(alloc) else {
         return failure_code(Failure::Closed);

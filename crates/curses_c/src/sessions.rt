@@ -50,7 +50,8 @@ fn open(
     subject: &Subject<'_>,
     certificate: &[u8],
 ) -> Result<Box<Held, Global>, Failure>
-    ensures { IfOk result (λ b. IsOpened subject.now.bytes.now subject.now.name.now subject.now.rows subject.now.cols b.value) }
+    ensures { IfOk result (λ b. IsOpened subject.now.bytes.now subject.now.name.now subject.now.rows subject.now.cols
+        b.value) }
 {
     let described = describe(alloc, subject)?;
     let checked = checked_for(alloc, &described, certificate)?;
@@ -105,7 +106,8 @@ pub extern "C" fn ticurses_raw_addstr(
     window: usize,
     text: &[u8],
 ) -> i32
-    ensures { Answers closed (λ h code k. (answer : Answer) × Makes h (Addstr window text.now) answer k × (code ≡ answer_code answer)) (handle.old).slot.held result (handle.new).slot.held }
+    ensures { Answers closed (λ h code k. (answer : Answer) × Makes h (Addstr window text.now) answer k
+        × (code ≡ answer_code answer)) (handle.old).slot.held result (handle.new).slot.held }
 {
     let Some(held) = handle.take(alloc) else {
         return failure_code(Failure::Closed);
@@ -119,7 +121,8 @@ pub extern "C" fn ticurses_raw_addstr(
 /// How many bytes wait.
 #[unsafe(no_mangle)]
 pub extern "C" fn ticurses_raw_waiting(alloc: Global, handle: &mut Handle) -> usize
-    ensures { Answers 0 (λ h count k. (k ≡ h) × (count ≡ length h.outbox.waiting)) (handle.old).slot.held result (handle.new).slot.held }
+    ensures { Answers 0 (λ h count k. (k ≡ h) × (count ≡ length h.outbox.waiting)) (handle.old).slot.held result
+        (handle.new).slot.held }
 {
     let Some(held) = handle.take(alloc) else {
         return 0;
@@ -132,7 +135,8 @@ pub extern "C" fn ticurses_raw_waiting(alloc: Global, handle: &mut Handle) -> us
 /// Moves the first of the bytes that wait to the start of `room`, as many as it has room for, and gives their number.
 #[unsafe(no_mangle)]
 pub extern "C" fn ticurses_raw_output(alloc: Global, handle: &mut Handle, room: &mut [u8]) -> usize
-    ensures { Answers 0 (λ h count k. Hands h room.old count k × (take count room.new ≡ take count h.outbox.waiting)) (handle.old).slot.held result (handle.new).slot.held }
+    ensures { Answers 0 (λ h count k. Hands h room.old count k × (take count room.new ≡ take count h.outbox.waiting))
+        (handle.old).slot.held result (handle.new).slot.held }
 {
     let Some(held) = handle.take(alloc) else {
         return 0;
@@ -146,7 +150,8 @@ pub extern "C" fn ticurses_raw_output(alloc: Global, handle: &mut Handle, room: 
 /// Some of what was sent did not reach the terminal: what waits is thrown away, and the next refresh begins anew.
 #[unsafe(no_mangle)]
 pub extern "C" fn ticurses_raw_lost(alloc: Global, handle: &mut Handle) -> i32
-    ensures { Answers closed (λ h code k. Loses h k × (code ≡ pos 0)) (handle.old).slot.held result (handle.new).slot.held }
+    ensures { Answers closed (λ h code k. Loses h k × (code ≡ pos 0)) (handle.old).slot.held result
+        (handle.new).slot.held }
 {
     let Some(held) = handle.take(alloc) else {
         return failure_code(Failure::Closed);

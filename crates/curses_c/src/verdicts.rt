@@ -20,7 +20,8 @@ pub extern "C" fn ticurses_raw_check(
     room: &mut [u8],
     needed: &mut usize,
 ) -> i32
-    ensures { spec.Answers (spec.Certifies entry.now name.now rows cols) (spec.Denies entry.now name.now rows cols) room.old room.new needed.new result }
+    ensures { spec.Answers (spec.Certifies entry.now name.now rows cols) (spec.Denies entry.now name.now rows cols)
+        room.old room.new needed.new result }
 {
     let subject = Subject {
         bytes: entry,
@@ -32,8 +33,10 @@ pub extern "C" fn ticurses_raw_check(
 }
 
 fn certificate(alloc: Global, subject: &Subject<'_>) -> Result<Vec<u8>, Failure>
-    ensures certified { IfOk result (λ text. spec.Certifies subject.now.bytes.now subject.now.name.now subject.now.rows subject.now.cols text.items) }
-    ensures denied { IfErr result (spec.Denies subject.now.bytes.now subject.now.name.now subject.now.rows subject.now.cols) }
+    ensures certified { IfOk result (λ text. spec.Certifies subject.now.bytes.now subject.now.name.now
+        subject.now.rows subject.now.cols text.items) }
+    ensures denied { IfErr result (spec.Denies subject.now.bytes.now subject.now.name.now subject.now.rows
+        subject.now.cols) }
 {
     let described = describe(alloc, subject)?;
     certificate_of(alloc, &described)
@@ -51,7 +54,8 @@ pub extern "C" fn ticurses_raw_reason(
     room: &mut [u8],
     needed: &mut usize,
 ) -> i32
-    ensures { spec.Answers (spec.Reasons entry.now name.now rows cols) (λ _. Unit {0}) room.old room.new needed.new result }
+    ensures { spec.Answers (spec.Reasons entry.now name.now rows cols) (λ _. Unit {0}) room.old room.new needed.new
+        result }
 {
     let subject = Subject {
         bytes: entry,
@@ -63,7 +67,8 @@ pub extern "C" fn ticurses_raw_reason(
 }
 
 fn reason(alloc: Global, subject: &Subject<'_>) -> Result<Vec<u8>, Failure>
-    ensures { IfOk result (λ words. spec.Reasons subject.now.bytes.now subject.now.name.now subject.now.rows subject.now.cols words.items) }
+    ensures { IfOk result (λ words. spec.Reasons subject.now.bytes.now subject.now.name.now subject.now.rows
+        subject.now.cols words.items) }
 {
     let described = describe(alloc, subject)?;
     let Err(no) = check(alloc, &described.entry, described.size) else {
@@ -136,7 +141,8 @@ pub extern "C" fn ticurses_raw_verify(
 }
 
 fn verified(alloc: Global, subject: &Subject<'_>, certificate: &[u8]) -> Result<(), Failure>
-    ensures { IfOk result (λ _. spec.IsVerified subject.now.bytes.now subject.now.name.now subject.now.rows subject.now.cols) }
+    ensures { IfOk result (λ _. spec.IsVerified subject.now.bytes.now subject.now.name.now subject.now.rows
+        subject.now.cols) }
 {
     let described = describe(alloc, subject)?;
     let _checked = checked_by(alloc, &described, certificate)?;
