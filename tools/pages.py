@@ -187,7 +187,7 @@ def each_clause(text, at):
         elif char == ";" and depth == 0:
             break
         elif char == "{" and depth == 0:
-            head = re.search(rf"\b(requires|ensures)(?:\s+({WORD}))?$", text[at:i].rstrip())
+            head = re.search(rf"\b(requires|ensures)\*?(?:\s+({WORD}))?$", text[at:i].rstrip())
             end, inner = i + 1, 1
             while inner and end < len(text):
                 inner += {"{": 1, "}": -1}.get(text[end], 0)
