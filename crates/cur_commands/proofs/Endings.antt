@@ -12,7 +12,7 @@ use Rattle.cur_play.specs.Log.{Ran}
 use Rattle.cur_play.specs.declared.runs.LogEntry.{LogEntry}
 use Rattle.cur_commands.specs.Shows.{IsTaken, RanWhole, ShowsRun, refusals_text}
 use Rattle.cur_commands.specs.Through.{AreThrough, unfailing}
-use Rattle.ti_cert.specs.Table.{CheckedTable as Strings}
+use Rattle.ti_cert.specs.Table.{CheckedTable}
 use Rattle.ti_commands.specs.Contents.{Held}
 use Rattle.ti_commands.specs.declared.failure.Failure.{Failure}
 use Rattle.cur_calls.specs.declared.calls.Call.{Call}
@@ -22,7 +22,7 @@ use Rattle.cur_commands.specs.Preparations.{Prepared}
 use Rattle.cur_commands.specs.Scripts.{IsScriptFailure}
 use Rattle.ti_requests.specs.declared.request.ScriptWords.{ScriptWords}
 
-pub script_refused : (held : Held) (words : ScriptWords) (height width : ℕ) (checked : Strings) (text slice : List ℕ) (e : Failure) → Prepared held words height width checked text → slice ≡ text → IsScriptFailure slice e → FailsAtScript held words e
+pub script_refused : (held : Held) (words : ScriptWords) (height width : ℕ) (checked : CheckedTable) (text slice : List ℕ) (e : Failure) → Prepared held words height width checked text → slice ≡ text → IsScriptFailure slice e → FailsAtScript held words e
 script_refused held words height width checked text slice e prepared same h = record {
   height = height;
   width = width;
@@ -32,7 +32,7 @@ script_refused held words height width checked text slice e prepared same h = re
   refused = subst (λ (l : List ℕ). IsScriptFailure l e) same h;
 }
 
-pub ready_for : (held : Held) (words : ScriptWords) (height width : ℕ) (checked : Strings) (text slice : List ℕ) (calls lent : List Call) → Prepared held words height width checked text → slice ≡ text → script_of slice ≡ Ok calls → lent ≡ calls
+pub ready_for : (held : Held) (words : ScriptWords) (height width : ℕ) (checked : CheckedTable) (text slice : List ℕ) (calls lent : List Call) → Prepared held words height width checked text → slice ≡ text → script_of slice ≡ Ok calls → lent ≡ calls
     → IsReady held words height width checked lent
 ready_for held words height width checked text slice calls lent prepared same reads lends = record {
   text = text;

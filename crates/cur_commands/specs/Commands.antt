@@ -1,7 +1,7 @@
 -- What `play` and `show` reply, by what their files hold. `table` and `partners` are what a painter may know of the
 -- strings of a verified entry.
 use Rattle.std.specs.Prelude.{◌≡◌, ◌⊎◌, ℕ, Bool, List, Option, Ok}
-use Rattle.ti_cert.specs.Table.{CheckedTable as Strings}
+use Rattle.ti_cert.specs.Table.{CheckedTable}
 use Rattle.ti_commands.specs.Contents.{Held}
 use Rattle.ti_commands.specs.Replies.{IsText}
 use Rattle.ti_commands.specs.declared.failure.Failure.{Failure}
@@ -19,16 +19,16 @@ use Rattle.cur_commands.specs.Through.{AreThrough, IsUnplayed, unfailing}
 use Rattle.ti_requests.specs.declared.request.ScriptWords.{ScriptWords}
 
 -- the words give a size, an entry that conforms at it and has these strings, and these calls
-pub record IsReady (held : Held) (words : ScriptWords) (height width : ℕ) (checked : Strings) (calls : List Call) : Type 0 where
+pub record IsReady (held : Held) (words : ScriptWords) (height width : ℕ) (checked : CheckedTable) (calls : List Call) : Type 0 where
   pub text : List ℕ
   pub prepared : Prepared held words height width checked text
   pub reads : script_of text ≡ Ok calls
 
 -- The output got what a run of the script's calls sends, and no call was cut short.
-pub record IsPlayed (table : Strings → Table) (partners : Strings → ℕ → Option ℕ) (held : Held) (words : ScriptWords) (old new : Option (List ℕ)) : Type 0 where
+pub record IsPlayed (table : CheckedTable → Table) (partners : CheckedTable → ℕ → Option ℕ) (held : Held) (words : ScriptWords) (old new : Option (List ℕ)) : Type 0 where
   pub height : ℕ
   pub width : ℕ
-  pub checked : Strings
+  pub checked : CheckedTable
   pub calls : List Call
   pub ready : IsReady held words height width checked calls
   pub log : List LogEntry
@@ -36,10 +36,10 @@ pub record IsPlayed (table : Strings → Table) (partners : Strings → ℕ → 
   pub through : AreThrough log
 
 -- the reply tells of a run of the script's calls and of the screen that it leaves
-pub record IsShown (table : Strings → Table) (partners : Strings → ℕ → Option ℕ) (held : Held) (words : ScriptWords) (reply : Reply) : Type 0 where
+pub record IsShown (table : CheckedTable → Table) (partners : CheckedTable → ℕ → Option ℕ) (held : Held) (words : ScriptWords) (reply : Reply) : Type 0 where
   pub height : ℕ
   pub width : ℕ
-  pub checked : Strings
+  pub checked : CheckedTable
   pub calls : List Call
   pub ready : IsReady held words height width checked calls
   pub text : List ℕ
@@ -50,7 +50,7 @@ pub record IsShown (table : Strings → Table) (partners : Strings → ℕ → O
 pub record FailsAtScript (held : Held) (words : ScriptWords) (failure : Failure) : Type 0 where
   pub height : ℕ
   pub width : ℕ
-  pub checked : Strings
+  pub checked : CheckedTable
   pub text : List ℕ
   pub prepared : Prepared held words height width checked text
   pub refused : IsScriptFailure text failure
@@ -59,7 +59,7 @@ pub record FailsAtScript (held : Held) (words : ScriptWords) (failure : Failure)
 pub record FailsInRun {O : Type 0} (held : Held) (words : ScriptWords) (has_failed : O → Bool) (old new : O) (failure : Failure) : Type 0 where
   pub height : ℕ
   pub width : ℕ
-  pub checked : Strings
+  pub checked : CheckedTable
   pub calls : List Call
   pub ready : IsReady held words height width checked calls
   pub unplayed : IsUnplayed has_failed old new failure
@@ -68,7 +68,7 @@ pub record FailsInRun {O : Type 0} (held : Held) (words : ScriptWords) (has_fail
 pub record FailsForMemory (held : Held) (words : ScriptWords) (failure : Failure) : Type 0 where
   pub height : ℕ
   pub width : ℕ
-  pub checked : Strings
+  pub checked : CheckedTable
   pub calls : List Call
   pub ready : IsReady held words height width checked calls
   pub lacks : failure ≡ NoMemory

@@ -1,7 +1,7 @@
 -- What a run of a script needs: a size, an entry that was verified for it, and the script's text.
 use Rattle.std.specs.Prelude.{◌≤◌, ◌⊎◌, ℕ, List, length}
 use Rattle.ti_caps.specs.Entry.{Content}
-use Rattle.ti_cert.specs.Table.{CheckedTable as Strings}
+use Rattle.ti_cert.specs.Table.{CheckedTable}
 use Rattle.ti_conforms.specs.Conforms.{Conforms}
 use Rattle.ti_commands.specs.Failures.{IsFileFailure}
 use Rattle.ti_commands.specs.Contents.{AreBytesOf, Held}
@@ -17,9 +17,9 @@ abbrev pub verify_words_of : ScriptWords → VerifyWords
 verify_words_of words = record { entry = words.entry; rows = words.rows; cols = words.cols; certificate = words.certificate }
 
 -- the words give this size, an entry that conforms at it and has these strings, and the text of a script
-pub record Prepared (held : Held) (words : ScriptWords) (height width : ℕ) (checked : Strings) (text : List ℕ) : Type 0 where
+pub record Prepared (held : Held) (words : ScriptWords) (height width : ℕ) (checked : CheckedTable) (text : List ℕ) : Type 0 where
   pub given : SizeGiven words.rows.now words.cols.now height width
-  pub entry : CheckedTable
+  pub entry : Content
   pub gives : GivesEntry held words.entry.now entry
   pub conforms : Conforms entry height width
   pub hands_out : HandsOut (held words.certificate.now) entry height width checked

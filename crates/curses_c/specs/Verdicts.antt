@@ -1,7 +1,7 @@
 -- What the calls on certificates answer.
 use Rattle.std.specs.Prelude.{ℕ, ℤ, pos, nat_lt, ◌≡◌, ◌⊎◌, Bool, true, false, List, [], length, take, Result, Ok, Err}
 use Rattle.ti_caps.specs.Entry.{Content}
-use Rattle.ti_cert.specs.Table.{CheckedTable as Strings}
+use Rattle.ti_cert.specs.Table.{CheckedTable}
 use Rattle.ti_checker.specs.No.{IsNo}
 use Rattle.ti_checker.specs.declared.causes.No.{No}
 use Rattle.ti_verdicts.specs.Refusals.{no_text}
@@ -12,13 +12,13 @@ use Rattle.curses_c.specs.declared.codes.Failure.TheVariants.{NoMemory}
 
 -- the text is the certificate of the entry that the bytes give
 pub record Certifies (bytes name : List ℕ) (rows cols : ℕ) (text : List ℕ) : Type 0 where
-  pub entry : CheckedTable
+  pub entry : Content
   pub gives : Gives bytes name entry
   pub certified : IsCertified entry rows cols text
 
 -- the size or the entry is lacking, or there is a no
 pub record DeniesEntry (bytes name : List ℕ) (rows cols : ℕ) (e : Failure) : Type 0 where
-  pub entry : CheckedTable
+  pub entry : Content
   pub gives : Gives bytes name entry
   pub refused : IsUncertified entry rows cols e
 
@@ -26,14 +26,14 @@ abbrev pub Denies : List ℕ → List ℕ → ℕ → ℕ → Failure → Type 0
 Denies bytes name rows cols e = Lacks rows cols e ⊎ DeniesEntry bytes name rows cols e
 
 -- a no that is so of the entry, and its words
-pub record IsReason (entry : CheckedTable) (rows cols : ℕ) (words : List ℕ) : Type 0 where
+pub record IsReason (entry : Content) (rows cols : ℕ) (words : List ℕ) : Type 0 where
   pub refusal : No
   pub is : IsNo entry rows cols refusal
   pub says : words ≡ no_text refusal
 
 -- without a no there are no words
 pub record Reasons (bytes name : List ℕ) (rows cols : ℕ) (words : List ℕ) : Type 0 where
-  pub entry : CheckedTable
+  pub entry : Content
   pub gives : Gives bytes name entry
   pub reason : (words ≡ []) ⊎ IsReason entry rows cols words
 
@@ -61,9 +61,9 @@ Answers Some Fails old new needed code =
 
 -- the entry conforms, and sends the strings of a verified certificate
 pub record IsVerified (bytes name : List ℕ) (rows cols : ℕ) : Type 0 where
-  pub entry : CheckedTable
+  pub entry : Content
   pub gives : Gives bytes name entry
-  pub checked : Strings
+  pub checked : CheckedTable
   pub shown : IsShown entry rows cols checked
 
 abbrev pub Verifies : List ℕ → List ℕ → ℕ → ℕ → ℤ → Type 0

@@ -2,7 +2,7 @@
 use Rattle.std.specs.Prelude.{◌≡◌, ◌⊎◌, ℕ, List, Option, IfSome, codes}
 use Rattle.ti_caps.specs.Entry.{Content, string_at}
 use Rattle.ti_conforms.specs.Entries.{EntryAgrees, acsc}
-use Rattle.ti_cert.specs.Table.{CheckedTable as Strings, table_of}
+use Rattle.ti_cert.specs.Table.{CheckedTable, table_of}
 use Rattle.ti_cert.specs.Disagreements.{IsAgreeRefused}
 use Rattle.ti_cert.specs.Texts.{IsCertRefused, IsTableOf}
 use Rattle.ti_cert.specs.declared.faults.VerifyFault.{VerifyFault}
@@ -19,7 +19,7 @@ use Rattle.ti_requests.specs.declared.request.VerifyWords.{VerifyWords}
 
 -- The strings that are handed out are for this size, and just what the entry sends; and the bytes of the certificate,
 -- where they are known, are a certificate of these strings.
-pub record HandsOut (known : Option (List ℕ)) (entry : CheckedTable) (height width : ℕ) (checked : Strings) : Type 0 where
+pub record HandsOut (known : Option (List ℕ)) (entry : Content) (height width : ℕ) (checked : CheckedTable) : Type 0 where
   pub rows : checked.known.strings.rows ≡ height
   pub cols : checked.known.strings.cols ≡ width
   pub sends : EntryAgrees height width entry (table_of checked).line_of
@@ -31,10 +31,10 @@ pub record GivesConforming (held : Held) (words : VerifyWords) : Type 0 where
   pub height : ℕ
   pub width : ℕ
   pub given : SizeGiven words.rows.now words.cols.now height width
-  pub entry : CheckedTable
+  pub entry : Content
   pub gives : GivesEntry held words.entry.now entry
   pub conforms : Conforms entry height width
-  pub checked : Strings
+  pub checked : CheckedTable
   pub hands_out : HandsOut (held words.certificate.now) entry height width checked
 
 -- the reply is yes
@@ -43,12 +43,12 @@ pub record IsVerified (held : Held) (words : VerifyWords) (reply : Reply) : Type
   pub says : IsText (codes "yes\n") reply
 
 -- it is the first fault of the text, or says how its certificate differs from the entry
-pub record IsFaultOf (height width : ℕ) (entry : CheckedTable) (text : List ℕ) (fault : VerifyFault) : Type 0 where
+pub record IsFaultOf (height width : ℕ) (entry : Content) (text : List ℕ) (fault : VerifyFault) : Type 0 where
   pub first : IsCertRefused height width text ⊥ fault
   pub differs : IsAgreeRefused height width text entry fault
 
 -- the certificate at a path can't be had, or has a fault, which is that of its bytes where they are known
-abbrev pub LacksCertificate : Option (List ℕ) → ℕ → ℕ → CheckedTable → List ℕ → Failure → Type 0
+abbrev pub LacksCertificate : Option (List ℕ) → ℕ → ℕ → Content → List ℕ → Failure → Type 0
 LacksCertificate known height width entry path failure =
     IsFileFailure path failure ⊎ ((fault : VerifyFault) × IfSome known (λ text. IsFaultOf height width entry text fault) × TellsFault path fault failure)
 
@@ -61,7 +61,7 @@ pub record FailsAtCertificate (held : Held) (words : VerifyWords) (failure : Fai
   pub height : ℕ
   pub width : ℕ
   pub given : SizeGiven words.rows.now words.cols.now height width
-  pub entry : CheckedTable
+  pub entry : Content
   pub gives : GivesEntry held words.entry.now entry
   pub lacks : LacksCertificate (held words.certificate.now) height width entry words.certificate.now failure
 
