@@ -209,6 +209,19 @@ def faults(crate, sources):
     return [f"{crate}: {fault}" for fault in found]
 
 
+def top_faults():
+    """Where the README of the top folder is too long."""
+    text = read(f"{TOP}/README.md")
+    if len(text.splitlines()) > 100:
+        yield f"README.md: it has {len(text.splitlines())} lines, and not at most 100"
+    for table in re.findall(r"(?:^\|.*\n)+", text, re.M):
+        body = rows(table)[1:]
+        if len(body) > 9:
+            yield f"README.md: a table has {len(body)} rows, and not at most 9"
+        for cell in (cell for row in body for cell in row if len(cell.split()) > MOST_WORDS):
+            yield f"README.md: a cell has {len(cell.split())} words: {cell[:60]}.."
+
+
 # ---- what else it does
 
 
@@ -253,7 +266,7 @@ def main():
     if sys.argv[1:2] == ["--rows"]:
         return print_rows(sys.argv[2])
     crates, sources = listed(), words_of_sources()
-    found = [fault for crate in sys.argv[1:] or crates for fault in faults(crate, sources)]
+    found = [*top_faults(), *(fault for crate in sys.argv[1:] or crates for fault in faults(crate, sources))]
     if found:
         sys.exit("readmes: " + "\nreadmes: ".join(found))
     print(f"readmes: {len(crates)} READMEs have the form, and name what their crates export with its clauses")
