@@ -3,7 +3,10 @@
 readmes.py                    compares all READMEs with the sources; status 1 if one differs
 readmes.py --callers FOLDER   writes the READMEs' callers into a folder, as modules of a crate, and names the modules
 readmes.py --rows CRATE       prints the table's rows without their words, to begin a README with
-"""
+
+A row of the table has calls or types (a type before `::` is meant for the names after it too), the names of their clauses,
+and what these say. A call may have several rows; together they name just its clauses: those of `ensures`, and after the word
+"requires" those of `requires`; "unnamed" is one without a name. A row `from CRATE` lists what is passed on."""
 
 import os
 import re
