@@ -185,19 +185,23 @@ def table_faults(part, crate):
 
 
 def word_faults(text, sources):
-    """The names in the tables of a README that no source has."""
-    code = " ".join(re.findall(r"`([^`]+)`", " ".join(" ".join(row) for row in rows(text))))
-    names = {name for name in re.findall(r"\b[A-Za-z]\w+\b", code) if "_" in name or re.match(r"[A-Z]\w*[a-z]", name)}
-    yield from (f"it names {name}, which no source has" for name in sorted(names - sources))
+    """The names in a README's code that no source has; names of files and programs in other languages are left out."""
+    prose = re.sub(r"^```.*?^```", "", text, flags=re.M | re.S)
+    code = [part for part in re.findall(r"`([^`]+)`", prose) if not re.search(r"/|\.(sh|py|txt)$", part)]
+    names = {name for part in code for name in re.findall(r"\b[A-Za-z]\w+\b", part)}
+    names = {name for name in names if "_" in name.strip("_") or re.match(r"[A-Z]\w*[a-z]", name)}
+    gone = {name for name in names - sources if not (name.endswith("_") and any(it.startswith(name) for it in sources))}
+    yield from (f"it names {name}, which no source has" for name in sorted(gone))
 
 
 def words_of_sources():
-    """All words of the crates' sources and specifications, and the names of the crates."""
+    """All words of the crates' sources, specifications and proofs, and the names of the crates."""
     found = set(listed())
     for crate in listed():
-        for folder, ending in (("src", ".rt"), ("specs", ".antt")):
-            for name in files_of(crate, folder, ending):
-                found |= {name} | set(re.findall(r"\w+", read(f"{CRATES}/{crate}/{folder}/{name}{ending}")))
+        for folder in ("src", "specs", "proofs"):
+            for at, _, names in os.walk(f"{CRATES}/{crate}/{folder}"):
+                for name in names:
+                    found |= {name.split(".")[0]} | set(re.findall(r"\w+", read(f"{at}/{name}")))
     return found
 
 
