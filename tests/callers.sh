@@ -26,5 +26,7 @@ if command -v cc >/dev/null 2>&1; then
     sed -n '/^```c$/,/^```$/p' crates/curses_c/README.md | grep -v '^```' >"$work/caller.c"
     cc -std=c99 -Wall -Wextra -Werror -fsyntax-only -Iinclude "$work/caller.c"
     echo "callers: the caller in C compiles"
+else
+    echo "callers: the caller in C is skipped, since cc is missing"
 fi
 echo "callers: the callers of $(wc -l <"$work/names") READMEs compile"
