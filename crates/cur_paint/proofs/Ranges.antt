@@ -1,6 +1,7 @@
 -- A line that differs only within some of its columns.
-use Rattle.std.proofs.Common.{◌≡◌, ℕ, ◌+◌, ◌-◌, ◌<◌, ◌≤◌, ◌==◌, ◌&&◌, Bool, true, false, zero, suc, if◌then◌else◌, refl, ap, subst, ◌∙◌, arith}
+use Rattle.std.proofs.Common.{◌≡◌, ℕ, ◌+◌, ◌-◌, ◌<◌, ◌≤◌, inl, inr, ◌==◌, ◌&&◌, Bool, true, false, zero, suc, if◌then◌else◌, refl, ap, subst, ◌∙◌, arith}
 use Rattle.std.proofs.lemmas.Bool.Decides.{nat_tests}
+use Rattle.std.proofs.lemmas.Bool.{cases_lt}
 use Rattle.cur_looks.specs.Inks.{alike, same}
 use Rattle.cur_looks.specs.declared.inks.Ink.{Ink}
 use Rattle.cur_looks.proofs.Sameness.{brush_known}
@@ -54,3 +55,10 @@ moved_same between x g new i from end cols m h = record {
   before = λ j lt. ap (λ (f : ℕ → ℕ → Ink). f i j) m.is ∙ h.before j lt;
   after = λ j le lt. ap (λ (f : ℕ → ℕ → Ink). f i j) m.is ∙ h.after j le lt;
 }
+
+-- no column of a line may differ
+pub all_same : (old new : ℕ → ℕ → Ink) (i from end cols : ℕ) → IsSameOutside old new i from end cols → from ≡ end → (k : ℕ) → k < cols → old i k ≡ new i k
+all_same old new i from end cols h e k lt = elim (cases_lt k from) [
+  | inl less ↦ h.before k less
+  | inr more ↦ h.after k (omega (arith, e, more)) lt
+]
