@@ -24,7 +24,7 @@ use Rattle.ti_checker.specs.declared.causes.No.{No}
 use Rattle.ti_checker.proofs.Walks.{same_string}
 use Rattle.ti_faults.specs.AllFaults.{AreAllFaults, NoFault, Faulty, or_one}
 use Rattle.ti_faults.specs.RowFaults.{CapStands, IsCapFault, OfCap, Stands, Fails, OfCaps, SendsAllRight}
-use Rattle.ti_remedies.specs.Standard.{as_list, matching, general, candidates}
+use Rattle.ti_remedies.specs.Standard.{as_list, where_so, matching, general, candidates}
 use Rattle.ti_remedies.specs.Remedies.{with_string, may_stay, IsJudged, IsFirstAccepted, IsRemedy, OfChecked, Unchecked, AtFault}
 
 -- ---- the changed entry
@@ -138,10 +138,6 @@ faults_judged entry rows cols before row string changed faults false is there ch
 
 -- ---- the first that is accepted
 
-pub found_none : (entry : Content) (rows cols : ℕ) (before : List No) (row : Row) (string : List ℕ) (answer : Bool) → answer ≡ false → IsJudged entry rows cols before row string answer → IsFirstAccepted entry rows cols before row (string ∷ []) None
-found_none entry rows cols before row string true is h = absurd (false≢true (sym is))
-found_none entry rows cols before row string false is h = inr (h, refl)
-
 none_passes : (entry : Content) (rows cols : ℕ) (before : List No) (row : Row) (first other : Option (List ℕ)) (found : Option (List ℕ)) → IsFirstAccepted entry rows cols before row (as_list first) None → IsFirstAccepted entry rows cols before row (as_list other) found → IsFirstAccepted entry rows cols before row (as_list first ++ as_list other) found
 none_passes entry rows cols before row None other found h k = k
 none_passes entry rows cols before row (Some tried) other found (inl h) k = absurd (none-some tried h.1)
@@ -151,9 +147,14 @@ none_passes entry rows cols before row (Some tried) other found (inr h) k = inr 
 abbrev Found : Content → ℕ → ℕ → List No → Row → List (List ℕ) → Option (List ℕ) → Type 0
 Found entry rows cols before row strings found = IsFirstAccepted entry rows cols before row strings found
 
-pub tried_none : (entry : Content) (rows cols : ℕ) (before : List No) (row : Row) (string : List ℕ) (answer : Bool) (given : Option (List ℕ)) → given ≡ Some string → answer ≡ false → IsJudged entry rows cols before row string answer → Found entry rows cols before row (as_list given) None
-tried_none entry rows cols before row string answer given is no_answer h =
-    subst (λ (o : Option (List ℕ)). Found entry rows cols before row (as_list o) None) (sym is) (found_none entry rows cols before row string answer no_answer h)
+judged_first : (entry : Content) (rows cols : ℕ) (before : List No) (row : Row) (string : List ℕ) (answer : Bool) → IsJudged entry rows cols before row string answer → Found entry rows cols before row (string ∷ []) (where_so answer string)
+judged_first entry rows cols before row string true h = inl (h, refl)
+judged_first entry rows cols before row string false h = inr (h, refl)
+
+pub first_tried : (entry : Content) (rows cols : ℕ) (before : List No) (row : Row) (string : List ℕ) (answer : Bool) (given found : Option (List ℕ)) → given ≡ Some string → found ≡ where_so answer string → IsJudged entry rows cols before row string answer → Found entry rows cols before row (as_list given) found
+first_tried entry rows cols before row string answer given found is are h =
+    subst (λ (o : Option (List ℕ)). Found entry rows cols before row (as_list o) found) (sym is)
+    (subst (λ (o : Option (List ℕ)). Found entry rows cols before row (string ∷ []) o) (sym are) (judged_first entry rows cols before row string answer h))
 
 -- the two, one after another
 both_tried : (entry : Content) (rows cols : ℕ) (before : List No) (row : Row) (first other found : Option (List ℕ)) → first ≡ matching entry row → other ≡ general entry row → Found entry rows cols before row (as_list first ++ as_list other) found → Found entry rows cols before row (candidates entry row) found

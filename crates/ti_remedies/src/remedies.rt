@@ -10,7 +10,7 @@ ghost use Rattle.ti_remedies.specs.Standard as standards;
 
 use crate::capabilities::row_of;
 use crate::kinds::names;
-use crate::standard::{general, matching, standard};
+use crate::standard::{general, matching, standard, where_so};
 use std::alloc::{AllocError, Global};
 use ti_caps::{Cap, Entry};
 use ti_checker::No;
@@ -103,11 +103,8 @@ fn tried(
     let Some(bytes) = string else {
         return Ok(None);
     };
-    if is_accepted(alloc, entry, size, before, row, bytes)? {
-        Ok(Some(bytes))
-    } else {
-        Ok(None)
-    }
+    let is_right = is_accepted(alloc, entry, size, before, row, bytes)?;
+    Ok(where_so(is_right, bytes))
 }
 
 /// The first of the candidates for a row that is accepted.

@@ -141,7 +141,7 @@ fn by_sets(
 }
 
 /// A string where this is so.
-fn where_so(is_so: bool, string: &'static [u8]) -> Option<&'static [u8]>
+pub(crate) fn where_so(is_so: bool, string: &'static [u8]) -> Option<&'static [u8]>
     requires { IsTrue (string_fits string.now) }
     ensures value { option_copied result ≡ spec.where_so is_so string.now }
     ensures fits { IfSome result (λ string. IsTrue (string_fits string.now)) }
