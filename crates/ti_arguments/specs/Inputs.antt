@@ -5,7 +5,7 @@ use Rattle.std.specs.Str.{bytes_eq}
 use Rattle.ti_arguments.specs.declared.parser.ParsedLine.{ParsedLine}
 use Rattle.ti_arguments.specs.declared.parser.ParsedLine.TheVariants as answers
 use Rattle.ti_requests.specs.declared.request.Request.{Request}
-use Rattle.ti_requests.specs.declared.request.Request.TheVariants.{Expand, Feed, Tic, Check, Verify, Play, Show, Survey, Print, Common, Neither}
+use Rattle.ti_requests.specs.declared.request.Request.TheVariants.{Expand, Feed, Tic, Check, CheckAll, Verify, Play, Show, Survey, Print, Common, Neither}
 use Rattle.ti_requests.specs.declared.request.ScriptWords.{ScriptWords}
 use denote.Ref.{Bor}
 
@@ -39,6 +39,7 @@ paths_read (Expand words) = []
 paths_read (Feed rows cols file) = file.now ∷ []
 paths_read (Tic entry out) = entry_path entry.now ∷ []
 paths_read (Check words) = entry_path words.entry.now ∷ []
+paths_read (CheckAll words) = entry_path words.entry.now ∷ []
 paths_read (Verify words) = entry_path words.entry.now ∷ words.certificate.now ∷ []
 paths_read (Play words) = script_paths words
 paths_read (Show words) = script_paths words

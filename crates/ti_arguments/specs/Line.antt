@@ -9,9 +9,9 @@ use Rattle.clap.specs.declared.builder.action.ArgAction.TheVariants.{Append, Set
 abbrev pub positional_rule : Text → Rule
 positional_rule id = record (new_rule id) { required = true }
 
--- `--cup`
-abbrev pub cup_rule : Rule
-cup_rule = record (new_rule (codes "cup")) { long = Some (codes "cup"); action = Some SetTrue }
+-- a switch of two dashes and a name
+abbrev pub long_switch_rule : Text → Rule
+long_switch_rule id = record (new_rule id) { long = Some id; action = Some SetTrue }
 
 -- `--out FILE`
 abbrev pub out_rule : Rule
@@ -34,7 +34,7 @@ abbrev pub with_size_rules : App → App
 with_size_rules a = with_rule (with_rule a (positional_rule (codes "ROWS"))) (positional_rule (codes "COLS"))
 
 abbrev pub expand_rules : App
-expand_rules = with_rule (with_size_rules (with_rule (with_rule (new_app (codes "expand")) cup_rule) (positional_rule (codes "STRING")))) params_rule
+expand_rules = with_rule (with_size_rules (with_rule (with_rule (new_app (codes "expand")) (long_switch_rule (codes "cup"))) (positional_rule (codes "STRING")))) params_rule
 
 abbrev pub feed_rules : App
 feed_rules = with_rule (with_size_rules (new_app (codes "feed"))) (positional_rule (codes "FILE"))
@@ -46,7 +46,7 @@ abbrev pub infocmp_rules : App
 infocmp_rules = with_rule (with_rule (with_rule (new_app (codes "infocmp")) (switch_rule (codes "c") 99)) (switch_rule (codes "n") 110)) (several_rule (codes "ENTRY"))
 
 abbrev pub check_rules : App
-check_rules = with_size_rules (with_rule (with_rule (new_app (codes "check")) out_rule) (positional_rule (codes "ENTRY")))
+check_rules = with_size_rules (with_rule (with_rule (with_rule (new_app (codes "check")) (long_switch_rule (codes "all"))) out_rule) (positional_rule (codes "ENTRY")))
 
 abbrev pub verify_rules : App
 verify_rules = with_rule (with_size_rules (with_rule (new_app (codes "verify")) (positional_rule (codes "ENTRY")))) (positional_rule (codes "CERT"))

@@ -12,7 +12,7 @@ use Rattle.ti_arguments.specs.declared.parser.ParsedLine.{ParsedLine}
 use Rattle.ti_arguments.specs.declared.parser.ParsedLine.TheVariants as answers
 use Rattle.ti_requests.specs.declared.request.Request.{Request}
 use Rattle.ti_requests.specs.declared.request.ScriptWords.{ScriptWords}
-use Rattle.ti_requests.specs.declared.request.Request.TheVariants.{Expand, Feed, Tic, Check, Verify, Play, Show, Survey, Print, Common, Neither}
+use Rattle.ti_requests.specs.declared.request.Request.TheVariants.{Expand, Feed, Tic, Check, CheckAll, Verify, Play, Show, Survey, Print, Common, Neither}
 
 -- the word that stands for an argument, if it has one
 abbrev pub word_of : Text → List Row → Text
@@ -46,8 +46,11 @@ AsksFor name rows (Feed height width file) =
     (name ≡ codes "feed") × (height.now ≡ word_of (codes "ROWS") rows) × (width.now ≡ word_of (codes "COLS") rows) × (file.now ≡ word_of (codes "FILE") rows)
 AsksFor name rows (Tic entry out) = (name ≡ codes "tic") × (entry.now ≡ word_of (codes "ENTRY") rows) × (option_map (λ o. o.now) out ≡ first_of (codes "out") rows)
 AsksFor name rows (Check words) =
-    (name ≡ codes "check") × (words.entry.now ≡ word_of (codes "ENTRY") rows) × (words.rows.now ≡ word_of (codes "ROWS") rows) × (words.cols.now ≡ word_of (codes "COLS") rows)
-    × (option_map (λ o. o.now) words.out ≡ first_of (codes "out") rows)
+    (name ≡ codes "check") × (is_on (codes "all") rows ≡ false) × (words.entry.now ≡ word_of (codes "ENTRY") rows) × (words.rows.now ≡ word_of (codes "ROWS") rows)
+    × (words.cols.now ≡ word_of (codes "COLS") rows) × (option_map (λ o. o.now) words.out ≡ first_of (codes "out") rows)
+AsksFor name rows (CheckAll words) =
+    (name ≡ codes "check") × (is_on (codes "all") rows ≡ true) × (first_of (codes "out") rows ≡ None) × (words.entry.now ≡ word_of (codes "ENTRY") rows)
+    × (words.rows.now ≡ word_of (codes "ROWS") rows) × (words.cols.now ≡ word_of (codes "COLS") rows)
 AsksFor name rows (Verify words) =
     (name ≡ codes "verify") × (words.entry.now ≡ word_of (codes "ENTRY") rows) × (words.rows.now ≡ word_of (codes "ROWS") rows) × (words.cols.now ≡ word_of (codes "COLS") rows)
     × (words.certificate.now ≡ word_of (codes "CERT") rows)

@@ -3,7 +3,7 @@
 ghost use Rattle.std.specs.Prelude.{◌≡◌, Some, IfOk, codes, false};
 ghost use Rattle.clap.specs.Words.{app_of, rule_of, with_subcommand};
 ghost use Rattle.clap.specs.declared.builder.command.Command.TheViews.{out-Command};
-ghost use Rattle.ti_arguments.specs.Line.{check_rules, cup_rule, expand_rules, feed_rules, infocmp_rules, line, out_rule, params_rule, play_rules, positional_rule, program, several_rule, show_rules, survey_rules, switch_rule, tic_rules, verify_rules, with_plays, with_script_rules, with_size_rules, with_verdicts};
+ghost use Rattle.ti_arguments.specs.Line.{check_rules, expand_rules, feed_rules, infocmp_rules, line, long_switch_rule, out_rule, params_rule, play_rules, positional_rule, program, several_rule, show_rules, survey_rules, switch_rule, tic_rules, verify_rules, with_plays, with_script_rules, with_size_rules, with_verdicts};
 
 use crate::help;
 use clap::{Arg, ArgAction, Command};
@@ -85,7 +85,11 @@ fn expand_command<'a>(alloc: Global) -> Result<Command<'a>, AllocError>
     let command = Command::new(alloc, "expand")
         .about(help::EXPAND)
         .after_help(help::EXPAND_MORE)
-        .arg(cup_flag(alloc))?
+        .arg(long_switch(
+            alloc,
+            "cup",
+            "Also report whether the string serves as `cup`",
+        ))?
         .arg(positional(
             alloc,
             "STRING",
@@ -159,6 +163,11 @@ fn check_command<'a>(alloc: Global) -> Result<Command<'a>, AllocError>
     let command = Command::new(alloc, "check")
         .about(help::CHECK)
         .after_help(help::CHECK_MORE)
+        .arg(long_switch(
+            alloc,
+            "all",
+            "List all faults of the entry, and write no certificate",
+        ))?
         .arg(out_option(alloc, "Write the certificate to this file"))?
         .arg(entry(alloc))?;
     with_size(alloc, command)
@@ -225,14 +234,14 @@ fn survey_command<'a>(alloc: Global) -> Result<Command<'a>, AllocError>
     ))
 }
 
-fn cup_flag<'a>(alloc: Global) -> Arg<'a>
-    ensures rule { rule_of result ≡ cup_rule }
+fn long_switch<'a>(alloc: Global, name: &'a str, help: &'a str) -> Arg<'a>
+    ensures rule { rule_of result ≡ long_switch_rule name.entry.now }
     ensures local { result.global ≡ false }
 {
-    Arg::new(alloc, "cup")
-        .long("cup")
+    Arg::new(alloc, name)
+        .long(name)
         .action(ArgAction::SetTrue)
-        .help("Also report whether the string serves as `cup`")
+        .help(help)
 }
 
 fn out_option<'a>(alloc: Global, help: &'a str) -> Arg<'a>

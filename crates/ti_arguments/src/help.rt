@@ -154,6 +154,12 @@ If there is none, standard error has a line `refused: no CAP P..: CAUSE` with a 
 first in the order of a certificate's lines. The lines below it say what the string sends for these parameters, from
 which state of the terminal it goes wrong, what was wanted there, and what happens instead.
 
+With --all there is no certificate. The output is all that is wrong: a line `no CAP P..: CAUSE` for what the entry as a
+whole has or lacks (FlagOut, Absent, AcsByte), and one for each other capability that goes wrong, with the first of its
+parameters for which it does; where there is none of these, what is wrong with all strings together. Below each are the
+lines that explain it, after two spaces. The last line is the number of faults, and then how many have which CAUSE. The
+first of them also stands behind `refused: ` on standard error. If nothing is wrong, the output is `yes`.
+
 A certificate has at most 67108864 bytes. The limits of a source file and of a compiled file are those of
 `ticurses tic --help`.
 
@@ -183,7 +189,8 @@ KIND is one of:
 and for the entry each KIND of `ticurses tic --help`.
 
 Example:
-  ticurses check my.ti:myterm 24 80 --out myterm.cert";
+  ticurses check my.ti:myterm 24 80 --out myterm.cert
+  ticurses check --all my.ti:myterm 24 80";
 
 /// `verify` in one line.
 pub const VERIFY: &str =

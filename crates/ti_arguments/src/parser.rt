@@ -12,7 +12,9 @@ use crate::inputs::judge_input;
 use clap::ArgMatches;
 use clap::error::{Error, ErrorKind};
 use std::alloc::{AllocError, Global};
-use ti_requests::{CheckWords, ExpandWords, Request, ScriptWords, SurveyWords, VerifyWords};
+use ti_requests::{
+    CheckWords, ExpandWords, FaultsWords, Request, ScriptWords, SurveyWords, VerifyWords,
+};
 
 /// What a line that can be understood asks for.
 #[derive(Debug, Drop)]
@@ -78,7 +80,7 @@ fn request_of<'a>(alloc: Global, matches: &ArgMatches<'a>) -> Result<Request<'a>
         Some(("feed", words)) => Ok(feed_request(words)),
         Some(("tic", words)) => Ok(tic_request(words)),
         Some(("infocmp", words)) => infocmp_request(alloc, words),
-        Some(("check", words)) => Ok(check_request(words)),
+        Some(("check", words)) => check_request(alloc, words),
         Some(("verify", words)) => Ok(verify_request(words)),
         Some(("play", words)) => Ok(Request::Play(scripted(words))),
         Some(("show", words)) => Ok(Request::Show(scripted(words))),
@@ -120,15 +122,30 @@ fn tic_request<'a>(words: &ArgMatches<'a>) -> Request<'a>
     }
 }
 
-fn check_request<'a>(words: &ArgMatches<'a>) -> Request<'a>
-    ensures { AsksFor (codes "check") (rows_of (found_of words.now)) result }
+/// With `--all` no certificate is written.
+fn check_request<'a>(alloc: Global, words: &ArgMatches<'a>) -> Result<Request<'a>, UsageFault>
+    ensures { IfOk result (λ request. AsksFor (codes "check") (rows_of (found_of words.now)) request) }
 {
-    Request::Check(CheckWords {
-        entry: word(words, "ENTRY"),
-        rows: word(words, "ROWS"),
-        cols: word(words, "COLS"),
-        out: first_word(words, "out"),
-    })
+    let all = is_on(words, "all");
+    let out = first_word(words, "out");
+    match (all, out) {
+        (false, out) => Ok(Request::Check(CheckWords {
+            entry: word(words, "ENTRY"),
+            rows: word(words, "ROWS"),
+            cols: word(words, "COLS"),
+            out,
+        })),
+        (true, None) => Ok(Request::CheckAll(FaultsWords {
+            entry: word(words, "ENTRY"),
+            rows: word(words, "ROWS"),
+            cols: word(words, "COLS"),
+        })),
+        (true, Some(_)) => Err(UsageFault::Usage(String::from_str(
+            alloc,
+            "error: check writes a certificate, or with --all lists the faults: --out is not for --all\n\n\
+             For more information, try '--help'.\n",
+        )?)),
+    }
 }
 
 fn verify_request<'a>(words: &ArgMatches<'a>) -> Request<'a>

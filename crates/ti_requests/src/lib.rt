@@ -3,4 +3,6 @@
 
 mod request;
 
-pub use request::{CheckWords, ExpandWords, Request, ScriptWords, SurveyWords, VerifyWords};
+pub use request::{
+    CheckWords, ExpandWords, FaultsWords, Request, ScriptWords, SurveyWords, VerifyWords,
+};

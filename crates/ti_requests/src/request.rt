@@ -28,6 +28,17 @@ pub struct CheckWords<'a> {
     pub out: Option<&'a str>,
 }
 
+/// The words of `check --all`.
+#[derive(Clone, Copy, Debug)]
+pub struct FaultsWords<'a> {
+    /// The entry.
+    pub entry: &'a str,
+    /// The terminal's rows, a decimal number.
+    pub rows: &'a str,
+    /// The terminal's columns, a decimal number.
+    pub cols: &'a str,
+}
+
 /// The words of `verify`.
 #[derive(Clone, Copy, Debug)]
 pub struct VerifyWords<'a> {
@@ -90,6 +101,8 @@ pub enum Request<'a> {
     },
     /// `check ENTRY ROWS COLS [--out FILE]`: write the certificate of an entry.
     Check(CheckWords<'a>),
+    /// `check --all ENTRY ROWS COLS`: list all faults of an entry.
+    CheckAll(FaultsWords<'a>),
     /// `verify ENTRY ROWS COLS CERT`: verify the certificate of an entry.
     Verify(VerifyWords<'a>),
     /// `play ENTRY ROWS COLS CERT SCRIPT`: play a script of curses calls.

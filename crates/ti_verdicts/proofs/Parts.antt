@@ -2,7 +2,7 @@
 use Rattle.std.proofs.Common.{◌≡◌, ◌<◌, ℕ, zero, suc, ◌+◌, List, [], ◌∷◌, ◌++◌, length, take, get_or, Option, Some, None, Result, refl, sym, ap, subst, ◌∙◌, inl, inr, append_assoc, add-one, arith}
 use Rattle.std.specs.List.{range_with_len}
 use Rattle.std.specs.Prelude.{slice_get}
-use Rattle.std.proofs.lemmas.List.{append-nil}
+use Rattle.std.proofs.lemmas.List.{append-nil, take_more}
 use Rattle.ti_caps.specs.Entry.{Content}
 use Rattle.ti_source.specs.declared.types.RawEntry.{RawEntry}
 use Rattle.ti_commands.specs.Findings.{ResolvesAt}
@@ -30,6 +30,12 @@ parts_as : {X : Type 0} (P Q : X → List ℕ → Type 0) → ((x : X) (own : Li
 unfolding HasParts
 parts_as P Q f [] text h = h
 parts_as P Q f (x ∷ xs) text h = (h.0, h.1, h.2, f x h.0 h.3, parts_as P Q f xs h.1 h.4)
+
+-- one more part, of the next item of a list
+pub parts_next : {X : Type 0} (P : X → List ℕ → Type 0) (xs : List X) (n : ℕ) (x : X) (text own more : List ℕ) → n < length xs → x ≡ get_or xs n x → more ≡ text ++ own → HasParts P (take n xs) text → P x own → HasParts P (take (n + 1) xs) more
+parts_next P xs n x text own more l is spelled h p =
+    subst (λ (items : List _). HasParts P items more) (sym (take_more xs n x l))
+    (subst (λ (t : List ℕ). HasParts P (take n xs ++ get_or xs n x ∷ []) t) (sym spelled) (parts_end P (take n xs) (get_or xs n x) text own h (subst (λ (y : _). P y own) is p)))
 
 range_more : (from n : ℕ) → range_with_len from (suc n) ≡ range_with_len from n ++ (from + n) ∷ []
 range_more from zero = ap (λ (k : ℕ). k ∷ []) (omega arith)

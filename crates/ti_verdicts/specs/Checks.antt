@@ -93,7 +93,9 @@ pub record IsChecked (certifies : Content → ℕ → ℕ → List ℕ → Type 
   pub notes : TellsNotes entry reply.notes.items
   pub ends : DeliversSome (certifies entry height width) words.out before after reply ⊎ Denies (refuses entry height width) before after reply
 
--- the words of the size come first, then the entry; memory can run out at any time
+-- Of the words for rows, columns and an entry those of the size come first; memory can run out at any time.
+abbrev pub FailsForEntry : Held → List ℕ → List ℕ → List ℕ → Failure → Type 0
+FailsForEntry held rows cols word failure = LacksSize rows cols failure ⊎ FailsAtEntry held rows cols word failure ⊎ (failure ≡ NoMemory)
+
 abbrev pub FailsToCheck : Held → CheckWords → Failure → Type 0
-FailsToCheck held words failure =
-    LacksSize words.rows.now words.cols.now failure ⊎ FailsAtEntry held words.rows.now words.cols.now words.entry.now failure ⊎ (failure ≡ NoMemory)
+FailsToCheck held words failure = FailsForEntry held words.rows.now words.cols.now words.entry.now failure

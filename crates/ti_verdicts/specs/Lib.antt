@@ -4,3 +4,4 @@ pub mod Verifications
 pub mod Checks
 pub mod Lines
 pub mod Surveys
+pub mod FaultLists

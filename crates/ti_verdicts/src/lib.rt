@@ -5,7 +5,10 @@ mod asked;
 mod certificates;
 mod certifiers;
 mod checks;
+mod counts;
+mod fault_lists;
 mod faults;
+mod indents;
 mod lines;
 mod reasons;
 mod refusals;
@@ -17,6 +20,7 @@ mod watchers;
 
 pub use certifiers::{Certifier, Checker};
 pub use checks::check_entry;
+pub use fault_lists::check_all;
 pub use refusals::no_words;
 pub use surveys::survey_files;
 pub use verifications::{checked_at, verify_certificate};

@@ -67,7 +67,7 @@ pub fn verdict(words: Result<Vec<u8>, AllocError>) -> Failure
     }
 }
 
-fn cause_name(cause: Cause) -> &'static [u8]
+pub(crate) fn cause_name(cause: Cause) -> &'static [u8]
     ensures { result.now ≡ spec.cause_name cause }
 {
     match cause {

@@ -39,6 +39,7 @@ fn is_entry(request: &Request<'_>, path: &str) -> bool {
     let named = match request {
         Request::Tic { entry, .. } | Request::Print { entry } => *entry == path,
         Request::Check(words) => words.entry == path,
+        Request::CheckAll(words) => words.entry == path,
         Request::Verify(words) => words.entry == path,
         Request::Play(words) | Request::Show(words) => words.entry == path,
         Request::Common { first, second } | Request::Neither { first, second } => {

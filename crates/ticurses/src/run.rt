@@ -14,7 +14,7 @@ use ti_commands::{
     expand_string, feed_file, print_entry, report, write_reply, write_text,
 };
 use ti_requests::{CheckWords, Request};
-use ti_verdicts::{Checker, check_entry, survey_files, verify_certificate};
+use ti_verdicts::{Checker, check_all, check_entry, survey_files, verify_certificate};
 use ti_words::Remarks;
 
 /// Does what the `words` after the program's own name ask for: the answer goes to `out`, notes and a
@@ -121,6 +121,7 @@ fn reply_to<F: Files, O: Output, E: Write + IsTerminal>(
         Request::Feed { rows, cols, file } => feed_file(alloc, rows, cols, file, files, remarks),
         Request::Tic { entry, out } => compile_entry(alloc, entry, *out, files, remarks),
         Request::Check(words) => check_counted(alloc, words, files, err, remarks),
+        Request::CheckAll(words) => check_all(alloc, words, files, remarks),
         Request::Verify(words) => verify_certificate(alloc, words, files, remarks),
         Request::Play(words) => {
             play_script(alloc, words, files, out, remarks)?;

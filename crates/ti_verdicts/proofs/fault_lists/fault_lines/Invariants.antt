@@ -1,0 +1,8 @@
+use Rattle.std.proofs.Common.{take}
+use Rattle.ti_verdicts.specs.FaultLists.{HasFaultLines}
+use Rattle.ti_verdicts.specs.Lines.{HasParts}
+use Rattle.ti_verdicts.proofs.fault_lists.fault_lines.Given as goal
+
+-- the faults before this one have their lines
+abbrev pub invariant-loop-no : goal.invariant-loop-no
+invariant-loop-no l = HasParts HasFaultLines (take l.no-index l.nos) l.lines.items

@@ -1,0 +1,86 @@
+-- What `check --all` answers: all faults of an entry, and how many there are.
+use Rattle.std.specs.Prelude.{◌≡◌, ◌==◌, ℕ, List, [], ◌∷◌, ◌++◌, Option, Some, None, if◌then◌else◌, codes, length}
+use Rattle.std.specs.Fmt.{decimal}
+use Rattle.std.specs.List.{count_by, flat_map}
+use Rattle.std.specs.Str.{bytes_eq}
+use Rattle.ti_caps.specs.Entry.{Content}
+use Rattle.ti_checker.specs.declared.causes.No.{No}
+use Rattle.ti_commands.specs.Contents.{Held}
+use Rattle.ti_commands.specs.Replies.{GivesEntry}
+use Rattle.ti_commands.specs.Sizes.{SizeGiven}
+use Rattle.ti_commands.specs.declared.failure.Failure.{Failure}
+use Rattle.ti_commands.specs.declared.failure.Reply.{Reply}
+use Rattle.ti_faults.specs.AllFaults.{AreAllFaults}
+use Rattle.ti_requests.specs.declared.request.FaultsWords.{FaultsWords}
+use Rattle.ti_verdicts.specs.Checks.{HasText, TellsNotes}
+use Rattle.ti_verdicts.specs.Lines.{HasParts}
+use Rattle.ti_verdicts.specs.Refusals.{TellsNo, cause_name, no_text}
+
+-- ---- a fault
+
+-- a byte of lines that come after two spaces
+abbrev pub indented_byte : ℕ → List ℕ
+indented_byte b = if b == 10 then codes "\n  " else b ∷ []
+
+-- the lines of a text, each after two spaces; of an empty one there is none
+abbrev pub indented : List ℕ → List ℕ
+indented [] = []
+indented (b ∷ rest) = codes "  " ++ (flat_map indented_byte (b ∷ rest) ++ 10 ∷ [])
+
+-- its line, and below it others in free words, each of which begins with two spaces
+abbrev pub HasFaultLines : No → List ℕ → Type 0
+HasFaultLines refusal lines = (further : List ℕ) × (lines ≡ no_text refusal ++ 10 ∷ indented further)
+
+-- ---- how many
+
+unfoldable pub cause_names : List (List ℕ)
+cause_names =
+    codes "FlagOut" ∷ codes "Absent" ∷ codes "AcsByte" ∷ codes "Underflow" ∷ codes "BadNest" ∷ codes "BadCode" ∷ codes "Overflow" ∷ codes "BadChar" ∷ codes "WrongKind" ∷ codes "StaticRead"
+    ∷ codes "Unfinished" ∷ codes "Stuck" ∷ codes "NotTame" ∷ codes "BadLook" ∷ codes "WrongEffect" ∷ codes "NotShown" ∷ codes "TooLong" ∷ codes "NoResync" ∷ []
+
+-- how many have a cause of this name
+abbrev pub count_of : List No → List ℕ → ℕ
+count_of nos name = count_by (λ refusal. bytes_eq (cause_name refusal.cause) name) nos
+
+-- `, NAME N`, where there is one
+abbrev pub count_part : List No → List ℕ → List ℕ
+count_part nos name = if count_of nos name == 0 then [] else codes ", " ++ (name ++ (codes " " ++ decimal (count_of nos name)))
+
+-- `total N`, and how many have which cause
+abbrev pub counts_line : List No → List ℕ
+counts_line nos = codes "total " ++ (decimal (length nos) ++ (flat_map (count_part nos) cause_names ++ 10 ∷ []))
+
+-- ---- the reply
+
+-- the lines of each fault, in their order, and the line of counts
+pub record IsFaultsText (nos : List No) (text : List ℕ) : Type 0 where
+  pub lines : List ℕ
+  pub each : HasParts HasFaultLines nos lines
+  pub says : text ≡ lines ++ counts_line nos
+
+abbrev pub EndsAsNo : No → Option Failure → Type 0
+EndsAsNo refusal (Some failure) = TellsNo refusal failure
+EndsAsNo refusal None = ⊥
+
+-- the reply lists these faults, and fails as the first does
+pub record HasFaults (first : No) (others : List No) (reply : Reply) : Type 0 where
+  pub text : IsFaultsText (first ∷ others) reply.text.items
+  pub ends : EndsAsNo first reply.failure
+
+-- without a fault it is `yes`
+abbrev pub TellsFaults : List No → Reply → Type 0
+TellsFaults [] reply = HasText (codes "yes\n") reply
+TellsFaults (first ∷ others) reply = HasFaults first others reply
+
+-- The entry that the word gives, at the size that the words give: the reply has its notes, and lists all its faults, or
+-- says that there is none.
+pub record ListsFaults (held : Held) (words : FaultsWords) (reply : Reply) : Type 0 where
+  pub height : ℕ
+  pub width : ℕ
+  pub given : SizeGiven words.rows.now words.cols.now height width
+  pub entry : Content
+  pub gives : GivesEntry held words.entry.now entry
+  pub notes : TellsNotes entry reply.notes.items
+  pub nos : List No
+  pub all : AreAllFaults entry height width nos
+  pub tells : TellsFaults nos reply
