@@ -1,5 +1,5 @@
 -- (Serves the code alone.) From the screen that was shown last to the one to be shown.
-use Rattle.std.specs.Prelude.{ℕ, ◌≡◌, ◌<◌, Bool, true, Option}
+use Rattle.std.specs.Prelude.{ℕ, ◌≡◌, ◌<◌, ◌≤◌, Bool, true, Option}
 use Rattle.cur_drawing.specs.Cells.{pair_count}
 use Rattle.cur_windows.specs.VirtualScreen.{Screen, colors_at}
 use Rattle.ti_conforms.specs.Certified.{Table}
@@ -10,3 +10,8 @@ pub record IsShift (t : Table) (partners : ℕ → Option ℕ) (v w : Screen) (s
   pub before : old ≡ ink_at t partners v
   pub after : new ≡ ink_at t partners w
   pub pairs : same_pairs ≡ true → (p : ℕ) → p < pair_count → colors_at v p ≡ colors_at w p
+
+-- a line of the one is that of the other before a column, and from another one on
+pub record AreAlikeOutside (old new : ℕ → ℕ → Ink) (i k from end cols : ℕ) : Type 0 where
+  pub before : (j : ℕ) → j < from → old i j ≡ new k j
+  pub after : (j : ℕ) → end ≤ j → j < cols → old i j ≡ new k j

@@ -1,12 +1,14 @@
 //! Where the virtual screen differs from what was shown last.
 ghost use Rattle.std.specs.Prelude.{◌≡◌, ◌<◌, ◌≤◌, ℕ, true, length};
 ghost use Rattle.cur_drawing.specs.Differences.{AreEqualIn};
+ghost use Rattle.cur_looks.specs.declared.inks.Ink.{Ink};
 ghost use Rattle.cur_windows.specs.VirtualScreen.{colors_at};
+ghost use Rattle.cur_update.specs.Shift.{AreAlikeOutside, IsShift};
 
 use crate::scrolls::{found_scroll, scroll_of};
 use cur_drawing::{Cell, PAIRS, first_diff, last_diff};
 use cur_paint::{Changes, Columns};
-use cur_scrolls::Scroll;
+use cur_scrolls::{Scroll, line_before};
 use cur_windows::Virtual;
 use ti_conforms::Certificate;
 
@@ -30,15 +32,7 @@ impl<'a, C: Certificate> Changes for Shift<'a, C> {
         s.shown.now s.screen.now s.same_pairs old new };
 
     fn columns(&self, row: usize, cols: usize) -> Columns {
-        let (old_rows, old_cols) = self.shown.size();
-        let (new_rows, new_cols) = self.screen.size();
-        let is_same_size = old_rows == new_rows
-            && old_cols == new_cols
-            && cols == new_cols as usize;
-        if !(self.same_pairs && is_same_size && row < new_rows as usize) {
-            return Columns { from: 0, end: cols };
-        }
-        changed_columns(self.shown.row(row as u16), self.screen.row(row as u16))
+        self.columns_between(row, row, cols)
     }
 
     fn scroll(&self) -> Option<Scroll> {
@@ -46,6 +40,36 @@ impl<'a, C: Certificate> Changes for Shift<'a, C> {
             Some(hint) => scroll_of(hint),
             None => found_scroll(self.shown, self.screen),
         }
+    }
+
+    fn columns_after(&self, scroll: Scroll, row: usize, cols: usize) -> Columns {
+        match line_before(scroll, row) {
+            Some(line) => self.columns_between(line, row, cols),
+            None => Columns { from: 0, end: cols },
+        }
+    }
+}
+
+impl<'a, C: Certificate> Shift<'a, C> {
+    /// The columns in which the line `to` of the screen may be printed otherwise than the line `from` of the one that was
+    /// shown last.
+    fn columns_between(&self, from: usize, to: usize, cols: usize) -> Columns
+        ensures order { result.from ≤ result.end }
+        ensures within { result.end ≤ cols }
+        ensures same { (old new : ℕ → ℕ → Ink) → IsShift (C.table self.now.checked.now) (C.partners self.now.checked.now)
+            self.now.shown.now self.now.screen.now self.now.same_pairs old new
+            → AreAlikeOutside old new from to result.from result.end cols }
+    {
+        let (old_rows, old_cols) = self.shown.size();
+        let (new_rows, new_cols) = self.screen.size();
+        let is_same_size = old_rows == new_rows
+            && old_cols == new_cols
+            && cols == new_cols as usize;
+        let rows = new_rows as usize;
+        if !(self.same_pairs && is_same_size && from < rows && to < rows) {
+            return Columns { from: 0, end: cols };
+        }
+        changed_columns(self.shown.row(from as u16), self.screen.row(to as u16))
     }
 }
 
