@@ -10,6 +10,7 @@ use crate::counts::counts_line;
 use crate::indents::indented;
 use crate::reasons::explain_no;
 use crate::refusals::{no_failure, no_words};
+use crate::remedies::{note_another_kind, suggest};
 use std::alloc::{AllocError, Global};
 use ti_caps::Entry;
 use ti_checker::No;
@@ -38,6 +39,7 @@ pub fn check_all<F: Files>(
     let notes = notes_on(alloc, &entry, size)?;
     let nos = faults(alloc, &entry, size)?;
     let reply = reply_of(alloc, &entry, size, notes, nos.as_slice())?;
+    note_another_kind(nos.as_slice(), remarks);
     Ok(reply)
 }
 
@@ -82,20 +84,27 @@ fn fault_lines(alloc: Global, entry: &Entry, size: Size, nos: &[No]) -> Result<V
 {
     let mut lines = Vec::new(alloc);
     for no in nos {
-        let own = own_lines(alloc, entry, size, no)?;
+        let own = own_lines(alloc, entry, size, no, nos)?;
         lines.extend_from_slice(own.as_slice())?;
     }
     Ok(lines)
 }
 
-/// The line of a fault of `entry`, and those that explain it.
-fn own_lines(alloc: Global, entry: &Entry, size: Size, no: &No) -> Result<Vec<u8>, AllocError>
+/// The line of `no`, one of the faults `nos` of `entry`, and those that explain it and say what would be right.
+fn own_lines(
+    alloc: Global,
+    entry: &Entry,
+    size: Size,
+    no: &No,
+    nos: &[No],
+) -> Result<Vec<u8>, AllocError>
     ensures { IfOk result (λ lines. spec.HasFaultLines no.now lines.items) }
 {
     let mut lines = no_words(alloc, no)?;
     lines.push(b'\n')?;
     let mut remarks = Remarks::new(alloc);
     explain_no(alloc, entry, size, no, &mut remarks);
+    suggest(alloc, entry, size, no, nos, &mut remarks)?;
     let further = indented(alloc, without_end(remarks.as_slice()))?;
     lines.extend_from_slice(further.as_slice())?;
     Ok(lines)

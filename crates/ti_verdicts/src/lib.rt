@@ -12,6 +12,7 @@ mod indents;
 mod lines;
 mod reasons;
 mod refusals;
+mod remedies;
 mod starts;
 mod surveys;
 mod tallies;
