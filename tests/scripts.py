@@ -269,13 +269,16 @@ def judge_full(name, whole, files):
 
 
 def judge_scrolled(files):
-    """Random scripts of windows that scroll: the screen that the model has, and margins that are the whole screen."""
-    scripts = [scrolling.Script(seed) for seed in range(RANDOM)]
+    """Scripts of windows that scroll: the screen that the model has, and margins that are the whole screen. Returns how many
+    scroll once."""
+    single = scrolling.each_way()
+    scripts = single + scrolling.randomly(RANDOM)
     for entry in ("vt", "xt"):
         for seed, (script, seen) in enumerate(zip(scripts, fed_screens(files, entry, scripts))):
             wanted = (script.shown, scrolling.next_screen(script.shown))
             if seen != wanted:
-                sys.exit(f"scripts: the random script {seed} on {entry} leaves\n{seen}\nand was to leave\n{wanted}")
+                sys.exit(f"scripts: the script {seed} of scrolls on {entry}, {script.lines}, leaves\n{seen}\nand was to leave\n{wanted}")
+    return len(single)
 
 
 def fed_screens(files, entry, scripts):
@@ -311,11 +314,11 @@ def main():
     judge_lengths(played)
     judge_refused(files)
     judge_closed(files)
-    judge_scrolled(files)
+    single = judge_scrolled(files)
     for name, whole in zip(STORED, played[-len(STORED) :]):
         judge_full(name, whole, files)
     print(f"scripts: {len(runs)} scripts show the screens that are known, {len(STORED)} of them examples; played and fed they show the same")
-    print(f"scripts: {2 * RANDOM} random scripts of windows that scroll leave the screen that is made from their calls, and whole margins")
+    print(f"scripts: {2 * single} scrolls, and {2 * RANDOM} random scripts of windows that scroll, leave the screen that a model has, and whole margins")
     print(f"scripts: {len(REFUSED)} lines are refused, and a closed output is told after the run, as is a disk that is full after each byte of an example")
 
 

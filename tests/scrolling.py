@@ -26,7 +26,7 @@ class Window:
 
 
 class Script:
-    """A script of calls none of which is refused, and the screen that it leaves."""
+    """A script of calls none of which is refused, and the screen that it leaves: the screen's window is full, and shown."""
 
     def __init__(self, seed):
         self.pick = random.Random(seed)
@@ -35,9 +35,20 @@ class Script:
         self.shown, self.lines = list(self.virtual), ["scrollok 0 1", "idlok 0 1"]
         self.fill(0)
         self.refresh(0)
+
+    def add_all(self):
+        """Further calls, and a refresh."""
         for _ in range(self.pick.randrange(10, 40)):
             self.add()
         self.refresh(self.pick.choice(list(self.windows)))
+
+    def scroll_once(self, first, last, by):
+        """A region scrolls, and is shown."""
+        window = self.windows[0]
+        window.first, window.last = first, last
+        self.lines.append(f"setscrreg 0 {first} {last}")
+        self.scroll(0, by)
+        self.refresh(0)
 
     def word(self, length):
         return "".join(self.pick.choice(LETTERS) for _ in range(length))
@@ -121,6 +132,25 @@ class Script:
             self.newwin,
         ]
         pick.choice(kinds)()
+
+
+def randomly(count):
+    """So many random scripts."""
+    scripts = [Script(seed) for seed in range(count)]
+    for script in scripts:
+        script.add_all()
+    return scripts
+
+
+def each_way():
+    """Scrolls up and down by 1, 5, all lines and more, of the screen and of regions at its top, its bottom and within."""
+    scripts = []
+    for first, last in ((0, ROWS - 1), (0, 7), (4, ROWS - 1), (2, 9)):
+        for by in (1, 5, last - first, last - first + 1, ROWS + 3):
+            for way in (by, -by):
+                scripts.append(Script(len(scripts)))
+                scripts[-1].scroll_once(first, last, way)
+    return scripts
 
 
 def stored(lines):
