@@ -133,8 +133,8 @@ impl Owners {
         false
     }
 
-    // What is remembered after this copy to a screen of so many columns: no rows of which another grid has taken the last
-    // line. A copy that is narrower takes none.
+    // What is remembered after this copy to a screen of so many columns: no rows of which another grid has taken the
+    // last line. A copy that is narrower takes none.
     pub(crate) fn take(&mut self, copy: Copy, cols: u16, before: Option<Scroll>) -> Option<Scroll> {
         if copy.area.cols != cols {
             return before;
