@@ -116,8 +116,8 @@ impl Desk {
     }
 
     /// A character at the cursor, which moves on. `BadCell` for a byte above 127, else `BadPair` for a pair above 63,
-    /// else `NoScroll` where the cursor would leave the last line: the cell is written, and the cursor stays. A window that
-    /// is as wide as the screen and scrolls then leaves a hint, as `scroll` does.
+    /// else `NoScroll` where the cursor would leave the last line: the cell is written, and the cursor stays. A window
+    /// that is as wide as the screen and scrolls then leaves a hint, as `scroll` does.
     pub fn addch(&mut self, id: usize, put: Put) -> Result<(), Refusal>
         ensures { spec.step self.new result ≡ spec.on_window self.old id (call.added put) }
     {
@@ -134,8 +134,8 @@ impl Desk {
     /// A string at the cursor. It stops at its first refusal, and what was written before stands. At `NoScroll` the
     /// byte at which it stopped was written too, and the cursor stays in the cell that was written last. The answer
     /// doesn't tell how many bytes that were: of a string without controls, as many as there were cells from the
-    /// cursor to the window's last one. A window that is as wide as the screen and scrolls then leaves a hint, as `scroll`
-    /// does.
+    /// cursor to the window's last one. A window that is as wide as the screen and scrolls then leaves a hint, as
+    /// `scroll` does.
     pub fn addstr(&mut self, id: usize, text: &[u8]) -> Result<(), Refusal>
         ensures { spec.step self.new result ≡ spec.on_window self.old id (call.added_all text.now) }
     {

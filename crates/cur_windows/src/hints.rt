@@ -5,6 +5,7 @@ use crate::desks::Desk;
 use crate::slots::Slot;
 use crate::virtual_screen::Copy;
 use grids::Area;
+use vt_term::MAX_ROWS;
 
 /// The screen's rows from `top` to `bottom` went up by `up` lines, or down where that is negative. Nothing is promised of
 /// what they hold.
@@ -89,13 +90,10 @@ pub(crate) fn after_writing(
     }
 }
 
-/// The most lines of a screen.
-const MOST_LINES: usize = 200;
-
 /// Which grid was last copied over the whole of each line of the screen, by its number.
 #[derive(Clone, Copy)]
 pub(crate) struct Owners {
-    roots: [u8; MOST_LINES],
+    roots: [u8; MAX_ROWS],
 }
 
 // The number of no grid.
@@ -105,19 +103,19 @@ impl Owners {
     // Nothing was copied yet.
     pub(crate) fn none() -> Owners {
         Owners {
-            roots: [NONE; MOST_LINES],
+            roots: [NONE; MAX_ROWS],
         }
     }
 
     // Whether the grid was copied last over the whole of the line.
     pub(crate) fn has(&self, row: u16, root: u8) -> bool {
-        (row as usize) < MOST_LINES && self.roots[row as usize] == root
+        (row as usize) < MAX_ROWS && self.roots[row as usize] == root
     }
 
     // The grid is copied over the whole of the area's lines.
     fn cover(&mut self, area: Area, root: u8) {
-        let top = (area.top as usize).min(MOST_LINES);
-        let end = (top + area.rows as usize).min(MOST_LINES);
+        let top = (area.top as usize).min(MAX_ROWS);
+        let end = (top + area.rows as usize).min(MAX_ROWS);
         for row in top..end {
             self.roots[row] = root;
         }
@@ -133,8 +131,8 @@ impl Owners {
         false
     }
 
-    // What is remembered after this copy to a screen of so many columns: no rows of which another grid has taken the last
-    // line. A copy that is narrower takes none.
+    // What is remembered after this copy to a screen of so many columns: no rows of which another grid has taken the
+    // last line. A copy that is narrower takes none.
     pub(crate) fn take(&mut self, copy: Copy, cols: u16, before: Option<Scroll>) -> Option<Scroll> {
         if copy.area.cols != cols {
             return before;

@@ -201,8 +201,8 @@ impl Virtual {
         self.owners = other.owners;
     }
 
-    // A rectangle gets the cells of a grid from a place on. A scroll of the rows that are remembered, of the same grid, adds
-    // to theirs, and any other one replaces it.
+    // A rectangle gets the cells of a grid from a place on. A scroll of the rows that are remembered, of the same grid,
+    // adds to theirs, and any other one replaces it.
     pub(crate) fn show(&mut self, copy: Copy, grid: &Grid<Cell>, scrolled: Option<Scroll>)
         requires rows { copy.area.top + copy.area.rows ≤ (self.old).rows }
         requires cols { copy.area.left + copy.area.cols ≤ (self.old).cols }
