@@ -1,0 +1,190 @@
+"""All faults of an entry: 60 entries with faults that are planted in a right one, and entries written by hand."""
+
+import random
+import re
+import sys
+
+from trying import PROGRAM, Case, run_cases
+
+ROWS, COLS = 4, 6
+ENTRIES = 60
+
+# an entry whose strings are those of ECMA-48 and of the VT100
+RIGHT = {
+    "bel": "^G", "blink": r"\E[5m", "bold": r"\E[1m", "civis": r"\E[?25l", "clear": r"\E[H\E[2J", "cnorm": r"\E[?25h",
+    "cr": r"\r", "csr": r"\E[%i%p1%d;%p2%dr", "cub": r"\E[%p1%dD", "cub1": r"\b", "cud": r"\E[%p1%dB", "cud1": r"\E[B",
+    "cuf": r"\E[%p1%dC", "cuf1": r"\E[C", "cup": r"\E[%i%p1%d;%p2%dH", "cuu": r"\E[%p1%dA", "cuu1": r"\E[A",
+    "dim": r"\E[2m", "ech": r"\E[%p1%dX", "ed": r"\E[J", "el": r"\E[K", "el1": r"\E[1K", "home": r"\E[H",
+    "hpa": r"\E[%i%p1%dG", "ind": r"\n", "invis": r"\E[8m", "op": r"\E[39;49m", "rev": r"\E[7m", "ri": r"\EM",
+    "setab": r"\E[4%p1%dm", "setaf": r"\E[3%p1%dm", "sgr0": r"\E[m", "smso": r"\E[7m", "smul": r"\E[4m",
+    "vpa": r"\E[%i%p1%dd",
+}  # fmt: skip
+
+# fields with a fault, its parameters, and its cause: by what the standards say of the string, and the rules of the checks
+WRONG = [
+    ("xmc#1", "", "FlagOut"), ("hc", "", "FlagOut"), ("gn", "", "FlagOut"), ("os", "", "FlagOut"),
+    ("clear@", "", "Absent"), ("cup@", "", "Absent"), ("sgr0@", "", "Absent"), (r"acsc=q\001", "", "AcsByte"),
+    # it does something else, from every state: erases before the cursor, goes to another place, shows what is to be hidden
+    (r"el=\E[1K", "", "WrongEffect"), (r"el1=\E[K", "", "WrongEffect"), (r"ed=\E[K", "", "WrongEffect"),
+    (r"home=\E[2;2H", "", "WrongEffect"), (r"cr=\E[H", "", "WrongEffect"), (r"cuf1=\r", "", "WrongEffect"),
+    (r"cud1=\E[H", "", "WrongEffect"), (r"clear=\E[2J", "", "WrongEffect"), (r"bel=\E[H", "", "WrongEffect"),
+    (r"ind=\E[H", "", "WrongEffect"), (r"ri=\E[H", "", "WrongEffect"), (r"civis=\E[?25h", "", "WrongEffect"),
+    (r"cnorm=\E[?25l", "", "WrongEffect"), (r"op=\E[m", "", "WrongEffect"), (r"sgr0=\E[1m", "", "WrongEffect"),
+    # right for the first parameters alone: a number that isn't there is 1, as 0 is; the two are exchanged; the margins are
+    # upside down
+    (r"hpa=\E[%p1%dG", " 1", "WrongEffect"), (r"vpa=\E[%p1%dd", " 1", "WrongEffect"),
+    (r"cup=\E[%i%p2%d;%p1%dH", " 0 1", "WrongEffect"), (r"setaf=\E[3%p2%dm", " 1", "WrongEffect"),
+    (r"csr=\E[%i%p2%d;%p1%dr", " 0 1", "WrongEffect"),
+    # a sequence is left open; a byte of eight bits
+    (r"bel=^G\E[", "", "Unfinished"), (r"civis=\E[?25", "", "Unfinished"), (r"cr=\r\377", "", "Stuck"), (r"home=\200\E[H", "", "Stuck"),
+    # it prints, deletes, erases a whole line or what is before the cursor: no record of an effect has that
+    (r"home=x\E[H", "", "NotTame"), (r"ech=\E[%p1%dP", " 1", "NotTame"), (r"el=\E[2K", "", "NotTame"), (r"ed=\E[1J", "", "NotTame"),
+    # the string itself
+    (r"el=\E[%dK", "", "Underflow"), (r"el1=\E[1%;K", "", "BadNest"), (r"ech=\E[%p1%qX", " 1", "BadCode"),
+    (r"cub=\E[%p1%{2147483647}%+%dD", " 1", "Overflow"), (r"cuf=\E[%p1%{255}%+%cC", " 1", "BadChar"),
+    (r"cuu=\E[%p1%sA", " 1", "WrongKind"), (r"cud=\E[%p1%PA%gB%dB", " 1", "StaticRead"),
+]  # fmt: skip
+
+WHOLE = ["xmc", "hc", "gn", "os", "clear", "cup", "sgr0", "acsc"]
+CAUSES = [
+    "FlagOut", "Absent", "AcsByte", "Underflow", "BadNest", "BadCode", "Overflow", "BadChar", "WrongKind", "StaticRead",
+    "Unfinished", "Stuck", "NotTame", "BadLook", "WrongEffect", "NotShown", "TooLong", "NoResync",
+]  # fmt: skip
+
+
+def fail(text):
+    sys.exit(f"faults: {text}")
+
+
+def named(field):
+    """The capability of a field."""
+    return re.match(r"\w+", field)[0]
+
+
+def order(fault):
+    """What an entry as a whole has or lacks comes first, then the capabilities in the order of their names."""
+    field, _, cause = fault
+    whole = cause in ("FlagOut", "Absent", "AcsByte")
+    return (0, WHOLE.index(named(field)), "") if whole else (1, 0, named(field))
+
+
+def words(fault):
+    field, params, cause = fault
+    return f"no {named(field)}{params}: {cause}"
+
+
+def counts(causes):
+    """The line of counts."""
+    parts = [f", {it} {causes.count(it)}" for it in CAUSES if it in causes]
+    return f"total {len(causes)}{''.join(parts)}"
+
+
+def planted(rng):
+    """From two to six faults, each of another capability."""
+    faults, wanted = {}, rng.randint(2, 6)
+    while len(faults) < wanted:
+        fault = rng.choice(WRONG)
+        faults.setdefault(named(fault[0]), fault)
+    return sorted(faults.values(), key=order)
+
+
+def entry(name, fields):
+    return f"{name}|an entry,\n" + "".join(f"\t{field},\n" for field in fields)
+
+
+def all_entries():
+    """The source of the entries, and the faults of each. Every third has some of them in an entry that it uses."""
+    rng, wanted = random.Random(39), {"right": []}
+    texts = [entry("right", [f"{cap}={value}" for cap, value in RIGHT.items()])]
+    for at in range(ENTRIES):
+        name, faults = f"wrong{at}", planted(rng)
+        used = [it for it in faults if at % 3 == 0 and rng.random() < 0.5]
+        own = [it for it in faults if it not in used]
+        if used:
+            texts.append(entry(f"used{at}", [*(it[0] for it in rng.sample(used, len(used))), "use=right"]))
+            wanted[f"used{at}"] = used
+        texts.append(entry(name, [*(it[0] for it in rng.sample(own, len(own))), f"use=used{at}" if used else "use=right"]))
+        wanted[name] = faults
+    return "".join(texts).encode(), wanted
+
+
+def listing(faults):
+    """What `check --all` is to print of an entry but for the lines that begin with two spaces."""
+    return [*map(words, faults), counts([it[2] for it in faults])] if faults else ["yes"]
+
+
+def is_explained(lines):
+    """Below each fault there is a line that explains it."""
+    return all(below.startswith("  ") for at, below in zip(lines, lines[1:]) if at.startswith("no "))
+
+
+def judge_planted():
+    source, wanted = all_entries()
+    size = [str(ROWS), str(COLS)]
+    cases = [Case(["check", "--all", f"planted:{name}", *size]) for name in wanted]
+    cases += [Case(["check", f"planted:{name}", *size]) for name in wanted]
+    told = run_cases(PROGRAM, cases, {"planted": source})
+    for (name, faults), every, first in zip(wanted.items(), told, told[len(wanted) :]):
+        shown = every.out.decode().splitlines()
+        plain = [line for line in shown if not line.startswith("  ")]
+        if plain != listing(faults) or not is_explained(shown):
+            fail(f"check --all of {name} printed {shown} and was to print {listing(faults)}")
+        refusal = [f"refused: {words(faults[0])}"] if faults else []
+        for it in (every, first):
+            refused = [line for line in it.err.decode().splitlines() if line.startswith("refused: ")]
+            if refused != refusal or it.status != bool(faults):
+                fail(f"check of {name} was to refuse with {refusal}: {it.status} {it.err}")
+    number = sum(map(len, wanted.values()))
+    print(f"faults: each of {number} planted faults of {len(wanted)} entries is listed once, and no other")
+
+
+FIVE = rb"""base|what others use,
+	cup=\E[%i%p1%d;%p2%dH, clear=\E[H\E[2J,
+	el=\E[1K, sgr0=\E[m,
+five|five faults,
+	xmc#1, el1=\E[K, bel=\E[,
+	ed=\E[%p1%dK, cr=\377, use=base,
+"""
+FIVE_FAULTS = """no xmc: FlagOut
+no bel: Unfinished
+no cr: Stuck
+no ed: WrongEffect
+no el: WrongEffect
+no el1: WrongEffect
+total 6, FlagOut 1, Unfinished 1, Stuck 1, WrongEffect 3
+"""
+# mended line by line
+MENDED = FIVE.replace(rb"xmc#1, el1=\E[K, bel=\E[", rb"el1=\E[1K, bel=^G")
+MENDED = MENDED.replace(rb"ed=\E[%p1%dK, cr=\377", rb"ed=\E[J, cr=\r").replace(rb"el=\E[1K, sgr0", rb"el=\E[K, sgr0")
+NO_ENTRY = b"error: check writes a certificate, or with --all lists the faults: --out is not for --all\n"
+
+
+def judge_by_hand():
+    data = {"five.ti": FIVE, "mended.ti": MENDED}
+    listed, mended, both, nobody, missing = run_cases(
+        PROGRAM,
+        [
+            Case(["check", "--all", "five.ti:five", "24", "80"]),
+            Case(["check", "--all", "mended.ti:five", "24", "80"]),
+            Case(["check", "--all", "--out", "cert", "five.ti:five", "24", "80"]),
+            Case(["check", "--all", "five.ti:six", "24", "80"]),
+            Case(["check", "--all", "six.ti:six", "24", "80"]),
+        ],
+        data,
+    )
+    shown = [line for line in listed.out.decode().splitlines() if not line.startswith("  ")]
+    if shown != FIVE_FAULTS.splitlines() or listed.status != 1:
+        fail(f"the entry with the faults printed {listed.out.decode()}")
+    if (mended.status, mended.out, mended.err) != (0, b"yes\n", b""):
+        fail(f"the mended entry: {mended.status} {mended.out} {mended.err}")
+    if both.status != 2 or not both.err.startswith(NO_ENTRY) or both.out:
+        fail(f"--all beside --out: {both.status} {both.err}")
+    if nobody.status != 1 or b"refused: NoSuchEntry six\n" not in nobody.err:
+        fail(f"an entry that isn't there: {nobody.status} {nobody.err}")
+    if missing.status != 3 or b"file: six.ti\n" not in missing.err:
+        fail(f"a file that isn't there: {missing.status} {missing.err}")
+    print("faults: an entry with six faults is mended in one round")
+
+
+judge_planted()
+judge_by_hand()
