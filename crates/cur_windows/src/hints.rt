@@ -75,6 +75,14 @@ pub(crate) fn joined(before: Option<Scroll>, later: Option<Scroll>) -> Option<Sc
     }
 }
 
+// What is remembered on the screen: the later scroll, if there was one.
+pub(crate) fn later_of(before: Option<Scroll>, later: Option<Scroll>) -> Option<Scroll> {
+    match later {
+        Some(later) => Some(later),
+        None => before,
+    }
+}
+
 // What is remembered after rows went up by so many lines while a window wrote.
 pub(crate) fn after_writing(
     before: Option<Scroll>,

@@ -6,7 +6,7 @@ ghost use Rattle.cur_drawing.specs.Spans.{ArePlaces};
 ghost use Rattle.cur_windows.specs.VirtualScreen as spec;
 
 use crate::desks::blank_grid;
-use crate::hints::{Hint, Owners, Scroll, joined};
+use crate::hints::{Hint, Owners, Scroll, later_of};
 use cur_drawing::{Cell, PAIRS, Refusal, all_cells, copy_changed, place_below};
 use grids::{Area, Grid, Place};
 use std::alloc::{AllocError, Global};
@@ -201,8 +201,7 @@ impl Virtual {
         self.owners = other.owners;
     }
 
-    // A rectangle gets the cells of a grid from a place on. A scroll of the rows that are remembered, of the same grid,
-    // adds to theirs, and any other one replaces it.
+    // A rectangle gets the cells of a grid from a place on. A scroll replaces the one that is remembered.
     pub(crate) fn show(&mut self, copy: Copy, grid: &Grid<Cell>, scrolled: Option<Scroll>)
         requires rows { copy.area.top + copy.area.rows ≤ (self.old).rows }
         requires cols { copy.area.left + copy.area.cols ≤ (self.old).cols }
@@ -213,7 +212,7 @@ impl Virtual {
     {
         copy_changed(&mut self.grid, copy.area, grid, copy.from);
         let kept = self.owners.take(copy, self.cols, self.scrolled);
-        self.scrolled = joined(kept, scrolled);
+        self.scrolled = later_of(kept, scrolled);
         self.cursor = copy.cursor;
         self.clearok = self.clearok | copy.clears;
     }
