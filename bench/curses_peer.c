@@ -153,9 +153,25 @@ static void play_newwin(char *rest)
         windows[w] = newwin(rows, cols, row, number(&rest));
 }
 
+static void play_newpad(char *rest)
+{
+    long w = number(&rest), rows = number(&rest);
+
+    if (w > 0 && w < 64)
+        windows[w] = newpad(rows, number(&rest));
+}
+
 static void play_noutrefresh(char *rest)
 {
     wnoutrefresh(window(&rest));
+}
+
+static void play_prefresh(char *rest)
+{
+    WINDOW *w = window(&rest);
+    long row = number(&rest), col = number(&rest), top = number(&rest), left = number(&rest), bottom = number(&rest);
+
+    prefresh(w, row, col, top, left, bottom, number(&rest));
 }
 
 static void play_refresh(char *rest)
@@ -175,6 +191,13 @@ static void play_scrollok(char *rest)
     scrollok(w, number(&rest) != 0);
 }
 
+static void play_setscrreg(char *rest)
+{
+    WINDOW *w = window(&rest);
+    long top = number(&rest);
+    wsetscrreg(w, top, number(&rest));
+}
+
 static void play_touchwin(char *rest)
 {
     touchwin(window(&rest));
@@ -189,9 +212,9 @@ struct call {
 static const struct call calls[] = {
     {"addch", play_addch}, {"addstr", play_addstr}, {"attrset", play_attrset}, {"box", play_box}, {"clrtoeol", play_clrtoeol},
     {"color_set", play_color_set}, {"delch", play_delch}, {"doupdate", play_doupdate}, {"erase", play_erase}, {"idlok", play_idlok},
-    {"init_pair", play_init_pair}, {"move", play_move}, {"mvwin", play_mvwin}, {"newwin", play_newwin},
-    {"noutrefresh", play_noutrefresh}, {"refresh", play_refresh}, {"scroll", play_scroll}, {"scrollok", play_scrollok},
-    {"touchwin", play_touchwin},
+    {"init_pair", play_init_pair}, {"move", play_move}, {"mvwin", play_mvwin}, {"newpad", play_newpad}, {"newwin", play_newwin},
+    {"noutrefresh", play_noutrefresh}, {"prefresh", play_prefresh}, {"refresh", play_refresh}, {"scroll", play_scroll},
+    {"scrollok", play_scrollok}, {"setscrreg", play_setscrreg}, {"touchwin", play_touchwin},
 };
 
 static int compare(const void *name, const void *call)

@@ -3,6 +3,10 @@
 # line `# from here` are measured, or
 #   calls      100,000 calls in nine windows: short texts, moves, cells deleted, 2,000 refreshes
 #   texts      42,000 calls: texts of 20 to 30 characters all over the screen, 2,000 refreshes
+# or, each with 2,000 refreshes after the screen was filled,
+#   cells      one cell somewhere
+#   typing     one character behind the last one
+#   log        a line at the bottom, after a scroll by one line
 function next_number(below) {
     state = (state * 16807) % 2147483647
     return state % below
@@ -103,6 +107,32 @@ function scrolled() {
     text_at(0, rows - 1, 0, words(cols - 1))
     print "refresh 0"
 }
+# the lines but for two at the top and three at the bottom
+function region() {
+    print "scrollok 0 1\nidlok 0 1\nsetscrreg 0 2 " rows - 4
+    fill(0, rows, cols, 0)
+    print "refresh 0\n# from here\nscroll 0 1"
+    text_at(0, rows - 4, 0, words(cols - 1))
+    print "refresh 0"
+}
+# as wide as the screen and twice as high
+function pad() {
+    print "newpad 1 " 2 * rows " " cols
+    fill(1, 2 * rows, cols, 0)
+    print "prefresh 1 0 0 0 0 " rows - 1 " " cols - 1
+    print "# from here\nprefresh 1 1 0 0 0 " rows - 1 " " cols - 1
+}
+# fifty lines at the bottom, a refresh after each
+function lines(count) {
+    print "scrollok 0 1\nidlok 0 1"
+    fill(0, rows, cols, 0)
+    print "refresh 0\n# from here"
+    for (count = 0; count < 50; count++) {
+        print "addch 0 0a"
+        print "addstr 0 " words(20 + next_number(cols - 20))
+        print "refresh 0"
+    }
+}
 # the window moves over the text by one row and two columns
 function moved() {
     fill(0, rows, cols, 0)
@@ -145,6 +175,22 @@ function many_texts(count, line) {
         print "refresh 0"
     }
 }
+function many(what, at, count) {
+    print "scrollok 0 1\nidlok 0 1"
+    fill(0, rows, cols, 0)
+    print "refresh 0"
+    for (count = 0; count < 2000; count++) {
+        if (what == "log") {
+            print "scroll 0 1"
+            text_at(0, rows - 1, 0, words(cols - 1 - next_number(int(cols / 2))))
+        } else {
+            at = what == "typing" ? count % (rows * (cols - 1)) : next_number(rows * (cols - 1))
+            move(0, int(at / (cols - 1)), at % (cols - 1))
+            printf "addch 0 %02x\n", 97 + count % 26
+        }
+        print "refresh 0"
+    }
+}
 BEGIN {
     state = 4711
     split("ls total make cc1 warning error Makefile src/lib.c 4096 root drwxr-xr-x README", list, " ")
@@ -162,9 +208,13 @@ BEGIN {
     else if (kind == "status") status()
     else if (kind == "colours") colours()
     else if (kind == "scroll") scrolled()
+    else if (kind == "region") region()
+    else if (kind == "pad") pad()
+    else if (kind == "lines") lines()
     else if (kind == "window") moved()
     else if (kind == "nothing") nothing()
     else if (kind == "calls") many_calls()
     else if (kind == "texts") many_texts()
+    else if (kind == "cells" || kind == "typing" || kind == "log") many(kind)
     else exit 2
 }

@@ -212,6 +212,16 @@ CHECKED = [
     ("bel=^N,", "mini", "2", "4", "bel: WrongEffect"),
     ("sgr=\\E[%?%p6%t1%e0%;m,", "mini", "2", "4", "sgr 0 0 0 0 0 1 0 0 0: WrongEffect"),
     ("sgr=\\E[0%?%p5%t;1%;m,", "mini", "2", "4", "sgr 0 0 0 0 1 0 0 0 0: BadLook"),
+    # a mark of another attribute comes before a wrong effect, for strings of one attribute too; none at all, or one too few, is a wrong effect
+    ("rev=\\E[1;7m,", "mini", "2", "4", "rev: BadLook"),
+    ("smul=\\E[1m,", "mini", "2", "4", "smul: BadLook"),
+    ("dim=\\E[0;1m,", "mini", "2", "4", "dim: BadLook"),
+    ("smul=,", "mini", "2", "4", "smul: WrongEffect"),
+    ("bold=\\E[0;1m,", "mini", "2", "4", "bold: WrongEffect"),
+    ("sgr=\\E[%?%p6%t1;4%;m,", "mini", "2", "4", "sgr 0 0 0 0 0 1 0 0 0: BadLook"),
+    # two attributes together show what each shows alone: SGR 71 is nothing, and an empty number takes bold off again
+    ("sgr=\\E[0;%?%p1%t7%;%?%p6%t1%;m,", "mini", "2", "4", "sgr 1 0 0 0 0 1 0 0 0: WrongEffect"),
+    ("sgr=\\E[0%?%p6%t;1%;%?%p7%t;%;m,", "mini", "2", "4", "sgr 0 0 0 0 0 1 1 0 0: WrongEffect"),
     ("el=\\E[,", "xt", "24", "80", "el: Unfinished"),
     # what is wrong with all strings together: the way out of an unknown state begins with SI or with CR, and not with ESC
     ("sgr0=^O\\E[m,", "mini", "2", "2", "clear: NoResync"),

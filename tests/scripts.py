@@ -6,6 +6,7 @@ import subprocess
 import sys
 import tempfile
 
+import scrolling
 from trying import PROGRAM, TOP, Case, run_cases
 
 EXAMPLES = f"{TOP}/examples"
@@ -41,6 +42,9 @@ def scrolled():
         lines += [f"move 0 {row} 0", "addstr 0 " + chr(ord("a") + row) * 79]
     return [*lines, "refresh 0", "scrollok 0 1", "scroll 0 1", "refresh 0"]
 
+
+# how many random scripts of windows that scroll are played for each entry
+RANDOM = 500
 
 # the entry, rows and columns, the script's lines, and what `show` prints; without a line for the cursor it may be anywhere
 SHOWN = [
@@ -264,6 +268,33 @@ def judge_full(name, whole, files):
                 sys.exit(f"scripts: play of {name} to a disk with room for {most}: status {ran.returncode}, {ran.stderr}, {got}")
 
 
+def judge_scrolled(files):
+    """Scripts of windows that scroll: the screen that the model has, and margins that are the whole screen. Returns how many
+    scroll once."""
+    single = scrolling.each_way()
+    scripts = single + scrolling.randomly(RANDOM)
+    for entry in ("vt", "xt"):
+        for seed, (script, seen) in enumerate(zip(scripts, fed_screens(files, entry, scripts))):
+            wanted = (script.shown, scrolling.next_screen(script.shown))
+            if seen != wanted:
+                sys.exit(f"scripts: the script {seed} of scrolls on {entry}, {script.lines}, leaves\n{seen}\nand was to leave\n{wanted}")
+    return len(single)
+
+
+def fed_screens(files, entry, scripts):
+    """For each script what a terminal shows that is fed with what `play` sends, and what after a scroll by one line."""
+    size = [str(scrolling.ROWS), str(scrolling.COLS)]
+    held = files | {f"random{seed:04}": scrolling.stored(script.lines) for seed, script in enumerate(scripts)}
+    sent = run_cases(PROGRAM, [Case(words("play", entry, *size, f"random{seed:04}")) for seed in range(len(scripts))], held)
+    wrong = [(seed, answer.err) for seed, answer in enumerate(sent) if answer.status or answer.err]
+    if wrong:
+        sys.exit(f"scripts: random scripts on {entry}: {wrong}")
+    streams = [it for answer in sent for it in (answer.out, scrolling.scrolled_once(answer.out))]
+    fed = run_cases(PROGRAM, [Case(["feed", *size, "{}"], given=stream) for stream in streams])
+    screens = [answer.out.decode().splitlines()[: scrolling.ROWS] for answer in fed]
+    return list(zip(screens[::2], screens[1::2]))
+
+
 def main():
     files = {"terminals": read("terminals.ti")}
     runs = []
@@ -273,7 +304,8 @@ def main():
     for name, (entry, rows, cols) in STORED.items():
         files[f"{name}.script"] = read(f"{name}.script")
         runs.append((entry, rows, cols, f"{name}.script", read(f"{name}.shown")))
-    for (entry, rows, cols), text in certificates({run[:3] for run in runs}, files).items():
+    sizes = {run[:3] for run in runs} | {(entry, scrolling.ROWS, scrolling.COLS) for entry in ("vt", "xt")}
+    for (entry, rows, cols), text in certificates(sizes, files).items():
         files[f"{entry}-{rows}-{cols}.cert"] = text
     files["short.cert"] = b"".join(basic(2, 4).splitlines(keepends=True)[:3])
     files["wrong"] = b"addstr 0 a\n\naddstr 0\nrefresh 0\n"
@@ -282,9 +314,11 @@ def main():
     judge_lengths(played)
     judge_refused(files)
     judge_closed(files)
+    single = judge_scrolled(files)
     for name, whole in zip(STORED, played[-len(STORED) :]):
         judge_full(name, whole, files)
     print(f"scripts: {len(runs)} scripts show the screens that are known, {len(STORED)} of them examples; played and fed they show the same")
+    print(f"scripts: {2 * single} scrolls, and {2 * RANDOM} random scripts of windows that scroll, leave the screen that a model has, and whole margins")
     print(f"scripts: {len(REFUSED)} lines are refused, and a closed output is told after the run, as is a disk that is full after each byte of an example")
 
 

@@ -2,7 +2,8 @@
 """The pages of docs/ that are made from the sources.
 
 pages.py          writes docs/MAP.md, docs/CAPABILITIES.md and the list of docs/AUDIT.md
-pages.py --check  says which of them differ from the sources, with status 1 if one does
+pages.py --check  says which of them differ from the sources, and which pages name files of crates that aren't there; with
+                  status 1 if there is one
 """
 import os
 import re
@@ -12,13 +13,13 @@ import textwrap
 TOP = os.path.dirname(os.path.dirname(os.path.abspath(__file__)))
 CRATES = os.path.join(TOP, "crates")
 
-# The parts of the house, each with its crates from the top down.
+# The parts of the project, each with its crates from the top down.
 PARTS = [
     ("The program", ["ticurses", "ti_arguments", "ti_requests", "cur_commands", "ti_verdicts", "ti_commands", "ti_words"]),
     ("For programs", ["curses", "hello", "curses_c"]),
     ("Descriptions", ["ti_resolve", "ti_source", "ti_compiled", "ti_caps", "ti_parm", "ti_reach"]),
     ("The terminal", ["vt_effects", "vt_term", "vt_screen", "grids"]),
-    ("Certificates", ["ti_faults", "ti_checker", "ti_cert", "ti_lines", "ti_conforms", "ti_rows"]),
+    ("Certificates", ["ti_remedies", "ti_faults", "ti_checker", "ti_cert", "ti_lines", "ti_conforms", "ti_rows"]),
     ("Windows", ["cur_pads", "cur_windows", "cur_drawing"]),
     ("Painting", ["cur_play", "cur_calls", "cur_update", "cur_paint", "cur_scrolls", "cur_looks", "cur_wires"]),
     ("Benchmarks", ["bench_parm"]),
@@ -295,7 +296,7 @@ def subject(crate):
     """The first sentence of a crate's README."""
     paragraphs = [part.strip() for part in read(os.path.join(CRATES, crate, "README.md")).split("\n\n")]
     text = " ".join(next(part for part in paragraphs if part and not part.startswith("#")).split())
-    return re.match(r"(.*?[^.][.:])(\s|$)", text + " ").group(1).rstrip(":.") + "."
+    return re.match(r"(.*?[^.][.])(\s|$)", text + " ").group(1)
 
 
 def map_page():
@@ -303,10 +304,10 @@ def map_page():
     least = reduced(crates)
     left = set(crates) - {crate for _, part in PARTS for crate in part}
     if left:
-        sys.exit(f"pages: no part of the house has {sorted(left)}")
+        sys.exit(f"pages: no part has {sorted(left)}")
     out = ["# The map\n", MADE,
-           "For each part of the house its crates from the top down, what each stands on (leaving out what it stands",
-           "on through another one), and its files, each with the first sentence at its head.\n"]
+           wrapped("For each part its crates, from the top down: what each is for, what it stands on (leaving out what it "
+                   "stands on through another crate), and its files, each with the first sentence at its head.") + "\n"]
     for part, names in PARTS:
         out.append(f"## {part}\n")
         for crate in names:
@@ -328,7 +329,7 @@ def map_page():
 
 
 def audit_list():
-    """A table for each part of the house: what exported clauses name, and all that this names."""
+    """A list for each part: what exported clauses name, and all that this names."""
     roots = set()
     for crate in PUBLISHED:
         roots |= roots_of(crate)
@@ -420,7 +421,7 @@ BESIDE = {
     "Colors": "if `setaf`, `setab` and `op` are all there",
     "Single": "if there is no `sgr`",
     "Sets": "if `smacs`, `rmacs` and `acsc` are all there",
-    "Alone": "always",
+    "Alone": "if it is there",
 }
 
 MARGINS = {"Whole": "the whole screen", "Legal": "any", "OnBottom": "any, the cursor on the bottom one",
@@ -487,15 +488,18 @@ def capabilities_page():
     if set(names) != set(SAID):
         sys.exit(f"pages: capabilities without words: {sorted(set(names) ^ set(SAID))}")
     out = ["# The checked capabilities\n", MADE,
-           wrapped(f"{len(names)} capabilities of terminfo(5) are checked, each with every parameter list that the size (R rows, C "
-                   "columns) allows, and from every state that its start allows. Cells, renditions, sets and the cursor's "
-                   "visibility are free in every start; autowrap is on and insert mode off. `clear`, `cup` and `sgr0` are "
-                   "required; any other one may be absent. A string may have no other effect than what is wanted; `set` "
-                   "and attribute strings may also switch character sets. All others of terminfo's capabilities are "
-                   "unchecked, and nothing is said of them.") + "\n",
+           wrapped(f"{len(names)} capabilities of terminfo(5) are checked, and no others; nothing is said of those without a row "
+                   "here. `clear`, `cup` and `sgr0` are required; any other one may be absent.") + "\n",
+           wrapped("How: each string is expanded with every parameter list that the size (R rows, C columns) allows. What it then "
+                   "sends has to do what is wanted on [T](TERMINAL.md), and nothing else, from every state that its start allows. "
+                   "In every start cells, renditions, sets and the cursor's visibility are free, autowrap is on and insert mode "
+                   "off. `sgr`, `sgr0`, the strings of single attributes, `smcup` and `rmcup` may also switch character "
+                   "sets. `check` doesn't try the states one by one: it computes one record of the effect from all of them ([vt_effects](../crates/vt_effects/README.md)), "
+                   "and a refusal names a state from which the string goes wrong.") + "\n",
            "| capability | parameters | starts | wanted | checked | what a no may mean |", "|---|---|---|---|---|---|"]
     for name in names:
         params, cause = SAID[name]
+        params = params or "none"
         start = start_words(starts.get(name, starts["_"]))
         group = BESIDE[groups.get(name, groups["_"]).split("::")[-1]]
         out.append(f"| `{name}` | {params} | {start} | {wanted[name]} | {group} | {cause} |")
@@ -506,6 +510,32 @@ def capabilities_page():
                        "`csr`, `clear`, in this order) must do so even after output that was cut off within a sequence. An "
                        "entry with `xmc`, `hc`, `gn` or `os` gets no certificate."))
     return "\n".join(out) + "\n"
+
+
+# ---- files that pages name
+
+NAMED = re.compile(r"\b(\w+)/(specs|src)/(\w+)(?:\.rt|\.antt)?\b")
+LISTED = re.compile(r"\b(\w+)/(specs|src)`? \((`[^)]*)\)")
+
+
+def lacking(path):
+    """The files of crates that a page names and that aren't there."""
+    text = read(path)
+    named = set(NAMED.findall(text))
+    for crate, folder, names in LISTED.findall(text):
+        named |= {(crate, folder, name) for name in re.findall(r"`(\w+)(?:\.rt|\.antt)?`", names)}
+    for crate, folder, name in sorted(named):
+        ending = ".antt" if folder == "specs" else ".rt"
+        there = os.path.join(CRATES, crate, folder, name + ending)
+        if os.path.isdir(os.path.join(CRATES, crate)) and not os.path.exists(there):
+            yield f"{crate}/{folder}/{name}"
+
+
+def written_pages():
+    """The pages of the repository that name files of crates."""
+    folders = [TOP, os.path.join(TOP, "docs"), *(os.path.join(CRATES, crate) for crate in crates_listed())]
+    paths = [os.path.join(folder, name) for folder in folders for name in sorted(os.listdir(folder)) if name.endswith(".md")]
+    return [path for path in paths if os.path.basename(path) != "NEWS.md"]
 
 
 PAGES = {"MAP.md": map_page, "AUDIT.md": audit_page, "CAPABILITIES.md": capabilities_page}
@@ -523,6 +553,10 @@ def main():
         else:
             with open(path, "w", encoding="utf-8") as file:
                 file.write(text)
+    for path in written_pages() if sys.argv[1:] == ["--check"] else []:
+        for name in lacking(path):
+            print(f"pages: {os.path.relpath(path, TOP)} names {name}, which isn't there")
+            stale = 1
     if sys.argv[1:] == ["--check"] and not stale:
         print(f"pages: {len(PAGES)} pages of docs/ are what the sources say")
     return stale

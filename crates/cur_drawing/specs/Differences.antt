@@ -1,6 +1,7 @@
 -- Where two lists of cells differ: the least place and the greatest one.
 use Rattle.std.specs.Prelude.{ℕ, ◌+◌, ◌<◌, ◌≤◌, ◌≡◌, List, length, slice_index_or, Option, Some, None}
 use Rattle.cur_drawing.specs.Cells.{Content, space}
+use Rattle.cur_drawing.specs.declared.spans.Span.{Span}
 
 abbrev pub AreEqualAt : List Content → List Content → ℕ → Type 0
 AreEqualAt a b k = slice_index_or a k space ≡ slice_index_or b k space
@@ -21,3 +22,13 @@ IsFirst a b (Some k) = DifferAt a b k × AreEqualIn a b 0 k
 abbrev pub IsLast : List Content → List Content → Option ℕ → Type 0
 IsLast a b None = AreEqualIn a b 0 (length a)
 IsLast a b (Some k) = DifferAt a b k × AreEqualIn a b (k + 1) (length a)
+
+-- places of these lists outside which they are equal
+pub record HasChanges (a b : List Content) (s : Span) : Type 0 where
+  pub within : s.at + s.size ≤ length a
+  pub before : AreEqualIn a b 0 s.at
+  pub after : AreEqualIn a b (s.at + s.size) (length a)
+
+abbrev pub IsChanged : List Content → List Content → Option Span → Type 0
+IsChanged a b None = AreEqualIn a b 0 (length a)
+IsChanged a b (Some s) = HasChanges a b s

@@ -1,7 +1,9 @@
 -- Runs of lines or columns, and rectangles of them, from the numbers that a call is given.
-use Rattle.std.specs.Prelude.{ℕ, ◌+◌, ◌-◌, ◌<◌, ◌≤◌, ◌==◌, ◌||◌, nat_lt, nat_le, Bool, true, false, Option, Some, None, Result, Ok, Err, if◌then◌else◌, ℤ, pos, negsuc}
+use Rattle.std.specs.Prelude.{ℕ, ◌+◌, ◌-◌, ◌<◌, ◌≤◌, ◌==◌, ◌||◌, nat_lt, nat_le, max, min, Bool, true, false, Option, Some, None, Result, Ok, Err, if◌then◌else◌, ℤ, pos, negsuc}
 use Rattle.grids.specs.declared.areas.Area.{Area}
 use Rattle.cur_drawing.specs.declared.spans.Span.{Span}
+use Rattle.cur_drawing.specs.declared.spans.CopySpan.{CopySpan}
+use Rattle.grids.specs.declared.areas.Place.{Place}
 use Rattle.cur_drawing.specs.declared.refusals.Refusal.{Refusal}
 use Rattle.cur_drawing.specs.declared.refusals.Refusal.TheVariants.{BadRegion}
 
@@ -42,3 +44,43 @@ pub record IsAreaWithin (height width : ℕ) (a : Area) : Type 0 where
 abbrev pub start_within : ℤ → ℕ → ℕ → Option ℕ
 start_within (pos at) size limit = if nat_le (at + size) limit then Some at else None
 start_within (negsuc at) size limit = None
+
+-- ---- what is copied
+
+-- so many lines or columns of the destination from `to` on, where as many of the source were found
+abbrev pub copy_span_at : ℕ → ℕ → Option ℕ → Option CopySpan
+copy_span_at to count (Some from) = Some (record { from = from; to = to; count = count })
+copy_span_at to count None = None
+
+abbrev pub copy_span_between : ℤ → ℕ → Option ℕ → Option ℕ → Option CopySpan
+copy_span_between from n (Some to) (Some end) = copy_span_at to (end - to + 1) (start_within from (end - to + 1) n)
+copy_span_between from n (Some to) None = None
+copy_span_between from n None end = None
+
+-- the destination's lines or columns `to` to `end`, and as many of the source from `from` on; the source has n, the
+-- destination m
+abbrev pub matched : ℤ → ℤ → ℤ → ℕ → ℕ → Option CopySpan
+matched from to end n m = copy_span_between from n (start_within to 1 m) (start_within end 1 m)
+
+-- the lines or columns that both have, the source's n from `at` on and the destination's m from `to` on
+abbrev pub common : ℕ → ℕ → ℕ → ℕ → Option CopySpan
+common at n to m =
+    if nat_lt (max at to) (min (at + n) (to + m)) then
+    Some (record { from = max at to - at; to = max at to - to; count = min (at + n) (to + m) - max at to })
+    else None
+
+-- the lines or columns lie in a source and a destination of so many
+pub record IsWithin (n m : ℕ) (s : CopySpan) : Type 0 where
+  pub source : s.from + s.count ≤ n
+  pub target : s.to + s.count ≤ m
+
+-- how many places there are in a row or a column of a rectangle, at most
+abbrev pub place_count : ℕ
+place_count = 65536
+
+-- a rectangle, and the one of its size from a place on, end before that
+pub record ArePlaces (a : Area) (from : Place) : Type 0 where
+  pub rows : a.top + a.rows < place_count
+  pub cols : a.left + a.cols < place_count
+  pub from_rows : from.row + a.rows < place_count
+  pub from_cols : from.col + a.cols < place_count

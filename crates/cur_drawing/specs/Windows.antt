@@ -1,6 +1,8 @@
 -- One window: a rectangle of a grid with a cursor and options (X/Open Curses Issue 7, "Windows", "Attributes").
 use Rattle.std.specs.Prelude.{ℕ, ◌+◌, ◌-◌, ◌==◌, ◌&&◌, ◌≤◌, ◌<◌, nat_le, nat_lt, Bool, false, Option, Some, None, Result, Ok, Err, if◌then◌else◌, bit_or, ℤ, pos, negsuc}
 use Rattle.grids.specs.declared.areas.Area.{Area}
+use Rattle.grids.specs.declared.areas.Place.{Place}
+use Rattle.grids.specs.Grids.{is_in}
 use Rattle.cur_drawing.specs.declared.puts.Put.{Put}
 use Rattle.cur_drawing.specs.declared.refusals.Refusal.{Refusal}
 use Rattle.cur_drawing.specs.declared.refusals.Refusal.TheVariants.{OutOfWindow, BadRegion, BadCell, BadPair}
@@ -50,6 +52,14 @@ cells_of w row from n = record { top = w.area.top + row; left = w.area.left + fr
 -- n places of one of its columns
 abbrev pub column_of : Window → ℕ → ℕ → ℕ → Area
 column_of w from col n = record { top = w.area.top + from; left = w.area.left + col; rows = n; cols = 1 }
+
+-- where a window's cursor stands on the screen if this part of it is shown from a place on: none where the window
+-- leaves it, or where it doesn't lie in the part
+abbrev pub part_cursor : Window → Area → Place → Option Place
+part_cursor w part to =
+    if w.leaves then None
+    else if is_in part w.row w.col then Some (record { row = to.row + (w.row - part.top); col = to.col + (w.col - part.left) })
+    else None
 
 -- ---- what is handed to a call
 

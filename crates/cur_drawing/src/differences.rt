@@ -2,9 +2,10 @@
 ghost use Rattle.std.specs.Prelude.{ℕ, length, slice_index_or, ◌≡◌, ◌<◌, ◌≤◌, ◌+◌, true, false};
 ghost use Rattle.std.specs.Bool.{OnTrue};
 ghost use Rattle.cur_drawing.specs.Cells.{content_of, space};
-ghost use Rattle.cur_drawing.specs.Differences.{AreEqualAt, AreEqualIn, IsFirst, IsLast};
+ghost use Rattle.cur_drawing.specs.Differences.{AreEqualAt, AreEqualIn, IsChanged, IsFirst, IsLast};
 
 use crate::cells::Cell;
+use crate::spans::Span;
 use std::simd::prelude::*;
 
 // How many cells are compared at a time.
@@ -109,4 +110,18 @@ pub fn last_diff(a: &[Cell], b: &[Cell]) -> Option<usize>
         }
     }
     None
+}
+
+// The places from the first one in which two lists differ to the last one, or `None` where they are equal.
+pub(crate) fn changed(a: &[Cell], b: &[Cell]) -> Option<Span>
+    requires same_length { length a.now ≡ length b.now }
+    requires short { length a.now < 65536 }
+    ensures { IsChanged a.now b.now result }
+{
+    let first = first_diff(a, b)?;
+    let last = last_diff(a, b)?;
+    Some(Span {
+        at: first as u16,
+        size: (last - first + 1) as u16,
+    })
 }

@@ -3,7 +3,7 @@ ghost use Rattle.std.specs.Prelude.{◌≡◌, ◌<◌, ◌≤◌, ◌+◌, ◌-
 ghost use Rattle.cur_drawing.specs.Cells.{IsPrinted};
 ghost use Rattle.cur_drawing.specs.Grids.{shape_of};
 ghost use Rattle.cur_drawing.specs.Windows.{IsWindow};
-ghost use Rattle.cur_drawing.specs.Calls.{IsCanvas, IsKept, canvas, step, done, advanced, written, written_times, character, added, added_all, erased, cleared, insert_char, horizontal, vertical, IsBorder, sides, corners, bordered, scrolled, scroll_by, change_background, tab_width, region_height};
+ghost use Rattle.cur_drawing.specs.Calls.{IsCanvas, IsKept, canvas, step, done, advanced, written, written_times, character, added, erased, cleared, insert_char, horizontal, vertical, IsBorder, sides, corners, bordered, scrolled, scroll_by, change_background, tab_width, region_height};
 
 use crate::cells::Cell;
 use crate::puts::{Border, Put};
@@ -20,25 +20,20 @@ impl Window {
     ///
     /// `BadCell` for a byte above 127, else `BadPair` for a pair above 63: nothing has changed. `NoScroll` where the
     /// cursor would leave the last line: what was written stands, the cursor stays where it was written last.
-    pub fn add(&mut self, grid: &mut Grid<Cell>, put: Put) -> Result<(), Refusal>
+    ///
+    /// `scrolled` grows by the lines by which the scrolling region went up; nothing is promised of it.
+    pub fn add(
+        &mut self,
+        grid: &mut Grid<Cell>,
+        put: Put,
+        scrolled: &mut u16,
+    ) -> Result<(), Refusal>
         requires { IsCanvas grid.old self.old }
         ensures value { step grid.new self.new result ≡ added put (canvas grid.old self.old) }
         ensures kept { IsKept grid.old self.old grid.new self.new }
     {
         put.check_written()?;
-        self.add_character(grid, put)
-    }
-
-    /// A string at the cursor (`addstr`). It stops at the first refusal, and what was written before it stands.
-    pub fn add_all(&mut self, grid: &mut Grid<Cell>, text: &[u8]) -> Result<(), Refusal>
-        requires { IsCanvas grid.old self.old }
-        ensures value { step grid.new self.new result ≡ added_all text.now (canvas grid.old self.old) }
-        ensures kept { IsKept grid.old self.old grid.new self.new }
-    {
-        for byte in text {
-            self.add(grid, Put::plain(*byte))?;
-        }
-        Ok(())
+        self.add_character(grid, put, scrolled)
     }
 
     /// The whole window is erased, and the cursor goes to its corner (`erase`).
@@ -189,7 +184,7 @@ impl Window {
     }
 
     // The cursor goes to the next line.
-    fn advance(&mut self, grid: &mut Grid<Cell>) -> Result<(), Refusal>
+    fn advance(&mut self, grid: &mut Grid<Cell>, scrolled: &mut u16) -> Result<(), Refusal>
         requires { IsCanvas grid.old self.old }
         ensures value { step grid.new self.new result ≡ advanced (canvas grid.old self.old) }
         ensures kept { IsKept grid.old self.old grid.new self.new }
@@ -197,6 +192,7 @@ impl Window {
         if self.scrolls && self.row == self.region_bottom {
             let height = self.region_bottom + 1 - self.region_top;
             self.lines_up(grid, self.region_top, height, 1);
+            *scrolled = scrolled.saturating_add(1);
             self.col = 0;
             return Ok(());
         }
@@ -209,22 +205,28 @@ impl Window {
     }
 
     // A character at the cursor, which moves on.
-    fn write(&mut self, grid: &mut Grid<Cell>, put: Put) -> Result<(), Refusal>
+    fn write(&mut self, grid: &mut Grid<Cell>, put: Put, scrolled: &mut u16) -> Result<(), Refusal>
         requires canvas { IsCanvas grid.old self.old }
         requires byte { IsPrinted put.byte }
         requires pair { put.pair < 64 }
         ensures value { step grid.new self.new result ≡ written put (canvas grid.old self.old) }
         ensures kept { IsKept grid.old self.old grid.new self.new }
     {
-        self.fill_cells(grid, self.row, self.col, 1, self.content(put));
+        self.put_cell(grid, self.content(put));
         if self.col + 1 < self.area.cols {
             self.col += 1;
             return Ok(());
         }
-        self.advance(grid)
+        self.advance(grid, scrolled)
     }
 
-    fn write_times(&mut self, grid: &mut Grid<Cell>, n: u16, put: Put) -> Result<(), Refusal>
+    fn write_times(
+        &mut self,
+        grid: &mut Grid<Cell>,
+        n: u16,
+        put: Put,
+        scrolled: &mut u16,
+    ) -> Result<(), Refusal>
         requires canvas { IsCanvas grid.old self.old }
         requires byte { IsPrinted put.byte }
         requires pair { put.pair < 64 }
@@ -232,13 +234,18 @@ impl Window {
         ensures kept { IsKept grid.old self.old grid.new self.new }
     {
         for _time in 0..n {
-            self.write(grid, put)?;
+            self.write(grid, put, scrolled)?;
         }
         Ok(())
     }
 
     // One byte below 128.
-    fn add_character(&mut self, grid: &mut Grid<Cell>, put: Put) -> Result<(), Refusal>
+    fn add_character(
+        &mut self,
+        grid: &mut Grid<Cell>,
+        put: Put,
+        scrolled: &mut u16,
+    ) -> Result<(), Refusal>
         requires canvas { IsCanvas grid.old self.old }
         requires byte { put.byte < 128 }
         requires pair { put.pair < 64 }
@@ -248,11 +255,11 @@ impl Window {
         match put.byte {
             b'\n' => {
                 self.clear_line(grid);
-                self.advance(grid)
+                self.advance(grid, scrolled)
             }
             b'\t' => {
                 let width = (8 - self.col % 8).min(self.area.cols - self.col);
-                self.write_times(grid, width, Put { byte: 32, ..put })
+                self.write_times(grid, width, Put { byte: 32, ..put }, scrolled)
             }
             8 => {
                 self.col = self.col.saturating_sub(1);
@@ -263,16 +270,17 @@ impl Window {
                 Ok(())
             }
             0..32 | 127 => {
-                self.write(grid, Put { byte: b'^', ..put })?;
+                self.write(grid, Put { byte: b'^', ..put }, scrolled)?;
                 self.write(
                     grid,
                     Put {
                         byte: put.byte ^ 64,
                         ..put
                     },
+                    scrolled,
                 )
             }
-            _ => self.write(grid, put),
+            _ => self.write(grid, put, scrolled),
         }
     }
 }

@@ -127,6 +127,19 @@ impl Window {
         grid.fill(self.cells(row, from, n), cell);
     }
 
+    // The cursor's cell becomes this one.
+    pub(crate) fn put_cell(&self, grid: &mut Grid<Cell>, cell: Cell)
+        requires { IsCanvas grid.old self.now }
+        ensures value { grid.new ≡ filled (cells_of self.now self.now.row self.now.col 1) cell grid.old }
+        ensures shape { shape_of grid.new ≡ shape_of grid.old }
+    {
+        grid.set(
+            self.area.top as usize + self.row as usize,
+            self.area.left as usize + self.col as usize,
+            cell,
+        );
+    }
+
     // `n` cells of one of its columns become this one.
     pub(crate) fn fill_column(&self, grid: &mut Grid<Cell>, from: u16, col: u16, n: u16, cell: Cell)
         requires canvas { IsCanvas grid.old self.now }

@@ -1,6 +1,6 @@
 //! Runs of lines or columns, and the rectangles that they make.
-ghost use Rattle.std.specs.Prelude.{◌≡◌, ◌<◌, ◌≤◌, ◌+◌, IfOk, IfSome, pos};
-ghost use Rattle.cur_drawing.specs.Spans.{IsAreaWithin, start_within, span_within, area_within, rectangle};
+ghost use Rattle.std.specs.Prelude.{◌≡◌, ◌<◌, ◌≤◌, ◌≤ℤ◌, ◌+◌, IfOk, IfSome, pos};
+ghost use Rattle.cur_drawing.specs.Spans.{IsAreaWithin, IsWithin, start_within, span_within, area_within, rectangle, common, matched};
 
 use crate::refusals::Refusal;
 use grids::Area;
@@ -103,4 +103,47 @@ pub fn area_within(
         span_within(geometry.cols, geometry.x, width),
         outside,
     )
+}
+
+/// Lines or columns that are copied: the first one in the source, the first one in the destination, and how many.
+#[derive(Clone, Copy)]
+pub struct CopySpan {
+    pub from: u16,
+    pub to: u16,
+    pub count: u16,
+}
+
+/// The lines or columns that both have: the source's from `at` on, and the target's from `to` on.
+pub fn common(at: u16, count: u16, to: u16, limit: u16) -> Option<CopySpan>
+    ensures value { result ≡ common at count to limit }
+    ensures within { IfSome result (IsWithin count limit) }
+{
+    let first = at.max(to) as u32;
+    let end = (at as u32 + count as u32).min(to as u32 + limit as u32);
+    if first >= end {
+        return None;
+    }
+    Some(CopySpan {
+        from: (first - at as u32) as u16,
+        to: (first - to as u32) as u16,
+        count: (end - first) as u16,
+    })
+}
+
+/// The target's lines or columns `to` to `last`, and as many of the source, if they are all there. That the last one
+/// isn't before the first one is the caller's condition.
+pub fn matched(from: i32, to: i32, last: i32, count: u16, limit: u16) -> Option<CopySpan>
+    requires { to ≤ℤ last }
+    ensures value { result ≡ matched from to last count limit }
+    ensures within { IfSome result (IsWithin count limit) }
+{
+    let to = start_within(to, 1, limit)?;
+    let last = start_within(last, 1, limit)?;
+    let size = last - to + 1;
+    let from = start_within(from, size, count)?;
+    Some(CopySpan {
+        from,
+        to,
+        count: size,
+    })
 }

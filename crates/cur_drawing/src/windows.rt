@@ -1,12 +1,13 @@
 //! One window: its rectangle, cursor, background, scrolling region and options.
 ghost use Rattle.std.specs.Prelude.{◌≡◌, ◌<◌, ◌≤◌, ◌+◌, nat_lt, Option, IfSome, IfOk, bit_or, bit_and, ◌-◌, ◌==◌, if◌then◌else◌};
 ghost use Rattle.cur_drawing.specs.Cells.{IsPrinted};
-ghost use Rattle.cur_drawing.specs.Windows.{IsWindow, fresh, lines_of, cells_of, column_of, place_below, count_to, first_pair, content, as_is, move_to, set_region, set_pair, set_background, is_printed, is_pair};
+ghost use Rattle.cur_drawing.specs.Grids.{is_in};
+ghost use Rattle.cur_drawing.specs.Windows.{IsWindow, fresh, lines_of, cells_of, column_of, place_below, count_to, first_pair, content, as_is, move_to, part_cursor, set_region, set_pair, set_background, is_printed, is_pair};
 
 use crate::cells::{Attrs, Cell, PAIRS};
 use crate::puts::Put;
 use crate::refusals::Refusal;
-use grids::Area;
+use grids::{Area, Place};
 
 /// The most rows and the most columns of the grid under a window.
 pub const LONGEST: u16 = 1000;
@@ -237,4 +238,34 @@ fn first_pair(own: u8, window: u8, background: u8) -> u8
     } else {
         background
     }
+}
+
+/// Where the window's cursor stands if this part of it is shown from a place on: nowhere if the window leaves it, or if
+/// it doesn't lie in the part.
+pub fn cursor_in_part(window: &Window, part: Area, to: Place) -> Option<Place>
+    requires window { IsWindow window.now }
+    requires height { to.row + part.rows ≤ 1000 }
+    requires width { to.col + part.cols ≤ 1000 }
+    ensures value { result ≡ part_cursor window.now part to }
+    ensures within { IfSome result (λ p. (p.row < to.row + part.rows) × (p.col < to.col + part.cols)) }
+{
+    if window.leaves {
+        return None;
+    }
+    if !is_in(part, window.row, window.col) {
+        return None;
+    }
+    Some(Place {
+        row: to.row + (window.row - part.top),
+        col: to.col + (window.col - part.left),
+    })
+}
+
+fn is_in(part: Area, row: u16, col: u16) -> bool
+    ensures { result ≡ is_in part row col }
+{
+    let (row, col) = (row as u32, col as u32);
+    let (top, left) = (part.top as u32, part.left as u32);
+    let rows = top <= row && row < top + part.rows as u32;
+    rows && left <= col && col < left + part.cols as u32
 }

@@ -1,5 +1,6 @@
 pub mod Mixtures
 pub mod SpanFacts
+pub mod Ranges
 pub mod Bounds
 pub mod ModeFacts
 pub mod Reaches

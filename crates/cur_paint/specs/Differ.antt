@@ -2,6 +2,8 @@
 use Rattle.std.specs.Prelude.{ℕ, ◌+◌, ◌<◌, ◌≤◌, ◌≡◌, if◌then◌else◌, zero, suc}
 use Rattle.cur_looks.specs.Inks.{same}
 use Rattle.cur_looks.specs.declared.inks.Ink.{Ink}
+use Rattle.cur_scrolls.specs.declared.scrolls.Scroll.{Scroll}
+use Rattle.cur_scrolls.specs.Scrolls.{shifted}
 
 -- in one place: none or one
 abbrev pub differs : (ℕ → ℕ → Ink) → (ℕ → ℕ → Ink) → ℕ → ℕ → ℕ
@@ -21,6 +23,12 @@ all_differ old new cols (suc n) = all_differ old new cols n + span old new n 0 c
 pub record IsSameOutside (old new : ℕ → ℕ → Ink) (i from end cols : ℕ) : Type 0 where
   pub before : (j : ℕ) → j < from → old i j ≡ new i j
   pub after : (j : ℕ) → end ≤ j → j < cols → old i j ≡ new i j
+
+-- (Serves the code alone.) one screen was scrolled before it is compared with the other
+pub record IsMoved (between : (ℕ → ℕ → Ink) → (ℕ → ℕ → Ink) → Type 0) (x : Scroll) (g new : ℕ → ℕ → Ink) : Type 0 where
+  pub old : ℕ → ℕ → Ink
+  pub known : between old new
+  pub is : g ≡ shifted x old
 
 -- (Serves the code alone.) a place that differs, and is to have that character in the set and the brush of an ink
 pub record IsLike (old new : ℕ → ℕ → Ink) (i j : ℕ) (ink : Ink) (byte : ℕ) : Type 0 where

@@ -14,6 +14,7 @@ pub struct Columns {
 pub trait Changes {
     ghost use Rattle.std.specs.Prelude.{◌≤◌, ℕ};
     ghost use Rattle.cur_looks.specs.declared.inks.Ink.{Ink};
+    ghost use Rattle.cur_scrolls.specs.Scrolls.{shifted};
     ghost use Rattle.cur_paint.specs.Differ.{IsSameOutside};
 
     ghost between: { Self → (ℕ → ℕ → Ink) → (ℕ → ℕ → Ink) → Type 0 };
@@ -28,6 +29,40 @@ pub trait Changes {
     /// How lines may have moved from the one screen to the other, if that is known. Nothing is promised of it.
     fn scroll(&self) -> Option<Scroll> {
         None
+    }
+
+    /// The columns of the line `row` that may differ after the lines of the old screen have moved as `scroll` says.
+    fn columns_after(&self, scroll: Scroll, _row: usize, cols: usize) -> Columns
+        ensures order { result.from ≤ result.end }
+        ensures within { result.end ≤ cols }
+        ensures same { (old new : ℕ → ℕ → Ink) → between self.now old new
+            → IsSameOutside (shifted scroll old) new _row result.from result.end cols }
+    {
+        Columns { from: 0, end: cols }
+    }
+}
+
+/// Where the screens differ after a scroll.
+#[derive(Drop)]
+pub(crate) struct Moved<'a, D> {
+    pub changes: &'a D,
+    pub scroll: Scroll,
+}
+
+impl<'a, D: Changes> Changes for Moved<'a, D> {
+    ghost use Rattle.std.specs.Prelude.{◌≤◌, ℕ};
+    ghost use Rattle.cur_looks.specs.declared.inks.Ink.{Ink};
+    ghost use Rattle.cur_paint.specs.Differ.{IsMoved, IsSameOutside};
+
+    ghost between = { λ m g new. IsMoved (D.between m.changes.now) m.scroll g new };
+
+    fn columns(&self, row: usize, cols: usize) -> Columns
+        ensures order { result.from ≤ result.end }
+        ensures within { result.end ≤ cols }
+        ensures same { (g new : ℕ → ℕ → Ink) → IsMoved (D.between self.now.changes.now) self.now.scroll g new
+            → IsSameOutside g new row result.from result.end cols }
+    {
+        self.changes.columns_after(self.scroll, row, cols)
     }
 }
 

@@ -1,7 +1,4 @@
 //! Whether all is cleared before a known screen is painted.
-ghost use Rattle.std.specs.Prelude.{◌≡◌, ◌+◌, ◌*◌, ◌<◌, ◌≤◌, true};
-ghost use Rattle.cur_paint.specs.Differ.{differs, span, all_differ};
-
 use crate::changes::Changes;
 use crate::parts::are_blank;
 use crate::rows::may_differ;
@@ -10,64 +7,6 @@ use ti_conforms::Certificate;
 
 /// What a move and a look take at least once more in a line of which cells are printed again.
 const AGAIN: usize = 8;
-
-/// 1 if the place in line `row` and column `col` differs, else 0.
-fn differing<O: Picture, N: Picture>(old: &O, new: &N, row: usize, col: usize) -> usize
-    ensures value { result ≡ differs (O.cells old.now) (N.cells new.now) row col }
-    ensures few { result ≤ 1 }
-{
-    if old.shows(row, col, new.at(row, col)) {
-        0
-    } else {
-        1
-    }
-}
-
-/// In how many of its first `cols` cells the line `row` differs.
-fn count_line<O: Picture, N: Picture>(old: &O, new: &N, row: usize, cols: usize) -> usize
-    requires { cols ≤ 1000 }
-    ensures value { result ≡ span (O.cells old.now) (N.cells new.now) row 0 cols }
-    ensures few { result ≤ cols }
-{
-    let mut count = 0;
-    for col in 0..cols {
-        count += differing(old, new, row, col);
-    }
-    count
-}
-
-/// In how many of their first `cols` cells the first `rows` lines differ.
-fn count_lines<O: Picture, N: Picture>(old: &O, new: &N, rows: usize, cols: usize) -> usize
-    requires rows { rows ≤ 1000 }
-    requires cols { cols ≤ 1000 }
-    ensures value { result ≡ all_differ (O.cells old.now) (N.cells new.now) cols rows }
-    ensures few { result ≤ rows * 1000 }
-{
-    let mut count = 0;
-    for row in 0..rows {
-        count += count_line(old, new, row, cols);
-    }
-    count
-}
-
-/// Whether fewer cells of `new` differ from `blank` than from `old`, by more than `by`.
-pub(crate) fn leaves_fewer<B: Picture, O: Picture, N: Picture>(
-    blank: &B,
-    old: &O,
-    new: &N,
-    rows: usize,
-    cols: usize,
-    by: usize,
-) -> bool
-    requires rows { rows ≤ 1000 }
-    requires cols { cols ≤ 1000 }
-    ensures { result ≡ true → by + all_differ (B.cells blank.now) (N.cells new.now) cols rows
-        < all_differ (O.cells old.now) (N.cells new.now) cols rows }
-{
-    let left = count_lines(blank, new, rows, cols);
-    let all = count_lines(old, new, rows, cols);
-    left < all && by < all - left
-}
 
 /// A line of two screens: whether it is blank on the new one, how many cells of its end become so, and how many others
 /// stay what they were.

@@ -4,6 +4,7 @@
 mod bells;
 mod changes;
 mod clears;
+mod counts;
 mod cursors;
 mod endings;
 mod laws;

@@ -6,8 +6,8 @@ ghost use Rattle.cur_paint.specs.Differ.{all_differ};
 ghost use Rattle.cur_paint.specs.Limits.{IsWithin, IsPlaced};
 ghost use Rattle.cur_paint.specs.Scenes.{IsPaintable, Paints, all_changed, scene};
 
-use crate::changes::{Changes, Whole};
-use crate::clears::leaves_fewer;
+use crate::changes::{Changes, Moved};
+use crate::counts::{count_cells, differ_in_more};
 use crate::cursors::paint;
 use crate::screens::Screens;
 use crate::updates::Wanted;
@@ -26,6 +26,7 @@ pub(crate) fn useful_scroll<C: Certificate, O: Picture, N: Picture, D: Changes>(
     changes: &D,
 ) -> Option<Scroll>
     requires scene { IsPaintable (scene C.table O.cells N.cells screens.now) }
+    requires changes { D.between changes.now (O.cells screens.now.old.now) (N.cells screens.now.new.now) }
     ensures can { IfSome result (λ x. CanScroll (C.table screens.now.checked.now) x) }
     ensures fewer { IfSome result (λ x. (x.count + 4) + all_differ (shifted x (O.cells screens.now.old.now))
         (N.cells screens.now.new.now) (C.table screens.now.checked.now).cols (C.table screens.now.checked.now).rows
@@ -35,13 +36,18 @@ pub(crate) fn useful_scroll<C: Certificate, O: Picture, N: Picture, D: Changes>(
     if !can_scroll(screens.checked, scroll) {
         return None;
     }
-    let (rows, cols) = (screens.checked.rows(), screens.checked.cols());
     let moved = Shifted {
         old: screens.old,
         scroll,
     };
+    let then = Screens {
+        checked: screens.checked,
+        old: &moved,
+        new: screens.new,
+    };
+    let left = count_cells(&then, &Moved { changes, scroll });
     let by = usize::from(scroll.count) + (BESIDE - 1);
-    if leaves_fewer(&moved, screens.old, screens.new, rows, cols, by) {
+    if differ_in_more(screens, changes, left + by) {
         Some(scroll)
     } else {
         None
@@ -49,14 +55,16 @@ pub(crate) fn useful_scroll<C: Certificate, O: Picture, N: Picture, D: Changes>(
 }
 
 /// From a known state: scrolls as `scroll` says, and mends what then differs.
-pub(crate) fn scroll_first<C: Certificate, O: Picture, N: Picture, W: Wire>(
+pub(crate) fn scroll_first<C: Certificate, O: Picture, N: Picture, D: Changes, W: Wire>(
     screens: &Screens<'_, C, O, N>,
     belief: &mut Belief,
     wire: &mut W,
+    changes: &D,
     scroll: Scroll,
     wanted: Wanted,
 ) -> Result<(), WireFault>
     requires scene { IsPaintable (scene C.table O.cells N.cells screens.now) }
+    requires changes { D.between changes.now (O.cells screens.now.old.now) (N.cells screens.now.new.now) }
     requires lines { CanScroll (C.table screens.now.checked.now) scroll }
     requires fewer { (scroll.count + 4) + all_differ (shifted scroll (O.cells screens.now.old.now))
         (N.cells screens.now.new.now) (C.table screens.now.checked.now).cols (C.table screens.now.checked.now).rows
@@ -78,5 +86,5 @@ pub(crate) fn scroll_first<C: Certificate, O: Picture, N: Picture, W: Wire>(
         old: &moved,
         new: screens.new,
     };
-    paint(&then, belief, wire, &Whole, wanted)
+    paint(&then, belief, wire, &Moved { changes, scroll }, wanted)
 }

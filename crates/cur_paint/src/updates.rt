@@ -12,7 +12,8 @@ ghost use Rattle.cur_paint.specs.Scenes.{IsPaintable, Paints, all_changed, scene
 ghost use Rattle.cur_paint.specs.Update.{Anew, Draws, Refreshes};
 
 use crate::changes::{Changes, Whole};
-use crate::clears::{leaves_fewer, may_become_blanks, saves};
+use crate::clears::{may_become_blanks, saves};
+use crate::counts::{count_cells, differ_in_more};
 use crate::cursors::paint;
 use crate::screens::Screens;
 use crate::scrolls::{scroll_first, useful_scroll};
@@ -161,6 +162,7 @@ fn is_better_cleared<C: Certificate, O: Picture, N: Picture, D: Changes>(
     changes: &D,
 ) -> bool
     requires scene { IsPaintable (scene C.table O.cells N.cells screens.now) }
+    requires changes { D.between changes.now (O.cells screens.now.old.now) (N.cells screens.now.new.now) }
     ensures fewer { result ≡ true → (line : List ℕ) → (C.table screens.now.checked.now).line_of Clear ≡ Some line
         → length line + all_differ (cleared background) (N.cells screens.now.new.now)
         (C.table screens.now.checked.now).cols (C.table screens.now.checked.now).rows
@@ -173,8 +175,16 @@ fn is_better_cleared<C: Certificate, O: Picture, N: Picture, D: Changes>(
     }
     let blank = Cleared { background };
     let clear = screens.checked.line(Row::Clear).unwrap().len();
-    saves(screens.checked, &blank, screens.old, screens.new, clear)
-        && leaves_fewer(&blank, screens.old, screens.new, rows, cols, clear)
+    if !saves(screens.checked, &blank, screens.old, screens.new, clear) {
+        return false;
+    }
+    let anew = Screens {
+        checked: screens.checked,
+        old: &blank,
+        new: screens.new,
+    };
+    let left = count_cells(&anew, &Whole);
+    differ_in_more(screens, changes, clear + left)
 }
 
 /// From a known state: mends what differs. Before that the terminal scrolls, where `changes` name a scroll that leaves
@@ -196,7 +206,7 @@ fn mend<C: Certificate, O: Picture, N: Picture, D: Changes, W: Wire>(
         wanted.cursor wanted.mode belief.old belief.new }
 {
     if let Some(scroll) = useful_scroll(screens, changes) {
-        return scroll_first(screens, belief, wire, scroll, wanted);
+        return scroll_first(screens, belief, wire, changes, scroll, wanted);
     }
     if is_better_cleared(screens, belief.brush.background, changes) {
         return clear_first(screens, belief, wire, wanted);

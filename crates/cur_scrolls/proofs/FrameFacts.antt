@@ -17,11 +17,12 @@ use Rattle.ti_rows.specs.Starts.{IsAny, IsCalmAnywhere}
 use Rattle.ti_conforms.specs.Certified.{Table, IsChecked, IsCheckedLine, IsLost, IsPiece, Line, Ended, cell_limit, has, limit_of}
 use Rattle.ti_conforms.specs.Table.{widening}
 use Rattle.cur_looks.specs.Inks.{rendition_of, look_of, blank_ink, plain_brush, IsColored}
-use Rattle.cur_looks.specs.Beliefs.{Agrees, brush_limit}
+use Rattle.cur_looks.specs.Beliefs.{Agrees, IsHere, brush_limit, moves}
 use Rattle.cur_looks.specs.declared.beliefs.Belief.{Belief}
 use Rattle.cur_looks.specs.declared.beliefs.Place.{Place}
 use Rattle.cur_looks.specs.declared.inks.Brush.{Brush}
 use Rattle.cur_looks.specs.declared.inks.Ink.{Ink}
+use Rattle.cur_looks.proofs.Answers.{moves_few}
 use Rattle.cur_looks.proofs.Turns.{by_screen, calmly, look_at-drawn, stands_at}
 use Rattle.cur_scrolls.specs.Scrolls.{edge, scroll_row, shifted}
 use Rattle.cur_scrolls.specs.declared.scrolls.Scroll.{Scroll}
@@ -250,6 +251,37 @@ left t g b row some e s x = record {
   seen = x.seen;
 }
 
+-- the whole screen in the plain brush is a frame, with the cursor where it is believed
+pub screen_entered : (t : Table) (top bottom : ℕ) (g : ℕ → ℕ → Ink) (b : Belief) (row : ℕ) → top ≡ 0 → bottom ≡ t.rows - 1 → b.brush ≡ plain_brush → b.place ≡ record { row = row; col = 0 } → (s : State) → Agrees t g b s
+    → Framed t (framed top bottom g row) b s
+screen_entered t top bottom g b row is_top is_bottom plain at s a = record {
+  sized = a.ready.sized;
+  rest = a.ready.rest;
+  tame = a.ready.tame;
+  top = omega (arith, a.ready.whole.top, is_top);
+  bottom = omega (arith, a.ready.whole.bottom, a.ready.sized.rows, is_bottom);
+  settled = a.ready.settled;
+  visible = a.ready.visible;
+  cells = a.cells;
+  place = (let P : Place → Type 0 = λ p. IsHere t.cols p s.screen.row s.screen.col s.screen.pending in subst P at a.place);
+  plain = a.brush ∙ ap (λ (x : Brush). rendition_of t.looks x) plain;
+  set = a.set;
+  seen = a.seen;
+}
+
+-- and the other way round
+pub screen_left : (t : Table) (top bottom : ℕ) (g : ℕ → ℕ → Ink) (b : Belief) (row : ℕ) → 0 < t.rows → top ≡ 0 → bottom ≡ t.rows - 1 → b.brush ≡ plain_brush → b.place ≡ record { row = row; col = 0 } → (s : State)
+    → Framed t (framed top bottom g row) b s → Agrees t g b s
+screen_left t top bottom g b row some is_top is_bottom plain at s x = record {
+  ready = record { sized = x.sized; rest = x.rest; tame = x.tame; whole = record { top = omega (arith, x.top, is_top); bottom = omega (arith, x.bottom, x.sized.rows, some, is_bottom) }; settled = x.settled; visible = x.visible };
+  cells = x.cells;
+  place = (let P : Place → Type 0 = λ p. IsHere t.cols p s.screen.row s.screen.col s.screen.pending in subst P (sym at) x.place);
+  brush = x.plain ∙ ap (λ (y : Brush). rendition_of t.looks y) (sym plain);
+  colored = subst (λ (y : Brush). IsColored t y) (sym plain) (plain_colored t);
+  set = x.set;
+  seen = x.seen;
+}
+
 -- what all lines of a scroll take together
 pub scroll_enough : (t : Table) (count : ℕ) → brush_limit t + ((count + 2) * t.longest.scroll + 2 * t.longest.cup) ≤ (count + 4) * cell_limit t
 scroll_enough t count =
@@ -259,6 +291,15 @@ scroll_enough t count =
     let e : (count + 2) * l ≡ l * (count + 2) = grind arith in
     let f : (count + 4) * m ≡ m * (count + 2) + 2 * m = grind arith in
     omega (arith, a, e, f)
+
+-- where no margins are sent
+pub screen_enough : (t : Table) (count : ℕ) → brush_limit t + (t.longest.cup + count * t.longest.scroll) ≤ (count + 4) * cell_limit t
+screen_enough t count =
+    let l = t.longest.scroll in
+    omega (arith, scroll_enough t count, times_grows count (count + 2) l (omega arith))
+
+pub move_enough : (p : Place) (row col l n : ℕ) → moves p row col * l + n ≤ l + n
+move_enough p row col l n = omega (arith, times_grows (moves p row col) 1 l (moves_few p row col))
 
 -- ---- line after line
 

@@ -1,6 +1,6 @@
 -- Lines that move within a region of the screen (terminfo(5), "Insert/Delete Line"; VT100 user guide, "Scrolling
 -- margins").
-use Rattle.std.specs.Prelude.{ℕ, ◌+◌, ◌-◌, ◌<◌, ◌≡◌, ◌&&◌, nat_le, true, if◌then◌else◌}
+use Rattle.std.specs.Prelude.{ℕ, ◌+◌, ◌-◌, ◌<◌, ◌≡◌, ◌&&◌, nat_le, true, Option, Some, None, if◌then◌else◌}
 use Rattle.ti_rows.specs.declared.rows.Row.{Row}
 use Rattle.ti_rows.specs.declared.rows.Row.TheVariants.{Csr, Ind, Ri}
 use Rattle.ti_conforms.specs.Certified.{Table, has}
@@ -25,6 +25,11 @@ shifted x g i j =
     (if x.up then (if nat_le (i + x.count) x.bottom then g (i + x.count) j else blank_ink)
     else (if nat_le (x.top + x.count) i then g (i - x.count) j else blank_ink))
     else g i j
+
+-- (Serves the code alone.) a cell of a line, or a blank where there is none
+abbrev pub cell_of : (ℕ → ℕ → Ink) → Option ℕ → ℕ → Ink
+cell_of g None j = blank_ink
+cell_of g (Some i) j = g i j
 
 -- the region is two lines of the screen or more, and there are lines for its margins, for those of the whole screen, and
 -- for a scroll that way

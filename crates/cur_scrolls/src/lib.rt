@@ -8,4 +8,4 @@ mod scrolls;
 
 pub use pictures::Shifted;
 pub use regions::scroll_lines;
-pub use scrolls::{Scroll, can_scroll};
+pub use scrolls::{Scroll, can_scroll, line_before};

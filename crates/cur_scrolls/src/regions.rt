@@ -1,15 +1,16 @@
 //! A region of the screen that the terminal scrolls.
-ghost use Rattle.std.specs.Prelude.{◌≡◌, ◌+◌, ◌*◌, ◌<◌, ◌≤◌, ℕ, OnOk};
+ghost use Rattle.std.specs.Prelude.{◌≡◌, ◌+◌, ◌-◌, ◌*◌, ◌<◌, ◌≤◌, ℕ, OnOk};
 ghost use Rattle.ti_conforms.specs.Certified.{IsChecked, cell_limit};
 ghost use Rattle.cur_looks.specs.declared.beliefs.Belief.{Belief};
 ghost use Rattle.cur_looks.specs.declared.inks.Ink.{Ink};
+ghost use Rattle.cur_looks.specs.Inks.{plain_brush};
 ghost use Rattle.cur_looks.specs.Steps.{Makes};
 ghost use Rattle.cur_scrolls.specs.Scrolls.{CanScroll, shifted};
 ghost use Rattle.cur_scrolls.specs.Frames.{Frame, Moves, at_edge, whole};
 
 use crate::frames::{send_row, set_frame};
-use crate::scrolls::{Scroll, edge, first_blank, scroll_row};
-use cur_looks::{Belief, Brush, Place, brush_as};
+use crate::scrolls::{Scroll, edge, first_blank, is_whole, scroll_row};
+use cur_looks::{Belief, Blank, Brush, Place, Target, brush_as, reach};
 use cur_wires::{Wire, WireFault};
 use ti_conforms::Certificate;
 
@@ -70,6 +71,35 @@ fn scroll_region<C: Certificate, W: Wire>(
     scroll_and_widen(checked, wire, scroll, row)
 }
 
+/// Moves the lines of the whole screen as `scroll` says, in the plain brush. The margins are whole already.
+fn scroll_screen<C: Certificate, W: Wire>(
+    checked: &C,
+    belief: &mut Belief,
+    wire: &mut W,
+    scroll: Scroll,
+) -> Result<(), WireFault>
+    requires checked { IsChecked (C.table checked.now) }
+    requires lines { CanScroll (C.table checked.now) scroll }
+    requires top { scroll.top ≡ 0 }
+    requires bottom { scroll.bottom ≡ (C.table checked.now).rows - 1 }
+    requires plain { belief.old.brush ≡ plain_brush }
+    ensures step { Makes W.went W.failures wire.old wire.new result (C.table checked.now)
+        ((C.table checked.now).longest.cup + scroll.count * (C.table checked.now).longest.scroll) (shifted scroll)
+        belief.old belief.new }
+    ensures mode { OnOk result (belief.new.mode ≡ belief.old.mode) }
+{
+    let target = Target {
+        checked,
+        shown: &Blank,
+    };
+    let at = Place {
+        row: edge(scroll) as usize,
+        col: 0,
+    };
+    reach(&target, belief, wire, at)?;
+    scroll_at_edge(checked, wire, scroll)
+}
+
 /// Moves lines as `scroll` says, by the terminal's own scrolling: in the plain brush, within margins that are the whole
 /// screen again at the end. The lines that come in are blank, and no other line changes. At a failure the terminal is
 /// lost, whatever its margins are.
@@ -85,8 +115,11 @@ pub fn scroll_lines<C: Certificate, W: Wire>(
     ensures mode { OnOk result (belief.new.mode ≡ belief.old.mode) }
 {
     // only this call's contract says that the certificate is verified
-    let _ = checked.rows();
+    let rows = checked.rows();
     brush_as(checked, belief, wire, Brush::plain())?;
+    if is_whole(scroll, rows) {
+        return scroll_screen(checked, belief, wire, scroll);
+    }
     let row = first_blank(scroll);
     belief.place = Place {
         row: row as usize,

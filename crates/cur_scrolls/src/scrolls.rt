@@ -1,7 +1,8 @@
 //! Lines that move within a region of the screen.
-ghost use Rattle.std.specs.Prelude.{◌≡◌, ◌≤◌, true};
+ghost use Rattle.std.specs.Prelude.{◌≡◌, ◌-◌, ◌≤◌, ℕ, true};
 ghost use Rattle.ti_conforms.specs.Certified as certified;
-ghost use Rattle.cur_scrolls.specs.Scrolls.{CanScroll, edge, scroll_row};
+ghost use Rattle.cur_looks.specs.declared.inks.Ink.{Ink};
+ghost use Rattle.cur_scrolls.specs.Scrolls.{CanScroll, cell_of, edge, scroll_row, shifted};
 
 use ti_conforms::Certificate;
 use ti_rows::Row;
@@ -34,11 +35,37 @@ pub(crate) fn first_blank(scroll: Scroll) -> u16
     }
 }
 
+/// Whether the `scroll` moves all of so many lines, so that it needs no margins.
+pub(crate) fn is_whole(scroll: Scroll, rows: usize) -> bool
+    ensures top { result ≡ true → scroll.top ≡ 0 }
+    ensures bottom { result ≡ true → scroll.bottom ≡ rows - 1 }
+{
+    scroll.top == 0 && usize::from(scroll.bottom) + 1 == rows
+}
+
 /// The row whose line moves the region by one line.
 pub(crate) fn scroll_row(scroll: Scroll) -> Row
     ensures { result ≡ scroll_row scroll }
 {
     if scroll.up { Row::Ind } else { Row::Ri }
+}
+
+/// The line that comes to the line `row` by the `scroll`, if one does; else a blank one comes in.
+pub fn line_before(scroll: Scroll, row: usize) -> Option<usize>
+    ensures { (g : ℕ → ℕ → Ink) (j : ℕ) → shifted scroll g row j ≡ cell_of g result j }
+{
+    let (top, bottom) = (usize::from(scroll.top), usize::from(scroll.bottom));
+    if row < top || row > bottom {
+        return Some(row);
+    }
+    let count = usize::from(scroll.count);
+    if scroll.up && count <= bottom - row {
+        Some(row + count)
+    } else if !scroll.up && count <= row - top {
+        Some(row - count)
+    } else {
+        None
+    }
 }
 
 /// Whether the entry has the string for `row`.

@@ -2,3 +2,4 @@ pub mod InkFacts
 pub mod Counts
 pub mod Likeness
 pub mod Plainly
+pub mod Findings

@@ -1,12 +1,30 @@
 -- (Serves the code alone.) From the screen that was shown last to the one to be shown.
-use Rattle.std.specs.Prelude.{ℕ, ◌≡◌, ◌<◌, Bool, true, Option}
+use Rattle.std.specs.Prelude.{ℕ, ◌≡◌, ◌<◌, ◌≤◌, Bool, true, Option, List, slice_index_or}
 use Rattle.cur_drawing.specs.Cells.{pair_count}
 use Rattle.cur_windows.specs.VirtualScreen.{Screen, colors_at}
 use Rattle.ti_conforms.specs.Certified.{Table}
 use Rattle.cur_looks.specs.declared.inks.Ink.{Ink}
+use Rattle.cur_paint.specs.declared.changes.Columns.{Columns}
 use Rattle.cur_update.specs.Inks.{ink_at}
 
 pub record IsShift (t : Table) (partners : ℕ → Option ℕ) (v w : Screen) (same_pairs : Bool) (old new : ℕ → ℕ → Ink) : Type 0 where
   pub before : old ≡ ink_at t partners v
   pub after : new ≡ ink_at t partners w
   pub pairs : same_pairs ≡ true → (p : ℕ) → p < pair_count → colors_at v p ≡ colors_at w p
+
+-- a line of the one is that of the other before a column, and from another one on
+pub record AreAlikeOutside (old new : ℕ → ℕ → Ink) (i k from end cols : ℕ) : Type 0 where
+  pub before : (j : ℕ) → j < from → old i j ≡ new k j
+  pub after : (j : ℕ) → end ≤ j → j < cols → old i j ≡ new k j
+
+abbrev pub no_columns : Columns
+no_columns = record { from = 0; end = 0 }
+
+-- the columns that were found of a line
+abbrev pub found_at : List Columns → ℕ → Columns
+found_at columns i = slice_index_or columns i no_columns
+
+-- of the first n lines these columns were found: outside of them a line is what it was
+abbrev pub AreFound : List Columns → ℕ → ℕ → (ℕ → ℕ → Ink) → (ℕ → ℕ → Ink) → Type 0
+AreFound columns n cols old new =
+    (i : ℕ) → i < n → AreAlikeOutside old new i i (found_at columns i).from (found_at columns i).end cols

@@ -1,12 +1,14 @@
 //! Where the virtual screen differs from what was shown last.
-ghost use Rattle.std.specs.Prelude.{◌≡◌, ◌<◌, ◌≤◌, ℕ, true, length};
+ghost use Rattle.std.specs.Prelude.{◌≡◌, ◌<◌, ◌≤◌, ℕ, true, length, IfSome};
 ghost use Rattle.cur_drawing.specs.Differences.{AreEqualIn};
+ghost use Rattle.cur_looks.specs.declared.inks.Ink.{Ink};
 ghost use Rattle.cur_windows.specs.VirtualScreen.{colors_at};
+ghost use Rattle.cur_update.specs.Shift.{AreAlikeOutside, AreFound, IsShift, found_at};
 
 use crate::scrolls::{found_scroll, scroll_of};
 use cur_drawing::{Cell, PAIRS, first_diff, last_diff};
 use cur_paint::{Changes, Columns};
-use cur_scrolls::Scroll;
+use cur_scrolls::{Scroll, line_before};
 use cur_windows::Virtual;
 use ti_conforms::Certificate;
 
@@ -20,33 +22,107 @@ pub(crate) struct Shift<'a, C> {
     pub same_pairs: bool,
 }
 
-impl<'a, C: Certificate> Changes for Shift<'a, C> {
-    ghost use Rattle.std.specs.Prelude.{◌≤◌, ℕ};
-    ghost use Rattle.cur_looks.specs.declared.inks.Ink.{Ink};
-    ghost use Rattle.cur_paint.specs.Differ.{IsSameOutside};
-    ghost use Rattle.cur_update.specs.Shift.{IsShift};
-
-    ghost between = { λ s old new. IsShift (C.table s.checked.now) (C.partners s.checked.now)
-        s.shown.now s.screen.now s.same_pairs old new };
-
-    fn columns(&self, row: usize, cols: usize) -> Columns {
+impl<'a, C: Certificate> Shift<'a, C> {
+    /// The columns in which the line `to` of the screen may be printed otherwise than the line `from` of the one that was
+    /// shown last.
+    fn columns_between(&self, from: usize, to: usize, cols: usize) -> Columns
+        ensures order { result.from ≤ result.end }
+        ensures within { result.end ≤ cols }
+        ensures same { (old new : ℕ → ℕ → Ink) → IsShift (C.table self.now.checked.now) (C.partners self.now.checked.now)
+            self.now.shown.now self.now.screen.now self.now.same_pairs old new
+            → AreAlikeOutside old new from to result.from result.end cols }
+    {
         let (old_rows, old_cols) = self.shown.size();
         let (new_rows, new_cols) = self.screen.size();
         let is_same_size = old_rows == new_rows
             && old_cols == new_cols
             && cols == new_cols as usize;
-        if !(self.same_pairs && is_same_size && row < new_rows as usize) {
+        let rows = new_rows as usize;
+        if !(self.same_pairs && is_same_size && from < rows && to < rows) {
             return Columns { from: 0, end: cols };
         }
-        changed_columns(self.shown.row(row as u16), self.screen.row(row as u16))
+        changed_columns(self.shown.row(from as u16), self.screen.row(to as u16))
+    }
+
+    /// Finds for each line the columns in which it may be printed otherwise.
+    pub(crate) fn find(&self, columns: &mut [Columns], cols: usize)
+        ensures long { length columns.new ≡ length columns.old }
+        ensures found { (old new : ℕ → ℕ → Ink) → IsShift (C.table self.now.checked.now) (C.partners self.now.checked.now)
+            self.now.shown.now self.now.screen.now self.now.same_pairs old new
+            → AreFound columns.new (length columns.new) cols old new }
+    {
+        for row in 0..columns.len() {
+            columns[row] = self.columns_between(row, row, cols);
+        }
+    }
+}
+
+/// Where the virtual screen differs from what was shown last: for each line the columns, which were found once.
+#[derive(Drop)]
+pub(crate) struct Found<'a, C> {
+    pub shift: Shift<'a, C>,
+    /// As many as a line has.
+    pub cols: usize,
+    pub columns: &'a [Columns],
+}
+
+impl<'a, C: Certificate> Changes for Found<'a, C> {
+    ghost use Rattle.std.specs.Prelude.{◌≤◌, ℕ, length};
+    ghost use Rattle.cur_looks.specs.declared.inks.Ink.{Ink};
+    ghost use Rattle.cur_paint.specs.Differ.{IsSameOutside};
+    ghost use Rattle.cur_update.specs.Shift.{AreFound, IsShift};
+
+    ghost between = { λ f old new. IsShift (C.table f.shift.checked.now) (C.partners f.shift.checked.now)
+        f.shift.shown.now f.shift.screen.now f.shift.same_pairs old new
+        × AreFound f.columns.now (length f.columns.now) f.cols old new };
+
+    fn columns(&self, row: usize, cols: usize) -> Columns {
+        if cols != self.cols {
+            return Columns { from: 0, end: cols };
+        }
+        match kept(self.columns, row, cols) {
+            Some(columns) => columns,
+            None => Columns { from: 0, end: cols },
+        }
     }
 
     fn scroll(&self) -> Option<Scroll> {
-        match self.screen.hint() {
+        match self.shift.screen.hint() {
             Some(hint) => scroll_of(hint),
-            None => found_scroll(self.shown, self.screen),
+            None => found_scroll(self.shift.shown, self.shift.screen, self.columns),
         }
     }
+
+    fn columns_after(&self, scroll: Scroll, row: usize, cols: usize) -> Columns {
+        match line_before(scroll, row) {
+            Some(line) => self.shift.columns_between(line, row, cols),
+            None => Columns { from: 0, end: cols },
+        }
+    }
+}
+
+/// What was found of the line `row`, if it lies within `cols` columns.
+fn kept(columns: &[Columns], row: usize, cols: usize) -> Option<Columns>
+    ensures order { IfSome result (λ c. c.from ≤ c.end) }
+    ensures within { IfSome result (λ c. c.end ≤ cols) }
+    ensures there { IfSome result (λ c. row < length columns.now) }
+    ensures value { IfSome result (λ c. c ≡ found_at columns.now row) }
+{
+    if row >= columns.len() {
+        return None;
+    }
+    let found = columns[row];
+    if found.from <= found.end && found.end <= cols {
+        Some(found)
+    } else {
+        None
+    }
+}
+
+/// Whether the line `row` may differ.
+pub(crate) fn may_differ(columns: &[Columns], row: u16) -> bool {
+    let row = usize::from(row);
+    row < columns.len() && columns[row].from < columns[row].end
 }
 
 /// The columns in which two lines of one length may differ: none where they are equal.

@@ -10,12 +10,12 @@ ghost use Rattle.cur_update.specs.Painters.{IsPainter, mode_number, mode_of, set
 ghost use Rattle.cur_update.specs.Beep.{Rings};
 
 use crate::bells::{Unsent, ring};
-use crate::changes::{Shift, same_pairs};
+use crate::changes::{Found, Shift, same_pairs};
 use crate::inks::{has_line, means_of};
 use crate::screens::{PrintedScreen, all_cells};
 use cur_drawing::{Refusal, place_below};
 use cur_looks::{Mode, Place, Row};
-use cur_paint::{Knowledge, Screens, Status, Wanted};
+use cur_paint::{Columns, Knowledge, Screens, Status, Wanted};
 use cur_windows::{Size, Virtual};
 use cur_wires::{Wire, WireFault};
 use std::alloc::{AllocError, Global};
@@ -26,9 +26,16 @@ use ti_conforms::Certificate;
 #[derive(Drop)]
 pub struct Painter<C: Certificate> {
     checked: C,
-    shown: Virtual,
+    shown: Shown,
     session: Knowledge,
     mode: Mode,
+}
+
+/// The screen that was shown last, and room for the columns in which a line may differ from that.
+#[derive(Drop)]
+struct Shown {
+    screen: Virtual,
+    columns: Vec<Columns>,
 }
 
 impl<C: Certificate> Model for Painter<C> {
@@ -36,9 +43,9 @@ impl<C: Certificate> Model for Painter<C> {
 
     ghost Value = { Painted C };
 
-    ghost view = { λ p. record { checked = p.checked; shown = p.shown; session = p.session; mode = p.mode } };
+    ghost view = { λ p. record { checked = p.checked; shown = p.shown.screen; session = p.session; mode = p.mode } };
 
-    ghost invariant = { λ p. IsPainter (C.table p.checked) p.shown p.mode };
+    ghost invariant = { λ p. IsPainter (C.table p.checked) p.shown.screen p.mode };
 }
 
 impl<C: Certificate> Painter<C> {
@@ -54,10 +61,11 @@ impl<C: Certificate> Painter<C> {
         ensures mode { IfOk result (λ p. p.mode ≡ Normal) }
     {
         let size = Size::new(checked.rows(), checked.cols()).unwrap();
-        let shown = Virtual::new(alloc, size)?;
+        let screen = Virtual::new(alloc, size)?;
+        let columns = no_columns(alloc, checked.rows())?;
         Ok(Painter {
             checked,
-            shown,
+            shown: Shown { screen, columns },
             session: Knowledge::new(),
             mode: Mode::Normal,
         })
@@ -157,10 +165,19 @@ fn wanted_of(screen: &Virtual, mode: Mode) -> Wanted
     }
 }
 
-/// What goes out in a refresh; the first screen then is a copy of the other.
+/// No columns of so many lines.
+fn no_columns(alloc: Global, rows: usize) -> Result<Vec<Columns>, AllocError> {
+    let mut columns = Vec::with_capacity(alloc, rows)?;
+    for _row in 0..rows {
+        columns.push(Columns { from: 0, end: 0 })?;
+    }
+    Ok(columns)
+}
+
+/// What goes out in a refresh; what is shown then is a copy of the screen.
 fn refresh<C: Certificate, W: Wire>(
     checked: &C,
-    shown: &mut Virtual,
+    shown: &mut Shown,
     session: &mut Knowledge,
     wire: &mut W,
     screen: &Virtual,
@@ -168,29 +185,36 @@ fn refresh<C: Certificate, W: Wire>(
 ) -> Result<(), WireFault>
     requires rows { (screen.now).rows ≡ (C.table checked.now).rows }
     requires cols { (screen.now).cols ≡ (C.table checked.now).cols }
-    requires shown { IsPainter (C.table checked.now) shown.old wanted.mode }
+    requires shown { IsPainter (C.table checked.now) shown.old.screen wanted.mode }
     requires wanted { wanted ≡ wanted_of screen.now wanted.mode }
     ensures refreshes { Refreshes W.went W.failures wire.old wire.new result (C.table checked.now)
-        (ink_at (C.table checked.now) (C.partners checked.now) shown.old)
+        (ink_at (C.table checked.now) (C.partners checked.now) shown.old.screen)
         (ink_at (C.table checked.now) (C.partners checked.now) screen.now) wanted session.old session.new }
-    ensures shown { OnOk result (shown.new ≡ screen.now) }
-    ensures kept { OnErr result (shown.new ≡ shown.old) }
+    ensures shown { OnOk result (shown.new.screen ≡ screen.now) }
+    ensures kept { OnErr result (shown.new.screen ≡ shown.old.screen) }
 {
     // only these calls' contracts say that the certificate is verified, that each cell can be printed, and that the
     // cursor is on the screen
     let _ = checked.rows();
     all_cells(screen);
     let _ = screen.row(0);
-    let same_pairs = same_pairs(shown, screen);
+    let same_pairs = same_pairs(&shown.screen, screen);
     let shift = Shift {
-        shown: &*shown,
+        shown: &shown.screen,
         screen,
         checked,
         same_pairs,
     };
+    let cols = checked.cols();
+    shift.find(&mut shown.columns, cols);
+    let found = Found {
+        shift,
+        cols,
+        columns: &shown.columns,
+    };
     let means = means_of(checked);
     let old = PrintedScreen {
-        screen: &*shown,
+        screen: &shown.screen,
         checked,
         means,
     };
@@ -204,8 +228,8 @@ fn refresh<C: Certificate, W: Wire>(
         old: &old,
         new: &new,
     };
-    cur_paint::update(&screens, session, wire, &shift, wanted)?;
-    shown.copy_from(screen);
+    cur_paint::update(&screens, session, wire, &found, wanted)?;
+    shown.screen.copy_from(screen);
     Ok(())
 }
 

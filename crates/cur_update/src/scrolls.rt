@@ -1,7 +1,9 @@
 //! Lines that have moved, found by a look at few of them.
 ghost use Rattle.std.specs.Prelude.{◌≡◌, ◌+◌, ◌-◌, ◌<◌, ◌≤◌, IfSome};
 
+use crate::changes::may_differ;
 use cur_drawing::first_diff;
+use cur_paint::Columns;
 use cur_scrolls::Scroll;
 use cur_windows::{Hint, Virtual};
 
@@ -29,31 +31,25 @@ fn differs(old: &Virtual, new: &Virtual, from: u16, to: u16) -> bool
     first_diff(old.row(from), new.row(to)).is_some()
 }
 
-/// The first of their lines before line `end` that differs on two screens.
-fn first_changed(old: &Virtual, new: &Virtual, end: u16) -> Option<u16>
-    requires rows { (old.now).rows ≡ (new.now).rows }
-    requires cols { (old.now).cols ≡ (new.now).cols }
-    requires end { end ≤ (new.now).rows }
+/// The first line before line `end` that may differ by what was found of the lines.
+fn first_changed(columns: &[Columns], end: u16) -> Option<u16>
     ensures { IfSome result (λ y. y < end) }
 {
     for y in 0..end {
-        if differs(old, new, y, y) {
+        if may_differ(columns, y) {
             return Some(y);
         }
     }
     None
 }
 
-/// The last of their lines before line `end` that differs on two screens.
-fn last_changed(old: &Virtual, new: &Virtual, end: u16) -> Option<u16>
-    requires rows { (old.now).rows ≡ (new.now).rows }
-    requires cols { (old.now).cols ≡ (new.now).cols }
-    requires end { end ≤ (new.now).rows }
+/// The last line before line `end` that may differ by what was found of the lines.
+fn last_changed(columns: &[Columns], end: u16) -> Option<u16>
     ensures { IfSome result (λ y. y < end) }
 {
     for k in 0..end {
         let y = end - 1 - k;
-        if differs(old, new, y, y) {
+        if may_differ(columns, y) {
             return Some(y);
         }
     }
@@ -87,34 +83,32 @@ fn moved_between(old: &Virtual, new: &Virtual, top: u16, bottom: u16) -> Option<
     None
 }
 
-/// Whether of three lines, in the upper part, the middle and the lower part, two differ, so that it is worth a look at
-/// the others.
-fn differ_much(old: &Virtual, new: &Virtual, rows: u16) -> bool
-    requires rows { (old.now).rows ≡ (new.now).rows }
-    requires cols { (old.now).cols ≡ (new.now).cols }
-    requires all { rows ≡ (new.now).rows }
-    requires some { 0 < rows }
+/// Whether of three lines, in the upper part, the middle and the lower part, two may differ, so that it is worth a look
+/// at the others.
+fn differ_much(columns: &[Columns], rows: u16) -> bool
+    requires { 0 < rows }
 {
-    let middle = differs(old, new, rows / 2, rows / 2);
-    let upper = differs(old, new, rows / 4, rows / 4);
+    let middle = may_differ(columns, rows / 2);
+    let upper = may_differ(columns, rows / 4);
     match (middle, upper) {
         (true, true) => true,
         (false, false) => false,
-        _ => differs(old, new, rows - 1 - rows / 4, rows - 1 - rows / 4),
+        _ => may_differ(columns, rows - 1 - rows / 4),
     }
 }
 
-/// A scroll by which much of the screen `old` may have become the screen `new`, as far as few of their lines show.
-pub(crate) fn found_scroll(old: &Virtual, new: &Virtual) -> Option<Scroll> {
+/// A scroll by which much of the screen `old` may have become the screen `new`, as far as few of their lines show; by
+/// `columns` it is found which lines differ.
+pub(crate) fn found_scroll(old: &Virtual, new: &Virtual, columns: &[Columns]) -> Option<Scroll> {
     let (rows, cols) = old.size();
     let (new_rows, new_cols) = new.size();
     if rows != new_rows || cols != new_cols || rows == 0 {
         return None;
     }
-    if !differ_much(old, new, rows) {
+    if !differ_much(columns, rows) {
         return None;
     }
-    let bottom = last_changed(old, new, rows)?;
-    let top = first_changed(old, new, bottom)?;
+    let bottom = last_changed(columns, rows)?;
+    let top = first_changed(columns, bottom)?;
     moved_between(old, new, top, bottom)
 }

@@ -8,9 +8,10 @@ use Rattle.cur_drawing.specs.declared.refusals.Refusal.TheVariants.{OutOfWindow}
 use Rattle.cur_drawing.specs.Cells.{unless_space}
 use Rattle.cur_drawing.specs.Grids.{Grid, cell_at, is_in, overlaid, combined, taken}
 use Rattle.cur_drawing.proofs.DrawingFacts.{cell_at-drawn_in_off}
-use Rattle.cur_windows.specs.declared.copies.CopySpan.{CopySpan}
+use Rattle.cur_drawing.specs.declared.spans.CopySpan.{CopySpan}
 use Rattle.cur_windows.specs.declared.slots.Slot.{Slot}
-use Rattle.cur_windows.specs.Copies.{target_area, source_place, spans_copied, copied_or, matched, common, copy_span_at, copy_span_between, common_part, common_copied, copywin, in_order}
+use Rattle.cur_drawing.specs.Spans.{matched, common, copy_span_at, copy_span_between}
+use Rattle.cur_windows.specs.Copies.{target_area, source_place, spans_copied, copied_or, common_part, common_copied, copywin, in_order}
 use Rattle.cur_windows.specs.Desks.{State, DeskStep, IsDesk, IsPlaced, after, grid_at, window_at, slot_of}
 use Rattle.cur_windows.specs.Laws.{OnlyWithin}
 use Rattle.cur_windows.specs.Creations.{in_range, window_only}

@@ -6,13 +6,14 @@ use Rattle.grids.specs.declared.areas.Place.{Place}
 use Rattle.cur_drawing.specs.Cells.{unless_space}
 use Rattle.cur_drawing.specs.Grids.{Grid, overlaid, combined, taken, is_in, shape_of}
 use Rattle.cur_drawing.proofs.DrawingFacts.{shape_of-drawn}
-use Rattle.cur_windows.specs.declared.copies.CopySpan.{CopySpan}
+use Rattle.cur_drawing.specs.declared.spans.CopySpan.{CopySpan}
 use Rattle.cur_windows.specs.declared.slots.Slot.{Slot}
 use Rattle.cur_drawing.specs.declared.refusals.Refusal.{Refusal}
 use Rattle.cur_drawing.specs.declared.refusals.Refusal.TheVariants.{OutOfWindow}
 use Rattle.cur_windows.specs.Desks.{State, DeskStep, IsDesk, slot_of, after}
 use Rattle.cur_windows.specs.Creations.{in_range}
-use Rattle.cur_windows.specs.Copies.{spans_copied, target_area, source_place, copied_or, copywin, in_order, matched}
+use Rattle.cur_drawing.specs.Spans.{matched}
+use Rattle.cur_windows.specs.Copies.{spans_copied, target_area, source_place, copied_or, copywin, in_order}
 use Rattle.cur_windows.proofs.Closures.{grids_kept, shape_kept}
 
 -- the target's grid was taken out, and the source is another one

@@ -11,9 +11,10 @@ use Rattle.cur_drawing.specs.Grids.{Grid, Fits, is_in, line_at, cell_at, overlai
 use Rattle.cur_drawing.specs.Calls.{place}
 use Rattle.cur_drawing.specs.Spans.{start_within}
 use Rattle.cur_drawing.proofs.ByPlace.{copied_by_place, overlaid_by_place}
-use Rattle.cur_windows.specs.declared.copies.CopySpan.{CopySpan}
+use Rattle.cur_drawing.specs.declared.spans.CopySpan.{CopySpan}
 use Rattle.cur_windows.specs.declared.slots.Slot.{Slot}
-use Rattle.cur_windows.specs.Copies.{target_area, source_place, spans_copied, copied_or, matched, copy_span_at, copy_span_between, common_part, common_copied, copywin, in_order}
+use Rattle.cur_drawing.specs.Spans.{matched, copy_span_at, copy_span_between}
+use Rattle.cur_windows.specs.Copies.{target_area, source_place, spans_copied, copied_or, common_part, common_copied, copywin, in_order}
 use Rattle.cur_windows.specs.Desks.{State, DeskStep, IsDesk, IsPlaced, after, grid_at, window_at, slot_of, cell, whole_area}
 use Rattle.cur_windows.specs.Laws.{OnlyWithin}
 use Rattle.cur_windows.specs.Creations.{in_range, free, is_some_slot, window_only, corner, dupwin, copy_grid, copy_origin, root_added}

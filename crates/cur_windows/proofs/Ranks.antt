@@ -12,10 +12,10 @@ use Rattle.cur_drawing.specs.Calls as calls
 use Rattle.cur_drawing.specs.Calls.{Canvas, CanvasStep, canvas}
 use Rattle.cur_drawing.specs.Grids.{filled}
 use Rattle.cur_drawing.specs.Refusals.{IsFirstOf, first_refusal}
-use Rattle.cur_drawing.specs.Spans.{rectangle, span_within, is_negative, start_within}
+use Rattle.cur_drawing.specs.Spans.{rectangle, span_within, is_negative, start_within, matched}
 use Rattle.cur_drawing.specs.Windows as window_calls
 use Rattle.cur_drawing.specs.Windows.{WindowStep, cells_of, content, checked, is_printed, is_pair, place_below, as_is}
-use Rattle.cur_windows.specs.declared.copies.CopySpan.{CopySpan}
+use Rattle.cur_drawing.specs.declared.spans.CopySpan.{CopySpan}
 use Rattle.cur_windows.specs.declared.slots.Slot.{Slot}
 use Rattle.cur_windows.specs.Copies as copying
 use Rattle.cur_windows.specs.Desks as desks
@@ -188,8 +188,8 @@ overlay d skip n m = record {
 
 pub copywin : (d : State) (n m : ℕ) (sr sc dr dc er ec : ℤ) (skip : Bool) → IsFirstOf (causes.copywin d n m sr sc dr dc er ec) (copying.copywin d n m sr sc dr dc er ec skip).1
 copywin d n m sr sc dr dc er ec skip =
-    let rows : Slot → Slot → Option CopySpan = λ s t. copying.matched sr dr er s.window.area.rows t.window.area.rows in
-    let cols : Slot → Slot → Option CopySpan = λ s t. copying.matched sc dc ec s.window.area.cols t.window.area.cols in record {
+    let rows : Slot → Slot → Option CopySpan = λ s t. matched sr dr er s.window.area.rows t.window.area.rows in
+    let cols : Slot → Slot → Option CopySpan = λ s t. matched sc dc ec s.window.area.cols t.window.area.cols in record {
       order = refl;
       first = on_two d n m (λ s t. after (copying.in_order dr er dc ec) d (λ u. copying.copied_or (Err OutOfWindow) d s t skip (rows s t) (cols s t)))
           (λ o p. first_refusal ((BadRegion, int_lt er dr || int_lt ec dc) ∷ (OutOfWindow, slots_are (λ s t. not (is_some (rows s t) && is_some (cols s t))) o p) ∷ []))

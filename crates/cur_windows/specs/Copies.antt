@@ -1,45 +1,18 @@
 -- Copying from one window to another (X/Open Curses Issue 7, overlay, overwrite, copywin). What is read is what the
 -- source had before the call, also where both are parts of one grid.
-use Rattle.std.specs.Prelude.{ℕ, ◌+◌, ◌-◌, ◌≤◌, ◌||◌, nat_lt, min, max, slice_set, Bool, Option, Some, None, Result, Ok, Err, if◌then◌else◌, ℤ, int_lt}
+use Rattle.std.specs.Prelude.{ℕ, ◌+◌, ◌||◌, slice_set, Bool, Option, Some, None, Result, Ok, Err, if◌then◌else◌, ℤ, int_lt}
 use Rattle.grids.specs.declared.areas.Area.{Area}
 use Rattle.grids.specs.declared.areas.Place.{Place}
 use Rattle.cur_drawing.specs.declared.refusals.Refusal.{Refusal}
 use Rattle.cur_drawing.specs.declared.refusals.Refusal.TheVariants.{BadRegion, OutOfWindow}
 use Rattle.cur_drawing.specs.Grids.{overlaid}
 use Rattle.cur_drawing.specs.Calls.{place}
-use Rattle.cur_windows.specs.declared.copies.CopySpan.{CopySpan}
+use Rattle.cur_drawing.specs.declared.spans.CopySpan.{CopySpan}
 use Rattle.cur_windows.specs.declared.slots.Slot.{Slot}
 use Rattle.cur_windows.specs.Desks.{State, DeskStep, after, slot_of, grid_at}
 use Rattle.cur_windows.specs.Creations.{in_range, window_only}
-use Rattle.cur_drawing.specs.Spans.{start_within}
+use Rattle.cur_drawing.specs.Spans.{common, matched}
 use Rattle.cur_windows.specs.VirtualScreen.{area_on_screen}
-
--- the lines or columns lie in a source and a destination of so many
-pub record IsWithin (n m : ℕ) (s : CopySpan) : Type 0 where
-  pub source : s.from + s.count ≤ n
-  pub target : s.to + s.count ≤ m
-
--- the lines or columns that both have, the source's n from `at` on and the destination's m from `to` on
-abbrev pub common : ℕ → ℕ → ℕ → ℕ → Option CopySpan
-common at n to m =
-    if nat_lt (max at to) (min (at + n) (to + m)) then
-    Some (record { from = max at to - at; to = max at to - to; count = min (at + n) (to + m) - max at to })
-    else None
-
--- so many lines or columns of the destination from `to` on, where as many of the source were found
-abbrev pub copy_span_at : ℕ → ℕ → Option ℕ → Option CopySpan
-copy_span_at to count (Some from) = Some (record { from = from; to = to; count = count })
-copy_span_at to count None = None
-
-abbrev pub copy_span_between : ℤ → ℕ → Option ℕ → Option ℕ → Option CopySpan
-copy_span_between from n (Some to) (Some end) = copy_span_at to (end - to + 1) (start_within from (end - to + 1) n)
-copy_span_between from n (Some to) None = None
-copy_span_between from n None end = None
-
--- the destination's lines or columns `to` to `end`, and as many of the source from `from` on; the source has n, the
--- destination m
-abbrev pub matched : ℤ → ℤ → ℤ → ℕ → ℕ → Option CopySpan
-matched from to end n m = copy_span_between from n (start_within to 1 m) (start_within end 1 m)
 
 -- where the lines and columns lie in the destination's grid, and where they come from in the source's
 abbrev pub target_area : Slot → CopySpan → CopySpan → Area

@@ -1,12 +1,11 @@
 -- What the crate of pads calls: a pad lies on no screen, and parts of it are shown (X/Open Curses Issue 7, newpad,
 -- subpad, pnoutrefresh).
-use Rattle.std.specs.Prelude.{ℕ, ◌+◌, ◌-◌, Bool, true, false, Option, Some, None, Result, Ok, Err, if◌then◌else◌}
+use Rattle.std.specs.Prelude.{ℕ, ◌+◌, Bool, true, false, Result, Ok, Err}
 use Rattle.grids.specs.declared.areas.Area.{Area}
 use Rattle.grids.specs.declared.areas.Place.{Place}
 use Rattle.cur_drawing.specs.declared.refusals.Refusal.{Refusal}
-use Rattle.cur_drawing.specs.declared.windows.Window.{Window}
-use Rattle.cur_drawing.specs.Grids.{blank, is_in, moved_to}
-use Rattle.cur_drawing.specs.Windows.{fresh}
+use Rattle.cur_drawing.specs.Grids.{blank, moved_to}
+use Rattle.cur_drawing.specs.Windows.{fresh, part_cursor}
 use Rattle.cur_drawing.specs.Calls.{place}
 use Rattle.cur_windows.specs.declared.slots.Slot.{Slot}
 use Rattle.cur_windows.specs.Desks.{State, slot_of, grid_at, origin_at, on_screen, whole_area, with_window}
@@ -28,14 +27,6 @@ is_pad d n = pad_of d (slot_of d n)
 -- window n is made, a pad of so many rows and columns
 abbrev pub pad_added : State → ℕ → ℕ → ℕ → State
 pad_added d n rows cols = root_added d n (blank rows cols) (on_screen 0 0 true) (fresh (whole_area rows cols))
-
--- where a window's cursor stands on the screen if this part of it is shown from a place on: none where the window
--- leaves it, or where it doesn't lie in the part
-abbrev pub part_cursor : Window → Area → Place → Option Place
-part_cursor w part to =
-    if w.leaves then None
-    else if is_in part w.row w.col then Some (place (to.row + (w.row - part.top)) (to.col + (w.col - part.left)))
-    else None
 
 -- a part of window n is copied to a place of the screen, and the window's clearok goes over to it
 abbrev pub part_shown : State → Screen → ℕ → Slot → Area → Place → State × Screen

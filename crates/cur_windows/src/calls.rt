@@ -5,6 +5,7 @@ ghost use Rattle.cur_drawing.specs.Calls as call;
 ghost use Rattle.cur_drawing.specs.Windows as window;
 
 use crate::desks::Desk;
+use crate::hints::{after_writing, joined};
 use cur_drawing::{Attrs, Border, Put, Refusal};
 
 // The calls on one window. Each refuses with `Full` a number above 63, and else with `NoWindow` one that names no
@@ -115,13 +116,17 @@ impl Desk {
     }
 
     /// A character at the cursor, which moves on. `BadCell` for a byte above 127, else `BadPair` for a pair above 63,
-    /// else `NoScroll` where the cursor would leave the last line: the cell is written, and the cursor stays.
+    /// else `NoScroll` where the cursor would leave the last line: the cell is written, and the cursor stays. A window
+    /// that is as wide as the screen and scrolls then leaves a hint, as `scroll` does.
     pub fn addch(&mut self, id: usize, put: Put) -> Result<(), Refusal>
         ensures { spec.step self.new result ≡ spec.on_window self.old id (call.added put) }
     {
         let mut slot = self.find(id)?;
+        let region = self.region_of(&slot);
+        let mut lines = 0;
         let grid = &mut self.grids[slot.root as usize];
-        let answer = slot.window.add(grid, put);
+        let answer = slot.window.add(grid, put, &mut lines);
+        self.scrolled = after_writing(self.scrolled, region, lines);
         self.windows[id] = Some(slot);
         answer
     }
@@ -129,13 +134,17 @@ impl Desk {
     /// A string at the cursor. It stops at its first refusal, and what was written before stands. At `NoScroll` the
     /// byte at which it stopped was written too, and the cursor stays in the cell that was written last. The answer
     /// doesn't tell how many bytes that were: of a string without controls, as many as there were cells from the
-    /// cursor to the window's last one.
+    /// cursor to the window's last one. A window that is as wide as the screen and scrolls then leaves a hint, as
+    /// `scroll` does.
     pub fn addstr(&mut self, id: usize, text: &[u8]) -> Result<(), Refusal>
         ensures { spec.step self.new result ≡ spec.on_window self.old id (call.added_all text.now) }
     {
         let mut slot = self.find(id)?;
+        let region = self.region_of(&slot);
+        let mut lines = 0;
         let grid = &mut self.grids[slot.root as usize];
-        let answer = slot.window.add_all(grid, text);
+        let answer = slot.window.add_all(grid, text, &mut lines);
+        self.scrolled = after_writing(self.scrolled, region, lines);
         self.windows[id] = Some(slot);
         answer
     }
@@ -267,7 +276,8 @@ impl Desk {
         ensures { spec.step self.new result ≡ spec.on_grid self.old id (call.scroll_by n) }
     {
         let slot = self.find(id)?;
-        self.hint = self.hint_after(&slot, n);
+        let region = self.region_of(&slot);
+        self.scrolled = joined(self.scrolled, region.map(|region| region.by(n)));
         let grid = &mut self.grids[slot.root as usize];
         slot.window.scroll(grid, n)
     }

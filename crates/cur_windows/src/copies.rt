@@ -1,24 +1,17 @@
 //! Copying between windows: overlay, overwrite and copywin.
-ghost use Rattle.std.specs.Prelude.{◌≡◌, ◌<◌, ◌≤◌, ◌≤ℤ◌, ◌+◌, IfSome, OnOk, [], true, false, length, slice_index_or, slice_set};
-ghost use Rattle.cur_drawing.specs.Grids.{Fits, overlaid, moved_to, shape_of};
+ghost use Rattle.std.specs.Prelude.{◌≡◌, ◌<◌, ◌≤ℤ◌, OnOk, [], true, false, length, slice_index_or, slice_set};
+ghost use Rattle.cur_drawing.specs.Grids.{Fits, overlaid, moved_to};
 ghost use Rattle.cur_drawing.specs.Calls.{IsCanvas};
 ghost use Rattle.cur_windows.specs.Desks as spec;
-ghost use Rattle.cur_windows.specs.Copies.{IsWithin, common, common_part, copywin, in_order, matched, spans_copied};
+ghost use Rattle.cur_drawing.specs.Spans.{IsWithin};
+ghost use Rattle.cur_windows.specs.Copies.{common_part, copywin, in_order, spans_copied};
 
 use crate::creations::in_range;
 use crate::desks::Desk;
 use crate::slots::Slot;
-use cur_drawing::{Cell, Refusal, SkipSpaces, start_within};
+use cur_drawing::{Cell, CopySpan, Patch, Refusal, common, matched, overlay_from, overlay_shift};
 use grids::{Area, Grid, Place};
 use std::mem;
-
-/// Lines or columns that are copied: the first one in the source, the first one in the destination, and how many.
-#[derive(Clone, Copy)]
-pub struct CopySpan {
-    pub from: u16,
-    pub to: u16,
-    pub count: u16,
-}
 
 // Copying from a window to another one, or to itself, as if the source were read first. It takes no memory.
 impl Desk {
@@ -130,15 +123,6 @@ impl Desk {
     }
 }
 
-/// The rectangle `area` of a grid that gets the cells from the place `from` of a grid on, without the spaces among them
-/// if these are to `skip`.
-#[derive(Clone, Copy)]
-struct Patch {
-    area: Area,
-    from: Place,
-    skip: bool,
-}
-
 // A rectangle of one grid gets the cells of another one, or of itself, as they were before. The spare one stands in the
 // target's place while it is written.
 fn copy_between(
@@ -164,34 +148,6 @@ fn copy_between(
     grids[target] = grid;
 }
 
-// The patch of a grid gets the cells of another one.
-fn overlay_from(grid: &mut Grid<Cell>, source: &Grid<Cell>, patch: Patch)
-    requires target { Fits patch.area grid.old }
-    requires source { Fits (moved_to patch.area patch.from) source.now }
-    ensures value { grid.new ≡ overlaid patch.area patch.from patch.skip source.now grid.old }
-    ensures shape { shape_of grid.new ≡ shape_of grid.old }
-{
-    if patch.skip {
-        grid.merge_from(patch.area, source, patch.from, &SkipSpaces);
-    } else {
-        grid.copy_from(patch.area, source, patch.from);
-    }
-}
-
-// The patch of a grid gets the grid's own cells, as if they were all read first.
-fn overlay_shift(grid: &mut Grid<Cell>, patch: Patch)
-    requires target { Fits patch.area grid.old }
-    requires source { Fits (moved_to patch.area patch.from) grid.old }
-    ensures value { grid.new ≡ overlaid patch.area patch.from patch.skip grid.old grid.old }
-    ensures shape { shape_of grid.new ≡ shape_of grid.old }
-{
-    if patch.skip {
-        grid.merge_shift(patch.area, patch.from, &SkipSpaces);
-    } else {
-        grid.shift(patch.area, patch.from);
-    }
-}
-
 /// `BadRegion` where a last row or column is before the first one.
 pub fn in_order(top: i32, bottom: i32, left: i32, right: i32) -> Result<(), Refusal>
     ensures value { result ≡ in_order top bottom left right }
@@ -201,38 +157,4 @@ pub fn in_order(top: i32, bottom: i32, left: i32, right: i32) -> Result<(), Refu
         return Err(Refusal::BadRegion);
     }
     Ok(())
-}
-
-// The lines or columns that both have: the source's from `at` on, and the target's from `to` on.
-fn common(at: u16, count: u16, to: u16, limit: u16) -> Option<CopySpan>
-    ensures value { result ≡ common at count to limit }
-    ensures within { IfSome result (IsWithin count limit) }
-{
-    let first = at.max(to) as u32;
-    let end = (at as u32 + count as u32).min(to as u32 + limit as u32);
-    if first >= end {
-        return None;
-    }
-    Some(CopySpan {
-        from: (first - at as u32) as u16,
-        to: (first - to as u32) as u16,
-        count: (end - first) as u16,
-    })
-}
-
-// The target's lines or columns `to` to `last`, and as many of the source, if they are all there.
-fn matched(from: i32, to: i32, last: i32, count: u16, limit: u16) -> Option<CopySpan>
-    requires { to ≤ℤ last }
-    ensures value { result ≡ matched from to last count limit }
-    ensures within { IfSome result (IsWithin count limit) }
-{
-    let to = start_within(to, 1, limit)?;
-    let last = start_within(last, 1, limit)?;
-    let size = last - to + 1;
-    let from = start_within(from, size, count)?;
-    Some(CopySpan {
-        from,
-        to,
-        count: size,
-    })
 }

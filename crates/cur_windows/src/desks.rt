@@ -4,7 +4,7 @@ ghost use Rattle.cur_drawing.specs.Grids.{blank};
 ghost use Rattle.cur_windows.specs.Desks as spec;
 ghost use Rattle.cur_windows.specs.Desks.{IsPlaced, IsDesk};
 
-use crate::hints::Hint;
+use crate::hints::Scroll;
 use crate::slots::{Origin, Slot, whole_area};
 use cur_drawing::{Cell, Refusal, Window};
 use grids::Grid;
@@ -24,7 +24,7 @@ pub struct Desk {
     pub(crate) grids: Vec<Grid<Cell>>,
     pub(crate) origins: Vec<Origin>,
     pub(crate) windows: Vec<Option<Slot>>,
-    pub(crate) hint: Option<Hint>,
+    pub(crate) scrolled: Option<Scroll>,
 }
 
 impl Model for Desk {
@@ -73,7 +73,7 @@ impl Desk {
             grids,
             origins,
             windows,
-            hint: None,
+            scrolled: None,
         })
     }
 

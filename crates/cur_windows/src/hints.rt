@@ -1,8 +1,11 @@
-//! Hints at lines that were scrolled.
+//! Hints at lines that were scrolled, and which grids the screen's lines show.
 ghost use Rattle.std.specs.Prelude.{◌<◌};
 
 use crate::desks::Desk;
 use crate::slots::Slot;
+use crate::virtual_screen::Copy;
+use grids::Area;
+use vt_term::MAX_ROWS;
 
 /// The screen's rows from `top` to `bottom` went up by `up` lines, or down where that is negative. Nothing is promised of
 /// what they hold.
@@ -13,40 +16,144 @@ pub struct Hint {
     pub up: i32,
 }
 
+/// A hint, and the number of the grid whose lines went.
+#[derive(Clone, Copy)]
+pub(crate) struct Scroll {
+    pub root: u8,
+    pub hint: Hint,
+}
+
 impl Desk {
-    // What the desk remembers after the window's region went up by `n` lines: that and what it remembered of the same
-    // rows, if the window is as wide as the screen and may scroll, else what it remembered before.
-    pub(crate) fn hint_after(&self, slot: &Slot, n: i32) -> Option<Hint>
+    // The rows of the window's region, which went by no line yet: of a window that is as wide as the screen and may
+    // scroll, and no pad's.
+    pub(crate) fn region_of(&self, slot: &Slot) -> Option<Scroll>
         requires { (slot.now).root < 64 }
     {
         let window = slot.window;
         let origin = self.origins[slot.root as usize];
         if !window.scrolls || origin.pad || window.area.cols != self.cols {
-            return self.hint;
+            return None;
         }
         let top = origin.top.saturating_add(window.area.top);
         let hint = Hint {
             top: top.saturating_add(window.region_top),
             bottom: top.saturating_add(window.region_bottom),
-            up: n,
+            up: 0,
         };
-        Some(match self.hint {
-            Some(before) => before.and(hint),
-            None => hint,
+        Some(Scroll {
+            root: slot.root,
+            hint,
         })
     }
 }
 
-impl Hint {
-    // One scroll after another: of the same rows they add up, else the later one replaces the earlier one.
-    fn and(self, later: Hint) -> Hint {
-        if self.top == later.top && self.bottom == later.bottom {
-            Hint {
-                up: self.up.saturating_add(later.up),
-                ..later
-            }
-        } else {
-            later
+impl Scroll {
+    // These rows went up by so many lines.
+    pub(crate) fn by(self, up: i32) -> Scroll {
+        let hint = Hint { up, ..self.hint };
+        Scroll { hint, ..self }
+    }
+
+    // One scroll after another: of the same rows of one grid they add up, else the later one replaces the earlier one.
+    fn after(self, before: Scroll) -> Scroll {
+        let (early, late) = (before.hint, self.hint);
+        if before.root != self.root || early.top != late.top || early.bottom != late.bottom {
+            return self;
         }
+        self.by(early.up.saturating_add(late.up))
+    }
+}
+
+// What is remembered after this scroll, if there was one.
+pub(crate) fn joined(before: Option<Scroll>, later: Option<Scroll>) -> Option<Scroll> {
+    let Some(later) = later else {
+        return before;
+    };
+    match before {
+        Some(before) => Some(later.after(before)),
+        None => Some(later),
+    }
+}
+
+// What is remembered on the screen: the later scroll, if there was one.
+pub(crate) fn later_of(before: Option<Scroll>, later: Option<Scroll>) -> Option<Scroll> {
+    match later {
+        Some(later) => Some(later),
+        None => before,
+    }
+}
+
+// What is remembered after rows went up by so many lines while a window wrote.
+pub(crate) fn after_writing(
+    before: Option<Scroll>,
+    region: Option<Scroll>,
+    lines: u16,
+) -> Option<Scroll> {
+    if lines == 0 {
+        return before;
+    }
+    match region {
+        Some(region) => joined(before, Some(region.by(lines as i32))),
+        None => before,
+    }
+}
+
+/// Which grid was last copied over the whole of each line of the screen, by its number.
+#[derive(Clone, Copy)]
+pub(crate) struct Owners {
+    roots: [u8; MAX_ROWS],
+}
+
+// The number of no grid.
+const NONE: u8 = 255;
+
+impl Owners {
+    // Nothing was copied yet.
+    pub(crate) fn none() -> Owners {
+        Owners {
+            roots: [NONE; MAX_ROWS],
+        }
+    }
+
+    // Whether the grid was copied last over the whole of the line.
+    pub(crate) fn has(&self, row: u16, root: u8) -> bool {
+        (row as usize) < MAX_ROWS && self.roots[row as usize] == root
+    }
+
+    // The grid is copied over the whole of the area's lines.
+    fn cover(&mut self, area: Area, root: u8) {
+        let top = (area.top as usize).min(MAX_ROWS);
+        let end = (top + area.rows as usize).min(MAX_ROWS);
+        for row in top..end {
+            self.roots[row] = root;
+        }
+    }
+
+    // Whether one of the rows that went is still its grid's.
+    fn keep(&self, scroll: Scroll) -> bool {
+        for row in scroll.hint.top..scroll.hint.bottom.saturating_add(1) {
+            if self.has(row, scroll.root) {
+                return true;
+            }
+        }
+        false
+    }
+
+    // What is remembered after this copy to a screen of so many columns: no rows of which another grid has taken the
+    // last line. A copy that is narrower takes none.
+    pub(crate) fn take(&mut self, copy: Copy, cols: u16, before: Option<Scroll>) -> Option<Scroll> {
+        if copy.area.cols != cols {
+            return before;
+        }
+        let Some(scroll) = before else {
+            self.cover(copy.area, copy.root);
+            return None;
+        };
+        let was = self.keep(scroll);
+        self.cover(copy.area, copy.root);
+        if was && !self.keep(scroll) {
+            return None;
+        }
+        before
     }
 }

@@ -1,17 +1,15 @@
 //! What the crate of pads calls.
-ghost use Rattle.std.specs.Prelude.{◌≡◌, ◌<◌, ◌≤◌, ◌+◌, None, IfOk, IsOk, IfSome, MatchResult};
+ghost use Rattle.std.specs.Prelude.{◌≡◌, ◌<◌, ◌≤◌, ◌+◌, None, IfOk, IsOk, MatchResult};
 ghost use Rattle.cur_drawing.specs.Calls.{place};
-ghost use Rattle.cur_drawing.specs.Grids.{is_in};
-ghost use Rattle.cur_drawing.specs.Windows.{IsWindow};
 ghost use Rattle.cur_drawing.specs.Spans.{IsAreaWithin};
 ghost use Rattle.cur_windows.specs.Desks as spec;
 ghost use Rattle.cur_windows.specs.Creations as make;
-ghost use Rattle.cur_windows.specs.Pads.{area, is_pad, pad_added, part_cursor, part_shown};
+ghost use Rattle.cur_windows.specs.Pads.{area, is_pad, pad_added, part_shown};
 
 use crate::desks::{Desk, blank_grid};
 use crate::slots::{Origin, whole_area};
-use crate::virtual_screen::Virtual;
-use cur_drawing::{Refusal, Window};
+use crate::virtual_screen::{Copy, Virtual};
+use cur_drawing::{Refusal, Window, cursor_in_part};
 use grids::{Area, Place};
 use std::alloc::AllocError;
 
@@ -135,44 +133,15 @@ impl Desk {
         // a look at a field brings in the invariant: no screen is larger than a window may be
         let _ = &self.rows;
         let cursor = cursor_in_part(&slot.window, part, to);
-        screen.show(
+        let copy = Copy {
             area,
-            self.grid_of(&slot),
             from,
             cursor,
-            slot.window.clears,
-            None,
-        );
+            clears: slot.window.clears,
+            root: slot.root,
+        };
+        screen.show(copy, self.grid_of(&slot), None);
         slot.window.clears = false;
         self.windows[id] = Some(slot);
     }
-}
-
-// Where the window's cursor stands if this part of it is shown from a place on.
-fn cursor_in_part(window: &Window, part: Area, to: Place) -> Option<Place>
-    requires window { IsWindow window.now }
-    requires height { to.row + part.rows ≤ 1000 }
-    requires width { to.col + part.cols ≤ 1000 }
-    ensures value { result ≡ part_cursor window.now part to }
-    ensures within { IfSome result (λ p. (p.row < to.row + part.rows) × (p.col < to.col + part.cols)) }
-{
-    if window.leaves {
-        return None;
-    }
-    if !is_in(part, window.row, window.col) {
-        return None;
-    }
-    Some(Place {
-        row: to.row + (window.row - part.top),
-        col: to.col + (window.col - part.left),
-    })
-}
-
-fn is_in(part: Area, row: u16, col: u16) -> bool
-    ensures { result ≡ is_in part row col }
-{
-    let (row, col) = (row as u32, col as u32);
-    let (top, left) = (part.top as u32, part.left as u32);
-    let rows = top <= row && row < top + part.rows as u32;
-    rows && left <= col && col < left + part.cols as u32
 }

@@ -8,7 +8,7 @@ ghost use Rattle.cur_windows.specs.VirtualScreen.{refresh, noutrefresh, area_on_
 
 use crate::desks::Desk;
 use crate::slots::Slot;
-use crate::virtual_screen::Virtual;
+use crate::virtual_screen::{Copy, Virtual};
 use cur_drawing::{Cell, Refusal};
 use grids::{Area, Grid, Place};
 
@@ -29,15 +29,15 @@ impl Desk {
             row: slot.window.area.top,
             col: slot.window.area.left,
         };
-        screen.show(
+        let copy = Copy {
             area,
-            self.grid_of(&slot),
             from,
             cursor,
-            slot.window.clears,
-            self.hint,
-        );
-        self.hint = None;
+            clears: slot.window.clears,
+            root: slot.root,
+        };
+        screen.show(copy, self.grid_of(&slot), self.scrolled);
+        self.scrolled = None;
         slot.window.clears = false;
         self.windows[id] = Some(slot);
         Ok(())

@@ -2,11 +2,12 @@
 ghost use Rattle.std.specs.Prelude.{ℕ, length, slice_index_or, ◌≡◌, ◌<◌, ◌≤◌, ◌+◌, IfOk, IfSome, replicate};
 ghost use Rattle.cur_drawing.specs.Cells.{IsCell, space};
 ghost use Rattle.cur_drawing.specs.Grids.{Fits, line_at, moved_to};
+ghost use Rattle.cur_drawing.specs.Spans.{ArePlaces};
 ghost use Rattle.cur_windows.specs.VirtualScreen as spec;
 
 use crate::desks::blank_grid;
-use crate::hints::Hint;
-use cur_drawing::{Cell, PAIRS, Refusal, all_cells, place_below};
+use crate::hints::{Hint, Owners, Scroll, later_of};
+use cur_drawing::{Cell, PAIRS, Refusal, all_cells, copy_changed, place_below};
 use grids::{Area, Grid, Place};
 use std::alloc::{AllocError, Global};
 use std::marker::Model;
@@ -22,6 +23,17 @@ pub struct Colors {
     pub background: Option<u8>,
 }
 
+/// What is copied to the virtual screen: a rectangle of it gets the cells of the grid `root` from a place on, and the
+/// screen this cursor; it is to be cleared where `clears` says so.
+#[derive(Clone, Copy)]
+pub(crate) struct Copy {
+    pub area: Area,
+    pub from: Place,
+    pub cursor: Option<Place>,
+    pub clears: bool,
+    pub root: u8,
+}
+
 /// What the terminal is to show: cells, a cursor or none, and the colours of the pairs.
 #[derive(Drop)]
 pub struct Virtual {
@@ -31,7 +43,8 @@ pub struct Virtual {
     cursor: Option<Place>,
     clearok: bool,
     pairs: Vec<Colors>,
-    hint: Option<Hint>,
+    scrolled: Option<Scroll>,
+    owners: Owners,
 }
 
 impl Model for Virtual {
@@ -73,7 +86,8 @@ impl Virtual {
             cursor: Some(Place { row: 0, col: 0 }),
             clearok: false,
             pairs,
-            hint: None,
+            scrolled: None,
+            owners: Owners::none(),
         })
     }
 
@@ -117,7 +131,7 @@ impl Virtual {
         ensures order { IfSome result (λ h. h.top ≤ h.bottom) }
         ensures there { IfSome result (λ h. h.bottom < (self.now).rows) }
     {
-        let hint = self.hint?;
+        let hint = self.scrolled?.hint;
         if hint.top <= hint.bottom && hint.bottom < self.rows {
             Some(hint)
         } else {
@@ -130,7 +144,7 @@ impl Virtual {
         ensures { self.new ≡ spec.refreshed self.old }
     {
         self.clearok = false;
-        self.hint = None;
+        self.scrolled = None;
     }
 
     /// The colours of a pair (`init_pair`). `BadPair` for a pair that isn't 1 to 63, or a colour that isn't 0 to 7;
@@ -183,29 +197,24 @@ impl Virtual {
         self.pairs.copy_from_slice(&other.pairs);
         self.cursor = other.cursor;
         self.clearok = other.clearok;
-        self.hint = other.hint;
+        self.scrolled = other.scrolled;
+        self.owners = other.owners;
     }
 
-    // A rectangle gets the cells of a grid from a place on. A hint replaces an earlier one.
-    pub(crate) fn show(
-        &mut self,
-        area: Area,
-        grid: &Grid<Cell>,
-        from: Place,
-        cursor: Option<Place>,
-        clears: bool,
-        hint: Option<Hint>,
-    )
-        requires rows { area.top + area.rows ≤ (self.old).rows }
-        requires cols { area.left + area.cols ≤ (self.old).cols }
-        requires source { Fits (moved_to area from) grid.now }
-        requires cursor { IfSome cursor (λ p. (p.row < (self.old).rows) × (p.col < (self.old).cols)) }
-        ensures { self.new ≡ spec.shown area grid.now from cursor clears self.old }
+    // A rectangle gets the cells of a grid from a place on. A scroll replaces the one that is remembered.
+    pub(crate) fn show(&mut self, copy: Copy, grid: &Grid<Cell>, scrolled: Option<Scroll>)
+        requires rows { copy.area.top + copy.area.rows ≤ (self.old).rows }
+        requires cols { copy.area.left + copy.area.cols ≤ (self.old).cols }
+        requires source { Fits (moved_to copy.area copy.from) grid.now }
+        requires places { ArePlaces copy.area copy.from }
+        requires cursor { IfSome copy.cursor (λ p. (p.row < (self.old).rows) × (p.col < (self.old).cols)) }
+        ensures { self.new ≡ spec.shown copy.area grid.now copy.from copy.cursor copy.clears self.old }
     {
-        self.grid.copy_from(area, grid, from);
-        self.cursor = cursor;
-        self.clearok = self.clearok | clears;
-        self.hint = hint.or(self.hint);
+        copy_changed(&mut self.grid, copy.area, grid, copy.from);
+        let kept = self.owners.take(copy, self.cols, self.scrolled);
+        self.scrolled = later_of(kept, scrolled);
+        self.cursor = copy.cursor;
+        self.clearok = self.clearok | copy.clears;
     }
 }
 

@@ -1,5 +1,5 @@
 -- What a program's bytes give: an entry, a certificate of it, and what that shows.
-use Rattle.std.specs.Prelude.{ℕ, ◌≡◌, ◌⊎◌, List, [], ◌∷◌, Ok}
+use Rattle.std.specs.Prelude.{ℕ, ◌≡◌, ◌⊎◌, List, [], ◌∷◌, Ok, Err}
 use Rattle.vt_term.specs.Size.{IsSize}
 use Rattle.ti_caps.specs.Entry.{Content, string_at}
 use Rattle.ti_cert.specs.Table.{CheckedTable, table_of}
@@ -8,14 +8,33 @@ use Rattle.ti_checker.specs.No.{IsNo}
 use Rattle.ti_checker.specs.declared.causes.Cause.{Cause}
 use Rattle.ti_checker.specs.declared.causes.Cause.TheVariants as causes
 use Rattle.ti_checker.specs.declared.causes.No.{No}
+use Rattle.ti_cert.specs.Disagreements.{IsAgreeRefused}
+use Rattle.ti_cert.specs.Texts.{IsCertRefused}
+use Rattle.ti_cert.specs.declared.faults.AgreeFault.{AgreeFault}
+use Rattle.ti_cert.specs.declared.faults.AgreeFault.TheVariants as agrees
+use Rattle.ti_cert.specs.declared.faults.CertFaultKind.{CertFaultKind}
+use Rattle.ti_cert.specs.declared.faults.CertFaultKind.TheVariants as certs
+use Rattle.ti_cert.specs.declared.faults.VerifyFault.{VerifyFault}
+use Rattle.ti_cert.specs.declared.faults.VerifyFault.TheVariants.{Cert, Agree}
+use Rattle.ti_compiled.specs.Contents as compiled
 use Rattle.ti_compiled.specs.Contents.{fit_of, read_of}
+use Rattle.ti_compiled.specs.declared.types.PackFault.{PackFault}
+use Rattle.ti_compiled.specs.declared.types.PackFault.TheVariants as packs
 use Rattle.ti_conforms.specs.Conforms.{Conforms}
 use Rattle.ti_conforms.specs.Entries.{EntryAgrees, acsc}
 use Rattle.ti_resolve.specs.Resolved.{IsResolved}
+use Rattle.ti_resolve.specs.Walk as walk
+use Rattle.ti_resolve.specs.Walk.{walk_of}
+use Rattle.ti_resolve.specs.declared.faults.ResolveFault.{ResolveFault}
+use Rattle.ti_resolve.specs.declared.faults.ResolveFault.TheVariants as walks
+use Rattle.ti_source.specs.Source as source
 use Rattle.ti_source.specs.Source.{source_of}
+use Rattle.ti_source.specs.declared.types.FaultKind.{FaultKind}
+use Rattle.ti_source.specs.declared.types.FaultKind.TheVariants as sources
+use Rattle.ti_source.specs.declared.types.SourceFault.{SourceFault}
 use Rattle.ti_source.specs.declared.types.RawEntry.{RawEntry}
 use Rattle.curses_c.specs.declared.codes.Failure.{Failure}
-use Rattle.curses_c.specs.declared.codes.Failure.TheVariants.{NoMemory, BadSize, BadEntry, NoCertificate}
+use Rattle.curses_c.specs.declared.codes.Failure.TheVariants.{NoMemory, BadSize, BadEntry, BadCertificate, NoCertificate}
 
 -- a compiled file
 abbrev pub GivesPacked : List ℕ → Content → Type 0
@@ -30,12 +49,36 @@ abbrev pub Gives : List ℕ → List ℕ → Content → Type 0
 Gives bytes [] entry = GivesPacked bytes entry
 Gives bytes (b ∷ name) entry = GivesNamed bytes (b ∷ name) entry
 
-abbrev pub IsOfEntry : Failure → Type 0
-IsOfEntry e = (e ≡ BadEntry) ⊎ (e ≡ NoMemory)
+-- the failure that a fault is: want of memory is itself, any other says that there is no entry
+abbrev pub IsOfPack : PackFault → Failure → Type 0
+IsOfPack packs.NoMemory e = e ≡ NoMemory
+IsOfPack fault e = e ≡ BadEntry
+
+abbrev pub IsOfSource : FaultKind → Failure → Type 0
+IsOfSource sources.NoMemory e = e ≡ NoMemory
+IsOfSource kind e = e ≡ BadEntry
+
+abbrev pub IsOfWalk : ResolveFault → Failure → Type 0
+IsOfWalk walks.NoMemory e = e ≡ NoMemory
+IsOfWalk fault e = e ≡ BadEntry
+
+-- the bytes are no compiled file, or one whose values fit no entry
+abbrev pub LacksPacked : List ℕ → Failure → Type 0
+LacksPacked bytes e = ((fault : PackFault) × (read_of bytes ≡ Err fault) × (e ≡ BadEntry))
+    ⊎ ((packed : Content) × (read_of bytes ≡ Ok packed) × ((fault : PackFault) × compiled.FailsBy fault (fit_of packed) × IsOfPack fault e))
+
+-- the text has a fault, or the entry of the name can't be had from it
+abbrev pub LacksNamed : List ℕ → List ℕ → Failure → Type 0
+LacksNamed text name e = ((fault : SourceFault) × source.FailsBy fault.kind fault (source_of text) × IsOfSource fault.kind e)
+    ⊎ ((raws : List RawEntry) × (source_of text ≡ Ok raws) × ((fault : ResolveFault) × walk.FailsBy fault (walk_of raws name) × IsOfWalk fault e))
+
+abbrev pub LacksEntry : List ℕ → List ℕ → Failure → Type 0
+LacksEntry bytes [] e = LacksPacked bytes e
+LacksEntry bytes (b ∷ name) e = LacksNamed bytes (b ∷ name) e
 
 -- the size comes first, then the entry
-abbrev pub Lacks : ℕ → ℕ → Failure → Type 0
-Lacks rows cols e = ((e ≡ BadSize) × (IsSize rows cols → ⊥)) ⊎ (IsSize rows cols × IsOfEntry e)
+abbrev pub Lacks : List ℕ → List ℕ → ℕ → ℕ → Failure → Type 0
+Lacks bytes name rows cols e = ((e ≡ BadSize) × (IsSize rows cols → ⊥)) ⊎ (IsSize rows cols × LacksEntry bytes name e)
 
 -- the entry conforms, and these are just the strings that it sends
 pub record IsShown (entry : Content) (height width : ℕ) (checked : CheckedTable) : Type 0 where
@@ -44,6 +87,26 @@ pub record IsShown (entry : Content) (height width : ℕ) (checked : CheckedTabl
   pub cols : checked.known.strings.cols ≡ width
   pub sends : EntryAgrees height width entry (table_of checked).line_of
   pub partners : checked.acsc ≡ string_at entry acsc
+
+-- the failure that a refusal to verify is
+abbrev pub IsOfCert : CertFaultKind → Failure → Type 0
+IsOfCert certs.NoMemory e = e ≡ NoMemory
+IsOfCert kind e = e ≡ BadCertificate
+
+abbrev pub IsOfAgree : AgreeFault → Failure → Type 0
+IsOfAgree agrees.NoMemory e = e ≡ NoMemory
+IsOfAgree (agrees.Disagree cap numbers) e = e ≡ BadCertificate
+
+abbrev pub IsOfVerify : VerifyFault → Failure → Type 0
+IsOfVerify (Cert fault) e = IsOfCert fault.kind e
+IsOfVerify (Agree fault) e = IsOfAgree fault e
+
+-- the certificate has this fault, or it isn't that of the entry, as the fault says
+pub record IsUnshown (entry : Content) (rows cols : ℕ) (certificate : List ℕ) (e : Failure) : Type 0 where
+  pub fault : VerifyFault
+  pub of_text : IsCertRefused rows cols certificate ⊥ fault
+  pub of_entry : IsAgreeRefused rows cols certificate entry fault
+  pub failure : IsOfVerify fault e
 
 -- the text is the certificate of the entry, which conforms
 pub record IsCertified (entry : Content) (rows cols : ℕ) (text : List ℕ) : Type 0 where

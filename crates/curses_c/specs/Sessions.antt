@@ -1,12 +1,13 @@
 -- What the calls on sessions answer and do to a handle.
-use Rattle.std.specs.Prelude.{ℕ, ℤ, pos, ◌≡◌, List, [], Option, Some, None}
+use Rattle.std.specs.Prelude.{ℕ, ℤ, pos, ◌≡◌, ◌⊎◌, List, [], ◌∷◌, Option, Some, None}
 use Rattle.ti_caps.specs.Entry.{Content}
 use Rattle.ti_cert.specs.Table.{certified}
 use Rattle.ti_conforms.specs.Certified.{IsChecked}
 use Rattle.cur_play.specs.Scenes.{first, scene_of}
 use Rattle.curses_c.specs.Codes.{failure_code}
-use Rattle.curses_c.specs.Entries.{Gives, IsShown}
+use Rattle.curses_c.specs.Entries.{Gives, IsCertified, IsShown, IsUncertified, IsUnshown, Lacks}
 use Rattle.curses_c.specs.declared.codes.Failure.{Failure}
+use Rattle.curses_c.specs.declared.codes.Failure.TheVariants.{NoMemory}
 use Rattle.curses_c.specs.declared.held.Held.{Held}
 
 -- a call on an open handle does this; a closed one stays closed, and the answer is this one
@@ -29,7 +30,31 @@ pub record IsOpened (bytes name : List ℕ) (rows cols : ℕ) (h : Held) : Type 
   pub nothing : h.outbox.waiting ≡ []
   pub checked : IsChecked (certified h.session.painter.checked)
 
+-- a certificate that was made here isn't accepted
+pub record IsOwnUnshown (entry : Content) (rows cols : ℕ) (e : Failure) : Type 0 where
+  pub text : List ℕ
+  pub certified : IsCertified entry rows cols text
+  pub unshown : IsUnshown entry rows cols text e
+
+-- the entry has no certificate
+abbrev pub LacksOwn : Content → ℕ → ℕ → Failure → Type 0
+LacksOwn entry rows cols e = IsUncertified entry rows cols e ⊎ IsOwnUnshown entry rows cols e
+
+-- so where none was given; else the one that was given isn't its own
+abbrev pub LacksChecked : Content → ℕ → ℕ → List ℕ → Failure → Type 0
+LacksChecked entry rows cols [] e = LacksOwn entry rows cols e
+LacksChecked entry rows cols (b ∷ certificate) e = IsUnshown entry rows cols (b ∷ certificate) e
+
+-- the entry is there, but has no certificate, or memory ran out
+pub record IsUnopenedEntry (bytes name : List ℕ) (rows cols : ℕ) (certificate : List ℕ) (e : Failure) : Type 0 where
+  pub entry : Content
+  pub gives : Gives bytes name entry
+  pub unopened : LacksChecked entry rows cols certificate e ⊎ (e ≡ NoMemory)
+
+abbrev pub IsUnopened : List ℕ → List ℕ → ℕ → ℕ → List ℕ → Failure → Type 0
+IsUnopened bytes name rows cols certificate e = Lacks bytes name rows cols e ⊎ IsUnopenedEntry bytes name rows cols certificate e
+
 -- it is open, or there is a failure
-abbrev pub Opens : List ℕ → List ℕ → ℕ → ℕ → ℤ → Option Held → Type 0
-Opens bytes name rows cols code (Some h) = (code ≡ pos 0) × IsOpened bytes name rows cols h
-Opens bytes name rows cols code None = (failure : Failure) × (code ≡ failure_code failure)
+abbrev pub Opens : List ℕ → List ℕ → ℕ → ℕ → List ℕ → ℤ → Option Held → Type 0
+Opens bytes name rows cols certificate code (Some h) = (code ≡ pos 0) × IsOpened bytes name rows cols h
+Opens bytes name rows cols certificate code None = (failure : Failure) × IsUnopened bytes name rows cols certificate failure × (code ≡ failure_code failure)

@@ -6,7 +6,7 @@ use Rattle.ti_checker.specs.No.{IsNo}
 use Rattle.ti_checker.specs.declared.causes.No.{No}
 use Rattle.ti_verdicts.specs.Refusals.{no_text}
 use Rattle.curses_c.specs.Codes.{failure_code}
-use Rattle.curses_c.specs.Entries.{Gives, IsCertified, IsShown, IsUncertified, Lacks}
+use Rattle.curses_c.specs.Entries.{Gives, IsCertified, IsShown, IsUncertified, IsUnshown, Lacks}
 use Rattle.curses_c.specs.declared.codes.Failure.{Failure}
 use Rattle.curses_c.specs.declared.codes.Failure.TheVariants.{NoMemory}
 
@@ -23,7 +23,7 @@ pub record DeniesEntry (bytes name : List ℕ) (rows cols : ℕ) (e : Failure) :
   pub refused : IsUncertified entry rows cols e
 
 abbrev pub Denies : List ℕ → List ℕ → ℕ → ℕ → Failure → Type 0
-Denies bytes name rows cols e = Lacks rows cols e ⊎ DeniesEntry bytes name rows cols e
+Denies bytes name rows cols e = Lacks bytes name rows cols e ⊎ DeniesEntry bytes name rows cols e
 
 -- a no that is so of the entry, and its words
 pub record IsReason (entry : Content) (rows cols : ℕ) (words : List ℕ) : Type 0 where
@@ -36,6 +36,10 @@ pub record Reasons (bytes name : List ℕ) (rows cols : ℕ) (words : List ℕ) 
   pub entry : Content
   pub gives : Gives bytes name entry
   pub reason : (words ≡ []) ⊎ IsReason entry rows cols words
+
+-- the size or the entry is lacking, or memory ran out
+abbrev pub LacksReason : List ℕ → List ℕ → ℕ → ℕ → Failure → Type 0
+LacksReason bytes name rows cols e = Lacks bytes name rows cols e ⊎ (e ≡ NoMemory)
 
 abbrev pub SameWords : {A E : Type 0} → Result A E → Result A Failure → Type 0
 SameWords (Ok words) result = result ≡ Ok words
@@ -66,5 +70,15 @@ pub record IsVerified (bytes name : List ℕ) (rows cols : ℕ) : Type 0 where
   pub checked : CheckedTable
   pub shown : IsShown entry rows cols checked
 
-abbrev pub Verifies : List ℕ → List ℕ → ℕ → ℕ → ℤ → Type 0
-Verifies bytes name rows cols code = (IsVerified bytes name rows cols × (code ≡ pos 0)) ⊎ ((e : Failure) × (code ≡ failure_code e))
+-- the size or the entry is lacking, or the certificate isn't one of the entry
+pub record IsUnverifiedEntry (bytes name : List ℕ) (rows cols : ℕ) (certificate : List ℕ) (e : Failure) : Type 0 where
+  pub entry : Content
+  pub gives : Gives bytes name entry
+  pub unshown : IsUnshown entry rows cols certificate e
+
+abbrev pub IsUnverified : List ℕ → List ℕ → ℕ → ℕ → List ℕ → Failure → Type 0
+IsUnverified bytes name rows cols certificate e = Lacks bytes name rows cols e ⊎ IsUnverifiedEntry bytes name rows cols certificate e
+
+abbrev pub Verifies : List ℕ → List ℕ → ℕ → ℕ → List ℕ → ℤ → Type 0
+Verifies bytes name rows cols certificate code = (IsVerified bytes name rows cols × (code ≡ pos 0))
+    ⊎ ((e : Failure) × IsUnverified bytes name rows cols certificate e × (code ≡ failure_code e))

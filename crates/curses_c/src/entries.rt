@@ -39,7 +39,8 @@ pub fn describe(alloc: Global, subject: &Subject<'_>) -> Result<Described, Failu
     ensures given { IfOk result (λ d. spec.Gives subject.now.bytes.now subject.now.name.now d.entry) }
     ensures rows { IfOk result (λ d. d.size.rows ≡ subject.now.rows) }
     ensures cols { IfOk result (λ d. d.size.cols ≡ subject.now.cols) }
-    ensures lacks { IfErr result (spec.Lacks subject.now.rows subject.now.cols) }
+    ensures lacks { IfErr result (spec.Lacks subject.now.bytes.now subject.now.name.now
+        subject.now.rows subject.now.cols) }
 {
     let size = size_of(subject.rows, subject.cols)?;
     let entry = entry_of(alloc, subject.bytes, subject.name)?;
@@ -62,7 +63,7 @@ fn size_of(rows: u16, cols: u16) -> Result<Size, Failure>
 /// The entry of a compiled file, or, where there is a name, of a source text.
 fn entry_of(alloc: Global, bytes: &[u8], name: &[u8]) -> Result<Entry, Failure>
     ensures given { IfOk result (spec.Gives bytes.now name.now) }
-    ensures lacks { IfErr result spec.IsOfEntry }
+    ensures lacks { IfErr result (spec.LacksEntry bytes.now name.now) }
 {
     match name {
         [] => packed_entry(alloc, bytes),
@@ -72,21 +73,30 @@ fn entry_of(alloc: Global, bytes: &[u8], name: &[u8]) -> Result<Entry, Failure>
 
 fn packed_entry(alloc: Global, bytes: &[u8]) -> Result<Entry, Failure>
     ensures given { IfOk result (spec.GivesPacked bytes.now) }
-    ensures lacks { IfErr result spec.IsOfEntry }
+    ensures lacks { IfErr result (spec.LacksPacked bytes.now) }
 {
-    let Ok(packed) = decode(bytes) else {
-        return Err(Failure::BadEntry);
+    let packed = match decode(bytes) {
+        Ok(packed) => packed,
+        Err(_) => return Err(Failure::BadEntry),
     };
     match packed.to_entry(alloc) {
         Ok(entry) => Ok(entry),
-        Err(PackFault::NoMemory) => Err(Failure::NoMemory),
-        Err(_) => Err(Failure::BadEntry),
+        Err(fault) => Err(pack_failure(fault)),
+    }
+}
+
+fn pack_failure(fault: PackFault) -> Failure
+    ensures { spec.IsOfPack fault result }
+{
+    match fault {
+        PackFault::NoMemory => Failure::NoMemory,
+        _ => Failure::BadEntry,
     }
 }
 
 fn source_entry(alloc: Global, text: &[u8], name: &[u8]) -> Result<Entry, Failure>
     ensures given { IfOk result (spec.GivesNamed text.now name.now) }
-    ensures lacks { IfErr result spec.IsOfEntry }
+    ensures lacks { IfErr result (spec.LacksNamed text.now name.now) }
 {
     let raws = match read(alloc, text) {
         Ok(raws) => raws,
@@ -94,16 +104,24 @@ fn source_entry(alloc: Global, text: &[u8], name: &[u8]) -> Result<Entry, Failur
     };
     match resolve(alloc, raws.as_slice(), name) {
         Ok(entry) => Ok(entry),
-        Err(ResolveFault::NoMemory) => Err(Failure::NoMemory),
-        Err(_) => Err(Failure::BadEntry),
+        Err(fault) => Err(resolve_failure(&fault)),
     }
 }
 
 fn source_failure(kind: FaultKind) -> Failure
-    ensures { spec.IsOfEntry result }
+    ensures { spec.IsOfSource kind result }
 {
     match kind {
         FaultKind::NoMemory => Failure::NoMemory,
+        _ => Failure::BadEntry,
+    }
+}
+
+fn resolve_failure(fault: &ResolveFault) -> Failure
+    ensures { spec.IsOfWalk fault.now result }
+{
+    match fault {
+        ResolveFault::NoMemory => Failure::NoMemory,
         _ => Failure::BadEntry,
     }
 }
@@ -115,6 +133,8 @@ pub fn checked_by(
     certificate: &[u8],
 ) -> Result<Checked, Failure>
     ensures shown { IfOk result (spec.IsShown described.now.entry described.now.size.rows described.now.size.cols) }
+    ensures unshown { IfErr result (spec.IsUnshown described.now.entry described.now.size.rows
+        described.now.size.cols certificate.now) }
 {
     match verify(alloc, &described.entry, described.size, certificate) {
         Ok(checked) => Ok(checked),
@@ -122,14 +142,30 @@ pub fn checked_by(
     }
 }
 
-fn verify_failure(fault: &VerifyFault) -> Failure {
+fn verify_failure(fault: &VerifyFault) -> Failure
+    ensures { spec.IsOfVerify fault.now result }
+{
     match fault {
-        VerifyFault::Cert(fault) => match fault.kind {
-            CertFaultKind::NoMemory => Failure::NoMemory,
-            _ => Failure::BadCertificate,
-        },
-        VerifyFault::Agree(AgreeFault::NoMemory) => Failure::NoMemory,
-        VerifyFault::Agree(_) => Failure::BadCertificate,
+        VerifyFault::Cert(fault) => cert_failure(&fault.kind),
+        VerifyFault::Agree(fault) => agree_failure(fault),
+    }
+}
+
+fn cert_failure(kind: &CertFaultKind) -> Failure
+    ensures { spec.IsOfCert kind.now result }
+{
+    match kind {
+        CertFaultKind::NoMemory => Failure::NoMemory,
+        _ => Failure::BadCertificate,
+    }
+}
+
+fn agree_failure(fault: &AgreeFault) -> Failure
+    ensures { spec.IsOfAgree fault.now result }
+{
+    match fault {
+        AgreeFault::NoMemory => Failure::NoMemory,
+        AgreeFault::Disagree { .. } => Failure::BadCertificate,
     }
 }
 

@@ -1,12 +1,12 @@
 //! The calls on sessions.
-ghost use Rattle.std.specs.Prelude.{◌≡◌, None, IfOk, length, pos, take};
+ghost use Rattle.std.specs.Prelude.{◌≡◌, None, IfErr, IfOk, length, pos, take};
 ghost use Rattle.cur_calls.specs.declared.calls.Call.TheVariants.{Addstr};
 ghost use Rattle.cur_calls.specs.Texts.{script_of};
 ghost use Rattle.cur_play.specs.declared.answers.Answer.{Answer};
 ghost use Rattle.curses_c.specs.Codes.{answer_code};
 ghost use Rattle.curses_c.specs.Entries.{IsShown};
 ghost use Rattle.curses_c.specs.Held.{Hands, Loses, Makes, Says};
-ghost use Rattle.curses_c.specs.Sessions.{Answers, IsOpened, Opens, closed};
+ghost use Rattle.curses_c.specs.Sessions.{Answers, IsOpened, IsUnopened, LacksChecked, LacksOwn, Opens, closed};
 
 use crate::codes::{Failure, OK, answer_code, failure_code};
 use crate::entries::{Described, Subject, certificate_of, checked_by, describe};
@@ -27,7 +27,7 @@ pub extern "C" fn ticurses_raw_open(
     cols: u16,
     certificate: &[u8],
 ) -> i32
-    ensures { Opens entry.now name.now rows cols result (handle.new).slot.held }
+    ensures { Opens entry.now name.now rows cols certificate.now result (handle.new).slot.held }
 {
     let _ = handle.take(alloc);
     let subject = Subject {
@@ -50,8 +50,10 @@ fn open(
     subject: &Subject<'_>,
     certificate: &[u8],
 ) -> Result<Box<Held, Global>, Failure>
-    ensures { IfOk result (λ b. IsOpened subject.now.bytes.now subject.now.name.now subject.now.rows subject.now.cols
-        b.value) }
+    ensures opened { IfOk result (λ b. IsOpened subject.now.bytes.now subject.now.name.now subject.now.rows
+        subject.now.cols b.value) }
+    ensures unopened { IfErr result (IsUnopened subject.now.bytes.now subject.now.name.now subject.now.rows
+        subject.now.cols certificate.now) }
 {
     let described = describe(alloc, subject)?;
     let checked = checked_for(alloc, &described, certificate)?;
@@ -66,14 +68,23 @@ fn open(
 
 /// What `certificate` shows, or, where it is empty, what one that is made here does.
 fn checked_for(alloc: Global, described: &Described, certificate: &[u8]) -> Result<Checked, Failure>
-    ensures { IfOk result (IsShown described.now.entry described.now.size.rows described.now.size.cols) }
+    ensures shown { IfOk result (IsShown described.now.entry described.now.size.rows described.now.size.cols) }
+    ensures lacks { IfErr result (LacksChecked described.now.entry described.now.size.rows
+        described.now.size.cols certificate.now) }
 {
-    if certificate.is_empty() {
-        let text = certificate_of(alloc, described)?;
-        checked_by(alloc, described, text.as_slice())
-    } else {
-        checked_by(alloc, described, certificate)
+    match certificate {
+        [] => checked_by_own(alloc, described),
+        _ => checked_by(alloc, described, certificate),
     }
+}
+
+/// What the entry's certificate, which is made here, shows.
+fn checked_by_own(alloc: Global, described: &Described) -> Result<Checked, Failure>
+    ensures shown { IfOk result (IsShown described.now.entry described.now.size.rows described.now.size.cols) }
+    ensures lacks { IfErr result (LacksOwn described.now.entry described.now.size.rows described.now.size.cols) }
+{
+    let text = certificate_of(alloc, described)?;
+    checked_by(alloc, described, text.as_slice())
 }
 
 /// Closes a session; a handle that holds none stays as it is. Nothing is sent: `endwin` comes before it.

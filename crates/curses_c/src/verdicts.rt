@@ -54,8 +54,8 @@ pub extern "C" fn ticurses_raw_reason(
     room: &mut [u8],
     needed: &mut usize,
 ) -> i32
-    ensures { spec.Answers (spec.Reasons entry.now name.now rows cols) (λ _. Unit {0}) room.old room.new needed.new
-        result }
+    ensures { spec.Answers (spec.Reasons entry.now name.now rows cols) (spec.LacksReason entry.now name.now rows cols)
+        room.old room.new needed.new result }
 {
     let subject = Subject {
         bytes: entry,
@@ -67,8 +67,10 @@ pub extern "C" fn ticurses_raw_reason(
 }
 
 fn reason(alloc: Global, subject: &Subject<'_>) -> Result<Vec<u8>, Failure>
-    ensures { IfOk result (λ words. spec.Reasons subject.now.bytes.now subject.now.name.now subject.now.rows
+    ensures says { IfOk result (λ words. spec.Reasons subject.now.bytes.now subject.now.name.now subject.now.rows
         subject.now.cols words.items) }
+    ensures lacks { IfErr result (spec.LacksReason subject.now.bytes.now subject.now.name.now subject.now.rows
+        subject.now.cols) }
 {
     let described = describe(alloc, subject)?;
     let Err(no) = check(alloc, &described.entry, described.size) else {
@@ -126,7 +128,7 @@ pub extern "C" fn ticurses_raw_verify(
     cols: u16,
     certificate: &[u8],
 ) -> i32
-    ensures { spec.Verifies entry.now name.now rows cols result }
+    ensures { spec.Verifies entry.now name.now rows cols certificate.now result }
 {
     let subject = Subject {
         bytes: entry,
@@ -141,8 +143,10 @@ pub extern "C" fn ticurses_raw_verify(
 }
 
 fn verified(alloc: Global, subject: &Subject<'_>, certificate: &[u8]) -> Result<(), Failure>
-    ensures { IfOk result (λ _. spec.IsVerified subject.now.bytes.now subject.now.name.now subject.now.rows
+    ensures shown { IfOk result (λ _. spec.IsVerified subject.now.bytes.now subject.now.name.now subject.now.rows
         subject.now.cols) }
+    ensures unshown { IfErr result (spec.IsUnverified subject.now.bytes.now subject.now.name.now subject.now.rows
+        subject.now.cols certificate.now) }
 {
     let described = describe(alloc, subject)?;
     let _checked = checked_by(alloc, &described, certificate)?;

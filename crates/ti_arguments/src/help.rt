@@ -178,8 +178,8 @@ CAUSE is one of:
   StaticRead   the string reads a static variable, %gA to %gZ, before it sets it
   Unfinished   what the string sends ends within a control sequence
   Stuck        what the string sends has a byte that is neither text nor part of a sequence
-  BadLook      `sgr` with one attribute turns on a rendition that is not its own; of acsc: the line drawing set can stay
-               active, and the entry can't switch sets
+  BadLook      `sgr` with one attribute, or the string of one, turns on a rendition that is not its own; of acsc: the line
+               drawing set can stay active, and the entry can't switch sets
   WrongEffect  from the state that is described the string doesn't do what it is for; of smacs and rmacs also: it activates
                the wrong character set
   NotTame      no single effect describes what is sent from all states; the string may be right

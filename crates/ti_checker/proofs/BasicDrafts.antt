@@ -15,6 +15,7 @@ use Rattle.ti_rows.specs.declared.rows.Row.{Row}
 use Rattle.ti_rows.specs.declared.rows.Row.TheVariants.{Home, El}
 use Rattle.ti_rows.specs.Asked.{start_of, asked}
 use Rattle.ti_rows.specs.Lists.{IsInRange}
+use Rattle.ti_rows.specs.Looks.{learned}
 use Rattle.ti_rows.specs.Names.{order}
 use Rattle.ti_rows.proofs.NameFacts.{orders_small}
 use Rattle.ti_rows.proofs.Rightness.{recorded_is_right}
@@ -36,7 +37,10 @@ use Rattle.ti_checker.specs.No.{SendsSome, HasFaultyString, IsRowFault, IsOfRow,
 use Rattle.ti_checker.specs.declared.causes.Cause.{Cause}
 use Rattle.ti_checker.specs.declared.causes.Cause.TheVariants.{FlagOut, Absent, AcsByte, Parm, StaticRead, Unfinished, Stuck, NotTame, BadLook, WrongEffect, NotShown, TooLong, NoResync, NoMemory}
 use Rattle.ti_checker.specs.declared.causes.No.{No}
+use Rattle.ti_checker.specs.Taught.{IsAskedOf}
 use Rattle.ti_checker.proofs.Exclusions.{none_faulty}
+use Rattle.ti_checker.proofs.Walks.{same_string}
+use Rattle.ti_conforms.proofs.Matches.{same_checked}
 use Rattle.ti_checker.proofs.Order.{same_lines, reversed_has}
 use Rattle.ti_checker.proofs.Passages.{line_once, same_bytes, last, text_is, none_certified}
 
@@ -157,14 +161,13 @@ is_asked entry rows cols looks row (IsHome there e) = subst (λ (r : Row). basic
 is_asked entry rows cols looks row (IsEl there e) = subst (λ (r : Row). basic_effect r ≡ asked looks r (basic_effect r)) (sym e) refl
 is_asked entry rows cols looks row (IsSgr0 e) = subst (λ (r : Row). basic_effect r ≡ asked looks r (basic_effect r)) (sym e) refl
 
-sends_right : (entry : Content) (rows cols : ℕ) (row : Row) (string : List ℕ) → IsSize rows cols → IsBasic entry rows cols → IsInRange rows cols row → is_checked entry row ≡ true → string_of entry row ≡ Some string → SendsRight rows cols string row
+sends_right : (entry : Content) (rows cols : ℕ) (row : Row) (string : List ℕ) → IsSize rows cols → IsBasic entry rows cols → IsInRange rows cols row → is_checked entry row ≡ true → string_of entry row ≡ Some string → SendsRight rows cols no_looks string row
 sends_right entry rows cols row string size b range checked there =
     let k = checked_row entry rows cols row b range checked in
     let t = its_tokens entry rows cols row size k in
     record {
       bytes = basic_bytes row;
       sends = b.sends row range checked string there;
-      looks = no_looks;
       right = recorded_is_right rows cols no_looks row (basic_bytes row) (tokens_of row) (basic_effect row) t.splits t.recorded (is_asked entry rows cols no_looks row k);
     }
 
@@ -176,17 +179,18 @@ same_record rows cols row tokens o t whole e =
 not_untamed : (rows cols : ℕ) (row : Row) → HasTokens rows cols row → IsUntamed rows cols row (basic_bytes row) → ⊥
 not_untamed rows cols row t u = none-some (basic_effect row) (same_record rows cols row u.tokens None t u.whole u.unrecorded)
 
-not_unasked : (entry : Content) (rows cols : ℕ) (row : Row) → IsKind entry rows cols row → HasTokens rows cols row → HasUnasked rows cols row (basic_bytes row) → ⊥
-not_unasked entry rows cols row k t u =
-    let e : u.effect ≡ basic_effect row = same_Some u.effect (basic_effect row) (same_record rows cols row u.tokens (Some u.effect) t u.whole u.recorded) in
-    u.unasked.unasked (subst (λ (x : Effect). x ≡ asked u.unasked.looks row x) (sym e) (is_asked entry rows cols u.unasked.looks row k))
+not_unasked : (entry : Content) (rows cols : ℕ) (string : List ℕ) (row : Row) → IsKind entry rows cols row → HasTokens rows cols row → HasUnasked rows cols string row (basic_bytes row) → ⊥
+not_unasked entry rows cols string row k t u =
+    let e : u.has.effect ≡ basic_effect row = same_Some u.has.effect (basic_effect row) (same_record rows cols row u.has.tokens (Some u.has.effect) t u.has.whole u.has.recorded) in
+    u.unasked.unasked (subst (λ (x : Effect). IsAskedOf u.unasked.looks row x) (sym e) (is_asked entry rows cols (learned row (basic_effect row) u.unasked.looks) row k))
 
 sends_basic : (entry : Content) (rows cols : ℕ) (row : Row) (string : List ℕ) (Holds : List ℕ → Type 0) → IsBasic entry rows cols → IsInRange rows cols row → is_checked entry row ≡ true → string_of entry row ≡ Some string
     → SendsSome string row Holds → Holds (basic_bytes row)
 sends_basic entry rows cols row string Holds b range checked there s = subst Holds (same_bytes string row s.bytes (basic_bytes row) s.sends (b.sends row range checked string there)) s.holds
 
 its_claim : (entry : Content) (rows cols : ℕ) (row : Row) (cause : Cause) → IsSize rows cols → IsBasic entry rows cols → IsInRange rows cols row → is_checked entry row ≡ true → HasFaultyString entry rows cols row cause → ClaimsNothing cause
-its_claim entry rows cols row cause size b range checked f = none_faulty rows cols f.string row cause (sends_right entry rows cols row f.string size b range checked f.there) f.faulty
+its_claim entry rows cols row cause size b range checked f = none_faulty rows cols no_looks f.string row cause (sends_right entry rows cols row f.string size b range checked f.there)
+    (λ other in_range same lt. sends_right entry rows cols other f.string size b in_range (same_checked entry other row same ∙ checked) (same_string entry other row same ∙ f.there)) f.faulty
 
 by_cause : (entry : Content) (rows cols : ℕ) (row : Row) (cause : Cause) → IsSize rows cols → IsBasic entry rows cols → IsInRange rows cols row → is_checked entry row ≡ true → IsRowFault entry rows cols row cause → cause ≡ NoMemory
 by_cause entry rows cols row NoMemory size b range checked f = refl
@@ -196,8 +200,8 @@ by_cause entry rows cols row NotTame size b range checked f =
     (sends_basic entry rows cols row f.string (λ bytes. IsUntamed rows cols row bytes) b range checked f.there f.faulty))
 by_cause entry rows cols row NotShown size b range checked f =
     let k = checked_row entry rows cols row b range checked in
-    absurd (not_unasked entry rows cols row k (its_tokens entry rows cols row size k)
-    (sends_basic entry rows cols row f.string (λ bytes. HasUnasked rows cols row bytes) b range checked f.there f.faulty))
+    absurd (not_unasked entry rows cols f.string row k (its_tokens entry rows cols row size k)
+    (sends_basic entry rows cols row f.string (λ bytes. HasUnasked rows cols f.string row bytes) b range checked f.there f.faulty))
 by_cause entry rows cols row FlagOut size b range checked f = absurd (its_claim entry rows cols row FlagOut size b range checked f)
 by_cause entry rows cols row Absent size b range checked f = absurd (its_claim entry rows cols row Absent size b range checked f)
 by_cause entry rows cols row AcsByte size b range checked f = absurd (its_claim entry rows cols row AcsByte size b range checked f)

@@ -20,7 +20,7 @@ use Rattle.ti_cert.specs.Order.{Precedes, HasLine}
 use Rattle.ti_cert.proofs.BasicOrder.{among_either}
 use Rattle.ti_cert.proofs.Preservation.{among_front, among_behind}
 use Rattle.ti_checker.specs.No.{IsRowRefused, IsRowFault, IsOfRow}
-use Rattle.ti_checker.specs.First.{SendsRight, RowStands, IsDrafted}
+use Rattle.ti_checker.specs.First.{SendsAsked, RowStands, IsDrafted}
 use Rattle.ti_checker.specs.Limit.{IsLineOf, AreLines, IsUpTo, PassesLimit, StaysWithin, IsLineFor, AddsLine, Overflows, front_with, most}
 use Rattle.ti_checker.specs.declared.causes.Cause.{Cause}
 use Rattle.ti_checker.specs.declared.causes.Cause.TheVariants.{TooLong}
@@ -75,11 +75,11 @@ added_is : (entry : Content) (rows cols : ℕ) (lines : List RowLine) (string : 
 added_is entry rows cols lines string row old new a e =
     a.added ∙ (ap (λ (l : List ℕ). l ++ (line_text a.line ++ 10 ∷ [])) e ∙ sym (front_end entry rows cols lines a.line))
 
-right_stands : (entry : Content) (rows cols : ℕ) (row : Row) (string : List ℕ) → string_of entry row ≡ Some string → SendsRight rows cols string row → RowStands entry rows cols row
+right_stands : (entry : Content) (rows cols : ℕ) (row : Row) (string : List ℕ) → string_of entry row ≡ Some string → SendsAsked rows cols string row → RowStands entry rows cols row
 right_stands entry rows cols row string there right checked other found =
-    subst (λ (x : List ℕ). SendsRight rows cols x row) (same_Some string other (sym there ∙ found)) right
+    subst (λ (x : List ℕ). SendsAsked rows cols x row) (same_Some string other (sym there ∙ found)) right
 
-pub one_more : (entry : Content) (rows cols : ℕ) (string : List ℕ) (row : Row) (old new : List ℕ) → IsInRange rows cols row → is_checked entry row ≡ true → string_of entry row ≡ Some string → SendsRight rows cols string row
+pub one_more : (entry : Content) (rows cols : ℕ) (string : List ℕ) (row : Row) (old new : List ℕ) → IsInRange rows cols row → is_checked entry row ≡ true → string_of entry row ≡ Some string → SendsAsked rows cols string row
     → AddsLine rows cols string row old new → length new ≤ most → IsDrafted entry rows cols (IsBefore rows cols row) old → IsDrafted entry rows cols (IsUpTo rows cols row) new
 one_more entry rows cols string row old new range checked there right adds short d = record {
   stand = stand;

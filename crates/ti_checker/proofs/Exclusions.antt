@@ -31,25 +31,32 @@ use Rattle.ti_cert.proofs.Disagreements.{flag_not_out, none_lacking, none_misfit
 use Rattle.ti_checker.proofs.Sent.{none_graphic, none_open, none_at_smacs, none_at_rmacs}
 use Rattle.ti_checker.proofs.Passages.{none_certified}
 use Rattle.ti_checker.specs.Certificate.{IsCertificateOf}
-use Rattle.ti_checker.specs.First.{SendsRight}
-use Rattle.ti_checker.specs.No.{SendsSome, IsFaulty, IsRowFault, cause_of_unfit, IsOfEntry, IsOfAll, AtSmacs, AtRmacs, AtAcsc, AtClear, Unnamed, IsNo, OfEntry, OfRow, OfAll, OutOfMemory, ClaimsNothing}
+use Rattle.ti_checker.specs.First.{SendsRight, StandBefore}
+use Rattle.ti_checker.specs.Mislooks.{Mislooks}
+use Rattle.ti_checker.proofs.Mislooked.{right_looks}
+use Rattle.ti_checker.proofs.Walks.{same_string}
+use Rattle.ti_conforms.proofs.Matches.{same_checked}
+use Rattle.ti_checker.specs.No.{SendsSome, HasWrong, IsFaulty, IsRowFault, cause_of_unfit, IsOfEntry, IsOfAll, AtSmacs, AtRmacs, AtAcsc, AtClear, Unnamed, IsNo, OfEntry, OfRow, OfAll, OutOfMemory, ClaimsNothing}
 use Rattle.ti_checker.specs.declared.causes.Cause.{Cause}
 use Rattle.ti_checker.specs.declared.causes.Cause.TheVariants.{FlagOut, Absent, AcsByte, Parm, StaticRead, Unfinished, Stuck, NotTame, BadLook, WrongEffect, NotShown, TooLong, NoResync, NoMemory}
 use Rattle.ti_checker.specs.declared.causes.No.{No}
 
 -- ---- what a string sends
 
-sent_right : (entry : Content) (rows cols : ℕ) → Conforms entry rows cols → (row : Row) → IsInRange rows cols row → is_checked entry row ≡ true → (string : List ℕ) → string_of entry row ≡ Some string
-    → SendsRight rows cols string row
+sent_right : (entry : Content) (rows cols : ℕ) (c : Conforms entry rows cols) (row : Row) → IsInRange rows cols row → is_checked entry row ≡ true → (string : List ℕ) → string_of entry row ≡ Some string
+    → SendsRight rows cols c.table.looks string row
 sent_right entry rows cols c row range checked string there =
     let s = (c.sends row range).checked checked in
     let same : s.string ≡ string = cc (s.there, there) in
     record {
       bytes = s.sends.bytes;
       sends = subst (λ (x : List ℕ). Sends x row s.sends.bytes) same s.sends.sends;
-      looks = c.table.looks;
       right = c.right row s.sends.bytes s.sends.line_has;
     }
+
+sent_before : (entry : Content) (rows cols : ℕ) (c : Conforms entry rows cols) (row : Row) → is_checked entry row ≡ true → (string : List ℕ) → string_of entry row ≡ Some string → StandBefore rows cols c.table.looks string row
+sent_before entry rows cols c row checked string there other range same lt =
+    sent_right entry rows cols c other range (same_checked entry other row same ∙ checked) string (same_string entry other row same ∙ there)
 
 same_bytes : (string : List ℕ) (row : Row) (a b : List ℕ) → Sends string row a → Sends string row b → a ≡ b
 same_bytes string row a b s t = cc (s.sends, t.sends)
@@ -66,36 +73,35 @@ not_stuck : (bytes : List ℕ) (tokens : List (List ℕ)) (at : ℕ) → Splits 
 not_stuck bytes tokens at w s =
     s.fits_nothing (splits_front (take (at + 1) bytes) (drop (at + 1) bytes) tokens [] (subst (λ (x : List ℕ). Splits x tokens []) (sym (take-append-drop (at + 1) bytes)) w))
 
-not_broken : (rows cols : ℕ) (looks : Looks) (row : Row) (bytes : List ℕ) (p : Probe) → IsRight rows cols looks row bytes → Breaks rows cols row bytes p → ⊥
-not_broken rows cols looks row bytes p r b =
+not_broken : (rows cols : ℕ) (looks : Looks) (string : List ℕ) (row : Row) (bytes : List ℕ) (p : Probe) → IsRight rows cols looks row bytes → StandBefore rows cols looks string row → Breaks rows cols string row bytes p → ⊥
+not_broken rows cols looks string row bytes p r stand b =
     let start : State = record { screen = screen_of rows cols p; rest = [] } in
     let e = r.ends start refl b.starts in
     let same : e.after ≡ record { screen = b.after; rest = [] } = runs_once start (record { screen = b.after; rest = [] }) e.after bytes b.runs e.runs in
-    b.unwanted looks (subst (λ (s : State). Wants looks row (screen_of rows cols p) s.screen) same e.wanted)
+    b.unwanted looks stand (subst (λ (s : State). Wants looks row (screen_of rows cols p) s.screen) same e.wanted)
 
 -- what holds of the bytes that a string sends holds of those that are right
-sent_is : (rows cols : ℕ) (string : List ℕ) (row : Row) (Holds : List ℕ → Type 0) → (r : SendsRight rows cols string row) → SendsSome string row Holds → Holds r.bytes
-sent_is rows cols string row Holds r s = subst Holds (same_bytes string row s.bytes r.bytes s.sends r.sends) s.holds
+sent_is : (rows cols : ℕ) (looks : Looks) (string : List ℕ) (row : Row) (Holds : List ℕ → Type 0) → (r : SendsRight rows cols looks string row) → SendsSome string row Holds → Holds r.bytes
+sent_is rows cols looks string row Holds r s = subst Holds (same_bytes string row s.bytes r.bytes s.sends r.sends) s.holds
 
-pub none_faulty : (rows cols : ℕ) (string : List ℕ) (row : Row) (cause : Cause) → SendsRight rows cols string row → IsFaulty rows cols string row cause → ClaimsNothing cause
-none_faulty rows cols string row (Parm fault) r h = no_fault string row r.bytes fault r.sends h
-none_faulty rows cols string row StaticRead r h = r.sends.sets_first h.end h.runs h.reads
-none_faulty rows cols string row Unfinished r h =
-    let u = sent_is rows cols string row (λ bytes. (at : ℕ) × IsUnfinished bytes at) r h in not_unfinished r.bytes r.right.tokens u.0 r.right.whole u.1
-none_faulty rows cols string row Stuck r h =
-    let s = sent_is rows cols string row (λ bytes. (at : ℕ) × IsStuck bytes at) r h in not_stuck r.bytes r.right.tokens s.0 r.right.whole s.1
-none_faulty rows cols string row BadLook r h =
-    let b = sent_is rows cols string row (λ bytes. (p : Probe) × Breaks rows cols row bytes p) r h.1 in not_broken rows cols r.looks row r.bytes b.0 r.right b.1
-none_faulty rows cols string row (WrongEffect p) r h =
-    not_broken rows cols r.looks row r.bytes p r.right (sent_is rows cols string row (λ bytes. Breaks rows cols row bytes p) r h)
-none_faulty rows cols string row NotTame r h = tt
-none_faulty rows cols string row NotShown r h = tt
-none_faulty rows cols string row NoMemory r h = tt
-none_faulty rows cols string row NoResync r h = absurd h
-none_faulty rows cols string row TooLong r h = absurd h
-none_faulty rows cols string row FlagOut r h = absurd h
-none_faulty rows cols string row Absent r h = absurd h
-none_faulty rows cols string row AcsByte r h = absurd h
+pub none_faulty : (rows cols : ℕ) (looks : Looks) (string : List ℕ) (row : Row) (cause : Cause) → SendsRight rows cols looks string row → StandBefore rows cols looks string row → IsFaulty rows cols string row cause → ClaimsNothing cause
+none_faulty rows cols looks string row (Parm fault) r stand h = no_fault string row r.bytes fault r.sends h
+none_faulty rows cols looks string row StaticRead r stand h = r.sends.sets_first h.end h.runs h.reads
+none_faulty rows cols looks string row Unfinished r stand h =
+    let u = sent_is rows cols looks string row (λ bytes. (at : ℕ) × IsUnfinished bytes at) r h in not_unfinished r.bytes r.right.tokens u.0 r.right.whole u.1
+none_faulty rows cols looks string row Stuck r stand h =
+    let s = sent_is rows cols looks string row (λ bytes. (at : ℕ) × IsStuck bytes at) r h in not_stuck r.bytes r.right.tokens s.0 r.right.whole s.1
+none_faulty rows cols looks string row BadLook r stand h = right_looks rows cols looks row r.bytes r.right (sent_is rows cols looks string row (λ bytes. Mislooks rows cols row bytes) r h)
+none_faulty rows cols looks string row (WrongEffect p) r stand h =
+    not_broken rows cols looks string row r.bytes p r.right stand (sent_is rows cols looks string row (λ bytes. HasWrong rows cols string row bytes p) r h).breaks
+none_faulty rows cols looks string row NotTame r stand h = tt
+none_faulty rows cols looks string row NotShown r stand h = tt
+none_faulty rows cols looks string row NoMemory r stand h = tt
+none_faulty rows cols looks string row NoResync r stand h = absurd h
+none_faulty rows cols looks string row TooLong r stand h = absurd h
+none_faulty rows cols looks string row FlagOut r stand h = absurd h
+none_faulty rows cols looks string row Absent r stand h = absurd h
+none_faulty rows cols looks string row AcsByte r stand h = absurd h
 
 -- ---- what a no claims
 
@@ -109,7 +115,8 @@ not_unfit entry refusal fit h = by_reason entry h.why fit h.first
 
 row_claims : (entry : Content) (rows cols : ℕ) (row : Row) (cause : Cause) → (cause ≡ TooLong → ⊥) → Conforms entry rows cols → IsInRange rows cols row → is_checked entry row ≡ true → IsRowFault entry rows cols row cause → ClaimsNothing cause
 row_claims entry rows cols row TooLong not_long c range checked f = absurd (not_long refl)
-row_claims entry rows cols row cause not_long c range checked f = none_faulty rows cols f.string row cause (sent_right entry rows cols c row range checked f.string f.there) f.faulty
+row_claims entry rows cols row cause not_long c range checked f =
+    none_faulty rows cols c.table.looks f.string row cause (sent_right entry rows cols c row range checked f.string f.there) (sent_before entry rows cols c row checked f.string f.there) f.faulty
 
 all_claims : (entry : Content) (rows cols : ℕ) (refusal : No) → Conforms entry rows cols → IsOfAll entry rows cols refusal → ClaimsNothing refusal.cause
 all_claims entry rows cols refusal c (AtSmacs p about clash h) = absurd (none_at_smacs entry rows cols c p clash h)

@@ -7,6 +7,8 @@ pub mod FitnessFacts
 pub mod Together
 pub mod Settled
 pub mod Misjudgements
+pub mod Mislooked
+pub mod Teaching
 pub mod Answers
 pub mod Changes
 pub mod Additions
@@ -14,6 +16,7 @@ pub mod Once
 pub mod Sent
 pub mod Quiet
 pub mod Exclusions
+pub mod Doubts
 pub mod Certified
 pub mod BasicCertificates
 pub mod BasicDrafts

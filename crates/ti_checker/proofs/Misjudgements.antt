@@ -1,48 +1,93 @@
 -- A misjudged effect is a fault of the string.
-use Rattle.std.proofs.Common.{◌≡◌, ℕ, List, [], Some}
+use Rattle.std.proofs.Common.{◌≡◌, ℕ, List, [], Some, false}
+use Rattle.vt_term.specs.Size.{IsSize}
 use Rattle.vt_term.specs.Text.{Splits}
 use Rattle.vt_effects.specs.Record.{record_of}
 use Rattle.vt_effects.specs.declared.effects.Effect.{Effect}
 use Rattle.ti_rows.specs.Asked.{start_of}
+use Rattle.ti_rows.specs.Lists.{IsInRange, Follows}
+use Rattle.ti_rows.specs.Looks.{learned}
+use Rattle.ti_rows.specs.declared.rows.Looks.{Looks}
 use Rattle.ti_rows.specs.declared.rows.Row.{Row}
+use Rattle.ti_rows.proofs.Rightness.{recorded_is_right}
 use Rattle.ti_conforms.specs.Sends.{Sends}
 use Rattle.ti_checker.proofs.Displays.{shown_breaks}
-use Rattle.ti_checker.specs.No.{IsFaulty, IsMisfit, IsMisjudged}
+use Rattle.ti_checker.proofs.Mislooked.{mislooks, not_mislooks}
+use Rattle.ti_checker.specs.First.{SendsAsked}
+use Rattle.ti_checker.specs.Limit.{IsLineFor}
+use Rattle.ti_checker.specs.Mislooks.{looks_other}
+use Rattle.ti_checker.specs.No.{HasOwnEffect, IsFaulty, IsMisfit, IsMisjudged}
+use Rattle.ti_checker.specs.Taught.{IsAskedOf, IsTaught, After}
 use Rattle.ti_checker.specs.declared.causes.Cause.{Cause}
 use Rattle.ti_checker.specs.declared.causes.Cause.TheVariants.{FlagOut, Absent, AcsByte, Parm, StaticRead, Unfinished, Stuck, NotTame, BadLook, WrongEffect, NotShown, TooLong, NoResync, NoMemory}
 
-pub misjudged : (rows cols : ℕ) (string : List ℕ) (row : Row) (bytes : List ℕ) (tokens : List (List ℕ)) (cause : Cause) → Sends string row bytes → Splits bytes tokens []
-    → IsMisjudged rows cols row tokens cause → IsFaulty rows cols string row cause
-misjudged rows cols string row bytes tokens FlagOut sends split m = absurd m.misfit
-misjudged rows cols string row bytes tokens Absent sends split m = absurd m.misfit
-misjudged rows cols string row bytes tokens AcsByte sends split m = absurd m.misfit
-misjudged rows cols string row bytes tokens (Parm fault) sends split m = absurd m.misfit
-misjudged rows cols string row bytes tokens StaticRead sends split m = absurd m.misfit
-misjudged rows cols string row bytes tokens NoResync sends split m = absurd m.misfit
-misjudged rows cols string row bytes tokens TooLong sends split m = absurd m.misfit
-misjudged rows cols string row bytes tokens Unfinished sends split m = absurd m.misfit
-misjudged rows cols string row bytes tokens Stuck sends split m = absurd m.misfit
-misjudged rows cols string row bytes tokens NotTame sends split m = record { bytes = bytes; sends = sends; holds = record { tokens = tokens; whole = split; unrecorded = m } }
-misjudged rows cols string row bytes tokens BadLook sends split m =
-    (m.misfit.0, record { bytes = bytes; sends = sends; holds = (m.misfit.1.0, shown_breaks rows cols row bytes tokens m.effect m.misfit.1.0 split m.recorded m.misfit.1.1) })
-misjudged rows cols string row bytes tokens (WrongEffect p) sends split m = record { bytes = bytes; sends = sends; holds = shown_breaks rows cols row bytes tokens m.effect p split m.recorded m.misfit }
-misjudged rows cols string row bytes tokens NotShown sends split m =
-    record { bytes = bytes; sends = sends; holds = record { tokens = tokens; whole = split; effect = m.effect; recorded = m.recorded; unasked = m.misfit } }
-misjudged rows cols string row bytes tokens NoMemory sends split m = tt
+own_effect : (rows cols : ℕ) (row : Row) (bytes : List ℕ) (tokens : List (List ℕ)) (e : Effect) → Splits bytes tokens [] → record_of rows cols (start_of rows cols row) tokens ≡ Some e → looks_other row e ≡ false → HasOwnEffect rows cols row bytes
+own_effect rows cols row bytes tokens e split recorded own = record { tokens = tokens; whole = split; effect = e; recorded = recorded; own = not_mislooks rows cols row bytes tokens e split recorded own }
+
+pub misjudged : (rows cols : ℕ) (string : List ℕ) (looks : Looks) (row : Row) (bytes : List ℕ) (tokens : List (List ℕ)) (cause : Cause) → IsSize rows cols → IsTaught rows cols string row looks → Sends string row bytes → Splits bytes tokens []
+    → IsMisjudged rows cols looks row tokens cause → IsFaulty rows cols string row cause
+unfolding own_effect
+misjudged rows cols string looks row bytes tokens NotTame size taught sends split m = record { bytes = bytes; sends = sends; holds = record { tokens = tokens; whole = split; unrecorded = m } }
+misjudged rows cols string looks row bytes tokens BadLook size taught sends split m = record { bytes = bytes; sends = sends; holds = mislooks rows cols row bytes tokens m.effect size split m.recorded m.misfit }
+misjudged rows cols string looks row bytes tokens (WrongEffect p) size taught sends split m = record {
+  bytes = bytes;
+  sends = sends;
+  holds = record {
+    has = own_effect rows cols row bytes tokens m.effect split m.recorded m.misfit.0;
+    breaks = shown_breaks rows cols string looks row bytes tokens m.effect p taught split m.recorded m.misfit.1;
+  };
+}
+misjudged rows cols string looks row bytes tokens NotShown size taught sends split m = record {
+  bytes = bytes;
+  sends = sends;
+  holds = record {
+    has = own_effect rows cols row bytes tokens m.effect split m.recorded m.misfit.0;
+    unasked = record { looks = looks; taught = taught; unasked = m.misfit.1 };
+  };
+}
+misjudged rows cols string looks row bytes tokens NoMemory size taught sends split m = tt
+misjudged rows cols string looks row bytes tokens FlagOut size taught sends split m = absurd m.misfit
+misjudged rows cols string looks row bytes tokens Absent size taught sends split m = absurd m.misfit
+misjudged rows cols string looks row bytes tokens AcsByte size taught sends split m = absurd m.misfit
+misjudged rows cols string looks row bytes tokens (Parm fault) size taught sends split m = absurd m.misfit
+misjudged rows cols string looks row bytes tokens StaticRead size taught sends split m = absurd m.misfit
+misjudged rows cols string looks row bytes tokens NoResync size taught sends split m = absurd m.misfit
+misjudged rows cols string looks row bytes tokens TooLong size taught sends split m = absurd m.misfit
+misjudged rows cols string looks row bytes tokens Unfinished size taught sends split m = absurd m.misfit
+misjudged rows cols string looks row bytes tokens Stuck size taught sends split m = absurd m.misfit
 
 -- an effect that isn't the one that is asked for is that of the tokens
-pub misfit_misjudged : (rows cols : ℕ) (row : Row) (tokens : List (List ℕ)) (e : Effect) (cause : Cause) → record_of rows cols (start_of rows cols row) tokens ≡ Some e → IsMisfit rows cols row e cause → IsMisjudged rows cols row tokens cause
-misfit_misjudged rows cols row tokens e FlagOut recorded m = absurd m
-misfit_misjudged rows cols row tokens e Absent recorded m = absurd m
-misfit_misjudged rows cols row tokens e AcsByte recorded m = absurd m
-misfit_misjudged rows cols row tokens e (Parm fault) recorded m = absurd m
-misfit_misjudged rows cols row tokens e StaticRead recorded m = absurd m
-misfit_misjudged rows cols row tokens e Unfinished recorded m = absurd m
-misfit_misjudged rows cols row tokens e Stuck recorded m = absurd m
-misfit_misjudged rows cols row tokens e NotTame recorded m = absurd m
-misfit_misjudged rows cols row tokens e TooLong recorded m = absurd m
-misfit_misjudged rows cols row tokens e NoResync recorded m = absurd m
-misfit_misjudged rows cols row tokens e NoMemory recorded m = absurd m
-misfit_misjudged rows cols row tokens e BadLook recorded m = record { effect = e; recorded = recorded; misfit = m }
-misfit_misjudged rows cols row tokens e (WrongEffect p) recorded m = record { effect = e; recorded = recorded; misfit = m }
-misfit_misjudged rows cols row tokens e NotShown recorded m = record { effect = e; recorded = recorded; misfit = m }
+pub misfit_misjudged : (rows cols : ℕ) (looks : Looks) (row : Row) (tokens : List (List ℕ)) (e : Effect) (cause : Cause) → record_of rows cols (start_of rows cols row) tokens ≡ Some e → IsMisfit rows cols looks row e cause → IsMisjudged rows cols looks row tokens cause
+misfit_misjudged rows cols looks row tokens e FlagOut recorded m = absurd m
+misfit_misjudged rows cols looks row tokens e Absent recorded m = absurd m
+misfit_misjudged rows cols looks row tokens e AcsByte recorded m = absurd m
+misfit_misjudged rows cols looks row tokens e (Parm fault) recorded m = absurd m
+misfit_misjudged rows cols looks row tokens e StaticRead recorded m = absurd m
+misfit_misjudged rows cols looks row tokens e Unfinished recorded m = absurd m
+misfit_misjudged rows cols looks row tokens e Stuck recorded m = absurd m
+misfit_misjudged rows cols looks row tokens e NotTame recorded m = absurd m
+misfit_misjudged rows cols looks row tokens e TooLong recorded m = absurd m
+misfit_misjudged rows cols looks row tokens e NoResync recorded m = absurd m
+misfit_misjudged rows cols looks row tokens e NoMemory recorded m = absurd m
+misfit_misjudged rows cols looks row tokens e BadLook recorded m = record { effect = e; recorded = recorded; misfit = m }
+misfit_misjudged rows cols looks row tokens e (WrongEffect p) recorded m = record { effect = e; recorded = recorded; misfit = m }
+misfit_misjudged rows cols looks row tokens e NotShown recorded m = record { effect = e; recorded = recorded; misfit = m }
+
+-- ---- an effect that is asked for
+
+-- what the row adds is what the next one is taught
+pub taught_next : (rows cols : ℕ) (string : List ℕ) (row : Row) (before after : Looks) (bytes : List ℕ) (e : Effect) → IsInRange rows cols row → IsTaught rows cols string row before
+    → IsLineFor rows cols string (record { row = row; bytes = bytes; effect = e }) → IsAskedOf before row e → after ≡ learned row e before → (next : Row) → Follows rows cols row next → IsTaught rows cols string next after
+taught_next rows cols string row before after bytes e range taught is asked same next f = After (record { row = row; bytes = bytes; effect = e }) next before after range f taught is asked same
+
+pub sends_asked : (rows cols : ℕ) (string : List ℕ) (row : Row) (before : Looks) (bytes : List ℕ) (e : Effect) → IsTaught rows cols string row before → IsLineFor rows cols string (record { row = row; bytes = bytes; effect = e }) → IsAskedOf before row e
+    → SendsAsked rows cols string row
+sends_asked rows cols string row before bytes e taught is asked = record {
+  bytes = bytes;
+  effect = e;
+  is = is;
+  looks = before;
+  taught = taught;
+  asked = asked;
+  right = recorded_is_right rows cols (learned row e before) row bytes is.has.tokens e is.has.splits is.has.recorded asked;
+}

@@ -1,5 +1,5 @@
 -- `csr` and `clear` change no charset, where every row stands.
-use Rattle.std.proofs.Common.{◌≡◌, inl, inr, ℕ, zero, suc, ◌-◌, true, List, [], ◌∷◌, length, replicate, Some, refl, sym, ap, subst, ◌∙◌, arith}
+use Rattle.std.proofs.Common.{◌≡◌, inl, inr, ℕ, zero, suc, ◌-◌, true, List, [], length, replicate, Some, refl, sym, ap, subst, ◌∙◌, arith}
 use Rattle.std.specs.Prelude.{slice_index_or}
 use Rattle.std.proofs.lemmas.Bool.{cases_Bool}
 use Rattle.std.proofs.lemmas.List.{get_or-replicate, length-replicate}
@@ -17,6 +17,7 @@ use Rattle.ti_rows.specs.declared.rows.Looks.{Looks}
 use Rattle.ti_rows.specs.declared.rows.Row.{Row}
 use Rattle.ti_rows.specs.declared.rows.Row.TheVariants.{Clear, Csr}
 use Rattle.ti_rows.specs.Lists.{IsInRange}
+use Rattle.ti_rows.specs.Looks.{learned}
 use Rattle.ti_rows.specs.Right.{IsRight}
 use Rattle.ti_rows.specs.Starts.{Starts, IsAny, IsFree}
 use Rattle.ti_rows.specs.Wants.{Wants}
@@ -24,7 +25,7 @@ use Rattle.ti_conforms.specs.Entries.{is_checked}
 use Rattle.ti_conforms.specs.Table.{Table, widening}
 use Rattle.ti_conforms.proofs.Judgements.{over_steps}
 use Rattle.ti_cert.specs.Seen.{KeepsSets}
-use Rattle.ti_checker.specs.First.{EachStands, SendsRight}
+use Rattle.ti_checker.specs.First.{EachStands, SendsAsked}
 use Rattle.ti_checker.specs.Switches.{HasSent, OfAllSent}
 use Rattle.ti_checker.proofs.Settled.{sent_line}
 use Rattle.ti_checker.proofs.Together.{whole_screen}
@@ -44,7 +45,7 @@ blank_at (suc rows) cols (suc i) j = blank_at rows cols i j
 printed : (l : Look) → l ≡ space → IsPrinted l.byte
 printed l e = let b : l.byte ≡ 32 = ap (λ (x : Look). x.byte) e in (omega arith, omega arith)
 
-abbrev start : ℕ → ℕ → Charset → State
+abbrev pub start : ℕ → ℕ → Charset → State
 start rows cols c = record { screen = record (reset_screen rows cols) { charset = c }; rest = [] }
 
 starts_any : (rows cols : ℕ) (c : Charset) → IsSize rows cols → IsAny rows cols (start rows cols c).screen
@@ -64,7 +65,7 @@ starts_any rows cols c size = record {
   tame = record { autowrap = refl; inserting = refl };
 }
 
-starts_free : (rows cols : ℕ) (c : Charset) → IsSize rows cols → IsFree rows cols (start rows cols c).screen
+pub starts_free : (rows cols : ℕ) (c : Charset) → IsSize rows cols → IsFree rows cols (start rows cols c).screen
 starts_free rows cols c size = record { any = starts_any rows cols c size; top = refl; bottom = omega (arith, size.0) }
 
 -- ---- a line
@@ -78,8 +79,8 @@ record Line (rows cols : ℕ) (t : Table) (row : Row) : Type 0 where
 line_at : (entry : Content) (rows cols : ℕ) → EachStands entry rows cols → (t : Table) → HasSent entry rows cols t → (row : Row) → IsInRange rows cols row → is_checked entry row ≡ true → Line rows cols t row
 line_at entry rows cols stands t h row range checked =
     let own = (h.sends row range).checked checked in
-    let r : SendsRight rows cols own.string row = stands row range checked own.string own.there in
-    record { bytes = r.bytes; there = sent_line entry rows cols t h row own.string r.bytes range checked own.there r.sends; looks = r.looks; right = r.right }
+    let r : SendsAsked rows cols own.string row = stands row range checked own.string own.there in
+    record { bytes = r.bytes; there = sent_line entry rows cols t h row own.string r.bytes range checked own.there r.is.sends; looks = learned row r.effect r.looks; right = r.right }
 
 line_keeps : (rows cols : ℕ) (t : Table) (row : Row) (l : Line rows cols t row) (c : Charset) → Starts rows cols row (start rows cols c).screen
     → ((s u : Screen) → Wants l.looks row s u → u.charset ≡ s.charset) → charset_over l.right.tokens c ≡ c

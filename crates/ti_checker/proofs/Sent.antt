@@ -33,7 +33,7 @@ use Rattle.ti_cert.specs.Strings.{allows}
 use Rattle.ti_cert.proofs.Ranges.{in_range, is_allowed}
 use Rattle.ti_checker.specs.Probes.{screen_of}
 use Rattle.ti_checker.specs.declared.probes.Probe.{Probe}
-use Rattle.ti_checker.specs.First.{EachStands, EachWritten, SendsRight}
+use Rattle.ti_checker.specs.First.{EachStands, EachWritten, SendsAsked}
 use Rattle.ti_checker.specs.No.{HasClash, AtSmacs, AtRmacs, AtAcsc, AtClear, IsNo, OfAll, IsToldAs}
 use Rattle.ti_checker.specs.Switches.{HasSent, OfSent, OfAllSent, RunsWrong, IsSeen, RowChanges}
 use Rattle.ti_checker.specs.declared.causes.No.{No}
@@ -156,17 +156,17 @@ unfolding line_for sent_for bytes_of
 line_agrees entry rows cols stands row range = record {
   checked = λ checked.
       let s = some_there (string_of entry row) (and_parts (is_some (string_of entry row)) (meets entry (group_of row)) checked).0 in
-      let r : SendsRight rows cols s.0 row = stands row range checked s.0 s.1 in
+      let r : SendsAsked rows cols s.0 row = stands row range checked s.0 s.1 in
       record {
         string = s.0;
         there = s.1;
         sends = record {
           bytes = r.bytes;
-          sends = r.sends;
+          sends = r.is.sends;
           line_has =
               ap (λ (b : Bool). if b && is_checked entry row then sent_for (string_of entry row) row else None) (is_allowed rows cols row range)
               ∙ (ap (λ (b : Bool). if b then sent_for (string_of entry row) row else None) checked
-              ∙ (ap (λ (o : Option (List ℕ)). sent_for o row) s.1 ∙ ap (λ x. bytes_of x) r.sends.sends));
+              ∙ (ap (λ (o : Option (List ℕ)). sent_for o row) s.1 ∙ ap (λ x. bytes_of x) r.is.sends.sends));
         };
       };
   unchecked = λ unchecked.

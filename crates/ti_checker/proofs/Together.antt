@@ -1,5 +1,5 @@
 -- Noes, and what leads out of an unknown state as a text.
-use Rattle.std.proofs.Common.{◌≡◌, inl, inr, ℕ, ◌-◌, ◌+◌, ◌<◌, suc, true, List, [], ◌∷◌, ◌++◌, Some, length, get_or, take, zero, refl, sym, ap, subst, ◌∙◌, arith}
+use Rattle.std.proofs.Common.{◌≡◌, inl, inr, ℕ, ◌-◌, ◌+◌, ◌<◌, suc, true, List, [], ◌∷◌, ◌++◌, Some, length, get_or, take, zero, sym, ap, subst, ◌∙◌, arith}
 use Rattle.std.proofs.lemmas.Bool.{cases_Bool}
 use Rattle.ti_caps.specs.Entry.{Content}
 use Rattle.ti_rows.specs.declared.rows.Row.{Row}

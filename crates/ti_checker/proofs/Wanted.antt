@@ -1,5 +1,5 @@
 -- What is wanted of an effect's end is the end of the effect that the table asks for.
-use Rattle.std.proofs.Common.{◌≡◌, ℕ, Bool, true, false, ◌&&◌, ◌||◌, if◌then◌else◌, Option, None, ◌⊎◌, inl, inr, refl, sym, ap, ◌∙◌}
+use Rattle.std.proofs.Common.{◌≡◌, ℕ, Bool, true, false, ◌&&◌, ◌||◌, if◌then◌else◌, Option, None, ◌⊎◌, inl, inr, refl, sym, ap, subst, ◌∙◌}
 use Rattle.std.proofs.lemmas.Bool.{true≢false}
 use Rattle.vt_term.specs.Color.{Color}
 use Rattle.vt_term.specs.Look.{Rendition}
@@ -18,8 +18,9 @@ use Rattle.ti_rows.specs.Starts.{Starts}
 use Rattle.ti_rows.specs.Wants.{Wants, marked}
 use Rattle.ti_rows.specs.Asked.{asked, on_or_kept, just, with_marks_on}
 use Rattle.ti_checker.specs.Probes.{screen_of}
-use Rattle.ti_checker.specs.Breakage.{has_choice, wanted_end, with_defaults, without_defaults, marks_after, looks_of, EndAlike, NotWanted}
+use Rattle.ti_checker.specs.Breakage.{has_choice, wanted_end, with_defaults, without_defaults, marks_after, looks_of, looks_for, is_several, AgreeBefore, EndAlike, NotWanted}
 use Rattle.ti_checker.specs.declared.probes.Probe.{Probe}
+use Rattle.ti_checker.proofs.Teaching.{several_shown}
 
 never : {A : Type 0} → true ≡ false → A
 never h = absurd (true≢false h)
@@ -146,17 +147,23 @@ one_end rows cols l Smcup e p one st h = h.others
 one_end rows cols l Rmcup e p one st h = h.others
 one_end rows cols l Bel e p one st h = h
 
+-- its looks are those that are seen
+one_seen : (taught : Looks) (row : Row) (e : Effect) (p : Probe) → has_choice row ≡ false → looks_for taught row e p ≡ seen_by e p
+one_seen taught (Sgr a) e p one = never one
+one_seen taught _ e p one = refl
+
 -- what is wanted of a row of one end fails where the ends differ
-pub one_end_missed : (rows cols : ℕ) (row : Row) (e : Effect) (p : Probe) → has_choice row ≡ false → Starts rows cols row (screen_of rows cols p)
-    → (EndAlike e (wanted_end (seen_by e p) row e) (screen_of rows cols p) → ⊥) → NotWanted rows cols row e p
-one_end_missed rows cols row e p one st apart l h = apart (one_end rows cols l row e p one st h)
+pub one_end_missed : (rows cols : ℕ) (taught : Looks) (row : Row) (e : Effect) (p : Probe) → has_choice row ≡ false → Starts rows cols row (screen_of rows cols p)
+    → (EndAlike e (wanted_end (looks_for taught row e p) row e) (screen_of rows cols p) → ⊥) → NotWanted rows cols taught row e p
+one_end_missed rows cols taught row e p one st apart l agree h =
+    apart (subst (λ (m : Looks). EndAlike e (wanted_end m row e) (screen_of rows cols p)) (sym (one_seen taught row e p one)) (one_end rows cols l row e p one st h))
 
 -- ---- a row of two ends
 
-abbrev pub TwoEnds : ℕ → ℕ → Row → Effect → Probe → Type 0
-TwoEnds rows cols row e p = EndAlike e (asked (seen_by e p) row (with_defaults e)) (screen_of rows cols p) ⊎ EndAlike e (asked (seen_by e p) row (without_defaults e)) (screen_of rows cols p)
+abbrev pub TwoEnds : ℕ → ℕ → Looks → Row → Effect → Probe → Type 0
+TwoEnds rows cols m row e p = EndAlike e (asked m row (with_defaults e)) (screen_of rows cols p) ⊎ EndAlike e (asked m row (without_defaults e)) (screen_of rows cols p)
 
-two_inks : (rows cols : ℕ) (l : Looks) (a : Attributes) (e : Effect) (p : Probe) → Wants l (Sgr a) (screen_of rows cols p) (applied e (screen_of rows cols p)) → TwoEnds rows cols (Sgr a) e p
+two_inks : (rows cols : ℕ) (l : Looks) (a : Attributes) (e : Effect) (p : Probe) → Wants l (Sgr a) (screen_of rows cols p) (applied e (screen_of rows cols p)) → TwoEnds rows cols (seen_by e p) (Sgr a) e p
 two_inks rows cols l a e p (inl h) =
     let s : Screen = screen_of rows cols p in
     let m : Marks = marks_after e.rendition p.look in
@@ -170,58 +177,39 @@ two_inks rows cols l a e p (inr h) =
     (just_shown l a m None None (ap (λ (t : Screen). t.rendition.bold) h) (ap (λ (t : Screen). t.rendition.faint) h) (ap (λ (t : Screen). t.rendition.underline) h)
     (ap (λ (t : Screen). t.rendition.blink) h) (ap (λ (t : Screen). t.rendition.negative) h) (ap (λ (t : Screen). t.rendition.concealed) h) s.rendition))
 
-appeared : (rows cols : ℕ) (l : Looks) (e : Effect) (p : Probe) → Wants l Cvvis (screen_of rows cols p) (applied e (screen_of rows cols p)) → TwoEnds rows cols Cvvis e p
+-- just these marks, whatever was on before
+just_these : (m : Marks) (x y : Option Color) (r : Rendition) → marked m x y ≡ record (rendered (just m inks.Kept) r) { foreground = x; background = y }
+just_these m x y r = same_marks _ _ _ _ _ _ _ _ _ _ _ _ x y (set_mark m.bold r.bold) (set_mark m.faint r.faint) (set_mark m.underline r.underline) (set_mark m.blink r.blink) (set_mark m.negative r.negative) (set_mark m.concealed r.concealed)
+
+-- where the set is shown as was taught
+taught_inks : (rows cols : ℕ) (l taught : Looks) (a : Attributes) (e : Effect) (p : Probe) → shown taught a ≡ shown l a → Wants l (Sgr a) (screen_of rows cols p) (applied e (screen_of rows cols p)) → TwoEnds rows cols taught (Sgr a) e p
+taught_inks rows cols l taught a e p same (inl h) =
+    let s : Screen = screen_of rows cols p in
+    inr (h ∙ (ap (λ (m : Marks). record s { rendition = marked m p.foreground p.background; charset = (applied e s).charset }) (sym same)
+    ∙ ap (λ (r : Rendition). record s { rendition = r; charset = (applied e s).charset }) (just_these (shown taught a) p.foreground p.background s.rendition)))
+taught_inks rows cols l taught a e p same (inr h) =
+    let s : Screen = screen_of rows cols p in
+    inl (h ∙ (ap (λ (m : Marks). record s { rendition = marked m None None; charset = (applied e s).charset }) (sym same)
+    ∙ ap (λ (r : Rendition). record s { rendition = r; charset = (applied e s).charset }) (just_these (shown taught a) None None s.rendition)))
+
+set_ends : (rows cols : ℕ) (l taught : Looks) (a : Attributes) (e : Effect) (p : Probe) (b : Bool) → is_several (Sgr a) ≡ b → AgreeBefore (Sgr a) taught l → Wants l (Sgr a) (screen_of rows cols p) (applied e (screen_of rows cols p))
+    → TwoEnds rows cols (if b then taught else seen_by e p) (Sgr a) e p
+set_ends rows cols l taught a e p true several agree h = taught_inks rows cols l taught a e p (several_shown a taught l several agree) h
+set_ends rows cols l taught a e p false single agree h = two_inks rows cols l a e p h
+
+appeared : (rows cols : ℕ) (l : Looks) (e : Effect) (p : Probe) → Wants l Cvvis (screen_of rows cols p) (applied e (screen_of rows cols p)) → TwoEnds rows cols (seen_by e p) Cvvis e p
 appeared rows cols l e p (inl h) = inl h
 appeared rows cols l e p (inr h) = inr h
 
-two_ends : (rows cols : ℕ) (l : Looks) (row : Row) (e : Effect) (p : Probe) → has_choice row ≡ true → Wants l row (screen_of rows cols p) (applied e (screen_of rows cols p)) → TwoEnds rows cols row e p
-two_ends rows cols l Clear e p choice h = never (sym choice)
-two_ends rows cols l (Cup row col) e p choice h = never (sym choice)
-two_ends rows cols l Home e p choice h = never (sym choice)
-two_ends rows cols l Cr e p choice h = never (sym choice)
-two_ends rows cols l (Hpa col) e p choice h = never (sym choice)
-two_ends rows cols l (Vpa row) e p choice h = never (sym choice)
-two_ends rows cols l Cub1 e p choice h = never (sym choice)
-two_ends rows cols l Cuf1 e p choice h = never (sym choice)
-two_ends rows cols l Cuu1 e p choice h = never (sym choice)
-two_ends rows cols l Cud1 e p choice h = never (sym choice)
-two_ends rows cols l (Cub n) e p choice h = never (sym choice)
-two_ends rows cols l (Cuf n) e p choice h = never (sym choice)
-two_ends rows cols l (Cuu n) e p choice h = never (sym choice)
-two_ends rows cols l (Cud n) e p choice h = never (sym choice)
-two_ends rows cols l El e p choice h = never (sym choice)
-two_ends rows cols l El1 e p choice h = never (sym choice)
-two_ends rows cols l Ed e p choice h = never (sym choice)
-two_ends rows cols l (Ech n) e p choice h = never (sym choice)
-two_ends rows cols l (Sgr a) e p choice h = two_inks rows cols l a e p h
-two_ends rows cols l Sgr0 e p choice h = never (sym choice)
-two_ends rows cols l (Setaf c) e p choice h = never (sym choice)
-two_ends rows cols l (Setab c) e p choice h = never (sym choice)
-two_ends rows cols l Op e p choice h = never (sym choice)
-two_ends rows cols l Smul e p choice h = never (sym choice)
-two_ends rows cols l Rev e p choice h = never (sym choice)
-two_ends rows cols l Blink e p choice h = never (sym choice)
-two_ends rows cols l Dim e p choice h = never (sym choice)
-two_ends rows cols l Bold e p choice h = never (sym choice)
-two_ends rows cols l Invis e p choice h = never (sym choice)
-two_ends rows cols l Smso e p choice h = never (sym choice)
-two_ends rows cols l Enacs e p choice h = never (sym choice)
-two_ends rows cols l Smacs e p choice h = never (sym choice)
-two_ends rows cols l Rmacs e p choice h = never (sym choice)
-two_ends rows cols l (Csr top bottom) e p choice h = never (sym choice)
-two_ends rows cols l Ind e p choice h = never (sym choice)
-two_ends rows cols l Ri e p choice h = never (sym choice)
-two_ends rows cols l Civis e p choice h = never (sym choice)
-two_ends rows cols l Cnorm e p choice h = never (sym choice)
-two_ends rows cols l Cvvis e p choice h = appeared rows cols l e p h
-two_ends rows cols l Smcup e p choice h = never (sym choice)
-two_ends rows cols l Rmcup e p choice h = never (sym choice)
-two_ends rows cols l Bel e p choice h = never (sym choice)
+two_ends : (rows cols : ℕ) (l taught : Looks) (row : Row) (e : Effect) (p : Probe) → has_choice row ≡ true → AgreeBefore row taught l → Wants l row (screen_of rows cols p) (applied e (screen_of rows cols p)) → TwoEnds rows cols (looks_for taught row e p) row e p
+two_ends rows cols l taught (Sgr a) e p choice agree h = set_ends rows cols l taught a e p (is_several (Sgr a)) refl agree h
+two_ends rows cols l taught Cvvis e p choice agree h = appeared rows cols l e p h
+two_ends rows cols l taught _ e p choice agree h = never (sym choice)
 
 neither : {A B : Type 0} → (A → ⊥) → (B → ⊥) → A ⊎ B → ⊥
 neither f g (inl h) = f h
 neither f g (inr h) = g h
 
-pub two_ends_missed : (rows cols : ℕ) (row : Row) (e : Effect) (p : Probe) → has_choice row ≡ true
-    → (EndAlike e (asked (seen_by e p) row (with_defaults e)) (screen_of rows cols p) → ⊥) → (EndAlike e (asked (seen_by e p) row (without_defaults e)) (screen_of rows cols p) → ⊥) → NotWanted rows cols row e p
-two_ends_missed rows cols row e p choice apart off l h = neither apart off (two_ends rows cols l row e p choice h)
+pub two_ends_missed : (rows cols : ℕ) (taught : Looks) (row : Row) (e : Effect) (p : Probe) → has_choice row ≡ true
+    → (EndAlike e (asked (looks_for taught row e p) row (with_defaults e)) (screen_of rows cols p) → ⊥) → (EndAlike e (asked (looks_for taught row e p) row (without_defaults e)) (screen_of rows cols p) → ⊥) → NotWanted rows cols taught row e p
+two_ends_missed rows cols taught row e p choice apart off l agree h = neither apart off (two_ends rows cols l taught row e p choice agree h)

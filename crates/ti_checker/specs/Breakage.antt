@@ -1,5 +1,5 @@
 -- What a string wrongly does, seen from a probe.
-use Rattle.std.specs.Prelude.{ℕ, ◌≡◌, Bool, true, false, if◌then◌else◌, List, [], Some, None}
+use Rattle.std.specs.Prelude.{ℕ, ◌≡◌, ◌<◌, ◌==◌, ◌||◌, not, Bool, true, false, if◌then◌else◌, List, [], Some, None}
 use Rattle.vt_term.specs.Screen.{Screen}
 use Rattle.vt_effects.specs.declared.effects.Effect.{Effect}
 use Rattle.vt_effects.specs.declared.effects.Rendering.{Rendering}
@@ -9,6 +9,9 @@ use Rattle.vt_effects.specs.Effect.{applied, switched}
 use Rattle.vt_effects.specs.Record.{record_of}
 use Rattle.vt_term.specs.Run.{Runs}
 use Rattle.vt_term.specs.Text.{Splits}
+use Rattle.ti_rows.specs.Bits.{number_of}
+use Rattle.ti_rows.specs.Looks.{shown}
+use Rattle.ti_rows.specs.declared.rows.Attributes.{Attributes}
 use Rattle.ti_rows.specs.declared.rows.Looks.{Looks}
 use Rattle.ti_rows.specs.declared.rows.Marks.{Marks}
 use Rattle.ti_rows.specs.declared.rows.Row.{Row}
@@ -16,15 +19,20 @@ use Rattle.ti_rows.specs.declared.rows.Row.TheVariants.{Sgr, Cvvis, Smcup, Rmcup
 use Rattle.ti_rows.specs.Asked.{start_of, asked}
 use Rattle.ti_rows.specs.Starts.{Starts}
 use Rattle.ti_rows.specs.Wants.{Wants}
+use Rattle.ti_conforms.specs.Looks.{is_single}
+use Rattle.ti_checker.specs.First.{StandBefore}
 use Rattle.ti_checker.specs.Probes.{screen_of}
+use Rattle.ti_checker.specs.Taught.{IsTaught}
 use Rattle.ti_checker.specs.declared.probes.Probe.{Probe}
 
--- the probe is a start of the row, and the run of the bytes from it ends as is not wanted, however attributes look
-pub record Breaks (rows cols : ℕ) (row : Row) (bytes : List ℕ) (p : Probe) : Type 0 where
+-- The probe is a start of the row, and the run of the bytes from it ends as is not wanted: however attributes look, as
+-- long as the rows of the string before this one do what is wanted where they look so.
+pub record Breaks (rows cols : ℕ) (string : List ℕ) (row : Row) (bytes : List ℕ) (p : Probe) : Type 0 where
   pub starts : Starts rows cols row (screen_of rows cols p)
   pub after : Screen
   pub runs : Runs (record { screen = screen_of rows cols p; rest = [] }) bytes (record { screen = after; rest = [] })
-  pub unwanted : (looks : Looks) → Wants looks row (screen_of rows cols p) after → ⊥
+  pub unwanted : (looks : Looks) → StandBefore rows cols looks string row
+      → Wants looks row (screen_of rows cols p) after → ⊥
 
 -- (Serves the code alone.) The rows of which two ends are wanted: both colours stay or become default, the cursor
 -- becomes visible or all stays.
@@ -71,20 +79,37 @@ looks_of m = record {
   invisible = m.concealed;
 }
 
+-- sets of attributes that are shown as each of them is alone: all but single ones, which may look like anything
+abbrev pub is_several : Row → Bool
+is_several (Sgr a) = not (is_single (number_of a) || number_of a == 64)
+is_several _ = false
+
+-- the looks by which the end of the effect is judged: what was taught, or what is seen where the probe ends
+abbrev pub looks_for : Looks → Row → Effect → Probe → Looks
+looks_for taught row e p = if is_several row then taught else looks_of (marks_after e.rendition p.look)
+
 -- two effects have one end
 abbrev pub EndAlike : Effect → Effect → Screen → Type 0
 EndAlike e f s = applied e s ≡ applied f s
 
--- whatever attributes look like, the end of the effect isn't wanted
-abbrev pub NotWanted : ℕ → ℕ → Row → Effect → Probe → Type 0
-NotWanted rows cols row e p = (looks : Looks) → Wants looks row (screen_of rows cols p) (applied e (screen_of rows cols p)) → ⊥
+-- the looks agree on what the parameter lists of `sgr` before this one show
+abbrev pub AgreeBefore : Row → Looks → Looks → Type 0
+AgreeBefore (Sgr a) l m = (b : Attributes) → number_of b < number_of a → shown l b ≡ shown m b
+AgreeBefore _ l m = Unit {0}
+
+-- the end of the effect isn't wanted, whatever attributes look like that agree with what the rows before taught
+abbrev pub NotWanted : ℕ → ℕ → Looks → Row → Effect → Probe → Type 0
+NotWanted rows cols taught row e p = (looks : Looks) → AgreeBefore row taught looks
+    → Wants looks row (screen_of rows cols p) (applied e (screen_of rows cols p)) → ⊥
 
 -- the probe is a start of the row, and from it the end of the effect isn't wanted
-pub record IsShown (rows cols : ℕ) (row : Row) (e : Effect) (p : Probe) : Type 0 where
+pub record IsShown (rows cols : ℕ) (taught : Looks) (row : Row) (e : Effect) (p : Probe) : Type 0 where
   pub starts : Starts rows cols row (screen_of rows cols p)
-  pub unwanted : NotWanted rows cols row e p
+  pub unwanted : NotWanted rows cols taught row e p
 
 -- so that the run of bytes of such an effect breaks what is wanted
 abbrev pub ShownBreaks : Type 0
-ShownBreaks = (rows cols : ℕ) (row : Row) (bytes : List ℕ) (tokens : List (List ℕ)) (e : Effect) (p : Probe) → Splits bytes tokens []
-    → record_of rows cols (start_of rows cols row) tokens ≡ Some e → IsShown rows cols row e p → Breaks rows cols row bytes p
+ShownBreaks = (rows cols : ℕ) (string : List ℕ) (taught : Looks) (row : Row) (bytes : List ℕ)
+    → (tokens : List (List ℕ)) (e : Effect) (p : Probe) → IsTaught rows cols string row taught → Splits bytes tokens []
+    → record_of rows cols (start_of rows cols row) tokens ≡ Some e → IsShown rows cols taught row e p
+    → Breaks rows cols string row bytes p

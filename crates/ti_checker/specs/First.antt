@@ -1,26 +1,47 @@
 -- Which rows of an entry stand: their strings are right, and their lines not too long.
-use Rattle.std.specs.Prelude.{ℕ, ◌≡◌, true, List, Some}
+use Rattle.std.specs.Prelude.{ℕ, ◌≡◌, ◌<◌, true, List, Some}
 use Rattle.ti_caps.specs.Entry.{Content}
+use Rattle.vt_effects.specs.declared.effects.Effect.{Effect}
 use Rattle.ti_rows.specs.declared.rows.Looks.{Looks}
 use Rattle.ti_rows.specs.declared.rows.Row.{Row}
-use Rattle.ti_rows.specs.Lists.{IsInRange}
+use Rattle.ti_rows.specs.Lists.{IsInRange, rank}
+use Rattle.ti_rows.specs.Looks.{learned}
+use Rattle.ti_rows.specs.Names.{order}
 use Rattle.ti_rows.specs.Right.{IsRight}
 use Rattle.ti_conforms.specs.Sends.{Sends}
 use Rattle.ti_conforms.specs.Entries.{is_checked, string_of}
-use Rattle.ti_checker.specs.Limit.{IsWritten, FitsLimit}
+use Rattle.ti_checker.specs.Limit.{IsLineFor, IsWritten, FitsLimit}
+use Rattle.ti_checker.specs.Taught.{IsAskedOf, IsTaught}
 
 -- ---- a row without fault
 
--- the string sends bytes that are whole, and whose run from every start of the row ends as is wanted
-pub record SendsRight (rows cols : ℕ) (string : List ℕ) (row : Row) : Type 0 where
+-- the string sends bytes that are whole, and whose run from every start of the row ends as is wanted, where attributes look
+-- so
+pub record SendsRight (rows cols : ℕ) (looks : Looks) (string : List ℕ) (row : Row) : Type 0 where
   pub bytes : List ℕ
   pub sends : Sends string row bytes
-  pub looks : Looks
   pub right : IsRight rows cols looks row bytes
+
+-- so with the rows of the string before this one
+abbrev pub StandBefore : ℕ → ℕ → Looks → List ℕ → Row → Type 0
+StandBefore rows cols looks string row = (other : Row) → IsInRange rows cols other → order other ≡ order row
+    → rank rows cols other < rank rows cols row → SendsRight rows cols looks string other
+
+-- The string sends bytes with the effect that is asked for, where attributes look as the rows before this one teach. So
+-- they are whole, and their run from every start of the row ends as is wanted.
+pub record SendsAsked (rows cols : ℕ) (string : List ℕ) (row : Row) : Type 0 where
+  pub bytes : List ℕ
+  pub effect : Effect
+  pub is : IsLineFor rows cols string (record { row = row; bytes = bytes; effect = effect })
+  pub looks : Looks
+  pub taught : IsTaught rows cols string row looks
+  pub asked : IsAskedOf looks row effect
+  pub right : IsRight rows cols (learned row effect looks) row bytes
 
 -- so of the entry's string, where the row is checked
 abbrev pub RowStands : Content → ℕ → ℕ → Row → Type 0
-RowStands entry rows cols row = is_checked entry row ≡ true → (string : List ℕ) → string_of entry row ≡ Some string → SendsRight rows cols string row
+RowStands entry rows cols row = is_checked entry row ≡ true → (string : List ℕ) → string_of entry row ≡ Some string
+    → SendsAsked rows cols string row
 
 abbrev pub EachStands : Content → ℕ → ℕ → Type 0
 EachStands entry rows cols = (row : Row) → IsInRange rows cols row → RowStands entry rows cols row

@@ -1,11 +1,14 @@
 pub mod Breakage
 pub mod Cells
 pub mod Certificate
+pub mod Doubts
 pub mod First
 pub mod Ignored
 pub mod Limit
+pub mod Mislooks
 pub mod No
 pub mod Notes
 pub mod Probes
 pub mod Resync
 pub mod Switches
+pub mod Taught

@@ -1,5 +1,5 @@
 -- When a no is so.
-use Rattle.std.specs.Prelude.{ℕ, ◌≡◌, true, is_some, List, [], Some, None, Err}
+use Rattle.std.specs.Prelude.{ℕ, ◌≡◌, true, false, is_some, List, [], Some, None, Err}
 use Rattle.ti_caps.specs.Entry.{Content, string_at}
 use Rattle.ti_parm.specs.Meaning.{meaning}
 use Rattle.ti_parm.specs.Value.{zeros}
@@ -8,7 +8,7 @@ use Rattle.vt_term.specs.declared.tokenizer.TokenFaultKind.{TokenFaultKind}
 use Rattle.vt_term.specs.declared.tokenizer.TokenFaultKind.TheVariants as kinds
 use Rattle.vt_effects.specs.declared.effects.Effect.{Effect}
 use Rattle.vt_effects.specs.Record.{record_of}
-use Rattle.ti_rows.specs.Asked.{start_of, asked}
+use Rattle.ti_rows.specs.Asked.{start_of}
 use Rattle.ti_rows.specs.declared.rows.Looks.{Looks}
 use Rattle.ti_rows.specs.declared.rows.Row.{Row}
 use Rattle.ti_rows.specs.declared.rows.Row.TheVariants.{Clear, Smacs, Rmacs}
@@ -16,7 +16,6 @@ use Rattle.ti_rows.specs.Names.{cap_of}
 use Rattle.ti_rows.specs.Params.{params}
 use Rattle.ti_rows.specs.Starts.{IsFree}
 use Rattle.ti_rows.specs.Lists.{IsInRange}
-use Rattle.ti_conforms.specs.Looks.{is_alone}
 use Rattle.ti_conforms.specs.Sends.{Sends, ReadsStatic, values}
 use Rattle.ti_conforms.specs.Entries.{acsc, is_checked, string_of}
 use Rattle.ti_conforms.specs.Conforms.{IsFit}
@@ -38,8 +37,10 @@ use Rattle.ti_checker.specs.declared.causes.Cause.TheVariants.{FlagOut, Absent, 
 use Rattle.ti_checker.specs.declared.causes.No.{No}
 use Rattle.ti_checker.specs.First.{RowStands, EachWritten}
 use Rattle.ti_checker.specs.Limit.{Overflows, PassesLimit, StaysWithin}
+use Rattle.ti_checker.specs.Mislooks.{Mislooks, looks_other}
 use Rattle.ti_checker.specs.Probes.{screen_of}
 use Rattle.ti_checker.specs.Switches.{OfSent, OfAllSent, RunsWrong}
+use Rattle.ti_checker.specs.Taught.{IsAskedOf, IsTaught}
 
 -- ---- what is wrong with a string for a row
 
@@ -55,31 +56,43 @@ pub record IsUntamed (rows cols : ℕ) (row : Row) (bytes : List ℕ) : Type 0 w
   pub whole : Splits bytes tokens []
   pub unrecorded : record_of rows cols (start_of rows cols row) tokens ≡ None
 
--- an effect that isn't the one that is asked for where attributes look so
-pub record IsUnasked (row : Row) (e : Effect) : Type 0 where
-  pub looks : Looks
-  pub unasked : e ≡ asked looks row e → ⊥
-
--- whole control functions with such an effect
-pub record HasUnasked (rows cols : ℕ) (row : Row) (bytes : List ℕ) : Type 0 where
+-- whole control functions with one effect from all starts of the row, and no attribute that shows another one's mark
+pub record HasOwnEffect (rows cols : ℕ) (row : Row) (bytes : List ℕ) : Type 0 where
   pub tokens : List (List ℕ)
   pub whole : Splits bytes tokens []
   pub effect : Effect
   pub recorded : record_of rows cols (start_of rows cols row) tokens ≡ Some effect
-  pub unasked : IsUnasked row effect
+  pub own : Mislooks rows cols row bytes → ⊥
 
--- The fault is one of the string's run; what is sent ends within a sequence, or has a byte that fits nothing; from a
--- start of the row it runs to an end that isn't wanted, however attributes look; it has no record, or another than is
--- asked for. With these two the string may still be right.
+-- an effect that isn't the one that is asked for, where attributes look as the rows of the string before this one teach
+pub record IsUnasked (rows cols : ℕ) (string : List ℕ) (row : Row) (e : Effect) : Type 0 where
+  pub looks : Looks
+  pub taught : IsTaught rows cols string row looks
+  pub unasked : IsAskedOf looks row e → ⊥
+
+-- whole control functions with such an effect
+pub record HasUnasked (rows cols : ℕ) (string : List ℕ) (row : Row) (bytes : List ℕ) : Type 0 where
+  pub has : HasOwnEffect rows cols row bytes
+  pub unasked : IsUnasked rows cols string row has.effect
+
+-- and from a start they run to an end that isn't wanted
+pub record HasWrong (rows cols : ℕ) (string : List ℕ) (row : Row) (bytes : List ℕ) (p : Probe) : Type 0 where
+  pub has : HasOwnEffect rows cols row bytes
+  pub breaks : Breaks rows cols string row bytes p
+
+-- The fault is one of the string's run; what is sent ends within a sequence, or has a byte that fits nothing; it has no
+-- one effect from all starts of the row; one attribute shows a mark that isn't its own; from a start of the row it runs to
+-- an end that isn't wanted; or its effect isn't the one that is asked for. Each of these excludes those before it. With
+-- `NotTame` and `NotShown` the string may still be right.
 abbrev pub IsFaulty : ℕ → ℕ → List ℕ → Row → Cause → Type 0
 IsFaulty rows cols string row (Parm fault) = meaning string (values row) zeros ≡ Err fault
 IsFaulty rows cols string row StaticRead = ReadsStatic string row
 IsFaulty rows cols string row Unfinished = SendsSome string row (λ bytes. (at : ℕ) × IsUnfinished bytes at)
 IsFaulty rows cols string row Stuck = SendsSome string row (λ bytes. (at : ℕ) × IsStuck bytes at)
-IsFaulty rows cols string row BadLook = (is_alone row ≡ true) × SendsSome string row (λ bytes. (p : Probe) × Breaks rows cols row bytes p)
-IsFaulty rows cols string row (WrongEffect p) = SendsSome string row (λ bytes. Breaks rows cols row bytes p)
 IsFaulty rows cols string row NotTame = SendsSome string row (λ bytes. IsUntamed rows cols row bytes)
-IsFaulty rows cols string row NotShown = SendsSome string row (λ bytes. HasUnasked rows cols row bytes)
+IsFaulty rows cols string row BadLook = SendsSome string row (λ bytes. Mislooks rows cols row bytes)
+IsFaulty rows cols string row (WrongEffect p) = SendsSome string row (λ bytes. HasWrong rows cols string row bytes p)
+IsFaulty rows cols string row NotShown = SendsSome string row (λ bytes. HasUnasked rows cols string row bytes)
 IsFaulty rows cols string row NoMemory = Unit {0}
 IsFaulty rows cols string row _ = ⊥
 
@@ -101,20 +114,20 @@ IsNotWhole bytes Stuck = (at : ℕ) × IsStuck bytes at
 IsNotWhole bytes NoMemory = Unit {0}
 IsNotWhole bytes _ = ⊥
 
-abbrev pub IsMisfit : ℕ → ℕ → Row → Effect → Cause → Type 0
-IsMisfit rows cols row e BadLook = (is_alone row ≡ true) × ((p : Probe) × IsShown rows cols row e p)
-IsMisfit rows cols row e (WrongEffect p) = IsShown rows cols row e p
-IsMisfit rows cols row e NotShown = IsUnasked row e
-IsMisfit rows cols row e _ = ⊥
+abbrev pub IsMisfit : ℕ → ℕ → Looks → Row → Effect → Cause → Type 0
+IsMisfit rows cols looks row e BadLook = looks_other row e ≡ true
+IsMisfit rows cols looks row e (WrongEffect p) = (looks_other row e ≡ false) × IsShown rows cols looks row e p
+IsMisfit rows cols looks row e NotShown = (looks_other row e ≡ false) × (IsAskedOf looks row e → ⊥)
+IsMisfit rows cols looks row e _ = ⊥
 
-pub record Misfits (rows cols : ℕ) (row : Row) (tokens : List (List ℕ)) (cause : Cause) : Type 0 where
+pub record Misfits (rows cols : ℕ) (looks : Looks) (row : Row) (tokens : List (List ℕ)) (cause : Cause) : Type 0 where
   pub effect : Effect
   pub recorded : record_of rows cols (start_of rows cols row) tokens ≡ Some effect
-  pub misfit : IsMisfit rows cols row effect cause
+  pub misfit : IsMisfit rows cols looks row effect cause
 
-abbrev pub IsMisjudged : ℕ → ℕ → Row → List (List ℕ) → Cause → Type 0
-IsMisjudged rows cols row tokens NotTame = record_of rows cols (start_of rows cols row) tokens ≡ None
-IsMisjudged rows cols row tokens cause = Misfits rows cols row tokens cause
+abbrev pub IsMisjudged : ℕ → ℕ → Looks → Row → List (List ℕ) → Cause → Type 0
+IsMisjudged rows cols looks row tokens NotTame = record_of rows cols (start_of rows cols row) tokens ≡ None
+IsMisjudged rows cols looks row tokens cause = Misfits rows cols looks row tokens cause
 
 -- the entry's string for a checked row is so
 pub record HasFaulty (entry : Content) (rows cols : ℕ) (refusal : No) : Type 0 where

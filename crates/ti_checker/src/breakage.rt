@@ -8,7 +8,7 @@ ghost use Rattle.vt_effects.specs.Effect.{bottom_of, inked, top_of};
 
 use crate::cells::cells_differ;
 use crate::probes::Probe;
-use ti_conforms::{designated, switched};
+use ti_conforms::{designated, is_alone, switched};
 use ti_rows::{Looks, Marks, Row};
 use vt_effects::{Effect, Ink, Region, Rendering, Switch};
 use vt_term::{Color, Size};
@@ -42,7 +42,7 @@ fn bottom_of(margins: Option<Region>, bottom: u16) -> u16
 }
 
 /// The marks that an effect leaves of these.
-fn marks_after(rendering: Rendering, marks: Marks) -> Marks
+pub(crate) fn marks_after(rendering: Rendering, marks: Marks) -> Marks
     ensures { result ≡ spec.marks_after rendering marks }
 {
     Marks {
@@ -183,14 +183,37 @@ fn without_defaults(effect: &Effect) -> Effect
     }
 }
 
+/// Whether a set of attributes is shown as each of them is alone: not the look of a single one, which is
+/// what its row tells.
+fn is_several(row: Row) -> bool
+    ensures { result ≡ spec.is_several row }
+{
+    match row {
+        Row::Sgr(attributes) => !(is_alone(row) || attributes.number() == 64),
+        _ => false,
+    }
+}
+
+/// The looks by which the end of the effect is judged: what the rows before taught, or what is seen where
+/// the probe ends.
+fn looks_for(taught: Looks, row: Row, effect: &Effect, probe: &Probe) -> Looks
+    ensures { result ≡ spec.looks_for taught row effect.now probe.now }
+{
+    if is_several(row) {
+        taught
+    } else {
+        looks_of(marks_after(effect.rendition, probe.look))
+    }
+}
+
 /// Whether the effect leads from the probe, a start of the row, to an end that isn't wanted, however
-/// attributes look.
-pub(crate) fn breaks(row: Row, effect: &Effect, size: Size, probe: &Probe) -> bool
+/// attributes look that agree with what the rows before `taught`.
+pub(crate) fn breaks(row: Row, taught: Looks, effect: &Effect, size: Size, probe: &Probe) -> bool
     requires starts { Starts size.rows size.cols row (screen_of size.rows size.cols probe.now) }
     requires seen { CanShow size.rows probe.now }
-    ensures { IsTrue result → spec.NotWanted size.rows size.cols row effect.now probe.now }
+    ensures { IsTrue result → spec.NotWanted size.rows size.cols taught row effect.now probe.now }
 {
-    let looks = looks_of(marks_after(effect.rendition, probe.look));
+    let looks = looks_for(taught, row, effect, probe);
     if has_choice(row) {
         let defaults = row.asked(looks, &with_defaults(effect));
         let others = row.asked(looks, &without_defaults(effect));

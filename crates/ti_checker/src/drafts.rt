@@ -7,10 +7,11 @@ ghost use Rattle.ti_cert.specs.Certificates.{limit};
 ghost use Rattle.ti_checker.specs.First as told;
 ghost use Rattle.ti_checker.specs.Limit.{AddsLine, most};
 ghost use Rattle.ti_checker.specs.No as spec;
+ghost use Rattle.ti_checker.specs.Taught.{IsTaught};
 ghost use Rattle.ti_lines.specs.Heads.{acsc_text, end_text, size_text};
 ghost use Rattle.ti_lines.specs.RowLines.{line_text};
 ghost use Rattle.ti_lines.specs.Texts.{acsc_lines, ended};
-ghost use Rattle.ti_rows.specs.Lists.{IsFirst, IsInRange};
+ghost use Rattle.ti_rows.specs.Lists.{Follows, IsFirst, IsInRange};
 ghost use Rattle.ti_rows.specs.Names.{order};
 ghost use Rattle.ti_conforms.specs.Conforms.{IsFit};
 ghost use Rattle.ti_conforms.specs.Entries as entries;
@@ -20,9 +21,9 @@ use crate::judgements::Judge;
 use crate::sends::checked_string;
 use std::alloc::{AllocError, Global};
 use ti_caps::Entry;
-use ti_conforms::acsc;
+use ti_conforms::{NO_LOOKS, acsc};
 use ti_lines::{push_hex, push_row_line};
-use ti_rows::Row;
+use ti_rows::{Looks, Row};
 use vt_effects::Effect;
 use vt_term::Size;
 
@@ -126,15 +127,19 @@ fn push_row(
     row: Row,
     size: Size,
     draft: &mut Draft,
+    looks: &mut Looks,
 ) -> Result<(), Cause>
-    requires { IsInRange size.rows size.cols row }
-    ensures right { OnOk result (told.SendsRight size.rows size.cols string.now row) }
+    requires range { IsInRange size.rows size.cols row }
+    requires taught { IsTaught size.rows size.cols string.now row looks.now }
+    ensures right { OnOk result (told.SendsAsked size.rows size.cols string.now row) }
     ensures adds { OnOk result (AddsLine size.rows size.cols string.now row draft.old.text.items draft.new.text.items) }
     ensures short { OnOk result (length draft.new.text.items ≤ most) }
     ensures refused { IfErr result (λ cause. spec.IsRowRefused size.rows size.cols string.now row draft.old.text.items
         cause) }
+    ensures taught { OnOk result ((next : Row) → Follows size.rows size.cols row next
+        → IsTaught size.rows size.cols string.now next looks.new) }
 {
-    let effect = draft.judge.judge_row(alloc, string, row, size)?;
+    let effect = draft.judge.judge_row(alloc, string, row, size, looks)?;
     match draft.push_line(row, &effect) {
         Ok(()) => draft.check_length(),
         Err(_) => Err(Cause::NoMemory),
@@ -159,9 +164,10 @@ fn push_cap(
     let Some(string) = checked_string(entry, first) else {
         return Ok(());
     };
+    let mut looks = NO_LOOKS;
     let mut row = first;
     loop {
-        match push_row(alloc, string, row, size, draft) {
+        match push_row(alloc, string, row, size, draft, &mut looks) {
             Ok(()) => (),
             Err(cause) => return Err(No::at(row, cause)),
         }

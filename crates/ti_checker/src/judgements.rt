@@ -1,40 +1,38 @@
 //! A string judged for a row.
 
-ghost use Rattle.std.specs.Prelude.{◌≡◌, ℕ, List, [], IfErr, IfOk, Some, true};
-ghost use Rattle.ti_checker.specs.First.{SendsRight};
+ghost use Rattle.std.specs.Prelude.{◌≡◌, ℕ, List, [], IfErr, IfOk, OnOk, Some};
+ghost use Rattle.ti_checker.specs.First.{SendsAsked};
 ghost use Rattle.ti_checker.specs.Limit.{IsLineFor};
 ghost use Rattle.ti_checker.specs.No as spec;
+ghost use Rattle.ti_checker.specs.Taught.{IsAskedOf, IsTaught};
 ghost use Rattle.ti_rows.specs.Asked.{start_of};
-ghost use Rattle.ti_rows.specs.Lists.{IsInRange};
-ghost use Rattle.ti_rows.specs.Right.{IsRight};
+ghost use Rattle.ti_rows.specs.Lists.{Follows, IsInRange};
 ghost use Rattle.vt_effects.specs.Record.{IsRecordOf, record_of};
 ghost use Rattle.vt_term.specs.Scanned.{HasFault};
 ghost use Rattle.vt_term.specs.Text.{Splits};
 
 use crate::causes::Cause;
+use crate::mislooks::looks_other;
 use crate::sends::sent_into;
 use crate::trials::probe_for;
 use std::alloc::{AllocError, Global};
-use ti_conforms::{NO_LOOKS, is_alone, is_some_look};
 use ti_rows::{Looks, Row};
 use vt_effects::{Effect, effect_of_text};
 use vt_term::{Scanner, Size, TextFault, TextFaultKind, Token, TokenFault, TokenFaultKind, tokens};
 
-/// What is wrong with an effect that isn't the one that is asked for.
-fn misfit(row: Row, effect: &Effect, size: Size) -> Cause
+/// What is wrong with an effect that isn't the one that is asked for, where attributes look so by the rows
+/// before.
+fn misfit(row: Row, taught: Looks, effect: &Effect, size: Size) -> Cause
     requires range { IsInRange size.rows size.cols row }
-    requires unasked { spec.IsUnasked row effect.now }
-    ensures { spec.IsMisfit size.rows size.cols row effect.now result }
+    requires unasked { IsAskedOf taught row effect.now → ⊥ }
+    ensures { spec.IsMisfit size.rows size.cols taught row effect.now result }
 {
-    match probe_for(row, effect, size) {
+    if looks_other(row, effect) {
+        return Cause::BadLook;
+    }
+    match probe_for(row, taught, effect, size) {
+        Some(probe) => Cause::WrongEffect(probe),
         None => Cause::NotShown,
-        Some(probe) => {
-            if is_alone(row) && is_some_look(effect) {
-                Cause::BadLook
-            } else {
-                Cause::WrongEffect(probe)
-            }
-        }
     }
 }
 
@@ -86,35 +84,30 @@ fn row_effect(
     }
 }
 
-/// The effect of bytes, if they have one, which has to be the one that is asked for. Looks that the
-/// row tells are added.
+/// The effect of bytes, if they have one, which has to be the one that is asked for, where attributes look
+/// so by the rows before.
 #[tactic(auto, using(crate::proofs::Misjudgements::misfit_misjudged))]
-fn judged(row: Row, found: Option<Effect>, size: Size, looks: &mut Looks) -> Result<Effect, Cause>
+fn judged(row: Row, found: Option<Effect>, size: Size, taught: Looks) -> Result<Effect, Cause>
     requires { IsInRange size.rows size.cols row }
-    ensures right { IfOk result (λ _. (bytes : List ℕ)
-        → IsRecordOf size.rows size.cols (start_of size.rows size.cols row) bytes found
-        → IsRight size.rows size.cols looks.new row bytes) }
     ensures found { IfOk result (λ effect. found ≡ Some effect) }
+    ensures asked { IfOk result (IsAskedOf taught row) }
     ensures misjudged { IfErr result (λ cause. (tokens : List (List ℕ))
         → found ≡ record_of size.rows size.cols (start_of size.rows size.cols row) tokens
-        → spec.IsMisjudged size.rows size.cols row tokens cause) }
+        → spec.IsMisjudged size.rows size.cols taught row tokens cause) }
 {
     let Some(effect) = found else {
         return Err(Cause::NotTame);
     };
-    *looks = looks.learned(row, &effect);
-    if row.asks_for(*looks, &effect) {
+    if row.asks_for(taught.learned(row, &effect), &effect) {
         Ok(effect)
     } else {
-        Err(misfit(row, &effect, size))
+        Err(misfit(row, taught, &effect, size))
     }
 }
 
 /// What rows are judged in, one after another.
 #[derive(Drop)]
 pub struct Judge {
-    /// How attributes look.
-    looks: Looks,
     /// What the string of the row that was judged last sends.
     bytes: Vec<u8>,
     /// Reads what it sends.
@@ -125,7 +118,6 @@ impl Judge {
     /// No row is judged yet. The error is out of memory.
     pub fn new(alloc: Global) -> Result<Judge, AllocError> {
         Ok(Judge {
-            looks: NO_LOOKS,
             bytes: Vec::new(alloc),
             scanner: Scanner::new(alloc)?,
         })
@@ -139,21 +131,31 @@ impl Judge {
     }
 
     /// The effect of what the entry's `string` sends for `row`. The bytes that it sends are kept.
+    ///
+    /// The rows of a string are judged one after another, from the first on. `looks` is how attributes look by
+    /// those before this one, `NO_LOOKS` at the first; what this one shows is added.
+    #[tactic(auto, using(crate::proofs::Misjudgements::taught_next, crate::proofs::Misjudgements::sends_asked))]
     pub fn judge_row(
         &mut self,
         alloc: Global,
         string: &[u8],
         row: Row,
         size: Size,
+        looks: &mut Looks,
     ) -> Result<Effect, Cause>
-        requires { IsInRange size.rows size.cols row }
-        ensures right { IfOk result (λ _. SendsRight size.rows size.cols string.now row) }
+        requires range { IsInRange size.rows size.cols row }
+        requires taught { IsTaught size.rows size.cols string.now row looks.now }
+        ensures right { IfOk result (λ _. SendsAsked size.rows size.cols string.now row) }
         ensures line { IfOk result (λ effect. IsLineFor size.rows size.cols string.now
             (record { row = row; bytes = self.new.bytes.items; effect = effect })) }
+        ensures taught { OnOk result ((next : Row) → Follows size.rows size.cols row next
+            → IsTaught size.rows size.cols string.now next looks.new) }
         ensures faulty { IfErr result (λ cause. spec.IsFaulty size.rows size.cols string.now row cause) }
     {
         sent_into(alloc, string, row, &mut self.bytes)?;
         let found = row_effect(&mut self.scanner, &self.bytes, row, size)?;
-        judged(row, found, size, &mut self.looks)
+        let effect = judged(row, found, size, *looks)?;
+        *looks = looks.learned(row, &effect);
+        Ok(effect)
     }
 }

@@ -6,6 +6,7 @@ ghost use Rattle.std.specs.Prelude.{◌≡◌, ◌≢◌, ℕ, Bool, List, Optio
 ghost use Rattle.ti_caps.specs.Entry.{Content};
 ghost use Rattle.ti_checker.specs.Breakage.{ShownBreaks};
 ghost use Rattle.ti_checker.specs.Certificate.{BasicCertificate, IsCertificateOf};
+ghost use Rattle.ti_checker.specs.Doubts.{NeverUnasked, NeverUntamed, OneTeaching};
 ghost use Rattle.ti_checker.specs.Ignored.{is_unknown_mode, is_unknown_rendition, is_whole_sequence};
 ghost use Rattle.ti_checker.specs.No.{ClaimsNothing, IsNo};
 ghost use Rattle.ti_checker.specs.Notes.{EntryNotes};
@@ -68,4 +69,12 @@ pub fn basic_certificate()
 /// From a probe that shows an effect wrong, the run of every text with that effect ends as isn't wanted.
 pub fn shown_breaks()
     ensures { ShownBreaks }
+{}
+
+/// With `NotTame` and `NotShown` a string may be right, but neither is so of a row that stands. What the rows
+/// of a string before another one teach is one look of the attributes.
+pub fn no_doubt_of_what_stands()
+    ensures one_teaching { OneTeaching }
+    ensures untamed { NeverUntamed }
+    ensures unasked { NeverUnasked }
 {}

@@ -10,6 +10,7 @@ mod fitness;
 mod ignored;
 mod judgements;
 pub mod laws;
+mod mislooks;
 mod note_list;
 mod note_texts;
 mod probes;

@@ -6,7 +6,7 @@ ghost use Rattle.ti_rows.specs.Lists.{IsInRange};
 
 use crate::breakage::breaks;
 use crate::probes::Probe;
-use ti_rows::{Marks, Row};
+use ti_rows::{Looks, Marks, Row};
 use vt_effects::{Effect, Margins, Start};
 use vt_term::{Charset, Color, Size};
 
@@ -94,27 +94,27 @@ fn probe_by(choices: Choices, start: &Start, size: Size) -> Probe {
 }
 
 /// Whether the probe is a start of the row from which the effect leads to an end that isn't wanted.
-fn shows(row: Row, effect: &Effect, size: Size, probe: &Probe) -> bool
+fn shows(row: Row, taught: Looks, effect: &Effect, size: Size, probe: &Probe) -> bool
     requires { IsInRange size.rows size.cols row }
-    ensures { IsTrue result → IsShown size.rows size.cols row effect.now probe.now }
+    ensures { IsTrue result → IsShown size.rows size.cols taught row effect.now probe.now }
 {
     if probe.is_start_of(row, size) {
-        breaks(row, effect, size, probe)
+        breaks(row, taught, effect, size, probe)
     } else {
         false
     }
 }
 
-/// A start of the row from which the effect leads to an end that isn't wanted, however attributes look.
-/// `None` where those that are tried show nothing.
-pub(crate) fn probe_for(row: Row, effect: &Effect, size: Size) -> Option<Probe>
+/// A start of the row from which the effect leads to an end that isn't wanted, however attributes look
+/// that agree with what the rows before `taught`. `None` where those that are tried show nothing.
+pub(crate) fn probe_for(row: Row, taught: Looks, effect: &Effect, size: Size) -> Option<Probe>
     requires { IsInRange size.rows size.cols row }
-    ensures { IfSome result (λ probe. IsShown size.rows size.cols row effect.now probe) }
+    ensures { IfSome result (λ probe. IsShown size.rows size.cols taught row effect.now probe) }
 {
     let start = row.start(size);
     for number in 0..TRIES {
         let probe = probe_by(Choices::of(number), &start, size);
-        if shows(row, effect, size, &probe) {
+        if shows(row, taught, effect, size, &probe) {
             return Some(probe);
         }
     }

@@ -8,16 +8,16 @@ use Rattle.ti_rows.specs.declared.rows.Row.{Row}
 use Rattle.ti_rows.specs.Names.{order}
 use Rattle.ti_conforms.specs.Entries.{is_checked, string_of}
 use Rattle.ti_conforms.proofs.Matches.{same_checked}
-use Rattle.ti_checker.specs.First.{SendsRight, RowStands}
+use Rattle.ti_checker.specs.First.{SendsAsked, RowStands}
 use Rattle.ti_checker.specs.declared.causes.Cause.TheVariants.{NoMemory}
 use Rattle.ti_checker.specs.declared.causes.No.{No}
 use Rattle.ti_checker.proofs.Walks.{same_string}
-use Rattle.ti_faults.specs.RowFaults.{CapStands, IsCapFault, OfCap, Stands, Fails, OfCaps, SendsAllRight, IsStringFault, AddsCap, AddsCaps}
+use Rattle.ti_faults.specs.RowFaults.{CapStands, IsCapFault, OfCap, Stands, Fails, OfCaps, SendsAllAsked, IsStringFault, AddsCap, AddsCaps}
 
-stands : (entry : Content) (rows cols : ℕ) (row : Row) (string : List ℕ) → string_of entry row ≡ Some string → SendsRight rows cols string row → RowStands entry rows cols row
-stands entry rows cols row string there right checked other found = subst (λ (x : List ℕ). SendsRight rows cols x row) (same_Some string other (sym there ∙ found)) right
+stands : (entry : Content) (rows cols : ℕ) (row : Row) (string : List ℕ) → string_of entry row ≡ Some string → SendsAsked rows cols string row → RowStands entry rows cols row
+stands entry rows cols row string there right checked other found = subst (λ (x : List ℕ). SendsAsked rows cols x row) (same_Some string other (sym there ∙ found)) right
 
-pub cap_stands : (entry : Content) (rows cols place : ℕ) (first : Row) (string : List ℕ) → order first ≡ place → string_of entry first ≡ Some string → SendsAllRight rows cols string (order first) → CapStands entry rows cols place
+pub cap_stands : (entry : Content) (rows cols place : ℕ) (first : Row) (string : List ℕ) → order first ≡ place → string_of entry first ≡ Some string → SendsAllAsked rows cols string (order first) → CapStands entry rows cols place
 cap_stands entry rows cols place first string same there right row range alike =
     stands entry rows cols row string (same_string entry row first (alike ∙ sym same) ∙ there) (right row range (alike ∙ sym same))
 

@@ -6,7 +6,7 @@ use Rattle.ti_rows.specs.declared.rows.Row.{Row}
 use Rattle.ti_rows.specs.Lists.{IsInRange, rank}
 use Rattle.ti_rows.specs.Names.{cap_of, order}
 use Rattle.ti_rows.specs.Params.{params}
-use Rattle.ti_checker.specs.First.{SendsRight, RowStands}
+use Rattle.ti_checker.specs.First.{SendsAsked, RowStands}
 use Rattle.ti_checker.specs.No.{IsFaulty, HasFaultyString}
 use Rattle.ti_checker.specs.declared.causes.Cause.TheVariants.{NoMemory}
 use Rattle.ti_checker.specs.declared.causes.No.{No}
@@ -38,12 +38,12 @@ OfCaps entry rows cols (suc n) nos = (front : List No) × (own : List No) × (no
 
 -- ---- (Serves the code alone.) the same of a string, and what is added
 
-abbrev pub SendsAllRight : ℕ → ℕ → List ℕ → ℕ → Type 0
-SendsAllRight rows cols string place = (row : Row) → IsInRange rows cols row → order row ≡ place → SendsRight rows cols string row
+abbrev pub SendsAllAsked : ℕ → ℕ → List ℕ → ℕ → Type 0
+SendsAllAsked rows cols string place = (row : Row) → IsInRange rows cols row → order row ≡ place → SendsAsked rows cols string row
 
 -- before the row of this rank
-abbrev pub SendsRightBefore : ℕ → ℕ → List ℕ → ℕ → ℕ → Type 0
-SendsRightBefore rows cols string place k = (row : Row) → IsInRange rows cols row → order row ≡ place → rank rows cols row < k → SendsRight rows cols string row
+abbrev pub SendsAskedBefore : ℕ → ℕ → List ℕ → ℕ → ℕ → Type 0
+SendsAskedBefore rows cols string place k = (row : Row) → IsInRange rows cols row → order row ≡ place → rank rows cols row < k → SendsAsked rows cols string row
 
 pub record IsStringFault (rows cols : ℕ) (string : List ℕ) (place : ℕ) (refusal : No) : Type 0 where
   pub row : Row
@@ -52,7 +52,7 @@ pub record IsStringFault (rows cols : ℕ) (string : List ℕ) (place : ℕ) (re
   pub params_are : refusal.params.items ≡ params row
   pub range : IsInRange rows cols row
   pub faulty : IsFaulty rows cols string row refusal.cause
-  pub earlier : SendsRightBefore rows cols string place (rank rows cols row)
+  pub earlier : SendsAskedBefore rows cols string place (rank rows cols row)
 
 pub record AddsCap (entry : Content) (rows cols place : ℕ) (old new : List No) : Type 0 where
   pub own : List No

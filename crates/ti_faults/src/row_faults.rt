@@ -8,6 +8,7 @@ ghost use Rattle.ti_rows.specs.Names.{order};
 use std::alloc::{AllocError, Global};
 use ti_caps::Entry;
 use ti_checker::{Cause, Judge, No, checked_string};
+use ti_conforms::NO_LOOKS;
 use ti_rows::Row;
 use vt_term::Size;
 
@@ -20,12 +21,13 @@ fn string_fault(
     judge: &mut Judge,
 ) -> Option<No>
     requires { IsFirst size.rows size.cols first }
-    ensures none { IfNone result (spec.SendsAllRight size.rows size.cols string.now (order first)) }
+    ensures none { IfNone result (spec.SendsAllAsked size.rows size.cols string.now (order first)) }
     ensures some { IfSome result (spec.IsStringFault size.rows size.cols string.now (order first)) }
 {
+    let mut looks = NO_LOOKS;
     let mut row = first;
     loop {
-        match judge.judge_row(alloc, string, row, size) {
+        match judge.judge_row(alloc, string, row, size, &mut looks) {
             Ok(_) => (),
             Err(cause) => return Some(No::at(row, cause)),
         }

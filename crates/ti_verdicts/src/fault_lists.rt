@@ -11,6 +11,7 @@ use crate::indents::indented;
 use crate::locations::location;
 use crate::reasons::explain_no;
 use crate::refusals::{no_failure, no_words};
+use crate::remedies::{note_another_kind, suggest};
 use std::alloc::{AllocError, Global};
 use ti_checker::No;
 use ti_commands::{Failure, Files, Reply, Sourced, size_words, sourced_entry};
@@ -38,6 +39,7 @@ pub fn check_all<F: Files>(
     let notes = notes_on(alloc, &found.entry, size)?;
     let nos = faults(alloc, &found.entry, size)?;
     let reply = reply_of(alloc, &found, size, notes, nos.as_slice())?;
+    note_another_kind(nos.as_slice(), remarks);
     Ok(reply)
 }
 
@@ -92,14 +94,21 @@ fn fault_lines(
 {
     let mut lines = Vec::new(alloc);
     for no in nos {
-        let own = own_lines(alloc, found, size, no)?;
+        let own = own_lines(alloc, found, size, no, nos)?;
         lines.extend_from_slice(own.as_slice())?;
     }
     Ok(lines)
 }
 
-/// The line of a fault of the entry `found`, where its value stands in the source, and what explains it.
-fn own_lines(alloc: Global, found: &Sourced<'_>, size: Size, no: &No) -> Result<Vec<u8>, AllocError>
+/// The line of `no`, one of the faults `nos` of the entry `found`, where its value stands in the source, and what explains
+/// it and would be right.
+fn own_lines(
+    alloc: Global,
+    found: &Sourced<'_>,
+    size: Size,
+    no: &No,
+    nos: &[No],
+) -> Result<Vec<u8>, AllocError>
     ensures { IfOk result (λ lines. spec.HasFaultLines found.now.source no.now lines.items) }
 {
     let mut lines = no_words(alloc, no)?;
@@ -108,6 +117,7 @@ fn own_lines(alloc: Global, found: &Sourced<'_>, size: Size, no: &No) -> Result<
     lines.extend_from_slice(place.as_slice())?;
     let mut remarks = Remarks::new(alloc);
     explain_no(alloc, &found.entry, size, no, &mut remarks);
+    suggest(alloc, &found.entry, size, no, nos, &mut remarks)?;
     let further = indented(alloc, without_end(remarks.as_slice()))?;
     lines.extend_from_slice(further.as_slice())?;
     Ok(lines)

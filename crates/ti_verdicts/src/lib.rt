@@ -13,6 +13,7 @@ mod lines;
 mod locations;
 mod reasons;
 mod refusals;
+mod remedies;
 mod starts;
 mod surveys;
 mod tallies;

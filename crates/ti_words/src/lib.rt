@@ -9,6 +9,7 @@ mod fields;
 mod names;
 mod numbers;
 mod remarks;
+mod remedies;
 mod seen;
 mod sources;
 mod states;
@@ -24,6 +25,7 @@ pub use checked_strings::{
 pub use names::unknown_names;
 pub use numbers::push_numbers;
 pub use remarks::{Remarks, write_shown};
+pub use remedies::{OF_ANOTHER_KIND, explain_remedy};
 pub use seen::Seen;
 pub use sources::{explain_large, explain_packed, explain_resolving, explain_source, hint_carets};
 pub use strings::{

@@ -4,8 +4,10 @@ use Rattle.cur_looks.specs.Inks.{mixed}
 use Rattle.cur_paint.specs.Differ.{span}
 use Rattle.ti_conforms.specs.Certified.{IsPiece, IsLost, cell_limit}
 use Rattle.cur_looks.specs.Beliefs.{Agrees}
-use Rattle.cur_wires.proofs.Stops.{steps_next, steps_fail, steps_wider, on_ok_map}
-use Rattle.cur_paint.proofs.Mixtures.{span_parts, span_split, times_grows, sum_limit, front_shown, row_done, agrees_at}
+use Rattle.cur_wires.proofs.Stops.{steps_next, steps_fail, steps_nothing, steps_wider, on_ok_map}
+use Rattle.cur_paint.proofs.Mixtures.{span_parts, span_split, times_grows, sum_limit, front_shown, rest_shown, row_done, agrees_at}
+use Rattle.cur_looks.proofs.Actions.{agrees_lost}
+use Rattle.cur_paint.proofs.Ranges.{all_same}
 use Rattle.cur_paint.proofs.rows.mend_line.Goals as goal
 
 pub mend_tail-requires-clause-same : goal.mend_tail-requires-clause-same
@@ -75,3 +77,15 @@ returns-clause-step g c =
     (Agrees t (mixed old new row tail) middle) (Agrees t (mixed old new row t.cols) after)
     (Agrees t (mixed old new row (from + (tail - from))) middle) (Agrees t (mixed old new row t.cols) after)
     (omega arith) (agrees_at t old new row (from + (tail - from)) tail middle (omega (arith, order))) (λ s x. x) c.mend_tail.ensures.step))
+
+pub returns-then-columns-clause-step : goal.returns-then-columns-clause-step
+returns-then-columns-clause-step g c =
+    let t = g.C.Certificate.table c.args.screens.now.checked.now in
+    let b = c.args.belief.now in
+    let old = g.O.Picture.cells c.args.screens.now.old.now in
+    let new = g.N.Picture.cells c.args.screens.now.new.now in
+    let row = c.args.row in
+    let same = all_same old new row c.args.columns.from c.args.columns.end t.cols c.requires.same c.if-columns.true in
+    steps_nothing g.W.Wire.went g.W.Wire.failures g.met.W.Wire.lawful c.args.wire.now tt (IsPiece t) (span old new row 0 t.cols * cell_limit t) (IsLost t)
+    (Agrees t (mixed old new row 0) b) (Agrees t (mixed old new (row + 1) 0) b) (λ s x. x.ready.rest)
+    (λ s x. row_done t old new row b s (rest_shown t old new row 0 b (λ k le lt. same k lt) s x)) (agrees_lost t c.requires.scene.checked (mixed old new row 0) b)

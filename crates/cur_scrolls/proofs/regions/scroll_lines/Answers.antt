@@ -8,7 +8,7 @@ use Rattle.cur_looks.specs.declared.beliefs.Belief.{Belief}
 use Rattle.cur_looks.specs.declared.beliefs.Place.{Place}
 use Rattle.cur_scrolls.specs.Scrolls.{shifted}
 use Rattle.cur_scrolls.specs.Frames.{Frame, Framed, whole}
-use Rattle.cur_scrolls.proofs.FrameFacts.{entered, left, scroll_enough}
+use Rattle.cur_scrolls.proofs.FrameFacts.{entered, left, screen_enough, scroll_enough}
 use Rattle.cur_scrolls.proofs.regions.scroll_lines.Goals as goal
 
 pub returns-in_err-brush_as-clause-step : goal.returns-in_err-brush_as-clause-step
@@ -35,4 +35,13 @@ returns-clause-step g c h =
     steps_next g.W.Wire.went g.W.Wire.failures g.met.W.Wire.lawful c.args.wire.now c.brush_as.new.wire c.scroll_region.new.wire _ c.scroll_region.result (IsPiece t) (brush_limit t) n ((x.count + 4) * cell_limit t) (IsLost t)
     (Agrees t h b) (Agrees t h a) (Agrees t (shifted x h) z) (scroll_enough t x.count) (c.in_ok-brush_as.ensures.step h)
     (steps_wider g.W.Wire.went g.W.Wire.failures c.brush_as.new.wire c.scroll_region.new.wire c.scroll_region.result (IsPiece t) n n (IsLost t) (Framed t f z) (Framed t (whole t (shifted x h) row) z) (Agrees t h a) (Agrees t (shifted x h) z)
-    (omega arith) (entered t h a p plain) (left t (shifted x h) a row (omega (arith, c.rows.ensures.checked.size)) plain) (c.scroll_region.ensures.step f z))
+    (omega arith) (entered t h a p plain) (left t (shifted x h) a row (omega (arith, c.rows-rows.ensures.checked.size)) plain) (c.scroll_region.ensures.step f z))
+
+pub returns-then-is_whole-clause-step : goal.returns-then-is_whole-clause-step
+returns-then-is_whole-clause-step g c h =
+    let t = g.C.Certificate.table c.args.checked.now in
+    let b : Belief = c.args.belief.now in
+    let a : Belief = c.brush_as.new.belief in
+    let x = c.args.scroll in
+    steps_next g.W.Wire.went g.W.Wire.failures g.met.W.Wire.lawful c.args.wire.now c.brush_as.new.wire c.scroll_screen.new.wire _ c.scroll_screen.result (IsPiece t) (brush_limit t) (t.longest.cup + x.count * t.longest.scroll)
+    ((x.count + 4) * cell_limit t) (IsLost t) (Agrees t h b) (Agrees t h a) (Agrees t (shifted x h) c.scroll_screen.new.belief) (screen_enough t x.count) (c.in_ok-brush_as.ensures.step h) (c.scroll_screen.ensures.step h)

@@ -1,8 +1,12 @@
-use Rattle.std.proofs.Common.{ℕ, subst, sym}
+use Rattle.std.proofs.Common.{◌≡◌, ◌∙◌, ℕ, List, ◌++◌, length, subst, sym}
+use Rattle.std.proofs.Math.ListN.{drop, take}
+use Rattle.std.proofs.Math.Seq.{take-append_seam}
 use Rattle.cur_looks.specs.Inks.{CanShow}
 use Rattle.cur_looks.specs.declared.inks.Ink.{Ink}
 use Rattle.cur_paint.specs.Update.{Refreshed}
 use Rattle.cur_update.specs.Inks.{ink_at, ink_at_with}
+use Rattle.cur_paint.specs.declared.changes.Columns.{Columns}
+use Rattle.cur_update.specs.Shift.{AreFound, IsShift}
 use Rattle.cur_update.proofs.InkFacts.{can_show, as_table}
 use Rattle.cur_update.proofs.painters.refresh.Goals as goal
 
@@ -16,11 +20,21 @@ pub update-requires-clause-changes : goal.update-requires-clause-changes
 update-requires-clause-changes g c =
     let t = g.C.Certificate.table c.args.checked.now in
     let partners = g.C.Certificate.partners c.args.checked.now in
-    record {
-      before = as_table c.means_of-means.result t partners c.args.shown.now c.means_of-means.ensures;
+    let means = c.means_of-means.result in
+    let shift : IsShift t partners c.args.shown.now.screen c.args.screen.now c.same_pairs-same_pairs.result
+    (ink_at_with means partners c.args.shown.now.screen) (ink_at_with means partners c.args.screen.now) = record {
+      before = as_table c.means_of-means.result t partners c.args.shown.now.screen c.means_of-means.ensures;
       after = as_table c.means_of-means.result t partners c.args.screen.now c.means_of-means.ensures;
       pairs = c.same_pairs-same_pairs.ensures;
-    }
+    } in
+    let old : ℕ → ℕ → Ink = ink_at_with means partners c.args.shown.now.screen in
+    let new : ℕ → ℕ → Ink = ink_at_with means partners c.args.screen.now in
+    let P : List Columns → Type 0 = λ x. AreFound x (length x) c.cols-cols.result old new in
+    let found : List Columns = c.find.new.columns in
+    let rest : List Columns = drop (length found) c.args.shown.now.columns.items in
+    let Q : ℕ → Type 0 = λ n. take n (found ++ rest) ≡ found in
+    let same : c.deref.result.now ≡ found = c.deref.ensures.value ∙ subst Q (c.find.ensures.long ∙ c.deref_mut.ensures.len) (take-append_seam found rest) in
+    (shift, subst P (sym same) (c.find.ensures.found old new shift))
 
 pub returns-clause-refreshes : goal.returns-clause-refreshes
 returns-clause-refreshes g c =
@@ -29,5 +43,5 @@ returns-clause-refreshes g c =
     let means = c.means_of-means.result in
     let R : (ℕ → ℕ → Ink) → (ℕ → ℕ → Ink) → Type 0 =
     λ old new. Refreshed {W = g.row.W.Denot} g.W.Wire.went c.args.wire.now c.update.new.wire t old new c.args.wanted c.args.session.now c.update.new.session in
-    subst (λ (old : ℕ → ℕ → Ink). R old (ink_at t partners c.args.screen.now)) (as_table means t partners c.args.shown.now c.means_of-means.ensures)
-    (subst (R (ink_at_with means partners c.args.shown.now)) (as_table means t partners c.args.screen.now c.means_of-means.ensures) c.in_ok-update.ensures.refreshes)
+    subst (λ (old : ℕ → ℕ → Ink). R old (ink_at t partners c.args.screen.now)) (as_table means t partners c.args.shown.now.screen c.means_of-means.ensures)
+    (subst (R (ink_at_with means partners c.args.shown.now.screen)) (as_table means t partners c.args.screen.now c.means_of-means.ensures) c.in_ok-update.ensures.refreshes)

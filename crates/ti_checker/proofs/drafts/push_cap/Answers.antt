@@ -4,7 +4,9 @@ use Rattle.ti_rows.proofs.ListFacts.{next_follows}
 use Rattle.ti_conforms.proofs.Walks.{nearer}
 use Rattle.ti_checker.specs.No.{IsRowRefused}
 use Rattle.ti_checker.specs.declared.causes.Cause.{Cause}
-use Rattle.ti_checker.proofs.Earliest.{one_more, before_next, after_last, unchecked_cap, refused_row}
+use Rattle.ti_conforms.specs.Looks.{no_looks}
+use Rattle.ti_checker.specs.Taught.{AtFirst}
+use Rattle.ti_checker.proofs.Earliest.{one_more, before_first, before_next, after_last, unchecked_cap, refused_row}
 use Rattle.ti_checker.proofs.Walks.{same_string}
 use Rattle.ti_conforms.proofs.Matches.{same_checked}
 use Rattle.ti_checker.proofs.drafts.push_cap.Goals as goal
@@ -12,6 +14,14 @@ use Rattle.ti_checker.proofs.drafts.push_cap.Goals as goal
 pub returns-in_default-clause-drafted : goal.returns-in_default-clause-drafted
 returns-in_default-clause-drafted c = unchecked_cap c.args.entry.now c.args.size.rows c.args.size.cols (order c.args.first) c.args.first c.args.draft.now.text.items refl
     c.in_default.ensures.none c.requires.drafted
+
+pub loop-cause-init : goal.loop-cause-init
+loop-cause-init c = record {
+  range = c.requires.first.range;
+  same = refl;
+  taught = AtFirst c.args.first no_looks c.requires.first refl;
+  drafted = before_first c.args.entry.now c.args.size.rows c.args.size.cols c.args.first c.args.draft.now.text.items c.requires.first c.requires.drafted;
+}
 
 pub returns-in-Err-clause-refused : goal.returns-in-Err-clause-refused
 returns-in-Err-clause-refused c = refused_row c.args.entry.now c.args.size.rows c.args.size.cols c.in-Some.string.now c.loop-cause.row c.loop-cause.draft.text.items c.at.result c.loop-cause.invariant.range (same_checked c.args.entry.now c.loop-cause.row c.args.first c.loop-cause.invariant.same ∙ c.in-Some.ensures.checked)
@@ -29,6 +39,7 @@ loop-cause-preserved c =
     record {
       range = f.range;
       same = f.same_order ∙ c.loop-cause.invariant.same;
+      taught = c.in-Ok.ensures.taught c.in-Some-next.next f;
       drafted = before_next c.args.entry.now c.args.size.rows c.args.size.cols c.loop-cause.row c.in-Some-next.next c.push_row.new.draft.text.items c.loop-cause.invariant.range f
           (one_more c.args.entry.now c.args.size.rows c.args.size.cols c.in-Some.string.now c.loop-cause.row c.loop-cause.draft.text.items c.push_row.new.draft.text.items c.loop-cause.invariant.range (same_checked c.args.entry.now c.loop-cause.row c.args.first c.loop-cause.invariant.same ∙ c.in-Some.ensures.checked)
           (same_string c.args.entry.now c.loop-cause.row c.args.first c.loop-cause.invariant.same ∙ c.in-Some.ensures.there) c.in-Ok.ensures.right c.in-Ok.ensures.adds c.in-Ok.ensures.short c.loop-cause.invariant.drafted);

@@ -1,4 +1,4 @@
-use Rattle.std.proofs.Common.{List, ℕ, ◌≡◌, ◌∷◌, sym, ◌∙◌}
+use Rattle.std.proofs.Common.{sym, ◌∙◌}
 use Rattle.ti_checker.proofs.Together.{escaped, stays_open}
 use Rattle.ti_checker.proofs.resync.escapes.Goals as goal
 

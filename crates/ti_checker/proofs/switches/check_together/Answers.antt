@@ -1,4 +1,4 @@
-use Rattle.std.proofs.Common.{◌≡◌, Bool, subst}
+use Rattle.std.proofs.Common.{Bool, subst}
 use Rattle.ti_cert.specs.Clashes.{IsClash, GoesTogether}
 use Rattle.ti_checker.proofs.Sent.{is_found, no_told}
 use Rattle.ti_checker.proofs.switches.check_together.Goals as goal

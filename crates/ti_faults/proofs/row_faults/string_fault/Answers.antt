@@ -3,7 +3,9 @@ use Rattle.ti_rows.specs.Names.{order}
 use Rattle.ti_rows.specs.Lists.{rank}
 use Rattle.ti_rows.proofs.ListFacts.{next_follows}
 use Rattle.ti_conforms.proofs.Walks.{nearer}
+use Rattle.ti_conforms.specs.Looks.{no_looks}
 use Rattle.ti_checker.specs.No.{IsFaulty}
+use Rattle.ti_checker.specs.Taught.{AtFirst}
 use Rattle.ti_checker.specs.declared.causes.Cause.{Cause}
 use Rattle.ti_faults.proofs.Ranks.{right_none, right_next, right_last}
 use Rattle.ti_faults.proofs.row_faults.string_fault.Goals as goal
@@ -12,6 +14,7 @@ pub loop-cause-init : goal.loop-cause-init
 loop-cause-init c = record {
   range = c.requires.range;
   same = refl;
+  taught = AtFirst c.args.first no_looks c.requires refl;
   earlier = right_none c.args.size.rows c.args.size.cols c.args.string.now (order c.args.first) (rank c.args.size.rows c.args.size.cols c.args.first) c.requires.rank_zero;
 }
 
@@ -37,6 +40,7 @@ loop-cause-preserved c =
     record {
       range = f.range;
       same = f.same_order ∙ c.loop-cause.invariant.same;
+      taught = c.in-Ok.ensures.taught c.in-Some.next f;
       earlier = right_next c.args.size.rows c.args.size.cols c.args.string.now (order c.args.first) c.loop-cause.row c.in-Some.next c.loop-cause.invariant.range c.loop-cause.invariant.same f c.in-Ok.ensures.right c.loop-cause.invariant.earlier;
     }
 

@@ -1,14 +1,16 @@
 use Rattle.std.proofs.Common.{◌≡◌, ◌-◌}
 use Rattle.ti_rows.specs.Lists.{IsInRange, rank, count}
 use Rattle.ti_rows.specs.Names.{order}
-use Rattle.ti_faults.specs.RowFaults.{SendsRightBefore}
+use Rattle.ti_checker.specs.Taught.{IsTaught}
+use Rattle.ti_faults.specs.RowFaults.{SendsAskedBefore}
 use Rattle.ti_faults.proofs.row_faults.string_fault.Given as goal
 
 abbrev pub invariant-loop-cause : goal.invariant-loop-cause
 invariant-loop-cause l = record {
   range : IsInRange l.size.rows l.size.cols l.row;
   same : order l.row ≡ order l.fn.first;
-  earlier : SendsRightBefore l.size.rows l.size.cols l.string (order l.fn.first) (rank l.size.rows l.size.cols l.row);
+  taught : IsTaught l.size.rows l.size.cols l.string l.row l.looks;
+  earlier : SendsAskedBefore l.size.rows l.size.cols l.string (order l.fn.first) (rank l.size.rows l.size.cols l.row);
 }
 
 abbrev pub decreases-loop-cause : goal.decreases-loop-cause

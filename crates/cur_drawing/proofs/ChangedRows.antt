@@ -1,0 +1,116 @@
+-- A row of a rectangle is copied where a part of it is copied, and the rest is equal.
+use Rattle.std.proofs.Common.{◌≡◌, ℕ, ◌+◌, ◌-◌, ◌<◌, ◌≤◌, ◌⊎◌, Bool, true, false, List, length, get_or, refl, sym, ap, ◌∙◌, inl, inr, arith, if◌then◌else◌}
+use Rattle.std.proofs.lemmas.Bool.{cases_lt}
+use Rattle.std.proofs.lemmas.Bool.Decides.{nat_tests}
+use Rattle.std.proofs.lemmas.List.{get_or_default}
+use Rattle.grids.specs.declared.areas.Area.{Area}
+use Rattle.grids.specs.declared.areas.Place.{Place}
+use Rattle.grids.specs.Grids as base
+use Rattle.grids.proofs.Drawings.{drawn_same, drawn_kept}
+use Rattle.cur_drawing.specs.declared.spans.Span.{Span}
+use Rattle.cur_drawing.specs.Cells.{Content, space}
+use Rattle.cur_drawing.specs.Grids.{Grid, Fits, cell_at, copied, drawn_in, is_in, line_at, moved_to, row_of, taken}
+use Rattle.cur_drawing.specs.Calls.{place}
+use Rattle.cur_drawing.specs.Differences.{AreEqualAt, AreEqualIn}
+
+-- these places of the row k
+abbrev part_of : Area → ℕ → Span → Area
+part_of a k s = record { top = a.top + k; left = a.left + s.at; rows = 1; cols = s.size }
+
+-- outside these places the row and its source are equal
+abbrev pub AreEqualBeside : Area → Place → ℕ → Span → Grid → Grid → Type 0
+AreEqualBeside a from k s source g = (x : ℕ) → x < a.cols → (x < s.at) ⊎ (s.at + s.size ≤ x) → cell_at g (a.top + k) (a.left + x) ≡ cell_at source (from.row + k) (from.col + x)
+
+chosen : (p q : Bool) (x y z : Content) → (p ≡ true → q ≡ true) → (p ≡ true → x ≡ y) → (p ≡ false → q ≡ true → z ≡ y) → (if p then x else z) ≡ (if q then y else z)
+chosen true true x y z up same rest = same refl
+chosen true false x y z up same rest = absurd (let h : false ≡ true = up refl in cc)
+chosen false true x y z up same rest = rest refl refl
+chosen false false x y z up same rest = refl
+
+in_row : (a : Area) (k i j : ℕ) → is_in (row_of a k) i j ≡ true → i ≡ a.top + k
+in_row a k i j h = grind (arith, nat_tests)
+
+after_left : (a : Area) (k i j : ℕ) → is_in (row_of a k) i j ≡ true → a.left ≤ j
+after_left a k i j h = grind (arith, nat_tests)
+
+before_right : (a : Area) (k i j : ℕ) → is_in (row_of a k) i j ≡ true → j < a.left + a.cols
+before_right a k i j h = grind (arith, nat_tests)
+
+part_in_row : (a : Area) (k i j : ℕ) (s : Span) → s.at + s.size ≤ a.cols → is_in (part_of a k s) i j ≡ true → is_in (row_of a k) i j ≡ true
+part_in_row a k i j s le h = grind (arith, nat_tests)
+
+part_after : (a : Area) (k i j : ℕ) (s : Span) → is_in (part_of a k s) i j ≡ true → a.left + s.at ≤ j
+part_after a k i j s h = grind (arith, nat_tests)
+
+beside_part : (a : Area) (k i j : ℕ) (s : Span) → is_in (part_of a k s) i j ≡ false → is_in (row_of a k) i j ≡ true → (j - a.left < s.at) ⊎ (s.at + s.size ≤ j - a.left)
+beside_part a k i j s off on =
+    elim (cases_lt (j - a.left) s.at) [
+      | inl low ↦ inl low
+      | inr high ↦ inr (past high)
+    ]
+  where
+    past : s.at ≤ j - a.left → s.at + s.size ≤ j - a.left
+    past high = let row = in_row a k i j on in let left = after_left a k i j on in grind (arith, nat_tests)
+
+-- the cell there is read with any default
+same_there : (g source : Grid) (r c r2 c2 : ℕ) (d : Content) → c < length (line_at g r) → c2 < length (line_at source r2) → cell_at g r c ≡ cell_at source r2 c2 → base.cell_at d g r c ≡ base.cell_at (base.cell_at d g r c) source r2 c2
+same_there g source r c r2 c2 d lt lt2 e = get_or_default (line_at g r) c d space lt ∙ e ∙ get_or_default (line_at source r2) c2 space (base.cell_at d g r c) lt2
+
+rest_equal : (a : Area) (from : Place) (k i j : ℕ) (s : Span) (source g : Grid) (d : Content) → k < a.rows → Fits a g → Fits (moved_to a from) source → AreEqualBeside a from k s source g →
+    is_in (part_of a k s) i j ≡ false → is_in (row_of a k) i j ≡ true → base.cell_at d g i j ≡ taken a from source i j (base.cell_at d g i j)
+rest_equal a from k i j s source g d lt fits there equal off on =
+    let row : i ≡ a.top + k = in_row a k i j on in
+    let left : a.left ≤ j = after_left a k i j on in
+    let right : j < a.left + a.cols = before_right a k i j on in
+    let col : j ≡ a.left + (j - a.left) = omega arith in
+    let source_row : from.row + k ≡ from.row + (i - a.top) = omega arith in
+    let near : j < length (line_at g i) = omega (arith, fits.rows, fits.cols i (omega (arith, fits.rows))) in
+    let near2 : from.col + (j - a.left) < length (line_at source (from.row + (i - a.top))) = omega (arith, there.rows, there.cols (from.row + (i - a.top)) (omega (arith, there.rows))) in
+    let same : cell_at g (a.top + k) (a.left + (j - a.left)) ≡ cell_at source (from.row + k) (from.col + (j - a.left)) = equal (j - a.left) (omega arith) (beside_part a k i j s off on) in
+    same_there g source i j (from.row + (i - a.top)) (from.col + (j - a.left)) d near near2
+    (ap (λ (n : ℕ). cell_at g n j) row ∙ ap (λ (n : ℕ). cell_at g (a.top + k) n) col ∙ same ∙ ap (λ (n : ℕ). cell_at source n (from.col + (j - a.left))) source_row)
+
+part_equal : (a : Area) (from : Place) (k i j : ℕ) (s : Span) (source : Grid) (old : Content) → s.at + s.size ≤ a.cols → is_in (part_of a k s) i j ≡ true →
+    taken (part_of a k s) (place (from.row + k) (from.col + s.at)) source i j old ≡ taken a from source i j old
+part_equal a from k i j s source old le on =
+    let row : i ≡ a.top + k = in_row a k i j (part_in_row a k i j s le on) in
+    let left : a.left + s.at ≤ j = part_after a k i j s on in
+    let rows : from.row + k + (i - (a.top + k)) ≡ from.row + (i - a.top) = omega arith in
+    let cols : from.col + s.at + (j - (a.left + s.at)) ≡ from.col + (j - a.left) = omega arith in
+    ap (λ (n : ℕ). base.cell_at old source n (from.col + s.at + (j - (a.left + s.at)))) rows ∙ ap (λ (n : ℕ). base.cell_at old source (from.row + (i - a.top)) n) cols
+
+pub row_copied : (a : Area) (from : Place) (k : ℕ) (s : Span) (source g : Grid) → k < a.rows → Fits a g → Fits (moved_to a from) source → s.at + s.size ≤ a.cols → AreEqualBeside a from k s source g →
+    copied (part_of a k s) (place (from.row + k) (from.col + s.at)) source g ≡ drawn_in (row_of a k) (taken a from source) g
+row_copied a from k s source g lt fits there le equal =
+    drawn_same (λ i j old. if is_in (part_of a k s) i j then taken (part_of a k s) (place (from.row + k) (from.col + s.at)) source i j old else old)
+    (λ i j old. if is_in (row_of a k) i j then taken a from source i j old else old) g
+    (λ i j d. chosen (is_in (part_of a k s) i j) (is_in (row_of a k) i j) _ _ (base.cell_at d g i j) (part_in_row a k i j s le)
+    (part_equal a from k i j s source (base.cell_at d g i j) le) (rest_equal a from k i j s source g d lt fits there equal))
+
+no_part : (a : Area) (k i j : ℕ) → is_in (part_of a k (record { at = 0; size = 0 })) i j ≡ false
+no_part a k i j = grind (arith, nat_tests)
+
+kept : (q : Bool) (y z : Content) → (q ≡ true → z ≡ y) → z ≡ (if q then y else z)
+kept true y z same = same refl
+kept false y z same = refl
+
+-- a row that is equal is as good as copied
+pub row_equal : (a : Area) (from : Place) (k : ℕ) (source g : Grid) → k < a.rows → Fits a g → Fits (moved_to a from) source → AreEqualBeside a from k (record { at = 0; size = 0 }) source g →
+    g ≡ drawn_in (row_of a k) (taken a from source) g
+row_equal a from k source g lt fits there equal =
+    let nothing : Span = record { at = 0; size = 0 } in
+    let leave : ℕ → ℕ → Content → Content = λ i j old. old in
+    drawn_kept leave g (λ i j old. refl)
+    ∙ drawn_same leave (λ i j old. if is_in (row_of a k) i j then taken a from source i j old else old) g
+    (λ i j d. kept (is_in (row_of a k) i j) (taken a from source i j (base.cell_at d g i j)) (base.cell_at d g i j)
+    (rest_equal a from k i j nothing source g d lt fits there equal (no_part a k i j)))
+
+-- ---- from the parts of two lines that were compared
+abbrev pub IsPart : List Content → ℕ → ℕ → List Content → Type 0
+IsPart part left cols line = (j : ℕ) → j < cols → get_or part j space ≡ get_or line (left + j) space
+
+pub equal_beside : (a : Area) (from : Place) (k : ℕ) (s : Span) (source g : Grid) (old new line line2 : List Content) → line ≡ line_at g (a.top + k) → line2 ≡ line_at source (from.row + k) →
+    IsPart old a.left a.cols line → IsPart new from.col a.cols line2 → length old ≡ a.cols → AreEqualIn old new 0 s.at → AreEqualIn old new (s.at + s.size) (length old) → AreEqualBeside a from k s source g
+equal_beside a from k s source g old new line line2 e e2 is is2 long before after x lt side =
+    let same : AreEqualAt old new x = elim side [ inl low ↦ before x (omega arith) low | inr high ↦ after x high (omega (arith, long)) ] in
+    sym (ap (λ (l : List Content). get_or l (a.left + x) space) e) ∙ sym (is x lt) ∙ same ∙ is2 x lt ∙ ap (λ (l : List Content). get_or l (from.col + x) space) e2

@@ -1,0 +1,24 @@
+use Rattle.std.proofs.Common.{◌∙◌, ◌+◌, refl, ap, ℕ}
+use Rattle.cur_drawing.specs.Cells.{Content}
+use Rattle.cur_drawing.specs.Grids.{row_of, drawn_in, taken}
+use Rattle.grids.proofs.Drawings.{drawn_in_none, drawn_join, fits_same}
+use Rattle.grids.proofs.Rectangles.{top_rows, no_rows, next_row, row_apart}
+use Rattle.cur_drawing.proofs.copies.copy_changed.Goals as goal
+
+pub loop-k-init : goal.loop-k-init
+loop-k-init c = record {
+  value = drawn_in_none (top_rows c.args.area 0) (taken c.args.area c.args.from c.args.source.now) c.args.grid.now (no_rows c.args.area);
+  shape = refl;
+}
+
+pub copy_changed_row-requires-clause-target : goal.copy_changed_row-requires-clause-target
+copy_changed_row-requires-clause-target c = fits_same c.args.area c.args.grid.now c.loop-k.grid c.loop-k.invariant.shape c.requires.target
+
+pub loop-k-preserved : goal.loop-k-preserved
+loop-k-preserved c =
+    let f : ℕ → ℕ → Content → Content = taken c.args.area c.args.from c.args.source.now in
+    let a = c.args.area in let k = c.loop-k.k in record {
+      value = c.copy_changed_row.ensures.value ∙ ap (drawn_in (row_of a k) f) c.loop-k.invariant.value
+          ∙ drawn_join (top_rows a k) (row_of a k) (top_rows a (k + 1)) f f c.args.grid.now (next_row a k) (row_apart a k) (λ i j d h. refl);
+      shape = c.copy_changed_row.ensures.shape ∙ c.loop-k.invariant.shape;
+    }

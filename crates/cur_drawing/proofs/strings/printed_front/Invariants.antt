@@ -1,0 +1,7 @@
+-- The bytes that were gone through are characters.
+use Rattle.std.proofs.Common.{ℕ, ◌<◌, slice_index}
+use Rattle.cur_drawing.specs.Cells.{IsPrinted}
+use Rattle.cur_drawing.proofs.strings.printed_front.Given as goal
+
+abbrev pub invariant-loop-k : goal.invariant-loop-k
+invariant-loop-k l = (k : ℕ) → k < l.k → IsPrinted (slice_index l.text k)

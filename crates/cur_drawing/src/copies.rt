@@ -1,0 +1,99 @@
+//! Copying rectangles of cells between grids.
+ghost use Rattle.std.specs.Prelude.{◌≡◌, ◌<◌, ◌≤◌, ◌+◌, ◌-◌, ℕ, length, slice_index_or};
+ghost use Rattle.cur_drawing.specs.Cells.{space};
+ghost use Rattle.cur_drawing.specs.Grids.{Fits, copied, drawn_in, line_at, moved_to, overlaid, row_of, shape_of, taken};
+ghost use Rattle.cur_drawing.specs.Spans.{ArePlaces};
+
+use crate::cells::Cell;
+use crate::differences::changed;
+use crate::rules::SkipSpaces;
+use grids::{Area, Grid, Place};
+
+/// The rectangle `area` of a grid that gets the cells from the place `from` of a grid on, without the spaces among them
+/// if these are to `skip`.
+#[derive(Clone, Copy)]
+pub struct Patch {
+    pub area: Area,
+    pub from: Place,
+    pub skip: bool,
+}
+
+/// The patch of a grid gets the cells of another one.
+pub fn overlay_from(grid: &mut Grid<Cell>, source: &Grid<Cell>, patch: Patch)
+    requires target { Fits patch.area grid.old }
+    requires source { Fits (moved_to patch.area patch.from) source.now }
+    ensures value { grid.new ≡ overlaid patch.area patch.from patch.skip source.now grid.old }
+    ensures shape { shape_of grid.new ≡ shape_of grid.old }
+{
+    if patch.skip {
+        grid.merge_from(patch.area, source, patch.from, &SkipSpaces);
+    } else {
+        grid.copy_from(patch.area, source, patch.from);
+    }
+}
+
+/// The patch of a grid gets the grid's own cells, as if they were all read first.
+pub fn overlay_shift(grid: &mut Grid<Cell>, patch: Patch)
+    requires target { Fits patch.area grid.old }
+    requires source { Fits (moved_to patch.area patch.from) grid.old }
+    ensures value { grid.new ≡ overlaid patch.area patch.from patch.skip grid.old grid.old }
+    ensures shape { shape_of grid.new ≡ shape_of grid.old }
+{
+    if patch.skip {
+        grid.merge_shift(patch.area, patch.from, &SkipSpaces);
+    } else {
+        grid.shift(patch.area, patch.from);
+    }
+}
+
+/// The rectangle gets the cells of another grid from a place on. Of each line only the cells from the first one that
+/// differs to the last one are written.
+pub fn copy_changed(grid: &mut Grid<Cell>, area: Area, source: &Grid<Cell>, from: Place)
+    requires target { Fits area grid.old }
+    requires source { Fits (moved_to area from) source.now }
+    requires places { ArePlaces area from }
+    ensures value { grid.new ≡ copied area from source.now grid.old }
+    ensures shape { shape_of grid.new ≡ shape_of grid.old }
+{
+    for k in 0..area.rows {
+        copy_changed_row(grid, area, k, source, from);
+    }
+}
+
+// The row `k` of the rectangle.
+fn copy_changed_row(grid: &mut Grid<Cell>, area: Area, k: u16, source: &Grid<Cell>, from: Place)
+    requires target { Fits area grid.old }
+    requires source { Fits (moved_to area from) source.now }
+    requires places { ArePlaces area from }
+    requires within { k < area.rows }
+    ensures value { grid.new ≡ drawn_in (row_of area k) (taken area from source.now) grid.old }
+    ensures shape { shape_of grid.new ≡ shape_of grid.old }
+{
+    let (row, from_row) = (area.top + k, from.row + k);
+    let old = part_of(grid.line(row as usize), area.left, area.cols);
+    let new = part_of(source.line(from_row as usize), from.col, area.cols);
+    let Some(span) = changed(old, new) else {
+        return;
+    };
+    let part = Area {
+        top: row,
+        left: area.left + span.at,
+        rows: 1,
+        cols: span.size,
+    };
+    let place = Place {
+        row: from_row,
+        col: from.col + span.at,
+    };
+    grid.copy_from(part, source, place);
+}
+
+// So many cells of a line from a column on.
+fn part_of(line: &[Cell], left: u16, cols: u16) -> &[Cell]
+    requires { left + cols ≤ length line.now }
+    ensures len { length result.now ≡ cols }
+    ensures cells { (j : ℕ) → j < cols
+        → slice_index_or result.now j space ≡ slice_index_or line.now (left + j) space }
+{
+    &line[left as usize..left as usize + cols as usize]
+}

@@ -1,0 +1,91 @@
+//! In how many cells two screens differ.
+ghost use Rattle.std.specs.Prelude.{◌≡◌, ◌+◌, ◌-◌, ◌<◌, ◌≤◌, true};
+ghost use Rattle.cur_paint.specs.Differ.{differs, span};
+ghost use Rattle.cur_paint.specs.Scenes.{IsPaintable, all_changed, scene};
+
+use crate::changes::{Changes, Columns};
+use crate::screens::Screens;
+use cur_looks::Picture;
+use ti_conforms::Certificate;
+
+/// 1 if the place in line `row` and column `col` differs, else 0.
+fn differing<O: Picture, N: Picture>(old: &O, new: &N, row: usize, col: usize) -> usize
+    ensures value { result ≡ differs (O.cells old.now) (N.cells new.now) row col }
+    ensures few { result ≤ 1 }
+{
+    if old.shows(row, col, new.at(row, col)) {
+        0
+    } else {
+        1
+    }
+}
+
+/// In how many of the `columns` the line `row` differs.
+fn count_columns<O: Picture, N: Picture>(old: &O, new: &N, row: usize, columns: Columns) -> usize
+    requires order { columns.from ≤ columns.end }
+    requires few { columns.end ≤ 1000 }
+    ensures value { result ≡ span (O.cells old.now) (N.cells new.now) row columns.from (columns.end - columns.from) }
+    ensures few { result ≤ columns.end - columns.from }
+{
+    let mut count = 0;
+    for n in 0..columns.end - columns.from {
+        count += differing(old, new, row, columns.from + n);
+    }
+    count
+}
+
+/// In how many cells the line `row` differs. Only the columns that may by `changes` are looked at.
+fn count_line<O: Picture, N: Picture, D: Changes>(
+    old: &O,
+    new: &N,
+    changes: &D,
+    row: usize,
+    cols: usize,
+) -> usize
+    requires few { cols ≤ 1000 }
+    requires changes { D.between changes.now (O.cells old.now) (N.cells new.now) }
+    ensures value { result ≡ span (O.cells old.now) (N.cells new.now) row 0 cols }
+    ensures few { result ≤ cols }
+{
+    let columns = changes.columns(row, cols);
+    count_columns(old, new, row, columns)
+}
+
+/// In how many cells the screens differ.
+pub(crate) fn count_cells<C: Certificate, O: Picture, N: Picture, D: Changes>(
+    screens: &Screens<'_, C, O, N>,
+    changes: &D,
+) -> usize
+    requires scene { IsPaintable (scene C.table O.cells N.cells screens.now) }
+    requires changes { D.between changes.now (O.cells screens.now.old.now) (N.cells screens.now.new.now) }
+    ensures value { result ≡ all_changed (scene C.table O.cells N.cells screens.now) }
+    ensures few { result ≤ 1000000 }
+{
+    let cols = screens.checked.cols();
+    let mut count = 0;
+    for row in 0..screens.checked.rows() {
+        count += count_line(screens.old, screens.new, changes, row, cols);
+    }
+    count
+}
+
+/// Whether the screens differ in more than `least` cells. Lines are looked at until that is known.
+pub(crate) fn differ_in_more<C: Certificate, O: Picture, N: Picture, D: Changes>(
+    screens: &Screens<'_, C, O, N>,
+    changes: &D,
+    least: usize,
+) -> bool
+    requires scene { IsPaintable (scene C.table O.cells N.cells screens.now) }
+    requires changes { D.between changes.now (O.cells screens.now.old.now) (N.cells screens.now.new.now) }
+    ensures { result ≡ true → least < all_changed (scene C.table O.cells N.cells screens.now) }
+{
+    let cols = screens.checked.cols();
+    let mut count = 0;
+    for row in 0..screens.checked.rows() {
+        count += count_line(screens.old, screens.new, changes, row, cols);
+        if count > least {
+            return true;
+        }
+    }
+    false
+}

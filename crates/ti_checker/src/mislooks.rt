@@ -1,0 +1,87 @@
+//! Whether an attribute alone shows a mark that isn't its own.
+
+ghost use Rattle.std.specs.Prelude.{◌≡◌};
+ghost use Rattle.ti_checker.specs.Mislooks as spec;
+
+use crate::breakage::marks_after;
+use ti_conforms::is_alone;
+use ti_rows::{Attributes, Marks, NO_MARKS, Row};
+use vt_effects::Effect;
+
+/// The marks that have the names of these attributes.
+fn own_marks(attributes: Attributes) -> Marks
+    ensures { result ≡ spec.own_marks attributes }
+{
+    Marks {
+        bold: attributes.bold,
+        faint: attributes.dim,
+        underline: attributes.underline,
+        blink: attributes.blink,
+        negative: attributes.reverse,
+        concealed: attributes.invisible,
+    }
+}
+
+/// The mark of the attribute that the row turns on alone, by `sgr` or by a string of its own. Standout has
+/// none, as it may look like anything.
+fn own_mark(row: Row) -> Option<Marks>
+    ensures { result ≡ spec.own_mark row }
+{
+    match row {
+        Row::Sgr(attributes) => {
+            if is_alone(row) {
+                Some(own_marks(attributes))
+            } else {
+                None
+            }
+        }
+        Row::Smul => Some(Marks {
+            underline: true,
+            ..NO_MARKS
+        }),
+        Row::Rev => Some(Marks {
+            negative: true,
+            ..NO_MARKS
+        }),
+        Row::Blink => Some(Marks {
+            blink: true,
+            ..NO_MARKS
+        }),
+        Row::Dim => Some(Marks {
+            faint: true,
+            ..NO_MARKS
+        }),
+        Row::Bold => Some(Marks {
+            bold: true,
+            ..NO_MARKS
+        }),
+        Row::Invis => Some(Marks {
+            concealed: true,
+            ..NO_MARKS
+        }),
+        _ => None,
+    }
+}
+
+/// Whether one of these marks isn't among an attribute's own.
+fn has_other(own: Marks, marks: Marks) -> bool
+    ensures { result ≡ spec.has_other own marks }
+{
+    (marks.bold && !own.bold)
+        || (marks.faint && !own.faint)
+        || (marks.underline && !own.underline)
+        || (marks.blink && !own.blink)
+        || (marks.negative && !own.negative)
+        || (marks.concealed && !own.concealed)
+}
+
+/// Whether the row turns one attribute on alone, and its effect turns on a mark that isn't the attribute's
+/// own.
+pub(crate) fn looks_other(row: Row, effect: &Effect) -> bool
+    ensures { result ≡ spec.looks_other row effect.now }
+{
+    match own_mark(row) {
+        Some(own) => has_other(own, marks_after(effect.rendition, NO_MARKS)),
+        None => false,
+    }
+}

@@ -1,0 +1,32 @@
+#!/bin/sh
+# The callers in the crates' READMEs compile: all of them as modules of one program, with the crates that they use; and the one in C
+# against include/.
+set -eu
+cd -- "$(dirname -- "$0")/.."
+. tests/probing
+
+work=$(mktemp -d)
+trap 'rm -rf "$work"' EXIT
+mkdir "$work/sources"
+python3 -B tests/readmes.py --callers "$work/sources" >"$work/names"
+# shellcheck disable=SC2046
+lay "$work/callers" $(used "$work"/sources/*.rt)
+mv "$work"/sources/*.rt "$work/callers/crates/probe/src"
+{
+    echo "//! The callers of the READMEs, which nothing calls."
+    echo "#![tactic(auto)]"
+    echo
+    sed 's/.*/pub mod &;/' "$work/names"
+    echo
+    echo "fn main(_rt: HostRuntime) {}"
+} >"$work/callers/crates/probe/src/main.rt"
+attempt "$work/callers"
+must_run "$work/callers" "callers: not each caller of a README compiles"
+if command -v cc >/dev/null 2>&1; then
+    sed -n '/^```c$/,/^```$/p' crates/curses_c/README.md | grep -v '^```' >"$work/caller.c"
+    cc -std=c99 -Wall -Wextra -Werror -fsyntax-only -Iinclude "$work/caller.c"
+    echo "callers: the caller in C compiles"
+else
+    echo "callers: the caller in C is skipped, since cc is missing"
+fi
+echo "callers: the callers of $(wc -l <"$work/names") READMEs compile"
