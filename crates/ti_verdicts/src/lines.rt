@@ -327,10 +327,22 @@ fn text_lines<C: Certifier, W: Watcher>(
             FaultKind::NoMemory => Err(AllocError),
             _ => {
                 let why = format!(in alloc; "{fault}")?;
-                refused_line(alloc, path.as_bytes(), why.as_bytes(), &mut course.tally)
+                path_line(alloc, path, why.as_bytes(), &mut course.tally)
             }
         },
     }
+}
+
+/// The line of the file at `path`, which has no entries, and `why`.
+fn path_line(
+    alloc: Global,
+    path: &str,
+    why: &[u8],
+    tally: &mut Tally,
+) -> Result<Vec<u8>, AllocError>
+    ensures { IfOk result (λ line. spec.IsRefusedLine path.now line.items) }
+{
+    refused_line(alloc, path.as_bytes(), why, tally)
 }
 
 /// The line of `name`, that what it names can't be had, and `why`.

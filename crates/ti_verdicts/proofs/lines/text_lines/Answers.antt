@@ -5,4 +5,4 @@ use Rattle.ti_verdicts.proofs.lines.text_lines.Goals as goal
 
 pub returns-in_ok-why-in_default : goal.returns-in_ok-why-in_default
 returns-in_ok-why-in_default g c =
-    IfOk-weaker c.refused_line.result _ _ (λ lines told. inr (record { refusal = Source c.in-Err.fault; faulty = (c.in-Err.ensures.fault, c.in_default.not-NoMemory); told = told })) c.refused_line.ensures
+    IfOk-weaker c.path_line.result _ _ (λ lines told. inr (record { refusal = Source c.in-Err.fault; faulty = (c.in-Err.ensures.fault, c.in_default.not-NoMemory); told = told })) c.path_line.ensures
