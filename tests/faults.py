@@ -75,8 +75,24 @@ def words(fault):
 
 def counts(causes):
     """The line of counts."""
-    parts = [f", {it} {causes.count(it)}" for it in CAUSES if it in causes]
+    parts = [f", {it} {causes.count(it)}" for it in ["yes", *CAUSES] if it in causes]
     return f"total {len(causes)}{''.join(parts)}"
+
+
+class Source:
+    """A source text, and the line on which each field of its entries stands."""
+
+    def __init__(self):
+        self.lines, self.places = [], {}
+
+    def add(self, name, fields):
+        self.lines.append(f"{name}|an entry,")
+        for field in fields:
+            self.lines.append(f"\t{field},")
+            self.places[name, named(field)] = len(self.lines)
+
+    def text(self):
+        return "".join(f"{line}\n" for line in self.lines).encode()
 
 
 def planted(rng):
@@ -88,34 +104,41 @@ def planted(rng):
     return sorted(faults.values(), key=order)
 
 
-def entry(name, fields):
-    return f"{name}|an entry,\n" + "".join(f"\t{field},\n" for field in fields)
-
-
 def all_entries():
-    """The source of the entries, and the faults of each. Every third has some of them in an entry that it uses."""
-    rng, wanted = random.Random(39), {"right": []}
-    texts = [entry("right", [f"{cap}={value}" for cap, value in RIGHT.items()])]
+    """The source of the entries, and for each the lines of its faults, and where each stands. Every third has some of them in an
+    entry that it uses."""
+    rng, source, wanted = random.Random(39), Source(), {}
+    source.add("right", [f"{cap}={value}" for cap, value in RIGHT.items()])
+    wanted["right"] = []
     for at in range(ENTRIES):
         name, faults = f"wrong{at}", planted(rng)
         used = [it for it in faults if at % 3 == 0 and rng.random() < 0.5]
         own = [it for it in faults if it not in used]
         if used:
-            texts.append(entry(f"used{at}", [*(it[0] for it in rng.sample(used, len(used))), "use=right"]))
-            wanted[f"used{at}"] = used
-        texts.append(entry(name, [*(it[0] for it in rng.sample(own, len(own))), f"use=used{at}" if used else "use=right"]))
-        wanted[name] = faults
-    return "".join(texts).encode(), wanted
+            source.add(f"used{at}", [*(it[0] for it in rng.sample(used, len(used))), "use=right"])
+            wanted[f"used{at}"] = [(it, f"used{at}") for it in used]
+        source.add(name, [*(it[0] for it in rng.sample(own, len(own))), f"use=used{at}" if used else "use=right"])
+        wanted[name] = [(it, f"used{at}" if it in used else name) for it in faults]
+    return source, wanted
 
 
-def listing(faults):
+def listing(source, faults):
     """What `check --all` is to print of an entry but for the lines that begin with two spaces."""
-    return [*map(words, faults), counts([it[2] for it in faults])] if faults else ["yes"]
+    if not faults:
+        return ["yes"]
+    lines = []
+    for fault, owner in faults:
+        cap = named(fault[0])
+        lines.append(words(fault))
+        if fault[2] != "Absent":
+            lines.append(f"planted:{source.places[owner, cap]}: {cap} of {owner}")
+    return [*lines, counts([fault[2] for fault, _ in faults])]
 
 
 def is_explained(lines):
-    """Below each fault there is a line that explains it."""
-    return all(below.startswith("  ") for at, below in zip(lines, lines[1:]) if at.startswith("no "))
+    """Below each fault, and the line that says where it stands, there is a line that explains it."""
+    below = [line for line in lines if not line.startswith("planted:")]
+    return all(after.startswith("  ") for at, after in zip(below, below[1:]) if at.startswith("no "))
 
 
 def judge_planted():
@@ -123,19 +146,24 @@ def judge_planted():
     size = [str(ROWS), str(COLS)]
     cases = [Case(["check", "--all", f"planted:{name}", *size]) for name in wanted]
     cases += [Case(["check", f"planted:{name}", *size]) for name in wanted]
-    told = run_cases(PROGRAM, cases, {"planted": source})
+    cases += [Case(["survey", "--all", *size, "planted"])]
+    told = run_cases(PROGRAM, cases, {"planted": source.text()})
     for (name, faults), every, first in zip(wanted.items(), told, told[len(wanted) :]):
         shown = every.out.decode().splitlines()
         plain = [line for line in shown if not line.startswith("  ")]
-        if plain != listing(faults) or not is_explained(shown):
-            fail(f"check --all of {name} printed {shown} and was to print {listing(faults)}")
-        refusal = [f"refused: {words(faults[0])}"] if faults else []
+        if plain != listing(source, faults) or not is_explained(shown):
+            fail(f"check --all of {name} printed {shown} and was to print {listing(source, faults)}")
+        refusal = [f"refused: {words(faults[0][0])}"] if faults else []
         for it in (every, first):
             refused = [line for line in it.err.decode().splitlines() if line.startswith("refused: ")]
             if refused != refusal or it.status != bool(faults):
                 fail(f"check of {name} was to refuse with {refusal}: {it.status} {it.err}")
+    lines = [f"{name} {it}" for name, faults in wanted.items() for it in [words(fault) for fault, _ in faults] or ["yes"]]
+    lines.append(counts([fault[2] for faults in wanted.values() for fault, _ in faults or [(("", "", "yes"), "")]]))
+    if told[-1].out.decode().splitlines() != lines or told[-1].status:
+        fail(f"survey --all printed {told[-1].out.decode()} and was to print {lines}")
     number = sum(map(len, wanted.values()))
-    print(f"faults: each of {number} planted faults of {len(wanted)} entries is listed once, and no other")
+    print(f"faults: each of {number} planted faults of {len(wanted)} entries is listed once, where it stands, and no other")
 
 
 FIVE = rb"""base|what others use,
@@ -145,12 +173,19 @@ five|five faults,
 	xmc#1, el1=\E[K, bel=\E[,
 	ed=\E[%p1%dK, cr=\377, use=base,
 """
+# the second and third line of the entry, the third line of the one that it uses
 FIVE_FAULTS = """no xmc: FlagOut
+five.ti:5: xmc of five
 no bel: Unfinished
+five.ti:5: bel of five
 no cr: Stuck
+five.ti:6: cr of five
 no ed: WrongEffect
+five.ti:6: ed of five
 no el: WrongEffect
+five.ti:3: el of base
 no el1: WrongEffect
+five.ti:5: el1 of five
 total 6, FlagOut 1, Unfinished 1, Stuck 1, WrongEffect 3
 """
 # mended line by line

@@ -1,6 +1,6 @@
 #!/bin/sh
-# All faults of an entry at once: `check --all` of 60 entries in which two to six faults were planted, and of one that is mended
-# in one round.
+# All faults of an entry at once: `check --all` and `survey --all` of 60 entries in which two to six faults were planted, each with
+# the line on which it stands, and of an entry that is mended in one round.
 set -eu
 cd -- "$(dirname -- "$0")/.."
 exec python3 -B tests/faults.py

@@ -62,7 +62,7 @@ abbrev pub show_rules : App
 show_rules = with_script_rules (new_app (codes "show"))
 
 abbrev pub survey_rules : App
-survey_rules = with_rule (with_size_rules (new_app (codes "survey"))) (several_rule (codes "FILE"))
+survey_rules = with_rule (with_size_rules (with_rule (new_app (codes "survey")) (long_switch_rule (codes "all")))) (several_rule (codes "FILE"))
 
 -- the program by itself: its own name is not among the words, and a command has to follow
 abbrev pub program : App

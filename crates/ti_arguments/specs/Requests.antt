@@ -57,7 +57,8 @@ AsksFor name rows (Verify words) =
 AsksFor name rows (Play words) = (name ≡ codes "play") × Plays rows words
 AsksFor name rows (Show words) = (name ≡ codes "show") × Plays rows words
 AsksFor name rows (Survey words) =
-    (name ≡ codes "survey") × (words.rows.now ≡ word_of (codes "ROWS") rows) × (words.cols.now ≡ word_of (codes "COLS") rows) × (map (λ f. f.now) words.paths.items ≡ words_of (codes "FILE") rows)
+    (name ≡ codes "survey") × (words.lists_all ≡ is_on (codes "all") rows) × (words.rows.now ≡ word_of (codes "ROWS") rows) × (words.cols.now ≡ word_of (codes "COLS") rows)
+    × (map (λ f. f.now) words.paths.items ≡ words_of (codes "FILE") rows)
 AsksFor name rows (Print entry) = IsInfocmp name rows false false (entry.now ∷ [])
 AsksFor name rows (Common first second) = IsInfocmp name rows true false (first.now ∷ second.now ∷ [])
 AsksFor name rows (Neither first second) = IsInfocmp name rows false true (first.now ∷ second.now ∷ [])

@@ -226,7 +226,12 @@ fn survey_command<'a>(alloc: Global) -> Result<Command<'a>, AllocError>
 {
     let command = Command::new(alloc, "survey")
         .about(help::SURVEY)
-        .after_help(help::SURVEY_MORE);
+        .after_help(help::SURVEY_MORE)
+        .arg(long_switch(
+            alloc,
+            "all",
+            "List all faults of each entry, a line for each",
+        ))?;
     with_size(alloc, command)?.arg(several(
         alloc,
         "FILE",

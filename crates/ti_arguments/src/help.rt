@@ -156,9 +156,11 @@ which state of the terminal it goes wrong, what was wanted there, and what happe
 
 With --all there is no certificate. The output is all that is wrong: a line `no CAP P..: CAUSE` for what the entry as a
 whole has or lacks (FlagOut, Absent, AcsByte), and one for each other capability that goes wrong, with the first of its
-parameters for which it does; where there is none of these, what is wrong with all strings together. Below each are the
-lines that explain it, after two spaces. The last line is the number of faults, and then how many have which CAUSE. The
-first of them also stands behind `refused: ` on standard error. If nothing is wrong, the output is `yes`.
+parameters for which it does; where there is none of these, what is wrong with all strings together. Below each of an
+entry of a source is a line `FILE:LINE: CAP of NAME`, with the line on which its value stands and the first name of the
+entry that has it, through `use=`; then come the lines that explain it, after two spaces. The last line is the number
+of faults, and then how many have which CAUSE. The first of them also stands behind `refused: ` on standard error. If
+nothing is wrong, the output is `yes`.
 
 A certificate has at most 67108864 bytes. The limits of a source file and of a compiled file are those of
 `ticurses tic --help`.
@@ -364,6 +366,9 @@ Each FILE is a source file, of which all entries are checked in their order, or 
 A FILE with a fault of its own has one line, `FILE refused: KIND`; a source without entries has none. The last line is
 the number of the lines before it, and then how many got each answer.
 
+With --all an entry that has no certificate has a line `NAME no CAP P..: CAUSE` for each of its faults, those that
+`ticurses check --all` lists.
+
 A FILE has at most 16777216 bytes. One that can't be read has no line, and the others are checked all the same.
 
 Exit status: 0 done, whatever the answers are; 1 refused, with a line `refused: BadSize` on standard error; 2 usage
@@ -371,4 +376,5 @@ error; 3 a file could not be read or is too long (`file: PATH` names the first),
 written; 4 out of memory.
 
 Example:
-  ticurses survey 24 80 my.ti /usr/share/terminfo/*/*";
+  ticurses survey 24 80 my.ti /usr/share/terminfo/*/*
+  ticurses survey --all 24 80 my.ti";

@@ -178,6 +178,7 @@ fn survey_request<'a>(alloc: Global, words: &ArgMatches<'a>) -> Result<Request<'
 {
     let paths = words.get_strs("FILE").unwrap_or(&[]);
     Ok(Request::Survey(SurveyWords {
+        lists_all: is_on(words, "all"),
         rows: word(words, "ROWS"),
         cols: word(words, "COLS"),
         paths: Vec::from_slice(alloc, paths)?,

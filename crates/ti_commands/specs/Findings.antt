@@ -1,5 +1,5 @@
 -- What an ENTRY word gives, by what its file holds.
-use Rattle.std.specs.Prelude.{◌≡◌, ◌≢◌, ◌<◌, ◌⊎◌, ℕ, List, [], ◌∷◌, ◌++◌, Result, Ok, Err, codes, length, slice_index}
+use Rattle.std.specs.Prelude.{◌≡◌, ◌≢◌, ◌<◌, ◌≤◌, ◌⊎◌, ℕ, List, [], ◌∷◌, ◌++◌, Result, Ok, Err, codes, length, slice_index}
 use Rattle.std.specs.Fmt.{decimal}
 use Rattle.std.specs.List.{flat_map}
 use Rattle.ti_caps.specs.Entry.{Content}
@@ -14,7 +14,7 @@ use Rattle.ti_source.specs.declared.types.NoteKind.{NoteKind}
 use Rattle.ti_source.specs.declared.types.NoteKind.TheVariants.{UnknownName, Duplicate, OddEscape}
 use Rattle.ti_source.specs.declared.types.RawEntry.{RawEntry}
 use Rattle.ti_commands.specs.Failures.{IsFileFailure}
-use Rattle.ti_commands.specs.Contents.{HasBytes, Held, longest_file}
+use Rattle.ti_commands.specs.Contents.{AreBytesOf, HasBytes, Held, longest_file}
 use Rattle.ti_commands.specs.declared.failure.Failure.{Failure}
 use Rattle.ti_commands.specs.declared.failure.Failure.TheVariants.{Refused, NoMemory}
 use Rattle.ti_commands.specs.declared.failure.CommandRefusal.{CommandRefusal}
@@ -63,6 +63,13 @@ pub record IsOfSource (bytes name notes : List ℕ) (entry : Result Content Comm
   pub raws : List RawEntry
   pub reads : source_of bytes ≡ Ok raws
   pub tells : notes ≡ notes_text raws
+  pub gives : ResolvesTo raws name entry
+
+-- a source text in a path's file, its entries, and the one of this name
+pub record IsOfText (held : Held) (path name text : List ℕ) (raws : List RawEntry) (entry : Result Content CommandRefusal) : Type 0 where
+  pub whole : AreBytesOf (held path) text
+  pub short : length text ≤ longest_file
+  pub reads : source_of text ≡ Ok raws
   pub gives : ResolvesTo raws name entry
 
 -- the entry of a compiled file

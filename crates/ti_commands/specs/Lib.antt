@@ -8,3 +8,4 @@ pub mod Expansions
 pub mod Feeds
 pub mod Findings
 pub mod Replies
+pub mod Sources

@@ -1,10 +1,11 @@
 //! The ENTRY words of a line: an entry of a source file, or a compiled file.
 
-ghost use Rattle.std.specs.Prelude.{◌≡◌, ◌<◌, ◌++◌, [], length, IfErr, IfNone, IfOk, IfSome, OnOk};
+ghost use Rattle.std.specs.Prelude.{◌≡◌, ◌<◌, ◌++◌, [], length, IfErr, IfNone, IfOk, IfSome, Ok, OnOk};
 ghost use Rattle.std.specs.List.{AllByRecursion, flat_map};
 ghost use Rattle.ti_source.specs.Raw.{IsRaw};
+ghost use Rattle.ti_source.specs.Source.{source_of};
 ghost use Rattle.ti_commands.specs.Contents.{HasBytes, longest_file};
-ghost use Rattle.ti_commands.specs.Findings.{FailsInFile, FailsInSource, FailsToFind, Finds, FitsTo, IsOfFile, IsOfSource, IsPath, IsPathAndName, ResolvesAt, ResolvesTo, IsPackFailure, IsSourceFailure, note_line, note_name, notes_text};
+ghost use Rattle.ti_commands.specs.Findings.{FailsInFile, FailsInSource, FailsToFind, Finds, FitsTo, IsOfFile, IsOfSource, IsOfText, IsPath, IsPathAndName, ResolvesAt, ResolvesTo, IsPackFailure, IsSourceFailure, note_line, note_name, notes_text};
 
 use crate::contents::{LONGEST_FILE, read_whole};
 use crate::failure::{CommandRefusal, Failure};
@@ -49,7 +50,7 @@ pub fn find_entry<F: Files>(
 }
 
 /// The parts of `word`, as FILE:NAME, split at its last colon.
-fn path_and_name(word: &str) -> Option<(&str, &str)>
+pub(crate) fn path_and_name(word: &str) -> Option<(&str, &str)>
     ensures parts { IfSome result (λ parts. IsPathAndName word.now parts.0.now parts.1.now) }
     ensures whole { IfNone result (IsPath word.now) }
 {
@@ -57,7 +58,7 @@ fn path_and_name(word: &str) -> Option<(&str, &str)>
 }
 
 /// Reads the source file at `path`, and finds the entry `name` in it.
-fn find_in_source<F: Files>(
+pub(crate) fn find_in_source<F: Files>(
     alloc: Global,
     files: &mut F,
     path: &str,
@@ -66,6 +67,8 @@ fn find_in_source<F: Files>(
 ) -> Result<Found, Failure>
     ensures found { IfOk result (λ found. HasBytes (F.holds files.old path.now) longest_file
         (λ bytes. IsOfSource bytes name.now (notes_text found.raws.items) found.entry)) }
+    ensures text { IfOk result (λ found. IsOfText (F.holds files.old) path.now name.now found.text.items
+        found.raws.items found.entry) }
     ensures failure { IfErr result (λ e. FailsInSource (F.holds files.old) path.now e) }
     ensures kept { F.holds files.new ≡ F.holds files.old }
 {
@@ -94,6 +97,8 @@ fn find_in_text(
     name: &str,
 ) -> Result<(Vec<RawEntry>, Result<Entry, CommandRefusal>), Failure>
     ensures found { IfOk result (λ found. IsOfSource text.now name.now (notes_text found.0.items) found.1) }
+    ensures reads { IfOk result (λ found. source_of text.now ≡ Ok found.0.items) }
+    ensures gives { IfOk result (λ found. ResolvesTo found.0.items name.now found.1) }
     ensures failure { IfErr result (λ e. IsSourceFailure text.now e) }
 {
     match read(alloc, text) {

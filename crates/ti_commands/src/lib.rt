@@ -13,6 +13,7 @@ mod files;
 mod output;
 mod replies;
 mod sizes;
+mod sources;
 
 pub use contents::{LONGEST_FILE, file_fault, read_whole};
 pub use descriptions::{Comparison, compare_entries, compile_entry, entry_of, print_entry};
@@ -24,3 +25,4 @@ pub use files::{FileCause, FileFault, Files};
 pub use output::{Output, Unwritten, Written};
 pub use replies::{write_reply, write_text};
 pub use sizes::size_words;
+pub use sources::{SourceText, Sourced, sourced_entry};

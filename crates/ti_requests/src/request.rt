@@ -70,6 +70,8 @@ pub struct ScriptWords<'a> {
 /// The words of `survey`.
 #[derive(Debug, Drop)]
 pub struct SurveyWords<'a> {
+    /// Whether all faults of each entry are listed.
+    pub lists_all: bool,
     /// The terminal's rows, a decimal number.
     pub rows: &'a str,
     /// The terminal's columns, a decimal number.
@@ -109,7 +111,7 @@ pub enum Request<'a> {
     Play(ScriptWords<'a>),
     /// `show ENTRY ROWS COLS CERT SCRIPT`: show the screen that a script of curses calls leaves.
     Show(ScriptWords<'a>),
-    /// `survey ROWS COLS FILE..`: check all entries of some files.
+    /// `survey [--all] ROWS COLS FILE..`: check all entries of some files.
     Survey(SurveyWords<'a>),
     /// `infocmp ENTRY`: print an entry.
     Print {

@@ -10,7 +10,7 @@ use Rattle.ti_commands.specs.Contents.{Held}
 use Rattle.ti_commands.specs.Words.{texts_of}
 use Rattle.ti_commands.specs.declared.failure.Failure.{Failure}
 use Rattle.ti_commands.specs.declared.failure.CommandRefusal.{CommandRefusal}
-use Rattle.ti_verdicts.specs.Lines.{HasParts, IsSourceLine, IsTold, first_name, line_of}
+use Rattle.ti_verdicts.specs.Lines.{HasParts, IsSourcePart, IsTold, first_name}
 use Rattle.ti_verdicts.specs.Surveys.{EndsPath, EndsPaths, HasLines, MayHaveLines, Misses, first_failure}
 use denote.Ref.{Bor}
 
@@ -59,11 +59,11 @@ missed_first paths path failure m = record {
   fails = m.fails;
 }
 
-may_have : (Says : Content → List ℕ → Type 0) (held : Held) (path lines : List ℕ) (failure : Option Failure) → EndsPath Says held path lines failure → MayHaveLines Says held path lines
+may_have : (Says : List ℕ → Content → List ℕ → Type 0) (held : Held) (path lines : List ℕ) (failure : Option Failure) → EndsPath Says held path lines failure → MayHaveLines Says held path lines
 may_have Says held path lines None h = inl h
 may_have Says held path lines (Some failure) h = inr h.0
 
-ends_end : (Says : Content → List ℕ → Type 0) (held : Held) (paths : List (List ℕ)) (path lines own : List ℕ) (failure told : Option Failure) → EndsPaths Says held paths lines failure → EndsPath Says held path own told
+ends_end : (Says : List ℕ → Content → List ℕ → Type 0) (held : Held) (paths : List (List ℕ)) (path lines own : List ℕ) (failure told : Option Failure) → EndsPaths Says held paths lines failure → EndsPath Says held path own told
     → EndsPaths Says held (paths ++ path ∷ []) (lines ++ own) (first_failure failure told)
 ends_end Says held paths path lines own None None h p = parts_end (HasLines Says held) paths path lines own h p
 ends_end Says held paths path lines own None (Some told) h p = (
@@ -78,14 +78,14 @@ taken_text [] n d h = absurd (omega (arith, h))
 taken_text (word ∷ words) zero d h = refl
 taken_text (word ∷ words) (suc n) d h = ap (λ (l : List (List ℕ)). word.now ∷ l) (taken_text words n d (omega (arith, h)))
 
-pub ends_more : (Says : Content → List ℕ → Type 0) (held : Held) (words : List (Bor (List ℕ))) (n : ℕ) (d : Bor (List ℕ)) (lines own : List ℕ) (failure told : Option Failure) → n < length words
+pub ends_more : (Says : List ℕ → Content → List ℕ → Type 0) (held : Held) (words : List (Bor (List ℕ))) (n : ℕ) (d : Bor (List ℕ)) (lines own : List ℕ) (failure told : Option Failure) → n < length words
     → EndsPaths Says held (take n (texts_of words)) lines failure → EndsPath Says held (get_or words n d).now own told → EndsPaths Says held (take (n + 1) (texts_of words)) (lines ++ own) (first_failure failure told)
 ends_more Says held words n d lines own failure told l h p =
     subst (λ (m : ℕ). EndsPaths Says held (take m (texts_of words)) (lines ++ own) (first_failure failure told)) (sym (add-one n))
     (subst (λ (ys : List (List ℕ)). EndsPaths Says held ys (lines ++ own) (first_failure failure told)) (sym (taken_text words n d l)) (ends_end Says held (take n (texts_of words)) (get_or words n d).now lines own failure told h p))
 
 -- one more path, of files that hold what they held
-pub ends_step : (Says : Content → List ℕ → Type 0) (held now : Held) (words : List (Bor (List ℕ))) (n : ℕ) (d : Bor (List ℕ)) (lines own more : List ℕ) (failure told both : Option Failure) → n < length words → now ≡ held → more ≡ lines ++ own
+pub ends_step : (Says : List ℕ → Content → List ℕ → Type 0) (held now : Held) (words : List (Bor (List ℕ))) (n : ℕ) (d : Bor (List ℕ)) (lines own more : List ℕ) (failure told both : Option Failure) → n < length words → now ≡ held → more ≡ lines ++ own
     → both ≡ first_failure failure told → EndsPaths Says held (take n (texts_of words)) lines failure → EndsPath Says now (get_or words n d).now own told → EndsPaths Says held (take (n + 1) (texts_of words)) more both
 ends_step Says held now words n d lines own more failure told both l same spelled first h p =
     subst (λ (b : Option Failure). EndsPaths Says held (take (n + 1) (texts_of words)) more b) (sym first)
@@ -94,16 +94,12 @@ ends_step Says held now words n d lines own more failure told both l same spelle
 
 -- ---- lines
 
-pub source_line_of : (Says : Content → List ℕ → Type 0) (raws : List RawEntry) (place : ℕ) (raw : RawEntry) (entry : Result Content CommandRefusal) (names name words said line : List ℕ) → slice_get raws place ≡ Some raw → names ≡ raw.names
-    → name ≡ first_name names → said ≡ words → ResolvesAt raws place entry → IsTold Says entry words → line ≡ line_of name said → IsSourceLine Says raws place line
-source_line_of Says raws place raw entry names name words said line there a b c r t e =
-    let named : name ≡ first_name raw.names = b ∙ ap first_name a in
-    record {
-      raw = raw;
-      there = there;
-      entry = entry;
-      resolves = r;
-      words = words;
-      told = t;
-      spelled = e ∙ (ap (λ (n : List ℕ). line_of n said) named ∙ ap (λ (w : List ℕ). line_of (first_name raw.names) w) c);
-    }
+pub source_part_of : (Says : List ℕ → Content → List ℕ → Type 0) (raws : List RawEntry) (place : ℕ) (raw : RawEntry) (entry : Result Content CommandRefusal) (names name lines : List ℕ) → slice_get raws place ≡ Some raw → names ≡ raw.names
+    → name ≡ first_name names → ResolvesAt raws place entry → IsTold Says entry name lines → IsSourcePart Says raws place lines
+source_part_of Says raws place raw entry names name lines there a b r t = record {
+  raw = raw;
+  there = there;
+  entry = entry;
+  resolves = r;
+  told = subst (λ (n : List ℕ). IsTold Says entry n lines) (b ∙ ap first_name a) t;
+}

@@ -6,14 +6,16 @@ use Rattle.std.specs.Str.{bytes_eq}
 use Rattle.ti_caps.specs.Entry.{Content}
 use Rattle.ti_checker.specs.declared.causes.No.{No}
 use Rattle.ti_commands.specs.Contents.{Held}
-use Rattle.ti_commands.specs.Replies.{GivesEntry}
 use Rattle.ti_commands.specs.Sizes.{SizeGiven}
+use Rattle.ti_commands.specs.Sources.{IsSourced}
 use Rattle.ti_commands.specs.declared.failure.Failure.{Failure}
 use Rattle.ti_commands.specs.declared.failure.Reply.{Reply}
+use Rattle.ti_commands.specs.declared.sources.SourceText.{SourceText}
 use Rattle.ti_faults.specs.AllFaults.{AreAllFaults}
 use Rattle.ti_requests.specs.declared.request.FaultsWords.{FaultsWords}
 use Rattle.ti_verdicts.specs.Checks.{HasText, TellsNotes}
 use Rattle.ti_verdicts.specs.Lines.{HasParts}
+use Rattle.ti_verdicts.specs.Locations.{IsLocation}
 use Rattle.ti_verdicts.specs.Refusals.{TellsNo, cause_name, no_text}
 
 -- ---- a fault
@@ -27,9 +29,9 @@ abbrev pub indented : List ℕ → List ℕ
 indented [] = []
 indented (b ∷ rest) = codes "  " ++ (flat_map indented_byte (b ∷ rest) ++ 10 ∷ [])
 
--- its line, and below it others in free words, each of which begins with two spaces
-abbrev pub HasFaultLines : No → List ℕ → Type 0
-HasFaultLines refusal lines = (further : List ℕ) × (lines ≡ no_text refusal ++ 10 ∷ indented further)
+-- its line; below it where its value stands in the source, and others in free words, each of which begins with two spaces
+abbrev pub HasFaultLines : Option SourceText → No → List ℕ → Type 0
+HasFaultLines source refusal lines = (line : List ℕ) × (further : List ℕ) × IsLocation source refusal.cap line × (lines ≡ no_text refusal ++ 10 ∷ (line ++ indented further))
 
 -- ---- how many
 
@@ -53,9 +55,9 @@ counts_line nos = codes "total " ++ (decimal (length nos) ++ (flat_map (count_pa
 -- ---- the reply
 
 -- the lines of each fault, in their order, and the line of counts
-pub record IsFaultsText (nos : List No) (text : List ℕ) : Type 0 where
+pub record IsFaultsText (source : Option SourceText) (nos : List No) (text : List ℕ) : Type 0 where
   pub lines : List ℕ
-  pub each : HasParts HasFaultLines nos lines
+  pub each : HasParts (HasFaultLines source) nos lines
   pub says : text ≡ lines ++ counts_line nos
 
 abbrev pub EndsAsNo : No → Option Failure → Type 0
@@ -63,14 +65,14 @@ EndsAsNo refusal (Some failure) = TellsNo refusal failure
 EndsAsNo refusal None = ⊥
 
 -- the reply lists these faults, and fails as the first does
-pub record HasFaults (first : No) (others : List No) (reply : Reply) : Type 0 where
-  pub text : IsFaultsText (first ∷ others) reply.text.items
+pub record HasFaults (source : Option SourceText) (first : No) (others : List No) (reply : Reply) : Type 0 where
+  pub text : IsFaultsText source (first ∷ others) reply.text.items
   pub ends : EndsAsNo first reply.failure
 
 -- without a fault it is `yes`
-abbrev pub TellsFaults : List No → Reply → Type 0
-TellsFaults [] reply = HasText (codes "yes\n") reply
-TellsFaults (first ∷ others) reply = HasFaults first others reply
+abbrev pub TellsFaults : Option SourceText → List No → Reply → Type 0
+TellsFaults source [] reply = HasText (codes "yes\n") reply
+TellsFaults source (first ∷ others) reply = HasFaults source first others reply
 
 -- The entry that the word gives, at the size that the words give: the reply has its notes, and lists all its faults, or
 -- says that there is none.
@@ -79,8 +81,9 @@ pub record ListsFaults (held : Held) (words : FaultsWords) (reply : Reply) : Typ
   pub width : ℕ
   pub given : SizeGiven words.rows.now words.cols.now height width
   pub entry : Content
-  pub gives : GivesEntry held words.entry.now entry
+  pub source : Option SourceText
+  pub gives : IsSourced held words.entry.now entry source
   pub notes : TellsNotes entry reply.notes.items
   pub nos : List No
   pub all : AreAllFaults entry height width nos
-  pub tells : TellsFaults nos reply
+  pub tells : TellsFaults source nos reply

@@ -4,4 +4,5 @@ pub mod Verifications
 pub mod Checks
 pub mod Lines
 pub mod Surveys
+pub mod Locations
 pub mod FaultLists

@@ -1,10 +1,11 @@
--- The lines of a survey: one for each entry of a file, in order.
+-- The lines of a survey: one for each entry of a file, in order, or for each of its faults.
 use Rattle.std.specs.Prelude.{◌≡◌, ◌⊎◌, ◌==◌, ◌&&◌, ◌||◌, ℕ, Bool, true, false, List, [], ◌∷◌, ◌++◌, Some, Result, Ok, Err, codes, length, slice_get}
-use Rattle.std.specs.List.{before_first, range_with_len}
+use Rattle.std.specs.List.{before_first, flat_map, range_with_len}
 use Rattle.ti_caps.specs.Entry.{Content}
 use Rattle.ti_checker.specs.declared.causes.No.{No}
 use Rattle.ti_compiled.specs.Contents.{read_of}
 use Rattle.ti_compiled.specs.declared.types.PackFault.{PackFault}
+use Rattle.ti_faults.specs.AllFaults.{AreAllFaults}
 use Rattle.ti_source.specs.Source.{source_of}
 use Rattle.ti_source.specs.declared.types.RawEntry.{RawEntry}
 use Rattle.ti_commands.specs.Findings.{FitsTo, IsSourceFailure, ResolvesAt}
@@ -48,38 +49,60 @@ Answers certifies refuses height width entry words = HasYes (certifies entry hei
 abbrev pub AnswersTo : {C : Type 0} → (C → Content → ℕ → ℕ → List ℕ → Type 0) → (C → Content → ℕ → ℕ → No → Type 0) → Asked C → Content → List ℕ → Type 0
 AnswersTo certifies refuses asked = Answers (certifies asked.certifier.now) (refuses asked.certifier.now) asked.size.rows asked.size.cols
 
+-- the line of an entry's name with that
+abbrev pub HasAnswer : (Content → ℕ → ℕ → List ℕ → Type 0) → (Content → ℕ → ℕ → No → Type 0) → ℕ → ℕ → List ℕ → Content → List ℕ → Type 0
+HasAnswer certifies refuses height width name entry line = (words : List ℕ) × Answers certifies refuses height width entry words × (line ≡ line_of name words)
+
+-- the line of an entry's name with one of its faults
+abbrev pub fault_line : List ℕ → No → List ℕ
+fault_line name refusal = line_of name (codes " " ++ no_text refusal)
+
+-- a line for each of its faults, or for the yes of an entry that has none
+abbrev pub fault_lines : List ℕ → List No → List ℕ
+fault_lines name [] = line_of name (codes " yes")
+fault_lines name (first ∷ others) = flat_map (fault_line name) (first ∷ others)
+
+-- the lines of all faults of an entry, under its name
+abbrev pub HasAllFaults : ℕ → ℕ → List ℕ → Content → List ℕ → Type 0
+HasAllFaults height width name entry lines = (nos : List No) × AreAllFaults entry height width nos × (lines ≡ fault_lines name nos)
+
+-- what is said of an entry under its name: all its faults, or what a certifier says
+abbrev pub SaysBy : Bool → (Content → ℕ → ℕ → List ℕ → Type 0) → (Content → ℕ → ℕ → No → Type 0) → ℕ → ℕ → List ℕ → Content → List ℕ → Type 0
+SaysBy true certifies refuses height width = HasAllFaults height width
+SaysBy false certifies refuses height width = HasAnswer certifies refuses height width
+
+-- what is said of it, as it is asked
+abbrev pub SaysTo : {C : Type 0} → (C → Content → ℕ → ℕ → List ℕ → Type 0) → (C → Content → ℕ → ℕ → No → Type 0) → Asked C → List ℕ → Content → List ℕ → Type 0
+SaysTo certifies refuses asked = SaysBy asked.lists_all (certifies asked.certifier.now) (refuses asked.certifier.now) asked.size.rows asked.size.cols
+
 -- what can't be had is refused, in free words
 abbrev pub IsRefusalText : List ℕ → Type 0
 IsRefusalText words = (told : List ℕ) × (words ≡ codes " refused: " ++ told)
 
--- the words of an entry that is there, or of one that can't be had
-abbrev pub IsTold : (Content → List ℕ → Type 0) → Result Content CommandRefusal → List ℕ → Type 0
-IsTold Says (Ok entry) words = Says entry words
-IsTold Says (Err refusal) words = IsRefusalText words
+-- the line of a name, that what it names can't be had
+abbrev pub IsRefusedLine : List ℕ → List ℕ → Type 0
+IsRefusedLine name line = (words : List ℕ) × IsRefusalText words × (line ≡ line_of name words)
 
--- ---- lines
+-- what is said under its name of an entry that is there, or of one that can't be had
+abbrev pub IsTold : (List ℕ → Content → List ℕ → Type 0) → Result Content CommandRefusal → List ℕ → List ℕ → Type 0
+IsTold Says (Ok entry) name lines = Says name entry lines
+IsTold Says (Err refusal) name lines = IsRefusedLine name lines
 
--- the line of the entry at a place of a source text, whatever other entries have its names
-pub record IsSourceLine (Says : Content → List ℕ → Type 0) (raws : List RawEntry) (place : ℕ) (line : List ℕ) : Type 0 where
+-- ---- the lines of an entry
+
+-- of the entry at a place of a source text, whatever other entries have its names
+pub record IsSourcePart (Says : List ℕ → Content → List ℕ → Type 0) (raws : List RawEntry) (place : ℕ) (lines : List ℕ) : Type 0 where
   pub raw : RawEntry
   pub there : slice_get raws place ≡ Some raw
   pub entry : Result Content CommandRefusal
   pub resolves : ResolvesAt raws place entry
-  pub words : List ℕ
-  pub told : IsTold Says entry words
-  pub spelled : line ≡ line_of (first_name raw.names) words
+  pub told : IsTold Says entry (first_name raw.names) lines
 
--- the line of the entry of a compiled file
-pub record IsFileLine (Says : Content → List ℕ → Type 0) (packed : Content) (line : List ℕ) : Type 0 where
+-- of the entry of a compiled file
+pub record IsFilePart (Says : List ℕ → Content → List ℕ → Type 0) (packed : Content) (lines : List ℕ) : Type 0 where
   pub entry : Result Content CommandRefusal
   pub fits : FitsTo packed entry
-  pub words : List ℕ
-  pub told : IsTold Says entry words
-  pub spelled : line ≡ line_of (first_name packed.names) words
-
--- the line of a path whose file has no entries
-abbrev pub IsPathLine : List ℕ → List ℕ → Type 0
-IsPathLine path line = (words : List ℕ) × IsRefusalText words × (line ≡ line_of path words)
+  pub told : IsTold Says entry (first_name packed.names) lines
 
 -- ---- a file
 
@@ -89,33 +112,33 @@ is_compiled (first ∷ second ∷ rest) = ((first == 0x1a) && (second == 0x01)) 
 is_compiled _ = false
 
 -- the entry of a compiled file
-pub record HasEntry (Says : Content → List ℕ → Type 0) (bytes line : List ℕ) : Type 0 where
+pub record HasEntry (Says : List ℕ → Content → List ℕ → Type 0) (bytes lines : List ℕ) : Type 0 where
   pub packed : Content
   pub reads : read_of bytes ≡ Ok packed
-  pub told : IsFileLine Says packed line
+  pub told : IsFilePart Says packed lines
 
 -- or it has a fault
 pub record IsFaultyFile (path bytes line : List ℕ) : Type 0 where
   pub fault : PackFault
   pub faulty : read_of bytes ≡ Err fault
-  pub told : IsPathLine path line
+  pub told : IsRefusedLine path line
 
 -- the entries of a source text
-pub record HasEntries (Says : Content → List ℕ → Type 0) (bytes lines : List ℕ) : Type 0 where
+pub record HasEntries (Says : List ℕ → Content → List ℕ → Type 0) (bytes lines : List ℕ) : Type 0 where
   pub raws : List RawEntry
   pub reads : source_of bytes ≡ Ok raws
-  pub each : HasParts (IsSourceLine Says raws) (range_with_len 0 (length raws)) lines
+  pub each : HasParts (IsSourcePart Says raws) (range_with_len 0 (length raws)) lines
 
 -- or it has a fault
 pub record LacksEntries (path bytes line : List ℕ) : Type 0 where
   pub refusal : CommandRefusal
   pub faulty : IsSourceFailure bytes (Refused refusal)
-  pub told : IsPathLine path line
+  pub told : IsRefusedLine path line
 
-abbrev pub AreLinesBy : Bool → (Content → List ℕ → Type 0) → List ℕ → List ℕ → List ℕ → Type 0
+abbrev pub AreLinesBy : Bool → (List ℕ → Content → List ℕ → Type 0) → List ℕ → List ℕ → List ℕ → Type 0
 AreLinesBy true Says path bytes lines = HasEntry Says bytes lines ⊎ IsFaultyFile path bytes lines
 AreLinesBy false Says path bytes lines = HasEntries Says bytes lines ⊎ LacksEntries path bytes lines
 
 -- the lines of a file: its first bytes show whether it is compiled
-abbrev pub AreLines : (Content → List ℕ → Type 0) → List ℕ → List ℕ → List ℕ → Type 0
+abbrev pub AreLines : (List ℕ → Content → List ℕ → Type 0) → List ℕ → List ℕ → List ℕ → Type 0
 AreLines Says path bytes lines = AreLinesBy (is_compiled bytes) Says path bytes lines

@@ -8,19 +8,19 @@ use Rattle.ti_commands.specs.Sizes.{SizeGiven}
 use Rattle.ti_commands.specs.Words.{texts_of}
 use Rattle.ti_commands.specs.declared.failure.Failure.{Failure}
 use Rattle.ti_commands.specs.declared.failure.Reply.{Reply}
-use Rattle.ti_verdicts.specs.Lines.{Answers, AreLines, HasParts}
+use Rattle.ti_verdicts.specs.Lines.{AreLines, HasParts, SaysBy}
 use Rattle.ti_requests.specs.declared.request.SurveyWords.{SurveyWords}
 
 -- the lines of what a path holds
-abbrev pub HasLines : (Content → List ℕ → Type 0) → Held → List ℕ → List ℕ → Type 0
+abbrev pub HasLines : (List ℕ → Content → List ℕ → Type 0) → Held → List ℕ → List ℕ → Type 0
 HasLines Says held path lines = HasBytes (held path) longest_file (λ bytes. AreLines Says path bytes lines)
 
 -- or none
-abbrev pub MayHaveLines : (Content → List ℕ → Type 0) → Held → List ℕ → List ℕ → Type 0
+abbrev pub MayHaveLines : (List ℕ → Content → List ℕ → Type 0) → Held → List ℕ → List ℕ → Type 0
 MayHaveLines Says held path lines = HasLines Says held path lines ⊎ (lines ≡ [])
 
 -- a path has its lines, or it has none and can't be had, as the failure says
-abbrev pub EndsPath : (Content → List ℕ → Type 0) → Held → List ℕ → List ℕ → Option Failure → Type 0
+abbrev pub EndsPath : (List ℕ → Content → List ℕ → Type 0) → Held → List ℕ → List ℕ → Option Failure → Type 0
 EndsPath Says held path lines None = HasLines Says held path lines
 EndsPath Says held path lines (Some failure) = (lines ≡ []) × IsFileFailure path failure
 
@@ -33,7 +33,7 @@ pub record Misses (paths : List (List ℕ)) (failure : Failure) : Type 0 where
   pub fails : IsFileFailure path failure
 
 -- each path has its lines; or one can't be had, and each has its lines or none
-abbrev pub EndsPaths : (Content → List ℕ → Type 0) → Held → List (List ℕ) → List ℕ → Option Failure → Type 0
+abbrev pub EndsPaths : (List ℕ → Content → List ℕ → Type 0) → Held → List (List ℕ) → List ℕ → Option Failure → Type 0
 EndsPaths Says held paths lines None = HasParts (HasLines Says held) paths lines
 EndsPaths Says held paths lines (Some failure) = HasParts (MayHaveLines Says held) paths lines × Misses paths failure
 
@@ -48,7 +48,7 @@ pub record IsSurveyed (certifies : Content → ℕ → ℕ → List ℕ → Type
   pub width : ℕ
   pub given : SizeGiven words.rows.now words.cols.now height width
   pub lines : List ℕ
-  pub ends : EndsPaths (Answers certifies refuses height width) held (texts_of words.paths.items) lines reply.failure
+  pub ends : EndsPaths (SaysBy words.lists_all certifies refuses height width) held (texts_of words.paths.items) lines reply.failure
   pub counts : List ℕ
   pub says : reply.text.items ≡ lines ++ counts
   pub no_notes : reply.notes.items ≡ []

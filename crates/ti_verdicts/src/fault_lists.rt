@@ -8,21 +8,21 @@ ghost use Rattle.ti_verdicts.specs.Lines.{HasParts};
 use crate::checks::notes_on;
 use crate::counts::counts_line;
 use crate::indents::indented;
+use crate::locations::location;
 use crate::reasons::explain_no;
 use crate::refusals::{no_failure, no_words};
 use crate::remedies::{note_another_kind, suggest};
 use std::alloc::{AllocError, Global};
-use ti_caps::Entry;
 use ti_checker::No;
-use ti_commands::{Failure, Files, Reply, entry_of, size_words};
+use ti_commands::{Failure, Files, Reply, Sourced, size_words, sourced_entry};
 use ti_faults::faults;
 use ti_requests::FaultsWords;
 use ti_words::Remarks;
 use vt_term::Size;
 
-/// Replies with the notes on the entry that the `words` give, and with all its faults, each with what explains it, and
-/// how many there are; or with `yes` where there is none. The reply fails as the first of the faults does. Further lines
-/// go to `remarks`.
+/// Replies with the notes on the entry that the `words` give, and with all its faults, each with where it stands and
+/// what explains it, and how many there are; or with `yes` where there is none. The reply fails as the first of the
+/// faults does. Further lines go to `remarks`.
 pub fn check_all<F: Files>(
     alloc: Global,
     words: &FaultsWords<'_>,
@@ -35,24 +35,24 @@ pub fn check_all<F: Files>(
     ensures kept { F.holds files.new ≡ F.holds files.old }
 {
     let size = size_words(alloc, words.rows, words.cols, remarks)?;
-    let entry = entry_of(alloc, files, words.entry, remarks)?;
-    let notes = notes_on(alloc, &entry, size)?;
-    let nos = faults(alloc, &entry, size)?;
-    let reply = reply_of(alloc, &entry, size, notes, nos.as_slice())?;
+    let found = sourced_entry(alloc, files, words.entry, remarks)?;
+    let notes = notes_on(alloc, &found.entry, size)?;
+    let nos = faults(alloc, &found.entry, size)?;
+    let reply = reply_of(alloc, &found, size, notes, nos.as_slice())?;
     note_another_kind(nos.as_slice(), remarks);
     Ok(reply)
 }
 
-/// The reply with `notes` that says of `entry` that `nos` are its faults.
+/// The reply with `notes` that says of the entry `found` that `nos` are its faults.
 fn reply_of(
     alloc: Global,
-    entry: &Entry,
+    found: &Sourced<'_>,
     size: Size,
     notes: Vec<u8>,
     nos: &[No],
 ) -> Result<Reply, AllocError>
     ensures noted { IfOk result (λ reply. reply.notes ≡ notes) }
-    ensures told { IfOk result (λ reply. spec.TellsFaults nos.now reply) }
+    ensures told { IfOk result (λ reply. spec.TellsFaults found.now.source nos.now reply) }
 {
     match nos {
         [] => Ok(Reply {
@@ -62,49 +62,62 @@ fn reply_of(
         }),
         [first, ..] => Ok(Reply {
             notes,
-            text: faults_text(alloc, entry, size, nos)?,
+            text: faults_text(alloc, found, size, nos)?,
             failure: Some(no_failure(alloc, first)),
         }),
     }
 }
 
-/// The lines of the faults `nos` of `entry`, and then how many there are.
-fn faults_text(alloc: Global, entry: &Entry, size: Size, nos: &[No]) -> Result<Vec<u8>, AllocError>
-    ensures { IfOk result (λ text. spec.IsFaultsText nos.now text.items) }
+/// The lines of the faults `nos` of the entry `found`, and then how many there are.
+fn faults_text(
+    alloc: Global,
+    found: &Sourced<'_>,
+    size: Size,
+    nos: &[No],
+) -> Result<Vec<u8>, AllocError>
+    ensures { IfOk result (λ text. spec.IsFaultsText found.now.source nos.now text.items) }
 {
-    let mut text = fault_lines(alloc, entry, size, nos)?;
+    let mut text = fault_lines(alloc, found, size, nos)?;
     let counts = counts_line(alloc, nos)?;
     text.extend_from_slice(counts.as_slice())?;
     Ok(text)
 }
 
-/// The lines of the faults `nos` of `entry`, one after another.
-fn fault_lines(alloc: Global, entry: &Entry, size: Size, nos: &[No]) -> Result<Vec<u8>, AllocError>
-    ensures { IfOk result (λ lines. HasParts spec.HasFaultLines nos.now lines.items) }
+/// The lines of the faults `nos` of the entry `found`, one after another.
+fn fault_lines(
+    alloc: Global,
+    found: &Sourced<'_>,
+    size: Size,
+    nos: &[No],
+) -> Result<Vec<u8>, AllocError>
+    ensures { IfOk result (λ lines. HasParts (spec.HasFaultLines found.now.source) nos.now lines.items) }
 {
     let mut lines = Vec::new(alloc);
     for no in nos {
-        let own = own_lines(alloc, entry, size, no, nos)?;
+        let own = own_lines(alloc, found, size, no, nos)?;
         lines.extend_from_slice(own.as_slice())?;
     }
     Ok(lines)
 }
 
-/// The line of `no`, one of the faults `nos` of `entry`, and those that explain it and say what would be right.
+/// The line of `no`, one of the faults `nos` of the entry `found`, where its value stands in the source, and what explains
+/// it and would be right.
 fn own_lines(
     alloc: Global,
-    entry: &Entry,
+    found: &Sourced<'_>,
     size: Size,
     no: &No,
     nos: &[No],
 ) -> Result<Vec<u8>, AllocError>
-    ensures { IfOk result (λ lines. spec.HasFaultLines no.now lines.items) }
+    ensures { IfOk result (λ lines. spec.HasFaultLines found.now.source no.now lines.items) }
 {
     let mut lines = no_words(alloc, no)?;
     lines.push(b'\n')?;
+    let place = location(alloc, &found.source, no.cap)?;
+    lines.extend_from_slice(place.as_slice())?;
     let mut remarks = Remarks::new(alloc);
-    explain_no(alloc, entry, size, no, &mut remarks);
-    suggest(alloc, entry, size, no, nos, &mut remarks)?;
+    explain_no(alloc, &found.entry, size, no, &mut remarks);
+    suggest(alloc, &found.entry, size, no, nos, &mut remarks)?;
     let further = indented(alloc, without_end(remarks.as_slice()))?;
     lines.extend_from_slice(further.as_slice())?;
     Ok(lines)

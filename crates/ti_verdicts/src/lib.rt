@@ -10,6 +10,7 @@ mod fault_lists;
 mod faults;
 mod indents;
 mod lines;
+mod locations;
 mod reasons;
 mod refusals;
 mod remedies;

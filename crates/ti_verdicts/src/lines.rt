@@ -1,8 +1,8 @@
-//! The lines of a survey: one for each entry of a file.
+//! The lines of a survey: one for each entry of a file, or for each of its faults.
 
 ghost use Rattle.std.specs.Prelude.{◌≡◌, ◌==◌, ◌<◌, IfOk, Some, false, true, length, slice_get};
 ghost use Rattle.std.specs.List as List;
-ghost use Rattle.std.specs.List.{AllByRecursion, range_with_len};
+ghost use Rattle.std.specs.List.{AllByRecursion, flat_map, range_with_len};
 ghost use Rattle.ti_source.specs.Raw.{IsRaw};
 ghost use Rattle.ti_verdicts.specs.Lines as spec;
 
@@ -16,8 +16,10 @@ use ti_caps::Entry;
 use ti_checker::{Cause, No};
 use ti_commands::{CommandRefusal, entry_at, unpacked_entry};
 use ti_compiled::{Packed, decode};
+use ti_faults::faults;
 use ti_resolve::ResolveFault;
 use ti_source::{FaultKind, RawEntry, read};
+use vt_term::Size;
 
 /// Where the first of `names` ends, if another follows.
 fn name_end(names: &[u8]) -> Option<usize>
@@ -27,7 +29,7 @@ fn name_end(names: &[u8]) -> Option<usize>
 }
 
 /// The first of an entry's `names`.
-fn first_name(names: &[u8]) -> &[u8]
+pub(crate) fn first_name(names: &[u8]) -> &[u8]
     ensures { result.now ≡ spec.first_name names.now }
 {
     match name_end(names) {
@@ -85,21 +87,109 @@ fn refused(alloc: Global, why: &[u8], tally: &mut Tally) -> Result<Vec<u8>, Allo
     Ok(words)
 }
 
-/// What is said of `entry`, whether it is there or can't be had.
-fn entry_words<C: Certifier>(
+/// The lines of the faults of `entry` under its `name`, which `tally` counts; or that it has none.
+fn all_faults(
+    alloc: Global,
+    size: Size,
+    name: &[u8],
+    entry: &Entry,
+    tally: &mut Tally,
+) -> Result<Vec<u8>, AllocError>
+    ensures { IfOk result (λ lines. spec.HasAllFaults size.rows size.cols name.now entry.now lines.items) }
+{
+    let nos = faults(alloc, entry, size)?;
+    listed(alloc, name, nos.as_slice(), tally)
+}
+
+/// The lines of the faults `nos` of the entry of this `name`; or that it has none.
+fn listed(alloc: Global, name: &[u8], nos: &[No], tally: &mut Tally) -> Result<Vec<u8>, AllocError>
+    ensures { IfOk result (λ lines. lines.items ≡ spec.fault_lines name.now nos.now) }
+{
+    match nos {
+        [] => {
+            tally.add_yes();
+            line(alloc, name, b" yes")
+        }
+        [_, ..] => fault_lines(alloc, name, nos, tally),
+    }
+}
+
+/// A line for each of `nos`, after the `name` of their entry.
+fn fault_lines(
+    alloc: Global,
+    name: &[u8],
+    nos: &[No],
+    tally: &mut Tally,
+) -> Result<Vec<u8>, AllocError>
+    ensures { IfOk result (λ lines. lines.items ≡ flat_map (spec.fault_line name.now) nos.now) }
+{
+    let mut lines = Vec::new(alloc);
+    for no in nos {
+        tally.add_no(no.cause);
+        let own = fault_line(alloc, name, no)?;
+        lines.extend_from_slice(own.as_slice())?;
+    }
+    Ok(lines)
+}
+
+/// The line of `no` after the `name` of its entry.
+fn fault_line(alloc: Global, name: &[u8], no: &No) -> Result<Vec<u8>, AllocError>
+    ensures { IfOk result (λ line. line.items ≡ spec.fault_line name.now no.now) }
+{
+    let mut words = Vec::from_slice(alloc, b" ")?;
+    words.extend_from_slice(no_words(alloc, no)?.as_slice())?;
+    line(alloc, name, words.as_slice())
+}
+
+/// The line of `entry` under its `name`, with what the certifier says.
+fn answer_line<C: Certifier>(
     alloc: Global,
     asked: &Asked<'_, C>,
+    name: &[u8],
+    entry: &Entry,
+    tally: &mut Tally,
+) -> Result<Vec<u8>, AllocError>
+    ensures { IfOk result (λ line. spec.HasAnswer (C.certifies asked.now.certifier.now)
+        (C.refuses asked.now.certifier.now) asked.now.size.rows asked.now.size.cols
+        name.now entry.now line.items) }
+{
+    let words = answer(alloc, asked, entry, tally)?;
+    line(alloc, name, words.as_slice())
+}
+
+/// What is said of `entry` under its `name`, as it is asked.
+fn said_lines<C: Certifier>(
+    alloc: Global,
+    asked: &Asked<'_, C>,
+    name: &[u8],
+    entry: &Entry,
+    tally: &mut Tally,
+) -> Result<Vec<u8>, AllocError>
+    ensures { IfOk result (λ lines. spec.SaysTo C.certifies C.refuses asked.now name.now entry.now lines.items) }
+{
+    if asked.lists_all {
+        all_faults(alloc, asked.size, name, entry, tally)
+    } else {
+        answer_line(alloc, asked, name, entry, tally)
+    }
+}
+
+/// What is said of `entry` under its `name`, whether it is there or can't be had.
+fn entry_lines<C: Certifier>(
+    alloc: Global,
+    asked: &Asked<'_, C>,
+    name: &[u8],
     entry: &Result<Entry, CommandRefusal>,
     tally: &mut Tally,
 ) -> Result<Vec<u8>, AllocError>
-    ensures { IfOk result (λ words. spec.IsTold (spec.AnswersTo C.certifies C.refuses asked.now)
-        entry.now words.items) }
+    ensures { IfOk result (λ lines. spec.IsTold (spec.SaysTo C.certifies C.refuses asked.now)
+        entry.now name.now lines.items) }
 {
     match entry {
-        Ok(entry) => answer(alloc, asked, entry, tally),
+        Ok(entry) => said_lines(alloc, asked, name, entry, tally),
         Err(refusal) => {
             let why = refusal_words(alloc, refusal)?;
-            refused(alloc, why.as_slice(), tally)
+            refused_line(alloc, name, why.as_slice(), tally)
         }
     }
 }
@@ -126,8 +216,8 @@ fn raw_at(raws: &[RawEntry], place: usize) -> &RawEntry
     &raws[place]
 }
 
-/// The line of the entry at `place` in `raws`, which are the entries of a source text.
-fn source_line<C: Certifier>(
+/// The lines of the entry at `place` in `raws`, which are the entries of a source text.
+fn source_part<C: Certifier>(
     alloc: Global,
     asked: &Asked<'_, C>,
     raws: &[RawEntry],
@@ -136,28 +226,28 @@ fn source_line<C: Certifier>(
 ) -> Result<Vec<u8>, AllocError>
     requires read { AllByRecursion IsRaw raws.now }
     requires there { place < length raws.now }
-    ensures { IfOk result (λ line. spec.IsSourceLine (spec.AnswersTo C.certifies C.refuses asked.now)
+    ensures { IfOk result (λ line. spec.IsSourcePart (spec.SaysTo C.certifies C.refuses asked.now)
         raws.now place line.items) }
 {
     let raw = raw_at(raws, place);
     let entry = entry_at(alloc, raws, place)?;
-    let words = entry_words(alloc, asked, &entry, tally)?;
-    line(alloc, first_name(raw.names.as_slice()), words.as_slice())
+    let name = first_name(raw.names.as_slice());
+    entry_lines(alloc, asked, name, &entry, tally)
 }
 
-/// The line of the entry of `packed`.
+/// The lines of the entry of `packed`.
 fn file_line<C: Certifier>(
     alloc: Global,
     asked: &Asked<'_, C>,
     packed: &Packed<'_>,
     tally: &mut Tally,
 ) -> Result<Vec<u8>, AllocError>
-    ensures { IfOk result (λ line. spec.IsFileLine (spec.AnswersTo C.certifies C.refuses asked.now)
+    ensures { IfOk result (λ line. spec.IsFilePart (spec.SaysTo C.certifies C.refuses asked.now)
         packed.now line.items) }
 {
     let entry = unpacked_entry(alloc, packed)?;
-    let words = entry_words(alloc, asked, &entry, tally)?;
-    line(alloc, first_name(packed.names()), words.as_slice())
+    let name = first_name(packed.names());
+    entry_lines(alloc, asked, name, &entry, tally)
 }
 
 /// The lines of the entries `raws` of a source text, in order.
@@ -169,15 +259,15 @@ fn source_lines<C: Certifier, W: Watcher>(
 ) -> Result<Vec<u8>, AllocError>
     requires { AllByRecursion IsRaw raws.now }
     ensures { IfOk result (λ lines. spec.HasParts
-        (spec.IsSourceLine (spec.AnswersTo C.certifies C.refuses asked.now) raws.now)
+        (spec.IsSourcePart (spec.SaysTo C.certifies C.refuses asked.now) raws.now)
         (range_with_len 0 (length raws.now)) lines.items) }
 {
     let mut lines = Vec::new(alloc);
     for place in 0..raws.len() {
         let name = first_name(raw_at(raws, place).names.as_slice());
         course.watcher.begins(place, raws.len(), name);
-        let line = source_line(alloc, asked, raws, place, &mut course.tally)?;
-        lines.extend_from_slice(line.as_slice())?;
+        let own = source_part(alloc, asked, raws, place, &mut course.tally)?;
+        lines.extend_from_slice(own.as_slice())?;
     }
     Ok(lines)
 }
@@ -190,7 +280,7 @@ pub fn file_lines<C: Certifier, W: Watcher>(
     bytes: &[u8],
     course: &mut Course<W>,
 ) -> Result<Vec<u8>, AllocError>
-    ensures { IfOk result (λ lines. spec.AreLines (spec.AnswersTo C.certifies C.refuses asked.now)
+    ensures { IfOk result (λ lines. spec.AreLines (spec.SaysTo C.certifies C.refuses asked.now)
         path.now bytes.now lines.items) }
 {
     if is_compiled(bytes) {
@@ -200,7 +290,7 @@ pub fn file_lines<C: Certifier, W: Watcher>(
     }
 }
 
-/// The line of the compiled file at `path` with these `bytes`.
+/// The lines of the compiled file at `path` with these `bytes`.
 fn compiled_lines<C: Certifier>(
     alloc: Global,
     asked: &Asked<'_, C>,
@@ -208,14 +298,14 @@ fn compiled_lines<C: Certifier>(
     bytes: &[u8],
     tally: &mut Tally,
 ) -> Result<Vec<u8>, AllocError>
-    ensures { IfOk result (λ lines. spec.AreLinesBy true (spec.AnswersTo C.certifies C.refuses asked.now)
+    ensures { IfOk result (λ lines. spec.AreLinesBy true (spec.SaysTo C.certifies C.refuses asked.now)
         path.now bytes.now lines.items) }
 {
     match decode(bytes) {
         Ok(packed) => file_line(alloc, asked, &packed, tally),
         Err(fault) => {
             let why = format!(in alloc; "{fault}")?;
-            path_line(alloc, path, why.as_bytes(), tally)
+            refused_line(alloc, path.as_bytes(), why.as_bytes(), tally)
         }
     }
 }
@@ -228,7 +318,7 @@ fn text_lines<C: Certifier, W: Watcher>(
     bytes: &[u8],
     course: &mut Course<W>,
 ) -> Result<Vec<u8>, AllocError>
-    ensures { IfOk result (λ lines. spec.AreLinesBy false (spec.AnswersTo C.certifies C.refuses asked.now)
+    ensures { IfOk result (λ lines. spec.AreLinesBy false (spec.SaysTo C.certifies C.refuses asked.now)
         path.now bytes.now lines.items) }
 {
     match read(alloc, bytes) {
@@ -250,10 +340,22 @@ fn path_line(
     why: &[u8],
     tally: &mut Tally,
 ) -> Result<Vec<u8>, AllocError>
-    ensures { IfOk result (λ line. spec.IsPathLine path.now line.items) }
+    ensures { IfOk result (λ line. spec.IsRefusedLine path.now line.items) }
+{
+    refused_line(alloc, path.as_bytes(), why, tally)
+}
+
+/// The line of `name`, that what it names can't be had, and `why`.
+fn refused_line(
+    alloc: Global,
+    name: &[u8],
+    why: &[u8],
+    tally: &mut Tally,
+) -> Result<Vec<u8>, AllocError>
+    ensures { IfOk result (λ line. spec.IsRefusedLine name.now line.items) }
 {
     let words = refused(alloc, why, tally)?;
-    line(alloc, path.as_bytes(), words.as_slice())
+    line(alloc, name, words.as_slice())
 }
 
 /// Whether `bytes` begin as a compiled file does.

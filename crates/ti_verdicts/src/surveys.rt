@@ -3,7 +3,7 @@
 ghost use Rattle.std.specs.Prelude.{◌≡◌, IfErr, IfOk};
 ghost use Rattle.ti_commands.specs.Sizes.{LacksSize};
 ghost use Rattle.ti_commands.specs.Words.{texts_of};
-ghost use Rattle.ti_verdicts.specs.Lines.{AnswersTo};
+ghost use Rattle.ti_verdicts.specs.Lines.{SaysTo};
 ghost use Rattle.ti_verdicts.specs.Surveys as spec;
 
 use crate::asked::Asked;
@@ -25,8 +25,8 @@ struct Surveyed {
     failure: Option<Failure>,
 }
 
-/// Says for each entry of each file that the `words` name whether the `certifier` writes a certificate, or why not, and
-/// counts the answers. What can't be read as an entry has its line too. The reply fails as the first file does that
+/// Says for each entry of each file that the `words` name whether the `certifier` writes a certificate, or why not, or
+/// lists all faults of each, as the `words` ask for; and counts the answers. What can't be read as an entry has its line too. The reply fails as the first file does that
 /// can't be had, and the others are surveyed all the same. The `watcher` sees how far the survey has come.
 ///
 /// # Errors
@@ -49,7 +49,11 @@ pub fn survey_files<C: Certifier, F: Files, W: Watcher + Drop>(
         tally: Tally::new(),
         watcher,
     };
-    let asked = Asked { certifier, size };
+    let asked = Asked {
+        certifier,
+        size,
+        lists_all: words.lists_all,
+    };
     let paths = words.paths.as_slice();
     let surveyed = survey_paths(alloc, &asked, paths, files, &mut course, remarks);
     course.watcher.ends();
@@ -73,7 +77,7 @@ fn survey_paths<C: Certifier, F: Files, W: Watcher>(
     course: &mut Course<W>,
     remarks: &mut Remarks,
 ) -> Result<Surveyed, AllocError>
-    ensures told { IfOk result (λ surveyed. spec.EndsPaths (AnswersTo C.certifies C.refuses asked.now)
+    ensures told { IfOk result (λ surveyed. spec.EndsPaths (SaysTo C.certifies C.refuses asked.now)
         (F.holds files.old) (texts_of paths.now) surveyed.lines.items surveyed.failure) }
     ensures kept { F.holds files.new ≡ F.holds files.old }
 {
@@ -107,7 +111,7 @@ fn survey_path<C: Certifier, F: Files, W: Watcher>(
     course: &mut Course<W>,
     remarks: &mut Remarks,
 ) -> Result<Surveyed, AllocError>
-    ensures told { IfOk result (λ surveyed. spec.EndsPath (AnswersTo C.certifies C.refuses asked.now)
+    ensures told { IfOk result (λ surveyed. spec.EndsPath (SaysTo C.certifies C.refuses asked.now)
         (F.holds files.old) path.now surveyed.lines.items surveyed.failure) }
     ensures kept { F.holds files.new ≡ F.holds files.old }
 {

@@ -1,0 +1,69 @@
+//! An entry together with the source text in which it stands.
+
+ghost use Rattle.std.specs.Prelude.{◌≡◌, IfErr, IfOk};
+ghost use Rattle.ti_commands.specs.Findings.{LacksEntry};
+ghost use Rattle.ti_commands.specs.Sources.{IsSourced};
+
+use crate::descriptions::entry_of;
+use crate::entries::{Found, find_in_source, path_and_name};
+use crate::failure::Failure;
+use crate::files::Files;
+use std::alloc::Global;
+use ti_caps::Entry;
+use ti_source::RawEntry;
+use ti_words::Remarks;
+
+/// A source file, and the name of an entry in it.
+#[derive(Debug, Drop)]
+pub struct SourceText<'a> {
+    /// The file's path.
+    pub path: &'a str,
+    /// The entry's name.
+    pub name: &'a str,
+    /// The file's text.
+    pub text: Vec<u8>,
+    /// All entries of the text, as they were read.
+    pub raws: Vec<RawEntry>,
+}
+
+/// An entry, and where it stands.
+#[derive(Debug, Drop)]
+pub struct Sourced<'a> {
+    /// The entry.
+    pub entry: Entry,
+    /// Its source; none where it is that of a compiled file.
+    pub source: Option<SourceText<'a>>,
+}
+
+/// The entry that `word` gives, with its source.
+pub fn sourced_entry<'a, F: Files>(
+    alloc: Global,
+    files: &mut F,
+    word: &'a str,
+    remarks: &mut Remarks,
+) -> Result<Sourced<'a>, Failure>
+    ensures entry { IfOk result (λ found. IsSourced (F.holds files.old) word.entry.now found.entry found.source) }
+    ensures failure { IfErr result (λ e. LacksEntry (F.holds files.old) word.entry.now e) }
+    ensures kept { F.holds files.new ≡ F.holds files.old }
+{
+    let Some((path, name)) = path_and_name(word) else {
+        let entry = entry_of(alloc, files, word, remarks)?;
+        return Ok(Sourced {
+            entry,
+            source: None,
+        });
+    };
+    let Found { text, raws, entry } = find_in_source(alloc, files, path, name, remarks)?;
+    match entry {
+        Ok(entry) => Ok(Sourced {
+            entry,
+            source: Some(SourceText {
+                path,
+                name,
+                text,
+                raws,
+            }),
+        }),
+        Err(refusal) => Err(Failure::Refused(refusal)),
+    }
+}

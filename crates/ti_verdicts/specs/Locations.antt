@@ -1,0 +1,42 @@
+-- Where the value of a capability stands in a source text, in the form that editors read.
+use Rattle.std.specs.Prelude.{◌≡◌, ℕ, List, [], ◌∷◌, ◌++◌, Option, Some, None, codes, slice_get}
+use Rattle.std.specs.Fmt.{decimal}
+use Rattle.ti_caps.specs.Table.{name_at}
+use Rattle.ti_commands.specs.declared.sources.SourceText.{SourceText}
+use Rattle.ti_resolve.specs.Origins.{IsOrigin}
+use Rattle.ti_resolve.specs.Uses.{names_at}
+use Rattle.ti_resolve.specs.declared.origins.Origin.{Origin}
+use Rattle.ti_source.specs.Lines.{field_lines_of}
+use Rattle.ti_source.specs.declared.lines.FieldLine.{FieldLine}
+use Rattle.ti_verdicts.specs.Lines.{first_name}
+
+-- the number of a line, if there is one
+abbrev pub number_of : Option FieldLine → ℕ
+number_of None = 0
+number_of (Some field) = field.line
+
+-- the line of the text on which a field stands
+unfoldable pub line_of_field : List ℕ → Origin → ℕ
+line_of_field text origin = number_of (slice_get (field_lines_of text origin.entry) origin.field)
+
+-- `FILE:LINE: CAP of NAME`, with the first name of the entry that has the field
+unfoldable pub place_text : SourceText → ℕ → Origin → List ℕ
+place_text source cap origin =
+    source.path.now
+    ++ (codes ":" ++ (decimal (line_of_field source.text.items origin) ++ (codes ": " ++ (name_at cap ++ (codes " of " ++ (first_name (names_at source.raws.items origin.entry) ++ 10 ∷ []))))))
+
+-- a capability without a value has no such line
+abbrev pub origin_text : SourceText → ℕ → Option Origin → List ℕ
+origin_text source cap None = []
+origin_text source cap (Some origin) = place_text source cap origin
+
+-- the field that gives the entry its value is the first one about it, of the entry's own or of those that it uses
+pub record IsLocatedIn (source : SourceText) (cap : ℕ) (line : List ℕ) : Type 0 where
+  pub origin : Option Origin
+  pub first : IsOrigin source.raws.items source.name.now cap origin
+  pub says : line ≡ origin_text source cap origin
+
+-- the line that says where the value stands; a compiled file has none
+abbrev pub IsLocation : Option SourceText → ℕ → List ℕ → Type 0
+IsLocation None cap line = line ≡ []
+IsLocation (Some source) cap line = IsLocatedIn source cap line
