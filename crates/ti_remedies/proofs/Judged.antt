@@ -88,12 +88,14 @@ conforming : (entry : Content) (rows cols : ℕ) (row : Row) (string : List ℕ)
 conforming entry rows cols row string h checked there other range alike =
     let a = h.sends other range in
     let s = a.checked (same_checked entry other row alike ∙ checked) in
-    let is : s.string ≡ string = same_Some s.string string (sym s.there ∙ (same_string entry other row alike ∙ there)) in
-    (h.table.looks, record {
-      bytes = s.sends.bytes;
-      sends = subst (λ (x : List ℕ). Sends x other s.sends.bytes) is s.sends.sends;
-      right = h.right other s.sends.bytes s.sends.line_has;
-    })
+    let is : s.string ≡ string = same_Some s.string string (sym s.there ∙ (same_string entry other row alike ∙ there)) in (
+      h.table.looks,
+      record {
+        bytes = s.sends.bytes;
+        sends = subst (λ (x : List ℕ). Sends x other s.sends.bytes) is s.sends.sends;
+        right = h.right other s.sends.bytes s.sends.line_has;
+      },
+    )
 
 standing : (entry : Content) (rows cols : ℕ) (row : Row) (string : List ℕ) → CapStands entry rows cols (order row) → is_checked entry row ≡ true → string_of entry row ≡ Some string → SendsAllRight rows cols string (order row)
 standing entry rows cols row string h checked there other range alike =
