@@ -270,7 +270,7 @@ XT_NOTES = [
     "smcup 1b5b3f3130343968",
     "smcup 1b5b32323b303b3074",
 ]
-NOTES = {4: XT_NOTES, 5: [*XT_NOTES[:2], "cvvis 1b5b33346c", *XT_NOTES[3:]], 6: XT_NOTES, 7: XT_NOTES, 43: ["smcup 1b5b3f3130343968"]}
+NOTES = {4: XT_NOTES, 5: [*XT_NOTES[:2], "cvvis 1b5b33346c", *XT_NOTES[3:]], 6: XT_NOTES, 7: XT_NOTES, 51: ["smcup 1b5b3f3130343968"]}
 
 # a source of the sample entries, and one with an entry c0, c1 and so on for each line of the table
 FILES["samples"] = MINI + VT + XT
@@ -486,11 +486,11 @@ EXPLAINED = [
     (["check", "checks:c32", "2", "4"], "seen: 8 cells from row 0, column 0 to row 1, column 3 are blank, the cursor is at row 1, column 0"),
     (["check", "checks:c33", "2", "4"], "seen: nothing changes"),
     (["check", "checks:c34", "3", "4"], "seen: nothing changes"),
-    (["check", "checks:c42", "2", "2"], OPEN),
-    (["check", "checks:c43", "2", "4"], OPEN),
+    (["check", "checks:c50", "2", "2"], OPEN),
+    (["check", "checks:c51", "2", "4"], OPEN),
     # from the charset to which smacs leads
-    (["check", "checks:c45", "2", "4"], "seen: nothing changes"),
-    (["check", "checks:c47", "2", "2"], DRAWN),
+    (["check", "checks:c53", "2", "4"], "seen: nothing changes"),
+    (["check", "checks:c55", "2", "2"], DRAWN),
 ]
 
 # what begins no further line
