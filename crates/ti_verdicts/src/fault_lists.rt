@@ -100,8 +100,8 @@ fn fault_lines(
     Ok(lines)
 }
 
-/// The line of `no`, one of the faults `nos` of the entry `found`, where its value stands in the source, and what explains
-/// it and would be right.
+/// The line of `no`, one of the faults `nos` of the entry `found`, where its value stands in the source, what explains
+/// it, and what would be right.
 fn own_lines(
     alloc: Global,
     found: &Sourced<'_>,

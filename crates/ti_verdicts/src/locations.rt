@@ -30,7 +30,7 @@ pub fn location(
 fn location_in(alloc: Global, source: &SourceText<'_>, cap: Cap) -> Result<Vec<u8>, AllocError>
     ensures { IfOk result (λ line. spec.IsLocatedIn source.now cap line.items) }
 {
-    // the name was resolved, so that only memory is wanting
+    // the name was resolved before, so memory ran out
     match origin(alloc, source.raws.as_slice(), source.name.as_bytes(), cap) {
         Ok(None) => Ok(Vec::new(alloc)),
         Ok(Some(origin)) => place_line(alloc, source, cap, origin),

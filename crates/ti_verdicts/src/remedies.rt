@@ -7,9 +7,9 @@ use ti_remedies::{is_of_another_kind, remedy};
 use ti_words::{OF_ANOTHER_KIND, Remarks, explain_remedy};
 use vt_term::Size;
 
-/// Adds to `remarks` a string that would be right in the place of the one that `no` is about, if there is one; it was
-/// judged there in this very call. `nos` are all faults of `entry`. Where these show a terminal of another kind, nothing
-/// is suggested.
+/// Adds to `remarks` a string that would be right in the place of the one that `no` is about, if there is one; it is
+/// judged there in this call. `nos` are all faults of `entry`. Where these show a terminal of another kind, nothing is
+/// suggested.
 pub fn suggest(
     alloc: Global,
     entry: &Entry,

@@ -7,7 +7,8 @@ use ti_caps::{Cap, name};
 
 /// Said where no string is suggested, since what every program needs first is wrong.
 pub const OF_ANOTHER_KIND: &[u8] =
-    b"clear and cup are both at fault: this entry seems to be for a terminal of another kind, and no string is suggested";
+    b"clear and cup are both at fault: this entry seems to be for a terminal of another kind, and no string is \
+      suggested";
 
 /// Adds that `string` would be right for `cap`.
 pub fn explain_remedy(
