@@ -88,7 +88,7 @@ fn copy_changed_row(grid: &mut Grid<Cell>, area: Area, k: u16, source: &Grid<Cel
     grid.copy_from(part, source, place);
 }
 
-// So many cells of a line from a column on.
+// The `cols` cells of a line from the column `left` on.
 fn part_of(line: &[Cell], left: u16, cols: u16) -> &[Cell]
     requires { left + cols ≤ length line.now }
     ensures len { length result.now ≡ cols }

@@ -35,7 +35,7 @@ pub(crate) fn first_blank(scroll: Scroll) -> u16
     }
 }
 
-/// Whether the `scroll` moves all of so many lines, so that it needs no margins.
+/// Whether the region of the `scroll` is the whole screen of `rows` lines, so that it needs no margins.
 pub(crate) fn is_whole(scroll: Scroll, rows: usize) -> bool
     ensures top { result ≡ true → scroll.top ≡ 0 }
     ensures bottom { result ≡ true → scroll.bottom ≡ rows - 1 }

@@ -165,7 +165,7 @@ fn wanted_of(screen: &Virtual, mode: Mode) -> Wanted
     }
 }
 
-/// No columns of so many lines.
+/// For each of `rows` lines, that no column differs.
 fn no_columns(alloc: Global, rows: usize) -> Result<Vec<Columns>, AllocError> {
     let mut columns = Vec::with_capacity(alloc, rows)?;
     for _row in 0..rows {

@@ -48,7 +48,7 @@ impl Desk {
 }
 
 impl Scroll {
-    // These rows went up by so many lines.
+    // These rows went up by `up` lines.
     pub(crate) fn by(self, up: i32) -> Scroll {
         let hint = Hint { up, ..self.hint };
         Scroll { hint, ..self }
@@ -83,7 +83,7 @@ pub(crate) fn later_of(before: Option<Scroll>, later: Option<Scroll>) -> Option<
     }
 }
 
-// What is remembered after rows went up by so many lines while a window wrote.
+// What is remembered after the rows of a region went up by `lines` lines while a window wrote.
 pub(crate) fn after_writing(
     before: Option<Scroll>,
     region: Option<Scroll>,
@@ -139,7 +139,7 @@ impl Owners {
         false
     }
 
-    // What is remembered after this copy to a screen of so many columns: no rows of which another grid has taken the
+    // What is remembered after this copy to a screen of `cols` columns: no rows of which another grid has taken the
     // last line. A copy that is narrower takes none.
     pub(crate) fn take(&mut self, copy: Copy, cols: u16, before: Option<Scroll>) -> Option<Scroll> {
         if copy.area.cols != cols {
