@@ -29,7 +29,9 @@ negated (suc n) = negsuc n
 -- from -2147483648 to 2147483647
 abbrev pub number_in : List ℕ → Option ℤ
 number_in [] = None
-number_in (b ∷ rest) = if b == 45 then (natural 2147483648 rest >>= λ n. Some (negated n)) else (natural 2147483647 (b ∷ rest) >>= λ n. Some (pos n))
+number_in (b ∷ rest) =
+    if b == 45 then (natural 2147483648 rest >>= λ n. Some (negated n))
+    else (natural 2147483647 (b ∷ rest) >>= λ n. Some (pos n))
 
 -- the number of a window has no sign
 abbrev pub window_in : List ℕ → Option ℕ

@@ -1,5 +1,5 @@
--- The table of calls: a row for each, with its name (X/Open Curses Issue 7) and its arguments. The last part of the table
--- stands first here, and each other part goes on with the one above it.
+-- The table of calls: a row for each, with its name (X/Open Curses Issue 7) and its arguments. The last part of the
+-- table stands first here, and each other part goes on with the one above it.
 use Rattle.std.specs.Prelude.{ℕ, bytes_eq, codes, List, [], ◌∷◌, Option, None, if◌then◌else◌}
 use Rattle.cur_calls.specs.declared.calls.Call.{Call}
 use Rattle.cur_calls.specs.declared.groups.AttrsCall.TheVariants.{Attron, Attroff, Attrset}

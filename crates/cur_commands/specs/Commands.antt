@@ -19,13 +19,15 @@ use Rattle.cur_commands.specs.Through.{AreThrough, IsUnplayed, unfailing}
 use Rattle.ti_requests.specs.declared.request.ScriptWords.{ScriptWords}
 
 -- the words give a size, an entry that conforms at it and has these strings, and these calls
-pub record IsReady (held : Held) (words : ScriptWords) (height width : ℕ) (checked : CheckedTable) (calls : List Call) : Type 0 where
+pub record IsReady (held : Held) (words : ScriptWords) (height width : ℕ) (checked : CheckedTable)
+    (calls : List Call) : Type 0 where
   pub text : List ℕ
   pub prepared : Prepared held words height width checked text
   pub reads : script_of text ≡ Ok calls
 
 -- The output got what a run of the script's calls sends, and no call was cut short.
-pub record IsPlayed (table : CheckedTable → Table) (partners : CheckedTable → ℕ → Option ℕ) (held : Held) (words : ScriptWords) (old new : Option (List ℕ)) : Type 0 where
+pub record IsPlayed (table : CheckedTable → Table) (partners : CheckedTable → ℕ → Option ℕ) (held : Held)
+    (words : ScriptWords) (old new : Option (List ℕ)) : Type 0 where
   pub height : ℕ
   pub width : ℕ
   pub checked : CheckedTable
@@ -35,8 +37,9 @@ pub record IsPlayed (table : CheckedTable → Table) (partners : CheckedTable �
   pub ran : Ran (unfailing (table checked) (partners checked)) old new calls log
   pub through : AreThrough log
 
--- the reply tells of a run of the script's calls and of the screen that it leaves
-pub record IsShown (table : CheckedTable → Table) (partners : CheckedTable → ℕ → Option ℕ) (held : Held) (words : ScriptWords) (reply : Reply) : Type 0 where
+-- the reply is about a run of the script's calls and the screen that it leaves
+pub record IsShown (table : CheckedTable → Table) (partners : CheckedTable → ℕ → Option ℕ) (held : Held)
+    (words : ScriptWords) (reply : Reply) : Type 0 where
   pub height : ℕ
   pub width : ℕ
   pub checked : CheckedTable
@@ -56,7 +59,8 @@ pub record FailsAtScript (held : Held) (words : ScriptWords) (failure : Failure)
   pub refused : IsScriptFailure text failure
 
 -- all is right, and the run has no end: there is no memory, or the output has failed
-pub record FailsInRun {O : Type 0} (held : Held) (words : ScriptWords) (has_failed : O → Bool) (old new : O) (failure : Failure) : Type 0 where
+pub record FailsInRun {O : Type 0} (held : Held) (words : ScriptWords) (has_failed : O → Bool) (old new : O)
+    (failure : Failure) : Type 0 where
   pub height : ℕ
   pub width : ℕ
   pub checked : CheckedTable
@@ -75,8 +79,11 @@ pub record FailsForMemory (held : Held) (words : ScriptWords) (failure : Failure
 
 -- the words come first, then the files in their order, then the run
 abbrev pub FailsToPlay : {O : Type 0} → Held → ScriptWords → (O → Bool) → O → O → Failure → Type 0
-FailsToPlay held words has_failed old new failure = FailsToPrepare held words failure ⊎ FailsAtScript held words failure ⊎ FailsInRun held words has_failed old new failure
+FailsToPlay held words has_failed old new failure =
+    FailsToPrepare held words failure ⊎ FailsAtScript held words failure
+    ⊎ FailsInRun held words has_failed old new failure
 
 -- whatever the terminal is sent, it gets stuck in none of it
 abbrev pub FailsToShow : Held → ScriptWords → Failure → Type 0
-FailsToShow held words failure = FailsToPrepare held words failure ⊎ FailsAtScript held words failure ⊎ FailsForMemory held words failure
+FailsToShow held words failure =
+    FailsToPrepare held words failure ⊎ FailsAtScript held words failure ⊎ FailsForMemory held words failure

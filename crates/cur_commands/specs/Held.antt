@@ -12,7 +12,8 @@ abbrev pub IsTold : {O : Type 0} → (O → Bool) → O → ℕ → Type 0
 IsTold has_failed out failures = 0 < failures → has_failed out ≡ true
 
 -- without a failure the output's bytes and those held back for it, together, grew by these bytes
-pub record Holds {O : Type 0} (contents : O → Option (List ℕ)) (has_failed : O → Bool) (old new : MutBor O) (held kept : List ℕ) (failed failures : ℕ) (bytes : List ℕ) : Type 0 where
+pub record Holds {O : Type 0} (contents : O → Option (List ℕ)) (has_failed : O → Bool) (old new : MutBor O)
+    (held kept : List ℕ) (failed failures : ℕ) (bytes : List ℕ) : Type 0 where
   pub risen : failed ≤ failures
   pub grows : failures ≡ 0 → Appends (append_known (contents old.now) held) (append_known (contents new.now) kept) bytes
   pub told : IsTold has_failed old.now failed → IsTold has_failed new.now failures
@@ -28,22 +29,29 @@ appends_joins (Some xs) None c x y h k = absurd h
 appends_joins (Some xs) (Some ys) None x y h k = absurd k
 appends_joins (Some xs) (Some ys) (Some zs) x y h k = k ∙ ap (λ (l : List ℕ). l ++ y) h ∙ append_assoc xs x y
 
-pub holds_joins : {O : Type 0} (contents : O → Option (List ℕ)) (has_failed : O → Bool) (a b c : MutBor O) (p q r : List ℕ) (k m n : ℕ) (x y : List ℕ)
-    → Holds contents has_failed a b p q k m x → Holds contents has_failed b c q r m n y → Holds contents has_failed a c p r k n (x ++ y)
+pub holds_joins : {O : Type 0} (contents : O → Option (List ℕ)) (has_failed : O → Bool) (a b c : MutBor O)
+    (p q r : List ℕ) (k m n : ℕ) (x y : List ℕ)
+    → Holds contents has_failed a b p q k m x → Holds contents has_failed b c q r m n y
+    → Holds contents has_failed a c p r k n (x ++ y)
 holds_joins contents has_failed a b c p q r k m n x y h j = record {
   risen = le_trans h.risen j.risen;
-  grows = λ none. appends_joins _ _ _ x y (h.grows (let le : m ≤ n = j.risen in omega (arith, none, le))) (j.grows none);
+  grows =
+      λ none. appends_joins _ _ _ x y (h.grows (let le : m ≤ n = j.risen in omega (arith, none, le))) (j.grows none);
   told = λ t. j.told (h.told t);
   same = j.same ∙ h.same;
 }
 
-abbrev pub HoldsOf : {O C : Type 0} → (O → Option (List ℕ)) → (O → Bool) → (C → MutBor O) → (C → List ℕ) → (C → ℕ) → C → C → List ℕ → Type 0
-HoldsOf contents has_failed output held failures a b x = Holds contents has_failed (output a) (output b) (held a) (held b) (failures a) (failures b) x
+abbrev pub HoldsOf : {O C : Type 0} → (O → Option (List ℕ)) → (O → Bool) → (C → MutBor O) → (C → List ℕ) → (C → ℕ) → C
+    → C → List ℕ → Type 0
+HoldsOf contents has_failed output held failures a b x =
+    Holds contents has_failed (output a) (output b) (held a) (held b) (failures a) (failures b) x
 
 -- An output with what is held back is a wire. The proof stands here since an impl's law can name nothing of proofs/.
-pub holds_lawful : {O C : Type 0} (contents : O → Option (List ℕ)) (has_failed : O → Bool) (output : C → MutBor O) (held : C → List ℕ) (failures : C → ℕ) → IsWire (HoldsOf contents has_failed output held failures) failures
+pub holds_lawful : {O C : Type 0} (contents : O → Option (List ℕ)) (has_failed : O → Bool) (output : C → MutBor O)
+    (held : C → List ℕ) (failures : C → ℕ) → IsWire (HoldsOf contents has_failed output held failures) failures
 holds_lawful contents has_failed output held failures = record {
   nothing = λ w. record { risen = le_refl (failures w); grows = λ none. appends_nothing _; told = λ t. t; same = refl };
-  joins = λ a b c x y p q. holds_joins contents has_failed (output a) (output b) (output c) (held a) (held b) (held c) (failures a) (failures b) (failures c) x y p q;
+  joins = λ a b c x y p q. holds_joins contents has_failed (output a) (output b) (output c) (held a) (held b) (held c)
+      (failures a) (failures b) (failures c) x y p q;
   counts = λ a b x p. p.risen;
 }

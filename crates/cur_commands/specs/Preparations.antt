@@ -14,10 +14,12 @@ use Rattle.ti_requests.specs.declared.request.ScriptWords.{ScriptWords}
 
 -- the words of `verify` among them
 abbrev pub verify_words_of : ScriptWords → VerifyWords
-verify_words_of words = record { entry = words.entry; rows = words.rows; cols = words.cols; certificate = words.certificate }
+verify_words_of words =
+    record { entry = words.entry; rows = words.rows; cols = words.cols; certificate = words.certificate }
 
 -- the words give this size, an entry that conforms at it and has these strings, and the text of a script
-pub record Prepared (held : Held) (words : ScriptWords) (height width : ℕ) (checked : CheckedTable) (text : List ℕ) : Type 0 where
+pub record Prepared (held : Held) (words : ScriptWords) (height width : ℕ) (checked : CheckedTable)
+    (text : List ℕ) : Type 0 where
   pub given : SizeGiven words.rows.now words.cols.now height width
   pub entry : Content
   pub gives : GivesEntry held words.entry.now entry

@@ -1,4 +1,4 @@
--- What `show` tells: a line for each call that was refused, and then the screen of the terminal.
+-- What `show` prints: a line for each call that was refused, and then the screen of the terminal.
 use Rattle.std.specs.Prelude.{◌≡◌, ℕ, ◌+◌, List, [], ◌∷◌, ◌++◌, Option, Some, codes}
 use Rattle.std.specs.Fmt.{decimal}
 use Rattle.vt_term.specs.Printed.{screen_text}
@@ -52,8 +52,9 @@ pub record RanWhole (t : Table) (partners : ℕ → Option ℕ) (calls : List Ca
   pub ran : Ran (unfailing t partners) (Some []) (Some bytes) calls log
   pub through : AreThrough log
 
--- the text tells of a run and of the screen that a terminal in its reset state shows after the bytes
-pub record ShowsRun (t : Table) (partners : ℕ → Option ℕ) (rows cols : ℕ) (calls : List Call) (text : List ℕ) : Type 0 where
+-- the text is about a run and the screen that a terminal in its reset state shows after the bytes
+pub record ShowsRun (t : Table) (partners : ℕ → Option ℕ) (rows cols : ℕ) (calls : List Call)
+    (text : List ℕ) : Type 0 where
   pub bytes : List ℕ
   pub whole : RanWhole t partners calls bytes
   pub after : State

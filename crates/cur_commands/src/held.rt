@@ -60,7 +60,8 @@ impl<'a, O: Output> Wire for Held<'a, O> {
     ghost use Rattle.cur_wires.specs.Wire.{Rose};
     ghost use Rattle.cur_commands.specs.Held.{Holds, holds_lawful};
 
-    ghost went = { λ a b x. Holds O.contents O.has_failed a.output b.output a.buffer.now b.buffer.now a.failures b.failures x };
+    ghost went = { λ a b x.
+        Holds O.contents O.has_failed a.output b.output a.buffer.now b.buffer.now a.failures b.failures x };
 
     ghost failures = { λ a. a.failures };
 

@@ -81,13 +81,15 @@ scrolled (negsuc n) w g = lines_down w w.region_top (region_height w) (n + 1) g
 abbrev pub inserted : Content → Window → Grid → Grid
 inserted c w g =
     filled (cells_of w w.row w.col 1) c
-    (shifted (cells_of w w.row (w.col + 1) (w.area.cols - (w.col + 1))) (place (w.area.top + w.row) (w.area.left + w.col)) g)
+    (shifted (cells_of w w.row (w.col + 1) (w.area.cols - (w.col + 1)))
+    (place (w.area.top + w.row) (w.area.left + w.col)) g)
 
 -- the cursor's cell goes, the line's rest goes left, and the background comes in at the line's end
 abbrev pub deleted : Window → Grid → Grid
 deleted w g =
     filled (cells_of w w.row (w.area.cols - 1) 1) w.background
-    (shifted (cells_of w w.row w.col (w.area.cols - (w.col + 1))) (place (w.area.top + w.row) (w.area.left + (w.col + 1))) g)
+    (shifted (cells_of w w.row w.col (w.area.cols - (w.col + 1)))
+    (place (w.area.top + w.row) (w.area.left + (w.col + 1))) g)
 
 -- ---- erasing
 
@@ -178,19 +180,23 @@ insert_char p s = if_accepted (checked_cell p) s (done (inserted (content s.wind
 -- hline, to the line's end at most
 abbrev pub horizontal : Put → ℤ → Canvas → CanvasStep
 horizontal p n s = if_accepted (checked_cell p) s
-    (done (filled (cells_of s.window s.window.row s.window.col (count_to n (s.window.area.cols - s.window.col))) (content s.window p) s.grid) s.window)
+    (done (filled (cells_of s.window s.window.row s.window.col (count_to n (s.window.area.cols - s.window.col)))
+    (content s.window p) s.grid) s.window)
 
 -- vline, to the window's bottom at most
 abbrev pub vertical : Put → ℤ → Canvas → CanvasStep
 vertical p n s = if_accepted (checked_cell p) s
-    (done (filled (column_of s.window s.window.row s.window.col (count_to n (s.window.area.rows - s.window.row))) (content s.window p) s.grid) s.window)
+    (done (filled (column_of s.window s.window.row s.window.col (count_to n (s.window.area.rows - s.window.row)))
+    (content s.window p) s.grid) s.window)
 
 abbrev pub checked_border : Border → Result (Unit {0}) Refusal
 checked_border b = checked
     ((is_printed b.left.byte && is_printed b.right.byte && is_printed b.top.byte && is_printed b.bottom.byte)
-    && (is_printed b.top_left.byte && is_printed b.top_right.byte) && (is_printed b.bottom_left.byte && is_printed b.bottom_right.byte))
+    && (is_printed b.top_left.byte && is_printed b.top_right.byte)
+    && (is_printed b.bottom_left.byte && is_printed b.bottom_right.byte))
     ((is_pair b.left.pair && is_pair b.right.pair && is_pair b.top.pair && is_pair b.bottom.pair)
-    && (is_pair b.top_left.pair && is_pair b.top_right.pair) && (is_pair b.bottom_left.pair && is_pair b.bottom_right.pair))
+    && (is_pair b.top_left.pair && is_pair b.top_right.pair)
+    && (is_pair b.bottom_left.pair && is_pair b.bottom_right.pair))
 
 -- scroll
 abbrev pub scroll_by : ℤ → Canvas → CanvasStep

@@ -32,31 +32,44 @@ in_region w y = nat_le w.region_top y && nat_le y w.region_bottom
 
 -- what stands at a place after the region went up by n: the cell n lines below, or the background
 abbrev pub went_up : Window → ℕ → Grid → ℕ → ℕ → Content
-went_up w n g y x = if in_region w y then (if nat_le (y + n) w.region_bottom then cell_of w g (y + n) x else w.background) else cell_of w g y x
+went_up w n g y x =
+    if in_region w y then (if nat_le (y + n) w.region_bottom then cell_of w g (y + n) x else w.background)
+    else cell_of w g y x
 
 -- and after it went down by n
 abbrev pub went_down : Window → ℕ → Grid → ℕ → ℕ → Content
-went_down w n g y x = if in_region w y then (if nat_le (w.region_top + n) y then cell_of w g (y - n) x else w.background) else cell_of w g y x
+went_down w n g y x =
+    if in_region w y then (if nat_le (w.region_top + n) y then cell_of w g (y - n) x else w.background)
+    else cell_of w g y x
 
 -- what stands at a place after insch at the cursor: the rest of the cursor's line is one place to the right
 abbrev pub cell_inserted : Window → Content → Grid → ℕ → ℕ → Content
 cell_inserted w c g y x =
-    if y == w.row then (if nat_lt x w.col then cell_of w g y x else if x == w.col then c else cell_of w g y (x - 1)) else cell_of w g y x
+    if y == w.row then (if nat_lt x w.col then cell_of w g y x else if x == w.col then c else cell_of w g y (x - 1))
+    else cell_of w g y x
 
 -- after delch: it is one place to the left, and the background fills the last place
 abbrev pub cell_deleted : Window → Grid → ℕ → ℕ → Content
 cell_deleted w g y x =
-    if y == w.row then (if nat_lt x w.col then cell_of w g y x else if nat_lt (x + 1) w.area.cols then cell_of w g y (x + 1) else w.background) else cell_of w g y x
+    if y == w.row
+    then (if nat_lt x w.col then cell_of w g y x
+    else if nat_lt (x + 1) w.area.cols then cell_of w g y (x + 1) else w.background)
+    else cell_of w g y x
 
 -- after insertln: the cursor's line is background, and the lines from there on are one line lower
 abbrev pub line_inserted : Window → Grid → ℕ → ℕ → Content
-line_inserted w g y x = if nat_lt y w.row then cell_of w g y x else if y == w.row then w.background else cell_of w g (y - 1) x
+line_inserted w g y x =
+    if nat_lt y w.row then cell_of w g y x else if y == w.row then w.background else cell_of w g (y - 1) x
 
 -- after deleteln: the lines below the cursor's are one line higher, and the last line is background
 abbrev pub line_deleted : Window → Grid → ℕ → ℕ → Content
-line_deleted w g y x = if nat_lt y w.row then cell_of w g y x else if nat_lt (y + 1) w.area.rows then cell_of w g (y + 1) x else w.background
+line_deleted w g y x =
+    if nat_lt y w.row then cell_of w g y x
+    else if nat_lt (y + 1) w.area.rows then cell_of w g (y + 1) x else w.background
 
 -- after a call that isn't refused, each place of the window has this cell
 abbrev pub LeavesCells : (Canvas → CanvasStep) → (Window → Grid → ℕ → ℕ → Content) → Type 0
-LeavesCells act cell_then = (g : Grid) (w : Window) (y x : ℕ) → IsCanvas g w → y < w.area.rows → x < w.area.cols → (act (canvas g w)).1 ≡ Ok tt →
-    cell_of w (act (canvas g w)).0.grid y x ≡ cell_then w g y x
+LeavesCells act cell_then =
+    (g : Grid) (w : Window) (y x : ℕ) → IsCanvas g w → y < w.area.rows → x < w.area.cols
+    → (act (canvas g w)).1 ≡ Ok tt
+    → cell_of w (act (canvas g w)).0.grid y x ≡ cell_then w g y x

@@ -7,7 +7,7 @@ use Rattle.grids.specs.declared.areas.Place.{Place}
 use Rattle.cur_drawing.specs.declared.refusals.Refusal.{Refusal}
 use Rattle.cur_drawing.specs.declared.refusals.Refusal.TheVariants.{BadRegion}
 
--- so many lines or columns from a place on, or, where the number is 0, all up to the limit; none if they aren't all there
+-- a number of lines or columns from a place on, or, where it is 0, all up to the limit; none if they aren't all there
 abbrev pub span_within : ℤ → ℤ → ℕ → Option Span
 span_within (pos n) (pos at) limit =
     if nat_lt at limit then

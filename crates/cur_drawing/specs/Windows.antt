@@ -58,7 +58,8 @@ column_of w from col n = record { top = w.area.top + from; left = w.area.left + 
 abbrev pub part_cursor : Window → Area → Place → Option Place
 part_cursor w part to =
     if w.leaves then None
-    else if is_in part w.row w.col then Some (record { row = to.row + (w.row - part.top); col = to.col + (w.col - part.left) })
+    else if is_in part w.row w.col
+    then Some (record { row = to.row + (w.row - part.top); col = to.col + (w.col - part.left) })
     else None
 
 -- ---- what is handed to a call
@@ -109,7 +110,8 @@ abbrev pub move_to : ℤ → ℤ → Window → WindowStep
 move_to y x w = moved (place_below y w.area.rows) (place_below x w.area.cols) w
 
 abbrev pub bounded : Option ℕ → Option ℕ → Window → WindowStep
-bounded (Some t) (Some b) w = if nat_le t b then (record w { region_top = t; region_bottom = b }, Ok tt) else (w, Err BadRegion)
+bounded (Some t) (Some b) w =
+    if nat_le t b then (record w { region_top = t; region_bottom = b }, Ok tt) else (w, Err BadRegion)
 bounded (Some t) None w = (w, Err BadRegion)
 bounded None b w = (w, Err BadRegion)
 

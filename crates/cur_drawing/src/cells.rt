@@ -27,7 +27,8 @@ impl Flags for Attrs {
 
     ghost exact = { ⊤ };
 
-    ghost table = { (codes "STANDOUT", 1) ∷ (codes "UNDERLINE", 2) ∷ (codes "REVERSE", 4) ∷ (codes "BLINK", 8) ∷ (codes "DIM", 16) ∷ (codes "BOLD", 32) ∷ (codes "INVISIBLE", 64) ∷ (codes "ALTCHARSET", 128) ∷ [] };
+    ghost table = { (codes "STANDOUT", 1) ∷ (codes "UNDERLINE", 2) ∷ (codes "REVERSE", 4) ∷ (codes "BLINK", 8)
+        ∷ (codes "DIM", 16) ∷ (codes "BOLD", 32) ∷ (codes "INVISIBLE", 64) ∷ (codes "ALTCHARSET", 128) ∷ [] };
 
     ghost set_of = { λ a. a.0 };
 

@@ -95,8 +95,8 @@ impl Window {
         Ok(())
     }
 
-    /// A border just inside the window's edges (`border`, `box`). `BadCell` for a byte outside 32 to 126 anywhere in it,
-    /// else `BadPair`; then nothing has changed.
+    /// A border just inside the window's edges (`border`, `box`). `BadCell` for a byte outside 32 to 126 anywhere in
+    /// it, else `BadPair`; then nothing has changed.
     pub fn draw_border(&self, grid: &mut Grid<Cell>, border: &Border) -> Result<(), Refusal>
         requires { IsCanvas grid.old self.now }
         ensures value { step grid.new self.now result ≡ bordered border.now (canvas grid.old self.now) }

@@ -69,8 +69,9 @@ pub fn lines_shift_by_place()
     ensures deleteln { LeavesCells calls.delete_line (λ w g y x. line_deleted w g y x) }
 {}
 
-/// `bkgd` exchanges the old background for the new one in each cell: its character, its attributes and its pair, each by
-/// itself.
+/// `bkgd` exchanges the old background for the new one in each cell: its character, its attributes and its pair, each
+/// by itself.
 pub fn background_changes_by_place()
-    ensures { (put : Put) → LeavesCells (calls.change_background put) (λ w g y x. restyled w.background (as_is put) (cell_of w g y x)) }
+    ensures { (put : Put)
+        → LeavesCells (calls.change_background put) (λ w g y x. restyled w.background (as_is put) (cell_of w g y x)) }
 {}

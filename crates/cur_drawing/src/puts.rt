@@ -37,8 +37,8 @@ impl Put {
         }
     }
 
-    /// The cell that holds this character as it is. `BadCell` for a byte outside 32 to 126, and else `BadPair` for a pair
-    /// above 63.
+    /// The cell that holds this character as it is. `BadCell` for a byte outside 32 to 126, and else `BadPair` for a
+    /// pair above 63.
     pub fn to_cell(self) -> Result<Cell, Refusal>
         ensures { result ≡ to_cell self }
     {

@@ -156,7 +156,8 @@ impl Window {
         requires canvas { IsCanvas grid.old self.now }
         requires to_within { to + n ≤ self.now.area.rows }
         requires from_within { from + n ≤ self.now.area.rows }
-        ensures value { grid.new ≡ shifted (lines_of self.now to n) (place (self.now.area.top + from) self.now.area.left) grid.old }
+        ensures value { grid.new ≡ shifted (lines_of self.now to n)
+            (place (self.now.area.top + from) self.now.area.left) grid.old }
         ensures shape { shape_of grid.new ≡ shape_of grid.old }
     {
         let source = Place {
@@ -172,7 +173,8 @@ impl Window {
         requires row_within { row < self.now.area.rows }
         requires to_within { to + n ≤ self.now.area.cols }
         requires from_within { from + n ≤ self.now.area.cols }
-        ensures value { grid.new ≡ shifted (cells_of self.now row to n) (place (self.now.area.top + row) (self.now.area.left + from)) grid.old }
+        ensures value { grid.new ≡ shifted (cells_of self.now row to n)
+            (place (self.now.area.top + row) (self.now.area.left + from)) grid.old }
         ensures shape { shape_of grid.new ≡ shape_of grid.old }
     {
         let source = Place {

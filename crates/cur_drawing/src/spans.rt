@@ -84,8 +84,8 @@ impl Geometry {
     }
 }
 
-/// The rectangle of a size at a place, in so many rows and columns. `BadRegion` for a negative size, else the given
-/// refusal where it doesn't lie in them.
+/// The rectangle of a size at a place, in an area of `height` rows and `width` columns. `BadRegion` for a negative
+/// size, else the given refusal where it doesn't lie in that area.
 pub fn area_within(
     height: u16,
     width: u16,

@@ -17,7 +17,7 @@ pub record IsGap (t : Table) (b : Belief) (g : ℕ → ℕ → Ink) (row from co
   pub short : col ≤ from + t.longest.cup
   pub alike : (k : ℕ) → from + k < col → IsAlike b (g row (from + k))
 
--- the place so many columns to the right
+-- the place this many columns to the right
 abbrev pub right : Place → ℕ → Place
 right p n = record { row = p.row; col = p.col + n }
 

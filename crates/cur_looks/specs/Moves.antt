@@ -42,7 +42,7 @@ pub record IsWay (t : Table) (from : Option Place) (row col : ℕ) (line : Row) 
 abbrev pub IsAtMost : Table → ℕ → Row → Type 0
 IsAtMost t n line = has t line ≡ true → n ≤ length (text_of t line)
 
--- a line of so many bytes leads there, and none of fewer
+-- a line of this many bytes leads there, and none of fewer
 pub record IsFewest (t : Table) (from : Option Place) (row col n : ℕ) : Type 0 where
   pub line : Row
   pub moves : Moves t.cols from row col line

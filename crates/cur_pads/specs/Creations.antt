@@ -8,7 +8,7 @@ use Rattle.cur_windows.specs.Desks.{State, DeskStep, after, slot_of, origin_at}
 use Rattle.cur_windows.specs.Creations.{free, in_range, subwindow_at}
 use Rattle.cur_windows.specs.Pads.{pad_added}
 
--- so many lines or columns as a pad may have
+-- as many lines or columns as a pad may have
 abbrev pub side : ℤ → Option ℕ
 side (pos n) = if nat_lt 0 n && nat_le n most_lines then Some n else None
 side (negsuc n) = None
@@ -21,7 +21,8 @@ both_sides None cols = Err BadRegion
 -- newpad
 abbrev pub newpad : State → ℕ → ℤ → ℤ → DeskStep
 newpad d n lines cols =
-    after (free d n) d (λ u. after (both_sides (side lines) (side cols)) d (λ size. (pad_added d n size.0 size.1, Ok tt)))
+    after (free d n) d (λ u.
+    after (both_sides (side lines) (side cols)) d (λ size. (pad_added d n size.0 size.1, Ok tt)))
 
 abbrev pub pad_only : State → Result Slot Refusal → Result Slot Refusal
 pad_only d (Ok s) = if (origin_at d s.root).pad then Ok s else Err PadKind
@@ -34,4 +35,5 @@ pad_of d n = pad_only d (slot_of d n)
 -- subpad: the place counts from the pad's corner
 abbrev pub subpad : State → ℕ → ℕ → ℤ → ℤ → ℤ → ℤ → DeskStep
 subpad d n w lines cols y x =
-    after (in_range n w) d (λ u. after (free d n) d (λ u. after (pad_of d w) d (λ s. subwindow_at d n w s lines cols y x)))
+    after (in_range n w) d (λ u.
+    after (free d n) d (λ u. after (pad_of d w) d (λ s. subwindow_at d n w s lines cols y x)))

@@ -23,5 +23,6 @@ abbrev pub pnoutrefresh : State → Screen → ℕ → ℤ → ℤ → ℤ → �
 pnoutrefresh d v n pr pc sr sc er ec =
     if_shown (pad_of d n) d v (λ s. if_shown (in_order (pos (start sr)) er (pos (start sc)) ec) d v (λ u.
     if_shown (rectangle (between (start sr) er d.rows) (between (start sc) ec d.cols) OutOfScreen) d v (λ to.
-    if_shown (rectangle (from (start pr) to.rows s.window.area.rows) (from (start pc) to.cols s.window.area.cols) OutOfWindow) d v (λ part.
+    if_shown (rectangle (from (start pr) to.rows s.window.area.rows)
+    (from (start pc) to.cols s.window.area.cols) OutOfWindow) d v (λ part.
     done (part_shown d v n s part (place to.top to.left))))))

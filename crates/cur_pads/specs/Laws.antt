@@ -12,9 +12,11 @@ use Rattle.cur_pads.specs.Displays.{start, pnoutrefresh}
 abbrev pub IsShown : State → Slot → Screen → Screen → ℕ → ℕ → ℕ → ℕ → ℕ → ℕ → Type 0
 IsShown d s old new y x top left bottom right = (i j : ℕ) → j < length (line_at old.grid i) →
     cell_at new.grid i j ≡
-    (if is_between top bottom i && is_between left right j then cell d s (y + (i - top)) (x + (j - left)) else cell_at old.grid i j)
+    (if is_between top bottom i && is_between left right j then cell d s (y + (i - top)) (x + (j - left))
+    else cell_at old.grid i j)
 
--- wherever a part is shown, it is shown so; a negative first row or column counts as 0, and a negative end is always refused
+-- wherever a part is shown, it is shown so; a negative first row or column counts as 0, and a negative end is always
+-- refused
 abbrev pub ShowsCells : State → Screen → ℕ → ℤ → ℤ → ℤ → ℤ → ℕ → ℕ → Type 0
 ShowsCells d v n pr pc sr sc bottom right = (after : State) (new : Screen) →
     pnoutrefresh d v n pr pc sr sc (pos bottom) (pos right) ≡ (after, new, Ok tt) →

@@ -11,6 +11,6 @@ up_to at None = None
 abbrev pub between : ℕ → ℤ → ℕ → Option Span
 between at last limit = up_to at (place_below last limit)
 
--- so many from a place on, if they are all below the limit
+-- this many from a place on, if they are all below the limit
 abbrev pub from : ℕ → ℕ → ℕ → Option Span
 from at size limit = if nat_le (at + size) limit then Some (record { at = at; size = size }) else None

@@ -12,11 +12,14 @@ use Rattle.cur_pads.specs.Displays.{start}
 
 -- lack of memory comes after these
 abbrev pub newpad : State → ℕ → ℤ → ℤ → List Condition
-newpad d n lines cols = (Full, is_past_last n) ∷ (NumberUsed, is_used d n) ∷ (BadRegion, not (is_some (side lines) && is_some (side cols))) ∷ []
+newpad d n lines cols =
+    (Full, is_past_last n) ∷ (NumberUsed, is_used d n)
+    ∷ (BadRegion, not (is_some (side lines) && is_some (side cols))) ∷ []
 
 abbrev pub subpad : State → ℕ → ℕ → ℤ → ℤ → ℤ → ℤ → List Condition
 subpad d n w lines cols y x =
-    (Full, is_past_last n || is_past_last w) ∷ (NumberUsed, is_used d n) ∷ (NoWindow, not (is_used d w)) ∷ (PadKind, window_is d w (λ s. not (is_pad d s)))
+    (Full, is_past_last n || is_past_last w) ∷ (NumberUsed, is_used d n) ∷ (NoWindow, not (is_used d w))
+    ∷ (PadKind, window_is d w (λ s. not (is_pad d s)))
     ∷ (BadRegion, is_negative lines || is_negative cols)
     ∷ (OutOfWindow, window_is d w (λ s. lies_outside s.window.area.rows s.window.area.cols lines cols y x)) ∷ []
 
@@ -30,5 +33,10 @@ pnoutrefresh d n pr pc sr sc er ec =
     let rows = between (start sr) er d.rows in
     let cols = between (start sc) ec d.cols in
     (Full, is_past_last n) ∷ (NoWindow, not (is_used d n)) ∷ (PadKind, window_is d n (λ s. not (is_pad d s)))
-    ∷ (BadRegion, int_lt er (pos (start sr)) || int_lt ec (pos (start sc))) ∷ (OutOfScreen, not (is_some rows && is_some cols))
-    ∷ (OutOfWindow, window_is d n (λ s. ends_past rows (start pr) s.window.area.rows || ends_past cols (start pc) s.window.area.cols)) ∷ []
+    ∷ (BadRegion, int_lt er (pos (start sr)) || int_lt ec (pos (start sc)))
+    ∷ (OutOfScreen, not (is_some rows && is_some cols))
+    ∷ (
+      OutOfWindow,
+      window_is d n (λ s.
+          ends_past rows (start pr) s.window.area.rows || ends_past cols (start pc) s.window.area.cols),
+    ) ∷ []

@@ -23,9 +23,9 @@ pub fn newpad(desk: &mut Desk, n: usize, lines: i32, cols: i32) -> Result<(), Re
     Ok(())
 }
 
-/// A new pad that is a part of another one and shares its cells; the place counts from that one's corner, and 0 lines or
-/// columns mean all up to its edge (`subpad`). `Full`, `NumberUsed`, `NoWindow`, `PadKind` for a window, `BadRegion` for
-/// a negative size, `OutOfWindow` where it isn't a part. Then nothing has changed.
+/// A new pad that is a part of another one and shares its cells; the place counts from that one's corner, and 0 lines
+/// or columns mean all up to its edge (`subpad`). `Full`, `NumberUsed`, `NoWindow`, `PadKind` for a window, `BadRegion`
+/// for a negative size, `OutOfWindow` where it isn't a part. Then nothing has changed.
 pub fn subpad(
     desk: &mut Desk,
     n: usize,

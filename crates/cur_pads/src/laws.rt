@@ -9,8 +9,8 @@ ghost use Rattle.cur_drawing.specs.Refusals.{IsFirstOf};
 ghost use Rattle.cur_pads.specs.Refusals as causes;
 ghost use Rattle.cur_pads.specs.Displays.{pnoutrefresh};
 
-/// Where a part of a pad is shown, the screen's places from its first row and column to its last ones have the pad's cells,
-/// and all others what they had.
+/// Where a part of a pad is shown, the screen's places from its first row and column to its last ones have the pad's
+/// cells, and all others what they had.
 pub fn parts_are_shown()
     ensures { (d : State) (v : Screen) (n : ℕ) (pr pc sr sc : ℤ) (bottom right : ℕ) → IsDesk d →
         ShowsCells d v n pr pc sr sc bottom right }

@@ -30,15 +30,19 @@ finish_text t Fresh = []
 finish_text t Known = end_text t
 finish_text t Lost = t.resync ++ end_text t
 
-pub record Finished {W : Type 0} (went : W → W → List ℕ → Type 0) (old new : W) (t : Table) (before after : Knowledge) : Type 0 where
+pub record Finished {W : Type 0} (went : W → W → List ℕ → Type 0) (old new : W) (t : Table)
+    (before after : Knowledge) : Type 0 where
   pub sent : went old new (finish_text t before.status)
-  pub fits : (g : ℕ → ℕ → Ink) (s : State) → Fits t g before.status before.belief s → Ends s (finish_text t before.status) (IsFresh t)
+  pub fits : (g : ℕ → ℕ → Ink) (s : State) → Fits t g before.status before.belief s
+      → Ends s (finish_text t before.status) (IsFresh t)
   -- a front of it leads to a state that fits a lost session
-  pub cut : (front back : List ℕ) → finish_text t before.status ≡ front ++ back → (g : ℕ → ℕ → Ink) (s : State) → Fits t g before.status before.belief s → Ends s front (IsLost t)
+  pub cut : (front back : List ℕ) → finish_text t before.status ≡ front ++ back → (g : ℕ → ℕ → Ink) (s : State)
+      → Fits t g before.status before.belief s → Ends s front (IsLost t)
   pub fresh : after.status ≡ Fresh
 
 -- a front of that, and not all of it, went out, and the session is lost
-pub record FinishedShort {W : Type 0} (went : W → W → List ℕ → Type 0) (failures : W → ℕ) (old new : W) (t : Table) (before after : Knowledge) : Type 0 where
+pub record FinishedShort {W : Type 0} (went : W → W → List ℕ → Type 0) (failures : W → ℕ) (old new : W) (t : Table)
+    (before after : Knowledge) : Type 0 where
   pub front : List ℕ
   pub back : List ℕ
   pub parts : finish_text t before.status ≡ front ++ back
@@ -46,10 +50,12 @@ pub record FinishedShort {W : Type 0} (went : W → W → List ℕ → Type 0) (
   pub failed : Rose (failures old) (failures new)
   pub fits : (g : ℕ → ℕ → Ink) (s : State) → Fits t g before.status before.belief s → Ends s front (IsLost t)
   -- and so does a front of this front
-  pub cut : (x y : List ℕ) → front ≡ x ++ y → (g : ℕ → ℕ → Ink) (s : State) → Fits t g before.status before.belief s → Ends s x (IsLost t)
+  pub cut : (x y : List ℕ) → front ≡ x ++ y → (g : ℕ → ℕ → Ink) (s : State) → Fits t g before.status before.belief s
+      → Ends s x (IsLost t)
   pub lost : after.status ≡ Lost
   pub some_left : 0 < length back
 
-abbrev pub Finishes : {W T E : Type 0} → (W → W → List ℕ → Type 0) → (W → ℕ) → W → W → Result T E → Table → Knowledge → Knowledge → Type 0
+abbrev pub Finishes : {W T E : Type 0} → (W → W → List ℕ → Type 0) → (W → ℕ) → W → W → Result T E → Table → Knowledge
+    → Knowledge → Type 0
 Finishes went failures old new (Ok x) t before after = Finished went old new t before after
 Finishes went failures old new (Err e) t before after = FinishedShort went failures old new t before after

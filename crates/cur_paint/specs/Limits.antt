@@ -37,7 +37,8 @@ cursor_limit t b cursor mode = changes b.mode mode * modes_limit t + last_move t
 abbrev pub is_settled : ℕ → Belief → Option Place → Mode → Bool
 is_settled cols b cursor mode = (last_move cols b.place cursor == 0) && (changes b.mode mode == 0)
 
--- a cell's limit for each place that differs and once more, and nothing where nothing differs, the mode is the shown one and the cursor is right
+-- a cell's limit for each place that differs and once more, and nothing where nothing differs, the mode is the shown
+-- one and the cursor is right
 abbrev pub paint_limit : Table → (ℕ → ℕ → Ink) → (ℕ → ℕ → Ink) → Belief → Option Place → Mode → ℕ
 paint_limit t old new b cursor mode =
     let d = all_differ old new t.cols t.rows in

@@ -27,13 +27,15 @@ pub record IsFresh (t : Table) (s : State) : Type 0 where
   pub whole : IsWhole s.screen
   pub visible : s.screen.visible ≡ true
 
--- the states that the terminal may be in: with the cells of the last refresh that was done and what is believed where it is known
+-- the states that the terminal may be in: with the cells of the last refresh that was done and what is believed where
+-- it is known
 abbrev pub Fits : Table → (ℕ → ℕ → Ink) → Status → Belief → State → Type 0
 Fits t shown Fresh b s = IsFresh t s
 Fits t shown Known b s = Agrees t shown b s
 Fits t shown Lost b s = IsLost t s
 
--- nothing is open, each cell has the look of the screen's, the cursor is where it is wanted, if a place is, and visible as is wanted
+-- nothing is open, each cell has the look of the screen's, the cursor is where it is wanted, if a place is, and visible
+-- as is wanted
 pub record Shows (t : Table) (g : ℕ → ℕ → Ink) (w : Wanted) (s : State) : Type 0 where
   pub closed : s.rest ≡ []
   pub cells : (i j : ℕ) → i < t.rows → j < t.cols → look_at s.screen.grid i j ≡ look_of t.looks (g i j)
@@ -71,8 +73,11 @@ refresh_limit t shown g Known b w = if w.clear then fresh_limit t else paint_lim
 refresh_limit t shown g _ b w = fresh_limit t
 
 -- what goes out in a refresh
-pub record Draws {W T E : Type 0} (went : W → W → List ℕ → Type 0) (failures : W → ℕ) (old new : W) (answer : Result T E) (t : Table) (shown g : ℕ → ℕ → Ink) (w : Wanted) (status : Status) (b after : Belief) : Type 0 where
-  pub step : Steps went failures old new answer (IsPiece t) (refresh_limit t shown g status b w) (IsLost t) (Fits t shown status b) (Agrees t g after)
+pub record Draws {W T E : Type 0} (went : W → W → List ℕ → Type 0) (failures : W → ℕ) (old new : W)
+    (answer : Result T E) (t : Table) (shown g : ℕ → ℕ → Ink) (w : Wanted) (status : Status)
+    (b after : Belief) : Type 0 where
+  pub step : Steps went failures old new answer (IsPiece t) (refresh_limit t shown g status b w) (IsLost t)
+      (Fits t shown status b) (Agrees t g after)
   pub begins : Begins t status w.clear step.bytes
   pub there : OnOk answer (IsPlaced t.cols w.cursor after.place)
   pub mode : OnOk answer (after.mode ≡ Some w.mode)
@@ -87,9 +92,10 @@ pub record Anew {W T E : Type 0} (went : W → W → List ℕ → Type 0) (failu
   pub begins : BeginsWith first step.bytes
   pub sets : OnOk answer (SetsMode t now w.cursor w.mode step.bytes)
 
--- A refresh that was done: every state that fits before, run over what went out, shows the screen and fits after. The bytes are lawful
--- and keep the bound.
-pub record Refreshed {W : Type 0} (went : W → W → List ℕ → Type 0) (old new : W) (t : Table) (shown g : ℕ → ℕ → Ink) (w : Wanted) (before after : Knowledge) : Type 0 where
+-- A refresh that was done: every state that fits before, run over what went out, shows the screen and fits after. The
+-- bytes are lawful and keep the bound.
+pub record Refreshed {W : Type 0} (went : W → W → List ℕ → Type 0) (old new : W) (t : Table) (shown g : ℕ → ℕ → Ink)
+    (w : Wanted) (before after : Knowledge) : Type 0 where
   pub bytes : List ℕ
   pub sent : went old new bytes
   pub bound : length bytes ≤ refresh_limit t shown g before.status before.belief w
@@ -97,14 +103,16 @@ pub record Refreshed {W : Type 0} (went : W → W → List ℕ → Type 0) (old 
       (shown_mode before.status before.belief.mode) bytes g w
   pub fits : (s : State) → Fits t shown before.status before.belief s → Ends s bytes (Fits t g Known after.belief)
   -- a front of them leads to a state that fits a lost session
-  pub cut : (front back : List ℕ) → bytes ≡ front ++ back → (s : State) → Fits t shown before.status before.belief s → Ends s front (IsLost t)
+  pub cut : (front back : List ℕ) → bytes ≡ front ++ back → (s : State) → Fits t shown before.status before.belief s
+      → Ends s front (IsLost t)
   pub known : after.status ≡ Known
   pub there : IsPlaced t.cols w.cursor after.belief.place
   pub mode : after.belief.mode ≡ Some w.mode
 
 -- A refresh that the wire cut short: a front of lawful bytes, and not all of them, went out, and the terminal may be in
 -- any state that fits a lost session.
-pub record CutShort {W : Type 0} (went : W → W → List ℕ → Type 0) (failures : W → ℕ) (old new : W) (t : Table) (shown g : ℕ → ℕ → Ink) (w : Wanted) (before after : Knowledge) : Type 0 where
+pub record CutShort {W : Type 0} (went : W → W → List ℕ → Type 0) (failures : W → ℕ) (old new : W) (t : Table)
+    (shown g : ℕ → ℕ → Ink) (w : Wanted) (before after : Knowledge) : Type 0 where
   pub front : List ℕ
   pub back : List ℕ
   pub sent : went old new front
@@ -114,10 +122,13 @@ pub record CutShort {W : Type 0} (went : W → W → List ℕ → Type 0) (failu
       (shown_mode before.status before.belief.mode) (front ++ back) g w
   pub fits : (s : State) → Fits t shown before.status before.belief s → Ends s front (IsLost t)
   -- and so does a front of this front
-  pub cut : (x y : List ℕ) → front ≡ x ++ y → (s : State) → Fits t shown before.status before.belief s → Ends s x (IsLost t)
+  pub cut : (x y : List ℕ) → front ≡ x ++ y → (s : State) → Fits t shown before.status before.belief s
+      → Ends s x (IsLost t)
   pub lost : after.status ≡ Lost
   pub some_left : 0 < length back
 
-abbrev pub Refreshes : {W T E : Type 0} → (W → W → List ℕ → Type 0) → (W → ℕ) → W → W → Result T E → Table → (ℕ → ℕ → Ink) → (ℕ → ℕ → Ink) → Wanted → Knowledge → Knowledge → Type 0
+abbrev pub Refreshes : {W T E : Type 0} → (W → W → List ℕ → Type 0) → (W → ℕ) → W → W → Result T E → Table
+    → (ℕ → ℕ → Ink) → (ℕ → ℕ → Ink) → Wanted → Knowledge → Knowledge → Type 0
 Refreshes went failures old new (Ok x) t shown g w before after = Refreshed went old new t shown g w before after
-Refreshes went failures old new (Err e) t shown g w before after = CutShort went failures old new t shown g w before after
+Refreshes went failures old new (Err e) t shown g w before after =
+    CutShort went failures old new t shown g w before after

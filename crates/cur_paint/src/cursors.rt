@@ -34,7 +34,8 @@ fn place_cursor<C: Certificate, O: Picture, N: Picture, W: Wire>(
     ensures there { OnOk result (IsPlaced (C.table screens.now.checked.now).cols cursor belief.new.place) }
     ensures mode { OnOk result (belief.new.mode ≡ belief.old.mode) }
     ensures step { Acts W.went W.failures wire.old wire.new result (C.table screens.now.checked.now)
-        (last_move (C.table screens.now.checked.now).cols belief.old.place cursor * (C.table screens.now.checked.now).longest.cup)
+        (last_move (C.table screens.now.checked.now).cols belief.old.place cursor
+        * (C.table screens.now.checked.now).longest.cup)
         (N.cells screens.now.new.now) (N.cells screens.now.new.now) belief.old belief.new }
 {
     let Some(at) = cursor else {

@@ -13,9 +13,11 @@ abbrev pub PassesOf : {W C : Type 0} → (W → W → List ℕ → Type 0) → (
 PassesOf went wire a b x = Passes went (wire a) (wire b) x
 
 -- The proof stands here since an impl's law can name nothing of proofs/.
-pub passes_lawful : {W C : Type 0} (went : W → W → List ℕ → Type 0) (failures : W → ℕ) → IsWire went failures → (wire : C → MutBor W) → IsWire (PassesOf went wire) (λ c. failures (wire c).now)
+pub passes_lawful : {W C : Type 0} (went : W → W → List ℕ → Type 0) (failures : W → ℕ) → IsWire went failures
+    → (wire : C → MutBor W) → IsWire (PassesOf went wire) (λ c. failures (wire c).now)
 passes_lawful went failures laws wire = record {
   nothing = λ w. record { inner = laws.nothing (wire w).now; same = refl };
-  joins = λ a b c x y p q. record { inner = laws.joins (wire a).now (wire b).now (wire c).now x y p.inner q.inner; same = q.same ∙ p.same };
+  joins = λ a b c x y p q.
+      record { inner = laws.joins (wire a).now (wire b).now (wire c).now x y p.inner q.inner; same = q.same ∙ p.same };
   counts = λ a b x p. laws.counts (wire a).now (wire b).now x p.inner;
 }

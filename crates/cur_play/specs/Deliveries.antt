@@ -31,7 +31,8 @@ IsSettled p last_mode = p.session.status ≡ Known → p.session.belief.mode ≡
 
 -- the terminal is known, may be in this state and then shows this screen with the cursor and its mode, and isn't to be
 -- cleared
-pub record IsShown {C : Type 0} (t : Table) (partners : ℕ → Option ℕ) (v : Screen) (p : Painted C) (last : Screen) (s : State) : Type 0 where
+pub record IsShown {C : Type 0} (t : Table) (partners : ℕ → Option ℕ) (v : Screen) (p : Painted C) (last : Screen)
+    (s : State) : Type 0 where
   pub known : p.session.status ≡ Known
   pub same : in_lines last v t.cols t.rows ≡ 0
   pub fits : FitsIn t partners p s
@@ -40,7 +41,8 @@ pub record IsShown {C : Type 0} (t : Table) (partners : ℕ → Option ℕ) (v :
   pub clear : v.clearok ≡ false
 
 -- v is the virtual screen when the sending begins, and the painter before has the cursor's mode at that time
-pub record Carries {W C : Type 0} (went : W → W → List ℕ → Type 0) (failures : W → ℕ) (old new : W) (t : Table) (partners : ℕ → Option ℕ) (v : Screen) (o : Emission) (answer : Answer) (before after : Painted C) : Type 0 where
+pub record Carries {W C : Type 0} (went : W → W → List ℕ → Type 0) (failures : W → ℕ) (old new : W) (t : Table)
+    (partners : ℕ → Option ℕ) (v : Screen) (o : Emission) (answer : Answer) (before after : Painted C) : Type 0 where
   pub bytes : List ℕ
   pub sent : went old new bytes
   -- they are what the call sends, by its answer
@@ -48,14 +50,19 @@ pub record Carries {W C : Type 0} (went : W → W → List ℕ → Type 0) (fail
   -- every state that fits before, run over the bytes, fits after
   pub fits : (s : State) → FitsIn t partners before s → Ends s bytes (FitsIn t partners after)
   -- run over a front of the bytes, it is one that fits a lost session
-  pub cut : (front back : List ℕ) → bytes ≡ front ++ back → (s : State) → FitsIn t partners before s → Ends s front (IsLost t)
+  pub cut : (front back : List ℕ) → bytes ≡ front ++ back → (s : State) → FitsIn t partners before s
+      → Ends s front (IsLost t)
   -- and after a refresh that was done it shows the virtual screen
-  pub shows : is_shown o answer ≡ true → (s : State) → FitsIn t partners before s → Ends s bytes (Shows t (ink_at t partners v) (wanted_of v before.mode))
+  pub shows : is_shown o answer ≡ true → (s : State) → FitsIn t partners before s
+      → Ends s bytes (Shows t (ink_at t partners v) (wanted_of v before.mode))
   pub last : (last : Screen) → IsLast t partners before last → IsLast t partners after (last_after o answer last v)
-  pub settled : (last_mode : Mode) → IsSettled before last_mode → IsSettled after (mode_after o answer last_mode before.mode)
+  pub settled : (last_mode : Mode) → IsSettled before last_mode
+      → IsSettled after (mode_after o answer last_mode before.mode)
   -- a refresh keeps its bound, done or cut short, and sends nothing where all is shown in a state that fits
-  pub bound : o ≡ Update → (last : Screen) → last.rows ≡ t.rows → last.cols ≡ t.cols → IsLast t partners before last → length bytes ≤ most t before.session.status v.clearok last v
-  pub idle : o ≡ Update → (last : Screen) → last.rows ≡ t.rows → last.cols ≡ t.cols → IsLast t partners before last → (s : State) → IsShown t partners v before last s → length bytes ≡ 0
+  pub bound : o ≡ Update → (last : Screen) → last.rows ≡ t.rows → last.cols ≡ t.cols → IsLast t partners before last
+      → length bytes ≤ most t before.session.status v.clearok last v
+  pub idle : o ≡ Update → (last : Screen) → last.rows ≡ t.rows → last.cols ≡ t.cols → IsLast t partners before last
+      → (s : State) → IsShown t partners v before last s → length bytes ≡ 0
   pub quiet : o ≡ Nothing → length bytes ≡ 0
   -- no call sends more than can be counted
   pub few : length bytes < 2 ^ 60

@@ -14,7 +14,8 @@ use Rattle.cur_play.specs.declared.answers.Answer.TheVariants.{Done, Refused}
 -- as defined, or there was no memory
 pub data Draws (t : Table) (before : Scene) (call : Call) (answer : Answer) (after : Scene) : Type 0 where
   Drawn : (after, answer) ≡ drawn t before call → Draws t before call answer after
-  NoSpace : takes_memory call ≡ true → (drawn t before call).1 ≡ Done → answer ≡ Refused NoMemory → after ≡ before → Draws t before call answer after
+  NoSpace : takes_memory call ≡ true → (drawn t before call).1 ≡ Done → answer ≡ Refused NoMemory → after ≡ before
+      → Draws t before call answer after
 
 pub record SameSizes (d : State) (v : Screen) (e : State) (w : Screen) : Type 0 where
   pub desk_rows : e.rows ≡ d.rows

@@ -157,7 +157,8 @@ ShowsScene about scene =
     Shows t (ink_at t about.partners scene.screen) (wanted_of scene.screen scene.mode)
 
 -- One call of a run, from one moment to the next, and its entry in the log.
-pub record Tells {W : Type 0} (about : Subject W) (before : Moment W) (call : Call) (e : LogEntry) (after : Moment W) : Type 0 where
+pub record Tells {W : Type 0} (about : Subject W) (before : Moment W) (call : Call) (e : LogEntry)
+    (after : Moment W) : Type 0 where
   -- the call was done as it is defined, with the answer of the log
   pub step : CallStep about.table before.scene call e.answer after.scene
   -- what went out in it; the log's number is that of all bytes since the run began

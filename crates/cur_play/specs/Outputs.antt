@@ -23,31 +23,45 @@ pub record IsQuiet {W C : Type 0} (old new : W) (bytes : List ℕ) (before after
   pub shown : after.shown ≡ before.shown
 
 -- what shows this virtual screen, which is then the one shown last
-pub record Showed {W C : Type 0} (went : W → W → List ℕ → Type 0) (old new : W) (t : Table) (partners : ℕ → Option ℕ) (v : Screen) (bytes : List ℕ) (before after : Painted C) : Type 0 where
-  pub refreshed : Refreshed went old new t (ink_at t partners before.shown) (ink_at t partners v) (wanted_of v before.mode) before.session after.session
+pub record Showed {W C : Type 0} (went : W → W → List ℕ → Type 0) (old new : W) (t : Table) (partners : ℕ → Option ℕ)
+    (v : Screen) (bytes : List ℕ) (before after : Painted C) : Type 0 where
+  pub refreshed : Refreshed went old new t (ink_at t partners before.shown) (ink_at t partners v)
+      (wanted_of v before.mode) before.session after.session
   pub all : bytes ≡ refreshed.bytes
   pub shown : after.shown ≡ v
 
 -- only a front of that
-pub record ShowedShort {W C : Type 0} (went : W → W → List ℕ → Type 0) (failures : W → ℕ) (old new : W) (t : Table) (partners : ℕ → Option ℕ) (v : Screen) (bytes : List ℕ) (before after : Painted C) : Type 0 where
-  pub cut : CutShort went failures old new t (ink_at t partners before.shown) (ink_at t partners v) (wanted_of v before.mode) before.session after.session
+pub record ShowedShort {W C : Type 0} (went : W → W → List ℕ → Type 0) (failures : W → ℕ) (old new : W) (t : Table)
+    (partners : ℕ → Option ℕ) (v : Screen) (bytes : List ℕ) (before after : Painted C) : Type 0 where
+  pub cut : CutShort went failures old new t (ink_at t partners before.shown) (ink_at t partners v)
+      (wanted_of v before.mode) before.session after.session
   pub all : bytes ≡ cut.front
   pub shown : after.shown ≡ before.shown
 
--- the bell, and the end of the program's screen: beside what is sent nothing but what is known of the terminal has changed
-pub record Told {C : Type 0} (Sends : Type 0) (sent : Sends → List ℕ) (bytes : List ℕ) (before after : Painted C) : Type 0 where
+-- the bell, and the end of the program's screen: beside what is sent nothing but what is known of the terminal has
+-- changed
+pub record Told {C : Type 0} (Sends : Type 0) (sent : Sends → List ℕ) (bytes : List ℕ)
+    (before after : Painted C) : Type 0 where
   pub sends : Sends
   pub all : bytes ≡ sent sends
   pub shown : after.shown ≡ before.shown
 
 -- by what is to be sent, and by the answer; v is the virtual screen as it was when the sending began
-abbrev pub Puts : {W C : Type 0} → (W → W → List ℕ → Type 0) → (W → ℕ) → W → W → Table → (ℕ → Option ℕ) → Screen → Emission → Answer → List ℕ → Painted C → Painted C → Type 0
-Puts went failures old new t partners v Update Done bytes before after = Showed went old new t partners v bytes before after
-Puts went failures old new t partners v Update WireFailed bytes before after = ShowedShort went failures old new t partners v bytes before after
-Puts went failures old new t partners v Bell Done bytes before after = Told (Rang went old new t before.session after.session) (λ x. x.line) bytes before after
-Puts went failures old new t partners v Bell WireFailed bytes before after = Told (RangShort went failures old new t before.session after.session) (λ x. x.front) bytes before after
-Puts went failures old new t partners v End Done bytes before after = Told (Finished went old new t before.session after.session) (λ x. finish_text t before.session.status) bytes before after
-Puts went failures old new t partners v End WireFailed bytes before after = Told (FinishedShort went failures old new t before.session after.session) (λ x. x.front) bytes before after
+abbrev pub Puts : {W C : Type 0} → (W → W → List ℕ → Type 0) → (W → ℕ) → W → W → Table → (ℕ → Option ℕ) → Screen
+    → Emission → Answer → List ℕ → Painted C → Painted C → Type 0
+Puts went failures old new t partners v Update Done bytes before after =
+    Showed went old new t partners v bytes before after
+Puts went failures old new t partners v Update WireFailed bytes before after =
+    ShowedShort went failures old new t partners v bytes before after
+Puts went failures old new t partners v Bell Done bytes before after =
+    Told (Rang went old new t before.session after.session) (λ x. x.line) bytes before after
+Puts went failures old new t partners v Bell WireFailed bytes before after =
+    Told (RangShort went failures old new t before.session after.session) (λ x. x.front) bytes before after
+Puts went failures old new t partners v End Done bytes before after =
+    Told (Finished went old new t before.session after.session)
+    (λ x. finish_text t before.session.status) bytes before after
+Puts went failures old new t partners v End WireFailed bytes before after =
+    Told (FinishedShort went failures old new t before.session after.session) (λ x. x.front) bytes before after
 Puts went failures old new t partners v o answer bytes before after = IsQuiet old new bytes before after
 
 -- the painter when the sending begins

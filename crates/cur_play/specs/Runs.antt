@@ -5,6 +5,7 @@ use Rattle.cur_calls.specs.declared.calls.Call.{Call}
 use Rattle.cur_play.specs.Log.{Ran, Subject}
 use Rattle.cur_play.specs.declared.runs.LogEntry.{LogEntry}
 
-pub record RanOn {W : Type 0} (about : Subject W) (old new : MutBor W) (calls : List Call) (log : List LogEntry) : Type 0 where
+pub record RanOn {W : Type 0} (about : Subject W) (old new : MutBor W) (calls : List Call)
+    (log : List LogEntry) : Type 0 where
   pub ran : Ran about old.now new.now calls log
   pub same : new.ghost_name ≡ old.ghost_name

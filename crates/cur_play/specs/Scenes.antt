@@ -1,5 +1,5 @@
--- A session: windows, the virtual screen, the mode of the cursor, and what is known of the terminal (X/Open Curses Issue 7,
--- initscr, refresh, curs_set).
+-- A session: windows, the virtual screen, the mode of the cursor, and what is known of the terminal (X/Open Curses
+-- Issue 7, initscr, refresh, curs_set).
 use Rattle.std.specs.Prelude.{◌≡◌}
 use Rattle.cur_windows.specs.Desks.{State, new_desk}
 use Rattle.cur_windows.specs.VirtualScreen.{Screen, new_screen}

@@ -17,7 +17,8 @@ pub record Leaves (v : Screen) (left : Status) (w : Screen) (after : Status) : T
   pub status : after ≡ left
 
 -- the same, of a bell that answers so
-pub record LeavesRung (t : Table) (v : Screen) (before : Status) (a : Answer) (status : Status) (w : Screen) (after : Status) : Type 0 where
+pub record LeavesRung (t : Table) (v : Screen) (before : Status) (a : Answer) (status : Status) (w : Screen)
+    (after : Status) : Type 0 where
   pub answers : rung (has t Bel) before ≡ a
   pub leaves : Leaves v status w after
 

@@ -50,7 +50,8 @@ on_mode s x = (record s { mode = x.0 }, mode_answer x.1)
 -- the calls on more than windows; those that only send draw nothing
 abbrev pub showing : Table → Scene → Call → Step
 showing t s (Show k n) = on_both s (screens.noutrefresh s.desk s.screen n)
-showing t s (ShowPad k n row col top left bottom right) = on_both s (pnoutrefresh s.desk s.screen n row col top left bottom right)
+showing t s (ShowPad k n row col top left bottom right) =
+    on_both s (pnoutrefresh s.desk s.screen n row col top left bottom right)
 showing t s (CursSet n) = on_mode s (set_mode t n s.mode)
 showing t s (InitPair p f b) = on_screen s (screens.init_pair p f b s.screen)
 showing t s _ = (s, Done)
@@ -99,9 +100,12 @@ abbrev pub is_sent : Emission → Bool
 is_sent Nothing = false
 is_sent _ = true
 
--- One call: it is as defined; or there was no memory for what it makes; or the wire failed, and then what was copied stands.
+-- One call: it is as defined; or there was no memory for what it makes; or the wire failed, and then what was copied
+-- stands.
 pub data CallStep (t : Table) (before : Scene) (call : Call) (answer : Answer) (after : Scene) : Type 0 where
   Stepped : (after, answer) ≡ call_step t before call → CallStep t before call answer after
-  NoRoom : takes_memory call ≡ true → (call_step t before call).1 ≡ Done → answer ≡ Refused NoMemory → after ≡ before → CallStep t before call answer after
-  Failed : is_sent (output_of call) ≡ true → (call_step t before call).1 ≡ Done → answer ≡ WireFailed → after ≡ record (drawn t before call).0 { status = Lost }
+  NoRoom : takes_memory call ≡ true → (call_step t before call).1 ≡ Done → answer ≡ Refused NoMemory → after ≡ before
+      → CallStep t before call answer after
+  Failed : is_sent (output_of call) ≡ true → (call_step t before call).1 ≡ Done → answer ≡ WireFailed
+      → after ≡ record (drawn t before call).0 { status = Lost }
       → CallStep t before call answer after

@@ -1,5 +1,5 @@
--- What the calls on windows alone do (X/Open Curses Issue 7, the reference pages of the calls named): each is the equation
--- of the window library.
+-- What the calls on windows alone do (X/Open Curses Issue 7, the reference pages of the calls named): each is the
+-- equation of the window library.
 use Rattle.std.specs.Prelude.{ℕ, ℤ, ◌-◌, Bool, true, false, Option, Some, None, bit_and, bit_or}
 use Rattle.cur_drawing.specs.declared.cells.Attrs.{Attrs}
 use Rattle.cur_drawing.specs.declared.puts.Put.{Put}
@@ -103,7 +103,8 @@ shaping d (Line k n p x) = Some (line_step k d n p x)
 shaping d (DrawBorder n b) = Some (on_grid d n (call.bordered b))
 shaping d (DrawBox n v h) = Some (on_grid d n (call.bordered (call.box_of v h)))
 shaping d (Lay k s t) = Some (copy.common_part (skips k) d s t)
-shaping d (Copywin s t from_row from_col row col last_row last_col skip) = Some (copy.copywin d s t from_row from_col row col last_row last_col skip)
+shaping d (Copywin s t from_row from_col row col last_row last_col skip) =
+    Some (copy.copywin d s t from_row from_col row col last_row last_col skip)
 shaping d _ = None
 
 -- the calls that change windows, or delete one

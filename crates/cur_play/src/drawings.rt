@@ -21,8 +21,20 @@ pub(crate) fn draw<C: Certificate>(
 ) -> Answer
     requires rows { (screen.old).rows ≡ (desk.old).rows }
     requires cols { (screen.old).cols ≡ (desk.old).cols }
-    ensures draws { Draws (C.table painter.old.checked) (record { desk = desk.old; screen = screen.old; mode = painter.old.mode; status = painter.old.session.status }) call.now result
-        (record { desk = desk.new; screen = screen.new; mode = painter.new.mode; status = painter.old.session.status }) }
+    ensures draws { Draws (C.table painter.old.checked)
+        (record {
+          desk = desk.old;
+          screen = screen.old;
+          mode = painter.old.mode;
+          status = painter.old.session.status;
+        })
+        call.now result
+        (record {
+          desk = desk.new;
+          screen = screen.new;
+          mode = painter.new.mode;
+          status = painter.old.session.status;
+        }) }
     ensures sizes { SameSizes desk.old screen.old desk.new screen.new }
     ensures rows { (screen.new).rows ≡ (screen.old).rows }
     ensures cols { (screen.new).cols ≡ (screen.old).cols }
@@ -47,8 +59,13 @@ fn show<C: Certificate>(
 ) -> Answer
     requires rows { (screen.old).rows ≡ (desk.old).rows }
     requires cols { (screen.old).cols ≡ (desk.old).cols }
-    ensures step { (record { desk = desk.new; screen = screen.new; mode = painter.new.mode; status = painter.old.session.status }, result)
-        ≡ showing (C.table painter.old.checked) (record { desk = desk.old; screen = screen.old; mode = painter.old.mode; status = painter.old.session.status }) call.now }
+    ensures step { (
+      record { desk = desk.new; screen = screen.new; mode = painter.new.mode; status = painter.old.session.status },
+      result,
+    )
+        ≡ showing (C.table painter.old.checked)
+        (record { desk = desk.old; screen = screen.old; mode = painter.old.mode; status = painter.old.session.status })
+        call.now }
     ensures painter { painter.new ≡ record painter.old { mode = painter.new.mode } }
 {
     match call {

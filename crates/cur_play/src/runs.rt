@@ -30,7 +30,7 @@ pub struct Log {
 /// Plays `calls`, one after another, on `wire`, in a session of their own on the terminal of `checked`. Whatever they
 /// are, and wherever the wire fails: each call is done as it is defined and sends what it is to send, or a front of
 /// that where the wire failed in it; the terminal takes all of it; and each refresh that was done has made a terminal
-/// in its first state show the virtual screen, fed with the first bytes of the run, as many as its entry tells. An
+/// in its first state show the virtual screen, fed with the first bytes of the run, as many as its entry says. An
 /// error where there was no memory for the session or the log; then nothing was sent.
 pub fn run<C: Certificate + Drop, W: Wire>(
     alloc: Global,
@@ -46,7 +46,7 @@ pub fn run<C: Certificate + Drop, W: Wire>(
     run_direct(alloc, checked, calls, &mut direct)
 }
 
-/// A run on a wire behind a reference.
+/// A run on a borrowed wire.
 fn run_direct<C: Certificate + Drop, W: Wire>(
     alloc: Global,
     checked: C,

@@ -33,7 +33,8 @@ impl<C: Certificate> Model for Session<C> {
 
     ghost view = { λ s. record { desk = s.desk; screen = s.screen; painter = s.painter } };
 
-    ghost invariant = { λ s. IsStage (C.table s.painter.checked) s.desk s.screen × IsChecked (C.table s.painter.checked) };
+    ghost invariant = { λ s. IsStage (C.table s.painter.checked) s.desk s.screen
+        × IsChecked (C.table s.painter.checked) };
 }
 
 impl<C: Certificate> Session<C> {
@@ -70,9 +71,9 @@ impl<C: Certificate> Session<C> {
         &self.desk
     }
 
-    /// Does a call. `newwin`, `newpad` and `dupwin` take memory, and are refused with `NoMemory` where there is none; all
-    /// other calls take none. On `WireFailed` a front of what the call sends went out, what was copied to the virtual
-    /// screen stands, and the session is lost.
+    /// Does a call. `newwin`, `newpad` and `dupwin` take memory, and are refused with `NoMemory` where there is none;
+    /// all other calls take none. On `WireFailed` a front of what the call sends went out, what was copied to the
+    /// virtual screen stands, and the session is lost.
     pub fn call<W: Wire>(&mut self, call: &Call<'_>, wire: &mut W) -> Answer
         ensures step { CallStep (C.table self.old.painter.checked) (scene_of self.old) call.now result
             (scene_of self.new) }

@@ -17,7 +17,7 @@ edge x = if x.up then x.bottom else x.top
 abbrev pub scroll_row : Scroll → Row
 scroll_row x = if x.up then Ind else Ri
 
--- the region's lines so many lines further up or down, blank ones where there is none to come, and all others as they
+-- the region's lines this many lines further up or down, blank ones where there is none to come, and all others as they
 -- were
 abbrev pub shifted : Scroll → (ℕ → ℕ → Ink) → ℕ → ℕ → Ink
 shifted x g i j =
@@ -31,8 +31,8 @@ abbrev pub cell_of : (ℕ → ℕ → Ink) → Option ℕ → ℕ → Ink
 cell_of g None j = blank_ink
 cell_of g (Some i) j = g i j
 
--- the region is two lines of the screen or more, and there are lines for its margins, for those of the whole screen, and
--- for a scroll that way
+-- the region is two lines of the screen or more, and there are lines for its margins, for those of the whole screen,
+-- and for a scroll that way
 pub record CanScroll (t : Table) (x : Scroll) : Type 0 where
   pub region : x.top < x.bottom
   pub bottom : x.bottom < t.rows

@@ -16,7 +16,8 @@ Declines old new NoCap t before after = (has t Bel ≡ false) × IsSame old new 
 Declines old new IsLost t before after = (has t Bel ≡ true) × (before.status ≡ Lost) × IsSame old new before after
 Declines old new _ t before after = ⊥
 
-abbrev pub Rings : {W T : Type 0} → (W → W → List ℕ → Type 0) → (W → ℕ) → W → W → Result T Unsent → Table → Knowledge → Knowledge → Type 0
+abbrev pub Rings : {W T : Type 0} → (W → W → List ℕ → Type 0) → (W → ℕ) → W → W → Result T Unsent → Table → Knowledge
+    → Knowledge → Type 0
 Rings went failures old new (Ok x) t before after = Rang went old new t before after
 Rings went failures old new (Err (Refused r)) t before after = Declines old new r t before after
 Rings went failures old new (Err (Wire e)) t before after = RangShort went failures old new t before after

@@ -17,7 +17,9 @@ abbrev pub same_character : Content → Content → Bool
 same_character c d = (c.byte == d.byte) && (c.attrs == d.attrs)
 
 abbrev pub same_at : Screen → Screen → ℕ → ℕ → Bool
-same_at v w i j = same_character (content_at v i j) (content_at w i j) && same_colors (colors_at v (content_at v i j).pair) (colors_at w (content_at w i j).pair)
+same_at v w i j =
+    same_character (content_at v i j) (content_at w i j)
+    && same_colors (colors_at v (content_at v i j).pair) (colors_at w (content_at w i j).pair)
 
 -- in one place: none or one
 abbrev pub cells_differ : Screen → Screen → ℕ → ℕ → ℕ

@@ -36,7 +36,12 @@ color_of colored None = None
 color_of colored (Some n) = if colored then Some (color n) else None
 
 abbrev pub brush_of : Bool → Colors → Content → Brush
-brush_of colored p c = record { attributes = attributes_of c.attrs; foreground = color_of colored p.foreground; background = color_of colored p.background }
+brush_of colored p c =
+    record {
+      attributes = attributes_of c.attrs;
+      foreground = color_of colored p.foreground;
+      background = color_of colored p.background;
+    }
 
 -- a partner counts where the entry has the strings for the graphic set, and the partner can be printed
 abbrev pub partner_in : Bool → Option ℕ → Option ℕ
@@ -44,7 +49,8 @@ partner_in graphic partner = if graphic then printed_only partner else None
 
 -- a cell of the alternate set shows its letter's partner, or what stands for it; any other shows its byte
 abbrev pub character_of : Bool → (ℕ → Option ℕ) → Content → Character
-character_of graphic partners c = if has_bit c.attrs 128 then shown (partner_in graphic (partners c.byte)) c.byte else in_plain_set c.byte
+character_of graphic partners c =
+    if has_bit c.attrs 128 then shown (partner_in graphic (partners c.byte)) c.byte else in_plain_set c.byte
 
 abbrev pub means_of : Table → Means
 means_of t = record { graphic = has t Smacs; colored = has t Op }
@@ -69,7 +75,10 @@ content_at v i j = slice_index_or (line_at v.grid i) j space
 
 -- the virtual screen as it is printed, and blanks around it
 abbrev pub ink_at_with : Means → (ℕ → Option ℕ) → Screen → ℕ → ℕ → Ink
-ink_at_with m partners v i j = if nat_lt i v.rows && nat_lt j v.cols then ink_with m partners (colors_at v (content_at v i j).pair) (content_at v i j) else blank_ink
+ink_at_with m partners v i j =
+    if nat_lt i v.rows && nat_lt j v.cols
+    then ink_with m partners (colors_at v (content_at v i j).pair) (content_at v i j)
+    else blank_ink
 
 abbrev pub ink_at : Table → (ℕ → Option ℕ) → Screen → ℕ → ℕ → Ink
 ink_at t partners v i j = ink_at_with (means_of t) partners v i j

@@ -1,5 +1,5 @@
--- A painter as its caller sees it: its certificate, the screen that was shown last, what is known of the terminal, and the
--- cursor's mode that was set last (X/Open Curses Issue 7, refresh, curs_set, beep).
+-- A painter as its caller sees it: its certificate, the screen that was shown last, what is known of the terminal, and
+-- the cursor's mode that was set last (X/Open Curses Issue 7, refresh, curs_set, beep).
 use Rattle.std.specs.Prelude.{ℕ, ℤ, ◌≡◌, ◌==◌, ◌&&◌, Bool, Option, Some, None, Result, Ok, Err, if◌then◌else◌}
 use Rattle.grids.specs.declared.areas.Place.{Place as ScreenPlace}
 use Rattle.ti_rows.specs.declared.rows.Row.TheVariants.{Civis, Cnorm}

@@ -7,7 +7,8 @@ use Rattle.cur_looks.specs.declared.inks.Ink.{Ink}
 use Rattle.cur_paint.specs.declared.changes.Columns.{Columns}
 use Rattle.cur_update.specs.Inks.{ink_at}
 
-pub record IsShift (t : Table) (partners : ℕ → Option ℕ) (v w : Screen) (same_pairs : Bool) (old new : ℕ → ℕ → Ink) : Type 0 where
+pub record IsShift (t : Table) (partners : ℕ → Option ℕ) (v w : Screen) (same_pairs : Bool)
+    (old new : ℕ → ℕ → Ink) : Type 0 where
   pub before : old ≡ ink_at t partners v
   pub after : new ≡ ink_at t partners w
   pub pairs : same_pairs ≡ true → (p : ℕ) → p < pair_count → colors_at v p ≡ colors_at w p

@@ -23,12 +23,13 @@ pub(crate) struct Shift<'a, C> {
 }
 
 impl<'a, C: Certificate> Shift<'a, C> {
-    /// The columns in which the line `to` of the screen may be printed otherwise than the line `from` of the one that was
-    /// shown last.
+    /// The columns in which the line `to` of the screen may be printed otherwise than the line `from` of the one that
+    /// was shown last.
     fn columns_between(&self, from: usize, to: usize, cols: usize) -> Columns
         ensures order { result.from ≤ result.end }
         ensures within { result.end ≤ cols }
-        ensures same { (old new : ℕ → ℕ → Ink) → IsShift (C.table self.now.checked.now) (C.partners self.now.checked.now)
+        ensures same { (old new : ℕ → ℕ → Ink)
+            → IsShift (C.table self.now.checked.now) (C.partners self.now.checked.now)
             self.now.shown.now self.now.screen.now self.now.same_pairs old new
             → AreAlikeOutside old new from to result.from result.end cols }
     {
@@ -47,7 +48,8 @@ impl<'a, C: Certificate> Shift<'a, C> {
     /// Finds for each line the columns in which it may be printed otherwise.
     pub(crate) fn find(&self, columns: &mut [Columns], cols: usize)
         ensures long { length columns.new ≡ length columns.old }
-        ensures found { (old new : ℕ → ℕ → Ink) → IsShift (C.table self.now.checked.now) (C.partners self.now.checked.now)
+        ensures found { (old new : ℕ → ℕ → Ink)
+            → IsShift (C.table self.now.checked.now) (C.partners self.now.checked.now)
             self.now.shown.now self.now.screen.now self.now.same_pairs old new
             → AreFound columns.new (length columns.new) cols old new }
     {

@@ -16,17 +16,22 @@ use Rattle.cur_windows.specs.VirtualScreen.{area_on_screen}
 
 -- where the lines and columns lie in the destination's grid, and where they come from in the source's
 abbrev pub target_area : Slot → CopySpan → CopySpan → Area
-target_area t v h = record { top = t.window.area.top + v.to; left = t.window.area.left + h.to; rows = v.count; cols = h.count }
+target_area t v h =
+    record { top = t.window.area.top + v.to; left = t.window.area.left + h.to; rows = v.count; cols = h.count }
 
 abbrev pub source_place : Slot → CopySpan → CopySpan → Place
 source_place s v h = place (s.window.area.top + v.from) (s.window.area.left + h.from)
 
 abbrev pub spans_copied : State → Slot → Slot → CopySpan → CopySpan → Bool → State
 spans_copied d s t v h skip =
-    record d { grids = slice_set d.grids t.root (overlaid (target_area t v h) (source_place s v h) skip (grid_at d s.root) (grid_at d t.root)) }
+    record d {
+      grids = slice_set d.grids t.root
+          (overlaid (target_area t v h) (source_place s v h) skip (grid_at d s.root) (grid_at d t.root));
+    }
 
 -- where there are such lines and columns they are copied, else nothing is done and this is the answer
-abbrev pub copied_or : Result (Unit {0}) Refusal → State → Slot → Slot → Bool → Option CopySpan → Option CopySpan → DeskStep
+abbrev pub copied_or : Result (Unit {0}) Refusal → State → Slot → Slot → Bool → Option CopySpan → Option CopySpan
+    → DeskStep
 copied_or otherwise d s t skip (Some v) (Some h) = (spans_copied d s t v h skip, Ok tt)
 copied_or otherwise d s t skip (Some v) None = (d, otherwise)
 copied_or otherwise d s t skip None h = (d, otherwise)
@@ -50,6 +55,8 @@ in_order top bottom left right = if int_lt bottom top || int_lt right left then 
 -- copywin: into the destination's rows dr to er and columns dc to ec
 abbrev pub copywin : State → ℕ → ℕ → ℤ → ℤ → ℤ → ℤ → ℤ → ℤ → Bool → DeskStep
 copywin d n m sr sc dr dc er ec skip =
-    after (in_range n m) d (λ u. after (slot_of d n) d (λ s. after (slot_of d m) d (λ t. after (in_order dr er dc ec) d (λ u.
+    after (in_range n m) d (λ u. after (slot_of d n) d (λ s. after (slot_of d m) d (λ t.
+    after (in_order dr er dc ec) d (λ u.
     copied_or (Err OutOfWindow) d s t skip
-    (matched sr dr er s.window.area.rows t.window.area.rows) (matched sc dc ec s.window.area.cols t.window.area.cols)))))
+    (matched sr dr er s.window.area.rows t.window.area.rows)
+    (matched sc dc ec s.window.area.cols t.window.area.cols)))))

@@ -40,7 +40,11 @@ inside outer a = record a { top = outer.top + a.top; left = outer.left + a.left 
 
 -- window n is made as a part of another one
 abbrev pub subwindow_added : State → ℕ → ℕ → Slot → Area → State
-subwindow_added d n parent s a = record d { windows = slice_set d.windows n (Some (record { root = s.root; parent = Some parent; window = fresh (inside s.window.area a) })) }
+subwindow_added d n parent s a =
+    record d {
+      windows = slice_set d.windows n
+          (Some (record { root = s.root; parent = Some parent; window = fresh (inside s.window.area a) }));
+    }
 
 -- a window that is no pad
 abbrev pub window_only : State → Slot → Result (Unit {0}) Refusal
@@ -53,7 +57,8 @@ in_range n w = if nat_lt last_number n || nat_lt last_number w then Err Full els
 -- a part of window w, at a place that counts from (top, left) of it
 abbrev pub subwindow_at : State → ℕ → ℕ → Slot → ℤ → ℤ → ℤ → ℤ → DeskStep
 subwindow_at d n w s lines cols y x =
-    after (area_within s.window.area.rows s.window.area.cols lines cols y x OutOfWindow) d (λ a. (subwindow_added d n w s a, Ok tt))
+    after (area_within s.window.area.rows s.window.area.cols lines cols y x OutOfWindow) d (λ a.
+    (subwindow_added d n w s a, Ok tt))
 
 -- derwin: the place counts from the window's corner
 abbrev pub derwin : State → ℕ → ℕ → ℤ → ℤ → ℤ → ℤ → DeskStep
@@ -118,11 +123,16 @@ copy_origin d s = if (origin_at d s.root).pad then on_screen 0 0 true else on_sc
 
 -- the copy's grid: the window's cells
 abbrev pub copy_grid : State → Slot → Grid
-copy_grid d s = copied (whole_area s.window.area.rows s.window.area.cols) (place s.window.area.top s.window.area.left) (grid_at d s.root)
+copy_grid d s =
+    copied (whole_area s.window.area.rows s.window.area.cols) (place s.window.area.top s.window.area.left)
+    (grid_at d s.root)
     (blank s.window.area.rows s.window.area.cols)
 
 -- dupwin: a window of its own with the same cells, cursor, attributes, background and options
 abbrev pub dupwin : State → ℕ → ℕ → DeskStep
 dupwin d n w =
-    after (in_range n w) d (λ u. after (free d n) d (λ u. after (slot_of d w) d (λ s.
-    (root_added d n (copy_grid d s) (copy_origin d s) (record s.window { area = whole_area s.window.area.rows s.window.area.cols }), Ok tt))))
+    after (in_range n w) d (λ u. after (free d n) d (λ u. after (slot_of d w) d (λ s. (
+      root_added d n (copy_grid d s) (copy_origin d s)
+          (record s.window { area = whole_area s.window.area.rows s.window.area.cols }),
+      Ok tt,
+    ))))

@@ -101,7 +101,8 @@ with_canvas d n s t = record (with_window d n s t.window) { grids = slice_set d.
 
 -- a call on one window and the grid under it
 abbrev pub on_window : State → ℕ → (Canvas → CanvasStep) → DeskStep
-on_window d n act = after (slot_of d n) d (λ s. let t = act (canvas (grid_at d s.root) s.window) in (with_canvas d n s t.0, t.1))
+on_window d n act =
+    after (slot_of d n) d (λ s. let t = act (canvas (grid_at d s.root) s.window) in (with_canvas d n s t.0, t.1))
 
 -- a call that changes only the grid
 abbrev pub on_grid : State → ℕ → (Canvas → CanvasStep) → DeskStep

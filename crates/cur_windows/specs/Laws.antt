@@ -7,7 +7,8 @@ use Rattle.cur_windows.specs.Desks.{State, DeskStep, grid_at, window_at}
 
 -- from one desk to the other no cell outside window n's rectangle has changed, and no other window
 pub record OnlyWithin (d e : State) (n : ℕ) (s : Slot) : Type 0 where
-  pub cells : (k i j : ℕ) → (k ≢ s.root) ⊎ (is_in s.window.area i j ≡ false) → cell_at (grid_at e k) i j ≡ cell_at (grid_at d k) i j
+  pub cells : (k i j : ℕ) → (k ≢ s.root) ⊎ (is_in s.window.area i j ≡ false)
+      → cell_at (grid_at e k) i j ≡ cell_at (grid_at d k) i j
   pub windows : (m : ℕ) → m ≢ n → window_at e m ≡ window_at d m
 
 -- two windows have no cell in common

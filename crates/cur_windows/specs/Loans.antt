@@ -11,8 +11,12 @@ use Rattle.cur_windows.specs.declared.rows.RowMut.{RowMut}
 
 -- the desk ends with what is left after r in line i of grid k from column j on
 abbrev pub LendsPart : MutBor State → ℕ → ℕ → ℕ → MutBor (List Content) → Fml
-LendsPart d k i j r = Lends desk_row (Array cell_row 0) d r (λ cells. record d.now { grids = slice_set d.now.grids k (part_written i j cells (grid_at d.now k)) })
+LendsPart d k i j r =
+    Lends desk_row (Array cell_row 0) d r (λ cells.
+    record d.now { grids = slice_set d.now.grids k (part_written i j cells (grid_at d.now k)) })
 
 -- the desk ends with what is left after r in the lent line
 abbrev pub LendsLine : RowMut → MutBor (List Content) → Fml
-LendsLine line r = follows desk_row (Array cell_row 0) line.desk.ghost_name r.ghost_name (λ cells. row_written line.desk.now line.slot line.row cells)
+LendsLine line r =
+    follows desk_row (Array cell_row 0) line.desk.ghost_name r.ghost_name (λ cells.
+    row_written line.desk.now line.slot line.row cells)

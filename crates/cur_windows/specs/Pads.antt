@@ -32,5 +32,6 @@ pad_added d n rows cols = root_added d n (blank rows cols) (on_screen 0 0 true) 
 abbrev pub part_shown : State → Screen → ℕ → Slot → Area → Place → State × Screen
 part_shown d v n s part to = (
   with_window d n s (record s.window { clears = false }),
-  shown (moved_to part to) (grid_at d s.root) (place (s.window.area.top + part.top) (s.window.area.left + part.left)) (part_cursor s.window part to) s.window.clears v,
+  shown (moved_to part to) (grid_at d s.root) (place (s.window.area.top + part.top) (s.window.area.left + part.left))
+      (part_cursor s.window part to) s.window.clears v,
 )

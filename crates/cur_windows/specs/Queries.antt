@@ -26,7 +26,11 @@ cell_of d n = asked (λ s. cell d s s.window.row s.window.col) (slot_of d n)
 
 -- a pad lies nowhere on the screen
 abbrev pub corner : State → Slot → Option Place
-corner d s = if (origin_at d s.root).pad then None else Some (record { row = (origin_at d s.root).top + s.window.area.top; col = (origin_at d s.root).left + s.window.area.left })
+corner d s =
+    if (origin_at d s.root).pad then None else Some (record {
+      row = (origin_at d s.root).top + s.window.area.top;
+      col = (origin_at d s.root).left + s.window.area.left;
+    })
 
 -- the place of a window's corner on the screen
 abbrev pub corner_of : State → ℕ → Result (Option Place) Refusal

@@ -31,7 +31,10 @@ lent_of (Err e) = Err e
 -- the cells of line y of the window became these, and nothing else has changed
 abbrev pub row_written : State → Slot → ℕ → List Content → State
 row_written d s y cells =
-    record d { grids = slice_set d.grids s.root (part_written (s.window.area.top + y) s.window.area.left cells (grid_at d s.root)) }
+    record d {
+      grids = slice_set d.grids s.root
+          (part_written (s.window.area.top + y) s.window.area.left cells (grid_at d s.root));
+    }
 
 -- the places of that line's first n cells
 abbrev pub line_area : Slot → ℕ → ℕ → Area
@@ -40,7 +43,10 @@ line_area s y n = record { top = s.window.area.top + y; left = s.window.area.lef
 -- the cell at place y x of the window became c, and nothing else has changed
 abbrev pub place_written : State → Slot → ℕ → ℕ → Content → State
 place_written d s y x c =
-    record d { grids = slice_set d.grids s.root (filled (one (s.window.area.top + y) (s.window.area.left + x)) c (grid_at d s.root)) }
+    record d {
+      grids = slice_set d.grids s.root
+          (filled (one (s.window.area.top + y) (s.window.area.left + x)) c (grid_at d s.root));
+    }
 
 -- a desk after a cell was written through a line, if there is such a line
 abbrev pub written_through : Result Slot Refusal → State → ℕ → ℕ → Content → State

@@ -1,4 +1,5 @@
--- The virtual screen: what the terminal is to show (X/Open Curses Issue 7, noutrefresh, doupdate; "Color Manipulation").
+-- The virtual screen: what the terminal is to show (X/Open Curses Issue 7, noutrefresh, doupdate; "Color
+-- Manipulation").
 use Rattle.std.specs.Prelude.{◌≡◌, ℕ, ◌+◌, ◌<◌, ◌||◌, ◌==◌, List, length, slice_index_or, slice_set, replicate, Bool, false, Option, Some, None, IfSome, Result, Ok, Err, if◌then◌else◌, ℤ}
 use Rattle.grids.specs.declared.areas.Area.{Area}
 use Rattle.grids.specs.declared.areas.Place.{Place}
@@ -54,7 +55,8 @@ refreshed v = record v { clearok = false }
 
 abbrev pub initialized : Option ℕ → Option ℕ → Option ℕ → Screen → Screen × Result (Unit {0}) Refusal
 initialized (Some p) (Some f) (Some b) v =
-    if p == 0 then (v, Err BadPair) else (record v { pairs = slice_set v.pairs p (record { foreground = Some f; background = Some b }) }, Ok tt)
+    if p == 0 then (v, Err BadPair)
+    else (record v { pairs = slice_set v.pairs p (record { foreground = Some f; background = Some b }) }, Ok tt)
 initialized (Some p) (Some f) None v = (v, Err BadPair)
 initialized (Some p) None b v = (v, Err BadPair)
 initialized None f b v = (v, Err BadPair)
@@ -65,14 +67,17 @@ init_pair p f b v = initialized (place_below p pair_count) (place_below f 8) (pl
 
 -- a rectangle of the screen gets the cells of a grid from a place on
 abbrev pub shown : Area → Grid → Place → Option Place → Bool → Screen → Screen
-shown area g from cursor clears v = record v { grid = copied area from g v.grid; cursor = cursor; clearok = v.clearok || clears }
+shown area g from cursor clears v =
+    record v { grid = copied area from g v.grid; cursor = cursor; clearok = v.clearok || clears }
 
 -- the rectangle of a window on the screen, and where its cursor stands there
 abbrev pub area_on_screen : State → Slot → Area
-area_on_screen d s = record { top = (corner d s).0; left = (corner d s).1; rows = s.window.area.rows; cols = s.window.area.cols }
+area_on_screen d s =
+    record { top = (corner d s).0; left = (corner d s).1; rows = s.window.area.rows; cols = s.window.area.cols }
 
 abbrev pub cursor_on_screen : State → Slot → Option Place
-cursor_on_screen d s = if s.window.leaves then None else Some (place ((corner d s).0 + s.window.row) ((corner d s).1 + s.window.col))
+cursor_on_screen d s =
+    if s.window.leaves then None else Some (place ((corner d s).0 + s.window.row) ((corner d s).1 + s.window.col))
 
 -- the desk and the screen after, and the answer
 abbrev pub Refresh : Type 0
@@ -89,6 +94,7 @@ if_shown (Err e) d v next = (d, v, Err e)
 abbrev pub noutrefresh : State → Screen → ℕ → Refresh
 noutrefresh d v n = if_shown (slot_of d n) d v (λ s. if_shown (window_only d s) d v (λ u. (
   with_window d n s (record s.window { clears = false }),
-  shown (area_on_screen d s) (grid_at d s.root) (place s.window.area.top s.window.area.left) (cursor_on_screen d s) s.window.clears v,
+  shown (area_on_screen d s) (grid_at d s.root) (place s.window.area.top s.window.area.left)
+      (cursor_on_screen d s) s.window.clears v,
   Ok tt,
 )))

@@ -133,7 +133,7 @@ impl Desk {
 
     /// A string at the cursor. It stops at its first refusal, and what was written before stands. At `NoScroll` the
     /// byte at which it stopped was written too, and the cursor stays in the cell that was written last. The answer
-    /// doesn't tell how many bytes that were: of a string without controls, as many as there were cells from the
+    /// doesn't say how many bytes that were: of a string without controls, as many as there were cells from the
     /// cursor to the window's last one. A window that is as wide as the screen and scrolls then leaves a hint, as
     /// `scroll` does.
     pub fn addstr(&mut self, id: usize, text: &[u8]) -> Result<(), Refusal>
@@ -270,8 +270,8 @@ impl Desk {
         slot.window.draw_border(grid, border)
     }
 
-    /// The scrolling region goes up by `n` lines, down if negative. `NoScroll` for a window that may not scroll. Of a window
-    /// that is as wide as the screen the next `noutrefresh` leaves a hint there.
+    /// The scrolling region goes up by `n` lines, down if negative. `NoScroll` for a window that may not scroll. Of a
+    /// window that is as wide as the screen the next `noutrefresh` leaves a hint there.
     pub fn scroll(&mut self, id: usize, n: i32) -> Result<(), Refusal>
         ensures { spec.step self.new result ≡ spec.on_grid self.old id (call.scroll_by n) }
     {
@@ -291,8 +291,8 @@ impl Desk {
         self.border(id, &Border::sides(vertical, horizontal))
     }
 
-    /// Changes nothing: a refresh scrolls by the terminal's own strings wherever that takes fewer bytes, and doesn't use
-    /// its insertion and deletion of lines.
+    /// Changes nothing: a refresh scrolls by the terminal's own strings wherever that takes fewer bytes, and doesn't
+    /// use its insertion and deletion of lines.
     pub fn idlok(&self, id: usize, _on: bool) -> Result<(), Refusal>
         ensures { spec.step self.now result ≡ spec.unchanged self.now id }
     {

@@ -7,8 +7,8 @@ use crate::virtual_screen::Copy;
 use grids::Area;
 use vt_term::MAX_ROWS;
 
-/// The screen's rows from `top` to `bottom` went up by `up` lines, or down where that is negative. Nothing is promised of
-/// what they hold.
+/// The screen's rows from `top` to `bottom` went up by `up` lines, or down where that is negative. Nothing is promised
+/// of what they hold.
 #[derive(Clone, Copy, Debug, PartialEq, Eq)]
 pub struct Hint {
     pub top: u16,

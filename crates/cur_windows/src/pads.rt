@@ -43,9 +43,9 @@ impl Desk {
         Ok(())
     }
 
-    /// A new window that is a part of window `id` and shares its cells: `rows` rows and `cols` columns of it, from row `y`
-    /// and column `x` on. That the number is free, that there is such a window and that the part lies in it is the caller's
-    /// condition.
+    /// A new window that is a part of window `id` and shares its cells: `rows` rows and `cols` columns of it, from row
+    /// `y` and column `x` on. That the number is free, that there is such a window and that the part lies in it is the
+    /// caller's condition.
     pub fn add_subpad(&mut self, n: usize, id: usize, y: u16, x: u16, rows: u16, cols: u16)
         requires number { n < 64 }
         requires free { spec.window_at self.old n ≡ None }
@@ -67,11 +67,11 @@ impl Desk {
         self.add_subwindow(n, id, &slot, area);
     }
 
-    /// A part of window `id`, `rows` rows and `cols` columns from row `y` and column `x` on, is copied to the virtual screen,
-    /// from row `to_y` and column `to_x` on. The screen's cursor becomes the window's if the window doesn't leave it and
-    /// it lies in that part, else none; the window's `clearok` goes over to the screen. That there is such a window, that
-    /// the part lies in it and, where it is copied to, on the screen, and that the screen has the desk's size is the
-    /// caller's condition.
+    /// A part of window `id`, `rows` rows and `cols` columns from row `y` and column `x` on, is copied to the virtual
+    /// screen, from row `to_y` and column `to_x` on. The screen's cursor becomes the window's if the window doesn't
+    /// leave it and it lies in that part, else none; the window's `clearok` goes over to the screen. That there is such
+    /// a window, that the part lies in it and, where it is copied to, on the screen, and that the screen has the desk's
+    /// size is the caller's condition.
     pub fn show_part(
         &mut self,
         id: usize,

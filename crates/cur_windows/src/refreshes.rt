@@ -14,8 +14,8 @@ use grids::{Area, Grid, Place};
 
 impl Desk {
     /// The whole window is copied to the virtual screen, whose cursor becomes the window's, or none where the window
-    /// leaves it; a window's `clearok` and the desk's hint go over to the screen. `Full`, `NoWindow`, `PadKind` for a pad;
-    /// then nothing has changed. That the screen has the desk's size is the caller's condition.
+    /// leaves it; a window's `clearok` and the desk's hint go over to the screen. `Full`, `NoWindow`, `PadKind` for a
+    /// pad; then nothing has changed. That the screen has the desk's size is the caller's condition.
     pub fn noutrefresh(&mut self, id: usize, screen: &mut Virtual) -> Result<(), Refusal>
         requires rows { (screen.old).rows ≡ (self.old).rows }
         requires cols { (screen.old).cols ≡ (self.old).cols }

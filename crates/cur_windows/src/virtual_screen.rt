@@ -125,8 +125,8 @@ impl Virtual {
         self.clearok
     }
 
-    /// Rows that were scrolled since the last refresh that was done, where that is known. Nothing is promised of what they
-    /// hold.
+    /// Rows that were scrolled since the last refresh that was done, where that is known. Nothing is promised of what
+    /// they hold.
     pub fn hint(&self) -> Option<Hint>
         ensures order { IfSome result (λ h. h.top ≤ h.bottom) }
         ensures there { IfSome result (λ h. h.bottom < (self.now).rows) }

@@ -1,4 +1,4 @@
--- A wire over memory that fails where it is told.
+-- A wire over memory that fails where it is set to fail.
 use Rattle.std.specs.Prelude.{ℕ, ◌-◌, min, zero, suc, List, [], ◌∷◌, Option, Some, None}
 use Rattle.cur_wires.specs.Wire.{IsWire}
 use Rattle.cur_wires.specs.Tape.{Taped, Adds, Adds-lawful}
@@ -13,7 +13,7 @@ abbrev pub until_failure : List ℕ → ℕ → ℕ
 until_failure [] n = n
 until_failure (cut ∷ cuts) n = min n cut
 
--- so many bytes went out
+-- this many bytes went out
 abbrev pub counted_down : ℕ → List ℕ → List ℕ
 counted_down n [] = []
 counted_down n (cut ∷ cuts) = (cut - n) ∷ cuts

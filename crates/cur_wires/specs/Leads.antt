@@ -4,10 +4,11 @@ use Rattle.std.specs.List.{AllByRecursion, concat}
 use Rattle.vt_term.specs.Screen.{State}
 use Rattle.vt_term.specs.Ends.{Ends}
 
--- The bytes are pieces of this sort, one after another, and at most so many.
+-- The bytes are pieces of this sort, one after another, and at most this many.
 -- They lead every state of the kind before to one of the kind after.
 -- Where only a front of them is run, the state is one of the kind between.
-pub record Leads (IsPiece : List ℕ → Type 0) (limit : ℕ) (between before : State → Type 0) (bytes : List ℕ) (after : State → Type 0) : Type 0 where
+pub record Leads (IsPiece : List ℕ → Type 0) (limit : ℕ) (between before : State → Type 0) (bytes : List ℕ)
+    (after : State → Type 0) : Type 0 where
   pub pieces : List (List ℕ)
   pub made : bytes ≡ concat pieces
   pub each : AllByRecursion IsPiece pieces

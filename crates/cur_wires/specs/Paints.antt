@@ -4,8 +4,9 @@ use Rattle.vt_term.specs.Screen.{State}
 use Rattle.cur_wires.specs.Wire.{Sends}
 use Rattle.cur_wires.specs.Leads.{Leads}
 
-pub record Paints {W T E : Type 0} (went : W → W → List ℕ → Type 0) (failures : W → ℕ) (old new : W) (answer : Result T E)
-    (IsPiece : List ℕ → Type 0) (limit : ℕ) (between before after : State → Type 0) : Type 0 where
+pub record Paints {W T E : Type 0} (went : W → W → List ℕ → Type 0) (failures : W → ℕ) (old new : W)
+    (answer : Result T E) (IsPiece : List ℕ → Type 0) (limit : ℕ)
+    (between before after : State → Type 0) : Type 0 where
   pub bytes : List ℕ
   pub leads : Leads IsPiece limit between before bytes after
   pub sends : Sends went failures old new bytes answer

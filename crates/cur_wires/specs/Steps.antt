@@ -1,4 +1,5 @@
--- A painter's step that may fail: at Ok it leads on, at Err to the kind between, and nothing is said of what would have followed.
+-- A painter's step that may fail: at Ok it leads on, at Err to the kind between, and nothing is said of what would have
+-- followed.
 use Rattle.std.specs.Prelude.{ℕ, ◌≡◌, List, Result, Ok, Err, OnOk}
 use Rattle.vt_term.specs.Screen.{State}
 use Rattle.cur_wires.specs.Paints.{Paints}
@@ -8,8 +9,10 @@ then_kind (Ok x) after between = after
 then_kind (Err e) after between = between
 
 -- the one clause of every step
-abbrev pub Steps : {W T E : Type 0} → (W → W → List ℕ → Type 0) → (W → ℕ) → W → W → Result T E → (List ℕ → Type 0) → ℕ → (State → Type 0) → (State → Type 0) → (State → Type 0) → Type 0
-Steps went failures old new answer P n between before after = Paints went failures old new answer P n between before (then_kind answer after between)
+abbrev pub Steps : {W T E : Type 0} → (W → W → List ℕ → Type 0) → (W → ℕ) → W → W → Result T E → (List ℕ → Type 0) → ℕ
+    → (State → Type 0) → (State → Type 0) → (State → Type 0) → Type 0
+Steps went failures old new answer P n between before after =
+    Paints went failures old new answer P n between before (then_kind answer after between)
 
 -- a step that sends just this text where nothing fails
 pub record Spells {W T E : Type 0} (went : W → W → List ℕ → Type 0) (failures : W → ℕ) (old new : W)

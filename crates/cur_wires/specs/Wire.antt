@@ -26,7 +26,8 @@ abbrev pub Rose : ℕ → ℕ → Type 0
 Rose old new = (old < new) ⊎ ((old ≡ last_count) × (new ≡ last_count))
 
 -- A front of the bytes went out, then the wire failed.
-pub record StopsIn {W : Type 0} (went : W → W → List ℕ → Type 0) (failures : W → ℕ) (old new : W) (bytes : List ℕ) : Type 0 where
+pub record StopsIn {W : Type 0} (went : W → W → List ℕ → Type 0) (failures : W → ℕ) (old new : W)
+    (bytes : List ℕ) : Type 0 where
   pub front : List ℕ
   pub back : List ℕ
   pub parts : bytes ≡ front ++ back

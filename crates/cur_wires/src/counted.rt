@@ -30,7 +30,8 @@ impl<'a, W: Wire> Wire for Counted<'a, W> {
         requires { 0 < length piece.now }
         ensures some { IfOk result (λ n. 0 < n) }
         ensures within { IfOk result (λ n. n ≤ length piece.now) }
-        ensures sent { IfOk result (λ n. Counts W.went self.old.wire self.new.wire self.old.sent self.new.sent (take n piece.now)) }
+        ensures sent { IfOk result (λ n.
+            Counts W.went self.old.wire self.new.wire self.old.sent self.new.sent (take n piece.now)) }
         ensures unsent { OnErr result (Counts W.went self.old.wire self.new.wire self.old.sent self.new.sent []) }
         ensures failed { OnErr result (Rose (W.failures self.old.wire.now) (W.failures self.new.wire.now)) }
     {

@@ -28,7 +28,8 @@ impl Fuse {
     /// An empty fuse with room for this many bytes, or out of memory. After each of the numbers of
     /// further bytes the next send fails, and the next number counts; after the last it is a `Tape`.
     pub fn new(alloc: Global, capacity: usize, cuts: &[usize]) -> Result<Fuse, AllocError>
-        ensures value { IfOk result (λ fuse. fuse ≡ record { tape = record { bytes = []; capacity = capacity; failures = 0 }; cuts = cuts.now }) }
+        ensures value { IfOk result (λ fuse.
+            fuse ≡ record { tape = record { bytes = []; capacity = capacity; failures = 0 }; cuts = cuts.now }) }
     {
         Ok(Fuse {
             tape: Tape::new(alloc, capacity)?,
@@ -67,9 +68,12 @@ impl Wire for Fuse {
         ensures sent { IfOk result (λ n. FuseAdds self.old self.new (take n piece.now)) }
         ensures unsent { OnErr result (FuseAdds self.old self.new []) }
         ensures failed { OnErr result (Rose self.old.tape.failures self.new.tape.failures) }
-        ensures all_that_goes { IfOk result (λ n. n ≡ min (until_failure self.old.cuts (length piece.now)) (room self.old.tape)) }
-        ensures fails_only_there { OnErr result (min (until_failure self.old.cuts (length piece.now)) (room self.old.tape) ≡ 0) }
-        ensures tape { self.new.tape ≡ after_send self.old.tape (take (until_failure self.old.cuts (length piece.now)) piece.now) (is_ok result) }
+        ensures all_that_goes { IfOk result (λ n.
+            n ≡ min (until_failure self.old.cuts (length piece.now)) (room self.old.tape)) }
+        ensures fails_only_there { OnErr result
+            (min (until_failure self.old.cuts (length piece.now)) (room self.old.tape) ≡ 0) }
+        ensures tape { self.new.tape ≡ after_send self.old.tape
+            (take (until_failure self.old.cuts (length piece.now)) piece.now) (is_ok result) }
         ensures cuts { IfOk result (λ n. self.new.cuts ≡ counted_down n self.old.cuts) }
         ensures passed { OnErr result (self.new.cuts ≡ passed self.old.cuts) }
     {

@@ -13,5 +13,6 @@ pub fn fronts_meet()
 
 /// What was sent after something else was sent with it, or cut short with it.
 pub fn sends_join<W: Wire>()
-    ensures { (a b c : W) (x y : List ℕ) (answer : Result (Unit {0}) WireFault) → W.went a b x → Sends W.went W.failures b c y answer → Sends W.went W.failures a c (x ++ y) answer }
+    ensures { (a b c : W) (x y : List ℕ) (answer : Result (Unit {0}) WireFault)
+        → W.went a b x → Sends W.went W.failures b c y answer → Sends W.went W.failures a c (x ++ y) answer }
 {}

@@ -65,12 +65,15 @@ IsOfWalk fault e = e ≡ BadEntry
 -- the bytes are no compiled file, or one whose values fit no entry
 abbrev pub LacksPacked : List ℕ → Failure → Type 0
 LacksPacked bytes e = ((fault : PackFault) × (read_of bytes ≡ Err fault) × (e ≡ BadEntry))
-    ⊎ ((packed : Content) × (read_of bytes ≡ Ok packed) × ((fault : PackFault) × compiled.FailsBy fault (fit_of packed) × IsOfPack fault e))
+    ⊎ ((packed : Content) × (read_of bytes ≡ Ok packed)
+    × ((fault : PackFault) × compiled.FailsBy fault (fit_of packed) × IsOfPack fault e))
 
 -- the text has a fault, or the entry of the name can't be had from it
 abbrev pub LacksNamed : List ℕ → List ℕ → Failure → Type 0
-LacksNamed text name e = ((fault : SourceFault) × source.FailsBy fault.kind fault (source_of text) × IsOfSource fault.kind e)
-    ⊎ ((raws : List RawEntry) × (source_of text ≡ Ok raws) × ((fault : ResolveFault) × walk.FailsBy fault (walk_of raws name) × IsOfWalk fault e))
+LacksNamed text name e =
+    ((fault : SourceFault) × source.FailsBy fault.kind fault (source_of text) × IsOfSource fault.kind e)
+    ⊎ ((raws : List RawEntry) × (source_of text ≡ Ok raws)
+    × ((fault : ResolveFault) × walk.FailsBy fault (walk_of raws name) × IsOfWalk fault e))
 
 abbrev pub LacksEntry : List ℕ → List ℕ → Failure → Type 0
 LacksEntry bytes [] e = LacksPacked bytes e

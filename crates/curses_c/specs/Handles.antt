@@ -20,6 +20,6 @@ held_at R p None = ftrue
 abbrev pub mark : ℕ
 mark = 1668641395
 
--- the number tells whether something is held
+-- the number says whether something is held
 abbrev pub IsMarked : {X : Type 0} → ℕ → Option X → Type 0
 IsMarked state held = (state == mark) ≡ is_some held

@@ -19,7 +19,8 @@ failures_of o = o.failures
 -- one call: it is done as it is defined, and what it sends waits after what waited before
 pub record Makes (h : Held) (call : Call) (answer : Answer) (k : Held) : Type 0 where
   pub step : CallStep (certified h.session.painter.checked) (scene_of h.session) call answer (scene_of k.session)
-  pub carries : Carries Posts failures_of h.outbox k.outbox (certified h.session.painter.checked) (partner_in h.session.painter.checked)
+  pub carries : Carries Posts failures_of h.outbox k.outbox (certified h.session.painter.checked)
+      (partner_in h.session.painter.checked)
       (drawn (certified h.session.painter.checked) (scene_of h.session) call).0.screen (output_of call) answer
       (poised (certified h.session.painter.checked) h.session call) k.session.painter
   pub certificate : k.session.painter.checked ≡ h.session.painter.checked
@@ -38,12 +39,15 @@ Then false answer a mid k rest = (a ≡ answer) × (k ≡ mid)
 -- calls up to the first that isn't done, and its answer; `Done` where all are done
 abbrev pub MakesUpTo : Held → List Call → Answer → Held → Type 0
 MakesUpTo h [] a k = (a ≡ Done) × (k ≡ h)
-MakesUpTo h (call ∷ calls) a k = (answer : Answer) × (mid : Held) × Makes h call answer mid × Then (is_done answer) answer a mid k (MakesUpTo mid calls a k)
+MakesUpTo h (call ∷ calls) a k =
+    (answer : Answer) × (mid : Held) × Makes h call answer mid
+    × Then (is_done answer) answer a mid k (MakesUpTo mid calls a k)
 
 -- A text of calls: they are made up to the first that isn't done, and the number is that of its answer; or there was no
 -- memory for reading them. A text that lists no calls changes nothing.
 abbrev pub Says : {E : Type 0} → Result (List Call) E → Held → ℤ → Held → Type 0
-Says (Ok calls) h code k = ((answer : Answer) × MakesUpTo h calls answer k × (code ≡ answer_code answer)) ⊎ ((k ≡ h) × (code ≡ pos 12))
+Says (Ok calls) h code k =
+    ((answer : Answer) × MakesUpTo h calls answer k × (code ≡ answer_code answer)) ⊎ ((k ≡ h) × (code ≡ pos 12))
 Says (Err e) h code k = k ≡ h
 
 -- nothing waits, and nothing is known of the terminal

@@ -22,14 +22,18 @@ use Rattle.curses_c.specs.declared.held.Held.{Held}
 -- calls on a session, and what the program took of the bytes that wait
 pub data Played (h : Held) : List ℕ → Held → Type 0 where
   Begun : (taken : List ℕ) (k : Held) → taken ≡ [] → k ≡ h → Played h taken k
-  Called : (taken : List ℕ) (mid k : Held) (call : Call) (answer : Answer) → Played h taken mid → Makes mid call answer k → Played h taken k
-  Took : (before taken : List ℕ) (mid k : Held) (room : List ℕ) (count : ℕ) → Played h before mid → Hands mid room count k → taken ≡ before ++ take count mid.outbox.waiting → Played h taken k
+  Called : (taken : List ℕ) (mid k : Held) (call : Call) (answer : Answer) → Played h taken mid
+      → Makes mid call answer k → Played h taken k
+  Took : (before taken : List ℕ) (mid k : Held) (room : List ℕ) (count : ℕ) → Played h before mid
+      → Hands mid room count k → taken ≡ before ++ take count mid.outbox.waiting → Played h taken k
 
 -- the same, of calls that send nothing
 pub data Rests (h : Held) : List ℕ → Held → Type 0 where
   Still : (taken : List ℕ) (k : Held) → taken ≡ [] → k ≡ h → Rests h taken k
-  Drew : (taken : List ℕ) (mid k : Held) (call : Call) (answer : Answer) → Rests h taken mid → Makes mid call answer k → output_of call ≡ Nothing → Rests h taken k
-  TookMore : (before taken : List ℕ) (mid k : Held) (room : List ℕ) (count : ℕ) → Rests h before mid → Hands mid room count k → taken ≡ before ++ take count mid.outbox.waiting → Rests h taken k
+  Drew : (taken : List ℕ) (mid k : Held) (call : Call) (answer : Answer) → Rests h taken mid → Makes mid call answer k
+      → output_of call ≡ Nothing → Rests h taken k
+  TookMore : (before taken : List ℕ) (mid k : Held) (room : List ℕ) (count : ℕ) → Rests h before mid
+      → Hands mid room count k → taken ≡ before ++ take count mid.outbox.waiting → Rests h taken k
 
 -- the states that the terminal may be in where nothing waits
 abbrev pub FitsHeld : Held → State → Type 0
@@ -50,19 +54,27 @@ pub record Begins (h : Held) (s : State) : Type 0 where
 
 -- All that was taken and all that waits leads the terminal to a state that fits.
 abbrev pub CallsReach : Type 0
-CallsReach = (h k : Held) (taken : List ℕ) (s : State) → Played h taken k → Begins h s → Ends s (taken ++ k.outbox.waiting) (FitsHeld k)
+CallsReach =
+    (h k : Held) (taken : List ℕ) (s : State) → Played h taken k → Begins h s
+    → Ends s (taken ++ k.outbox.waiting) (FitsHeld k)
 
 -- After a refresh that was done, once nothing waits, the terminal that got all that was taken shows the screen.
 abbrev pub RefreshesShow : Type 0
-RefreshesShow = (h mid k last : Held) (taken more : List ℕ) (call : Call) (answer : Answer) (s : State) → Played h taken mid → Makes mid call answer k → is_shown (output_of call) answer ≡ true
+RefreshesShow =
+    (h mid k last : Held) (taken more : List ℕ) (call : Call) (answer : Answer) (s : State) → Played h taken mid
+    → Makes mid call answer k → is_shown (output_of call) answer ≡ true
     → Rests k more last → last.outbox.waiting ≡ [] → Begins h s → Ends s (taken ++ more) (ShowsAfter mid call)
 
 -- Where the terminal got only a front of what was sent, all begins anew from its state once the session is lost.
 abbrev pub LossesFit : Type 0
-LossesFit = (h mid k : Held) (taken front back : List ℕ) (s : State) → Played h taken mid → taken ++ mid.outbox.waiting ≡ front ++ back → Loses mid k → Begins h s
+LossesFit =
+    (h mid k : Held) (taken front back : List ℕ) (s : State) → Played h taken mid
+    → taken ++ mid.outbox.waiting ≡ front ++ back → Loses mid k → Begins h s
     → Ends s front (Begins k)
 
 -- A session that was opened begins with each fresh terminal.
 abbrev pub OpeningsBegin : Type 0
-OpeningsBegin = (h : Held) (s : State) → scene_of h.session ≡ first (certified h.session.painter.checked) → h.outbox.waiting ≡ [] → IsChecked (certified h.session.painter.checked)
+OpeningsBegin =
+    (h : Held) (s : State) → scene_of h.session ≡ first (certified h.session.painter.checked) → h.outbox.waiting ≡ []
+    → IsChecked (certified h.session.painter.checked)
     → IsFresh (certified h.session.painter.checked) s → Begins h s

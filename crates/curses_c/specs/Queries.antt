@@ -16,9 +16,11 @@ cursor_in (Err e) = Err e
 abbrev pub standing : Content → Standing
 standing c = record { byte = c.byte; attrs = c.attrs; pair = c.pair }
 
--- a cell of a window, which has so many lines and columns
+-- a cell of a window, which has this many lines and columns
 abbrev pub cell_seen : Result Grid Refusal → ℕ → ℕ → Result Standing Refusal
-cell_seen (Ok cells) row col = if nat_lt row (length cells) && nat_lt col (length (line_at cells row)) then Ok (standing (cell_at cells row col)) else Err OutOfWindow
+cell_seen (Ok cells) row col =
+    if nat_lt row (length cells) && nat_lt col (length (line_at cells row)) then Ok (standing (cell_at cells row col))
+    else Err OutOfWindow
 cell_seen (Err e) row col = Err e
 
 -- where there is an answer it is written, and nothing else changes

@@ -52,9 +52,11 @@ pub record IsUnopenedEntry (bytes name : List ℕ) (rows cols : ℕ) (certificat
   pub unopened : LacksChecked entry rows cols certificate e ⊎ (e ≡ NoMemory)
 
 abbrev pub IsUnopened : List ℕ → List ℕ → ℕ → ℕ → List ℕ → Failure → Type 0
-IsUnopened bytes name rows cols certificate e = Lacks bytes name rows cols e ⊎ IsUnopenedEntry bytes name rows cols certificate e
+IsUnopened bytes name rows cols certificate e =
+    Lacks bytes name rows cols e ⊎ IsUnopenedEntry bytes name rows cols certificate e
 
 -- it is open, or there is a failure
 abbrev pub Opens : List ℕ → List ℕ → ℕ → ℕ → List ℕ → ℤ → Option Held → Type 0
 Opens bytes name rows cols certificate code (Some h) = (code ≡ pos 0) × IsOpened bytes name rows cols h
-Opens bytes name rows cols certificate code None = (failure : Failure) × IsUnopened bytes name rows cols certificate failure × (code ≡ failure_code failure)
+Opens bytes name rows cols certificate code None =
+    (failure : Failure) × IsUnopened bytes name rows cols certificate failure × (code ≡ failure_code failure)

@@ -77,7 +77,8 @@ pub record IsUnverifiedEntry (bytes name : List ℕ) (rows cols : ℕ) (certific
   pub unshown : IsUnshown entry rows cols certificate e
 
 abbrev pub IsUnverified : List ℕ → List ℕ → ℕ → ℕ → List ℕ → Failure → Type 0
-IsUnverified bytes name rows cols certificate e = Lacks bytes name rows cols e ⊎ IsUnverifiedEntry bytes name rows cols certificate e
+IsUnverified bytes name rows cols certificate e =
+    Lacks bytes name rows cols e ⊎ IsUnverifiedEntry bytes name rows cols certificate e
 
 abbrev pub Verifies : List ℕ → List ℕ → ℕ → ℕ → List ℕ → ℤ → Type 0
 Verifies bytes name rows cols certificate code = (IsVerified bytes name rows cols × (code ≡ pos 0))

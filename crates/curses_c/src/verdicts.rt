@@ -117,8 +117,8 @@ fn fill(text: &[u8], room: &mut [u8]) -> i32
     OK
 }
 
-/// Whether `certificate` shows that each checked string of an entry does on a terminal of `rows` and `cols` what programs
-/// rely on.
+/// Whether `certificate` shows that each checked string of an entry does on a terminal of `rows` and `cols` what
+/// programs rely on.
 #[unsafe(no_mangle)]
 pub extern "C" fn ticurses_raw_verify(
     alloc: Global,

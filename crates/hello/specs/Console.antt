@@ -26,6 +26,9 @@ pub wrote_lawful : {W C : Type 0} (contents : W → Option (List ℕ)) (writer :
     → IsWire (λ a b x. Wrote (contents (writer a)) (contents (writer b)) (failures a) (failures b) x) failures
 wrote_lawful contents writer failures = record {
   nothing = λ w. record { grows = nothing (contents (writer w)); risen = le_refl (failures w) };
-  joins = λ a b c x y p q. record { grows = joins (contents (writer a)) (contents (writer b)) (contents (writer c)) x y p.grows q.grows; risen = le_trans p.risen q.risen };
+  joins = λ a b c x y p q. record {
+    grows = joins (contents (writer a)) (contents (writer b)) (contents (writer c)) x y p.grows q.grows;
+    risen = le_trans p.risen q.risen;
+  };
   counts = λ a b x p. p.risen;
 }

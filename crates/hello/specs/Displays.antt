@@ -10,8 +10,10 @@ use Rattle.curses.specs.Painters.Inks.{ink_at}
 use Rattle.curses.specs.Painters.Painters.{wanted_of}
 use Rattle.hello.specs.Greeting.{IsGreeting}
 
--- What went out makes every terminal that a session may begin with show the greeting: its cells, and a visible cursor in its place.
-pub record Greets {W : Type 0} (went : W → W → List ℕ → Type 0) (old new : W) (t : Table) (partners : ℕ → Option ℕ) : Type 0 where
+-- What went out makes every terminal that a session may begin with show the greeting: its cells, and a visible cursor
+-- in its place.
+pub record Greets {W : Type 0} (went : W → W → List ℕ → Type 0) (old new : W) (t : Table)
+    (partners : ℕ → Option ℕ) : Type 0 where
   pub screen : Screen
   pub greeting : IsGreeting t.rows t.cols screen
   pub bytes : List ℕ

@@ -29,7 +29,8 @@ frame = record { top = 1; left = 4; rows = 3; cols = 17 }
 pub record IsGreeting (rows cols : ℕ) (v : Screen) : Type 0 where
   pub rows_same : v.rows ≡ rows
   pub cols_same : v.cols ≡ cols
-  pub cells : (i j : ℕ) → i < rows → j < cols → cell_at v.grid i j ≡ (if is_in frame i j then cell_at picture (i - 1) (j - 4) else space)
+  pub cells : (i j : ℕ) → i < rows → j < cols
+      → cell_at v.grid i j ≡ (if is_in frame i j then cell_at picture (i - 1) (j - 4) else space)
   pub cursor : v.cursor ≡ Some (place 2 19)
   pub clearok : v.clearok ≡ false
   pub pairs : v.pairs ≡ replicate pair_count default_colors
