@@ -10,7 +10,8 @@ use Rattle.vt_effects.specs.Record.{record_of, all_off}
 
 -- the tokens of this text have this record
 abbrev pub HasRecord : ℕ → ℕ → Start → List ℕ → Effect → Type 0
-HasRecord rows cols start text e = (tokens : List (List ℕ)) → Splits text tokens [] → record_of rows cols start tokens ≡ Some e
+HasRecord rows cols start text e =
+    (tokens : List (List ℕ)) → Splits text tokens [] → record_of rows cols start tokens ≡ Some e
 
 -- ESC [ H (ECMA-48 8.3.21, CUP)
 abbrev pub home_text : List ℕ

@@ -106,7 +106,9 @@ both_else a b cells row col = record {
 }
 
 abbrev pub both_moved : Effect → Effect → Effect → Option Effect
-both_moved a b cells = option_and_then (λ row. option_map (λ col. both_else a b cells row col) (then_moved a.col b.col)) (then_moved a.row b.row)
+both_moved a b cells =
+    option_and_then (λ row. option_map (λ col. both_else a b cells row col) (then_moved a.col b.col))
+    (then_moved a.row b.row)
 
 abbrev pub composed : Effect → Effect → Option Effect
 composed a b = option_and_then (λ cells. both_moved a b cells) (both_cells a b)

@@ -57,7 +57,9 @@ is_still _ = false
 
 -- so much forward and so much back is one move
 abbrev pub net : ℕ → ℕ → Move
-net forward back = if forward == back then moves.Kept else (if nat_lt back forward then moves.Forward (forward - back) else moves.Back (back - forward))
+net forward back =
+    if forward == back then moves.Kept
+    else (if nat_lt back forward then moves.Forward (forward - back) else moves.Back (back - forward))
 
 -- a move, and then back or forward by n
 abbrev pub and_back : Move → ℕ → Move
@@ -124,7 +126,9 @@ is_unmoved e = is_kept e.row && is_kept e.col
 
 -- the region may scroll: the row and the margins are the start's, and no cell has changed
 abbrev pub may_scroll : Effect → Bool
-may_scroll e = (is_kept e.row && keeps_margins e.margins) && ((erases_nothing e.erasure && is_still e.scroll) && keeps_background e)
+may_scroll e =
+    (is_kept e.row && keeps_margins e.margins)
+    && ((erases_nothing e.erasure && is_still e.scroll) && keeps_background e)
 
 abbrev pub scrolling : Scroll → Effect → Effect
 scrolling x e = record e { scroll = x; ends_pending = true }
@@ -132,13 +136,15 @@ scrolling x e = record e { scroll = x; ends_pending = true }
 -- one line down: no start scrolls, or all do from where they began
 abbrev pub line_fed : ℕ → Start → Effect → Option Effect
 line_fed rows start e =
-    if are_whole rows start.margins e.margins && nat_lt (moved e.row start.row_max + 1) rows then Some (with_row e (and_forward e.row 1))
+    if are_whole rows start.margins e.margins && nat_lt (moved e.row start.row_max + 1) rows
+    then Some (with_row e (and_forward e.row 1))
     else (if on_bottom rows start.row_min start.margins && may_scroll e then Some (scrolling scrolls.Up e) else None)
 
 -- one line up
 abbrev pub line_reversed : ℕ → Start → Effect → Option Effect
 line_reversed rows start e =
-    if are_whole rows start.margins e.margins && nat_le 1 (moved e.row start.row_min) then Some (with_row e (and_back e.row 1))
+    if are_whole rows start.margins e.margins && nat_le 1 (moved e.row start.row_min)
+    then Some (with_row e (and_back e.row 1))
     else (if on_top rows start.row_max start.margins && may_scroll e then Some (scrolling scrolls.Down e) else None)
 
 abbrev pub tabbed : ℕ → Effect → Move → Option Effect
@@ -147,13 +153,15 @@ tabbed cols e _ = None
 
 -- the whole screen is erased, whatever was before
 abbrev pub screen_erased : Effect → Option Effect
-screen_erased e = if keeps_background e then Some (record e { erasure = erasures.Screen; scroll = scrolls.Still }) else None
+screen_erased e =
+    if keeps_background e then Some (record e { erasure = erasures.Screen; scroll = scrolls.Still }) else None
 
 -- cells are erased around the cursor, which must be where it was; where all are erased, all stay so
 abbrev pub cells_erased : Erasure → Effect → Option Effect
 cells_erased x e =
     if keeps_background e && is_still e.scroll then
-    (if erases_screen e.erasure then Some e else (if is_unmoved e && erases_nothing e.erasure then Some (record e { erasure = x }) else None))
+    (if erases_screen e.erasure then Some e
+    else (if is_unmoved e && erases_nothing e.erasure then Some (record e { erasure = x }) else None))
     else None
 
 abbrev pub line_erased : EraseExtent → Effect → Option Effect
@@ -230,7 +238,12 @@ abbrev pub margins_set : ℕ → ℕ → ℕ → Effect → Effect
 margins_set rows first last e =
     let top = first - 1 in
     let bottom = (if last == 0 then rows - 1 else min (last - 1) (rows - 1)) in
-    if nat_lt top bottom then record e { margins = Some (record { top = top; bottom = bottom }); row = moves.To 0; col = moves.To 0; ends_pending = true } else e
+    if nat_lt top bottom then record e {
+      margins = Some (record { top = top; bottom = bottom });
+      row = moves.To 0;
+      col = moves.To 0;
+      ends_pending = true;
+    } else e
 
 abbrev pub switch_of : Bool → Switch
 switch_of true = switches.On
@@ -245,10 +258,15 @@ shifting out e = record e { charset = record e.charset { shifted_out = switch_of
 
 -- up or down by n, where the margins are known to be the whole screen
 abbrev pub row_back : ℕ → Start → ℕ → Effect → Option Effect
-row_back rows start n e = if are_whole rows start.margins e.margins then if_some (with_row e) (back_by n start.row_min start.row_max e.row) else None
+row_back rows start n e =
+    if are_whole rows start.margins e.margins then if_some (with_row e) (back_by n start.row_min start.row_max e.row)
+    else None
 
 abbrev pub row_forward : ℕ → Start → ℕ → Effect → Option Effect
-row_forward rows start n e = if are_whole rows start.margins e.margins then if_some (with_row e) (forward_by n start.row_min start.row_max (rows - 1) e.row) else None
+row_forward rows start n e =
+    if are_whole rows start.margins e.margins
+    then if_some (with_row e) (forward_by n start.row_min start.row_max (rows - 1) e.row)
+    else None
 
 abbrev pub col_back : Start → ℕ → Effect → Option Effect
 col_back start n e = if_some (with_col e) (back_by n start.col_min start.col_max e.col)
@@ -272,7 +290,8 @@ extended rows cols start (CursorForward n) e = col_forward cols start n e
 extended rows cols start (CursorBack n) e = col_back start n e
 extended rows cols start (CursorColumn col) e = Some (with_col e (moves.To (min (col - 1) (cols - 1))))
 extended rows cols start (CursorRow row) e = Some (with_row e (moves.To (min (row - 1) (rows - 1))))
-extended rows cols start (CursorPosition row col) e = Some (with_col (with_row e (moves.To (min (row - 1) (rows - 1)))) (moves.To (min (col - 1) (cols - 1))))
+extended rows cols start (CursorPosition row col) e =
+    Some (with_col (with_row e (moves.To (min (row - 1) (rows - 1)))) (moves.To (min (col - 1) (cols - 1))))
 extended rows cols start (EraseLine part) e = line_erased part e
 extended rows cols start (EraseDisplay part) e = display_erased part e
 extended rows cols start (EraseCells n) e = cells_erased (erasures.Next (min n cols)) e
@@ -292,7 +311,8 @@ extended rows cols start (ScrollDown n) e = None
 -- an effect, and then what all these tokens ask for
 abbrev pub all_extended : ℕ → ℕ → Start → List (List ℕ) → Effect → Option Effect
 all_extended rows cols start [] e = Some e
-all_extended rows cols start (token ∷ tokens) e = option_and_then (all_extended rows cols start tokens) (extended rows cols start (function_of token) e)
+all_extended rows cols start (token ∷ tokens) e =
+    option_and_then (all_extended rows cols start tokens) (extended rows cols start (function_of token) e)
 
 -- the effect of these tokens from every state of the start, if it has a record
 abbrev pub record_of : ℕ → ℕ → Start → List (List ℕ) → Option Effect

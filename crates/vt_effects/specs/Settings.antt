@@ -38,7 +38,8 @@ pub record SameMargins (s t : Screen) : Type 0 where
 
 -- no step changes the margins
 abbrev pub EachKeepsMargins : ℕ → List (List ℕ) → Type 0
-EachKeepsMargins rows tokens = AllByRecursion (λ token. (s : Screen) → s.rows ≡ rows → SameMargins s (step token s)) tokens
+EachKeepsMargins rows tokens =
+    AllByRecursion (λ token. (s : Screen) → s.rows ≡ rows → SameMargins s (step token s)) tokens
 
 -- no step shows or hides the cursor
 abbrev pub EachKeepsVisible : List (List ℕ) → Type 0
@@ -53,4 +54,6 @@ pub record TellsSettings (rows : ℕ) (tokens : List (List ℕ)) (e : Effect) : 
 
 -- every record says so
 abbrev pub RecordsTellSettings : Type 0
-RecordsTellSettings = (rows cols : ℕ) (start : Start) (tokens : List (List ℕ)) (e : Effect) → record_of rows cols start tokens ≡ Some e → TellsSettings rows tokens e
+RecordsTellSettings =
+    (rows cols : ℕ) (start : Start) (tokens : List (List ℕ)) (e : Effect) → record_of rows cols start tokens ≡ Some e
+    → TellsSettings rows tokens e

@@ -12,7 +12,8 @@ use Rattle.vt_effects.specs.Effect.{applied}
 
 -- what a function makes of the state after the effect is the state after the other effect
 abbrev pub Extends : ℕ → ℕ → Start → Function → Effect → Effect → Type 0
-Extends rows cols start function e f = (s : Screen) → Allows rows cols start s → act function (applied e s) ≡ applied f s
+Extends rows cols start function e f =
+    (s : Screen) → Allows rows cols start s → act function (applied e s) ≡ applied f s
 
 -- the steps of these tokens lead where the effect leads
 abbrev pub StepsAs : ℕ → ℕ → Start → List (List ℕ) → Effect → Type 0
@@ -20,8 +21,12 @@ StepsAs rows cols start tokens e = (s : Screen) → Allows rows cols start s →
 
 -- and so does every text that falls into these tokens, with nothing open before it
 abbrev pub RunsAs : ℕ → ℕ → Start → List (List ℕ) → Effect → Type 0
-RunsAs rows cols start tokens e = (s : State) (text : List ℕ) → s.rest ≡ [] → Allows rows cols start s.screen → Splits text tokens [] → Runs s text (record { screen = applied e s.screen; rest = [] })
+RunsAs rows cols start tokens e =
+    (s : State) (text : List ℕ) → s.rest ≡ [] → Allows rows cols start s.screen → Splits text tokens []
+    → Runs s text (record { screen = applied e s.screen; rest = [] })
 
 -- and so does this text
 abbrev pub RunsTextAs : ℕ → ℕ → Start → List ℕ → Effect → Type 0
-RunsTextAs rows cols start text e = (s : State) → s.rest ≡ [] → Allows rows cols start s.screen → Runs s text (record { screen = applied e s.screen; rest = [] })
+RunsTextAs rows cols start text e =
+    (s : State) → s.rest ≡ [] → Allows rows cols start s.screen
+    → Runs s text (record { screen = applied e s.screen; rest = [] })

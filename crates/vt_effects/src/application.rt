@@ -33,7 +33,9 @@ pub fn apply(effect: &Effect, terminal: &mut Terminal)
 
 fn erase(erasure: Erasure, terminal: &mut Terminal)
     ensures { let s = terminal.old.screen in terminal.new ≡
-        record terminal.old { screen = record s { grid = spec.erased erasure s.row s.col (blank s.rendition) s.grid } } }
+        record terminal.old {
+          screen = record s { grid = spec.erased erasure s.row s.col (blank s.rendition) s.grid };
+        } }
 {
     match erasure {
         Erasure::Nothing => {}
@@ -47,7 +49,9 @@ fn erase(erasure: Erasure, terminal: &mut Terminal)
 
 fn scroll(scroll: Scroll, terminal: &mut Terminal)
     ensures { let s = terminal.old.screen in terminal.new ≡
-        record terminal.old { screen = record s { grid = spec.scrolled scroll s.top s.bottom (blank s.rendition) s.grid } } }
+        record terminal.old {
+          screen = record s { grid = spec.scrolled scroll s.top s.bottom (blank s.rendition) s.grid };
+        } }
 {
     match scroll {
         Scroll::Still => {}

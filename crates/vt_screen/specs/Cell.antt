@@ -41,7 +41,9 @@ bit false = 0
 
 -- each mark has its bit
 abbrev pub marks_of : Bool → Rendition → ℕ
-marks_of graphic r = bit r.bold + 2 * bit r.faint + 4 * bit r.underline + 8 * bit r.blink + 16 * bit r.negative + 32 * bit r.concealed + 64 * bit graphic
+marks_of graphic r =
+    bit r.bold + 2 * bit r.faint + 4 * bit r.underline + 8 * bit r.blink + 16 * bit r.negative + 32 * bit r.concealed
+    + 64 * bit graphic
 
 -- the rendition of these marks and colours
 abbrev pub rendition_of : ℕ → Option Color → Option Color → Rendition
@@ -74,7 +76,9 @@ remade m = marks_of (has m 64) (rendition_of m None None)
 pub marks_kept : (m : ℕ) → m < 128 → remade m ≡ m
 marks_kept m lt = eqb-true (remade m) m (agree_below_at (λ n. remade n == n) (λ n. true) 128 m refl lt)
 
-pub cell_kept : {A : Type 0} (make : ℕ → Shade → Shade → A) (m : ℕ) (f b : Shade) → m < 128 → make (remade m) (shade_of (shade_color f)) (shade_of (shade_color b)) ≡ make m f b
+pub cell_kept : {A : Type 0} (make : ℕ → Shade → Shade → A) (m : ℕ) (f b : Shade) → m < 128
+    → make (remade m) (shade_of (shade_color f)) (shade_of (shade_color b)) ≡ make m f b
 cell_kept make m f b lt =
     ap (λ (n : ℕ). make n (shade_of (shade_color f)) (shade_of (shade_color b))) (marks_kept m lt)
-    ∙ ap (λ (s : Shade). make m s (shade_of (shade_color b))) (shade_kept f) ∙ ap (λ (s : Shade). make m f s) (shade_kept b)
+    ∙ ap (λ (s : Shade). make m s (shade_of (shade_color b))) (shade_kept f)
+    ∙ ap (λ (s : Shade). make m f s) (shade_kept b)

@@ -16,6 +16,7 @@ pub record Closed (kind : Screen → Type 0) (s : State) : Type 0 where
 
 -- From every start, with nothing open, the run isn't stuck and ends as is wanted, with nothing open.
 -- A front of the bytes leads from a lost state with nothing open to a lost state.
-pub record Drives (starts : Screen → Type 0) (wants : Screen → Screen → Type 0) (lost : State → Type 0) (bytes : List ℕ) : Type 0 where
+pub record Drives (starts : Screen → Type 0) (wants : Screen → Screen → Type 0) (lost : State → Type 0)
+    (bytes : List ℕ) : Type 0 where
   pub right : (s : State) → s.rest ≡ [] → starts s.screen → Ends s bytes (Closed (wants s.screen))
   pub fronts : (s : State) → s.rest ≡ [] → lost s → (front back : List ℕ) → bytes ≡ front ++ back → Ends s front lost

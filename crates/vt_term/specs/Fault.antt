@@ -41,7 +41,8 @@ IsEscapeTransition b room _ = ⊥
 abbrev pub IsInsideTransition : Bool → ℕ → Bool → Transition → Type 0
 IsInsideTransition closed b room Opens = (room ≡ true) × (IsIntermediate b ⊎ (IsParameter b × (closed ≡ false)))
 IsInsideTransition closed b room Ends = IsFinal b
-IsInsideTransition closed b room Fails = (IsFinal b → ⊥) × (room ≡ true → (IsIntermediate b → ⊥) × (IsParameter b → closed ≡ true))
+IsInsideTransition closed b room Fails =
+    (IsFinal b → ⊥) × (room ≡ true → (IsIntermediate b → ⊥) × (IsParameter b → closed ≡ true))
 IsInsideTransition closed b room _ = ⊥
 
 abbrev pub IsFault : List ℕ → ℕ → TokenFaultKind → Type 0

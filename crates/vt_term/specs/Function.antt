@@ -39,10 +39,14 @@ margins (first ∷ last ∷ []) = Margins (unwrap_or first 0) (unwrap_or last 0)
 margins _ = Ignored
 
 abbrev pub line_part : ℕ → Function
-line_part n = if n == 0 then EraseLine ToEnd else (if n == 1 then EraseLine FromStart else (if n == 2 then EraseLine Whole else Ignored))
+line_part n =
+    if n == 0 then EraseLine ToEnd
+    else (if n == 1 then EraseLine FromStart else (if n == 2 then EraseLine Whole else Ignored))
 
 abbrev pub display_part : ℕ → Function
-display_part n = if n == 0 then EraseDisplay ToEnd else (if n == 1 then EraseDisplay FromStart else (if n == 2 then EraseDisplay Whole else Ignored))
+display_part n =
+    if n == 0 then EraseDisplay ToEnd
+    else (if n == 1 then EraseDisplay FromStart else (if n == 2 then EraseDisplay Whole else Ignored))
 
 -- the functions of one count
 abbrev pub counting : ℕ → ℕ → Function
@@ -84,12 +88,14 @@ of_numbers final ns =
     else of_one_number final ns))))
 
 abbrev pub of_private_numbers : ℕ → List (Option ℕ) → Function
-of_private_numbers final ns = if final == 104 then Modes Private true ns else (if final == 108 then Modes Private false ns else Ignored)
+of_private_numbers final ns =
+    if final == 104 then Modes Private true ns else (if final == 108 then Modes Private false ns else Ignored)
 
 -- a question mark and numbers
 abbrev pub marked : ℕ → List ℕ → Function
 marked final [] = Ignored
-marked final (b ∷ bytes) = if (b == 63) && list_all is_numeral bytes then of_private_numbers final (numbers bytes) else Ignored
+marked final (b ∷ bytes) =
+    if (b == 63) && list_all is_numeral bytes then of_private_numbers final (numbers bytes) else Ignored
 
 -- a control sequence by its final byte and what stands before it
 abbrev pub named : ℕ → List ℕ → Function
@@ -101,16 +107,19 @@ sequence body = named (slice_index body (length body - 1)) (take (length body - 
 
 -- G0 or G1 becomes the graphic set for 0, the plain one for B (VT100 user guide, "Select character set")
 abbrev pub designation : CodeElement → ℕ → Function
-designation set final = if final == 48 then Designate set true else (if final == 66 then Designate set false else Ignored)
+designation set final =
+    if final == 48 then Designate set true else (if final == 66 then Designate set false else Ignored)
 
 -- an escape sequence of one byte after ESC: IND, NEL and RI (ECMA-48 8.3)
 abbrev pub escape_final : ℕ → Function
-escape_final final = if final == 68 then LineFeed else (if final == 69 then NextLine else (if final == 77 then ReverseIndex else Ignored))
+escape_final final = if final == 68 then LineFeed
+    else (if final == 69 then NextLine else (if final == 77 then ReverseIndex else Ignored))
 
 -- an escape sequence by what follows ESC
 abbrev pub escaped : List ℕ → Function
 escaped (final ∷ []) = escape_final final
-escaped (set ∷ final ∷ []) = if set == 40 then designation G0 final else (if set == 41 then designation G1 final else Ignored)
+escaped (set ∷ final ∷ []) =
+    if set == 40 then designation G0 final else (if set == 41 then designation G1 final else Ignored)
 escaped _ = Ignored
 
 -- a dropped sequence has no final byte of a function, and so no effect

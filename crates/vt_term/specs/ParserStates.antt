@@ -1,4 +1,5 @@
--- (Serves the code alone.) What each stage of the parser says of the bytes so far. Only the parser's own clauses cite this file.
+-- (Serves the code alone.) What each stage of the parser says of the bytes so far. Only the parser's own clauses cite
+-- this file.
 use Rattle.std.specs.Prelude.{◌≡◌, ◌≢◌, ℕ, ◌-◌, ◌<◌, ◌≤◌, ◌==◌, ◌&&◌, Bool, true, false, List, [], ◌∷◌, ◌++◌, length, take, slice_index, Option, None, Some}
 use Rattle.std.specs.List.{list_all}
 use Rattle.vt_term.specs.declared.parser.ParserState.{ParserState}
@@ -78,4 +79,5 @@ pub record ReadsTo (bytes : List ℕ) (ns : List (Option ℕ)) (at final : ℕ) 
 -- what is kept of a token tells its function
 abbrev pub IsTold : Option ParserState → List (Option ℕ) → List ℕ → Type 0
 IsTold None ns bytes = function_of bytes ≡ Ignored
-IsTold (Some stage) ns bytes = (front : List ℕ) × (last : ℕ) × (bytes ≡ front ++ last ∷ []) × IsAt stage ns front × IsWhole bytes
+IsTold (Some stage) ns bytes =
+    (front : List ℕ) × (last : ℕ) × (bytes ≡ front ++ last ∷ []) × IsAt stage ns front × IsWhole bytes

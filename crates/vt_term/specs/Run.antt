@@ -25,7 +25,8 @@ pub record Sticks (before : State) (bytes : List ℕ) (at : ℕ) (after : State)
 -- one byte is run, or it fits nothing and what was open is dropped
 abbrev pub Accepts : State → ℕ → Bool → State → Type 0
 Accepts before b true after = Runs before (b ∷ []) after
-Accepts before b false after = ((other : State) → Runs before (b ∷ []) other → ⊥) × (after ≡ record before { rest = [] })
+Accepts before b false after =
+    ((other : State) → Runs before (b ∷ []) other → ⊥) × (after ≡ record before { rest = [] })
 
 -- a run is cut in two
 pub record RunsCut (before : State) (first second : List ℕ) (after : State) : Type 0 where
@@ -43,7 +44,8 @@ place_of rows cols token = place_named rows cols (function_of token)
 
 -- the step of this token leads from every screen of the size to this place
 abbrev pub LeadsTo : ℕ → ℕ → List ℕ → ℕ → ℕ → Type 0
-LeadsTo rows cols token row col = (s : Screen) → IsScreen s → s.rows ≡ rows → s.cols ≡ cols → ((step token s).row ≡ row) × ((step token s).col ≡ col)
+LeadsTo rows cols token row col =
+    (s : Screen) → IsScreen s → s.rows ≡ rows → s.cols ≡ cols → ((step token s).row ≡ row) × ((step token s).col ≡ col)
 
 -- a run leaves the cursor there
 pub record RunsTo (height width : ℕ) (before : State) (bytes : List ℕ) (row col : ℕ) : Type 0 where
@@ -55,4 +57,5 @@ pub record RunsTo (height width : ℕ) (before : State) (bytes : List ℕ) (row 
 
 -- the whole text leads from every state at rest to this place
 abbrev pub Reaches : ℕ → ℕ → List ℕ → ℕ → ℕ → Type 0
-Reaches rows cols bytes row col = (before : State) → IsOfSize rows cols before → IsAtRest before → RunsTo rows cols before bytes row col
+Reaches rows cols bytes row col =
+    (before : State) → IsOfSize rows cols before → IsAtRest before → RunsTo rows cols before bytes row col

@@ -8,7 +8,8 @@ use Rattle.vt_term.specs.declared.scanners.TextFaultKind.TheVariants.{Unfinished
 -- the text is these tokens, one after another, and then these bytes, whatever they are
 abbrev pub Begins : List ℕ → List (List ℕ) → List ℕ → Type 0
 Begins text [] behind = text ≡ behind
-Begins text (token ∷ tokens) behind = (after : List ℕ) × (text ≡ token ++ after) × IsToken token after × Begins after tokens behind
+Begins text (token ∷ tokens) behind =
+    (after : List ℕ) × (text ≡ token ++ after) × IsToken token after × Begins after tokens behind
 
 -- this token stands in the text from one place to the other
 pub record IsTokenAt (text : List ℕ) (from end : ℕ) (token : List ℕ) : Type 0 where

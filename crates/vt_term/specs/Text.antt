@@ -88,7 +88,8 @@ IsToken bytes behind = IsWhole bytes ⊎ IsDropped bytes behind
 -- the text is these tokens, one after another, and then a rest that is still open
 abbrev pub Splits : List ℕ → List (List ℕ) → List ℕ → Type 0
 Splits text [] rest = (text ≡ rest) × IsOpen rest
-Splits text (token ∷ tokens) rest = (behind : List ℕ) × (text ≡ token ++ behind) × IsToken token behind × Splits behind tokens rest
+Splits text (token ∷ tokens) rest =
+    (behind : List ℕ) × (text ≡ token ++ behind) × IsToken token behind × Splits behind tokens rest
 
 -- the text falls into tokens and an open rest
 pub record IsSplit (text : List ℕ) : Type 0 where

@@ -131,7 +131,8 @@ impl Scanner {
 fn read(parser: &mut Parser, text: &[u8], from: usize) -> Result<Option<Ending>, TextFault>
     requires within { from ≤ length text.now }
     requires nothing { parser.old ≡ [] }
-    ensures token { IfOk result (λ found. IfSome found (λ ending. IsRead text.now from ending.end ending.last parser.new)) }
+    ensures token { IfOk result (λ found.
+        IfSome found (λ ending. IsRead text.now from ending.end ending.last parser.new)) }
     ensures end { IfOk result (λ found. found ≡ None → from ≡ length text.now) }
     ensures fault { IfErr result (HasFaultFrom text.now from) }
     ensures begun { IsOpen parser.new }

@@ -51,7 +51,8 @@ impl Terminal {
     }
 
     /// Feeds more of the stream, in pieces of any length; takes no memory. Stops at a byte that fits nothing: the bytes
-    /// before it were taken, that one was not, and an open sequence is dropped, so that a later call goes on from there.
+    /// before it were taken, that one was not, and an open sequence is dropped, so that a later call goes on from
+    /// there.
     pub fn feed(&mut self, bytes: &[u8]) -> Result<(), Stuck>
         ensures ok { OnOk result (Runs self.old bytes.now self.new) }
         ensures stuck { IfErr result (λ e. Sticks self.old bytes.now e.at self.new) }
