@@ -29,7 +29,8 @@ is_one_field opener (b ∷ rest) = not (ends_at_comma opener && (b == 44)) && is
 
 -- the bytes can be the names field of an entry: no control characters, and 4095 bytes at most
 abbrev pub names_fit : List ℕ → Bool
-names_fit names = nat_le (length names) 4095 && (begins_names names && (list_all (λ b. nat_le 32 b) names && is_one_field Nothing names))
+names_fit names = nat_le (length names) 4095
+    && (begins_names names && (list_all (λ b. nat_le 32 b) names && is_one_field Nothing names))
 
 -- the bytes can be the value of a string: no byte is 0, and there are 4095 at most
 abbrev pub string_fits : List ℕ → Bool

@@ -57,4 +57,6 @@ CountsAreStandard = (kind : Kind) → length (names_of kind) ≡ count_of kind
 
 -- the capability of a kind at a position has the name that the standard lists there
 abbrev pub NamesAreStandard : Type 0
-NamesAreStandard = (kind : Kind) (position : ℕ) → position < count_of kind → name_at (first_of kind + position) ≡ slice_index_or (names_of kind) position []
+NamesAreStandard =
+    (kind : Kind) (position : ℕ) → position < count_of kind
+    → name_at (first_of kind + position) ≡ slice_index_or (names_of kind) position []

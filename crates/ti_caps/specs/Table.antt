@@ -72,7 +72,9 @@ place_ranked rank = if nat_lt rank 497 then Some (place_of_rank rank) else None
 
 -- the names rise with their ranks, byte by byte
 abbrev pub NamesRise : Type 0
-NamesRise = (low high : ℕ) → low < high → high < 497 → slice_cmp nat_cmp (name_at (place_of_rank low)) (name_at (place_of_rank high)) ≡ Less
+NamesRise =
+    (low high : ℕ) → low < high → high < 497
+    → slice_cmp nat_cmp (name_at (place_of_rank low)) (name_at (place_of_rank high)) ≡ Less
 
 -- each capability's name has a rank
 abbrev pub EachHasRank : Type 0

@@ -31,7 +31,7 @@ abbrev pub all_bytes : List RowLine → ℕ
 all_bytes [] = 0
 all_bytes (line ∷ lines) = length line.bytes + all_bytes lines
 
--- the strings are those of the lines, and attributes look as these tell
+-- the strings are those of the lines, and attributes look as these say
 pub record Lists (k : Known) (lines : List RowLine) : Type 0 where
   pub found : (row : Row) (bytes : List ℕ) → row_string k.strings row ≡ Some bytes → GivesBytes lines row bytes
   pub kept : (line : RowLine) → IsAmong lines line → row_string k.strings line.row ≡ Some line.bytes
@@ -63,7 +63,8 @@ abbrev pub Tells : Progress → Awaited → Said → Type 0
 Tells p lines_awaited.First Nothing = Stands p [] × (p.acsc ≡ None)
 Tells p lines_awaited.Acsc Sized = Stands p [] × (p.acsc ≡ None)
 Tells p lines_awaited.Rows (Listing pairs lines) = Stands p lines × (p.acsc ≡ pairs)
-Tells p (lines_awaited.Ended settled) (Ended pairs lines) = Stands p lines × (p.acsc ≡ pairs) × IsJudged (checked_of p.known settled)
+Tells p (lines_awaited.Ended settled) (Ended pairs lines) =
+    Stands p lines × (p.acsc ≡ pairs) × IsJudged (checked_of p.known settled)
 Tells p awaited said = ⊥
 
 abbrev pub TellsNow : Progress → Said → Type 0
@@ -82,7 +83,8 @@ Becomes p (Ok q) Judges = Steps q p.size.rows p.size.cols Judges
 Becomes p (Err kind) Judges = Judges (Err kind)
 
 abbrev pub AnswersLine : Progress → List ℕ → Result Progress CertFaultKind → Type 0
-AnswersLine p text answer = (said : Said) → TellsNow p said → Becomes p answer (JudgesLine p.size.rows p.size.cols said text)
+AnswersLine p text answer =
+    (said : Said) → TellsNow p said → Becomes p answer (JudgesLine p.size.rows p.size.cols said text)
 
 abbrev pub AnswersEnd : Progress → Result Progress CertFaultKind → Type 0
 AnswersEnd p answer = (said : Said) → TellsNow p said → Becomes p answer (JudgesEnd said)
@@ -118,14 +120,18 @@ pub record IsTableMade (p : Progress) (table : CheckedTable) : Type 0 where
 
 -- the same of what stands after the first two lines, of a line about a capability, and of the last one
 abbrev pub AnswersLater : Progress → List ℕ → Result Progress CertFaultKind → Type 0
-AnswersLater p text answer = (pairs : Option (List ℕ)) (lines : List RowLine) → Stands p lines → p.acsc ≡ pairs → Becomes p answer (JudgesLater p.size.rows p.size.cols pairs lines text)
+AnswersLater p text answer =
+    (pairs : Option (List ℕ)) (lines : List RowLine) → Stands p lines → p.acsc ≡ pairs
+    → Becomes p answer (JudgesLater p.size.rows p.size.cols pairs lines text)
 
 abbrev pub AnswersRow : Progress → RowLine → Result Progress CertFaultKind → Type 0
 AnswersRow p line answer = (pairs : Option (List ℕ)) (lines : List RowLine) → Stands p lines → p.acsc ≡ pairs
     → Becomes p answer (λ said. JudgesRow p.size.rows p.size.cols lines line (Listing pairs (line ∷ lines)) said)
 
 abbrev pub AnswersLast : Progress → Result Progress CertFaultKind → Type 0
-AnswersLast p answer = (pairs : Option (List ℕ)) (lines : List RowLine) → Stands p lines → p.acsc ≡ pairs → Becomes p answer (JudgesLast p.size.rows p.size.cols pairs lines)
+AnswersLast p answer =
+    (pairs : Option (List ℕ)) (lines : List RowLine) → Stands p lines → p.acsc ≡ pairs
+    → Becomes p answer (JudgesLast p.size.rows p.size.cols pairs lines)
 
 -- refused with this fault, or out of memory
 abbrev pub OrNoMemory : CertFaultKind → (Result Progress CertFaultKind → Type 0) → Type 0
@@ -136,10 +142,15 @@ abbrev pub IsTokenFault : List ℕ → CertFaultKind → Type 0
 IsTokenFault bytes kind = ((kind ≡ NotWhole) × (IsWholeText bytes → ⊥)) ⊎ (kind ≡ NoMemory)
 
 -- what is wrong with the effect of tokens
-pub data Misshows (k : Known) (row : Row) (stated : Effect) (tokens : List (List ℕ)) (kind : CertFaultKind) : Type 0 where
-  NoRecord : record_of k.strings.rows k.strings.cols (start_of k.strings.rows k.strings.cols row) tokens ≡ None → kind ≡ NotTame → Misshows k row stated tokens kind
-  Another : (effect : Effect) → record_of k.strings.rows k.strings.cols (start_of k.strings.rows k.strings.cols row) tokens ≡ Some effect → (effect ≡ stated → ⊥) → kind ≡ NotShown → Misshows k row stated tokens kind
-  NotAsked : record_of k.strings.rows k.strings.cols (start_of k.strings.rows k.strings.cols row) tokens ≡ Some stated → (stated ≡ asked (looks_with k row stated) row stated → ⊥)
+pub data Misshows (k : Known) (row : Row) (stated : Effect) (tokens : List (List ℕ))
+    (kind : CertFaultKind) : Type 0 where
+  NoRecord : record_of k.strings.rows k.strings.cols (start_of k.strings.rows k.strings.cols row) tokens ≡ None
+      → kind ≡ NotTame → Misshows k row stated tokens kind
+  Another : (effect : Effect)
+      → record_of k.strings.rows k.strings.cols (start_of k.strings.rows k.strings.cols row) tokens ≡ Some effect
+      → (effect ≡ stated → ⊥) → kind ≡ NotShown → Misshows k row stated tokens kind
+  NotAsked : record_of k.strings.rows k.strings.cols (start_of k.strings.rows k.strings.cols row) tokens ≡ Some stated
+      → (stated ≡ asked (looks_with k row stated) row stated → ⊥)
       → IsMisfit row stated kind → Misshows k row stated tokens kind
 
 -- why a text is none about a capability
@@ -151,7 +162,8 @@ pub data IsMisplacedBy (text : List ℕ) (kind : CertFaultKind) : Type 0 where
 -- a string has no record, or memory ran out
 pub data LacksRecord (s : Strings) (kind : CertFaultKind) : Type 0 where
   NotSplit : (row : Row) (bytes : List ℕ) → row_string s row ≡ Some bytes → (IsWholeText bytes → ⊥) → LacksRecord s kind
-  NotRecorded : (row : Row) (bytes : List ℕ) → row_string s row ≡ Some bytes → (tokens : List (List ℕ)) → Splits bytes tokens [] → record_of s.rows s.cols (start_of s.rows s.cols row) tokens ≡ None → LacksRecord s kind
+  NotRecorded : (row : Row) (bytes : List ℕ) → row_string s row ≡ Some bytes → (tokens : List (List ℕ))
+      → Splits bytes tokens [] → record_of s.rows s.cols (start_of s.rows s.cols row) tokens ≡ None → LacksRecord s kind
   RanOut : kind ≡ NoMemory → LacksRecord s kind
 
 -- a line that has to be there isn't
@@ -168,5 +180,6 @@ pub record IsConcluded (k : Known) (has_pairs : Bool) (settled : Charsets) : Typ
 -- why lines that were judged one by one can't be concluded
 pub data ConcludesBy (k : Known) (has_pairs : Bool) (kind : CertFaultKind) : Type 0 where
   Lacking : LacksNeeded k.strings kind → ConcludesBy k has_pairs kind
-  Together : (settled : Charsets) (clash : Clash) → IsClash has_pairs (checked_of k settled) clash → kind ≡ kind_of clash → ConcludesBy k has_pairs kind
+  Together : (settled : Charsets) (clash : Clash) → IsClash has_pairs (checked_of k settled) clash
+      → kind ≡ kind_of clash → ConcludesBy k has_pairs kind
   NoRoom : kind ≡ NoMemory → ConcludesBy k has_pairs kind

@@ -1,5 +1,5 @@
--- The plainest entries: the cursor goes to a place, cells are erased and the rendition becomes plain, each by one string of ECMA-48; and
--- the text of their certificate.
+-- The plainest entries: the cursor goes to a place, cells are erased and the rendition becomes plain, each by one
+-- string of ECMA-48; and the text of their certificate.
 use Rattle.std.specs.Prelude.{ℕ, ◌≡◌, ◌⊎◌, Bool, true, false, if◌then◌else◌, List, [], ◌∷◌, ◌++◌, map, reverse, None, Some, Ok}
 use Rattle.std.specs.List.{flat_map, range_with_len}
 use Rattle.vt_term.specs.Moves.{cursor_to}
@@ -58,13 +58,15 @@ is_basic home el El = el
 is_basic home el Sgr0 = true
 is_basic home el _ = false
 
--- An entry is basic at a size: it is fit and has no alternate characters, no other capability of it is checked, and for each parameter
--- list in range a string has no fault, reads no static variable that it didn't set before, and sends just these bytes.
+-- An entry is basic at a size: it is fit and has no alternate characters, no other capability of it is checked, and for
+-- each parameter list in range a string has no fault, reads no static variable that it didn't set before, and sends
+-- just these bytes.
 pub record IsBasic (entry : Content) (rows cols : ℕ) : Type 0 where
   pub fit : IsFit entry
   pub no_pairs : string_at entry acsc ≡ None
   pub only : (row : Row) → is_checked entry row ≡ true → is_basic true true row ≡ true
-  pub sends : (row : Row) → IsInRange rows cols row → is_checked entry row ≡ true → (string : List ℕ) → string_of entry row ≡ Some string → Sends string row (basic_bytes row)
+  pub sends : (row : Row) → IsInRange rows cols row → is_checked entry row ≡ true → (string : List ℕ)
+      → string_of entry row ≡ Some string → Sends string row (basic_bytes row)
 
 -- every place of the screen, line by line
 abbrev pub places : ℕ → ℕ → List Row
@@ -78,7 +80,8 @@ abbrev pub basic_rows : ℕ → ℕ → Bool → Bool → List Row
 basic_rows rows cols home el = Clear ∷ (places rows cols ++ (only_if el El ++ (only_if home Home ++ Sgr0 ∷ [])))
 
 unfoldable pub basic_text : ℕ → ℕ → Bool → Bool → List ℕ
-basic_text rows cols home el = ended (line_texts (record { rows = rows; cols = cols; acsc = None; lines = map basic_line (basic_rows rows cols home el) }))
+basic_text rows cols home el = ended (line_texts
+    (record { rows = rows; cols = cols; acsc = None; lines = map basic_line (basic_rows rows cols home el) }))
 
 -- the basic text of an entry
 abbrev pub basic_text_of : Content → ℕ → ℕ → List ℕ
@@ -86,7 +89,9 @@ basic_text_of entry rows cols = basic_text rows cols (has_string entry Home) (ha
 
 -- a basic text is accepted, with just its lines, the latest first
 abbrev pub BasicAccepted : Type 0
-BasicAccepted = (rows cols : ℕ) (home el : Bool) → IsSize rows cols → IsAnswer rows cols (basic_text rows cols home el) (Ok (Ended None (reverse (map basic_line (basic_rows rows cols home el)))))
+BasicAccepted =
+    (rows cols : ℕ) (home el : Bool) → IsSize rows cols → IsAnswer rows cols (basic_text rows cols home el)
+    (Ok (Ended None (reverse (map basic_line (basic_rows rows cols home el)))))
 
 -- so nothing is wrong with it: memory ran out, or the reader failed
 abbrev pub IsStopped : Type 0 → CertFault → Type 0
@@ -100,13 +105,15 @@ IsVerifyStopped Failed (Agree fault) = fault ≡ agreeing.NoMemory
 pub record IsBasicTable (entry : Content) (table : tables.CheckedTable) : Type 0 where
   pub size : IsSize table.known.strings.rows table.known.strings.cols
   pub basic : IsBasic entry table.known.strings.rows table.known.strings.cols
-  pub made : IsTableOf table.known.strings.rows table.known.strings.cols (basic_text_of entry table.known.strings.rows table.known.strings.cols) table
+  pub made : IsTableOf table.known.strings.rows table.known.strings.cols
+      (basic_text_of entry table.known.strings.rows table.known.strings.cols) table
 
 -- is just what the entry sends
 pub record IsTableFor (entry : Content) (table : tables.CheckedTable) : Type 0 where
   pub fit : IsFit entry
   pub pairs : table.acsc ≡ string_at entry acsc
-  pub agrees : EntryAgrees table.known.strings.rows table.known.strings.cols entry (λ row. row_string table.known.strings row)
+  pub agrees : EntryAgrees table.known.strings.rows table.known.strings.cols entry
+      (λ row. row_string table.known.strings row)
 
 abbrev pub BasicAgrees : Type 0
 BasicAgrees = (entry : Content) (table : tables.CheckedTable) → IsBasicTable entry table → IsTableFor entry table
@@ -115,10 +122,13 @@ BasicAgrees = (entry : Content) (table : tables.CheckedTable) → IsBasicTable e
 pub record AreSent (entry : Content) (rows cols : ℕ) (lines : List RowLine) : Type 0 where
   pub range : (line : RowLine) → IsAmong lines line → IsInRange rows cols line.row
   pub checked : (line : RowLine) → IsAmong lines line → is_checked entry line.row ≡ true
-  pub sends : (line : RowLine) → IsAmong lines line → (string : List ℕ) → string_of entry line.row ≡ Some string → Sends string line.row line.bytes
+  pub sends : (line : RowLine) → IsAmong lines line → (string : List ℕ) → string_of entry line.row ≡ Some string
+      → Sends string line.row line.bytes
   pub all : (row : Row) → IsInRange rows cols row → is_checked entry row ≡ true → HasLine lines row
 
 -- a text that is accepted with just those is the basic text
 abbrev pub BasicAlone : Type 0
-BasicAlone = (entry : Content) (rows cols : ℕ) (text : List ℕ) (lines : List RowLine) → IsSize rows cols → IsBasic entry rows cols → IsAnswer rows cols text (Ok (Ended None lines)) → AreSent entry rows cols lines
+BasicAlone =
+    (entry : Content) (rows cols : ℕ) (text : List ℕ) (lines : List RowLine) → IsSize rows cols
+    → IsBasic entry rows cols → IsAnswer rows cols text (Ok (Ended None lines)) → AreSent entry rows cols lines
     → text ≡ basic_text_of entry rows cols

@@ -1,5 +1,5 @@
--- How the lines of a certificate are judged one after another: which line may follow those that were read, and otherwise its
--- first fault. Lines are listed with the latest first.
+-- How the lines of a certificate are judged one after another: which line may follow those that were read, and
+-- otherwise its first fault. Lines are listed with the latest first.
 use Rattle.std.specs.Prelude.{ℕ, ◌≡◌, ◌==◌, ◌||◌, is_some, Bool, true, false, if◌then◌else◌, List, [], ◌∷◌, Option, None, Some, Result, Ok, Err}
 use Rattle.vt_term.specs.Text.{Splits}
 use Rattle.vt_effects.specs.declared.effects.Effect.{Effect}
@@ -28,8 +28,8 @@ use Rattle.ti_cert.specs.declared.faults.CertFaultKind.TheVariants.{BadLine, Mis
 abbrev pub missing_line : Row → CertFaultKind
 missing_line row = Missing (cap_of row) (record { items = params row })
 
--- What the lines so far say: nothing, the size alone, or also the pairs of alternate characters, where there are any, and
--- lines about capabilities, with the last line or before it.
+-- What the lines so far say: nothing, the size alone, or also the pairs of alternate characters, where there are any,
+-- and lines about capabilities, with the last line or before it.
 pub data Said : Type 0 where
   Nothing : Said
   Sized : Said
@@ -49,7 +49,8 @@ rival _ = Sgr no_attributes
 -- how attributes look by these lines: by those of `sgr` for one attribute alone, or else by those of single attributes
 abbrev pub looks_of : List RowLine → Looks
 looks_of [] = no_looks
-looks_of (line ∷ lines) = if speaks_of lines (rival line.row) then looks_of lines else learned line.row line.effect (looks_of lines)
+looks_of (line ∷ lines) =
+    if speaks_of lines (rival line.row) then looks_of lines else learned line.row line.effect (looks_of lines)
 
 -- the bytes are whole control functions
 pub record IsWholeText (bytes : List ℕ) : Type 0 where
@@ -68,7 +69,8 @@ pub record HasNoEffect (rows cols : ℕ) (line : RowLine) : Type 0 where
   pub splits : Splits line.bytes tokens []
   pub unrecorded : record_of rows cols (start_of rows cols line.row) tokens ≡ None
 
--- the fault of a line whose effect isn't the one that is asked for: an attribute of its own that looks like others, or any
+-- the fault of a line whose effect isn't the one that is asked for: an attribute of its own that looks like others, or
+-- any
 pub data IsMisfit (row : Row) (effect : Effect) (kind : CertFaultKind) : Type 0 where
   Mislooks : is_alone row ≡ true → IsSomeLook effect → kind ≡ BadLook → IsMisfit row effect kind
   Misdoes : (is_alone row ≡ true → IsSomeLook effect → ⊥) → kind ≡ NotShown → IsMisfit row effect kind
@@ -77,35 +79,56 @@ abbrev pub IsAskedFor : List RowLine → RowLine → Type 0
 IsAskedFor lines line = line.effect ≡ asked (looks_of (line ∷ lines)) line.row line.effect
 
 -- A line about a capability after these lines, by cases in the order in which faults are reported.
-pub data JudgesRow (rows cols : ℕ) (lines : List RowLine) (line : RowLine) (after : Said) (answer : Result Said CertFaultKind) : Type 0 where
+pub data JudgesRow (rows cols : ℕ) (lines : List RowLine) (line : RowLine) (after : Said)
+    (answer : Result Said CertFaultKind) : Type 0 where
   NotAllowed : (IsInRange rows cols line.row → ⊥) → answer ≡ Err BadLine → JudgesRow rows cols lines line after answer
-  TooLate : IsInRange rows cols line.row → IsLate rows cols lines line.row → answer ≡ Err OutOfOrder → JudgesRow rows cols lines line after answer
-  TooEarly : IsInRange rows cols line.row → IsBehind rows cols lines line.row → (row : Row) → IsFirstLacking rows cols lines (Some line.row) row → answer ≡ Err (missing_line row)
+  TooLate : IsInRange rows cols line.row → IsLate rows cols lines line.row → answer ≡ Err OutOfOrder
       → JudgesRow rows cols lines line after answer
-  Cut : IsInPlace rows cols lines line.row → (IsWholeText line.bytes → ⊥) → answer ≡ Err NotWhole → JudgesRow rows cols lines line after answer
-  Wild : IsInPlace rows cols lines line.row → HasNoEffect rows cols line → answer ≡ Err NotTame → JudgesRow rows cols lines line after answer
-  Untrue : IsInPlace rows cols lines line.row → (effect : Effect) → HasEffect rows cols line effect → (effect ≡ line.effect → ⊥) → answer ≡ Err NotShown → JudgesRow rows cols lines line after answer
-  Unasked : IsInPlace rows cols lines line.row → HasEffect rows cols line line.effect → (IsAskedFor lines line → ⊥) → (kind : CertFaultKind) → IsMisfit line.row line.effect kind → answer ≡ Err kind
+  TooEarly : IsInRange rows cols line.row → IsBehind rows cols lines line.row → (row : Row)
+      → IsFirstLacking rows cols lines (Some line.row) row → answer ≡ Err (missing_line row)
       → JudgesRow rows cols lines line after answer
-  Stands : IsInPlace rows cols lines line.row → HasEffect rows cols line line.effect → IsAskedFor lines line → answer ≡ Ok after → JudgesRow rows cols lines line after answer
+  Cut : IsInPlace rows cols lines line.row → (IsWholeText line.bytes → ⊥) → answer ≡ Err NotWhole
+      → JudgesRow rows cols lines line after answer
+  Wild : IsInPlace rows cols lines line.row → HasNoEffect rows cols line → answer ≡ Err NotTame
+      → JudgesRow rows cols lines line after answer
+  Untrue : IsInPlace rows cols lines line.row → (effect : Effect) → HasEffect rows cols line effect
+      → (effect ≡ line.effect → ⊥) → answer ≡ Err NotShown → JudgesRow rows cols lines line after answer
+  Unasked : IsInPlace rows cols lines line.row → HasEffect rows cols line line.effect → (IsAskedFor lines line → ⊥)
+      → (kind : CertFaultKind) → IsMisfit line.row line.effect kind → answer ≡ Err kind
+      → JudgesRow rows cols lines line after answer
+  Stands : IsInPlace rows cols lines line.row → HasEffect rows cols line line.effect → IsAskedFor lines line
+      → answer ≡ Ok after → JudgesRow rows cols lines line after answer
 
 -- the last line, by cases in the order in which faults are reported
-pub data JudgesLast (rows cols : ℕ) (pairs : Option (List ℕ)) (lines : List RowLine) (answer : Result Said CertFaultKind) : Type 0 where
-  Lacks : (row : Row) → IsFirstLacking rows cols lines None row → answer ≡ Err (missing_line row) → JudgesLast rows cols pairs lines answer
-  Clashes : IsComplete rows cols lines None → (clash : Clash) → OfLines rows cols lines (λ t. IsClash (is_some pairs) t clash) → answer ≡ Err (kind_of clash) → JudgesLast rows cols pairs lines answer
-  Closes : IsComplete rows cols lines None → OfLines rows cols lines (λ t. GoesTogether (is_some pairs) t) → answer ≡ Ok (Ended pairs lines) → JudgesLast rows cols pairs lines answer
+pub data JudgesLast (rows cols : ℕ) (pairs : Option (List ℕ)) (lines : List RowLine)
+    (answer : Result Said CertFaultKind) : Type 0 where
+  Lacks : (row : Row) → IsFirstLacking rows cols lines None row → answer ≡ Err (missing_line row)
+      → JudgesLast rows cols pairs lines answer
+  Clashes : IsComplete rows cols lines None → (clash : Clash)
+      → OfLines rows cols lines (λ t. IsClash (is_some pairs) t clash) → answer ≡ Err (kind_of clash)
+      → JudgesLast rows cols pairs lines answer
+  Closes : IsComplete rows cols lines None → OfLines rows cols lines (λ t. GoesTogether (is_some pairs) t)
+      → answer ≡ Ok (Ended pairs lines) → JudgesLast rows cols pairs lines answer
 
 -- a line after that of alternate characters, or where that one may stand
-pub data JudgesLater (rows cols : ℕ) (pairs : Option (List ℕ)) (lines : List RowLine) (text : List ℕ) (answer : Result Said CertFaultKind) : Type 0 where
+pub data JudgesLater (rows cols : ℕ) (pairs : Option (List ℕ)) (lines : List RowLine) (text : List ℕ)
+    (answer : Result Said CertFaultKind) : Type 0 where
   IsLast : is_end text ≡ true → JudgesLast rows cols pairs lines answer → JudgesLater rows cols pairs lines text answer
-  IsRow : is_end text ≡ false → (line : RowLine) → IsTextOf text line → JudgesRow rows cols lines line (Listing pairs (line ∷ lines)) answer → JudgesLater rows cols pairs lines text answer
-  IsMisplaced : is_end text ≡ false → ((line : RowLine) → IsTextOf text line → ⊥) → (bytes : List ℕ) → IsAcscText text bytes → answer ≡ Err OutOfOrder → JudgesLater rows cols pairs lines text answer
-  IsNone : is_end text ≡ false → ((line : RowLine) → IsTextOf text line → ⊥) → ((bytes : List ℕ) → IsAcscText text bytes → ⊥) → answer ≡ Err BadLine → JudgesLater rows cols pairs lines text answer
+  IsRow : is_end text ≡ false → (line : RowLine) → IsTextOf text line
+      → JudgesRow rows cols lines line (Listing pairs (line ∷ lines)) answer
+      → JudgesLater rows cols pairs lines text answer
+  IsMisplaced : is_end text ≡ false → ((line : RowLine) → IsTextOf text line → ⊥) → (bytes : List ℕ)
+      → IsAcscText text bytes → answer ≡ Err OutOfOrder → JudgesLater rows cols pairs lines text answer
+  IsNone : is_end text ≡ false → ((line : RowLine) → IsTextOf text line → ⊥)
+      → ((bytes : List ℕ) → IsAcscText text bytes → ⊥) → answer ≡ Err BadLine
+      → JudgesLater rows cols pairs lines text answer
 
 -- the second line
 pub data JudgesSecond (rows cols : ℕ) (text : List ℕ) (answer : Result Said CertFaultKind) : Type 0 where
-  HasPairs : (bytes : List ℕ) → IsAcscText text bytes → answer ≡ Ok (Listing (Some bytes) []) → JudgesSecond rows cols text answer
-  HasNoPairs : ((bytes : List ℕ) → IsAcscText text bytes → ⊥) → JudgesLater rows cols None [] text answer → JudgesSecond rows cols text answer
+  HasPairs : (bytes : List ℕ) → IsAcscText text bytes → answer ≡ Ok (Listing (Some bytes) [])
+      → JudgesSecond rows cols text answer
+  HasNoPairs : ((bytes : List ℕ) → IsAcscText text bytes → ⊥) → JudgesLater rows cols None [] text answer
+      → JudgesSecond rows cols text answer
 
 -- the first line
 pub data JudgesFirst (rows cols : ℕ) (text : List ℕ) (answer : Result Said CertFaultKind) : Type 0 where

@@ -1,5 +1,5 @@
--- What may be wrong with the lines of a table together, though each is right: the character sets that they leave, and how they lead a
--- terminal out of an unknown state (terminfo(5), "Initialization" and "Line Graphics").
+-- What may be wrong with the lines of a table together, though each is right: the character sets that they leave, and
+-- how they lead a terminal out of an unknown state (terminfo(5), "Initialization" and "Line Graphics").
 use Rattle.std.specs.Prelude.{ℕ, ◌≡◌, ◌&&◌, Bool, true, false, List, ◌∷◌, Some}
 use Rattle.vt_term.specs.Screen.{Charset, is_graphic}
 use Rattle.ti_conforms.specs.Charsets.{IsAmong}
@@ -27,7 +27,8 @@ pub record Misswitches (t : Table) (row : Row) (before : Charset) : Type 0 where
 abbrev pub SwitchesRight : Table → Row → Type 0
 SwitchesRight t row = (before : Charset) → Misswitches t row before → ⊥
 
--- the graphic set can stay active where letters of line graphics can't be sent, without pairs of them or without strings that switch sets
+-- the graphic set can stay active where letters of line graphics can't be sent, without pairs of them or without
+-- strings that switch sets
 pub record StaysGraphic (pairs : Bool) (t : Table) : Type 0 where
   pub unsent : (pairs && has_sets t) ≡ false
   pub charset : Charset
@@ -47,7 +48,8 @@ abbrev pub IsClash : Bool → Table → Clash → Type 0
 IsClash pairs t (clashes.Smacs before) = Misswitches t Smacs before
 IsClash pairs t (clashes.Rmacs before) = SwitchesRight t Smacs × Misswitches t Rmacs before
 IsClash pairs t clashes.Acsc = SwitchesRight t Smacs × SwitchesRight t Rmacs × StaysGraphic pairs t
-IsClash pairs t clashes.Clear = SwitchesRight t Smacs × SwitchesRight t Rmacs × (StaysGraphic pairs t → ⊥) × BeginsOpen t
+IsClash pairs t clashes.Clear =
+    SwitchesRight t Smacs × SwitchesRight t Rmacs × (StaysGraphic pairs t → ⊥) × BeginsOpen t
 
 -- none of the four is so; then what leads out of an unknown state leaves the plain set active too
 pub record GoesTogether (pairs : Bool) (t : Table) : Type 0 where

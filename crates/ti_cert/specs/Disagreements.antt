@@ -18,8 +18,8 @@ use Rattle.ti_cert.specs.declared.faults.AgreeFault.TheVariants.{Disagree, NoMem
 use Rattle.ti_cert.specs.declared.faults.VerifyFault.{VerifyFault}
 use Rattle.ti_cert.specs.declared.faults.VerifyFault.TheVariants.{Cert, Agree}
 
--- The line of this capability and these parameters, which the size allows, isn't just what the entry sends: it has other
--- bytes, or isn't there, or is there though the capability isn't checked.
+-- The line of this capability and these parameters, which the size allows, isn't just what the entry sends: it has
+-- other bytes, or isn't there, or is there though the capability isn't checked.
 pub record HasOtherLine (table : CheckedTable) (entry : caps.Content) (cap : ℕ) (numbers : List ℕ) : Type 0 where
   pub row : Row
   pub cap_is : cap ≡ cap_of row
@@ -27,12 +27,15 @@ pub record HasOtherLine (table : CheckedTable) (entry : caps.Content) (cap : ℕ
   pub range : IsInRange table.known.strings.rows table.known.strings.cols row
   pub differs : LineAgrees entry (row_string table.known.strings row) row → ⊥
 
--- What is told first: why no certificate is for the entry as a whole, by the capability of the first such reason; then that its pairs
--- of alternate characters are others; both without parameters. Then a line.
+-- What is reported first: why no certificate is for the entry as a whole, by the capability of the first such reason;
+-- then that its pairs of alternate characters are others; both without parameters. Then a line.
 pub data IsDisagreement (table : CheckedTable) (entry : caps.Content) (cap : ℕ) (numbers : List ℕ) : Type 0 where
-  RuledOut : (why : Unfit) → IsUnfit entry why → cap ≡ cap_of_unfit why → numbers ≡ [] → IsDisagreement table entry cap numbers
-  OtherPairs : IsFit entry → cap ≡ acsc → (table.acsc ≡ string_at entry acsc → ⊥) → numbers ≡ [] → IsDisagreement table entry cap numbers
-  OtherLine : IsFit entry → table.acsc ≡ string_at entry acsc → HasOtherLine table entry cap numbers → IsDisagreement table entry cap numbers
+  RuledOut : (why : Unfit) → IsUnfit entry why → cap ≡ cap_of_unfit why → numbers ≡ []
+      → IsDisagreement table entry cap numbers
+  OtherPairs : IsFit entry → cap ≡ acsc → (table.acsc ≡ string_at entry acsc → ⊥) → numbers ≡ []
+      → IsDisagreement table entry cap numbers
+  OtherLine : IsFit entry → table.acsc ≡ string_at entry acsc → HasOtherLine table entry cap numbers
+      → IsDisagreement table entry cap numbers
 
 -- running out of memory claims nothing
 abbrev pub IsDisagreeing : CheckedTable → caps.Content → AgreeFault → Type 0
@@ -63,5 +66,8 @@ IsAtRow row NoMemory = ⊥
 
 -- Where one is so, the certificate isn't that of the entry.
 abbrev pub DisagreementExcludesYes : Type 0
-DisagreementExcludesYes = (table : CheckedTable) (entry : caps.Content) (cap : ℕ) (numbers : List ℕ) → IsDisagreement table entry cap numbers → IsFit entry → table.acsc ≡ string_at entry acsc
-    → EntryAgrees table.known.strings.rows table.known.strings.cols entry (λ row. row_string table.known.strings row) → ⊥
+DisagreementExcludesYes =
+    (table : CheckedTable) (entry : caps.Content) (cap : ℕ) (numbers : List ℕ) → IsDisagreement table entry cap numbers
+    → IsFit entry → table.acsc ≡ string_at entry acsc
+    → EntryAgrees table.known.strings.rows table.known.strings.cols entry (λ row. row_string table.known.strings row)
+    → ⊥

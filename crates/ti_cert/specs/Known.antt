@@ -15,7 +15,7 @@ use Rattle.ti_cert.specs.Strings.{Strings, row_string, has_group}
 use Rattle.ti_conforms.specs.Looks.{LooksAlone}
 use Rattle.ti_cert.specs.Certificates.{rival}
 
--- what lines have told so far
+-- what the lines so far say
 pub record Known : Type 0 where
   pub strings : Strings
   pub looks : Looks
@@ -27,13 +27,15 @@ abbrev pub looks_with : Known → Row → Effect → Looks
 looks_with k row e = if has_group k.strings (rival row) then k.looks else learned row e k.looks
 
 -- the line's bytes are whole tokens, and their record is the one that the table asks for
-pub record HasRecord (rows cols : ℕ) (looks : Looks) (row : Row) (tokens : List (List ℕ)) (effect : Effect) : Type 0 where
+pub record HasRecord (rows cols : ℕ) (looks : Looks) (row : Row) (tokens : List (List ℕ))
+    (effect : Effect) : Type 0 where
   pub recorded : record_of rows cols (start_of rows cols row) tokens ≡ Some effect
   pub asked_for : effect ≡ asked looks row effect
 
 -- what was found of these tokens, from the row's start
 abbrev pub IsRecord : Known → Row → List (List ℕ) → Option Effect → Type 0
-IsRecord k row tokens found = found ≡ record_of k.strings.rows k.strings.cols (start_of k.strings.rows k.strings.cols row) tokens
+IsRecord k row tokens found =
+    found ≡ record_of k.strings.rows k.strings.cols (start_of k.strings.rows k.strings.cols row) tokens
 
 -- the bytes are whole tokens of such a record
 pub record TellsRecord (rows cols : ℕ) (looks : Looks) (row : Row) (bytes : List ℕ) (effect : Effect) : Type 0 where
@@ -79,7 +81,8 @@ pub record IsTold (k : Known) (change : Sets) : Type 0 where
   pub tokens : List (List ℕ)
   pub whole : Splits bytes tokens []
   pub effect : Effect
-  pub recorded : record_of k.strings.rows k.strings.cols (start_of k.strings.rows k.strings.cols row) tokens ≡ Some effect
+  pub recorded : record_of k.strings.rows k.strings.cols (start_of k.strings.rows k.strings.cols row) tokens
+      ≡ Some effect
   pub is : change ≡ effect.charset
 
 pub record Holds (k : Known) : Type 0 where

@@ -43,8 +43,8 @@ abbrev pub IsOfCap : Option Row → Row → Type 0
 IsOfCap None row = ⊥
 IsOfCap (Some next) row = order row ≡ order next
 
--- A line about this row has to stand before what comes next, and doesn't: its capability is a required one, or has a line
--- or is to have one now, and a capability that has one line has all that the size allows.
+-- A line about this row has to stand before what comes next, and doesn't: its capability is a required one, or has a
+-- line or is to have one now, and a capability that has one line has all that the size allows.
 pub record IsLacking (rows cols : ℕ) (lines : List RowLine) (next : Option Row) (row : Row) : Type 0 where
   pub range : IsInRange rows cols row
   pub absent : HasLine lines row → ⊥

@@ -1,4 +1,5 @@
--- (Serves the code alone.) How the order of lines is tested, by the row of the last line and the number of lines about one capability.
+-- (Serves the code alone.) How the order of lines is tested, by the row of the last line and the number of lines about
+-- one capability.
 use Rattle.std.specs.Prelude.{ℕ, ◌+◌, ◌==◌, ◌&&◌, ◌||◌, nat_le, nat_lt, Bool, false, if◌then◌else◌, Option, None, Some}
 use Rattle.ti_rows.specs.declared.rows.Row.{Row}
 use Rattle.ti_rows.specs.Names.{order, first_in_order}
@@ -34,7 +35,8 @@ missing rows cols (Some last) n = missing_behind (next_within rows cols last) (o
 -- the line that has to come next where lines of the row's capability come
 abbrev pub expected : ℕ → ℕ → Option Row → Row → Option Row
 expected rows cols None row = first_in_order (order row)
-expected rows cols (Some last) row = if order last == order row then next_within rows cols last else first_in_order (order row)
+expected rows cols (Some last) row =
+    if order last == order row then next_within rows cols last else first_in_order (order row)
 
 abbrev pub or_row : Option Row → Row → Row
 or_row None row = row
@@ -49,9 +51,10 @@ or_missing None fault = fault
 or_missing (Some row) fault = Some (missing_line row)
 
 abbrev pub early_fault : ℕ → ℕ → Option Row → ℕ → Row → Option CertFaultKind
-early_fault rows cols last count row = if rank rows cols row == count then None else Some (missing_line (or_row (expected rows cols last row) row))
+early_fault rows cols last count row =
+    if rank rows cols row == count then None else Some (missing_line (or_row (expected rows cols last row) row))
 
--- the fault of a line of this row after so many of its capability
+-- the fault of a line of this row after this many of its capability
 abbrev pub place_fault : ℕ → ℕ → Option Row → ℕ → Row → Option CertFaultKind
 place_fault rows cols last count row =
     if allows rows cols row

@@ -50,14 +50,16 @@ pub record AreSeen (t : Table) (reach : Reach) (changes : List Sets) : Type 0 wh
 -- what the row's line does, nothing where there is none
 pub data ChangesBy (t : Table) (row : Row) : Option Sets → Type 0 where
   NoLine : t.line_of row ≡ None → ChangesBy t row None
-  ByLine : (bytes : List ℕ) → t.line_of row ≡ Some bytes → (change : Sets) → LeadsAs bytes change → ChangesBy t row (Some change)
+  ByLine : (bytes : List ℕ) → t.line_of row ≡ Some bytes → (change : Sets) → LeadsAs bytes change
+      → ChangesBy t row (Some change)
 
 -- the row's line, where there is one, changes no charset
 abbrev pub KeepsSets : Table → Row → Type 0
 KeepsSets t row = (bytes : List ℕ) → t.line_of row ≡ Some bytes → LeadsAs bytes kept
 
 -- all that is needed of the lines
-pub record IsFound (t : Table) (reach : Reach) (changes : List Sets) (r : Resync) (smacs : Option Sets) (escapes : Bool) : Type 0 where
+pub record IsFound (t : Table) (reach : Reach) (changes : List Sets) (r : Resync) (smacs : Option Sets)
+    (escapes : Bool) : Type 0 where
   pub seen : AreSeen t reach changes
   pub smcup_is : ChangesBy t Smcup r.smcup
   pub enacs_is : ChangesBy t Enacs r.enacs
@@ -90,14 +92,18 @@ pub record AreSettled (reach : Reach) (changes : List Sets) (r : Resync) (settle
   pub first : Charsets
   pub first_sound : (d : Charset) → closing.has first d ≡ true → Leaves reach (parts_of r) d
   pub first_complete : (d : Charset) → Leaves reach (parts_of r) d → closing.has first d ≡ true
-  pub close_sound : (c : Charset) → closing.has settled c ≡ true → Settled (λ d. closing.has first d ≡ true) (SomeLeads changes) c
-  pub close_complete : (c : Charset) → Settled (λ d. closing.has first d ≡ true) (SomeLeads changes) c → closing.has settled c ≡ true
+  pub close_sound : (c : Charset) → closing.has settled c ≡ true
+      → Settled (λ d. closing.has first d ≡ true) (SomeLeads changes) c
+  pub close_complete : (c : Charset) → Settled (λ d. closing.has first d ≡ true) (SomeLeads changes) c
+      → closing.has settled c ≡ true
 
 abbrev pub ClashesAs : Charsets → Option Sets → Option Sets → Bool → Bool → Clash → Type 0
 ClashesAs s smacs rmacs sent escapes (clashes.Smacs c) = Misleads s smacs true c
 ClashesAs s smacs rmacs sent escapes (clashes.Rmacs c) = Leads s smacs true × Misleads s rmacs false c
-ClashesAs s smacs rmacs sent escapes clashes.Acsc = Leads s smacs true × Leads s rmacs false × (sent ≡ false) × ((c : Charset) × Misleads s (Some kept) false c)
-ClashesAs s smacs rmacs sent escapes clashes.Clear = Leads s smacs true × Leads s rmacs false × (sent ≡ false → Leads s (Some kept) false) × (escapes ≡ false)
+ClashesAs s smacs rmacs sent escapes clashes.Acsc =
+    Leads s smacs true × Leads s rmacs false × (sent ≡ false) × ((c : Charset) × Misleads s (Some kept) false c)
+ClashesAs s smacs rmacs sent escapes clashes.Clear =
+    Leads s smacs true × Leads s rmacs false × (sent ≡ false → Leads s (Some kept) false) × (escapes ≡ false)
 
 pub record NoneClashes (s : Charsets) (smacs rmacs : Option Sets) (sent escapes : Bool) : Type 0 where
   pub graphic : Leads s smacs true

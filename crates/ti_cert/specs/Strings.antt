@@ -31,7 +31,8 @@ group_at s n = slice_index_or s.groups n []
 
 -- the string of a row, where there is one
 abbrev pub row_string : Strings → Row → Option (List ℕ)
-row_string s row = if allows s.rows s.cols row then slice_get (group_at s (order row)) (rank s.rows s.cols row) else None
+row_string s row =
+    if allows s.rows s.cols row then slice_get (group_at s (order row)) (rank s.rows s.cols row) else None
 
 -- whether the row's capability has strings
 abbrev pub has_group : Strings → Row → Bool
@@ -45,9 +46,11 @@ total s = sum_by (λ group. sum_by (λ bytes. length bytes) group) s.groups
 pub record Adds (old new : Strings) (row : Row) (bytes : List ℕ) : Type 0 where
   pub rows_kept : new.rows ≡ old.rows
   pub cols_kept : new.cols ≡ old.cols
-  pub only : (other : Row) (found : List ℕ) → row_string new other ≡ Some found → (row_string old other ≡ Some found) ⊎ ((other ≡ row) × (found ≡ bytes))
+  pub only : (other : Row) (found : List ℕ) → row_string new other ≡ Some found
+      → (row_string old other ≡ Some found) ⊎ ((other ≡ row) × (found ≡ bytes))
   pub there : row_string new row ≡ Some bytes
   pub kept : (other : Row) (found : List ℕ) → row_string old other ≡ Some found → row_string new other ≡ Some found
-  pub later : (other : Row) (found : List ℕ) → row_string old other ≡ Some found → order other ≡ order row → nat_lt (rank old.rows old.cols other) (rank old.rows old.cols row) ≡ true
+  pub later : (other : Row) (found : List ℕ) → row_string old other ≡ Some found → order other ≡ order row
+      → nat_lt (rank old.rows old.cols other) (rank old.rows old.cols row) ≡ true
   pub groups : (other : Row) → has_group new other ≡ (order other == order row || has_group old other)
   pub total_is : total new ≡ total old + length bytes

@@ -54,5 +54,6 @@ first_of_resync s = head_of (texts_of (λ row. row_string s row) (resync_rows s.
 -- what the row's string does to the charsets, nothing where there is none
 pub data Changes (s : Strings) (row : Row) : Option Sets → Type 0 where
   NoString : row_string s row ≡ None → Changes s row None
-  OfString : (bytes : List ℕ) → row_string s row ≡ Some bytes → (tokens : List (List ℕ)) → Splits bytes tokens [] → (effect : Effect)
+  OfString : (bytes : List ℕ) → row_string s row ≡ Some bytes → (tokens : List (List ℕ)) → Splits bytes tokens []
+      → (effect : Effect)
       → record_of s.rows s.cols (start_of s.rows s.cols row) tokens ≡ Some effect → Changes s row (Some effect.charset)

@@ -22,21 +22,23 @@ use Rattle.ti_cert.specs.declared.faults.VerifyFault.TheVariants.{Cert, Agree}
 pub record IsTableOf (rows cols : ℕ) (text : List ℕ) (table : CheckedTable) : Type 0 where
   pub lines : List RowLine
   pub says : IsAnswer rows cols text (Ok (Ended table.acsc lines))
-  pub found : (row : Row) (bytes : List ℕ) → row_string table.known.strings row ≡ Some bytes → GivesBytes lines row bytes
+  pub found : (row : Row) (bytes : List ℕ) → row_string table.known.strings row ≡ Some bytes
+      → GivesBytes lines row bytes
   pub kept : (line : RowLine) → IsAmong lines line → row_string table.known.strings line.row ≡ Some line.bytes
 
 -- the text's first fault, at its line; or memory ran out, or the reader failed
 abbrev pub IsRefused : ℕ → ℕ → List ℕ → Type 0 → CertFault → Type 0
 IsRefused rows cols text Failed fault =
-    IsAnswer rows cols text (Err (fault_at fault.line fault.kind)) ⊎ ((fault.kind ≡ NoMemory) ⊎ ((fault.kind ≡ ReadFailed) × Failed))
+    IsAnswer rows cols text (Err (fault_at fault.line fault.kind))
+    ⊎ ((fault.kind ≡ NoMemory) ⊎ ((fault.kind ≡ ReadFailed) × Failed))
 
 -- the same of a refusal to verify, where it is one of the certificate
 abbrev pub IsCertRefused : ℕ → ℕ → List ℕ → Type 0 → VerifyFault → Type 0
 IsCertRefused rows cols text Failed (Cert fault) = IsRefused rows cols text Failed fault
 IsCertRefused rows cols text Failed (Agree fault) = Unit {0}
 
--- A reader that failed did so in the line after those that were given whole. Once the line with the fault is whole, the reader isn't
--- called.
+-- A reader that failed did so in the line after those that were given whole. Once the line with the fault is whole, the
+-- reader isn't called.
 pub record IsLineRead (given : List ℕ) (fault : CertFault) : Type 0 where
   pub failed : fault.kind ≡ ReadFailed → fault.line ≡ length (cut_of given).lines + 1
   pub last : LastCall given fault.line
@@ -45,8 +47,10 @@ abbrev pub IsCertLineRead : List ℕ → VerifyFault → Type 0
 IsCertLineRead given (Cert fault) = IsLineRead given fault
 IsCertLineRead given (Agree fault) = Unit {0}
 
--- What a call takes from its reader: at most one byte more than a certificate may have; and what is so of the bytes that were given.
-pub record Takes {R : Type 0} (left : R → List ℕ → Type 0) (failures : R → ℕ) (old new : R) (IsSo : List ℕ → Type 0) : Type 0 where
+-- What a call takes from its reader: at most one byte more than a certificate may have; and what is so of the bytes
+-- that were given.
+pub record Takes {R : Type 0} (left : R → List ℕ → Type 0) (failures : R → ℕ) (old new : R)
+    (IsSo : List ℕ → Type 0) : Type 0 where
   pub given : List ℕ
   pub gave : Gave left failures old new given
   pub few : length given ≤ limit + 1
@@ -54,20 +58,28 @@ pub record Takes {R : Type 0} (left : R → List ℕ → Type 0) (failures : R �
 
 -- No text has two answers.
 abbrev pub OneAnswer : Type 0
-OneAnswer = (rows cols : ℕ) (text : List ℕ) (one other : Result Said (LineFault CertFaultKind)) → IsAnswer rows cols text one → IsAnswer rows cols text other → one ≡ other
+OneAnswer =
+    (rows cols : ℕ) (text : List ℕ) (one other : Result Said (LineFault CertFaultKind)) → IsAnswer rows cols text one
+    → IsAnswer rows cols text other → one ≡ other
 
 -- So tables of the same text have the same pairs and the same strings,
 abbrev pub OneTable : Type 0
-OneTable = (rows cols : ℕ) (text : List ℕ) (one other : CheckedTable) → IsTableOf rows cols text one → IsTableOf rows cols text other
+OneTable =
+    (rows cols : ℕ) (text : List ℕ) (one other : CheckedTable) → IsTableOf rows cols text one
+    → IsTableOf rows cols text other
     → (one.acsc ≡ other.acsc) × ((row : Row) → row_string one.known.strings row ≡ row_string other.known.strings row)
 
 -- and a text that has a table is refused only where memory runs out,
 abbrev pub NoOther : Type 0
-NoOther = (rows cols : ℕ) (text : List ℕ) (table : CheckedTable) (fault : CertFault) → IsTableOf rows cols text table → IsRefused rows cols text ⊥ fault → fault.kind ≡ NoMemory
+NoOther =
+    (rows cols : ℕ) (text : List ℕ) (table : CheckedTable) (fault : CertFault) → IsTableOf rows cols text table
+    → IsRefused rows cols text ⊥ fault → fault.kind ≡ NoMemory
 
 -- and one that has none always for the same fault in the same line.
 abbrev pub OneFault : Type 0
-OneFault = (rows cols : ℕ) (text : List ℕ) (one other : CertFault) → IsRefused rows cols text ⊥ one → IsRefused rows cols text ⊥ other → (one ≡ other) ⊎ ((one.kind ≡ NoMemory) ⊎ (other.kind ≡ NoMemory))
+OneFault =
+    (rows cols : ℕ) (text : List ℕ) (one other : CertFault) → IsRefused rows cols text ⊥ one
+    → IsRefused rows cols text ⊥ other → (one ≡ other) ⊎ ((one.kind ≡ NoMemory) ⊎ (other.kind ≡ NoMemory))
 
 -- a line after those before it: in its place, and its bytes have its effect, which is the one that is asked for
 pub record StandsNext (rows cols : ℕ) (before : List RowLine) (line : RowLine) : Type 0 where
@@ -75,11 +87,12 @@ pub record StandsNext (rows cols : ℕ) (before : List RowLine) (line : RowLine)
   pub has : HasEffect rows cols line line.effect
   pub asked : IsAskedFor before line
 
--- These lines about capabilities, each after those before it, which are listed with the latest first; after the last of them nothing is
--- missing.
+-- These lines about capabilities, each after those before it, which are listed with the latest first; after the last of
+-- them nothing is missing.
 abbrev pub StandInOrder : ℕ → ℕ → List RowLine → List RowLine → Type 0
 StandInOrder rows cols before [] = IsComplete rows cols before None
-StandInOrder rows cols before (line ∷ lines) = StandsNext rows cols before line × StandInOrder rows cols (line ∷ before) lines
+StandInOrder rows cols before (line ∷ lines) =
+    StandsNext rows cols before line × StandInOrder rows cols (line ∷ before) lines
 
 -- the text of a certificate for this size, with these pairs and lines
 pub record IsCertificate (rows cols : ℕ) (text : List ℕ) (pairs : Option (List ℕ)) (lines : List RowLine) : Type 0 where
@@ -89,4 +102,6 @@ pub record IsCertificate (rows cols : ℕ) (text : List ℕ) (pairs : Option (Li
 
 -- A text that is accepted is that of a certificate.
 abbrev pub IsThatOfCertificate : Type 0
-IsThatOfCertificate = (rows cols : ℕ) (text : List ℕ) (pairs : Option (List ℕ)) (lines : List RowLine) → IsAnswer rows cols text (Ok (Ended pairs lines)) → IsCertificate rows cols text pairs (reverse lines)
+IsThatOfCertificate =
+    (rows cols : ℕ) (text : List ℕ) (pairs : Option (List ℕ)) (lines : List RowLine)
+    → IsAnswer rows cols text (Ok (Ended pairs lines)) → IsCertificate rows cols text pairs (reverse lines)

@@ -42,8 +42,8 @@ abbrev pub listed : Option (List ℕ) → ℕ → Option ℕ
 listed None letter = None
 listed (Some pairs) letter = partner_of pairs letter
 
--- What a letter of the alternate set is sent as (terminfo(5), "Line Graphics"): its partner in `acsc` where the sets can
--- be switched.
+-- What a letter of the alternate set is sent as (terminfo(5), "Line Graphics"): its partner in `acsc` where the sets
+-- can be switched.
 abbrev pub partner_in : CheckedTable → ℕ → Option ℕ
 partner_in c letter = if has (table_of c) Smacs && has (table_of c) Rmacs then listed c.acsc letter else None
 

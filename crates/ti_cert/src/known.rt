@@ -37,7 +37,7 @@ impl Model for Known {
     ghost view = { λ k. record { strings = k.strings; looks = k.looks; reach = k.reach; changes = k.changes.items } };
 }
 
-/// The capability that tells the same attributes in another way.
+/// The capability that shows the same attributes in another way.
 fn rival(row: Row) -> Row
     ensures { result ≡ certificates.rival row }
 {
@@ -87,7 +87,7 @@ impl Known {
         })
     }
 
-    /// The looks with what a line of this effect tells.
+    /// The looks with what a line of this effect says.
     fn looks_with(&self, row: Row, effect: &Effect) -> Looks
         ensures { result ≡ spec.looks_with self.now row effect.now }
     {

@@ -50,7 +50,7 @@ fn required(from: usize, to: usize) -> Option<Row>
     }
 }
 
-/// What is missing behind the line of the capability at a place, whose next line is this one.
+/// What is missing after the line of the capability at a place, whose next line is this one.
 fn missing_behind(next: Option<Row>, last: usize, order: usize) -> Option<Row>
     requires { last < 42 }
     ensures { result ≡ spec.missing_behind next last order }
@@ -128,7 +128,7 @@ impl Place {
         }
     }
 
-    /// The fault of a line of this row here, behind these.
+    /// The fault of a line of this row in this place, after the lines so far.
     pub fn check(&self, row: Row, strings: &Strings) -> Result<(), CertFaultKind>
         ensures passes { OnOk result (spec.place_fault strings.now.rows strings.now.cols self.now.last
             (length (group_at strings.now (order row))) row ≡ None) }

@@ -52,10 +52,18 @@ wanted_end l row e = if is_free row then record e { margins = None; visible = sw
 
 -- the two ends
 abbrev pub with_defaults : Effect → Effect
-with_defaults e = record e { rendition = record e.rendition { foreground = inks.Default; background = inks.Default }; visible = switches.On }
+with_defaults e =
+    record e {
+      rendition = record e.rendition { foreground = inks.Default; background = inks.Default };
+      visible = switches.On;
+    }
 
 abbrev pub without_defaults : Effect → Effect
-without_defaults e = record e { rendition = record e.rendition { foreground = inks.Kept; background = inks.Kept }; visible = switches.Kept }
+without_defaults e =
+    record e {
+      rendition = record e.rendition { foreground = inks.Kept; background = inks.Kept };
+      visible = switches.Kept;
+    }
 
 -- the marks after an effect, and the looks of which each is seen where all these marks are on
 abbrev pub marks_after : Rendering → Marks → Marks

@@ -21,8 +21,10 @@ is_erased (erasures.Next n) row col i j = (i == row) && (nat_le col j && nat_lt 
 -- the same after the region from top to bottom scrolled by a line
 abbrev pub is_blank_after : Scroll → ℕ → ℕ → (ℕ → Bool) → ℕ → Bool
 is_blank_after scrolls.Still top bottom erased i = erased i
-is_blank_after scrolls.Up top bottom erased i = if nat_le top i && nat_le i bottom then (if nat_le (i + 1) bottom then erased (i + 1) else true) else erased i
-is_blank_after scrolls.Down top bottom erased i = if nat_le top i && nat_le i bottom then (if nat_le (top + 1) i then erased (i - 1) else true) else erased i
+is_blank_after scrolls.Up top bottom erased i =
+    if nat_le top i && nat_le i bottom then (if nat_le (i + 1) bottom then erased (i + 1) else true) else erased i
+is_blank_after scrolls.Down top bottom erased i =
+    if nat_le top i && nat_le i bottom then (if nat_le (top + 1) i then erased (i - 1) else true) else erased i
 
 -- a place after an effect
 abbrev pub becomes_blank : Effect → Probe → ℕ → ℕ → Bool

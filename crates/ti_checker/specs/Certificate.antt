@@ -28,4 +28,6 @@ pub record IsCertificateOf (entry : Content) (rows cols : ℕ) (text : List ℕ)
 
 -- the certificate of a basic entry is its basic text
 abbrev pub BasicCertificate : Type 0
-BasicCertificate = (entry : Content) (rows cols : ℕ) (text : List ℕ) → IsSize rows cols → IsBasic entry rows cols → IsCertificateOf entry rows cols text → text ≡ basic_text_of entry rows cols
+BasicCertificate =
+    (entry : Content) (rows cols : ℕ) (text : List ℕ) → IsSize rows cols → IsBasic entry rows cols
+    → IsCertificateOf entry rows cols text → text ≡ basic_text_of entry rows cols

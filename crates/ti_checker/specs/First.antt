@@ -15,8 +15,8 @@ use Rattle.ti_checker.specs.Taught.{IsAskedOf, IsTaught}
 
 -- ---- a row without fault
 
--- the string sends bytes that are whole, and whose run from every start of the row ends as is wanted, where attributes look
--- so
+-- the string sends bytes that are whole, and whose run from every start of the row ends as is wanted, where attributes
+-- look so
 pub record SendsRight (rows cols : ℕ) (looks : Looks) (string : List ℕ) (row : Row) : Type 0 where
   pub bytes : List ℕ
   pub sends : Sends string row bytes

@@ -22,7 +22,8 @@ pub record IsLineOf (entry : Content) (rows cols : ℕ) (line : RowLine) : Type 
 -- each line before those that follow it
 abbrev pub InOrder : ℕ → ℕ → List RowLine → Type 0
 InOrder rows cols [] = Unit {0}
-InOrder rows cols (line ∷ lines) = ((other : RowLine) → IsAmong lines other → Precedes rows cols line.row other.row) × InOrder rows cols lines
+InOrder rows cols (line ∷ lines) =
+    ((other : RowLine) → IsAmong lines other → Precedes rows cols line.row other.row) × InOrder rows cols lines
 
 -- the entry's lines for all checked rows of which this holds, in the order of a certificate
 pub record AreLines (entry : Content) (rows cols : ℕ) (Holds : Row → Type 0) (lines : List RowLine) : Type 0 where
@@ -33,7 +34,8 @@ pub record AreLines (entry : Content) (rows cols : ℕ) (Holds : Row → Type 0)
 
 -- the text with the entry's size and pairs, these lines, and `end`
 abbrev pub text_with : Content → ℕ → ℕ → List RowLine → List ℕ
-text_with entry rows cols lines = ended (line_texts (record { rows = rows; cols = cols; acsc = string_at entry acsc; lines = lines }))
+text_with entry rows cols lines =
+    ended (line_texts (record { rows = rows; cols = cols; acsc = string_at entry acsc; lines = lines }))
 
 -- this row, and those before it
 abbrev pub IsUpTo : ℕ → ℕ → Row → Row → Type 0
@@ -65,7 +67,8 @@ most = 67108860
 
 -- without `end`
 abbrev pub front_with : Content → ℕ → ℕ → List RowLine → List ℕ
-front_with entry rows cols lines = ended (size_text rows cols ∷ (acsc_lines (string_at entry acsc) ++ map line_text lines))
+front_with entry rows cols lines =
+    ended (size_text rows cols ∷ (acsc_lines (string_at entry acsc) ++ map line_text lines))
 
 -- what a string sends for a row, and the effect of that
 pub record IsLineFor (rows cols : ℕ) (string : List ℕ) (line : RowLine) : Type 0 where

@@ -50,7 +50,9 @@ pub record RowNotes (entry : Content) (row : Row) (notes : List CheckNote) : Typ
 -- those of these rows, one row after another
 unfoldable pub RowsNotes : Content → List Row → List CheckNote → Type 0
 RowsNotes entry [] notes = notes ≡ []
-RowsNotes entry (row ∷ rows) notes = (own : List CheckNote) × (later : List CheckNote) × (notes ≡ own ++ later) × RowNotes entry row own × RowsNotes entry rows later
+RowsNotes entry (row ∷ rows) notes =
+    (own : List CheckNote) × (later : List CheckNote) × (notes ≡ own ++ later) × RowNotes entry row own
+    × RowsNotes entry rows later
 
 -- those of all checked capabilities in the byte order of their names, each for its first parameter list
 abbrev pub EntryNotes : Content → List CheckNote → Type 0

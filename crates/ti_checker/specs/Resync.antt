@@ -26,4 +26,5 @@ AreInRange height width rows = (i : ℕ) (d : Row) → i < length rows → IsInR
 
 -- What the entry sends for these rows, one after another: the lines of each table that has just what the entry sends.
 abbrev pub SendsAll : Content → ℕ → ℕ → List Row → List ℕ → Type 0
-SendsAll entry height width rows text = (t : Table) → EntryAgrees height width entry t.line_of → text ≡ texts_of t.line_of rows
+SendsAll entry height width rows text =
+    (t : Table) → EntryAgrees height width entry t.line_of → text ≡ texts_of t.line_of rows

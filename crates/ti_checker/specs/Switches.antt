@@ -39,8 +39,8 @@ pub record OfSent (entry : Content) (rows cols : ℕ) (Is : Table → Type 0) : 
 abbrev pub OfAllSent : Content → ℕ → ℕ → (Table → Type 0) → Type 0
 OfAllSent entry rows cols Is = (t : Table) → HasSent entry rows cols t → Is t
 
--- The probe is a start of the row, and the run of the row's bytes from it ends with the other set active than `smacs` and
--- `rmacs` are to activate.
+-- The probe is a start of the row, and the run of the row's bytes from it ends with the other set active than `smacs`
+-- and `rmacs` are to activate.
 pub record RunsWrong (rows cols : ℕ) (row : Row) (p : Probe) (t : Table) : Type 0 where
   pub bytes : List ℕ
   pub there : t.line_of row ≡ Some bytes
@@ -77,14 +77,15 @@ pub record IsCounted (entry : Content) (all : List (List ℕ)) (changes : List S
   pub reached : (token : List ℕ) → IsAmong tokens token → IsAmong all token
   pub settled : settles row ≡ true → IsAmong changes change
 
--- what was seen of an entry's strings: marks that tokens turn on, and changes, which are those of strings, and of all strings
--- for rows so far
+-- what was seen of an entry's strings: marks that tokens turn on, and changes, which are those of strings, and of all
+-- strings for rows so far
 pub record IsSeen (entry : Content) (rows cols : ℕ) (reach : Reach) (changes : List Sets) (n k : ℕ) : Type 0 where
   pub tokens : List (List ℕ)
   pub reach_is : reach ≡ reach_of tokens
   pub occurs : (t : Table) → HasSent entry rows cols t → (token : List ℕ) → IsAmong tokens token → Occurs t token
   pub told : (t : Table) → HasSent entry rows cols t → (change : Sets) → IsAmong changes change → IsOfLine t change
-  pub counted : (row : Row) → IsInRange rows cols row → is_checked entry row ≡ true → IsBefore rows cols n k row → IsCounted entry tokens changes row
+  pub counted : (row : Row) → IsInRange rows cols row → is_checked entry row ≡ true → IsBefore rows cols n k row
+      → IsCounted entry tokens changes row
 
 -- what the row's line does in each table of what is sent
 abbrev pub RowChanges : Content → ℕ → ℕ → Row → Option Sets → Type 0

@@ -10,7 +10,8 @@ use Rattle.ti_lines.specs.declared.row_lines.RowLine.{RowLine}
 use Rattle.ti_conforms.specs.Looks.{no_looks}
 use Rattle.ti_checker.specs.Limit.{IsLineFor}
 
--- the effect is the one that is asked for, where attributes look so by the rows before, and by what the row itself shows
+-- the effect is the one that is asked for, where attributes look so by the rows before, and by what the row itself
+-- shows
 abbrev pub IsAskedOf : Looks → Row → Effect → Type 0
 IsAskedOf looks row e = e ≡ asked (learned row e looks) row e
 

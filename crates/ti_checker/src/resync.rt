@@ -62,7 +62,8 @@ fn begins_with_escape(text: &[u8]) -> bool
 pub(crate) fn escapes(alloc: Global, entry: &Entry, size: Size) -> Result<bool, No>
     requires fit { IsFit entry.now }
     requires written { EachWritten entry.now size.rows size.cols }
-    ensures yes { IfOk result (λ begins. begins ≡ true → OfAllSent entry.now size.rows size.cols (λ t. BeginsOpen t → ⊥)) }
+    ensures yes { IfOk result (λ begins.
+        begins ≡ true → OfAllSent entry.now size.rows size.cols (λ t. BeginsOpen t → ⊥)) }
     ensures no { IfOk result (λ begins. begins ≡ false → OfAllSent entry.now size.rows size.cols (λ t. BeginsOpen t)) }
     ensures refused { IfErr result (IsNo entry.now size.rows size.cols) }
 {

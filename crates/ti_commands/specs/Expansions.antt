@@ -54,7 +54,9 @@ pub record ShowsCursor (rows cols : ℕ) (bytes line : List ℕ) : Type 0 where
 -- the line that says whether a string serves as `cup`, and else the first place at which it isn't seen to
 pub data JudgesCup (string : List ℕ) (rows cols : ℕ) : List ℕ → Type 0 where
   serves : ServesAsCup string rows cols → JudgesCup string rows cols (codes "cup yes\n")
-  misses : (row col : ℕ) (kind : MissKind) → row < rows → col < cols → kind ≢ miss_kinds.NoMemory → ReachesBefore string rows cols row col → TellsWhy string rows cols row col kind → JudgesCup string rows cols (no_line row col)
+  misses : (row col : ℕ) (kind : MissKind) → row < rows → col < cols → kind ≢ miss_kinds.NoMemory
+      → ReachesBefore string rows cols row col → TellsWhy string rows cols row col kind
+      → JudgesCup string rows cols (no_line row col)
 
 -- no line where it isn't asked for
 abbrev pub JudgesIf : Bool → List ℕ → ℕ → ℕ → List ℕ → Type 0
@@ -111,13 +113,18 @@ IsParmFailure string values _ = ⊥
 
 -- a word is wrong: first the rows, then the columns, then the parameters
 abbrev pub WrongWords : ExpandWords → Failure → Type 0
-WrongWords words failure = WrongSize words.rows.now words.cols.now failure ⊎ (IsNumberWord words.rows.now × IsNumberWord words.cols.now × WrongParam (texts_of words.params.items) failure)
+WrongWords words failure =
+    WrongSize words.rows.now words.cols.now failure
+    ⊎ (IsNumberWord words.rows.now × IsNumberWord words.cols.now × WrongParam (texts_of words.params.items) failure)
 
 -- what is refused, in this order
 abbrev pub RefusesExpansion : ExpandWords → CommandRefusal → Type 0
 RefusesExpansion words Size = (asked : Asked words) × (IsSize asked.rows asked.cols → ⊥)
-RefusesExpansion words (Escape fault) = (asked : Asked words) × IsSize asked.rows asked.cols × (unescaped words.string.now ≡ Err fault)
-RefusesExpansion words (Parm fault) = (asked : Asked words) × IsSize asked.rows asked.cols × ((string : List ℕ) × (unescaped words.string.now ≡ Ok string) × (sent string asked.values ≡ Err fault))
+RefusesExpansion words (Escape fault) =
+    (asked : Asked words) × IsSize asked.rows asked.cols × (unescaped words.string.now ≡ Err fault)
+RefusesExpansion words (Parm fault) =
+    (asked : Asked words) × IsSize asked.rows asked.cols
+    × ((string : List ℕ) × (unescaped words.string.now ≡ Ok string) × (sent string asked.values ≡ Err fault))
 RefusesExpansion words _ = ⊥
 
 -- the words come first, then what is refused

@@ -21,7 +21,8 @@ IsFileFailure path _ = ⊥
 -- what is said of a word that stands where a number belongs, or a parameter
 abbrev pub number_usage : List ℕ → List ℕ → List ℕ
 number_usage name word =
-    codes "error: invalid value '" ++ (word ++ (codes "' for " ++ (name ++ codes ": a decimal number up to 2147483647 is wanted\n\nFor more information, try '--help'.\n")))
+    codes "error: invalid value '" ++ (word ++ (codes "' for "
+    ++ (name ++ codes ": a decimal number up to 2147483647 is wanted\n\nFor more information, try '--help'.\n")))
 
 abbrev pub param_usage : List ℕ → List ℕ
 param_usage word =
@@ -33,7 +34,8 @@ WrongNumber name word failure = (IsNumberWord word → ⊥) × IsUsageError (num
 
 -- a word of the size is none: the rows come first
 abbrev pub WrongSize : List ℕ → List ℕ → Failure → Type 0
-WrongSize rows cols failure = WrongNumber (codes "ROWS") rows failure ⊎ (IsNumberWord rows × WrongNumber (codes "COLS") cols failure)
+WrongSize rows cols failure =
+    WrongNumber (codes "ROWS") rows failure ⊎ (IsNumberWord rows × WrongNumber (codes "COLS") cols failure)
 
 -- the first word that gives no parameter
 pub record WrongParam (words : List (List ℕ)) (failure : Failure) : Type 0 where

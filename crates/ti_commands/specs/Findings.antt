@@ -66,7 +66,8 @@ pub record IsOfSource (bytes name notes : List ℕ) (entry : Result Content Comm
   pub gives : ResolvesTo raws name entry
 
 -- a source text in a path's file, its entries, and the one of this name
-pub record IsOfText (held : Held) (path name text : List ℕ) (raws : List RawEntry) (entry : Result Content CommandRefusal) : Type 0 where
+pub record IsOfText (held : Held) (path name text : List ℕ) (raws : List RawEntry)
+    (entry : Result Content CommandRefusal) : Type 0 where
   pub whole : AreBytesOf (held path) text
   pub short : length text ≤ longest_file
   pub reads : source_of text ≡ Ok raws
@@ -82,12 +83,14 @@ pub record IsOfFile (bytes notes : List ℕ) (entry : Result Content CommandRefu
 -- the word's notes, and its entry or the entry's refusal
 abbrev pub Finds : Held → List ℕ → List ℕ → Result Content CommandRefusal → Type 0
 Finds held word notes entry =
-    ((path : List ℕ) × (name : List ℕ) × IsPathAndName word path name × HasBytes (held path) longest_file (λ bytes. IsOfSource bytes name notes entry))
+    ((path : List ℕ) × (name : List ℕ) × IsPathAndName word path name
+    × HasBytes (held path) longest_file (λ bytes. IsOfSource bytes name notes entry))
     ⊎ (IsPath word × HasBytes (held word) 131072 (λ bytes. IsOfFile bytes notes entry))
 
 -- the source text has a fault
 abbrev pub IsSourceFailure : List ℕ → Failure → Type 0
-IsSourceFailure bytes (Refused (Source fault)) = FailsBy fault.kind fault (source_of bytes) × (fault.kind ≢ fault_kinds.NoMemory)
+IsSourceFailure bytes (Refused (Source fault)) =
+    FailsBy fault.kind fault (source_of bytes) × (fault.kind ≢ fault_kinds.NoMemory)
 IsSourceFailure bytes NoMemory = Unit {0}
 IsSourceFailure bytes _ = ⊥
 
@@ -99,14 +102,20 @@ IsPackFailure bytes _ = ⊥
 
 -- the file at a path can't be had, or can't be read
 abbrev pub FailsInSource : Held → List ℕ → Failure → Type 0
-FailsInSource held path failure = IsFileFailure path failure ⊎ HasBytes (held path) longest_file (λ bytes. IsSourceFailure bytes failure)
+FailsInSource held path failure =
+    IsFileFailure path failure ⊎ HasBytes (held path) longest_file (λ bytes. IsSourceFailure bytes failure)
 
 abbrev pub FailsInFile : Held → List ℕ → Failure → Type 0
-FailsInFile held path failure = IsFileFailure path failure ⊎ HasBytes (held path) 131072 (λ bytes. IsPackFailure bytes failure)
+FailsInFile held path failure =
+    IsFileFailure path failure ⊎ HasBytes (held path) 131072 (λ bytes. IsPackFailure bytes failure)
 
 abbrev pub FailsToFind : Held → List ℕ → Failure → Type 0
-FailsToFind held word failure = ((path : List ℕ) × (name : List ℕ) × IsPathAndName word path name × FailsInSource held path failure) ⊎ (IsPath word × FailsInFile held word failure)
+FailsToFind held word failure =
+    ((path : List ℕ) × (name : List ℕ) × IsPathAndName word path name × FailsInSource held path failure)
+    ⊎ (IsPath word × FailsInFile held word failure)
 
 -- the word has no entry, as this failure says
 abbrev pub LacksEntry : Held → List ℕ → Failure → Type 0
-LacksEntry held word failure = FailsToFind held word failure ⊎ ((refusal : CommandRefusal) × (notes : List ℕ) × (failure ≡ Refused refusal) × Finds held word notes (Err refusal))
+LacksEntry held word failure =
+    FailsToFind held word failure ⊎ ((refusal : CommandRefusal) × (notes : List ℕ) × (failure ≡ Refused refusal)
+    × Finds held word notes (Err refusal))

@@ -30,7 +30,8 @@ is_listed _ _ _ = false
 
 -- whether the capability at a place is of a kind and listed
 abbrev pub is_listed_at : Comparison → Content → Content → Kind → ℕ → Bool
-is_listed_at comparison first second kind cap = is_kind (kind_of cap) kind && is_listed comparison (value_at first cap) (value_at second cap)
+is_listed_at comparison first second kind cap =
+    is_kind (kind_of cap) kind && is_listed comparison (value_at first cap) (value_at second cap)
 
 -- the listed ones of a kind among the first `count`
 unfoldable pub listed : Comparison → Content → Content → Kind → ℕ → List ℕ
@@ -46,4 +47,5 @@ kind_lines comparison first second kind = flat_map name_line (listed comparison 
 -- flags, numbers and strings, each kind in the order of names
 abbrev pub comparison_text : Comparison → Content → Content → List ℕ
 comparison_text comparison first second =
-    kind_lines comparison first second kinds.Flag ++ (kind_lines comparison first second kinds.Number ++ kind_lines comparison first second kinds.String)
+    kind_lines comparison first second kinds.Flag
+    ++ (kind_lines comparison first second kinds.Number ++ kind_lines comparison first second kinds.String)

@@ -20,4 +20,5 @@ IsUnwritten told unwritten failure = failure ≡ told
 -- how a reply ends that has this failure or none, where its text was written or the output has failed
 abbrev pub EndsAs : Option Failure → Type 0 → Bool → Failure → Type 0
 EndsAs None written failed failure = (failure ≡ Output) × (failed ≡ true)
-EndsAs (Some told) written failed failure = (IsUnwritten told false failure × written) ⊎ (IsUnwritten told true failure × (failed ≡ true))
+EndsAs (Some told) written failed failure =
+    (IsUnwritten told false failure × written) ⊎ (IsUnwritten told true failure × (failed ≡ true))

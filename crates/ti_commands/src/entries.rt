@@ -129,8 +129,8 @@ fn resolved_entry(
     }
 }
 
-/// The entry at `place` in `raws`, or why it can't be had. It is the one at that place even where an entry before it has
-/// the same names.
+/// The entry at `place` in `raws`, or why it can't be had. It is the one at that place even where an entry before it
+/// has the same names.
 pub fn entry_at(
     alloc: Global,
     raws: &[RawEntry],

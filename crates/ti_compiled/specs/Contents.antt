@@ -17,19 +17,19 @@ abbrev pub before_nul : List ℕ → List ℕ
 before_nul [] = []
 before_nul (b ∷ rest) = if b == 0 then [] else b ∷ before_nul rest
 
--- the value that a flag's byte tells
+-- the value that a flag's byte stands for
 abbrev pub flag_value : ℕ → Option Value
 flag_value byte = if byte == 1 then Some Flag else None
 
--- the value that a number tells, where the numbers from here on are negative
+-- the value that a number stands for, where the numbers from here on are negative
 abbrev pub number_value : ℕ → ℕ → Option Value
 number_value negatives number = if nat_lt number negatives then Some (Number number) else None
 
--- the string that an offset tells
+-- the string that an offset stands for
 abbrev pub string_value : List ℕ → ℕ → Option Value
 string_value table offset = if nat_lt offset 32768 then Some (String (before_nul (drop offset table))) else None
 
--- so many rows: the values, and none after them
+-- this many rows: the values, and none after them
 abbrev pub filled : ℕ → List (Option Value) → List (Option Value)
 filled count values = take count (values ++ replicate count None)
 
@@ -48,13 +48,19 @@ string_values parts = map (string_value parts.table) (words parts.offsets)
 
 -- the entry that the sections hold
 unfoldable pub entry_of : Parts → Content
-entry_of parts = record { names = before_nul parts.names; values = rows_of (flag_values parts) (number_values parts) (string_values parts) }
+entry_of parts =
+    record {
+      names = before_nul parts.names;
+      values = rows_of (flag_values parts) (number_values parts) (string_values parts);
+    }
 
 -- the value that the sections hold at a position among those of a kind
 abbrev pub value_of : Parts → Kind → ℕ → Option Value
 value_of parts kinds.Flag position = option_and_then flag_value (slice_get parts.flags position)
-value_of parts kinds.Number position = option_and_then (number_value (half parts.form)) (slice_get (numbers_in parts.form parts.numbers) position)
-value_of parts kinds.String position = option_and_then (string_value parts.table) (slice_get (words parts.offsets) position)
+value_of parts kinds.Number position =
+    option_and_then (number_value (half parts.form)) (slice_get (numbers_in parts.form parts.numbers) position)
+value_of parts kinds.String position =
+    option_and_then (string_value parts.table) (slice_get (words parts.offsets) position)
 
 -- the entry that a file holds, or the first fault of the file
 unfoldable pub read_of : List ℕ → Result Content PackFault

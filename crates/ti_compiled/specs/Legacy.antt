@@ -39,7 +39,9 @@ legacy_judged slices = do
 unfoldable pub legacy_entry : Slices → Content
 legacy_entry slices = record {
   names = before_nul slices.names;
-  values = rows_of (map flag_value slices.flags) (map (number_value 32768) (words slices.numbers)) (map (string_value slices.table) (words slices.offsets));
+  values =
+      rows_of (map flag_value slices.flags) (map (number_value 32768) (words slices.numbers))
+      (map (string_value slices.table) (words slices.offsets));
 }
 
 -- what the legacy rules alone read of a file
@@ -54,7 +56,8 @@ legacy_read file = do
 
 -- what the legacy rules alone write
 unfoldable pub legacy_packing : Content → Result (List ℕ) PackFault
-legacy_packing entry = if nat_lt 4096 (length (written_in Legacy entry)) then Err TooLarge else Ok (written_in Legacy entry)
+legacy_packing entry =
+    if nat_lt 4096 (length (written_in Legacy entry)) then Err TooLarge else Ok (written_in Legacy entry)
 
 -- the file begins with the magic number of the form with numbers of 32 bits: the bytes 1e 02
 abbrev pub BeginsWide : List ℕ → Type 0
@@ -62,7 +65,8 @@ BeginsWide file = (rest : List ℕ) × (file ≡ 30 ∷ 2 ∷ rest)
 
 -- the law that each file with another beginning is read by the legacy rules alone
 abbrev pub LegacyIsRead : Type 0
-LegacyIsRead = (file : List ℕ) → AllByRecursion (λ b. b < 256) file → (BeginsWide file → ⊥) → read_of file ≡ legacy_read file
+LegacyIsRead =
+    (file : List ℕ) → AllByRecursion (λ b. b < 256) file → (BeginsWide file → ⊥) → read_of file ≡ legacy_read file
 
 -- no number of the entry needs more than 16 bits with a sign
 abbrev pub HasSmallNumbers : Content → Type 0

@@ -31,8 +31,10 @@ number_bytes Wide number = long number
 -- a file: six numbers of 16 bits, the sections, and what follows them
 unfoldable pub layout : Form → (names flags padding numbers offsets table rest : List ℕ) → List ℕ
 layout form names flags padding numbers offsets table rest =
-    word (magic form) ++ (word (length names) ++ (word (length flags) ++ (word (length numbers) ++ (word (length offsets) ++ (word (length table)
-    ++ (names ++ (flags ++ (padding ++ (flat_map (number_bytes form) numbers ++ (flat_map word offsets ++ (table ++ rest)))))))))))
+    word (magic form) ++ (word (length names)
+    ++ (word (length flags) ++ (word (length numbers) ++ (word (length offsets) ++ (word (length table)
+    ++ (names ++ (flags ++ (padding ++ (flat_map (number_bytes form) numbers
+    ++ (flat_map word offsets ++ (table ++ rest)))))))))))
 
 abbrev pub HasNoNul : List ℕ → Type 0
 HasNoNul bytes = AllByRecursion (λ b. b ≢ 0) bytes
@@ -61,7 +63,8 @@ IsNumber form number None = (number + 1 ≡ 2 * half form) ⊎ (number + 2 ≡ 2
 
 -- The value that an offset stands for: the bytes from there in the table to a NUL. -1 is absent, -2 is cancelled.
 abbrev pub IsString : List ℕ → ℕ → Option Value → Type 0
-IsString table offset (Some (String bytes)) = (offset < 32768) × ((front : List ℕ) × (text : List ℕ) × (table ≡ front ++ text) × (length front ≡ offset) × StandsFirst bytes text)
+IsString table offset (Some (String bytes)) = (offset < 32768)
+    × ((front : List ℕ) × (text : List ℕ) × (table ≡ front ++ text) × (length front ≡ offset) × StandsFirst bytes text)
 IsString table offset (Some Flag) = ⊥
 IsString table offset (Some (Number number)) = ⊥
 IsString table offset None = (offset + 1 ≡ 65536) ⊎ (offset + 2 ≡ 65536)
@@ -111,4 +114,6 @@ PackedIsRead = (file : List ℕ) (entry : Content) (rest : List ℕ) → IsPacke
 
 -- the law that what is read lies in the file in this layout
 abbrev pub ReadIsPacked : Type 0
-ReadIsPacked = (file : List ℕ) (entry : Content) → AllByRecursion (λ b. b < 256) file → read_of file ≡ Ok entry → (rest : List ℕ) × IsPacked file entry rest
+ReadIsPacked =
+    (file : List ℕ) (entry : Content) → AllByRecursion (λ b. b < 256) file → read_of file ≡ Ok entry
+    → (rest : List ℕ) × IsPacked file entry rest

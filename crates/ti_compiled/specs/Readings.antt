@@ -32,13 +32,14 @@ word_of [] = Err Short
 word_of (low ∷ []) = Err Short
 word_of (low ∷ high ∷ rest) = Ok (low + 256 * high, rest)
 
--- the form that a magic number tells: octal 432, and octal 1036 for numbers of 32 bits
+-- the form that a magic number stands for: octal 432, and octal 1036 for numbers of 32 bits
 abbrev pub form_of : ℕ → Result Form PackFault
 form_of magic = if magic == 282 then Ok Legacy else (if magic == 542 then Ok Wide else Err BadMagic)
 
 -- No size is negative, and no count is above that of the capabilities of its kind.
 abbrev pub sizes_fit : Sizes → Bool
-sizes_fit sizes = nat_lt sizes.names 32768 && (nat_le sizes.flags 44 && (nat_le sizes.numbers 39 && (nat_le sizes.offsets 414 && nat_lt sizes.table 32768)))
+sizes_fit sizes = nat_lt sizes.names 32768
+    && (nat_le sizes.flags 44 && (nat_le sizes.numbers 39 && (nat_le sizes.offsets 414 && nat_lt sizes.table 32768)))
 
 -- the five numbers after the magic number
 unfoldable pub sizes_of : List ℕ → Result (Sizes × List ℕ) PackFault
@@ -48,10 +49,11 @@ sizes_of bytes = do
   numbers ← word_of flags.1
   offsets ← word_of numbers.1
   table ← word_of offsets.1
-  let sizes : Sizes = record { names = names.0; flags = flags.0; numbers = numbers.0; offsets = offsets.0; table = table.0 } in
+  let sizes : Sizes =
+      record { names = names.0; flags = flags.0; numbers = numbers.0; offsets = offsets.0; table = table.0 } in
       (if sizes_fit sizes then Ok (sizes, table.1) else Err BadCount)
 
--- so many bytes, and what follows them
+-- this many bytes, and what follows them
 abbrev pub cut_at : ℕ → List ℕ → Result (List ℕ × List ℕ) PackFault
 cut_at count bytes = if nat_lt (length bytes) count then Err Short else Ok (take count bytes, drop count bytes)
 
@@ -64,7 +66,14 @@ sections_of form sizes bytes = do
   numbers ← cut_at (width form * sizes.numbers) padding.1
   offsets ← cut_at (2 * sizes.offsets) numbers.1
   table ← cut_at sizes.table offsets.1
-  Ok (record { form = form; names = names.0; flags = flags.0; numbers = numbers.0; offsets = offsets.0; table = table.0 })
+  Ok (record {
+    form = form;
+    names = names.0;
+    flags = flags.0;
+    numbers = numbers.0;
+    offsets = offsets.0;
+    table = table.0;
+  })
 
 -- An offset of -1 or -2 has no string. Another stands in the table, with a NUL at it or after it.
 abbrev pub offset_judged : List ℕ → ℕ → Judged
@@ -98,4 +107,12 @@ parts_of file = do
 
 -- the slices that the code holds
 abbrev pub parts_view : Sections → Parts
-parts_view parts = record { form = parts.form; names = parts.names.now; flags = parts.flags.now; numbers = parts.numbers.now; offsets = parts.offsets.now; table = parts.table.now }
+parts_view parts =
+    record {
+      form = parts.form;
+      names = parts.names.now;
+      flags = parts.flags.now;
+      numbers = parts.numbers.now;
+      offsets = parts.offsets.now;
+      table = parts.table.now;
+    }

@@ -110,7 +110,8 @@ packing_of entry = if nat_lt (limit (form_for entry)) (length (written entry)) t
 
 -- the law that the file of an entry is in the layout, with nothing after it
 abbrev pub WrittenIsPacked : Type 0
-WrittenIsPacked = (entry : Content) (file : List ℕ) → IsEntry entry → packing_of entry ≡ Ok file → IsPacked file entry []
+WrittenIsPacked =
+    (entry : Content) (file : List ℕ) → IsEntry entry → packing_of entry ≡ Ok file → IsPacked file entry []
 
 -- the law that the file of an entry is read as that entry
 abbrev pub WrittenIsRead : Type 0

@@ -241,7 +241,8 @@ fn put_numbers(out: &mut Vec<u8>, entry: &Entry, form: Form, count: usize) -> Re
     requires count { count ≡ length (trimmed is_some (numbers_of entry.now)) }
     requires few { count ≤ 39 }
     ensures { OnOk result (out.new.items ≡
-        out.old.items ++ flat_map (λ number. number_bytes form (number_cell form number)) (trimmed is_some (numbers_of entry.now))) }
+        out.old.items
+        ++ flat_map (λ number. number_bytes form (number_cell form number)) (trimmed is_some (numbers_of entry.now))) }
 {
     for position in 0..count {
         put_number(out, form, number_there(entry, position))?;
@@ -314,7 +315,8 @@ fn put_header(out: &mut Vec<u8>, names: usize, plan: &Plan) -> Result<(), AllocE
     requires strings { plan.now.strings < 65536 }
     requires table { plan.now.table < 65536 }
     ensures { OnOk result (out.new.items ≡
-        out.old.items ++ word (magic plan.now.form) ++ word names ++ word plan.now.flags ++ word plan.now.numbers ++ word plan.now.strings ++ word plan.now.table) }
+        out.old.items ++ word (magic plan.now.form) ++ word names ++ word plan.now.flags ++ word plan.now.numbers
+        ++ word plan.now.strings ++ word plan.now.table) }
 {
     put_word(out, magic(plan.form))?;
     put_word(out, names)?;

@@ -15,15 +15,18 @@ pub record LineSends (string : List ℕ) (line : Option (List ℕ)) (row : Row) 
 
 -- each parameter list of the capability that the size allows
 abbrev pub AllSend : ℕ → ℕ → List ℕ → (Row → Option (List ℕ)) → ℕ → Type 0
-AllSend rows cols string line_of n = (row : Row) → order row ≡ n → IsInRange rows cols row → LineSends string (line_of row) row
+AllSend rows cols string line_of n =
+    (row : Row) → order row ≡ n → IsInRange rows cols row → LineSends string (line_of row) row
 
 -- those that have this place among the lists of the capability
 abbrev pub SendsAt : ℕ → ℕ → List ℕ → (Row → Option (List ℕ)) → ℕ → ℕ → Type 0
-SendsAt rows cols string line_of n k = (row : Row) → order row ≡ n → IsInRange rows cols row → rank rows cols row ≡ k → LineSends string (line_of row) row
+SendsAt rows cols string line_of n k =
+    (row : Row) → order row ≡ n → IsInRange rows cols row → rank rows cols row ≡ k → LineSends string (line_of row) row
 
 -- a parameter list whose line is another, or isn't there
 abbrev pub IsDisagreement : ℕ → ℕ → List ℕ → (Row → Option (List ℕ)) → ℕ → Disagreement → Type 0
-IsDisagreement rows cols string line_of n (Disagree row) = (order row ≡ n) × IsInRange rows cols row × (LineSends string (line_of row) row → ⊥)
+IsDisagreement rows cols string line_of n (Disagree row) =
+    (order row ≡ n) × IsInRange rows cols row × (LineSends string (line_of row) row → ⊥)
 IsDisagreement rows cols string line_of n (Unwanted row) = ⊥
 IsDisagreement rows cols string line_of n NoMemory = Unit {0}
 

@@ -27,12 +27,13 @@ pub record Plain : Type 0 where
 abbrev pub by : ℕ → ℕ → Plain
 by letter byte = record { letter = letter; byte = byte }
 
--- `l m k j t u v w n` and the backquote are corners, tees and the crossing; the others are lines, shades, arrows and signs
+-- `l m k j t u v w n` and the backquote are corners, tees and the crossing; the others are lines, shades, arrows and
+-- signs
 abbrev pub letters : List Plain
 letters =
-    by 108 43 ∷ by 109 43 ∷ by 107 43 ∷ by 106 43 ∷ by 116 43 ∷ by 117 43 ∷ by 118 43 ∷ by 119 43 ∷ by 110 43 ∷ by 96 43 ∷
-    by 113 45 ∷ by 120 124 ∷ by 111 45 ∷ by 115 95 ∷ by 97 58 ∷ by 102 39 ∷ by 103 35 ∷ by 126 111 ∷ by 44 60 ∷ by 43 62 ∷
-    by 46 118 ∷ by 45 94 ∷ by 104 35 ∷ by 105 35 ∷ by 48 35 ∷ []
+    by 108 43 ∷ by 109 43 ∷ by 107 43 ∷ by 106 43 ∷ by 116 43 ∷ by 117 43 ∷ by 118 43 ∷ by 119 43 ∷
+    by 110 43 ∷ by 96 43 ∷ by 113 45 ∷ by 120 124 ∷ by 111 45 ∷ by 115 95 ∷ by 97 58 ∷ by 102 39 ∷ by 103 35 ∷
+    by 126 111 ∷ by 44 60 ∷ by 43 62 ∷ by 46 118 ∷ by 45 94 ∷ by 104 35 ∷ by 105 35 ∷ by 48 35 ∷ []
 
 abbrev pub found : List Plain → ℕ → Option ℕ
 found [] letter = None

@@ -60,7 +60,9 @@ limit_of t row = length (text_of t row)
 
 -- one cell's worth of bytes, with its move and whatever changes how it looks
 abbrev pub cell_limit : Table → ℕ
-cell_limit t = t.longest.cup + t.longest.sgr + t.longest.setaf + t.longest.setab + t.longest.op + t.longest.sets + t.longest.erasure + t.longest.scroll
+cell_limit t =
+    t.longest.cup + t.longest.sgr + t.longest.setaf + t.longest.setab + t.longest.op + t.longest.sets
+    + t.longest.erasure + t.longest.scroll
     + t.longest.civis + t.longest.cnorm + t.longest.cvvis + 1
 
 pub record IsCheckedLine (t : Table) (row : Row) (bytes : List ℕ) : Type 0 where
@@ -121,4 +123,5 @@ pub record IsChecked (t : Table) : Type 0 where
   pub resync_made : t.resync ≡ concat resync_pieces
   pub resync_each : AllByRecursion (IsPiece t) resync_pieces
   pub resyncs : (s : State) → IsLost t s → Ends s t.resync (IsBlank t s.screen.visible)
-  pub resync_fronts : (s : State) → IsLost t s → (front back : List ℕ) → t.resync ≡ front ++ back → Ends s front (IsLost t)
+  pub resync_fronts : (s : State) → IsLost t s → (front back : List ℕ) → t.resync ≡ front ++ back
+      → Ends s front (IsLost t)

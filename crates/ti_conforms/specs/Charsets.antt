@@ -23,7 +23,8 @@ IsAmong (y ∷ ys) x = (x ≡ y) ⊎ IsAmong ys x
 -- have where strings made of these tokens are cut off anywhere.
 pub data Reached (tokens : List (List ℕ)) : Charset → Type 0 where
   AtReset : (c : Charset) → c ≡ reset_charset → Reached tokens c
-  AfterToken : (c d : Charset) (token : List ℕ) → Reached tokens c → IsAmong tokens token → d ≡ charset_after (function_of token) c → Reached tokens d
+  AfterToken : (c d : Charset) (token : List ℕ) → Reached tokens c → IsAmong tokens token
+      → d ≡ charset_after (function_of token) c → Reached tokens d
 
 -- what turns a mark of the sets on
 abbrev pub makes_g0_graphic : Function → Bool
@@ -58,7 +59,8 @@ within false b = true
 
 -- each mark of the charset that is on can be on
 abbrev pub can_have : Reach → Charset → Bool
-can_have r c = within c.g0_graphic r.g0_graphic && (within c.g1_graphic r.g1_graphic && within c.shifted_out r.shifted_out)
+can_have r c =
+    within c.g0_graphic r.g0_graphic && (within c.g1_graphic r.g1_graphic && within c.shifted_out r.shifted_out)
 
 -- the marks of both
 abbrev pub joined : Reach → Reach → Reach

@@ -38,12 +38,15 @@ pub record IsFit (entry : Content) : Type 0 where
   pub no_paper : flag_at entry hc ≡ false
   pub no_generic : flag_at entry gn ≡ false
   pub no_overstrike : flag_at entry os ≡ false
-  pub partners : (pairs : List ℕ) → string_at entry acsc ≡ Some pairs → (letter : ℕ) → letter < 256 → is_misfit pairs letter ≡ false
+  pub partners : (pairs : List ℕ) → string_at entry acsc ≡ Some pairs → (letter : ℕ) → letter < 256
+      → is_misfit pairs letter ≡ false
 
--- Of `smacs` and `rmacs` (terminfo(5), "Line Graphics"): from every start whose charset can be settled the run ends with
--- the graphic set active, and with the plain one.
+-- Of `smacs` and `rmacs` (terminfo(5), "Line Graphics"): from every start whose charset can be settled the run ends
+-- with the graphic set active, and with the plain one.
 abbrev pub Switches : Table → Type 0
-Switches t = (row : Row) (bytes : List ℕ) → t.line_of row ≡ Some bytes → (s : State) → s.rest ≡ [] → Starts t.rows t.cols row s.screen → CanSettle t s.screen.charset
+Switches t =
+    (row : Row) (bytes : List ℕ) → t.line_of row ≡ Some bytes → (s : State) → s.rest ≡ []
+    → Starts t.rows t.cols row s.screen → CanSettle t s.screen.charset
     → Ends s bytes (λ u. Activates row u.screen.charset)
 
 -- A resynchronization begins with ESC. From every state with a charset that can be had, and with margins that are
@@ -51,7 +54,8 @@ Switches t = (row : Row) (bytes : List ℕ) → t.line_of row ≡ Some bytes →
 pub record Resyncs (t : Table) : Type 0 where
   pub rest : List ℕ
   pub escapes : resync t ≡ 27 ∷ rest
-  pub leads : (s : State) → IsOfSize t.rows t.cols s → IsTame s.screen → CanHave t s.screen.charset → (has t (widening t) ≡ false → IsWhole s.screen)
+  pub leads : (s : State) → IsOfSize t.rows t.cols s → IsTame s.screen → CanHave t s.screen.charset
+      → (has t (widening t) ≡ false → IsWhole s.screen)
       → Ends s (resync t) (IsCleared t.rows t.cols s.screen.visible)
 
 pub record Conforms (entry : Content) (rows cols : ℕ) : Type 0 where
@@ -69,4 +73,6 @@ pub record Conforms (entry : Content) (rows cols : ℕ) : Type 0 where
   pub resyncs : Resyncs table
 
 abbrev pub AgreedConforms : Type 0
-AgreedConforms = (entry : Content) (t : Table) → IsFit entry → IsJudged t → EntryAgrees t.rows t.cols entry t.line_of → Conforms entry t.rows t.cols
+AgreedConforms =
+    (entry : Content) (t : Table) → IsFit entry → IsJudged t → EntryAgrees t.rows t.cols entry t.line_of
+    → Conforms entry t.rows t.cols

@@ -64,7 +64,8 @@ pub record LineAgrees (entry : Content) (line : Option (List ℕ)) (row : Row) :
 
 -- so for each parameter list of the capability at a place
 abbrev pub CapAgrees : ℕ → ℕ → Content → (Row → Option (List ℕ)) → ℕ → Type 0
-CapAgrees rows cols entry line_of n = (row : Row) → order row ≡ n → IsInRange rows cols row → LineAgrees entry (line_of row) row
+CapAgrees rows cols entry line_of n =
+    (row : Row) → order row ≡ n → IsInRange rows cols row → LineAgrees entry (line_of row) row
 
 -- and for every row
 abbrev pub EntryAgrees : ℕ → ℕ → Content → (Row → Option (List ℕ)) → Type 0
@@ -72,6 +73,8 @@ EntryAgrees rows cols entry line_of = (row : Row) → IsInRange rows cols row �
 
 -- why lines aren't those of an entry, for a row of the table
 abbrev pub IsNotAgreed : ℕ → ℕ → Content → (Row → Option (List ℕ)) → Disagreement → Type 0
-IsNotAgreed rows cols entry line_of (Disagree row) = IsInRange rows cols row × (is_checked entry row ≡ true) × (EntrySends entry (line_of row) row → ⊥)
-IsNotAgreed rows cols entry line_of (Unwanted row) = IsFirst rows cols row × (is_checked entry row ≡ false) × SomeLine line_of (order row)
+IsNotAgreed rows cols entry line_of (Disagree row) =
+    IsInRange rows cols row × (is_checked entry row ≡ true) × (EntrySends entry (line_of row) row → ⊥)
+IsNotAgreed rows cols entry line_of (Unwanted row) =
+    IsFirst rows cols row × (is_checked entry row ≡ false) × SomeLine line_of (order row)
 IsNotAgreed rows cols entry line_of NoMemory = Unit {0}

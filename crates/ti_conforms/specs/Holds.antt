@@ -16,9 +16,11 @@ pub record LineHolds (t : Table) (row : Row) (bytes : List ℕ) : Type 0 where
   -- the bytes are whole tokens, of which each is tame
   pub right : IsRight t.rows t.cols t.looks row bytes
   -- from every start the run isn't stuck, and ends so, with nothing open
-  pub ends : (s : State) → s.rest ≡ [] → Starts t.rows t.cols row s.screen → Ends s bytes (Closed (Ended t row s.screen))
+  pub ends : (s : State) → s.rest ≡ [] → Starts t.rows t.cols row s.screen
+      → Ends s bytes (Closed (Ended t row s.screen))
   -- where the bytes are cut off, the state is a lost one; `civis` and `cvvis` are not to be sent without `cnorm`
-  pub fronts : (sets_visible row ≡ true → has t Cnorm ≡ true) → (s : State) → s.rest ≡ [] → IsLost t s → (front back : List ℕ) → bytes ≡ front ++ back → Ends s front (IsLost t)
+  pub fronts : (sets_visible row ≡ true → has t Cnorm ≡ true) → (s : State) → s.rest ≡ [] → IsLost t s
+      → (front back : List ℕ) → bytes ≡ front ++ back → Ends s front (IsLost t)
 
 -- a blank screen at rest, with a settled charset
 pub record IsResynced (t : Table) (visible : Bool) (u : State) : Type 0 where
@@ -29,8 +31,10 @@ pub record TableHolds (t : Table) : Type 0 where
   pub lines : (row : Row) (bytes : List ℕ) → t.line_of row ≡ Some bytes → LineHolds t row bytes
   -- from every lost state, whatever is open and whether the cursor is visible or not, to a blank screen at rest; and
   -- where it is cut off, to a lost state
-  pub resyncs : (shows : Bool) (s : State) → lost.IsLost t.rows t.cols (has t (widening t)) shows t.reached s → Ends s (resync t) (IsResynced t s.screen.visible)
-  pub resync_fronts : (s : State) → IsLost t s → (front back : List ℕ) → resync t ≡ front ++ back → Ends s front (IsLost t)
+  pub resyncs : (shows : Bool) (s : State) → lost.IsLost t.rows t.cols (has t (widening t)) shows t.reached s
+      → Ends s (resync t) (IsResynced t s.screen.visible)
+  pub resync_fronts : (s : State) → IsLost t s → (front back : List ℕ) → resync t ≡ front ++ back
+      → Ends s front (IsLost t)
   pub sets : SetsHold t
 
 abbrev pub JudgedHolds : Type 0

@@ -28,7 +28,8 @@ pub record AskedLine (t : Table) (row : Row) (bytes : List ℕ) : Type 0 where
 -- what a line does to the sets, nothing where there is no line
 pub data ChangesSets (t : Table) (row : Row) (change : Option Sets) : Type 0 where
   NoLine : t.line_of row ≡ None → change ≡ None → ChangesSets t row change
-  ByLine : (bytes : List ℕ) → t.line_of row ≡ Some bytes → (line : AskedLine t row bytes) → change ≡ Some line.effect.charset → ChangesSets t row change
+  ByLine : (bytes : List ℕ) → t.line_of row ≡ Some bytes → (line : AskedLine t row bytes)
+      → change ≡ Some line.effect.charset → ChangesSets t row change
 
 abbrev pub changed : Option Sets → Charset → Charset
 changed None c = c

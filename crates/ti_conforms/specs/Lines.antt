@@ -24,7 +24,8 @@ pub record HasLine (rows cols : ℕ) (start : Start) (bytes : List ℕ) (e : Eff
 
 -- every state with whole margins
 abbrev pub free_start : ℕ → ℕ → Start
-free_start rows cols = record { row_min = 0; row_max = rows - 1; col_min = 0; col_max = cols - 1; pending = true; margins = margins.Whole }
+free_start rows cols =
+    record { row_min = 0; row_max = rows - 1; col_min = 0; col_max = cols - 1; pending = true; margins = margins.Whole }
 
 -- `smcup`, `enacs`, `sgr0`, `rmacs`
 pub record IsQuiet (e : Effect) : Type 0 where
@@ -35,7 +36,8 @@ pub record IsQuiet (e : Effect) : Type 0 where
 pub record SetsMargins (rows : ℕ) (e : Effect) : Type 0 where
   pub margins : e.margins ≡ Some (record { top = 0; bottom = rows - 1 })
   pub rendition : e.rendition ≡ nothing_rendered
-  pub charset : e.charset ≡ record { g0_graphic = switches.Kept; g1_graphic = switches.Kept; shifted_out = switches.Kept }
+  pub charset : e.charset
+      ≡ record { g0_graphic = switches.Kept; g1_graphic = switches.Kept; shifted_out = switches.Kept }
   pub visible : e.visible ≡ switches.Kept
 
 -- `clear`
@@ -46,18 +48,21 @@ pub record Clears (e : Effect) : Type 0 where
   pub erasure : e.erasure ≡ erasures.Screen
   pub scroll : e.scroll ≡ scrolls.Still
   pub rendition : e.rendition ≡ nothing_rendered
-  pub charset : e.charset ≡ record { g0_graphic = switches.Kept; g1_graphic = switches.Kept; shifted_out = switches.Kept }
+  pub charset : e.charset
+      ≡ record { g0_graphic = switches.Kept; g1_graphic = switches.Kept; shifted_out = switches.Kept }
   pub margins : e.margins ≡ None
   pub visible : e.visible ≡ switches.Kept
 
 -- there is such a line of `csr`, or there is none at all
 pub data MayWiden (rows cols : ℕ) (csr : List ℕ) : Bool → Type 0 where
   Absent : csr ≡ [] → MayWiden rows cols csr false
-  Present : (start : Start) (e : Effect) → HasLine rows cols start csr e → SetsMargins rows e → MayWiden rows cols csr true
+  Present : (start : Start) (e : Effect) → HasLine rows cols start csr e → SetsMargins rows e
+      → MayWiden rows cols csr true
 
 -- no token of these leads out of this set of charsets
 abbrev pub StaysIn : (Charset → Bool) → List (List ℕ) → Type 0
-StaysIn reached tokens = AllByRecursion (λ t. (c : Charset) → reached c ≡ true → reached (charset_after (function_of t) c) ≡ true) tokens
+StaysIn reached tokens =
+    AllByRecursion (λ t. (c : Charset) → reached c ≡ true → reached (charset_after (function_of t) c) ≡ true) tokens
 
 -- Whole tokens that may be cut off: each leaves autowrap on and insertion off and leads out of no charset that can be
 -- had, and none changes margins or visibility where lines don't do that.

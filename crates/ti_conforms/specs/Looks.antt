@@ -30,7 +30,16 @@ LooksStand t = LooksAlone (λ row. has t row) t.looks
 
 -- attributes that can't be seen
 abbrev pub no_looks : Looks
-no_looks = record { standout = no_marks; underline = false; reverse = false; blink = false; dim = false; bold = false; invisible = false }
+no_looks =
+    record {
+      standout = no_marks;
+      underline = false;
+      reverse = false;
+      blink = false;
+      dim = false;
+      bold = false;
+      invisible = false;
+    }
 
 -- one attribute other than standout, by the number of a set of attributes
 abbrev pub is_single : ℕ → Bool

@@ -29,33 +29,49 @@ Settles rows cols bytes R C = (s : State) → s.rest ≡ [] → IsOfSize rows co
     → Ends s bytes (Settled rows cols (R s.screen.rendition) (C s.screen.charset) s)
 
 abbrev pub QuietSettles : Type 0
-QuietSettles = (rows cols : ℕ) (start : Start) (bytes : List ℕ) (e : Effect) → HasLine rows cols start bytes e → IsQuiet e → Settles rows cols bytes (λ r. rendered e.rendition r) (λ c. designated e.charset c)
+QuietSettles =
+    (rows cols : ℕ) (start : Start) (bytes : List ℕ) (e : Effect) → HasLine rows cols start bytes e → IsQuiet e
+    → Settles rows cols bytes (λ r. rendered e.rendition r) (λ c. designated e.charset c)
 
 abbrev pub NothingSettles : Type 0
 NothingSettles = (rows cols : ℕ) → Settles rows cols [] (λ r. r) (λ c. c)
 
 abbrev pub SettlingJoins : Type 0
-SettlingJoins = (rows cols : ℕ) (a b : List ℕ) (Q R : Rendition → Rendition) (B C : Charset → Charset) → Settles rows cols a Q B → Settles rows cols b R C → Settles rows cols (a ++ b) (λ r. R (Q r)) (λ c. C (B c))
+SettlingJoins =
+    (rows cols : ℕ) (a b : List ℕ) (Q R : Rendition → Rendition) (B C : Charset → Charset) → Settles rows cols a Q B
+    → Settles rows cols b R C → Settles rows cols (a ++ b) (λ r. R (Q r)) (λ c. C (B c))
 
 -- Where the lines are so, ESC in front and the sets are all that is left to look at.
 abbrev pub ResyncLeads : Type 0
-ResyncLeads = (rows cols : ℕ) (sets_margins shows : Bool) (front csr clear more : List ℕ) (R : Rendition → Rendition) (C : Charset → Charset) (reached : Charset → Bool) (e : Effect)
-    → front ++ (csr ++ clear) ≡ 27 ∷ more → Settles rows cols front R C → ((r : Rendition) → R r ≡ plain) → ((c : Charset) → reached c ≡ true → is_graphic (C c) ≡ false)
+ResyncLeads =
+    (rows cols : ℕ) (sets_margins shows : Bool) (front csr clear more : List ℕ) (R : Rendition → Rendition)
+    (C : Charset → Charset) (reached : Charset → Bool) (e : Effect)
+    → front ++ (csr ++ clear) ≡ 27 ∷ more → Settles rows cols front R C → ((r : Rendition) → R r ≡ plain)
+    → ((c : Charset) → reached c ≡ true → is_graphic (C c) ≡ false)
     → MayWiden rows cols csr sets_margins → HasLine rows cols (free_start rows cols) clear e → Clears e
-    → (s : State) → IsLost rows cols sets_margins shows reached s → Ends s (front ++ (csr ++ clear)) (IsCleared rows cols s.screen.visible)
+    → (s : State) → IsLost rows cols sets_margins shows reached s
+    → Ends s (front ++ (csr ++ clear)) (IsCleared rows cols s.screen.visible)
 
--- A line that is cut off anywhere leads from a lost state with nothing open to a lost state; the whole line leaves nothing open.
+-- A line that is cut off anywhere leads from a lost state with nothing open to a lost state; the whole line leaves
+-- nothing open.
 abbrev pub FrontsStay : Type 0
-FrontsStay = (rows cols : ℕ) (sets_margins shows : Bool) (reached : Charset → Bool) (bytes : List ℕ) → MayBeCut rows sets_margins shows reached bytes
-    → (s : State) → s.rest ≡ [] → IsLost rows cols sets_margins shows reached s → (front back : List ℕ) → bytes ≡ front ++ back → Ends s front (IsLost rows cols sets_margins shows reached)
+FrontsStay =
+    (rows cols : ℕ) (sets_margins shows : Bool) (reached : Charset → Bool) (bytes : List ℕ)
+    → MayBeCut rows sets_margins shows reached bytes
+    → (s : State) → s.rest ≡ [] → IsLost rows cols sets_margins shows reached s → (front back : List ℕ)
+    → bytes ≡ front ++ back → Ends s front (IsLost rows cols sets_margins shows reached)
 
-pub record IsLostAndClosed (rows cols : ℕ) (sets_margins shows : Bool) (reached : Charset → Bool) (s : State) : Type 0 where
+pub record IsLostAndClosed (rows cols : ℕ) (sets_margins shows : Bool) (reached : Charset → Bool)
+    (s : State) : Type 0 where
   pub rest : s.rest ≡ []
   pub lost : IsLost rows cols sets_margins shows reached s
 
 abbrev pub WholesStay : Type 0
-WholesStay = (rows cols : ℕ) (sets_margins shows : Bool) (reached : Charset → Bool) (bytes : List ℕ) → MayBeCut rows sets_margins shows reached bytes
-    → (s : State) → s.rest ≡ [] → IsLost rows cols sets_margins shows reached s → Ends s bytes (IsLostAndClosed rows cols sets_margins shows reached)
+WholesStay =
+    (rows cols : ℕ) (sets_margins shows : Bool) (reached : Charset → Bool) (bytes : List ℕ)
+    → MayBeCut rows sets_margins shows reached bytes
+    → (s : State) → s.rest ≡ [] → IsLost rows cols sets_margins shows reached s
+    → Ends s bytes (IsLostAndClosed rows cols sets_margins shows reached)
 
 -- The strings of a resynchronization, in the order in which they are sent, those that there are (terminfo(5),
 -- "Initialization" and "Line Graphics").

@@ -20,7 +20,8 @@ pub record Occurs (t : Table) (token : List ℕ) : Type 0 where
 -- Reached: the least set that has the reset charset and that no token of a line leads out of.
 pub data CanHave (t : Table) : Charset → Type 0 where
   AtReset : (c : Charset) → c ≡ reset_charset → CanHave t c
-  AfterToken : (c d : Charset) (token : List ℕ) → CanHave t c → Occurs t token → d ≡ charset_after (function_of token) c → CanHave t d
+  AfterToken : (c d : Charset) (token : List ℕ) → CanHave t c → Occurs t token → d ≡ charset_after (function_of token) c
+      → CanHave t d
 
 -- a whole text leads from the one charset to the other
 pub record LeadsBy (bytes : List ℕ) (c d : Charset) : Type 0 where
@@ -32,7 +33,8 @@ pub record LeadsBy (bytes : List ℕ) (c d : Charset) : Type 0 where
 -- that begin and end a program's screen leads out of as a whole.
 pub data CanSettle (t : Table) : Charset → Type 0 where
   AfterResync : (c d : Charset) → CanHave t c → LeadsBy (resync t) c d → CanSettle t d
-  AfterLine : (c d : Charset) (row : Row) (bytes : List ℕ) → CanSettle t c → t.line_of row ≡ Some bytes → settles row ≡ true → LeadsBy bytes c d → CanSettle t d
+  AfterLine : (c d : Charset) (row : Row) (bytes : List ℕ) → CanSettle t c → t.line_of row ≡ Some bytes
+      → settles row ≡ true → LeadsBy bytes c d → CanSettle t d
 
 -- the strings that switch to the graphic set and back are both there
 abbrev pub has_sets : Table → Bool

@@ -22,7 +22,20 @@ pub record Longest : Type 0 where
   pub cvvis : ℕ
 
 abbrev pub no_lengths : Longest
-no_lengths = record { cup = 0; sgr = 0; setaf = 0; setab = 0; op = 0; sets = 0; erasure = 0; scroll = 0; civis = 0; cnorm = 0; cvvis = 0 }
+no_lengths =
+    record {
+      cup = 0;
+      sgr = 0;
+      setaf = 0;
+      setab = 0;
+      op = 0;
+      sets = 0;
+      erasure = 0;
+      scroll = 0;
+      civis = 0;
+      cnorm = 0;
+      cvvis = 0;
+    }
 
 pub record Table : Type 0 where
   pub rows : ℕ
@@ -56,7 +69,9 @@ widening t = Csr 0 (t.rows - 1)
 -- What leads a terminal out of a state that isn't known: `smcup`, `enacs`, `sgr0`, `rmacs`, `csr` of the whole screen
 -- and `clear`, those that there are (terminfo(5), "Initialization" and "Line Graphics").
 abbrev pub front_of : (Row → Option (List ℕ)) → List ℕ
-front_of line_of = (or_nothing (line_of Smcup) ++ or_nothing (line_of Enacs)) ++ (or_nothing (line_of Sgr0) ++ or_nothing (line_of Rmacs))
+front_of line_of =
+    (or_nothing (line_of Smcup) ++ or_nothing (line_of Enacs))
+    ++ (or_nothing (line_of Sgr0) ++ or_nothing (line_of Rmacs))
 
 unfoldable pub resync_of : ℕ → (Row → Option (List ℕ)) → List ℕ
 resync_of rows line_of = front_of line_of ++ (or_nothing (line_of (Csr 0 (rows - 1))) ++ or_nothing (line_of Clear))

@@ -22,7 +22,8 @@ pub record HasNoSingles (t : Table) : Type 0 where
 
 pub record StandTogether (t : Table) : Type 0 where
   -- a capability with a line has one for each parameter list that the size allows
-  pub whole : (row other : Row) → order row ≡ order other → IsInRange t.rows t.cols row → IsInRange t.rows t.cols other → has t row ≡ has t other
+  pub whole : (row other : Row) → order row ≡ order other → IsInRange t.rows t.cols row → IsInRange t.rows t.cols other
+      → has t row ≡ has t other
   pub clears : has t Clear ≡ true
   pub moves : (row col : ℕ) → row < t.rows → col < t.cols → has t (Cup row col) ≡ true
   pub makes_plain : has t Sgr0 ≡ true
@@ -34,4 +35,5 @@ pub record StandTogether (t : Table) : Type 0 where
   pub singles : has t (Sgr no_attributes) ≡ true → HasNoSingles t
 
 abbrev pub AgreedStandTogether : Type 0
-AgreedStandTogether = (entry : Content) (t : Table) → IsFit entry → EntryAgrees t.rows t.cols entry t.line_of → StandTogether t
+AgreedStandTogether =
+    (entry : Content) (t : Table) → IsFit entry → EntryAgrees t.rows t.cols entry t.line_of → StandTogether t

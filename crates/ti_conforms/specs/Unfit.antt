@@ -1,5 +1,5 @@
--- Why no certificate is for an entry, whatever its strings send (terminfo(5), "Predefined Capabilities"): it hasn't what
--- it needs, or has what it may not have.
+-- Why no certificate is for an entry, whatever its strings send (terminfo(5), "Predefined Capabilities"): it hasn't
+-- what it needs, or has what it may not have.
 use Rattle.std.specs.Prelude.{ℕ, ◌≡◌, ◌==◌, ◌&&◌, ◌||◌, not, if◌then◌else◌, Bool, true, false, List, Option, Some, None, is_some}
 use Rattle.ti_caps.specs.Entry.{Content, flag_at, number_at, string_at}
 use Rattle.ti_conforms.specs.Alternates.{is_misfit}
@@ -14,7 +14,9 @@ use Rattle.ti_conforms.specs.declared.fitness.Unfit.TheVariants.{FlagOut, Absent
 -- a number or flag that the entry has: attributes that take room on the screen, paper, a generic type, cells that keep
 -- what was printed before
 abbrev pub is_flag_out : Content → ℕ → Bool
-is_flag_out entry cap = ((cap == xmc) && is_some (number_at entry cap)) || (((cap == hc) || ((cap == gn) || (cap == os))) && flag_at entry cap)
+is_flag_out entry cap =
+    ((cap == xmc) && is_some (number_at entry cap))
+    || (((cap == hc) || ((cap == gn) || (cap == os))) && flag_at entry cap)
 
 abbrev pub IsRequired : Row → Type 0
 IsRequired Clear = Unit {0}

@@ -46,7 +46,8 @@ lacking entry =
 
 -- no letter of line graphics is listed with a partner that can't be printed
 abbrev pub HasNoMisfit : Content → Type 0
-HasNoMisfit entry = (pairs : List ℕ) → string_at entry acsc ≡ Some pairs → (letter : ℕ) → letter < 256 → is_misfit pairs letter ≡ false
+HasNoMisfit entry =
+    (pairs : List ℕ) → string_at entry acsc ≡ Some pairs → (letter : ℕ) → letter < 256 → is_misfit pairs letter ≡ false
 
 -- what is said of `acsc`
 pub data OfPairs (entry : Content) (said : List Said) : Type 0 where

@@ -40,9 +40,9 @@ fn or_one(nos: Vec<No>, refusal: No) -> Result<Vec<No>, AllocError>
 
 /// All faults of an entry for a size, as `check` names them: each of `xmc`, `hc`, `gn` and `os` that it has, each of
 /// `clear`, `cup` and `sgr0` that it lacks, an `acsc` with a partner that can't be printed; then, for each checked
-/// capability with a faulty row, the first such row, in the order of a certificate's lines. Where there is none of these,
-/// but no certificate either, it is the no of `check` alone: about all strings together, or about the certificate's
-/// length. There are none exactly where `check` gives a certificate.
+/// capability with a faulty row, the first such row, in the order of a certificate's lines. Where there is none of
+/// these, but no certificate either, it is the no of `check` alone: about all strings together, or about the
+/// certificate's length. There are none exactly where `check` gives a certificate.
 ///
 /// # Errors
 /// Out of memory.

@@ -10,12 +10,12 @@ pub record Dripping : Type 0 where
   pub fail_in : Option ℕ
   pub failures : ℕ
 
--- how many bytes are given into room for so many
+-- how many bytes are given into room for this many
 abbrev pub given_by : ℕ → ℕ → ℕ → Option ℕ → ℕ
 given_by wanted step rest None = min (min wanted step) rest
 given_by wanted step rest (Some n) = min (min (min wanted step) rest) n
 
--- no failure is left, or it is so many bytes nearer
+-- no failure is left, or it is this many bytes nearer
 abbrev pub nearer : Option ℕ → ℕ → Option ℕ
 nearer None n = None
 nearer (Some m) n = Some (m - n)

@@ -17,5 +17,7 @@ ComposedPlain = (a b c : Effect) → IsPlain a → IsPlain b → composed a b �
 
 -- what these tokens do from every state of a start whose rows and columns have 16 bits, as a record
 abbrev pub RecordedPlain : Type 0
-RecordedPlain = (rows cols : ℕ) (start : Start) (tokens : List (List ℕ)) (e : Effect) → IsSize rows cols → start.row_min < 65536 → start.col_min < 65536 →
+RecordedPlain =
+    (rows cols : ℕ) (start : Start) (tokens : List (List ℕ)) (e : Effect) → IsSize rows cols → start.row_min < 65536
+    → start.col_min < 65536 →
     record_of rows cols start tokens ≡ Some e → IsPlain e

@@ -71,10 +71,13 @@ next_at word = option_and_then (λ digits. positive (number_at digits)) (behind 
 
 -- letters after a name, not each of them a dot
 abbrev pub letters_at : List ℕ → List ℕ → Option (List ℕ)
-letters_at name word = option_and_then (λ letters. if list_all is_dot letters then None else Some letters) (behind name word)
+letters_at name word =
+    option_and_then (λ letters. if list_all is_dot letters then None else Some letters) (behind name word)
 
 abbrev pub switch_at : ℕ → ℕ → ℕ → Option Switch
-switch_at on off b = if b == on then Some switches.On else (if b == off then Some switches.Off else (if b == 46 then Some switches.Kept else None))
+switch_at on off b =
+    if b == on then Some switches.On
+    else (if b == off then Some switches.Off else (if b == 46 then Some switches.Kept else None))
 
 abbrev pub ink_at : ℕ → Option Ink
 ink_at b =
@@ -93,7 +96,14 @@ marks_of (a ∷ b ∷ c ∷ d ∷ e ∷ f ∷ []) = do
   blink ← switch_at 49 48 d
   negative ← switch_at 49 48 e
   concealed ← switch_at 49 48 f
-  Some (record { bold = bold; faint = faint; underline = underline; blink = blink; negative = negative; concealed = concealed })
+  Some (record {
+    bold = bold;
+    faint = faint;
+    underline = underline;
+    blink = blink;
+    negative = negative;
+    concealed = concealed;
+  })
 marks_of _ = None
 
 abbrev pub inks_of : List ℕ → Option (Ink × Ink)
@@ -183,7 +193,15 @@ rank (Rows r) = 8
 rank (Shows s) = 9
 
 abbrev pub with_marks : Marks → Rendering → Rendering
-with_marks m r = record r { bold = m.bold; faint = m.faint; underline = m.underline; blink = m.blink; negative = m.negative; concealed = m.concealed }
+with_marks m r =
+    record r {
+      bold = m.bold;
+      faint = m.faint;
+      underline = m.underline;
+      blink = m.blink;
+      negative = m.negative;
+      concealed = m.concealed;
+    }
 
 abbrev pub put : Word → Effect → Effect
 put (Row m) e = record e { row = m }
@@ -199,7 +217,9 @@ put (Shows s) e = record e { visible = s }
 
 -- a word more, of a kind after those before
 abbrev pub put_next : Found → Word → Option Found
-put_next found word = if nat_le found.next (rank word) then Some (record { effect = put word found.effect; next = rank word + 1 }) else None
+put_next found word =
+    if nat_le found.next (rank word) then Some (record { effect = put word found.effect; next = rank word + 1 })
+    else None
 
 unfoldable pub with_word : Found → List ℕ → Option Found
 with_word found word = option_and_then (put_next found) (word_at word)

@@ -105,7 +105,9 @@ abbrev pub mark_letter : Switch → ℕ
 mark_letter s = switch_letter 49 48 s
 
 abbrev pub look_letters : Rendering → List ℕ
-look_letters r = mark_letter r.bold ∷ mark_letter r.faint ∷ mark_letter r.underline ∷ mark_letter r.blink ∷ mark_letter r.negative ∷ mark_letter r.concealed ∷ []
+look_letters r =
+    mark_letter r.bold ∷ mark_letter r.faint ∷ mark_letter r.underline ∷ mark_letter r.blink ∷ mark_letter r.negative
+    ∷ mark_letter r.concealed ∷ []
 
 abbrev pub look_text : Rendering → List ℕ
 look_text r = lettered look_name (look_letters r)
@@ -123,7 +125,8 @@ set_name = 115 ∷ 101 ∷ 116 ∷ 58 ∷ []
 
 -- 0 for graphic and B for plain; O for shifted out and I for shifted in
 abbrev pub set_text : Sets → List ℕ
-set_text s = lettered set_name (switch_letter 48 66 s.g0_graphic ∷ switch_letter 48 66 s.g1_graphic ∷ switch_letter 79 73 s.shifted_out ∷ [])
+set_text s = lettered set_name
+    (switch_letter 48 66 s.g0_graphic ∷ switch_letter 48 66 s.g1_graphic ∷ switch_letter 79 73 s.shifted_out ∷ [])
 
 -- rows:
 abbrev pub rows_name : List ℕ
@@ -149,8 +152,9 @@ visible_text switches.Off = hide_name
 -- each kind of word in its place, with no text if it says that something is kept
 abbrev pub texts : Effect → List (List ℕ)
 texts e =
-    move_text row_name e.row ∷ move_text col_name e.col ∷ pending_text e.ends_pending ∷ erasure_text e.erasure ∷ scroll_text e.scroll
-    ∷ look_text e.rendition ∷ ink_text e.rendition ∷ set_text e.charset ∷ rows_text e.margins ∷ visible_text e.visible ∷ []
+    move_text row_name e.row ∷ move_text col_name e.col ∷ pending_text e.ends_pending ∷ erasure_text e.erasure
+    ∷ scroll_text e.scroll ∷ look_text e.rendition ∷ ink_text e.rendition ∷ set_text e.charset
+    ∷ rows_text e.margins ∷ visible_text e.visible ∷ []
 
 -- those that have a text
 abbrev pub nonempty : List (List ℕ) → List (List ℕ)

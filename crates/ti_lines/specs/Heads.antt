@@ -1,4 +1,5 @@
--- The other lines of a certificate: the first, with the version and the size; that of the alternate characters; the last.
+-- The other lines of a certificate: the first, with the version and the size; that of the alternate characters; the
+-- last.
 use Rattle.std.specs.Prelude.{ℕ, ◌<◌, ◌≡◌, bytes_eq, Bool, if◌then◌else◌, List, ◌∷◌, ◌++◌, Option, None, Some, codes}
 use Rattle.std.specs.Fmt.{decimal}
 use Rattle.std.specs.Option.{option_map, option_and_then}
@@ -35,10 +36,14 @@ abbrev pub acsc_in : List ℕ → Option (List ℕ)
 acsc_in text = option_and_then (λ rest. hex_in rest) (behind_word acsc_word text)
 
 abbrev pub two_numbers_in : List ℕ → Option (ℕ × ℕ)
-two_numbers_in text = option_and_then (λ p. option_and_then (λ n. option_map (λ m. (n, m)) (number_at p.1)) (number_at p.0)) (cut_at 32 text)
+two_numbers_in text =
+    option_and_then (λ p. option_and_then (λ n. option_map (λ m. (n, m)) (number_at p.1)) (number_at p.0))
+    (cut_at 32 text)
 
 abbrev pub size_in : List ℕ → Option (ℕ × ℕ)
-size_in text = option_and_then (λ rest. option_and_then (λ numbers. two_numbers_in numbers) (behind_word version rest)) (behind_word first_word text)
+size_in text =
+    option_and_then (λ rest. option_and_then (λ numbers. two_numbers_in numbers) (behind_word version rest))
+    (behind_word first_word text)
 
 -- the text of a first line, and of one with alternate characters
 pub record IsSizeText (text : List ℕ) (rows cols : ℕ) : Type 0 where

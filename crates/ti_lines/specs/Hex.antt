@@ -22,4 +22,5 @@ abbrev pub has_lower_digits : List ℕ → Bool
 has_lower_digits text = not (length text == 0) && lacks_upper text
 
 abbrev pub hex_in : List ℕ → Option (List ℕ)
-hex_in text = if bytes_eq text (45 ∷ []) then Some [] else (if has_lower_digits text then decoded (decode_of text) else None)
+hex_in text =
+    if bytes_eq text (45 ∷ []) then Some [] else (if has_lower_digits text then decoded (decode_of text) else None)

@@ -33,17 +33,24 @@ abbrev pub JudgedLast : {T F : Type 0} → Rules T F → ℕ → T → List ℕ 
 JudgedLast rules number t [] answer = AtLine number (rules.end t) answer
 JudgedLast rules number t (b ∷ last) answer = answer ≡ Err (fault_at number rules.no_line)
 
--- A line has its LF within the budget and is followed by what is judged after it, or it has a fault; or its LF is too late.
-pub data JudgedLine {T F : Type 0} (rules : Rules T F) (budget number : ℕ) (t : T) (line : List ℕ) (Later : T → Type 0) (answer : Result T (LineFault F)) : Type 0 where
-  Passes : length line < budget → (u : T) → rules.line t line (Ok u) → Later u → JudgedLine rules budget number t line Later answer
-  Fails : length line < budget → (kind : F) → answer ≡ Err (fault_at number kind) → rules.line t line (Err kind) → JudgedLine rules budget number t line Later answer
-  TooLong : budget ≤ length line → answer ≡ Err (fault_at number rules.no_line) → JudgedLine rules budget number t line Later answer
+-- A line has its LF within the budget and is followed by what is judged after it, or it has a fault; or its LF is too
+-- late.
+pub data JudgedLine {T F : Type 0} (rules : Rules T F) (budget number : ℕ) (t : T) (line : List ℕ) (Later : T → Type 0)
+    (answer : Result T (LineFault F)) : Type 0 where
+  Passes : length line < budget → (u : T) → rules.line t line (Ok u) → Later u
+      → JudgedLine rules budget number t line Later answer
+  Fails : length line < budget → (kind : F) → answer ≡ Err (fault_at number kind) → rules.line t line (Err kind)
+      → JudgedLine rules budget number t line Later answer
+  TooLong : budget ≤ length line → answer ≡ Err (fault_at number rules.no_line)
+      → JudgedLine rules budget number t line Later answer
 
 -- Line after line, each with its LF within the budget that the lines before it leave.
-unfoldable pub JudgedLines : {T F : Type 0} → Rules T F → ℕ → ℕ → T → List (List ℕ) → List ℕ → Result T (LineFault F) → Type 0
+unfoldable pub JudgedLines : {T F : Type 0} → Rules T F → ℕ → ℕ → T → List (List ℕ) → List ℕ → Result T (LineFault F)
+    → Type 0
 JudgedLines rules budget number t [] last answer = JudgedLast rules number t last answer
 JudgedLines rules budget number t (line ∷ lines) last answer =
-    JudgedLine rules budget number t line (λ u. JudgedLines rules (budget - (length line + 1)) (number + 1) u lines last answer) answer
+    JudgedLine rules budget number t line
+    (λ u. JudgedLines rules (budget - (length line + 1)) (number + 1) u lines last answer) answer
 
 abbrev pub JudgedCut : {T F : Type 0} → Rules T F → ℕ → ℕ → T → Cut → Result T (LineFault F) → Type 0
 JudgedCut rules budget number t cut answer = JudgedLines rules budget number t cut.lines cut.last answer
@@ -51,7 +58,7 @@ JudgedCut rules budget number t cut answer = JudgedLines rules budget number t c
 unfoldable pub JudgedFrom : {T F : Type 0} → Rules T F → ℕ → ℕ → T → List ℕ → Result T (LineFault F) → Type 0
 JudgedFrom rules budget number t text answer = JudgedCut rules budget number t (cut_of text) answer
 
--- a whole text, whose lines are counted from 1 and may have so many bytes with their LFs
+-- a whole text, whose lines are counted from 1 and may have this many bytes with their LFs
 unfoldable pub Judged : {T F : Type 0} → Rules T F → ℕ → T → List ℕ → Result T (LineFault F) → Type 0
 Judged rules limit t text answer = JudgedFrom rules limit 1 t text answer
 
@@ -64,7 +71,8 @@ abbrev pub FailsBy : {T F : Type 0} → Rules T F → LineFault F → (Result T 
 FailsBy rules fault Is = Is (Err fault) ⊎ (fault.kind ≡ rules.no_memory)
 
 -- the answer, and what stands after it, are those of the text, unless memory ran out
-abbrev pub Gives : {X T F : Type 0} → Rules T F → T → Result X (LineFault F) → (Result T (LineFault F) → Type 0) → Type 0
+abbrev pub Gives : {X T F : Type 0} → Rules T F → T → Result X (LineFault F) → (Result T (LineFault F) → Type 0)
+    → Type 0
 Gives rules new (Ok x) Is = Is (Ok new)
 Gives rules new (Err e) Is = FailsBy rules e Is
 
@@ -80,14 +88,19 @@ abbrev pub halted : {T F : Type 0} → Rules T F → ℕ → Halt → LineFault 
 halted rules number ReadFailed = fault_at number rules.read_failed
 halted rules number NoMemory = fault_at number rules.no_memory
 
--- The answer is that of the bytes that were given: of them alone where the end was seen, else of every text that begins with them.
--- Or the reader failed, in the line after those that were given whole.
-pub data Outcome {X T F : Type 0} (rules : Rules T F) (limit : ℕ) (old new : T) (Ended Failed : Type 0) (given : List ℕ) (answer : Result X (LineFault F)) : Type 0 where
-  Whole : Ended → Gives rules new answer (Judged rules limit old given) → Outcome rules limit old new Ended Failed given answer
-  Early : ((back : List ℕ) → Gives rules new answer (Judged rules limit old (given ++ back))) → Outcome rules limit old new Ended Failed given answer
-  Cuts : (fault : LineFault F) → answer ≡ Err fault → fault.kind ≡ rules.read_failed → fault.line ≡ length (cut_of given).lines + 1 → Failed → Outcome rules limit old new Ended Failed given answer
+-- The answer is that of the bytes that were given: of them alone where the end was seen, else of every text that begins
+-- with them. Or the reader failed, in the line after those that were given whole.
+pub data Outcome {X T F : Type 0} (rules : Rules T F) (limit : ℕ) (old new : T) (Ended Failed : Type 0) (given : List ℕ)
+    (answer : Result X (LineFault F)) : Type 0 where
+  Whole : Ended → Gives rules new answer (Judged rules limit old given)
+      → Outcome rules limit old new Ended Failed given answer
+  Early : ((back : List ℕ) → Gives rules new answer (Judged rules limit old (given ++ back)))
+      → Outcome rules limit old new Ended Failed given answer
+  Cuts : (fault : LineFault F) → answer ≡ Err fault → fault.kind ≡ rules.read_failed
+      → fault.line ≡ length (cut_of given).lines + 1 → Failed → Outcome rules limit old new Ended Failed given answer
 
--- These bytes were given, a piece of them by the last call, and when it was made, the line of this number was not whole.
+-- These bytes were given, a piece of them by the last call, and when it was made, the line of this number was not
+-- whole.
 pub record LastCall (given : List ℕ) (number : ℕ) : Type 0 where
   pub before : List ℕ
   pub piece : List ℕ
@@ -97,7 +110,8 @@ pub record LastCall (given : List ℕ) (number : ℕ) : Type 0 where
 
 -- What a reader gave in a call, at most one byte past the limit, and the answer of it. Once the line with the fault is
 -- whole, the reader isn't called.
-pub record Reports {R X T F : Type 0} (rules : Rules T F) (limit : ℕ) (old new : T) (left : R → List ℕ → Type 0) (failures : R → ℕ) (reader after : R) (answer : Result X (LineFault F)) : Type 0 where
+pub record Reports {R X T F : Type 0} (rules : Rules T F) (limit : ℕ) (old new : T) (left : R → List ℕ → Type 0)
+    (failures : R → ℕ) (reader after : R) (answer : Result X (LineFault F)) : Type 0 where
   pub given : List ℕ
   pub gave : Gave left failures reader after given
   pub few : length given ≤ limit + 1
@@ -105,12 +119,14 @@ pub record Reports {R X T F : Type 0} (rules : Rules T F) (limit : ℕ) (old new
   pub outcome : Outcome rules limit old new (AtEnd left after) (Rose (failures reader) (failures after)) given answer
 
 -- the answer is that of this text, or the reader failed
-abbrev pub GivesOr : {X T F : Type 0} → Rules T F → Type 0 → T → Result X (LineFault F) → (Result T (LineFault F) → Type 0) → Type 0
+abbrev pub GivesOr : {X T F : Type 0} → Rules T F → Type 0 → T → Result X (LineFault F)
+    → (Result T (LineFault F) → Type 0) → Type 0
 GivesOr rules Failed new (Ok x) Is = Is (Ok new)
 GivesOr rules Failed new (Err e) Is = FailsBy rules e Is ⊎ ((e.kind ≡ rules.read_failed) × Failed)
 
 -- Inside a call: these bytes are passed and judged, and more are taken.
-pub record Progress {R T F : Type 0} (rules : Rules T F) (limit : ℕ) (start : T) (left : R → List ℕ → Type 0) (failures : R → ℕ) (old now : R) (r : Reading) (number : ℕ) (t : T) : Type 0 where
+pub record Progress {R T F : Type 0} (rules : Rules T F) (limit : ℕ) (start : T) (left : R → List ℕ → Type 0)
+    (failures : R → ℕ) (old now : R) (r : Reading) (number : ℕ) (t : T) : Type 0 where
   pub passed : List ℕ
   pub gave : Gave left failures old now (passed ++ r.unread)
   pub budget : r.budget + length passed ≡ limit
@@ -118,4 +134,5 @@ pub record Progress {R T F : Type 0} (rules : Rules T F) (limit : ℕ) (start : 
   pub few : number ≤ length passed + 1
   pub last : LastCall (passed ++ r.unread) number
   pub lines : (text : List ℕ) → length (cut_of (passed ++ text)).lines + 1 ≡ number + length (cut_of text).lines
-  pub rest : (text : List ℕ) (answer : Result T (LineFault F)) → JudgedFrom rules r.budget number t text answer → Judged rules limit start (passed ++ text) answer
+  pub rest : (text : List ℕ) (answer : Result T (LineFault F)) → JudgedFrom rules r.budget number t text answer
+      → Judged rules limit start (passed ++ text) answer

@@ -16,10 +16,12 @@ pub record Reading : Type 0 where
 -- Nothing more was taken, or the last call gave a piece of it, and no line was whole when it was made.
 pub data Refills (unread bytes : List ℕ) : Type 0 where
   NotAtAll : bytes ≡ [] → Refills unread bytes
-  InPieces : (before piece : List ℕ) → bytes ≡ before ++ piece → length piece ≤ piece_limit → line_end (unread ++ before) ≡ None → Refills unread bytes
+  InPieces : (before piece : List ℕ) → bytes ≡ before ++ piece → length piece ≤ piece_limit
+      → line_end (unread ++ before) ≡ None → Refills unread bytes
 
 -- more bytes were taken, and none passed
-pub record Takes {R : Type 0} (left : R → List ℕ → Type 0) (failures : R → ℕ) (old : Reading) (reader : R) (new : Reading) (after : R) : Type 0 where
+pub record Takes {R : Type 0} (left : R → List ℕ → Type 0) (failures : R → ℕ) (old : Reading) (reader : R)
+    (new : Reading) (after : R) : Type 0 where
   pub bytes : List ℕ
   pub gave : Gave left failures reader after bytes
   pub unread : new.unread ≡ old.unread ++ bytes
@@ -42,6 +44,6 @@ HaltsBy old new NoMemory = Unit {0}
 abbrev pub next_line : ℕ → ℕ → Next
 next_line at budget = if nat_lt at budget then Line at else Long
 
--- after so many bytes that have no LF there are no more
+-- after this many bytes that have no LF there are no more
 abbrev pub next_end : ℕ → Next
 next_end count = if count == 0 then End else Unended

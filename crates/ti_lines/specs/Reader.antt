@@ -9,15 +9,16 @@ last_count = 2 ^ 128 - 1
 abbrev pub Rose : ℕ → ℕ → Type 0
 Rose old new = (old < new) ⊎ ((old ≡ last_count) × (new ≡ last_count))
 
--- all begins with the front, and what is told of the rest
+-- all begins with the front, and what is said of the rest
 pub record Follows (tells : List ℕ → Type 0) (front all : List ℕ) : Type 0 where
   pub rest : List ℕ
   pub parts : all ≡ front ++ rest
   pub there : tells rest
 
--- Between the two moments these bytes were given: whatever bytes were left before, they begin with these, and what follows is left now.
--- Of a reader that tells nothing this says nothing but that failures aren't taken back.
-pub record Gave {R : Type 0} (left : R → List ℕ → Type 0) (failures : R → ℕ) (old new : R) (bytes : List ℕ) : Type 0 where
+-- Between the two moments these bytes were given: whatever bytes were left before, they begin with these, and what
+-- follows is left now. Of a reader that tells nothing this says nothing but that failures aren't taken back.
+pub record Gave {R : Type 0} (left : R → List ℕ → Type 0) (failures : R → ℕ) (old new : R)
+    (bytes : List ℕ) : Type 0 where
   pub tells : (all : List ℕ) → left old all → Follows (left new) bytes all
   pub counts : failures old ≤ failures new
 

@@ -20,7 +20,8 @@ numbers_text (n ∷ ns) = decimal n ++ 32 ∷ numbers_text ns
 
 -- the words of a line, with one space between each two
 abbrev pub line_text : RowLine → List ℕ
-line_text line = name_of line.row ++ 32 ∷ (numbers_text (params line.row) ++ (hex_text line.bytes ++ 32 ∷ spelled line.effect))
+line_text line =
+    name_of line.row ++ 32 ∷ (numbers_text (params line.row) ++ (hex_text line.bytes ++ 32 ∷ spelled line.effect))
 
 -- a line that can be written: numbers of 16 bits, bytes, and an effect in its one form
 pub record IsLine (line : RowLine) : Type 0 where
@@ -33,18 +34,24 @@ pub record IsTextOf (text : List ℕ) (line : RowLine) : Type 0 where
   pub line_is : IsLine line
   pub spelled : line_text line ≡ text
 
--- reading: so many numbers, and what follows the space after the last
+-- reading: this many numbers, and what follows the space after the last
 abbrev pub numbers_before : ℕ → List ℕ → List ℕ → Option (List ℕ × List ℕ)
 numbers_before zero done text = Some (done, text)
-numbers_before (suc count) done text = option_and_then (λ p. option_and_then (λ n. numbers_before count (done ++ n ∷ []) p.1) (number_at p.0)) (cut_at 32 text)
+numbers_before (suc count) done text =
+    option_and_then (λ p. option_and_then (λ n. numbers_before count (done ++ n ∷ []) p.1) (number_at p.0))
+    (cut_at 32 text)
 
 -- the row whose parameters come first, and what follows them
 abbrev pub row_before : Row → List ℕ → Option (Row × List ℕ)
-row_before first text = option_and_then (λ p. option_map (λ row. (row, p.1)) (with_params first p.0)) (numbers_before (length (params first)) [] text)
+row_before first text =
+    option_and_then (λ p. option_map (λ row. (row, p.1)) (with_params first p.0))
+    (numbers_before (length (params first)) [] text)
 
 -- the bytes and the effect after a row
 abbrev pub line_behind : Row → List ℕ → Option RowLine
-line_behind row text = option_and_then (λ p. option_and_then (λ effect. option_map (λ bytes. record { row = row; bytes = bytes; effect = effect }) (hex_in p.0)) (effect_in p.1)) (cut_at 32 text)
+line_behind row text =
+    option_and_then (λ p. option_and_then (λ effect. option_map
+    (λ bytes. record { row = row; bytes = bytes; effect = effect }) (hex_in p.0)) (effect_in p.1)) (cut_at 32 text)
 
 abbrev pub line_of : Row → List ℕ → Option RowLine
 line_of first text = option_and_then (λ p. line_behind p.0 p.1) (row_before first text)

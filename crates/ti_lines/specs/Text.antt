@@ -28,7 +28,7 @@ abbrev pub line_end : List ℕ → Option ℕ
 line_end [] = None
 line_end (b ∷ text) = if is_feed b then Some 0 else option_map suc (line_end text)
 
--- the first so many bytes have no LF, and another byte follows them
+-- this many bytes at the start have no LF, and another byte follows them
 abbrev pub is_long : ℕ → List ℕ → Bool
 is_long budget [] = false
 is_long zero (b ∷ text) = true
@@ -37,4 +37,5 @@ is_long (suc budget) (b ∷ text) = if is_feed b then false else is_long budget 
 -- The same as a relation: no line has an LF inside, one follows each, and the last part has none.
 abbrev pub IsText : List (List ℕ) → List ℕ → List ℕ → Type 0
 IsText [] last text = (text ≡ last) × (line_end last ≡ None)
-IsText (line ∷ lines) last text = (rest : List ℕ) × (text ≡ line ++ 10 ∷ rest) × (line_end line ≡ None) × IsText lines last rest
+IsText (line ∷ lines) last text =
+    (rest : List ℕ) × (text ≡ line ++ 10 ∷ rest) × (line_end line ≡ None) × IsText lines last rest

@@ -1,5 +1,5 @@
--- A certificate's text and what it says: ASCII, each line ended by LF; the first line with the size, that of the alternate
--- characters where there are any, the lines about capabilities, and the last.
+-- A certificate's text and what it says: ASCII, each line ended by LF; the first line with the size, that of the
+-- alternate characters where there are any, the lines about capabilities, and the last.
 use Rattle.std.specs.Prelude.{ℕ, ◌≡◌, List, [], ◌∷◌, ◌++◌, Option, None, Some}
 use Rattle.std.specs.List.{AllByRecursion}
 use Rattle.hex.specs.Hex.{IsBytes}

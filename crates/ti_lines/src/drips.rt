@@ -57,14 +57,18 @@ impl<'a> Reader for Drip<'a> {
     fn take(&mut self, into: &mut [u8]) -> Result<usize, ReadFault>
         requires { 0 < length into.old }
         ensures within { IfOk result (λ n. n ≤ length into.old) }
-        ensures gave { IfOk result (λ n. Gave (λ d all. d.bytes ≡ all) (λ d. d.failures) self.old self.new (take n into.new)) }
+        ensures gave { IfOk result (λ n.
+            Gave (λ d all. d.bytes ≡ all) (λ d. d.failures) self.old self.new (take n into.new)) }
         ensures end { IfOk result (λ n. n ≡ 0 → AtEnd (λ (d : Dripping) all. d.bytes ≡ all) self.new) }
         ensures none { OnErr result (Gave (λ d all. d.bytes ≡ all) (λ d. d.failures) self.old self.new []) }
         ensures failed { OnErr result (Rose self.old.failures self.new.failures) }
-        ensures count { IfOk result (λ n. n ≡ given_by (length into.old) self.old.step (length self.old.bytes) self.old.fail_in) }
-        ensures next { IfOk result (λ n. self.new ≡ record self.old { bytes = drop n self.old.bytes; fail_in = nearer self.old.fail_in n }) }
+        ensures count { IfOk result (λ n.
+            n ≡ given_by (length into.old) self.old.step (length self.old.bytes) self.old.fail_in) }
+        ensures next { IfOk result (λ n.
+            self.new ≡ record self.old { bytes = drop n self.old.bytes; fail_in = nearer self.old.fail_in n }) }
         ensures fails { OnErr result (self.old.fail_in ≡ Some 0) }
-        ensures again { OnErr result (self.new ≡ record self.old { fail_in = None; failures = min (self.old.failures + 1) last_count }) }
+        ensures again { OnErr result
+            (self.new ≡ record self.old { fail_in = None; failures = min (self.old.failures + 1) last_count }) }
     {
         if self.fail_in == Some(0) {
             self.fail_in = None;

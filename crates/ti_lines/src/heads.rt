@@ -36,7 +36,8 @@ fn two_numbers_in(text: &[u8]) -> Option<(u16, u16)>
 /// `None` for any other text. An `AllocError` comes if there is no memory for the bytes.
 pub fn read_acsc_line(alloc: Global, text: &[u8]) -> Result<Option<Vec<u8>>, AllocError>
     ensures found { IfOk result (λ found. IfSome found (λ bytes. spec.IsAcscText text.now bytes.items)) }
-    ensures each { IfOk result (λ found. (bytes : List ℕ) → spec.IsAcscText text.now bytes → option_map (λ b. b.items) found ≡ Some bytes) }
+    ensures each { IfOk result (λ found. (bytes : List ℕ)
+        → spec.IsAcscText text.now bytes → option_map (λ b. b.items) found ≡ Some bytes) }
 {
     acsc_in(alloc, text)
 }

@@ -83,8 +83,10 @@ fn judge_line<J: Judge>(
     requires taken { count < length lines.old.unread }
     requires allowed { count < lines.old.budget }
     ensures judges { OnOk result (J.rules.line judge.old (take count lines.old.unread) (Ok judge.new)) }
-    ensures passes { OnOk result (lines.new ≡ record { unread = drop (count + 1) lines.old.unread; budget = lines.old.budget - (count + 1) }) }
-    ensures fails { IfErr result (λ e. FailsBy J.rules e (AtLine line (J.rules.line judge.old (take count lines.old.unread)))) }
+    ensures passes { OnOk result
+        (lines.new ≡ record { unread = drop (count + 1) lines.old.unread; budget = lines.old.budget - (count + 1) }) }
+    ensures fails { IfErr result (λ e.
+        FailsBy J.rules e (AtLine line (J.rules.line judge.old (take count lines.old.unread)))) }
     ensures number { IfErr result (λ e. e.line ≡ line) }
 {
     match judge.judge(alloc, front(lines.unread(), count)) {
@@ -167,7 +169,9 @@ pub fn judge_lines<R: Reader, J: Judge>(
     reader: &mut R,
     judge: &mut J,
 ) -> Result<(), LineFault<J::Fault>>
-    ensures text { (text : List ℕ) → R.left reader.old text → GivesOr J.rules (Rose (R.failures reader.old) (R.failures reader.new)) judge.new result (Judged J.rules limit judge.old text) }
+    ensures text { (text : List ℕ) → R.left reader.old text
+        → GivesOr J.rules (Rose (R.failures reader.old) (R.failures reader.new)) judge.new result
+        (Judged J.rules limit judge.old text) }
     ensures reports { Reports J.rules limit judge.old judge.new R.left R.failures reader.old reader.new result }
 {
     judge_all(alloc, limit, reader, judge)

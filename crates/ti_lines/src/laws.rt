@@ -14,7 +14,8 @@ pub fn one_line()
 /// there is no other way to cut it so.
 pub fn text_is_cut()
     ensures is { (text : List ℕ) → IsText (cut_of text).lines (cut_of text).last text }
-    ensures only { (text last : List ℕ) (lines : List (List ℕ)) → IsText lines last text → cut_of text ≡ record { lines = lines; last = last } }
+    ensures only { (text last : List ℕ) (lines : List (List ℕ))
+        → IsText lines last text → cut_of text ≡ record { lines = lines; last = last } }
 {}
 
 /// No two effects in their one form have one text. So what `read` makes of the text of such an

@@ -21,7 +21,8 @@ pub fn push_row_line(
     words: &mut Vec<u8>,
     text: &mut Vec<u8>,
 ) -> Result<(), AllocError>
-    ensures { OnOk result (text.new.items ≡ text.old.items ++ spec.line_text (record { row = row; bytes = bytes.now; effect = effect.now })) }
+    ensures { OnOk result (text.new.items ≡ text.old.items
+        ++ spec.line_text (record { row = row; bytes = bytes.now; effect = effect.now })) }
 {
     text.extend_from_slice(row.name())?;
     text.push(b' ')?;

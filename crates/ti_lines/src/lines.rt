@@ -171,7 +171,8 @@ impl Lines {
     pub fn pass(&mut self, count: usize)
         requires taken { count < length self.old.unread }
         requires allowed { count < self.old.budget }
-        ensures { self.new ≡ record { unread = drop (count + 1) self.old.unread; budget = self.old.budget - (count + 1) } }
+        ensures { self.new
+            ≡ record { unread = drop (count + 1) self.old.unread; budget = self.old.budget - (count + 1) } }
     {
         let _ = &self.budget;
         let passed = count as u32 + 1;

@@ -106,10 +106,21 @@ is_byte None = true
 is_byte (Some p) = nat_le p 255
 
 abbrev pub format_of : Flags → ℕ → Option ℕ → Conversion → Format
-format_of f width precision kind = record { left = f.left; plus = f.plus; alternate = f.alternate; zero = f.zero; space = f.space; width = width; precision = precision; conversion = kind }
+format_of f width precision kind =
+    record {
+      left = f.left;
+      plus = f.plus;
+      alternate = f.alternate;
+      zero = f.zero;
+      space = f.space;
+      width = width;
+      precision = precision;
+      conversion = kind;
+    }
 
 abbrev pub finished : Flags → ℕ → Option ℕ → Conversion → Option Format
-finished f width precision kind = cond (nat_le width 255 && is_byte precision) (Some (format_of f width precision kind)) None
+finished f width precision kind =
+    cond (nat_le width 255 && is_byte precision) (Some (format_of f width precision kind)) None
 
 -- the code of a format
 abbrev pub as_code : Format → Code
@@ -157,7 +168,9 @@ parameter_code (b ∷ rest) = cond (nat_le 49 b && nat_le b 57) (Ok (Act (Parame
 
 -- a letter: `a` to `z` for a dynamic variable, `A` to `Z` for a static one
 abbrev pub variable : ℕ → Option Variable
-variable b = cond (nat_le 97 b && nat_le b 122) (Some (Dynamic (b - 97))) (cond (nat_le 65 b && nat_le b 90) (Some (Static (b - 65))) None)
+variable b =
+    cond (nat_le 97 b && nat_le b 122) (Some (Dynamic (b - 97)))
+    (cond (nat_le 65 b && nat_le b 90) (Some (Static (b - 65))) None)
 
 abbrev pub read_variable : (Variable → Action) → Option Variable → List ℕ → Read
 read_variable f None rest = Err BadCode
@@ -181,7 +194,8 @@ read_number n (b ∷ rest) = cond (b == 125 && nat_le n 2147483647) (Ok (Act (Pu
 -- after `%{`: one digit at least
 abbrev pub number_code : List ℕ → Read
 number_code [] = Err BadCode
-number_code (b ∷ rest) = cond (is_digit b) (read_number (number_on 0 (b ∷ rest)) (behind_digits (b ∷ rest))) (Err BadCode)
+number_code (b ∷ rest) =
+    cond (is_digit b) (read_number (number_on 0 (b ∷ rest)) (behind_digits (b ∷ rest))) (Err BadCode)
 
 -- after a `%`
 abbrev pub percent_code : List ℕ → Read

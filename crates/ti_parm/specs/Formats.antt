@@ -39,7 +39,8 @@ has_none (Some p) = false
 
 -- the digits: none for the value 0 with precision 0
 abbrev pub digits_shown : Format → ℕ → List ℕ
-digits_shown f m = cond (m == 0 && least_digits f.precision == 0) [] (digits (base_of f.conversion) (is_upper f.conversion) m)
+digits_shown f m =
+    cond (m == 0 && least_digits f.precision == 0) [] (digits (base_of f.conversion) (is_upper f.conversion) m)
 
 -- zeros make up the precision
 abbrev pub zeros_shown : Format → ℕ → ℕ
@@ -57,14 +58,17 @@ sign_of f (pos n) = cond f.plus (43 ∷ []) (cond f.space (32 ∷ []) [])
 -- unless the value is 0
 abbrev pub prefix_of : Conversion → Format → ℤ → List ℕ
 prefix_of Decimal f n = sign_of f n
-prefix_of Octal f n = cond (f.alternate && not (begins_with_zero (replicate (zeros_shown f (cast_unsigned w32 n)) 48 ++ digits_shown f (cast_unsigned w32 n)))) (48 ∷ []) []
+prefix_of Octal f n =
+    cond (f.alternate && not (begins_with_zero
+    (replicate (zeros_shown f (cast_unsigned w32 n)) 48 ++ digits_shown f (cast_unsigned w32 n)))) (48 ∷ []) []
 prefix_of LowerHex f n = cond (f.alternate && not (cast_unsigned w32 n == 0)) (48 ∷ 120 ∷ []) []
 prefix_of UpperHex f n = cond (f.alternate && not (cast_unsigned w32 n == 0)) (48 ∷ 88 ∷ []) []
 prefix_of TextConversion f n = []
 
 -- spaces, a prefix, zeros, a text, spaces
 abbrev pub laid_out : ℕ → List ℕ → ℕ → List ℕ → ℕ → List ℕ
-laid_out before prefix zeros text behind = replicate before 32 ++ prefix ++ replicate zeros 48 ++ text ++ replicate behind 32
+laid_out before prefix zeros text behind =
+    replicate before 32 ++ prefix ++ replicate zeros 48 ++ text ++ replicate behind 32
 
 -- padded to the width: on the right under `-`, else by zeros under `0` if no precision stands, else on
 -- the left
@@ -77,7 +81,9 @@ padded f prefix zeros text =
 
 -- a number, shown
 unfoldable pub number_shown : Format → ℤ → List ℕ
-number_shown f n = padded f (prefix_of f.conversion f n) (zeros_shown f (magnitude f.conversion n)) (digits_shown f (magnitude f.conversion n))
+number_shown f n =
+    padded f (prefix_of f.conversion f n) (zeros_shown f (magnitude f.conversion n))
+    (digits_shown f (magnitude f.conversion n))
 
 -- the precision cuts a text
 abbrev pub cut : Option ℕ → List ℕ → List ℕ

@@ -53,7 +53,8 @@ get (Static index) s = slice_index_or s.statics index (pos 0)
 
 abbrev pub set : Variable → ℤ → State → State
 set (Dynamic index) n s = record s { dynamics = slice_set s.dynamics index n }
-set (Static index) n s = record s { statics = slice_set s.statics index n; first_uses = noted SetFirst index s.first_uses }
+set (Static index) n s =
+    record s { statics = slice_set s.statics index n; first_uses = noted SetFirst index s.first_uses }
 
 -- the variable is read
 abbrev pub having_read : Variable → State → State
@@ -92,7 +93,8 @@ after before s = record s { output = before ++ s.output }
 unfoldable mutual
   pub run_part : Part → State → Result State ParmFault
   run_part (Act action) s = act action s
-  run_part (Conditional condition chosen otherwise) s = run condition s >>= choose (run chosen) (run_otherwise otherwise)
+  run_part (Conditional condition chosen otherwise) s =
+      run condition s >>= choose (run chosen) (run_otherwise otherwise)
 
   -- the parts run one after the other, up to the first fault
   pub run : Parts → State → Result State ParmFault
@@ -102,12 +104,21 @@ unfoldable mutual
   pub run_otherwise : Otherwise → State → Result State ParmFault
   run_otherwise Nothing s = Ok s
   run_otherwise (Else parts) s = run parts s
-  run_otherwise (ElseIf condition chosen otherwise) s = run condition s >>= choose (run chosen) (run_otherwise otherwise)
+  run_otherwise (ElseIf condition chosen otherwise) s =
+      run condition s >>= choose (run chosen) (run_otherwise otherwise)
 
 -- at the start nothing is on the stack, nothing is written, the dynamic variables are 0 and no static
 -- one was used
 abbrev pub start_of : List Value → List ℤ → State
-start_of given statics = record { params = nine given; dynamics = zeros; statics = statics; first_uses = replicate 26 Unused; stack = []; output = [] }
+start_of given statics =
+    record {
+      params = nine given;
+      dynamics = zeros;
+      statics = statics;
+      first_uses = replicate 26 Unused;
+      stack = [];
+      output = [];
+    }
 
 -- the state in which a string leaves these parameters and static variables, or its first fault: the
 -- syntax of the whole string comes first
@@ -127,7 +138,9 @@ sent string given = sent_with string given zeros
 -- two lists of static variables agree on those that a run, which ended in this state, read before it set
 -- them
 abbrev pub Agree : State → List ℤ → List ℤ → Type 0
-Agree end a b = (index : ℕ) → slice_index_or end.first_uses index Unused ≡ ReadFirst → slice_index_or a index (pos 0) ≡ slice_index_or b index (pos 0)
+Agree end a b =
+    (index : ℕ) → slice_index_or end.first_uses index Unused ≡ ReadFirst
+    → slice_index_or a index (pos 0) ≡ slice_index_or b index (pos 0)
 
 -- a run that ended in this state read a static variable that it had not set before
 abbrev pub ReadsUnset : State → Type 0

@@ -33,7 +33,10 @@ pub data IsPrecision : List ℕ → Option ℕ → Type 0 where
 
 -- flags, a width, a precision and one of `d o x X s`
 pub data IsFormat : List ℕ → Format → Type 0 where
-  made : (flags width point : List ℕ) (precision : Option ℕ) (last : ℕ) (kind : Conversion) (f : Format) → AreFlags flags → IsWidth width → IsPrecision point precision → conversion last ≡ Some kind → finished (flags_on no_flags flags) (number_on 0 width) precision kind ≡ Some f → IsFormat (flags ++ (width ++ (point ++ last ∷ []))) f
+  made : (flags width point : List ℕ) (precision : Option ℕ) (last : ℕ) (kind : Conversion) (f : Format)
+      → AreFlags flags → IsWidth width → IsPrecision point precision → conversion last ≡ Some kind
+      → finished (flags_on no_flags flags) (number_on 0 width) precision kind ≡ Some f
+      → IsFormat (flags ++ (width ++ (point ++ last ∷ []))) f
 
 -- the first byte is neither `-` nor `+`
 abbrev pub IsBare : List ℕ → Type 0
@@ -48,7 +51,8 @@ pub data IsCode : List ℕ → Code → Type 0 where
   set : (b : ℕ) (v : Variable) → variable b ≡ Some v → IsCode (37 ∷ 80 ∷ b ∷ []) (ActCode (Set v))
   get : (b : ℕ) (v : Variable) → variable b ≡ Some v → IsCode (37 ∷ 103 ∷ b ∷ []) (ActCode (Get v))
   character : (b : ℕ) → IsCode (37 ∷ 39 ∷ b ∷ 39 ∷ []) (ActCode (Push (pos b)))
-  number : (b : ℕ) (digits : List ℕ) → AreDigits (b ∷ digits) → number_on 0 (b ∷ digits) ≤ 2147483647 → IsCode (37 ∷ 123 ∷ b ∷ digits ++ 125 ∷ []) (ActCode (Push (pos (number_on 0 (b ∷ digits)))))
+  number : (b : ℕ) (digits : List ℕ) → AreDigits (b ∷ digits) → number_on 0 (b ∷ digits) ≤ 2147483647
+      → IsCode (37 ∷ 123 ∷ b ∷ digits ++ 125 ∷ []) (ActCode (Push (pos (number_on 0 (b ∷ digits)))))
   format : (text : List ℕ) (f : Format) → IsFormat text f → IsCode (37 ∷ 58 ∷ text) (ActCode (Show f))
   bare : (text : List ℕ) (f : Format) → IsFormat text f → IsBare text → IsCode (37 ∷ text) (ActCode (Show f))
 
@@ -56,18 +60,24 @@ mutual
   -- a tree is written so
   pub data IsPart : List ℕ → Part → Type 0 where
     act : (text : List ℕ) (action : Action) → IsCode text (ActCode action) → IsPart text (Act action)
-    conditional : (c d o : List ℕ) (condition chosen : Parts) (otherwise : Otherwise) → Spells c condition → Spells d chosen → IsOtherwise o otherwise → IsPart (37 ∷ 63 ∷ c ++ (37 ∷ 116 ∷ d ++ o)) (Conditional condition chosen otherwise)
+    conditional : (c d o : List ℕ) (condition chosen : Parts) (otherwise : Otherwise) → Spells c condition
+        → Spells d chosen → IsOtherwise o otherwise
+        → IsPart (37 ∷ 63 ∷ c ++ (37 ∷ 116 ∷ d ++ o)) (Conditional condition chosen otherwise)
 
   pub data Spells : List ℕ → Parts → Type 0 where
     nothing : Spells [] Done
-    next : (first rest : List ℕ) (part : Part) (parts : Parts) → IsPart first part → Spells rest parts → Spells (first ++ rest) (Next part parts)
+    next : (first rest : List ℕ) (part : Part) (parts : Parts) → IsPart first part → Spells rest parts
+        → Spells (first ++ rest) (Next part parts)
 
   pub data IsOtherwise : List ℕ → Otherwise → Type 0 where
     end : IsOtherwise (37 ∷ 59 ∷ []) Nothing
-    otherwise : (text : List ℕ) (parts : Parts) → Spells text parts → IsOtherwise (37 ∷ 101 ∷ text ++ 37 ∷ 59 ∷ []) (Else parts)
-    else_if : (c d o : List ℕ) (condition chosen : Parts) (more : Otherwise) → Spells c condition → Spells d chosen → IsOtherwise o more → IsOtherwise (37 ∷ 101 ∷ c ++ (37 ∷ 116 ∷ d ++ o)) (ElseIf condition chosen more)
+    otherwise : (text : List ℕ) (parts : Parts) → Spells text parts
+        → IsOtherwise (37 ∷ 101 ∷ text ++ 37 ∷ 59 ∷ []) (Else parts)
+    else_if : (c d o : List ℕ) (condition chosen : Parts) (more : Otherwise) → Spells c condition → Spells d chosen
+        → IsOtherwise o more → IsOtherwise (37 ∷ 101 ∷ c ++ (37 ∷ 116 ∷ d ++ o)) (ElseIf condition chosen more)
 
 -- what a string answers: what the tree that it spells does, or, if it spells none, its syntax's first fault
 pub data IsAnswer (string : List ℕ) (given : List Value) (statics : List ℤ) : Result State ParmFault → Type 0 where
   runs : (parts : Parts) → Spells string parts → IsAnswer string given statics (run parts (start_of given statics))
-  unread : (fault : ParmFault) → ((parts : Parts) → Spells string parts → ⊥) → syntax string ≡ Err fault → IsAnswer string given statics (Err fault)
+  unread : (fault : ParmFault) → ((parts : Parts) → Spells string parts → ⊥) → syntax string ≡ Err fault
+      → IsAnswer string given statics (Err fault)

@@ -59,12 +59,14 @@ rest_of (Closes EndMark parts behind) = Ok (record { otherwise = Nothing; parts 
 rest_of (Closes ThenMark parts behind) = Err BadNest
 rest_of (Closes ElseMark first Ends) = Err BadNest
 rest_of (Closes ElseMark first (Breaks fault)) = Err fault
-rest_of (Closes ElseMark first (Closes EndMark parts behind)) = Ok (record { otherwise = Else first; parts = parts; behind = behind })
+rest_of (Closes ElseMark first (Closes EndMark parts behind)) =
+    Ok (record { otherwise = Else first; parts = parts; behind = behind })
 rest_of (Closes ElseMark first (Closes ThenMark chosen behind)) = rest_of behind >>= λ r. Ok (else_if first chosen r)
 rest_of (Closes ElseMark first (Closes ElseMark parts behind)) = Err BadNest
 
 abbrev pub closed : Parts → Parts → Result Rest ParmFault → Ahead
-closed condition chosen (Ok r) = record { parts = Next (Conditional condition chosen r.otherwise) r.parts; behind = r.behind }
+closed condition chosen (Ok r) =
+    record { parts = Next (Conditional condition chosen r.otherwise) r.parts; behind = r.behind }
 closed condition chosen (Err fault) = broken fault
 
 -- what lies ahead of a `%?`, by what lies ahead after it

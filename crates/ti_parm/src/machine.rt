@@ -97,7 +97,8 @@ impl<'a> Machine<'a> {
     ) -> Result<&'s [u8], ParmFault>
         ensures ok { IfOk result (λ rest. judged_ahead (ahead rest.now) nest.new (state_of self.new out.new.items) ≡
             judged_ahead (before code (ahead behind.now)) nest.old (state_of self.old out.old.items)) }
-        ensures fault { IfErr result (λ e. FailsBy e (judged_ahead (before code (ahead behind.now)) nest.old (state_of self.old out.old.items))) }
+        ensures fault { IfErr result (λ e.
+            FailsBy e (judged_ahead (before code (ahead behind.now)) nest.old (state_of self.old out.old.items))) }
         ensures within { IfOk result (λ rest. length rest.now ≤ length behind.now) }
         ensures grows { Extends out.old.items out.new.items }
     {
@@ -130,7 +131,8 @@ impl<'a> Machine<'a> {
             run_ahead (ahead rest.now) (state_of self.new output) ≡
             run_ahead (before (Code.Of mark) (ahead behind.now)) (state_of self.old output)) }
         ensures fault { IfErr result (λ e. (output : List ℕ) →
-            FailsBy e (judged_behind (judged (ahead behind.now).behind nest.old) (run_ahead (before (Code.Of mark) (ahead behind.now)) (state_of self.old output)))) }
+            FailsBy e (judged_behind (judged (ahead behind.now).behind nest.old)
+            (run_ahead (before (Code.Of mark) (ahead behind.now)) (state_of self.old output)))) }
         ensures within { IfOk result (λ rest. length rest.now ≤ length behind.now) }
     {
         match mark {
@@ -147,7 +149,8 @@ impl<'a> Machine<'a> {
     /// Takes the top of the stack: whether it is another number than 0.
     fn pop_test(&mut self) -> Result<bool, ParmFault>
         ensures { (output : List ℕ) →
-            Gives (λ holds. (holds, state_of self.new output)) result (pop_test self.old.stack (state_of self.old output)) }
+            Gives (λ holds. (holds, state_of self.new output)) result
+            (pop_test self.old.stack (state_of self.old output)) }
     {
         let number = self.stack.pop_number()?;
         Ok(number != 0)
@@ -157,7 +160,8 @@ impl<'a> Machine<'a> {
     #[tactic(auto, unfolding(crate::specs::Meaning::act))]
     #[inline(always)]
     pub fn act(&mut self, action: Action, out: &mut Vec<u8>) -> Result<(), ParmFault>
-        ensures meant { Gives (λ _. state_of self.new out.new.items) result (act action (state_of self.old out.old.items)) }
+        ensures meant { Gives (λ _. state_of self.new out.new.items) result
+            (act action (state_of self.old out.old.items)) }
         ensures grows { Extends out.old.items out.new.items }
     {
         match action {
@@ -225,7 +229,8 @@ impl<'a> Machine<'a> {
 
     /// Writes the number on top as one byte.
     fn write_character(&mut self, out: &mut Vec<u8>) -> Result<(), ParmFault>
-        ensures meant { Gives (λ _. state_of self.new out.new.items) result (writing character (state_of self.old out.old.items)) }
+        ensures meant { Gives (λ _. state_of self.new out.new.items) result
+            (writing character (state_of self.old out.old.items)) }
         ensures grows { Extends out.old.items out.new.items }
     {
         let number = self.stack.pop_number()?;
@@ -235,7 +240,8 @@ impl<'a> Machine<'a> {
 
     /// Writes the value on top in a format.
     fn show(&mut self, format: Format, out: &mut Vec<u8>) -> Result<(), ParmFault>
-        ensures meant { Gives (λ _. state_of self.new out.new.items) result (writing (shown format) (state_of self.old out.old.items)) }
+        ensures meant { Gives (λ _. state_of self.new out.new.items) result
+            (writing (shown format) (state_of self.old out.old.items)) }
         ensures grows { Extends out.old.items out.new.items }
     {
         match (format.conversion, self.stack.pop()) {

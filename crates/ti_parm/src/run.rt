@@ -26,7 +26,8 @@ fn run(
     machine: &mut Machine,
     out: &mut Vec<u8>,
 ) -> Result<(), ParmFault>
-    ensures meant { Gives (λ _. state_of machine.new out.new.items) result (judged_run string.now (state_of machine.old out.old.items)) }
+    ensures meant { Gives (λ _. state_of machine.new out.new.items) result
+        (judged_run string.now (state_of machine.old out.old.items)) }
     ensures kept { OnErr result (take (length out.old.items) out.new.items ≡ out.old.items) }
 {
     let mut nest = Nest::new(alloc);

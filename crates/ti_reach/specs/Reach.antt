@@ -70,14 +70,16 @@ pub record MissesAt (string : List ℕ) (rows cols row col : ℕ) : Type 0 where
 
 -- every state at rest: any cursor, and the whole screen as margins
 abbrev pub at_rest : ℕ → ℕ → Start
-at_rest rows cols = record { row_min = 0; row_max = rows - 1; col_min = 0; col_max = cols - 1; pending = true; margins = Whole }
+at_rest rows cols =
+    record { row_min = 0; row_max = rows - 1; col_min = 0; col_max = cols - 1; pending = true; margins = Whole }
 
 -- the tokens of the bytes have no record from rest, and the last of them is no CUP
 pub record IsUndecided (rows cols : ℕ) (bytes : List ℕ) : Type 0 where
   pub tokens : List (List ℕ)
   pub splits : Splits bytes tokens []
   pub unrecorded : record_of rows cols (at_rest rows cols) tokens ≡ None
-  pub last : (front : List (List ℕ)) (token : List ℕ) → tokens ≡ front ++ token ∷ [] → Run.place_of rows cols token ≡ None
+  pub last : (front : List (List ℕ)) (token : List ℕ) → tokens ≡ front ++ token ∷ []
+      → Run.place_of rows cols token ≡ None
 
 pub record IsUndecidedAt (string : List ℕ) (rows cols row col : ℕ) : Type 0 where
   pub bytes : List ℕ
@@ -105,9 +107,10 @@ abbrev pub TokensReach : ℕ → ℕ → List (List ℕ) → ℕ → ℕ → Typ
 TokensReach rows cols tokens row col = (bytes : List ℕ) → Splits bytes tokens [] → Run.Reaches rows cols bytes row col
 
 abbrev pub TokensMiss : ℕ → ℕ → List (List ℕ) → ℕ → ℕ → MissKind → Type 0
-TokensMiss rows cols tokens row col kind = (bytes : List ℕ) → Splits bytes tokens [] → IsMiss rows cols bytes row col kind
+TokensMiss rows cols tokens row col kind =
+    (bytes : List ℕ) → Splits bytes tokens [] → IsMiss rows cols bytes row col kind
 
--- a move leads from each of so many rows or columns to this one, or from one of them elsewhere
+-- a move leads from each of this many rows or columns to this one, or from one of them elsewhere
 abbrev pub LeadsAll : Move → ℕ → ℕ → Type 0
 LeadsAll way count to = (from : ℕ) → from < count → moved way from ≡ to
 

@@ -28,17 +28,19 @@ partner_of Smacs = cap_of Rmacs
 partner_of Rmacs = cap_of Smacs
 partner_of row = cap_of row
 
--- A fault that says nothing against the string: it is of another capability, and of the partner only if that was at fault
--- before, too.
+-- A fault that says nothing against the string: it is of another capability, and of the partner only if that was at
+-- fault before, too.
 abbrev pub may_stay : List No → Row → No → Bool
-may_stay before row fault = not (fault.cap == cap_of row) && (not (fault.cap == partner_of row) || names before fault.cap)
+may_stay before row fault =
+    not (fault.cap == cap_of row) && (not (fault.cap == partner_of row) || names before fault.cap)
 
 -- each row of the capability sends bytes that are whole, and do what is wanted from every start of the row
 abbrev pub SendsAllRight : ℕ → ℕ → List ℕ → ℕ → Type 0
-SendsAllRight rows cols string place = (row : Row) → IsInRange rows cols row → order row ≡ place → (looks : Looks) × SendsRight rows cols looks string row
+SendsAllRight rows cols string place =
+    (row : Row) → IsInRange rows cols row → order row ≡ place → (looks : Looks) × SendsRight rows cols looks string row
 
--- The string was judged in its place, and is right: the capability is checked there, each of its rows sends what is right,
--- and no fault of the whole entry says anything against it.
+-- The string was judged in its place, and is right: the capability is checked there, each of its rows sends what is
+-- right, and no fault of the whole entry says anything against it.
 pub record IsAccepted (entry : Content) (rows cols : ℕ) (before : List No) (row : Row) (string : List ℕ) : Type 0 where
   pub checked : is_checked (with_string entry row string) row ≡ true
   pub faults : List No
@@ -49,7 +51,8 @@ pub record IsAccepted (entry : Content) (rows cols : ℕ) (before : List No) (ro
 -- or it is not
 pub data IsRejected (entry : Content) (rows cols : ℕ) (before : List No) (row : Row) (string : List ℕ) : Type 0 where
   Unchecked : is_checked (with_string entry row string) row ≡ false → IsRejected entry rows cols before row string
-  AtFault : (faults : List No) → AreAllFaults (with_string entry row string) rows cols faults → list_all (may_stay before row) faults ≡ false → IsRejected entry rows cols before row string
+  AtFault : (faults : List No) → AreAllFaults (with_string entry row string) rows cols faults
+      → list_all (may_stay before row) faults ≡ false → IsRejected entry rows cols before row string
 
 -- the first of these strings that is accepted
 abbrev pub IsFirstAccepted : Content → ℕ → ℕ → List No → Row → List (List ℕ) → Option (List ℕ) → Type 0
@@ -59,8 +62,10 @@ IsFirstAccepted entry rows cols before row (string ∷ rest) found =
     ⊎ (IsRejected entry rows cols before row string × IsFirstAccepted entry rows cols before row rest found)
 
 -- that of the capability's candidates, or nothing where it isn't a checked one
-pub data IsRemedy (entry : Content) (rows cols : ℕ) (before : List No) (cap : ℕ) (found : Option (List ℕ)) : Type 0 where
-  OfChecked : (row : Row) → cap_of row ≡ cap → IsFirstAccepted entry rows cols before row (candidates entry row) found → IsRemedy entry rows cols before cap found
+pub data IsRemedy (entry : Content) (rows cols : ℕ) (before : List No) (cap : ℕ)
+    (found : Option (List ℕ)) : Type 0 where
+  OfChecked : (row : Row) → cap_of row ≡ cap → IsFirstAccepted entry rows cols before row (candidates entry row) found
+      → IsRemedy entry rows cols before cap found
   OfOther : ((row : Row) → cap_of row ≢ cap) → found ≡ None → IsRemedy entry rows cols before cap found
 
 -- An entry for a terminal of another kind: what every program needs first is wrong, how the screen is cleared and how a

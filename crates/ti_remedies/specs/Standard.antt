@@ -1,5 +1,6 @@
 -- The strings that the standards have for the checked capabilities, in the parameter language of terminfo(5): those of
--- ECMA-48 (5th edition), and of the VT100 User Guide (chapter 3) and the VT220 Programmer Reference where ECMA-48 has none.
+-- ECMA-48 (5th edition), and of the VT100 User Guide (chapter 3) and the VT220 Programmer Reference where ECMA-48 has
+-- none.
 use Rattle.std.specs.Prelude.{ℕ, ◌≡◌, ◌≢◌, ◌++◌, ◌==◌, ◌&&◌, ◌||◌, nat_le, nat_lt, Bool, false, if◌then◌else◌, List, [], ◌∷◌, Option, Some, None, codes}
 use Rattle.std.specs.List.{list_any, starts_with}
 use Rattle.ti_caps.specs.Entry.{Content, number_at}
@@ -135,20 +136,26 @@ abbrev pub where_so : Bool → List ℕ → Option (List ℕ)
 where_so b text = if b then Some text else None
 
 abbrev pub by_sets : Content → List ℕ → List ℕ → Option (List ℕ)
-by_sets entry shifted designated = if shifts entry then Some shifted else (if has_string entry Rmacs then Some designated else None)
+by_sets entry shifted designated =
+    if shifts entry then Some shifted else (if has_string entry Rmacs then Some designated else None)
 
 abbrev pub matching : Content → Row → Option (List ℕ)
 matching entry Smacs = where_so (shifts entry) so
 matching entry Rmacs = where_so (shifts entry) si
 matching entry Sgr0 = by_sets entry (csi (codes "m") ++ si) (plain_g0 ++ csi (codes "m"))
-matching entry (Sgr a) = by_sets entry (attribute_string ++ (codes "%?%p9%t" ++ so ++ codes "%e" ++ si ++ codes "%;")) ((codes "%?%p9%t" ++ graphic_g0 ++ codes "%e" ++ plain_g0 ++ codes "%;") ++ attribute_string)
-matching entry (Setaf c) = where_so (many_colors entry) (csi (codes "%?%p1%{8}%<%t3%p1%d%e%p1%{16}%<%t9%p1%{8}%-%d%e38;5;%p1%d%;m"))
-matching entry (Setab c) = where_so (many_colors entry) (csi (codes "%?%p1%{8}%<%t4%p1%d%e%p1%{16}%<%t10%p1%{8}%-%d%e48;5;%p1%d%;m"))
+matching entry (Sgr a) =
+    by_sets entry (attribute_string ++ (codes "%?%p9%t" ++ so ++ codes "%e" ++ si ++ codes "%;"))
+    ((codes "%?%p9%t" ++ graphic_g0 ++ codes "%e" ++ plain_g0 ++ codes "%;") ++ attribute_string)
+matching entry (Setaf c) =
+    where_so (many_colors entry) (csi (codes "%?%p1%{8}%<%t3%p1%d%e%p1%{16}%<%t9%p1%{8}%-%d%e38;5;%p1%d%;m"))
+matching entry (Setab c) =
+    where_so (many_colors entry) (csi (codes "%?%p1%{8}%<%t4%p1%d%e%p1%{16}%<%t10%p1%{8}%-%d%e48;5;%p1%d%;m"))
 matching entry Smcup = where_so (begins (string_of entry Rmcup) (csi (codes "?1049l"))) (csi (codes "?1049h"))
 matching entry Rmcup = where_so (begins (string_of entry Smcup) (csi (codes "?1049h"))) (csi (codes "?1049l"))
 matching entry _ = None
 
--- The standards' strings for 8 colours are none for an entry with more than 256, whose colours are no numbers of a palette.
+-- The standards' strings for 8 colours are none for an entry with more than 256, whose colours are no numbers of a
+-- palette.
 abbrev pub general : Content → Row → Option (List ℕ)
 general entry (Setaf c) = if nat_lt 256 (colors_of entry) then None else standard (Setaf c)
 general entry (Setab c) = if nat_lt 256 (colors_of entry) then None else standard (Setab c)

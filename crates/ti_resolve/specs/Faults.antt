@@ -67,15 +67,20 @@ IsFaultOf raws asked fault = FaultAt raws asked (place_named raws asked) fault
 
 -- each fault of the walk from a place is so
 abbrev pub FaultsFromAreSo : Type 0
-FaultsFromAreSo = (raws : List RawEntry) (root : ℕ) (fault : ResolveFault) → walk_at raws root ≡ Err fault → FaultFrom raws root fault
+FaultsFromAreSo =
+    (raws : List RawEntry) (root : ℕ) (fault : ResolveFault) → walk_at raws root ≡ Err fault → FaultFrom raws root fault
 
 -- each fault of the walk from the entry that a name asks for is so
 abbrev pub FaultsAreSo : Type 0
-FaultsAreSo = (raws : List RawEntry) (asked : List ℕ) (fault : ResolveFault) → walk_of raws asked ≡ Err fault → IsFaultOf raws asked fault
+FaultsAreSo =
+    (raws : List RawEntry) (asked : List ℕ) (fault : ResolveFault) → walk_of raws asked ≡ Err fault
+    → IsFaultOf raws asked fault
 
 -- a walk without a fault finds the entry that is asked for
 abbrev pub WalksResolve : Type 0
-WalksResolve = (raws : List RawEntry) (asked places : List ℕ) → walk_of raws asked ≡ Ok places → (entry : Content) × IsResolved raws asked entry
+WalksResolve =
+    (raws : List RawEntry) (asked places : List ℕ) → walk_of raws asked ≡ Ok places
+    → (entry : Content) × IsResolved raws asked entry
 
 -- the answer to a name: the entry where the walk has no fault, and else the fault
 abbrev pub IsAnswer : List RawEntry → List ℕ → Result Content ResolveFault → Type 0
@@ -84,4 +89,6 @@ IsAnswer raws asked (Err fault) = walk_of raws asked ≡ Err fault
 
 -- a name has one answer: where the walk has a fault there is no entry, and no other fault
 abbrev pub AnswersOnce : Type 0
-AnswersOnce = (raws : List RawEntry) (asked : List ℕ) (one other : Result Content ResolveFault) → IfOk one IsEntry → IfOk other IsEntry → IsAnswer raws asked one → IsAnswer raws asked other → one ≡ other
+AnswersOnce =
+    (raws : List RawEntry) (asked : List ℕ) (one other : Result Content ResolveFault) → IfOk one IsEntry
+    → IfOk other IsEntry → IsAnswer raws asked one → IsAnswer raws asked other → one ≡ other

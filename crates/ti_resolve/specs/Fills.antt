@@ -14,7 +14,8 @@ pub record Filled : Type 0 where
 -- a field decides, unless one before it did
 unfoldable pub take_field : Filled → Field → Filled
 take_field so_far (Set cap value) =
-    if slice_index_or so_far.decided cap false then so_far else record { entry = with_value so_far.entry cap (Some value); decided = slice_set so_far.decided cap true }
+    if slice_index_or so_far.decided cap false then so_far
+    else record { entry = with_value so_far.entry cap (Some value); decided = slice_set so_far.decided cap true }
 take_field so_far (Cancel cap) = record { entry = so_far.entry; decided = slice_set so_far.decided cap true }
 take_field so_far (Include name) = so_far
 

@@ -21,4 +21,5 @@ IsIndexOf raws places = (name : List ℕ) → place_in places name ≡ place_nam
 
 -- names that had no place have this one now, if they pass the test; all others stay as they were
 abbrev pub Adds : Places → Places → (List ℕ → Bool) → ℕ → Type 0
-Adds old new test place = (name : List ℕ) → place_in new name ≡ option_or (place_in old name) (if test name then Some place else None)
+Adds old new test place =
+    (name : List ℕ) → place_in new name ≡ option_or (place_in old name) (if test name then Some place else None)

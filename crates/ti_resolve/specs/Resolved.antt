@@ -28,7 +28,8 @@ pub record IsResolvedAt (raws : List RawEntry) (root : ℕ) (entry : Content) : 
   pub places : List ℕ
   pub whole : IsWhole raws root places
   pub names : entry.names ≡ names_at raws root
-  pub values : (place : ℕ) → place < 497 → value_at entry place ≡ value_given (first_about place (own_of_all raws places))
+  pub values : (place : ℕ) → place < 497
+      → value_at entry place ≡ value_given (first_about place (own_of_all raws places))
 
 -- the entry that a name asks for: the first that has it
 pub record IsResolved (raws : List RawEntry) (name : List ℕ) (entry : Content) : Type 0 where
@@ -38,12 +39,18 @@ pub record IsResolved (raws : List RawEntry) (name : List ℕ) (entry : Content)
 
 -- uses stand for one list of entries at most
 abbrev pub ExpandsOnce : Type 0
-ExpandsOnce = (raws : List RawEntry) (names : List (List ℕ)) (one other : List ℕ) → Expands raws names one → Expands raws names other → one ≡ other
+ExpandsOnce =
+    (raws : List RawEntry) (names : List (List ℕ)) (one other : List ℕ) → Expands raws names one
+    → Expands raws names other → one ≡ other
 
 -- so at a place there is one entry at most
 abbrev pub ResolvedAtOnce : Type 0
-ResolvedAtOnce = (raws : List RawEntry) (root : ℕ) (one other : Content) → IsEntry one → IsEntry other → IsResolvedAt raws root one → IsResolvedAt raws root other → one ≡ other
+ResolvedAtOnce =
+    (raws : List RawEntry) (root : ℕ) (one other : Content) → IsEntry one → IsEntry other → IsResolvedAt raws root one
+    → IsResolvedAt raws root other → one ≡ other
 
 -- and a name asks for one at most
 abbrev pub ResolvedOnce : Type 0
-ResolvedOnce = (raws : List RawEntry) (name : List ℕ) (one other : Content) → IsEntry one → IsEntry other → IsResolved raws name one → IsResolved raws name other → one ≡ other
+ResolvedOnce =
+    (raws : List RawEntry) (name : List ℕ) (one other : Content) → IsEntry one → IsEntry other
+    → IsResolved raws name one → IsResolved raws name other → one ≡ other

@@ -32,14 +32,18 @@ go_to go entered None = Ok entered
 go_to go entered (Some place) = go place entered
 
 -- the uses of these names in turn; `go` enters an entry that has this name
-unfoldable pub follow_uses : (List ℕ → ℕ → List ℕ → Result (List ℕ) ResolveFault) → List RawEntry → List ℕ → List (List ℕ) → List ℕ → Result (List ℕ) ResolveFault
+unfoldable pub follow_uses : (List ℕ → ℕ → List ℕ → Result (List ℕ) ResolveFault) → List RawEntry → List ℕ
+    → List (List ℕ) → List ℕ → Result (List ℕ) ResolveFault
 follow_uses go raws chain [] entered = Ok entered
 follow_uses go raws chain (name ∷ names) entered =
-    and_then (and_then (target (place_named raws name) name chain entered) (go_to (go name) entered)) (follow_uses go raws chain names)
+    and_then (and_then (target (place_named raws name) name chain entered) (go_to (go name) entered))
+    (follow_uses go raws chain names)
 
 -- what one field makes the walk do
-abbrev pub follow_field : (List ℕ → ℕ → List ℕ → Result (List ℕ) ResolveFault) → List RawEntry → List ℕ → Field → List ℕ → Result (List ℕ) ResolveFault
-follow_field go raws chain (Include name) entered = and_then (target (place_named raws name) name chain entered) (go_to (go name) entered)
+abbrev pub follow_field : (List ℕ → ℕ → List ℕ → Result (List ℕ) ResolveFault) → List RawEntry → List ℕ → Field → List ℕ
+    → Result (List ℕ) ResolveFault
+follow_field go raws chain (Include name) entered =
+    and_then (target (place_named raws name) name chain entered) (go_to (go name) entered)
 follow_field go raws chain (Set cap value) entered = Ok entered
 follow_field go raws chain (Cancel cap) entered = Ok entered
 
@@ -48,7 +52,8 @@ follow_field go raws chain (Cancel cap) entered = Ok entered
 unfoldable pub enter : ℕ → List RawEntry → List ℕ → List ℕ → ℕ → List ℕ → Result (List ℕ) ResolveFault
 enter zero raws chain name place entered = Err (TooMany name)
 enter (suc depth) raws chain name place entered =
-    follow_uses (enter depth raws (chain ++ place ∷ [])) raws (chain ++ place ∷ []) (uses_in (fields_at raws place)) (entered ++ place ∷ [])
+    follow_uses (enter depth raws (chain ++ place ∷ [])) raws (chain ++ place ∷ []) (uses_in (fields_at raws place))
+    (entered ++ place ∷ [])
 
 -- the walk from the entry at a place, which no name leads to: its own names stand for one
 abbrev pub walk_at : List RawEntry → ℕ → Result (List ℕ) ResolveFault
@@ -62,7 +67,7 @@ walk_from raws name (Some root) = walk_at raws root
 unfoldable pub walk_of : List RawEntry → List ℕ → Result (List ℕ) ResolveFault
 walk_of raws name = walk_from raws name (place_named raws name)
 
--- the fault that was told is the walk's, unless memory ran out
+-- the fault that is reported is the walk's, unless memory ran out
 abbrev pub FailsBy : {X : Type 0} → ResolveFault → Result X ResolveFault → Type 0
 FailsBy NoMemory walk = Unit {0}
 FailsBy (NoSuchEntry name) walk = walk ≡ Err (NoSuchEntry name)

@@ -37,7 +37,8 @@ fn resolve_from(alloc: Global, index: &Index<'_>, root: usize) -> Result<Entry, 
     requires fit { AllByRecursion IsRaw index.now.raws.now }
     requires range { root < length index.now.raws.now }
     ensures entry { IfOk result (λ entry. IsResolvedAt index.now.raws.now root entry) }
-    ensures walk { MatchResult result (λ _. IsOk (walk_at index.now.raws.now root)) (λ fault. FailsBy fault (walk_at index.now.raws.now root)) }
+    ensures walk { MatchResult result (λ _. IsOk (walk_at index.now.raws.now root))
+        (λ fault. FailsBy fault (walk_at index.now.raws.now root)) }
 {
     let entered = entered_from(alloc, index, root)?;
     let entry = filled(
@@ -53,7 +54,8 @@ fn resolve_from(alloc: Global, index: &Index<'_>, root: usize) -> Result<Entry, 
 fn resolve_in(alloc: Global, index: &Index<'_>, name: &[u8]) -> Result<Entry, ResolveFault>
     requires { AllByRecursion IsRaw index.now.raws.now }
     ensures entry { IfOk result (λ entry. IsResolved index.now.raws.now name.now entry) }
-    ensures walk { MatchResult result (λ _. IsOk (walk_of index.now.raws.now name.now)) (λ fault. FailsBy fault (walk_of index.now.raws.now name.now)) }
+    ensures walk { MatchResult result (λ _. IsOk (walk_of index.now.raws.now name.now))
+        (λ fault. FailsBy fault (walk_of index.now.raws.now name.now)) }
 {
     match index.find(name) {
         Some(root) => resolve_from(alloc, index, root),
@@ -70,7 +72,8 @@ fn origin_of(
 ) -> Result<Option<Origin>, ResolveFault>
     ensures origin { IfOk result (λ found. IsOrigin index.now.raws.now name.now cap found) }
     ensures value { IfOk result (λ found. GivesValue index.now.raws.now name.now cap found) }
-    ensures walk { MatchResult result (λ _. IsOk (walk_of index.now.raws.now name.now)) (λ fault. FailsBy fault (walk_of index.now.raws.now name.now)) }
+    ensures walk { MatchResult result (λ _. IsOk (walk_of index.now.raws.now name.now))
+        (λ fault. FailsBy fault (walk_of index.now.raws.now name.now)) }
 {
     // the capability is in the table
     let _ = cap.place();
@@ -91,7 +94,8 @@ fn origin_of(
 pub fn resolve(alloc: Global, raws: &[RawEntry], name: &[u8]) -> Result<Entry, ResolveFault>
     requires { AllByRecursion IsRaw raws.now }
     ensures entry { IfOk result (λ entry. IsResolved raws.now name.now entry) }
-    ensures walk { MatchResult result (λ _. IsOk (walk_of raws.now name.now)) (λ fault. FailsBy fault (walk_of raws.now name.now)) }
+    ensures walk { MatchResult result (λ _. IsOk (walk_of raws.now name.now))
+        (λ fault. FailsBy fault (walk_of raws.now name.now)) }
 {
     let index = Index::new(alloc, raws)?;
     resolve_in(alloc, &index, name)
@@ -106,7 +110,8 @@ pub fn resolve_at(alloc: Global, raws: &[RawEntry], place: usize) -> Result<Entr
     requires fit { AllByRecursion IsRaw raws.now }
     requires range { place < length raws.now }
     ensures entry { IfOk result (λ entry. IsResolvedAt raws.now place entry) }
-    ensures walk { MatchResult result (λ _. IsOk (walk_at raws.now place)) (λ fault. FailsBy fault (walk_at raws.now place)) }
+    ensures walk { MatchResult result (λ _. IsOk (walk_at raws.now place))
+        (λ fault. FailsBy fault (walk_at raws.now place)) }
 {
     let index = Index::new(alloc, raws)?;
     resolve_from(alloc, &index, place)
@@ -127,7 +132,8 @@ pub fn origin(
 ) -> Result<Option<Origin>, ResolveFault>
     ensures origin { IfOk result (λ found. IsOrigin raws.now name.now cap found) }
     ensures value { IfOk result (λ found. GivesValue raws.now name.now cap found) }
-    ensures walk { MatchResult result (λ _. IsOk (walk_of raws.now name.now)) (λ fault. FailsBy fault (walk_of raws.now name.now)) }
+    ensures walk { MatchResult result (λ _. IsOk (walk_of raws.now name.now))
+        (λ fault. FailsBy fault (walk_of raws.now name.now)) }
 {
     let index = Index::new(alloc, raws)?;
     origin_of(alloc, &index, name, cap)

@@ -28,7 +28,8 @@ fn lead(
     chain: &[usize],
     entered: &[usize],
 ) -> Result<Option<usize>, ResolveFault>
-    ensures value { Gives (λ place. place) result (target (place_named index.now.raws.now name.now) name.now chain.now entered.now) }
+    ensures value { Gives (λ place. place) result
+        (target (place_named index.now.raws.now name.now) name.now chain.now entered.now) }
     ensures range { IfOk result (λ found. IfSome found (λ place. place < length index.now.raws.now)) }
 {
     let Some(place) = index.find(name) else {
@@ -60,7 +61,8 @@ pub(crate) fn enter(
     entered: &mut Vec<usize>,
 ) -> Result<(), ResolveFault>
     requires { to.place < length index.now.raws.now }
-    ensures walk { Gives (λ _. entered.new.items) result (enter depth index.now.raws.now chain.old.items to.entry.name.now to.entry.place entered.old.items) }
+    ensures walk { Gives (λ _. entered.new.items) result
+        (enter depth index.now.raws.now chain.old.items to.entry.name.now to.entry.place entered.old.items) }
     ensures chain { OnOk result (chain.new.items ≡ chain.old.items) }
 {
     if depth == 0 {
@@ -90,7 +92,9 @@ fn follow_all(
     chain: &mut Vec<usize>,
     entered: &mut Vec<usize>,
 ) -> Result<(), ResolveFault>
-    ensures walk { Gives (λ _. entered.new.items) result (follow_uses (enter depth index.now.raws.now chain.old.items) index.now.raws.now chain.old.items (uses_in fields.now) entered.old.items) }
+    ensures walk { Gives (λ _. entered.new.items) result
+        (follow_uses (enter depth index.now.raws.now chain.old.items) index.now.raws.now chain.old.items
+        (uses_in fields.now) entered.old.items) }
     ensures chain { OnOk result (chain.new.items ≡ chain.old.items) }
 {
     for field in fields {
@@ -109,7 +113,9 @@ fn follow_field(
     chain: &mut Vec<usize>,
     entered: &mut Vec<usize>,
 ) -> Result<(), ResolveFault>
-    ensures walk { Gives (λ _. entered.new.items) result (follow_field (enter depth index.now.raws.now chain.old.items) index.now.raws.now chain.old.items field.now entered.old.items) }
+    ensures walk { Gives (λ _. entered.new.items) result
+        (follow_field (enter depth index.now.raws.now chain.old.items) index.now.raws.now chain.old.items
+        field.now entered.old.items) }
     ensures chain { OnOk result (chain.new.items ≡ chain.old.items) }
 {
     match field {
@@ -128,7 +134,9 @@ fn follow(
     chain: &mut Vec<usize>,
     entered: &mut Vec<usize>,
 ) -> Result<(), ResolveFault>
-    ensures walk { Gives (λ _. entered.new.items) result (and_then (target (place_named index.now.raws.now name.now) name.now chain.old.items entered.old.items) (go_to (enter depth index.now.raws.now chain.old.items name.now) entered.old.items)) }
+    ensures walk { Gives (λ _. entered.new.items) result
+        (and_then (target (place_named index.now.raws.now name.now) name.now chain.old.items entered.old.items)
+        (go_to (enter depth index.now.raws.now chain.old.items name.now) entered.old.items)) }
     ensures chain { OnOk result (chain.new.items ≡ chain.old.items) }
 {
     match lead(alloc, index, name, chain.as_slice(), entered.as_slice())? {

@@ -1,4 +1,5 @@
--- What the table asks of a record. What it leaves free is taken from the record itself, so that the test is an equality.
+-- What the table asks of a record. What it leaves free is taken from the record itself, so that the test is an
+-- equality.
 use Rattle.std.specs.Prelude.{ℕ, ◌-◌, ◌&&◌, Bool, true, false, Some, None}
 use Rattle.vt_effects.specs.declared.effects.Effect.{Effect}
 use Rattle.vt_effects.specs.declared.effects.Rendering.{Rendering}
@@ -23,12 +24,13 @@ use Rattle.ti_rows.specs.Rows.{Marks, Looks, Row, Clear, Cup, Home, Cr, Hpa, Vpa
 
 -- all cursors, with these margins
 abbrev pub starting : ℕ → ℕ → Bool → Margins → Start
-starting rows cols pending m = record { row_min = 0; row_max = rows - 1; col_min = 0; col_max = cols - 1; pending = pending; margins = m }
+starting rows cols pending m =
+    record { row_min = 0; row_max = rows - 1; col_min = 0; col_max = cols - 1; pending = pending; margins = m }
 
 abbrev pub calm : ℕ → ℕ → Start
 calm rows cols = starting rows cols false margins.Whole
 
--- so many columns or rows are left on one side of the cursor
+-- this many columns or rows are left on one side of the cursor
 abbrev pub room_left : ℕ → Start → Start
 room_left n s = record s { col_min = n }
 
@@ -129,7 +131,13 @@ scrolling x e = record unchanged { scroll = x; ends_pending = e.ends_pending }
 
 -- the margins are these lines; the cursor may go anywhere
 abbrev pub bounding : ℕ → ℕ → Effect → Effect
-bounding top bottom e = record unchanged { row = e.row; col = e.col; ends_pending = e.ends_pending; margins = Some (record { top = top; bottom = bottom }) }
+bounding top bottom e =
+    record unchanged {
+      row = e.row;
+      col = e.col;
+      ends_pending = e.ends_pending;
+      margins = Some (record { top = top; bottom = bottom });
+    }
 
 -- the character sets are free
 abbrev pub choosing : Effect → Effect
@@ -143,7 +151,8 @@ abbrev pub rendering : Rendering → Effect → Effect
 rendering r e = record unchanged { rendition = r; charset = e.charset }
 
 abbrev pub inking : Ink → Ink → Effect
-inking foreground background = record unchanged { rendition = record nothing_rendered { foreground = foreground; background = background } }
+inking foreground background =
+    record unchanged { rendition = record nothing_rendered { foreground = foreground; background = background } }
 
 -- everything is free but margins, visibility and scrolling
 abbrev pub entering : Effect → Effect

@@ -42,7 +42,9 @@ above rows (suc top) = above rows top + (rows - 1 - top)
 
 -- the next list of the same capability
 abbrev pub next : ℕ → ℕ → Row → Option Row
-next rows cols (Cup row col) = if nat_lt (col + 1) cols then Some (Cup row (col + 1)) else (if nat_lt (row + 1) rows then Some (Cup (row + 1) 0) else None)
+next rows cols (Cup row col) =
+    if nat_lt (col + 1) cols then Some (Cup row (col + 1))
+    else (if nat_lt (row + 1) rows then Some (Cup (row + 1) 0) else None)
 next rows cols (Hpa col) = if nat_lt (col + 1) cols then Some (Hpa (col + 1)) else None
 next rows cols (Vpa row) = if nat_lt (row + 1) rows then Some (Vpa (row + 1)) else None
 next rows cols (Cub n) = if nat_lt (n + 1) cols then Some (Cub (n + 1)) else None
@@ -53,7 +55,9 @@ next rows cols (Ech n) = if nat_lt n cols then Some (Ech (n + 1)) else None
 next rows cols (Sgr a) = if nat_lt (number_of a) 127 then Some (Sgr (attributes_of (number_of a + 1))) else None
 next rows cols (Setaf c) = if nat_lt (color_number c) 7 then Some (Setaf (color (color_number c + 1))) else None
 next rows cols (Setab c) = if nat_lt (color_number c) 7 then Some (Setab (color (color_number c + 1))) else None
-next rows cols (Csr top bottom) = if nat_lt (bottom + 1) rows then Some (Csr top (bottom + 1)) else (if nat_lt (top + 2) rows then Some (Csr (top + 1) (top + 2)) else None)
+next rows cols (Csr top bottom) =
+    if nat_lt (bottom + 1) rows then Some (Csr top (bottom + 1))
+    else (if nat_lt (top + 2) rows then Some (Csr (top + 1) (top + 2)) else None)
 next rows cols _ = None
 
 -- the place of a list among the lines of its capability, from 0
@@ -105,19 +109,26 @@ pub record Follows (rows cols : ℕ) (row other : Row) : Type 0 where
   pub ascends : slice_cmp nat_cmp (params row) (params other) ≡ Less
 
 abbrev pub NextFollows : Type 0
-NextFollows = (rows cols : ℕ) (row other : Row) → IsSize rows cols → IsInRange rows cols row → next rows cols row ≡ Some other → Follows rows cols row other
+NextFollows =
+    (rows cols : ℕ) (row other : Row) → IsSize rows cols → IsInRange rows cols row → next rows cols row ≡ Some other
+    → Follows rows cols row other
 
 -- the last list has the last place
 abbrev pub LastIsLast : Type 0
-LastIsLast = (rows cols : ℕ) (row : Row) → IsSize rows cols → IsInRange rows cols row → next rows cols row ≡ None → rank rows cols row + 1 ≡ count rows cols row
+LastIsLast =
+    (rows cols : ℕ) (row : Row) → IsSize rows cols → IsInRange rows cols row → next rows cols row ≡ None
+    → rank rows cols row + 1 ≡ count rows cols row
 
 -- each list has one of the places
 abbrev pub RanksBelow : Type 0
-RanksBelow = (rows cols : ℕ) (row : Row) → IsSize rows cols → IsInRange rows cols row → rank rows cols row < count rows cols row
+RanksBelow =
+    (rows cols : ℕ) (row : Row) → IsSize rows cols → IsInRange rows cols row → rank rows cols row < count rows cols row
 
 -- two lists of one place are one
 abbrev pub OneOfRank : Type 0
-OneOfRank = (rows cols : ℕ) (row other : Row) → IsInRange rows cols row → IsInRange rows cols other → order row ≡ order other → rank rows cols row ≡ rank rows cols other → row ≡ other
+OneOfRank =
+    (rows cols : ℕ) (row other : Row) → IsInRange rows cols row → IsInRange rows cols other → order row ≡ order other
+    → rank rows cols row ≡ rank rows cols other → row ≡ other
 
 -- a list of this capability has this place
 pub record HasRank (rows cols : ℕ) (row : Row) (k : ℕ) : Type 0 where
@@ -129,4 +140,6 @@ pub record HasRank (rows cols : ℕ) (row : Row) (k : ℕ) : Type 0 where
 
 -- each of the places is a list's
 abbrev pub EachReached : Type 0
-EachReached = (rows cols : ℕ) (row : Row) → IsSize rows cols → IsInRange rows cols row → rank rows cols row ≡ 0 → (k : ℕ) → k < count rows cols row → HasRank rows cols row k
+EachReached =
+    (rows cols : ℕ) (row : Row) → IsSize rows cols → IsInRange rows cols row → rank rows cols row ≡ 0 → (k : ℕ)
+    → k < count rows cols row → HasRank rows cols row k

@@ -53,4 +53,5 @@ learned _ e l = l
 
 -- what a parameter list of `sgr` adds has no say in those before it
 abbrev pub EarlierKept : Type 0
-EarlierKept = (l : Looks) (a b : Attributes) (e : Effect) → number_of b < number_of a → shown (learned (Sgr a) e l) b ≡ shown l b
+EarlierKept =
+    (l : Looks) (a b : Attributes) (e : Effect) → number_of b < number_of a → shown (learned (Sgr a) e l) b ≡ shown l b

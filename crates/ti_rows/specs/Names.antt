@@ -55,12 +55,12 @@ order (Vpa row) = 41
 
 abbrev pub names : List (List ℕ)
 names =
-    codes "bel" ∷ codes "blink" ∷ codes "bold" ∷ codes "civis" ∷ codes "clear" ∷ codes "cnorm" ∷ codes "cr" ∷ codes "csr" ∷
-    codes "cub" ∷ codes "cub1" ∷ codes "cud" ∷ codes "cud1" ∷ codes "cuf" ∷ codes "cuf1" ∷ codes "cup" ∷ codes "cuu" ∷
-    codes "cuu1" ∷ codes "cvvis" ∷ codes "dim" ∷ codes "ech" ∷ codes "ed" ∷ codes "el" ∷ codes "el1" ∷ codes "enacs" ∷
-    codes "home" ∷ codes "hpa" ∷ codes "ind" ∷ codes "invis" ∷ codes "op" ∷ codes "rev" ∷ codes "ri" ∷ codes "rmacs" ∷
-    codes "rmcup" ∷ codes "setab" ∷ codes "setaf" ∷ codes "sgr" ∷ codes "sgr0" ∷ codes "smacs" ∷ codes "smcup" ∷ codes "smso" ∷
-    codes "smul" ∷ codes "vpa" ∷ []
+    codes "bel" ∷ codes "blink" ∷ codes "bold" ∷ codes "civis" ∷ codes "clear" ∷ codes "cnorm" ∷ codes "cr" ∷
+    codes "csr" ∷ codes "cub" ∷ codes "cub1" ∷ codes "cud" ∷ codes "cud1" ∷ codes "cuf" ∷ codes "cuf1" ∷ codes "cup" ∷
+    codes "cuu" ∷ codes "cuu1" ∷ codes "cvvis" ∷ codes "dim" ∷ codes "ech" ∷ codes "ed" ∷ codes "el" ∷ codes "el1" ∷
+    codes "enacs" ∷ codes "home" ∷ codes "hpa" ∷ codes "ind" ∷ codes "invis" ∷ codes "op" ∷ codes "rev" ∷ codes "ri" ∷
+    codes "rmacs" ∷ codes "rmcup" ∷ codes "setab" ∷ codes "setaf" ∷ codes "sgr" ∷ codes "sgr0" ∷ codes "smacs" ∷
+    codes "smcup" ∷ codes "smso" ∷ codes "smul" ∷ codes "vpa" ∷ []
 
 -- the position of each among the strings of term(5)
 abbrev pub strings : List ℕ
@@ -70,7 +70,16 @@ strings =
     []
 
 abbrev pub no_attributes : Attributes
-no_attributes = record { standout = false; underline = false; reverse = false; blink = false; dim = false; bold = false; invisible = false }
+no_attributes =
+    record {
+      standout = false;
+      underline = false;
+      reverse = false;
+      blink = false;
+      dim = false;
+      bold = false;
+      invisible = false;
+    }
 
 -- the first parameter list of each
 abbrev pub firsts : List Row

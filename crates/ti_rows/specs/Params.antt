@@ -16,7 +16,9 @@ params (Cuf n) = n ∷ []
 params (Cuu n) = n ∷ []
 params (Cud n) = n ∷ []
 params (Ech n) = n ∷ []
-params (Sgr a) = bit a.standout ∷ bit a.underline ∷ bit a.reverse ∷ bit a.blink ∷ bit a.dim ∷ bit a.bold ∷ bit a.invisible ∷ 0 ∷ 0 ∷ []
+params (Sgr a) =
+    bit a.standout ∷ bit a.underline ∷ bit a.reverse ∷ bit a.blink ∷ bit a.dim ∷ bit a.bold ∷ bit a.invisible ∷ 0
+    ∷ 0 ∷ []
 params (Setaf c) = color_number c ∷ []
 params (Setab c) = color_number c ∷ []
 params (Csr top bottom) = top ∷ bottom ∷ []
@@ -49,7 +51,15 @@ ends_bits a x y = nat_le a 1 && (x == 0 && y == 0)
 abbrev pub nine_bits : List ℕ → Option Attributes
 nine_bits (s ∷ u ∷ r ∷ k ∷ d ∷ b ∷ i ∷ x ∷ y ∷ []) =
     if are_bits s u r && (are_bits k d b && ends_bits i x y)
-    then Some (record { standout = s == 1; underline = u == 1; reverse = r == 1; blink = k == 1; dim = d == 1; bold = b == 1; invisible = i == 1 })
+    then Some (record {
+      standout = s == 1;
+      underline = u == 1;
+      reverse = r == 1;
+      blink = k == 1;
+      dim = d == 1;
+      bold = b == 1;
+      invisible = i == 1;
+    })
     else None
 nine_bits _ = None
 

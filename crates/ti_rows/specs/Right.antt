@@ -42,24 +42,36 @@ pub record IsRight (rows cols : ℕ) (l : Looks) (row : Row) (bytes : List ℕ) 
 
 -- the starts of a row are among the states that its start allows
 abbrev pub StartsAllowed : Type 0
-StartsAllowed = (rows cols : ℕ) (row : Row) (s : Screen) → Starts rows cols row s → Allows rows cols (start_of rows cols row) s
+StartsAllowed =
+    (rows cols : ℕ) (row : Row) (s : Screen) → Starts rows cols row s → Allows rows cols (start_of rows cols row) s
 
 -- a record that the table asks for does what is wanted
 abbrev pub AskedIsWanted : Type 0
-AskedIsWanted = (rows cols : ℕ) (l : Looks) (row : Row) (e : Effect) → e ≡ asked l row e → (s : Screen) → Starts rows cols row s → Wants l row s (applied e s)
+AskedIsWanted =
+    (rows cols : ℕ) (l : Looks) (row : Row) (e : Effect) → e ≡ asked l row e → (s : Screen) → Starts rows cols row s
+    → Wants l row s (applied e s)
 
 -- so bytes with such a record are right
 abbrev pub RecordedIsRight : Type 0
-RecordedIsRight = (rows cols : ℕ) (l : Looks) (row : Row) (bytes : List ℕ) (tokens : List (List ℕ)) (e : Effect) → Splits bytes tokens []
+RecordedIsRight =
+    (rows cols : ℕ) (l : Looks) (row : Row) (bytes : List ℕ) (tokens : List (List ℕ)) (e : Effect)
+    → Splits bytes tokens []
     → record_of rows cols (start_of rows cols row) tokens ≡ Some e → e ≡ asked l row e → IsRight rows cols l row bytes
 
--- the lines of `sgr` have one look at most for each attribute, so that "right with these looks" depends on no line beside them
+-- the lines of `sgr` have one look at most for each attribute, so that "right with these looks" depends on no line
+-- beside them
 abbrev pub OneLooks : Type 0
-OneLooks = (rows cols : ℕ) (l m : Looks) (lines : Attributes → List ℕ) (s : State) → s.rest ≡ [] → IsFree rows cols s.screen
-    → ((a : Attributes) → IsRight rows cols l (Sgr a) (lines a)) → ((a : Attributes) → IsRight rows cols m (Sgr a) (lines a)) → l ≡ m
+OneLooks =
+    (rows cols : ℕ) (l m : Looks) (lines : Attributes → List ℕ) (s : State) → s.rest ≡ [] → IsFree rows cols s.screen
+    → ((a : Attributes) → IsRight rows cols l (Sgr a) (lines a))
+    → ((a : Attributes) → IsRight rows cols m (Sgr a) (lines a)) → l ≡ m
 
 -- bytes whose record leads each of these sets to an active set of one kind do so from every start with one of them
 abbrev pub ActivatesFrom : Type 0
-ActivatesFrom = (rows cols : ℕ) (row : Row) (bytes : List ℕ) (tokens : List (List ℕ)) (e : Effect) (settled : Charset → Bool) (graphic : Bool) → Splits bytes tokens []
-    → record_of rows cols (start_of rows cols row) tokens ≡ Some e → ((c : Charset) → settled c ≡ true → is_graphic (designated e.charset c) ≡ graphic)
-    → (s t : State) → s.rest ≡ [] → Starts rows cols row s.screen → settled s.screen.charset ≡ true → Runs s bytes t → is_graphic t.screen.charset ≡ graphic
+ActivatesFrom =
+    (rows cols : ℕ) (row : Row) (bytes : List ℕ) (tokens : List (List ℕ)) (e : Effect) (settled : Charset → Bool)
+    (graphic : Bool) → Splits bytes tokens []
+    → record_of rows cols (start_of rows cols row) tokens ≡ Some e
+    → ((c : Charset) → settled c ≡ true → is_graphic (designated e.charset c) ≡ graphic)
+    → (s t : State) → s.rest ≡ [] → Starts rows cols row s.screen → settled s.screen.charset ≡ true → Runs s bytes t
+    → is_graphic t.screen.charset ≡ graphic

@@ -82,7 +82,14 @@ pub record Bounds (top bottom : ℕ) (s t : Screen) : Type 0 where
 -- a program's screen begins or ends: one erasure at most; the cursor may go anywhere, a pending wrap may end, rendition
 -- and sets are free, and all else stays
 pub record Enters (s t : Screen) : Type 0 where
-  pub others : t ≡ record s { grid = t.grid; row = t.row; col = t.col; pending = t.pending; rendition = t.rendition; charset = t.charset }
+  pub others : t ≡ record s {
+    grid = t.grid;
+    row = t.row;
+    col = t.col;
+    pending = t.pending;
+    rendition = t.rendition;
+    charset = t.charset;
+  }
   pub cells : ErasesOnce s t.grid
   pub pending : StaysOrEnds s.pending t.pending
 
@@ -90,10 +97,11 @@ pub record Enters (s t : Screen) : Type 0 where
 abbrev pub Appears : Screen → Screen → Type 0
 Appears s t = (t ≡ record s { visible = true }) ⊎ (t ≡ s)
 
--- what a row's string makes of a start: each equation is on what it changes, and all else stays. The sets are free where
--- the end stands on the right as well
+-- what a row's string makes of a start: each equation is on what it changes, and all else stays. The sets are free
+-- where the end stands on the right as well
 abbrev pub Wants : Looks → Row → Screen → Screen → Type 0
-Wants l Clear s t = t ≡ record s { grid = drawn (λ i j old. blank s.rendition) s.grid; row = 0; col = 0; pending = false }
+Wants l Clear s t =
+    t ≡ record s { grid = drawn (λ i j old. blank s.rendition) s.grid; row = 0; col = 0; pending = false }
 Wants l (Cup row col) s t = t ≡ record s { row = row; col = col; pending = false }
 Wants l Home s t = t ≡ record s { row = 0; col = 0; pending = false }
 Wants l Cr s t = t ≡ record s { col = 0; pending = false }

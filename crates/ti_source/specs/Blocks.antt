@@ -33,7 +33,8 @@ further_lines number line = if is_further line then part_lines number (cut_of li
 
 -- all fields of the entry that begins on a line
 abbrev pub fields_from : ℕ → List ℕ → List ℕ → List FieldLine
-fields_from number line behind = part_lines number (after_names (cut_of line).ended) ++ (blocks_from (number + 1) (lines_of behind)).ahead
+fields_from number line behind =
+    part_lines number (after_names (cut_of line).ended) ++ (blocks_from (number + 1) (lines_of behind)).ahead
 
 abbrev pub entry_block : List ℕ → ℕ → Option (List FieldLine)
 entry_block text entry = slice_get (blocks_from 1 (lines_of text)).entries entry

@@ -12,7 +12,7 @@ use Rattle.ti_source.specs.Marks.{comma, colon, backslash, caret}
 abbrev pub stored : ℕ → ℕ
 stored byte = if byte == 0 then 128 else byte
 
--- a piece of so many bytes that stands for the byte
+-- a piece of this many bytes that stands for the byte
 abbrev pub plain : ℕ → ℕ → Piece
 plain byte used = record { byte = stored byte; used = used; odd = false }
 
@@ -88,7 +88,7 @@ empty_decoding = record { bytes = []; odd = 0 }
 abbrev pub put_first : Piece → Decoding → Decoding
 put_first piece decoding = record { bytes = piece.byte ∷ decoding.bytes; odd = from_bool piece.odd + decoding.odd }
 
--- What a value stands for once so many bytes more are passed over: they belong to the piece before.
+-- What a value stands for once this many more bytes are passed over: they belong to the piece before.
 unfoldable pub decoding_from : ℕ → List ℕ → Option Decoding
 decoding_from passed [] = Some empty_decoding
 decoding_from (suc passed) (b ∷ rest) = decoding_from passed rest

@@ -37,11 +37,13 @@ is_use (a ∷ b ∷ c ∷ d ∷ rest) = false
 -- a field that is its name alone
 abbrev pub flag_reading : Option ℕ → Result Reading FaultKind
 flag_reading None = Ok Unknown
-flag_reading (Some cap) = if is_kind (kind_of cap) kinds.Flag then Ok (Says (Set cap values.Flag) 0) else Err faults.WrongKind
+flag_reading (Some cap) =
+    if is_kind (kind_of cap) kinds.Flag then Ok (Says (Set cap values.Flag) 0) else Err faults.WrongKind
 
 unfoldable pub number_reading : ℕ → List ℕ → Result Reading FaultKind
 number_reading cap value =
-    if is_kind (kind_of cap) kinds.Number then (number_of value >>= λ n. Ok (Says (Set cap (values.Number n)) 0)) else Err faults.WrongKind
+    if is_kind (kind_of cap) kinds.Number then (number_of value >>= λ n. Ok (Says (Set cap (values.Number n)) 0))
+    else Err faults.WrongKind
 
 abbrev pub decoded_reading : ℕ → Option Decoding → Result Reading FaultKind
 decoded_reading cap None = Err faults.BadEscape
@@ -65,7 +67,8 @@ named_reading (Some cap) mark value = known_reading cap mark value
 abbrev pub marked_reading : Mark → List ℕ → List ℕ → Result Reading FaultKind
 marked_reading At name value = named_reading (place_in name) At value
 marked_reading Hash name value = named_reading (place_in name) Hash value
-marked_reading Equals name value = if is_use name then Ok (Says (Include value) 0) else named_reading (place_in name) Equals value
+marked_reading Equals name value =
+    if is_use name then Ok (Says (Include value) 0) else named_reading (place_in name) Equals value
 
 abbrev pub split_reading : List ℕ → Option Marked → Result Reading FaultKind
 split_reading field None = flag_reading (place_in (trim_end field))
@@ -121,7 +124,8 @@ abbrev pub with_notes : RawEntry → List Note → RawEntry
 with_notes raw more = record { line = raw.line; names = raw.names; fields = raw.fields; notes = raw.notes ++ more }
 
 abbrev pub with_field : RawEntry → Field → RawEntry
-with_field raw field = record { line = raw.line; names = raw.names; fields = raw.fields ++ field ∷ []; notes = raw.notes }
+with_field raw field =
+    record { line = raw.line; names = raw.names; fields = raw.fields ++ field ∷ []; notes = raw.notes }
 
 -- the first field of a name counts
 abbrev pub with_said : Bool → ℕ → RawEntry → Field → RawEntry
@@ -175,7 +179,8 @@ open_names names = if is_no_name names then Err faults.NoName else Err faults.Op
 
 abbrev pub begun_by : ℕ → List (List ℕ) → List ℕ → Result RawEntry FaultKind
 begun_by line [] last = open_names last
-begun_by line (names ∷ parts) last = named_entry line names >>= λ raw. add_cut line raw (record { ended = parts; last = last })
+begun_by line (names ∷ parts) last =
+    named_entry line names >>= λ raw. add_cut line raw (record { ended = parts; last = last })
 
 -- the entry that begins on a line
 unfoldable pub entry_on : ℕ → List ℕ → Result RawEntry FaultKind

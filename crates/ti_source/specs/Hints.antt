@@ -23,7 +23,8 @@ is_percent Caret b = false
 -- a value in which a caret follows such a `%`; the mark says whether one stands straight before the value
 abbrev pub has_caret : Opener → Bool → List ℕ → Bool
 has_caret opener follows [] = false
-has_caret opener follows (b ∷ rest) = (follows && (b == caret)) || has_caret (opener_after opener b) (is_percent opener b) rest
+has_caret opener follows (b ∷ rest) =
+    (follows && (b == caret)) || has_caret (opener_after opener b) (is_percent opener b) rest
 
 unfoldable pub has_percent_caret : List ℕ → Bool
 has_percent_caret value = has_caret Nothing false value

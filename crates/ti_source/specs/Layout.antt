@@ -60,14 +60,16 @@ ends_field opener b = ends_at_comma opener && (b == comma)
 abbrev pub cut_from : Opener → List ℕ → Cut
 cut_from opener [] = record { ended = []; last = [] }
 cut_from opener (b ∷ rest) =
-    if ends_field opener b then put_field [] (cut_from Nothing rest) else onto_cut b (cut_from (opener_after opener b) rest)
+    if ends_field opener b then put_field [] (cut_from Nothing rest)
+    else onto_cut b (cut_from (opener_after opener b) rest)
 
 unfoldable pub cut_of : List ℕ → Cut
 cut_of line = cut_from Nothing line
 
 -- the marks between a name and a value: name@, name#number, name=string
 abbrev pub mark_of : ℕ → Option Mark
-mark_of b = if b == at_sign then Some At else (if b == hash then Some Hash else (if b == equals then Some Equals else None))
+mark_of b =
+    if b == at_sign then Some At else (if b == hash then Some Hash else (if b == equals then Some Equals else None))
 
 -- the name in a field, its first mark, and what stands after the mark
 pub record Marked : Type 0 where

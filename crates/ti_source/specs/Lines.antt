@@ -103,4 +103,6 @@ caps_of_raw raw = map cap_of raw.fields
 
 -- they are the fields that reading gives, one for one
 abbrev pub LinesAreOfFields : Type 0
-LinesAreOfFields = (text : List ℕ) (raws : List RawEntry) (entry : ℕ) (raw : RawEntry) → source_of text ≡ Ok raws → slice_get raws entry ≡ Some raw → caps_of_lines (field_lines_of text entry) ≡ caps_of_raw raw
+LinesAreOfFields =
+    (text : List ℕ) (raws : List RawEntry) (entry : ℕ) (raw : RawEntry) → source_of text ≡ Ok raws
+    → slice_get raws entry ≡ Some raw → caps_of_lines (field_lines_of text entry) ≡ caps_of_raw raw

@@ -22,7 +22,8 @@ digit_in base b = below_base base (digit_value b)
 -- the number that digits spell after those of a number before them
 abbrev pub digits_from : ℕ → ℕ → List ℕ → Option ℕ
 digits_from base before [] = Some before
-digits_from base before (b ∷ rest) = option_and_then (λ digit. digits_from base (before * base + digit) rest) (digit_in base b)
+digits_from base before (b ∷ rest) =
+    option_and_then (λ digit. digits_from base (before * base + digit) rest) (digit_in base b)
 
 -- at least one digit
 abbrev pub digits_of : ℕ → List ℕ → Option ℕ

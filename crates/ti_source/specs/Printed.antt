@@ -19,7 +19,9 @@ place_fields place (Some value) = Set place value ∷ []
 
 unfoldable pub rank_fields : Content → Kind → ℕ → List Field
 rank_fields entry kind rank =
-    if is_kind (kind_of (place_of_rank rank)) kind then place_fields (place_of_rank rank) (value_at entry (place_of_rank rank)) else []
+    if is_kind (kind_of (place_of_rank rank)) kind
+    then place_fields (place_of_rank rank) (value_at entry (place_of_rank rank))
+    else []
 
 abbrev pub ranks_fields : Content → Kind → ℕ → List Field
 ranks_fields entry kind zero = []
@@ -49,7 +51,8 @@ SetsAsIn entry (Include name) = ⊥
 -- the fields are just those of the entry's capabilities
 pub record AreJust (entry : Content) (fields : List Field) : Type 0 where
   pub each : AllByRecursion (SetsAsIn entry) fields
-  pub all : (place : ℕ) (value : Value) → place < 497 → value_at entry place ≡ Some value → Contains fields (Set place value)
+  pub all : (place : ℕ) (value : Value) → place < 497 → value_at entry place ≡ Some value
+      → Contains fields (Set place value)
 
 abbrev pub PrintsJust : Type 0
 PrintsJust = (entry : Content) → AreJust entry (fields_of entry)

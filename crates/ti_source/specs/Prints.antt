@@ -56,9 +56,11 @@ place_text place (Some value) = field_text place value
 -- the field of the capability whose name has this rank among all names, if it is of this kind
 unfoldable pub rank_text : Content → Kind → ℕ → List ℕ
 rank_text entry kind rank =
-    if is_kind (kind_of (place_of_rank rank)) kind then place_text (place_of_rank rank) (value_at entry (place_of_rank rank)) else []
+    if is_kind (kind_of (place_of_rank rank)) kind
+    then place_text (place_of_rank rank) (value_at entry (place_of_rank rank))
+    else []
 
--- the fields of a kind whose names are the first so many of all names in the order of their bytes
+-- the fields of a kind whose names are among this many first ones in the order of bytes
 abbrev pub ranks_text : Content → Kind → ℕ → List ℕ
 ranks_text entry kind zero = []
 ranks_text entry kind (suc n) = ranks_text entry kind n ++ rank_text entry kind n
@@ -70,4 +72,5 @@ kind_text entry kind = ranks_text entry kind 497
 -- the names, and then flags, numbers and strings
 unfoldable pub text_of : Content → List ℕ
 text_of entry =
-    entry.names ++ (comma ∷ line_feed ∷ (kind_text entry kinds.Flag ++ (kind_text entry kinds.Number ++ kind_text entry kinds.String)))
+    entry.names ++ (comma ∷ line_feed
+    ∷ (kind_text entry kinds.Flag ++ (kind_text entry kinds.Number ++ kind_text entry kinds.String)))

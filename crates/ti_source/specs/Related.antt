@@ -54,7 +54,8 @@ is_unended opener (b ∷ rest) = not (ends_field opener b) && is_unended (opener
 -- the fields of a line, each with a comma after it, and what stands after the last comma
 abbrev pub HasFields : List (List ℕ) → List ℕ → List ℕ → Type 0
 HasFields [] last line = (line ≡ last) × IsTrue (is_unended Nothing last)
-HasFields (field ∷ fields) last line = (rest : List ℕ) × (line ≡ field ++ comma ∷ rest) × IsTrue (is_one_field Nothing field) × HasFields fields last rest
+HasFields (field ∷ fields) last line =
+    (rest : List ℕ) × (line ≡ field ++ comma ∷ rest) × IsTrue (is_one_field Nothing field) × HasFields fields last rest
 
 -- none of the marks @ # = is among the bytes
 abbrev pub NoMark : List ℕ → Type 0
@@ -63,13 +64,21 @@ NoMark name = IsTrue (list_all (λ b. not (is_some (mark_of b))) name)
 -- What a field says: a flag, name#number, name=string, name@ or use=name, or one whose name no capability
 -- has. The first mark ends the name.
 pub data Means (field : List ℕ) (reading : Reading) : Type 0 where
-  IsFlag : (cap : ℕ) → NoMark field → place_in (trim_end field) ≡ Some cap → kind_of cap ≡ kinds.Flag → reading ≡ Says (Set cap values.Flag) 0 → Means field reading
-  IsNumber : (name value : List ℕ) (cap n : ℕ) → field ≡ name ++ hash ∷ value → NoMark name → place_in name ≡ Some cap → kind_of cap ≡ kinds.Number → number_of value ≡ Ok n → reading ≡ Says (Set cap (values.Number n)) 0 → Means field reading
-  IsString : (name value : List ℕ) (cap : ℕ) (d : Decoding) → field ≡ name ++ equals ∷ value → NoMark name → is_use name ≡ false → place_in name ≡ Some cap → kind_of cap ≡ kinds.String → decoding_of value ≡ Some d → length d.bytes ≤ 4095 → reading ≡ Says (Set cap (values.String d.bytes)) d.odd → Means field reading
-  Cancels : (name behind : List ℕ) (cap : ℕ) → field ≡ name ++ at_sign ∷ behind → NoMark name → place_in name ≡ Some cap → reading ≡ Says (Cancel cap) 0 → Means field reading
+  IsFlag : (cap : ℕ) → NoMark field → place_in (trim_end field) ≡ Some cap → kind_of cap ≡ kinds.Flag
+      → reading ≡ Says (Set cap values.Flag) 0 → Means field reading
+  IsNumber : (name value : List ℕ) (cap n : ℕ) → field ≡ name ++ hash ∷ value → NoMark name → place_in name ≡ Some cap
+      → kind_of cap ≡ kinds.Number → number_of value ≡ Ok n → reading ≡ Says (Set cap (values.Number n)) 0
+      → Means field reading
+  IsString : (name value : List ℕ) (cap : ℕ) (d : Decoding) → field ≡ name ++ equals ∷ value → NoMark name
+      → is_use name ≡ false → place_in name ≡ Some cap → kind_of cap ≡ kinds.String → decoding_of value ≡ Some d
+      → length d.bytes ≤ 4095 → reading ≡ Says (Set cap (values.String d.bytes)) d.odd → Means field reading
+  Cancels : (name behind : List ℕ) (cap : ℕ) → field ≡ name ++ at_sign ∷ behind → NoMark name → place_in name ≡ Some cap
+      → reading ≡ Says (Cancel cap) 0 → Means field reading
   Uses : (name : List ℕ) → field ≡ use_mark ++ name → reading ≡ Says (Include name) 0 → Means field reading
   UnknownAlone : NoMark field → place_in (trim_end field) ≡ None → reading ≡ Unknown → Means field reading
-  UnknownMarked : (name value : List ℕ) (b : ℕ) (mark : Mark) → field ≡ name ++ b ∷ value → NoMark name → mark_of b ≡ Some mark → (mark ≡ Equals → is_use name ≡ false) → place_in name ≡ None → reading ≡ Unknown → Means field reading
+  UnknownMarked : (name value : List ℕ) (b : ℕ) (mark : Mark) → field ≡ name ++ b ∷ value → NoMark name
+      → mark_of b ≡ Some mark → (mark ≡ Equals → is_use name ≡ false) → place_in name ≡ None → reading ≡ Unknown
+      → Means field reading
 
 -- a field begins with neither white space nor a period
 abbrev pub begins_field : List ℕ → Bool
@@ -80,13 +89,16 @@ begins_field (b ∷ rest) = not (is_white b) && not (b == period)
 -- period; else what the field after the white space says.
 pub data PartSays (part : List ℕ) (reading : Reading) : Type 0 where
   Blank : White part → reading ≡ Skipped → PartSays part reading
-  Commented : (white rest : List ℕ) → White white → part ≡ white ++ period ∷ rest → reading ≡ Skipped → PartSays part reading
-  Said : (white field : List ℕ) → White white → part ≡ white ++ field → begins_field field ≡ true → Means field reading → PartSays part reading
+  Commented : (white rest : List ℕ) → White white → part ≡ white ++ period ∷ rest → reading ≡ Skipped
+      → PartSays part reading
+  Said : (white field : List ℕ) → White white → part ≡ white ++ field → begins_field field ≡ true → Means field reading
+      → PartSays part reading
 
 -- an entry with the fields of a line, one after another
 abbrev pub Grows : ℕ → RawEntry → List (List ℕ) → RawEntry → Type 0
 Grows number raw [] grown = grown ≡ raw
-Grows number raw (part ∷ parts) grown = (reading : Reading) × PartSays part reading × Grows number (with_reading number raw reading) parts grown
+Grows number raw (part ∷ parts) grown =
+    (reading : Reading) × PartSays part reading × Grows number (with_reading number raw reading) parts grown
 
 -- a further line: after its last comma stands white space alone
 pub record FurtherLine (number : ℕ) (raw : RawEntry) (line : List ℕ) (grown : RawEntry) : Type 0 where
@@ -109,10 +121,15 @@ pub record EntryLine (number : ℕ) (line : List ℕ) (entry : RawEntry) : Type 
 
 -- A line after an entry that is open, and what the lines after it stand for: comments and lines of white
 -- space are passed over, a line that begins with white space goes on with the entry, any other begins one.
-pub data LineStands (number : ℕ) (open_entry : Option RawEntry) (line : List ℕ) (entries : List RawEntry) (Behind : Option RawEntry → List RawEntry → Type 0) : Type 0 where
+pub data LineStands (number : ℕ) (open_entry : Option RawEntry) (line : List ℕ) (entries : List RawEntry)
+    (Behind : Option RawEntry → List RawEntry → Type 0) : Type 0 where
   Passed : is_passed line ≡ true → Behind open_entry entries → LineStands number open_entry line entries Behind
-  Further : (raw grown : RawEntry) → is_passed line ≡ false → begins_white line ≡ true → open_entry ≡ Some raw → FurtherLine number raw line grown → Behind (Some grown) entries → LineStands number open_entry line entries Behind
-  Begins : (entry : RawEntry) (others : List RawEntry) → is_passed line ≡ false → begins_white line ≡ false → EntryLine number line entry → entries ≡ option_to_list open_entry ++ others → Behind (Some entry) others → LineStands number open_entry line entries Behind
+  Further : (raw grown : RawEntry) → is_passed line ≡ false → begins_white line ≡ true → open_entry ≡ Some raw
+      → FurtherLine number raw line grown → Behind (Some grown) entries
+      → LineStands number open_entry line entries Behind
+  Begins : (entry : RawEntry) (others : List RawEntry) → is_passed line ≡ false → begins_white line ≡ false
+      → EntryLine number line entry → entries ≡ option_to_list open_entry ++ others → Behind (Some entry) others
+      → LineStands number open_entry line entries Behind
 
 -- the lines from this number on, after an entry that is open, stand for these entries
 abbrev pub Stand : ℕ → List (List ℕ) → Option RawEntry → List RawEntry → Type 0
@@ -136,7 +153,9 @@ RelatedIsRead = (text : List ℕ) (entries : List RawEntry) → IsSource text en
 
 -- where there is a fault, no entries are so related to the text
 abbrev pub FaultHasNone : Type 0
-FaultHasNone = (text : List ℕ) (fault : SourceFault) → source_of text ≡ Err fault → (entries : List RawEntry) → IsSource text entries → ⊥
+FaultHasNone =
+    (text : List ℕ) (fault : SourceFault) → source_of text ≡ Err fault → (entries : List RawEntry)
+    → IsSource text entries → ⊥
 
 -- the first line, counted from 1, up to which the lines stand for no entries, where those before it do
 pub record FirstFault (lines : List (List ℕ)) (fault : SourceFault) : Type 0 where
@@ -151,4 +170,6 @@ pub record FirstFault (lines : List (List ℕ)) (fault : SourceFault) : Type 0 w
 
 -- and the fault is reported for that line
 abbrev pub FaultIsFirst : Type 0
-FaultIsFirst = (text : List ℕ) (fault : SourceFault) (lines : List (List ℕ)) → length text ≤ 16777216 → HasLines lines text → source_of text ≡ Err fault → FirstFault lines fault
+FaultIsFirst =
+    (text : List ℕ) (fault : SourceFault) (lines : List (List ℕ)) → length text ≤ 16777216 → HasLines lines text
+    → source_of text ≡ Err fault → FirstFault lines fault

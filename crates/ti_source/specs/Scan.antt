@@ -20,12 +20,13 @@ feed_in (b ∷ rest) = if b == line_feed then Some 0 else option_map suc (feed_i
 -- where the first comma stands that ends a field
 abbrev pub comma_from : Opener → List ℕ → Option ℕ
 comma_from opener [] = None
-comma_from opener (b ∷ rest) = if ends_field opener b then Some 0 else option_map suc (comma_from (opener_after opener b) rest)
+comma_from opener (b ∷ rest) =
+    if ends_field opener b then Some 0 else option_map suc (comma_from (opener_after opener b) rest)
 
 unfoldable pub comma_in : List ℕ → Option ℕ
 comma_in line = comma_from Nothing line
 
--- a place so many bytes further on
+-- a place this many bytes further on
 abbrev pub shifted : ℕ → Option ℕ → Option ℕ
 shifted n None = None
 shifted n (Some k) = Some (n + k)

@@ -38,7 +38,8 @@ continued number line progress (Some raw) =
 
 -- the first line of an entry
 abbrev pub begun : ℕ → List ℕ → Progress → Result Progress FaultKind
-begun number line progress = entry_on number line >>= λ raw. Ok (record { done = all_of progress; open_entry = Some raw })
+begun number line progress =
+    entry_on number line >>= λ raw. Ok (record { done = all_of progress; open_entry = Some raw })
 
 unfoldable pub read_line : ℕ → List ℕ → Progress → Result Progress FaultKind
 read_line number line progress =
@@ -49,14 +50,16 @@ read_line number line progress =
 abbrev pub fault_at : ℕ → FaultKind → SourceFault
 fault_at number kind = record { line = number; kind = kind }
 
-abbrev pub lines_behind : ℕ → Result Progress FaultKind → (Progress → Result (List RawEntry) SourceFault) → Result (List RawEntry) SourceFault
+abbrev pub lines_behind : ℕ → Result Progress FaultKind → (Progress → Result (List RawEntry) SourceFault)
+    → Result (List RawEntry) SourceFault
 lines_behind number (Err kind) behind = Err (fault_at number kind)
 lines_behind number (Ok progress) behind = behind progress
 
 -- the lines from this number on
 abbrev pub read_lines : ℕ → List (List ℕ) → Progress → Result (List RawEntry) SourceFault
 read_lines number [] progress = Ok (all_of progress)
-read_lines number (line ∷ lines) progress = lines_behind number (read_line number line progress) (read_lines (number + 1) lines)
+read_lines number (line ∷ lines) progress =
+    lines_behind number (read_line number line progress) (read_lines (number + 1) lines)
 
 abbrev pub no_progress : Progress
 no_progress = record { done = []; open_entry = None }

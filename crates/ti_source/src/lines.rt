@@ -200,7 +200,7 @@ impl Block {
     }
 }
 
-/// The first line of an entry, and the lines behind it.
+/// The first line of an entry, and the lines after it.
 #[derive(Clone, Copy)]
 struct Start<'t> {
     number: usize,
@@ -210,7 +210,8 @@ struct Start<'t> {
 
 /// Where the entry with this number begins.
 fn start_of(text: &[u8], entry: usize) -> Option<Start<'_>>
-    ensures found { IfSome result (λ s. entry_block text.now entry ≡ Some (fields_from s.number s.line.now s.behind.now)) }
+    ensures found { IfSome result (λ s.
+        entry_block text.now entry ≡ Some (fields_from s.number s.line.now s.behind.now)) }
     ensures range { IfSome result (λ s. s.number + 1 + length s.behind.now ≤ 18446744073709551615) }
     ensures none { IfNone result (entry_block text.now entry ≡ None) }
 {

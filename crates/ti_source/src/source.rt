@@ -60,7 +60,8 @@ impl Reader {
 
     /// A further line of the open entry.
     fn go_on(&mut self, alloc: Global, number: u32, line: &[u8]) -> Result<(), FaultKind>
-        ensures { Gives (λ _. progress_view self.new) result (continued number line.now (progress_view self.old) self.old.current) }
+        ensures { Gives (λ _. progress_view self.new) result
+            (continued number line.now (progress_view self.old) self.old.current) }
     {
         match &mut self.current {
             None => Err(FaultKind::NoName),

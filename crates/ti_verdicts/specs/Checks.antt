@@ -47,7 +47,8 @@ Delivers text None before after reply = HasText text reply × (after ≡ before)
 Delivers text (Some path) before after reply = IsSilent reply (λ failure. StoresText text path.now before after failure)
 
 -- a certificate is delivered
-pub record DeliversSome (Certifies : List ℕ → Type 0) (out : Option (Bor (List ℕ))) (before after : Held) (reply : Reply) : Type 0 where
+pub record DeliversSome (Certifies : List ℕ → Type 0) (out : Option (Bor (List ℕ))) (before after : Held)
+    (reply : Reply) : Type 0 where
   pub text : List ℕ
   pub certified : Certifies text
   pub delivers : Delivers text out before after reply
@@ -82,20 +83,23 @@ pub record LacksNotes (entry : Content) (lines : List ℕ) : Type 0 where
 abbrev pub TellsNotes : Content → List ℕ → Type 0
 TellsNotes entry lines = HasNotes entry lines ⊎ LacksNotes entry lines
 
--- The entry that the word gives, at the size that the words give: the reply has its notes, also where it is refused, and
--- its certificate is delivered, or the reply fails with a no.
-pub record IsChecked (certifies : Content → ℕ → ℕ → List ℕ → Type 0) (refuses : Content → ℕ → ℕ → No → Type 0) (before after : Held) (words : CheckWords) (reply : Reply) : Type 0 where
+-- The entry that the word gives, at the size that the words give: the reply has its notes, also where it is refused,
+-- and its certificate is delivered, or the reply fails with a no.
+pub record IsChecked (certifies : Content → ℕ → ℕ → List ℕ → Type 0) (refuses : Content → ℕ → ℕ → No → Type 0)
+    (before after : Held) (words : CheckWords) (reply : Reply) : Type 0 where
   pub height : ℕ
   pub width : ℕ
   pub given : SizeGiven words.rows.now words.cols.now height width
   pub entry : Content
   pub gives : GivesEntry before words.entry.now entry
   pub notes : TellsNotes entry reply.notes.items
-  pub ends : DeliversSome (certifies entry height width) words.out before after reply ⊎ Denies (refuses entry height width) before after reply
+  pub ends : DeliversSome (certifies entry height width) words.out before after reply
+      ⊎ Denies (refuses entry height width) before after reply
 
 -- Of the words for rows, columns and an entry those of the size come first; memory can run out at any time.
 abbrev pub FailsForEntry : Held → List ℕ → List ℕ → List ℕ → Failure → Type 0
-FailsForEntry held rows cols word failure = LacksSize rows cols failure ⊎ FailsAtEntry held rows cols word failure ⊎ (failure ≡ NoMemory)
+FailsForEntry held rows cols word failure =
+    LacksSize rows cols failure ⊎ FailsAtEntry held rows cols word failure ⊎ (failure ≡ NoMemory)
 
 abbrev pub FailsToCheck : Held → CheckWords → Failure → Type 0
 FailsToCheck held words failure = FailsForEntry held words.rows.now words.cols.now words.entry.now failure

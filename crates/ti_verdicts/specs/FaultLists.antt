@@ -29,16 +29,21 @@ abbrev pub indented : List ℕ → List ℕ
 indented [] = []
 indented (b ∷ rest) = codes "  " ++ (flat_map indented_byte (b ∷ rest) ++ 10 ∷ [])
 
--- its line; below it where its value stands in the source, and others in free words, each of which begins with two spaces
+-- its line; below it where its value stands in the source, and others in free words, each of which begins with two
+-- spaces
 abbrev pub HasFaultLines : Option SourceText → No → List ℕ → Type 0
-HasFaultLines source refusal lines = (line : List ℕ) × (further : List ℕ) × IsLocation source refusal.cap line × (lines ≡ no_text refusal ++ 10 ∷ (line ++ indented further))
+HasFaultLines source refusal lines =
+    (line : List ℕ) × (further : List ℕ) × IsLocation source refusal.cap line
+    × (lines ≡ no_text refusal ++ 10 ∷ (line ++ indented further))
 
 -- ---- how many
 
 unfoldable pub cause_names : List (List ℕ)
 cause_names =
-    codes "FlagOut" ∷ codes "Absent" ∷ codes "AcsByte" ∷ codes "Underflow" ∷ codes "BadNest" ∷ codes "BadCode" ∷ codes "Overflow" ∷ codes "BadChar" ∷ codes "WrongKind" ∷ codes "StaticRead"
-    ∷ codes "Unfinished" ∷ codes "Stuck" ∷ codes "NotTame" ∷ codes "BadLook" ∷ codes "WrongEffect" ∷ codes "NotShown" ∷ codes "TooLong" ∷ codes "NoResync" ∷ []
+    codes "FlagOut" ∷ codes "Absent" ∷ codes "AcsByte" ∷ codes "Underflow" ∷ codes "BadNest" ∷ codes "BadCode"
+    ∷ codes "Overflow" ∷ codes "BadChar" ∷ codes "WrongKind" ∷ codes "StaticRead" ∷ codes "Unfinished"
+    ∷ codes "Stuck" ∷ codes "NotTame" ∷ codes "BadLook" ∷ codes "WrongEffect" ∷ codes "NotShown" ∷ codes "TooLong"
+    ∷ codes "NoResync" ∷ []
 
 -- how many have a cause of this name
 abbrev pub count_of : List No → List ℕ → ℕ
@@ -46,7 +51,8 @@ count_of nos name = count_by (λ refusal. bytes_eq (cause_name refusal.cause) na
 
 -- `, NAME N`, where there is one
 abbrev pub count_part : List No → List ℕ → List ℕ
-count_part nos name = if count_of nos name == 0 then [] else codes ", " ++ (name ++ (codes " " ++ decimal (count_of nos name)))
+count_part nos name =
+    if count_of nos name == 0 then [] else codes ", " ++ (name ++ (codes " " ++ decimal (count_of nos name)))
 
 -- `total N`, and how many have which cause
 abbrev pub counts_line : List No → List ℕ

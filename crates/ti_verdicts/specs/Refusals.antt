@@ -39,7 +39,8 @@ kind_cap _ = []
 
 -- `line N: KIND`, and the capability that the kind has
 abbrev pub fault_text : CertFault → List ℕ
-fault_text fault = codes "line " ++ (decimal fault.line ++ (codes ": " ++ (kind_name fault.kind ++ kind_cap fault.kind)))
+fault_text fault =
+    codes "line " ++ (decimal fault.line ++ (codes ": " ++ (kind_name fault.kind ++ kind_cap fault.kind)))
 
 -- `Disagree CAP P..`
 abbrev pub disagreement_text : ℕ → List ℕ → List ℕ
@@ -60,7 +61,8 @@ IsOfKind path text _ failure = IsVerdict text failure
 -- the failure of this fault of a path's certificate
 abbrev pub TellsFault : List ℕ → VerifyFault → Failure → Type 0
 TellsFault path (Cert fault) failure = IsOfKind path (fault_text fault) fault.kind failure
-TellsFault path (Agree (agree_faults.Disagree cap numbers)) failure = IsVerdict (disagreement_text cap numbers.items) failure
+TellsFault path (Agree (agree_faults.Disagree cap numbers)) failure =
+    IsVerdict (disagreement_text cap numbers.items) failure
 TellsFault path (Agree agree_faults.NoMemory) failure = failure ≡ failures.NoMemory
 
 -- ---- an entry without a certificate
@@ -92,7 +94,8 @@ cause_name causes.NoMemory = codes "NoMemory"
 
 -- `no CAP P..: CAUSE`
 abbrev pub no_text : No → List ℕ
-no_text refusal = codes "no " ++ (name_at refusal.cap ++ (numbers_text refusal.params.items ++ (codes ": " ++ cause_name refusal.cause)))
+no_text refusal = codes "no "
+    ++ (name_at refusal.cap ++ (numbers_text refusal.params.items ++ (codes ": " ++ cause_name refusal.cause)))
 
 -- the failure that a cause is
 abbrev pub IsOfCause : List ℕ → Cause → Failure → Type 0

@@ -19,7 +19,8 @@ use Rattle.ti_requests.specs.declared.request.VerifyWords.{VerifyWords}
 
 -- The strings that are handed out are for this size, and just what the entry sends; and the bytes of the certificate,
 -- where they are known, are a certificate of these strings.
-pub record HandsOut (known : Option (List ℕ)) (entry : Content) (height width : ℕ) (checked : CheckedTable) : Type 0 where
+pub record HandsOut (known : Option (List ℕ)) (entry : Content) (height width : ℕ)
+    (checked : CheckedTable) : Type 0 where
   pub rows : checked.known.strings.rows ≡ height
   pub cols : checked.known.strings.cols ≡ width
   pub sends : EntryAgrees height width entry (table_of checked).line_of
@@ -50,7 +51,8 @@ pub record IsFaultOf (height width : ℕ) (entry : Content) (text : List ℕ) (f
 -- the certificate at a path can't be had, or has a fault, which is that of its bytes where they are known
 abbrev pub LacksCertificate : Option (List ℕ) → ℕ → ℕ → Content → List ℕ → Failure → Type 0
 LacksCertificate known height width entry path failure =
-    IsFileFailure path failure ⊎ ((fault : VerifyFault) × IfSome known (λ text. IsFaultOf height width entry text fault) × TellsFault path fault failure)
+    IsFileFailure path failure ⊎ ((fault : VerifyFault) × IfSome known (λ text. IsFaultOf height width entry text fault)
+    × TellsFault path fault failure)
 
 -- the words of the size come first, then the entry, then the certificate
 pub record FailsAtEntry (held : Held) (rows cols word : List ℕ) (failure : Failure) : Type 0 where
@@ -66,4 +68,6 @@ pub record FailsAtCertificate (held : Held) (words : VerifyWords) (failure : Fai
   pub lacks : LacksCertificate (held words.certificate.now) height width entry words.certificate.now failure
 
 abbrev pub FailsToVerify : Held → VerifyWords → Failure → Type 0
-FailsToVerify held words failure = LacksSize words.rows.now words.cols.now failure ⊎ FailsAtEntry held words.rows.now words.cols.now words.entry.now failure ⊎ FailsAtCertificate held words failure
+FailsToVerify held words failure =
+    LacksSize words.rows.now words.cols.now failure
+    ⊎ FailsAtEntry held words.rows.now words.cols.now words.entry.now failure ⊎ FailsAtCertificate held words failure
