@@ -23,18 +23,28 @@ switch_rule id letter = record (new_rule id) { short = Some letter; action = Som
 
 -- any number of words
 abbrev pub params_rule : Rule
-params_rule = record (new_rule (codes "PARAM")) { action = Some Append; range = Some (record { start_inclusive = 0; end_inclusive = usize_max }) }
+params_rule = record (new_rule (codes "PARAM")) {
+  action = Some Append;
+  range = Some (record { start_inclusive = 0; end_inclusive = usize_max });
+}
 
 -- one word or more
 abbrev pub several_rule : Text → Rule
-several_rule id = record (new_rule id) { required = true; action = Some Append; range = Some (record { start_inclusive = 1; end_inclusive = usize_max }) }
+several_rule id =
+    record (new_rule id) {
+      required = true;
+      action = Some Append;
+      range = Some (record { start_inclusive = 1; end_inclusive = usize_max });
+    }
 
 -- the words of a terminal's size
 abbrev pub with_size_rules : App → App
 with_size_rules a = with_rule (with_rule a (positional_rule (codes "ROWS"))) (positional_rule (codes "COLS"))
 
 abbrev pub expand_rules : App
-expand_rules = with_rule (with_size_rules (with_rule (with_rule (new_app (codes "expand")) (long_switch_rule (codes "cup"))) (positional_rule (codes "STRING")))) params_rule
+expand_rules =
+    with_rule (with_size_rules (with_rule (with_rule (new_app (codes "expand")) (long_switch_rule (codes "cup")))
+    (positional_rule (codes "STRING")))) params_rule
 
 abbrev pub feed_rules : App
 feed_rules = with_rule (with_size_rules (new_app (codes "feed"))) (positional_rule (codes "FILE"))
@@ -43,17 +53,26 @@ abbrev pub tic_rules : App
 tic_rules = with_rule (with_rule (new_app (codes "tic")) out_rule) (positional_rule (codes "ENTRY"))
 
 abbrev pub infocmp_rules : App
-infocmp_rules = with_rule (with_rule (with_rule (new_app (codes "infocmp")) (switch_rule (codes "c") 99)) (switch_rule (codes "n") 110)) (several_rule (codes "ENTRY"))
+infocmp_rules =
+    with_rule (with_rule (with_rule (new_app (codes "infocmp")) (switch_rule (codes "c") 99))
+    (switch_rule (codes "n") 110)) (several_rule (codes "ENTRY"))
 
 abbrev pub check_rules : App
-check_rules = with_size_rules (with_rule (with_rule (with_rule (new_app (codes "check")) (long_switch_rule (codes "all"))) out_rule) (positional_rule (codes "ENTRY")))
+check_rules =
+    with_size_rules
+    (with_rule (with_rule (with_rule (new_app (codes "check")) (long_switch_rule (codes "all"))) out_rule)
+    (positional_rule (codes "ENTRY")))
 
 abbrev pub verify_rules : App
-verify_rules = with_rule (with_size_rules (with_rule (new_app (codes "verify")) (positional_rule (codes "ENTRY")))) (positional_rule (codes "CERT"))
+verify_rules =
+    with_rule (with_size_rules (with_rule (new_app (codes "verify")) (positional_rule (codes "ENTRY"))))
+    (positional_rule (codes "CERT"))
 
 -- the words of a run of a script
 abbrev pub with_script_rules : App → App
-with_script_rules a = with_rule (with_rule (with_size_rules (with_rule a (positional_rule (codes "ENTRY")))) (positional_rule (codes "CERT"))) (positional_rule (codes "SCRIPT"))
+with_script_rules a =
+    with_rule (with_rule (with_size_rules (with_rule a (positional_rule (codes "ENTRY"))))
+    (positional_rule (codes "CERT"))) (positional_rule (codes "SCRIPT"))
 
 abbrev pub play_rules : App
 play_rules = with_script_rules (new_app (codes "play"))
@@ -62,15 +81,25 @@ abbrev pub show_rules : App
 show_rules = with_script_rules (new_app (codes "show"))
 
 abbrev pub survey_rules : App
-survey_rules = with_rule (with_size_rules (with_rule (new_app (codes "survey")) (long_switch_rule (codes "all")))) (several_rule (codes "FILE"))
+survey_rules =
+    with_rule (with_size_rules (with_rule (new_app (codes "survey")) (long_switch_rule (codes "all"))))
+    (several_rule (codes "FILE"))
 
 -- the program by itself: its own name is not among the words, and a command has to follow
 abbrev pub program : App
-program = on_top (λ s. record s { no_binary_name = true; has_version = true; propagate_version = true; subcommand_required = true; arg_required_else_help = true }) (new_app (codes "ticurses"))
+program =
+    on_top (λ s. record s {
+      no_binary_name = true;
+      has_version = true;
+      propagate_version = true;
+      subcommand_required = true;
+      arg_required_else_help = true;
+    }) (new_app (codes "ticurses"))
 
 -- the commands that judge entries
 abbrev pub with_verdicts : App → App
-with_verdicts a = with_subcommand (with_subcommand (with_subcommand a check_rules.top) verify_rules.top) survey_rules.top
+with_verdicts a =
+    with_subcommand (with_subcommand (with_subcommand a check_rules.top) verify_rules.top) survey_rules.top
 
 -- the commands that play scripts
 abbrev pub with_plays : App → App
@@ -78,4 +107,7 @@ with_plays a = with_subcommand (with_subcommand a play_rules.top) show_rules.top
 
 -- the program with its commands
 abbrev pub line : App
-line = with_plays (with_verdicts (with_subcommand (with_subcommand (with_subcommand (with_subcommand program expand_rules.top) feed_rules.top) tic_rules.top) infocmp_rules.top))
+line =
+    with_plays (with_verdicts
+    (with_subcommand (with_subcommand (with_subcommand (with_subcommand program expand_rules.top) feed_rules.top)
+    tic_rules.top) infocmp_rules.top))

@@ -29,35 +29,46 @@ is_on id rows = bytes_eq (word_of id rows) (codes "true")
 -- an `infocmp` with these switches and entries
 abbrev pub IsInfocmp : Text → List Row → Bool → Bool → List Text → Type 0
 IsInfocmp name rows common neither entries =
-    (name ≡ codes "infocmp") × (is_on (codes "c") rows ≡ common) × (is_on (codes "n") rows ≡ neither) × (words_of (codes "ENTRY") rows ≡ entries)
+    (name ≡ codes "infocmp") × (is_on (codes "c") rows ≡ common) × (is_on (codes "n") rows ≡ neither)
+    × (words_of (codes "ENTRY") rows ≡ entries)
 
 -- the words of a run of a script
 abbrev pub Plays : List Row → ScriptWords → Type 0
 Plays rows words =
-    (words.entry.now ≡ word_of (codes "ENTRY") rows) × (words.rows.now ≡ word_of (codes "ROWS") rows) × (words.cols.now ≡ word_of (codes "COLS") rows)
+    (words.entry.now ≡ word_of (codes "ENTRY") rows) × (words.rows.now ≡ word_of (codes "ROWS") rows)
+    × (words.cols.now ≡ word_of (codes "COLS") rows)
     × (words.certificate.now ≡ word_of (codes "CERT") rows) × (words.script.now ≡ word_of (codes "SCRIPT") rows)
 
 -- the request of a command of this name with these words for its arguments
 abbrev pub AsksFor : Text → List Row → Request → Type 0
 AsksFor name rows (Expand words) =
-    (name ≡ codes "expand") × (words.judges_cup ≡ is_on (codes "cup") rows) × (words.string.now ≡ word_of (codes "STRING") rows)
-    × (words.rows.now ≡ word_of (codes "ROWS") rows) × (words.cols.now ≡ word_of (codes "COLS") rows) × (map (λ p. p.now) words.params.items ≡ words_of (codes "PARAM") rows)
+    (name ≡ codes "expand") × (words.judges_cup ≡ is_on (codes "cup") rows)
+    × (words.string.now ≡ word_of (codes "STRING") rows)
+    × (words.rows.now ≡ word_of (codes "ROWS") rows) × (words.cols.now ≡ word_of (codes "COLS") rows)
+    × (map (λ p. p.now) words.params.items ≡ words_of (codes "PARAM") rows)
 AsksFor name rows (Feed height width file) =
-    (name ≡ codes "feed") × (height.now ≡ word_of (codes "ROWS") rows) × (width.now ≡ word_of (codes "COLS") rows) × (file.now ≡ word_of (codes "FILE") rows)
-AsksFor name rows (Tic entry out) = (name ≡ codes "tic") × (entry.now ≡ word_of (codes "ENTRY") rows) × (option_map (λ o. o.now) out ≡ first_of (codes "out") rows)
+    (name ≡ codes "feed") × (height.now ≡ word_of (codes "ROWS") rows) × (width.now ≡ word_of (codes "COLS") rows)
+    × (file.now ≡ word_of (codes "FILE") rows)
+AsksFor name rows (Tic entry out) =
+    (name ≡ codes "tic") × (entry.now ≡ word_of (codes "ENTRY") rows)
+    × (option_map (λ o. o.now) out ≡ first_of (codes "out") rows)
 AsksFor name rows (Check words) =
-    (name ≡ codes "check") × (is_on (codes "all") rows ≡ false) × (words.entry.now ≡ word_of (codes "ENTRY") rows) × (words.rows.now ≡ word_of (codes "ROWS") rows)
+    (name ≡ codes "check") × (is_on (codes "all") rows ≡ false) × (words.entry.now ≡ word_of (codes "ENTRY") rows)
+    × (words.rows.now ≡ word_of (codes "ROWS") rows)
     × (words.cols.now ≡ word_of (codes "COLS") rows) × (option_map (λ o. o.now) words.out ≡ first_of (codes "out") rows)
 AsksFor name rows (CheckAll words) =
-    (name ≡ codes "check") × (is_on (codes "all") rows ≡ true) × (first_of (codes "out") rows ≡ None) × (words.entry.now ≡ word_of (codes "ENTRY") rows)
+    (name ≡ codes "check") × (is_on (codes "all") rows ≡ true) × (first_of (codes "out") rows ≡ None)
+    × (words.entry.now ≡ word_of (codes "ENTRY") rows)
     × (words.rows.now ≡ word_of (codes "ROWS") rows) × (words.cols.now ≡ word_of (codes "COLS") rows)
 AsksFor name rows (Verify words) =
-    (name ≡ codes "verify") × (words.entry.now ≡ word_of (codes "ENTRY") rows) × (words.rows.now ≡ word_of (codes "ROWS") rows) × (words.cols.now ≡ word_of (codes "COLS") rows)
+    (name ≡ codes "verify") × (words.entry.now ≡ word_of (codes "ENTRY") rows)
+    × (words.rows.now ≡ word_of (codes "ROWS") rows) × (words.cols.now ≡ word_of (codes "COLS") rows)
     × (words.certificate.now ≡ word_of (codes "CERT") rows)
 AsksFor name rows (Play words) = (name ≡ codes "play") × Plays rows words
 AsksFor name rows (Show words) = (name ≡ codes "show") × Plays rows words
 AsksFor name rows (Survey words) =
-    (name ≡ codes "survey") × (words.lists_all ≡ is_on (codes "all") rows) × (words.rows.now ≡ word_of (codes "ROWS") rows) × (words.cols.now ≡ word_of (codes "COLS") rows)
+    (name ≡ codes "survey") × (words.lists_all ≡ is_on (codes "all") rows)
+    × (words.rows.now ≡ word_of (codes "ROWS") rows) × (words.cols.now ≡ word_of (codes "COLS") rows)
     × (map (λ f. f.now) words.paths.items ≡ words_of (codes "FILE") rows)
 AsksFor name rows (Print entry) = IsInfocmp name rows false false (entry.now ∷ [])
 AsksFor name rows (Common first second) = IsInfocmp name rows true false (first.now ∷ second.now ∷ [])
@@ -71,7 +82,8 @@ Asks (Some chosen) request = AsksFor chosen.0 chosen.1 request
 -- the words ask for this
 abbrev pub IsAnswer : List Text → ParsedLine → Type 0
 IsAnswer words (answers.Request request) = Asks (subcommand_of line words) request
-IsAnswer words (answers.Text text) = IsAmong kind.DisplayHelp (fault_of line words) ⊎ IsAmong kind.DisplayVersion (fault_of line words)
+IsAnswer words (answers.Text text) =
+    IsAmong kind.DisplayHelp (fault_of line words) ⊎ IsAmong kind.DisplayVersion (fault_of line words)
 
 -- the answer that the parser's error is
 abbrev pub IsTold : ErrorKind → ParsedLine → Type 0

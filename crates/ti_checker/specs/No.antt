@@ -81,9 +81,9 @@ pub record HasWrong (rows cols : ℕ) (string : List ℕ) (row : Row) (bytes : L
   pub breaks : Breaks rows cols string row bytes p
 
 -- The fault is one of the string's run; what is sent ends within a sequence, or has a byte that fits nothing; it has no
--- one effect from all starts of the row; one attribute shows a mark that isn't its own; from a start of the row it runs to
--- an end that isn't wanted; or its effect isn't the one that is asked for. Each of these excludes those before it. With
--- `NotTame` and `NotShown` the string may still be right.
+-- one effect from all starts of the row; one attribute shows a mark that isn't its own; from a start of the row it runs
+-- to an end that isn't wanted; or its effect isn't the one that is asked for. Each of these excludes those before it.
+-- With `NotTame` and `NotShown` the string may still be right.
 abbrev pub IsFaulty : ℕ → ℕ → List ℕ → Row → Cause → Type 0
 IsFaulty rows cols string row (Parm fault) = meaning string (values row) zeros ≡ Err fault
 IsFaulty rows cols string row StaticRead = ReadsStatic string row
@@ -153,8 +153,8 @@ cause_of_unfit (unfit.FlagOut cap) = FlagOut
 cause_of_unfit (unfit.Absent row) = Absent
 cause_of_unfit unfit.AcsByte = AcsByte
 
--- The entry is at fault, whatever its strings send, and this is the first reason: of `xmc`, `hc`, `gn` and `os` the first
--- that it has, then of `clear`, `cup` and `sgr0` the first that it hasn't, then `acsc`.
+-- The entry is at fault, whatever its strings send, and this is the first reason: of `xmc`, `hc`, `gn` and `os` the
+-- first that it has, then of `clear`, `cup` and `sgr0` the first that it hasn't, then `acsc`.
 pub record IsOfEntry (entry : Content) (refusal : No) : Type 0 where
   pub why : Unfit
   pub first : IsUnfit entry why
@@ -171,8 +171,8 @@ abbrev pub IsRowFault : Content → ℕ → ℕ → Row → Cause → Type 0
 IsRowFault entry rows cols row TooLong = PassesLimit entry rows cols row
 IsRowFault entry rows cols row cause = HasFaultyString entry rows cols row cause
 
--- A checked row is at fault, and it is the first along the lines of a certificate: all that come before it stand, and their
--- lines are not too long.
+-- A checked row is at fault, and it is the first along the lines of a certificate: all that come before it stand, and
+-- their lines are not too long.
 pub record IsOfRow (entry : Content) (rows cols : ℕ) (refusal : No) : Type 0 where
   pub row : Row
   pub cap_is : refusal.cap ≡ cap_of row
@@ -180,7 +180,8 @@ pub record IsOfRow (entry : Content) (rows cols : ℕ) (refusal : No) : Type 0 w
   pub range : IsInRange rows cols row
   pub checked : is_checked entry row ≡ true
   pub fault : IsRowFault entry rows cols row refusal.cause
-  pub earlier : (other : Row) → IsInRange rows cols other → Precedes rows cols other row → RowStands entry rows cols other
+  pub earlier : (other : Row) → IsInRange rows cols other → Precedes rows cols other row
+      → RowStands entry rows cols other
   pub within : StaysWithin entry rows cols row
 
 -- what is wrong with all strings together, or that nothing is, is so of what the entry sends
@@ -190,15 +191,20 @@ HasClash entry rows cols clash = OfSent entry rows cols (λ t. IsClash (is_some 
 abbrev pub GoTogether : Content → ℕ → ℕ → Type 0
 GoTogether entry rows cols = OfAllSent entry rows cols (λ t. GoesTogether (is_some (string_at entry acsc)) t)
 
--- The strings are at fault together, by the first clash: `smacs` or `rmacs` leaves the other set active, and does so from a
--- start with that charset; the graphic set can stay active where letters of line graphics can't be sent, which is told of
--- `acsc`; what leads out of an unknown state doesn't begin with ESC, which is told of `clear`. Where none of them is so,
--- `NotShown` of `clear` claims nothing.
+-- The strings are at fault together, by the first clash: `smacs` or `rmacs` leaves the other set active, and does so
+-- from a start with that charset; the graphic set can stay active where letters of line graphics can't be sent, which
+-- is a fault of `acsc`; what leads out of an unknown state doesn't begin with ESC, which is one of `clear`. Where none
+-- of them is so, `NotShown` of `clear` claims nothing.
 pub data IsOfAll (entry : Content) (rows cols : ℕ) (refusal : No) : Type 0 where
-  AtSmacs : (p : Probe) → IsAbout refusal (cap_of Smacs) (WrongEffect p) → HasClash entry rows cols (clashes.Smacs p.charset) → OfSent entry rows cols (λ t. RunsWrong rows cols Smacs p t) → IsOfAll entry rows cols refusal
-  AtRmacs : (p : Probe) → IsAbout refusal (cap_of Rmacs) (WrongEffect p) → HasClash entry rows cols (clashes.Rmacs p.charset) → OfSent entry rows cols (λ t. RunsWrong rows cols Rmacs p t) → IsOfAll entry rows cols refusal
+  AtSmacs : (p : Probe) → IsAbout refusal (cap_of Smacs) (WrongEffect p)
+      → HasClash entry rows cols (clashes.Smacs p.charset) → OfSent entry rows cols (λ t. RunsWrong rows cols Smacs p t)
+      → IsOfAll entry rows cols refusal
+  AtRmacs : (p : Probe) → IsAbout refusal (cap_of Rmacs) (WrongEffect p)
+      → HasClash entry rows cols (clashes.Rmacs p.charset) → OfSent entry rows cols (λ t. RunsWrong rows cols Rmacs p t)
+      → IsOfAll entry rows cols refusal
   AtAcsc : IsAbout refusal acsc BadLook → HasClash entry rows cols clashes.Acsc → IsOfAll entry rows cols refusal
-  AtClear : IsAbout refusal (cap_of Clear) NoResync → HasClash entry rows cols clashes.Clear → IsOfAll entry rows cols refusal
+  AtClear : IsAbout refusal (cap_of Clear) NoResync → HasClash entry rows cols clashes.Clear
+      → IsOfAll entry rows cols refusal
   Unnamed : IsAbout refusal (cap_of Clear) NotShown → GoTogether entry rows cols → IsOfAll entry rows cols refusal
 
 -- The entry as a whole is at fault; or it is fit, and a row is; or each row stands with all lines short enough, and the
@@ -228,9 +234,14 @@ abbrev pub IsOutOfMemory : VerifyFault → Type 0
 IsOutOfMemory (Cert fault) = fault.kind ≡ kinds_of_cert.NoMemory
 IsOutOfMemory (Agree fault) = fault ≡ agreeing.NoMemory
 
--- (Serves the code alone.) The no that names a clash: for `smacs` and `rmacs` with a start in which nothing but the charset matters
+-- (Serves the code alone.) The no that names a clash: for `smacs` and `rmacs` with a start in which nothing but the
+-- charset matters
 abbrev pub IsToldAs : ℕ → ℕ → No → Clash → Type 0
-IsToldAs rows cols refusal (clashes.Smacs c) = (p : Probe) × IsAbout refusal (cap_of Smacs) (WrongEffect p) × (p.charset ≡ c) × IsFree rows cols (screen_of rows cols p)
-IsToldAs rows cols refusal (clashes.Rmacs c) = (p : Probe) × IsAbout refusal (cap_of Rmacs) (WrongEffect p) × (p.charset ≡ c) × IsFree rows cols (screen_of rows cols p)
+IsToldAs rows cols refusal (clashes.Smacs c) =
+    (p : Probe) × IsAbout refusal (cap_of Smacs) (WrongEffect p) × (p.charset ≡ c)
+    × IsFree rows cols (screen_of rows cols p)
+IsToldAs rows cols refusal (clashes.Rmacs c) =
+    (p : Probe) × IsAbout refusal (cap_of Rmacs) (WrongEffect p) × (p.charset ≡ c)
+    × IsFree rows cols (screen_of rows cols p)
 IsToldAs rows cols refusal clashes.Acsc = IsAbout refusal acsc BadLook
 IsToldAs rows cols refusal clashes.Clear = IsAbout refusal (cap_of Clear) NoResync

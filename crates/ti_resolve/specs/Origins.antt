@@ -46,4 +46,6 @@ pub record IsOrigin (raws : List RawEntry) (name : List ℕ) (cap : ℕ) (origin
 
 -- the field there sets the capability to the value that the entry has, and there is one if it has a value
 abbrev pub GivesValue : List RawEntry → List ℕ → ℕ → Option Origin → Type 0
-GivesValue raws name cap origin = (entry : Content) → IsResolved raws name entry → option_map (field_there raws) origin ≡ option_map (λ value. Some (Set cap value)) (value_at entry cap)
+GivesValue raws name cap origin =
+    (entry : Content) → IsResolved raws name entry
+    → option_map (field_there raws) origin ≡ option_map (λ value. Some (Set cap value)) (value_at entry cap)

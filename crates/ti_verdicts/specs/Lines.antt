@@ -42,16 +42,22 @@ pub record HasNo (Refuses : No → Type 0) (words : List ℕ) : Type 0 where
   pub says : words ≡ codes " " ++ no_text refusal
 
 -- what a certifier says of an entry for rows and columns
-abbrev pub Answers : (Content → ℕ → ℕ → List ℕ → Type 0) → (Content → ℕ → ℕ → No → Type 0) → ℕ → ℕ → Content → List ℕ → Type 0
-Answers certifies refuses height width entry words = HasYes (certifies entry height width) words ⊎ HasNo (refuses entry height width) words
+abbrev pub Answers : (Content → ℕ → ℕ → List ℕ → Type 0) → (Content → ℕ → ℕ → No → Type 0) → ℕ → ℕ → Content → List ℕ
+    → Type 0
+Answers certifies refuses height width entry words =
+    HasYes (certifies entry height width) words ⊎ HasNo (refuses entry height width) words
 
 -- what it says of an entry, as it is asked
-abbrev pub AnswersTo : {C : Type 0} → (C → Content → ℕ → ℕ → List ℕ → Type 0) → (C → Content → ℕ → ℕ → No → Type 0) → Asked C → Content → List ℕ → Type 0
-AnswersTo certifies refuses asked = Answers (certifies asked.certifier.now) (refuses asked.certifier.now) asked.size.rows asked.size.cols
+abbrev pub AnswersTo : {C : Type 0} → (C → Content → ℕ → ℕ → List ℕ → Type 0) → (C → Content → ℕ → ℕ → No → Type 0)
+    → Asked C → Content → List ℕ → Type 0
+AnswersTo certifies refuses asked =
+    Answers (certifies asked.certifier.now) (refuses asked.certifier.now) asked.size.rows asked.size.cols
 
 -- the line of an entry's name with that
-abbrev pub HasAnswer : (Content → ℕ → ℕ → List ℕ → Type 0) → (Content → ℕ → ℕ → No → Type 0) → ℕ → ℕ → List ℕ → Content → List ℕ → Type 0
-HasAnswer certifies refuses height width name entry line = (words : List ℕ) × Answers certifies refuses height width entry words × (line ≡ line_of name words)
+abbrev pub HasAnswer : (Content → ℕ → ℕ → List ℕ → Type 0) → (Content → ℕ → ℕ → No → Type 0) → ℕ → ℕ → List ℕ → Content
+    → List ℕ → Type 0
+HasAnswer certifies refuses height width name entry line =
+    (words : List ℕ) × Answers certifies refuses height width entry words × (line ≡ line_of name words)
 
 -- the line of an entry's name with one of its faults
 abbrev pub fault_line : List ℕ → No → List ℕ
@@ -64,16 +70,20 @@ fault_lines name (first ∷ others) = flat_map (fault_line name) (first ∷ othe
 
 -- the lines of all faults of an entry, under its name
 abbrev pub HasAllFaults : ℕ → ℕ → List ℕ → Content → List ℕ → Type 0
-HasAllFaults height width name entry lines = (nos : List No) × AreAllFaults entry height width nos × (lines ≡ fault_lines name nos)
+HasAllFaults height width name entry lines =
+    (nos : List No) × AreAllFaults entry height width nos × (lines ≡ fault_lines name nos)
 
 -- what is said of an entry under its name: all its faults, or what a certifier says
-abbrev pub SaysBy : Bool → (Content → ℕ → ℕ → List ℕ → Type 0) → (Content → ℕ → ℕ → No → Type 0) → ℕ → ℕ → List ℕ → Content → List ℕ → Type 0
+abbrev pub SaysBy : Bool → (Content → ℕ → ℕ → List ℕ → Type 0) → (Content → ℕ → ℕ → No → Type 0) → ℕ → ℕ → List ℕ
+    → Content → List ℕ → Type 0
 SaysBy true certifies refuses height width = HasAllFaults height width
 SaysBy false certifies refuses height width = HasAnswer certifies refuses height width
 
 -- what is said of it, as it is asked
-abbrev pub SaysTo : {C : Type 0} → (C → Content → ℕ → ℕ → List ℕ → Type 0) → (C → Content → ℕ → ℕ → No → Type 0) → Asked C → List ℕ → Content → List ℕ → Type 0
-SaysTo certifies refuses asked = SaysBy asked.lists_all (certifies asked.certifier.now) (refuses asked.certifier.now) asked.size.rows asked.size.cols
+abbrev pub SaysTo : {C : Type 0} → (C → Content → ℕ → ℕ → List ℕ → Type 0) → (C → Content → ℕ → ℕ → No → Type 0)
+    → Asked C → List ℕ → Content → List ℕ → Type 0
+SaysTo certifies refuses asked =
+    SaysBy asked.lists_all (certifies asked.certifier.now) (refuses asked.certifier.now) asked.size.rows asked.size.cols
 
 -- what can't be had is refused, in free words
 abbrev pub IsRefusalText : List ℕ → Type 0
@@ -91,7 +101,8 @@ IsTold Says (Err refusal) name lines = IsRefusedLine name lines
 -- ---- the lines of an entry
 
 -- of the entry at a place of a source text, whatever other entries have its names
-pub record IsSourcePart (Says : List ℕ → Content → List ℕ → Type 0) (raws : List RawEntry) (place : ℕ) (lines : List ℕ) : Type 0 where
+pub record IsSourcePart (Says : List ℕ → Content → List ℕ → Type 0) (raws : List RawEntry) (place : ℕ)
+    (lines : List ℕ) : Type 0 where
   pub raw : RawEntry
   pub there : slice_get raws place ≡ Some raw
   pub entry : Result Content CommandRefusal

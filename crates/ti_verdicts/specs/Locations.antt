@@ -23,7 +23,8 @@ line_of_field text origin = number_of (slice_get (field_lines_of text origin.ent
 unfoldable pub place_text : SourceText → ℕ → Origin → List ℕ
 place_text source cap origin =
     source.path.now
-    ++ (codes ":" ++ (decimal (line_of_field source.text.items origin) ++ (codes ": " ++ (name_at cap ++ (codes " of " ++ (first_name (names_at source.raws.items origin.entry) ++ 10 ∷ []))))))
+    ++ (codes ":" ++ (decimal (line_of_field source.text.items origin) ++ (codes ": "
+    ++ (name_at cap ++ (codes " of " ++ (first_name (names_at source.raws.items origin.entry) ++ 10 ∷ []))))))
 
 -- a capability without a value has no such line
 abbrev pub origin_text : SourceText → ℕ → Option Origin → List ℕ

@@ -43,12 +43,14 @@ first_failure (Some failure) later = Some failure
 first_failure None later = later
 
 -- the lines of each path, and after them the line of counts; it fails where a path can't be had
-pub record IsSurveyed (certifies : Content → ℕ → ℕ → List ℕ → Type 0) (refuses : Content → ℕ → ℕ → No → Type 0) (held : Held) (words : SurveyWords) (reply : Reply) : Type 0 where
+pub record IsSurveyed (certifies : Content → ℕ → ℕ → List ℕ → Type 0) (refuses : Content → ℕ → ℕ → No → Type 0)
+    (held : Held) (words : SurveyWords) (reply : Reply) : Type 0 where
   pub height : ℕ
   pub width : ℕ
   pub given : SizeGiven words.rows.now words.cols.now height width
   pub lines : List ℕ
-  pub ends : EndsPaths (SaysBy words.lists_all certifies refuses height width) held (texts_of words.paths.items) lines reply.failure
+  pub ends : EndsPaths (SaysBy words.lists_all certifies refuses height width) held
+      (texts_of words.paths.items) lines reply.failure
   pub counts : List ℕ
   pub says : reply.text.items ≡ lines ++ counts
   pub no_notes : reply.notes.items ≡ []
