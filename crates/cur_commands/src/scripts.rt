@@ -73,7 +73,8 @@ fn explain_line(alloc: Global, path: &str, text: &[u8], fault: ScriptFault, rema
     let line = line_of(text, number);
     let shown = &line[..line.len().min(SHOWN)];
     let words = format!(in alloc;
-        " in line {number} of {path}: a line is the name of a call and its arguments, with one space between each two, as in `move 0 2 3`"
+        " in line {number} of {path}: a line is the name of a call and its arguments, \
+         with one space between each two, as in `move 0 2 3`"
     );
     if let Ok(words) = words {
         remarks.add(shown, words.as_bytes());
