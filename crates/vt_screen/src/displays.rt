@@ -79,37 +79,11 @@ impl Model for Display {
 
     ghost Value = { Screen };
 
-    ghost view = { λ d. record {
-      rows = d.size.rows;
-      cols = d.size.cols;
-      grid = d.grid;
-      row = d.row;
-      col = d.col;
-      pending = d.pending;
-      rendition = d.pen;
-      charset = d.charset;
-      top = d.top;
-      bottom = d.bottom;
-      autowrap = d.autowrap;
-      inserting = d.inserting;
-      visible = d.visible;
-    } };
+    ghost use Rattle.vt_screen.specs.Displays.{screen_of};
 
-    ghost invariant = { λ d. IsScreen (record {
-      rows = d.size.rows;
-      cols = d.size.cols;
-      grid = d.grid;
-      row = d.row;
-      col = d.col;
-      pending = d.pending;
-      rendition = d.pen;
-      charset = d.charset;
-      top = d.top;
-      bottom = d.bottom;
-      autowrap = d.autowrap;
-      inserting = d.inserting;
-      visible = d.visible;
-    }) };
+    ghost view = { screen_of };
+
+    ghost invariant = { λ d. IsScreen (screen_of d) };
 }
 
 impl Display {
