@@ -95,7 +95,7 @@ has_passed rows cols budget number said s line Later (Passes small u is p) = rec
 has_passed rows cols budget number said s line Later (Fails small kind e is) = absurd (never_fails s _ (Ok s) refl e)
 has_passed rows cols budget number said s line Later (TooLong long e) = absurd (never_fails s _ (Ok s) refl e)
 
-ended_length : (line : List ℕ) (texts : List (List ℕ)) → length (ended (line ∷ texts)) ≡ length line + (length (ended texts) + 1)
+pub ended_length : (line : List ℕ) (texts : List (List ℕ)) → length (ended (line ∷ texts)) ≡ length line + (length (ended texts) + 1)
 ended_length line texts = let l = length-append line (10 ∷ ended texts) in omega (arith, l)
 
 -- two digits for each byte
