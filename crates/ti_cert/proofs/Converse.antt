@@ -1,6 +1,7 @@
 -- The text of a certificate is accepted if its lines go together.
 use Rattle.std.proofs.Common.{◌≡◌, ◌≤◌, ◌+◌, ◌-◌, ℕ, List, [], ◌∷◌, ◌++◌, length, reverse, is_some, Option, Some, None, Result, Ok, Err, refl, sym, ap, subst, ◌∙◌, arith, append-nil, length-append}
 use Rattle.std.specs.List.{AllByRecursion}
+use Rattle.std.proofs.lemmas.List.{reverse-reverse}
 use Rattle.ti_lines.specs.declared.row_lines.RowLine.{RowLine}
 use Rattle.ti_lines.specs.Heads.{size_text, acsc_text, end_text, IsSizeText, IsAcscText}
 use Rattle.ti_lines.specs.RowLines.{line_text, IsLine}
@@ -9,10 +10,10 @@ use Rattle.ti_lines.specs.Judgements.{JudgedFrom, Judged}
 use Rattle.ti_lines.proofs.Texts.{judge_step, judge_end}
 use Rattle.ti_cert.specs.Clashes.{GoesTogether, OfLines}
 use Rattle.ti_cert.specs.Certificates.{Said, Nothing, Sized, Listing, Ended, Stands, Closes, JudgesLater, IsLast, IsRow, HasPairs, HasNoPairs, HasSize, JudgesLine, rules_of, limit, IsAnswer}
-use Rattle.ti_cert.specs.Texts.{StandsNext, StandInOrder, IsCertificate, IsAcceptedCertificate}
+use Rattle.ti_cert.specs.Texts.{StandInOrder, IsCertificate, IsAcceptedCertificate, AcceptsCertificates}
 use Rattle.ti_cert.specs.declared.faults.CertFaultKind.{CertFaultKind}
 use Rattle.ti_cert.proofs.LineTexts.{no_end, row_lacks, acsc_lacks, size_lacks, not_end, no_pairs, end_no_pairs}
-use Rattle.ti_cert.proofs.Texts.{ended_length, turned}
+use Rattle.ti_cert.proofs.Texts.{ended_length, turned, that_of_certificate, accepted_together}
 
 -- all lines go together, where the pairs are these
 abbrev AreTogether : ℕ → ℕ → Option (List ℕ) → List RowLine → Type 0
@@ -71,3 +72,12 @@ accepted_certificate rows cols text pairs lines c together = subst (λ (t : List
 
     few : length (ended (size_text rows cols ∷ (acsc_lines pairs ++ row_lines lines))) ≤ limit
     few = subst (λ (t : List ℕ). length t ≤ limit) (sym c.spelled.spelled) c.few
+
+pub accepts_certificates : AcceptsCertificates
+accepts_certificates rows cols text pairs lines = (
+  (λ p. record {
+    certificate = subst (λ (l : List RowLine). IsCertificate rows cols text pairs l) (reverse-reverse lines) (that_of_certificate rows cols text pairs (reverse lines) p);
+    together = accepted_together rows cols text pairs (reverse lines) p;
+  }),
+  λ a. accepted_certificate rows cols text pairs lines a.certificate a.together,
+)
