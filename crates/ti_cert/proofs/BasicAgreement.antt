@@ -1,5 +1,5 @@
 -- The table of a basic text is just what the basic entry sends.
-use Rattle.std.proofs.Common.{◌≡◌, ◌&&◌, ℕ, Bool, true, false, List, [], Option, Some, None, Result, Ok, inl, inr, refl, sym, ap, subst, ◌∙◌}
+use Rattle.std.proofs.Common.{◌≡◌, ◌&&◌, ℕ, Bool, true, false, List, [], map, reverse, Option, Some, None, Result, Ok, inl, inr, refl, sym, ap, subst, ◌∙◌}
 use Rattle.std.specs.Prelude.{is_some}
 use Rattle.std.proofs.lemmas.Bool.{and_parts, false≢true}
 use Rattle.vt_term.specs.Size.{IsSize}
@@ -29,7 +29,7 @@ use Rattle.ti_cert.proofs.Relations.{not_rose}
 use Rattle.ti_cert.proofs.Singleness.{one_answer}
 use Rattle.ti_cert.proofs.BasicOrder.{Kind, IsClear, IsCup, IsEl, IsHome, IsSgr0, kind_of, each_there}
 use Rattle.ti_cert.proofs.BasicTogether.{AreBasic}
-use Rattle.ti_cert.proofs.BasicTexts.{onto, accepted, are_basic}
+use Rattle.ti_cert.proofs.BasicTexts.{basic_accepted, are_basic}
 
 -- ---- which rows of a basic entry are checked
 
@@ -75,12 +75,12 @@ pub table_for : BasicAgrees
 table_for entry table t = record { fit = t.basic.fit; pairs = pairs.0 ∙ sym t.basic.no_pairs; agrees = λ row range. record { checked = checked row range; unchecked = unchecked row } }
   where
     lines : List RowLine
-    lines = onto (rows_of entry table.known.strings.rows table.known.strings.cols) []
+    lines = reverse (map basic_line (rows_of entry table.known.strings.rows table.known.strings.cols))
 
     pairs : (table.acsc ≡ None) × (t.made.lines ≡ lines)
     pairs = same_end table.acsc None t.made.lines lines (Ok (Ended table.acsc t.made.lines)) (Ok (Ended None lines)) refl refl
         (one_answer table.known.strings.rows table.known.strings.cols (basic_text_of entry table.known.strings.rows table.known.strings.cols) (Ok (Ended table.acsc t.made.lines)) (Ok (Ended None lines)) t.made.says
-        (accepted table.known.strings.rows table.known.strings.cols (has_string entry Home) (has_string entry El) t.size))
+        (basic_accepted table.known.strings.rows table.known.strings.cols (has_string entry Home) (has_string entry El) t.size))
 
     are : AreBasic table.known.strings.rows table.known.strings.cols (has_string entry Home) (has_string entry El) lines
     are = are_basic table.known.strings.rows table.known.strings.cols (has_string entry Home) (has_string entry El)

@@ -21,9 +21,7 @@ use Rattle.ti_cert.specs.Texts.{StandInOrder, IsCertificate}
 use Rattle.ti_cert.specs.Basic.{basic_bytes, basic_effect, basic_line, basic_rows, basic_text, BasicAlone}
 use Rattle.ti_cert.proofs.Singleness.{never_itself, never_back}
 use Rattle.ti_cert.proofs.Texts.{that_of_certificate}
-use Rattle.ti_cert.proofs.Preservation.{among_front, among_behind}
-use Rattle.std.proofs.lemmas.Grind.{reverse_onto}
-use Rattle.ti_cert.proofs.BasicOrder.{Rises, kind_of, in_range, rows_rise}
+use Rattle.ti_cert.proofs.BasicOrder.{Rises, reversed_has, reversed_only, kind_of, in_range, rows_rise}
 use Rattle.ti_cert.proofs.BasicLines.{HasTokens, tokens_of, has_tokens}
 use Rattle.ti_cert.proofs.BasicAgreement.{checked_kind, among_checked, some_string}
 
@@ -100,14 +98,6 @@ same_ok a b r p q = cc
 
 same_sent : (string : List ℕ) (row : Row) (a b : List ℕ) → Sends string row a → Sends string row b → a ≡ b
 same_sent string row a b p q = same_ok a b _ p.sends q.sends
-
-reversed_has : (xs : List RowLine) (x : RowLine) → IsAmong xs x → IsAmong (reverse xs) x
-reversed_has [] x a = absurd a
-reversed_has (y ∷ xs) x (inl e) = subst (λ (l : List RowLine). IsAmong l x) (sym (reverse_onto xs y [])) (among_behind (reverse xs) (y ∷ []) x (inl e))
-reversed_has (y ∷ xs) x (inr a) = subst (λ (l : List RowLine). IsAmong l x) (sym (reverse_onto xs y [])) (among_front (reverse xs) (y ∷ []) x (reversed_has xs x a))
-
-reversed_only : (xs : List RowLine) (x : RowLine) → IsAmong (reverse xs) x → IsAmong xs x
-reversed_only xs x a = subst (λ (l : List RowLine). IsAmong l x) (reverse-reverse xs) (reversed_has (reverse xs) x a)
 
 pub alone : BasicAlone
 unfolding basic_text

@@ -141,37 +141,15 @@ is_asked_for rows cols home el before row (IsSgr0 e) = subst (λ (r : Row). IsAs
 
 -- ---- texts
 
--- a line has no LF inside, isn't the last one, and is short
+-- a line can be written, and is short
 pub record HasText (row : Row) : Type 0 where
   pub line_is : IsLine (basic_line row)
-  pub no_feed : lacks 10 (line_text (basic_line row)) ≡ true
-  pub not_end : is_end (line_text (basic_line row)) ≡ false
   pub short : length (line_text (basic_line row)) < 100
 
 is_bytes : (xs : List ℕ) → AllByRecursion (λ b. b < 256) xs → IsBytes xs
 is_bytes [] h i = omega arith
 is_bytes (x ∷ xs) h zero = h.0
 is_bytes (x ∷ xs) h (suc i) = is_bytes xs h.1 i
-
-lacks_both : (c : ℕ) (xs ys : List ℕ) → lacks c xs ≡ true → lacks c ys ≡ true → lacks c (xs ++ ys) ≡ true
-lacks_both c xs ys h k = list_all-append (λ b. not (b == c)) xs ys ∙ both (lacks c xs) (lacks c ys) h k
-
--- a digit is no LF
-unfoldable is_no_feed : ℕ → Bool
-is_no_feed v = not (slice_index lower_digits v == 10)
-
-each_is_none : agree_below is_no_feed (λ _. true) 16 ≡ true
-unfolding is_no_feed
-each_is_none = refl
-
-digit_is_none : (v : ℕ) → v < 16 → not (slice_index lower_digits v == 10) ≡ true
-unfolding is_no_feed
-digit_is_none v lt = agree_below_at is_no_feed (λ _. true) 16 v each_is_none lt
-
-encoded_lacks : (bytes : List ℕ) → AllByRecursion (λ b. b < 256) bytes → lacks 10 (encode_lower bytes) ≡ true
-unfolding encode_with
-encoded_lacks [] h = refl
-encoded_lacks (b ∷ bytes) h = let small : b < 256 = h.0 in both _ _ (digit_is_none (b / 16) (omega (arith, small))) (both _ _ (digit_is_none (b % 16) (omega arith)) (encoded_lacks bytes h.1))
 
 -- the bytes of a move
 small_number : (n : ℕ) → n < 500 → AllByRecursion (λ b. b < 256) (decimal (n + 1))
@@ -208,28 +186,23 @@ sgr0_line : line_text (basic_line Sgr0) ≡ codes "sgr0 1b5b6d look:000000 ink:d
 unfolding name_in_order spelled encode_with
 sgr0_line = refl
 
-of_line : (row : Row) (text : List ℕ) → line_text (basic_line row) ≡ text → IsLine (basic_line row) → lacks 10 text ≡ true → is_end text ≡ false → length text < 100 → HasText row
-of_line row text e is feed last short = record {
-  line_is = is;
-  no_feed = ap (lacks 10) e ∙ feed;
-  not_end = ap is_end e ∙ last;
-  short = subst (λ (t : List ℕ). length t < 100) (sym e) short;
-}
+of_line : (row : Row) (text : List ℕ) → line_text (basic_line row) ≡ text → IsLine (basic_line row) → length text < 100 → HasText row
+of_line row text e is short = record { line_is = is; short = subst (λ (t : List ℕ). length t < 100) (sym e) short }
 
 clear_has : HasText Clear
 clear_has = of_line Clear (codes "clear 1b5b481b5b324a row=0 col=0 nopend all") clear_line
-    (record { numbers = tt; bytes = is_bytes clear_text (omega arith, (omega arith, (omega arith, (omega arith, (omega arith, (omega arith, (omega arith, tt))))))); effect = record { row = omega arith; col = omega arith; erasure = tt; margins = tt } }) refl refl (lit< tt)
+    (record { numbers = tt; bytes = is_bytes clear_text (omega arith, (omega arith, (omega arith, (omega arith, (omega arith, (omega arith, (omega arith, tt))))))); effect = record { row = omega arith; col = omega arith; erasure = tt; margins = tt } }) (lit< tt)
 
 home_has : HasText Home
 home_has = of_line Home (codes "home 1b5b48 row=0 col=0 nopend") home_line
-    (record { numbers = tt; bytes = is_bytes home_text (omega arith, (omega arith, (omega arith, tt))); effect = record { row = omega arith; col = omega arith; erasure = tt; margins = tt } }) refl refl (lit< tt)
+    (record { numbers = tt; bytes = is_bytes home_text (omega arith, (omega arith, (omega arith, tt))); effect = record { row = omega arith; col = omega arith; erasure = tt; margins = tt } }) (lit< tt)
 
 el_has : HasText El
-el_has = of_line El (codes "el 1b5b4b tail") el_line (record { numbers = tt; bytes = is_bytes el_text (omega arith, (omega arith, (omega arith, tt))); effect = record { row = tt; col = tt; erasure = tt; margins = tt } }) refl refl (lit< tt)
+el_has = of_line El (codes "el 1b5b4b tail") el_line (record { numbers = tt; bytes = is_bytes el_text (omega arith, (omega arith, (omega arith, tt))); effect = record { row = tt; col = tt; erasure = tt; margins = tt } }) (lit< tt)
 
 sgr0_has : HasText Sgr0
 sgr0_has = of_line Sgr0 (codes "sgr0 1b5b6d look:000000 ink:dd") sgr0_line
-    (record { numbers = tt; bytes = is_bytes sgr0_text (omega arith, (omega arith, (omega arith, tt))); effect = record { row = tt; col = tt; erasure = tt; margins = tt } }) refl refl (lit< tt)
+    (record { numbers = tt; bytes = is_bytes sgr0_text (omega arith, (omega arith, (omega arith, tt))); effect = record { row = tt; col = tt; erasure = tt; margins = tt } }) (lit< tt)
 
 -- `cup`
 
@@ -243,18 +216,6 @@ cup_text : (row col : ℕ) → line_text (basic_line (Cup row col)) ≡ cup_name
     ++ (encode_lower (cursor_to row col) ++ 32 ∷ ((row_name ++ 61 ∷ decimal row) ++ 32 ∷ ((col_name ++ 61 ∷ decimal col) ++ 32 ∷ nopend))))
 unfolding name_in_order spelled
 cup_text row col = refl
-
-cup_lacks : (row col : ℕ) → row < 500 → col < 500 → lacks 10 (line_text (basic_line (Cup row col))) ≡ true
-cup_lacks row col h k =
-    let r : lacks 10 (decimal row) ≡ true = decimal_lacks 10 row (omega arith) (omega (arith, h)) in
-    let c : lacks 10 (decimal col) ≡ true = decimal_lacks 10 col (omega arith) (omega (arith, k)) in
-    ap (lacks 10) (cup_text row col)
-    ∙ lacks_both 10 (decimal row ++ 32 ∷ (decimal col ++ 32 ∷ [])) _ (lacks_both 10 (decimal row) (32 ∷ (decimal col ++ 32 ∷ [])) r (lacks_both 10 (decimal col) (32 ∷ []) c refl))
-    (lacks_both 10 (encode_lower (cursor_to row col)) _ (encoded_lacks (cursor_to row col) (move_bytes row col h k))
-    (lacks_both 10 (decimal row) (32 ∷ ((col_name ++ 61 ∷ decimal col) ++ 32 ∷ nopend)) r (lacks_both 10 (decimal col) (32 ∷ nopend) c refl)))
-
-cup_not_end : (row col : ℕ) → is_end (line_text (basic_line (Cup row col))) ≡ false
-cup_not_end row col = ap is_end (cup_text row col)
 
 three : (n : ℕ) → n < 500 → length (decimal n) ≤ 3
 three n h = length-decimal-le 3 n (omega arith) (omega (arith, h)) (omega (arith, h, lit< {m = 501} {n = 2 ^ 64} tt))
@@ -277,8 +238,6 @@ cup_short row col h k =
 cup_has : (row col : ℕ) → row < 500 → col < 500 → HasText (Cup row col)
 cup_has row col h k = record {
   line_is = record { numbers = (omega (arith, h), (omega (arith, k), tt)); bytes = is_bytes (cursor_to row col) (move_bytes row col h k); effect = record { row = omega (arith, h); col = omega (arith, k); erasure = tt; margins = tt } };
-  no_feed = cup_lacks row col h k;
-  not_end = cup_not_end row col;
   short = cup_short row col h k;
 }
 
@@ -289,24 +248,6 @@ has_text rows cols home el row size (IsHome there e) = subst HasText (sym e) hom
 has_text rows cols home el row size (IsEl there e) = subst HasText (sym e) el_has
 has_text rows cols home el row size (IsSgr0 e) = subst HasText (sym e) sgr0_has
 
-first_of : List ℕ → ℕ
-first_of [] = 0
-first_of (b ∷ bytes) = b
-
-pub no_pairs : (bytes : List ℕ) → IsAcscText (line_text (basic_line Clear)) bytes → ⊥
-unfolding first_of
-no_pairs bytes is = let wrong : 97 ≡ 99 = ap first_of (is.spelled ∙ clear_line) in omega (arith, wrong)
-
--- ---- the ends of lines
-
-either_none : (t m : Bool) (o : Option ℕ) → (not t && m) ≡ true → (m ≡ true → o ≡ None) → (if t then Some 0 else option_map suc o) ≡ None
-either_none true m o h k = cc
-either_none false m o h k = ap (option_map suc) (k h)
-
-pub no_end : (xs : List ℕ) → lacks 10 xs ≡ true → line_end xs ≡ None
-no_end [] h = refl
-no_end (b ∷ xs) h = either_none (b == 10) (lacks 10 xs) (line_end xs) h (λ m. no_end xs m)
-
 -- the first line
 pub size_is : (rows cols : ℕ) → IsSize rows cols → IsSizeText (size_text rows cols) rows cols
 size_is rows cols size = record { rows_fit = omega (arith, size.1); cols_fit = omega (arith, size.3); spelled = refl }
@@ -316,11 +257,6 @@ size_front = 116 ∷ 105 ∷ 99 ∷ 101 ∷ 114 ∷ 116 ∷ 32 ∷ 50 ∷ 32 ∷
 
 size_spelled : (rows cols : ℕ) → size_text rows cols ≡ size_front ++ (decimal rows ++ 32 ∷ decimal cols)
 size_spelled rows cols = refl
-
-pub size_lacks : (rows cols : ℕ) → IsSize rows cols → lacks 10 (size_text rows cols) ≡ true
-size_lacks rows cols size =
-    ap (lacks 10) (size_spelled rows cols)
-    ∙ lacks_both 10 (decimal rows) (32 ∷ decimal cols) (decimal_lacks 10 rows (omega arith) (omega (arith, size.1))) (decimal_lacks 10 cols (omega arith) (omega (arith, size.3)))
 
 pub size_short : (rows cols : ℕ) → IsSize rows cols → length (size_text rows cols) < 100
 size_short rows cols size =

@@ -11,6 +11,8 @@ pub mod AuditSteps
 pub mod Relations
 pub mod Singleness
 pub mod Texts
+pub mod LineTexts
+pub mod Converse
 pub mod Accepted
 pub mod BasicOrder
 pub mod BasicLines

@@ -1,5 +1,5 @@
 -- A text that is accepted is that of a certificate.
-use Rattle.std.proofs.Common.{◌≡◌, ◌⊎◌, ◌<◌, ◌≤◌, ◌+◌, ◌-◌, ℕ, List, [], ◌∷◌, ◌++◌, length, reverse, Option, Some, None, Result, Ok, Err, inl, inr, refl, sym, ap, subst, ◌∙◌, arith, append_assoc, append-nil, length-append}
+use Rattle.std.proofs.Common.{◌≡◌, ◌⊎◌, ◌<◌, ◌≤◌, ◌+◌, ◌-◌, ℕ, List, [], ◌∷◌, ◌++◌, length, reverse, is_some, Option, Some, None, Result, Ok, Err, inl, inr, refl, sym, ap, subst, ◌∙◌, arith, append_assoc, append-nil, length-append}
 use Rattle.std.specs.List.{AllByRecursion}
 use Rattle.std.proofs.lemmas.Slice.Eq.{bytes_eq-Decides}
 use Rattle.std.proofs.lemmas.List.{reverse-reverse}
@@ -17,6 +17,7 @@ use Rattle.ti_lines.specs.Text.{IsText, cut_of}
 use Rattle.ti_lines.proofs.Texts.{text_is}
 use Rattle.ti_lines.specs.Judgements.{Passes, Fails, TooLong, JudgedLine, JudgedLines, JudgedFrom, Judged}
 use Rattle.ti_lines.specs.declared.judgements.LineFault.{LineFault}
+use Rattle.ti_cert.specs.Clashes.{GoesTogether, OfLines}
 use Rattle.ti_cert.specs.Order.{IsComplete}
 use Rattle.ti_cert.specs.Certificates.{Said, Nothing, Sized, Listing, Ended, JudgesRow, NotAllowed, TooLate, TooEarly, Cut, Wild, Untrue, Unasked, Stands, JudgesLast, Lacks, Clashes, Closes, JudgesLater, IsLast, IsRow, IsMisplaced, IsNone, JudgesSecond, HasPairs, HasNoPairs, JudgesFirst, HasSize, HasNoSize, JudgesLine, rules_of, limit, IsAnswer}
 use Rattle.ti_cert.specs.Audits.{all_bytes}
@@ -47,15 +48,17 @@ row_passes rows cols lines line after u (Untrue place effect has never e) = absu
 row_passes rows cols lines line after u (Unasked place has never kind misfit e) = absurd (never_errs u _ (Ok u) refl e)
 row_passes rows cols lines line after u (Stands place has asked e) = (record { place = place; has = has; asked = asked }, same_said u after (Ok u) refl e)
 
-last_passes : (rows cols : ℕ) (pairs : Option (List ℕ)) (lines : List RowLine) (u : Said) → JudgesLast rows cols pairs lines (Ok u) → IsComplete rows cols lines None × (u ≡ Ended pairs lines)
+last_passes : (rows cols : ℕ) (pairs : Option (List ℕ)) (lines : List RowLine) (u : Said) → JudgesLast rows cols pairs lines (Ok u)
+    → IsComplete rows cols lines None × OfLines rows cols lines (λ t. GoesTogether (is_some pairs) t) × (u ≡ Ended pairs lines)
 last_passes rows cols pairs lines u (Lacks row first e) = absurd (never_errs u _ (Ok u) refl e)
 last_passes rows cols pairs lines u (Clashes complete kind clash e) = absurd (never_errs u _ (Ok u) refl e)
-last_passes rows cols pairs lines u (Closes complete together e) = (complete, same_said u (Ended pairs lines) (Ok u) refl e)
+last_passes rows cols pairs lines u (Closes complete together e) = (complete, together, same_said u (Ended pairs lines) (Ok u) refl e)
 
 -- the last line, or one more about a capability
 record Ends (rows cols : ℕ) (pairs : Option (List ℕ)) (lines : List RowLine) (text : List ℕ) (u : Said) : Type 0 where
   text_is : end_text ≡ text
   complete : IsComplete rows cols lines None
+  together : OfLines rows cols lines (λ t. GoesTogether (is_some pairs) t)
   after : u ≡ Ended pairs lines
 
 record Goes (rows cols : ℕ) (pairs : Option (List ℕ)) (lines : List RowLine) (text : List ℕ) (u : Said) : Type 0 where
@@ -66,7 +69,7 @@ record Goes (rows cols : ℕ) (pairs : Option (List ℕ)) (lines : List RowLine)
 
 later_passes : (rows cols : ℕ) (pairs : Option (List ℕ)) (lines : List RowLine) (text : List ℕ) (u : Said) → JudgesLater rows cols pairs lines text (Ok u) → Ends rows cols pairs lines text u ⊎ Goes rows cols pairs lines text u
 later_passes rows cols pairs lines text u (IsLast end p) =
-    let l = last_passes rows cols pairs lines u p in inl (record { text_is = sym ((bytes_eq-Decides text end_text).0 end); complete = l.0; after = l.1 })
+    let l = last_passes rows cols pairs lines u p in inl (record { text_is = sym ((bytes_eq-Decides text end_text).0 end); complete = l.0; together = l.1; after = l.2 })
 later_passes rows cols pairs lines text u (IsRow off line is p) =
     let l = row_passes rows cols lines line (Listing pairs (line ∷ lines)) u p in inr (record { line = line; text_is = is; stands = l.0; after = l.1 })
 later_passes rows cols pairs lines text u (IsMisplaced off never bytes is e) = absurd (never_errs u _ (Ok u) refl e)
@@ -81,6 +84,7 @@ record IsRest (rows cols budget : ℕ) (before : List RowLine) (texts : List (Li
   final_is : final ≡ reverse lines ++ before
   each : AllByRecursion IsLine lines
   stand : StandInOrder rows cols before lines
+  together : OfLines rows cols final (λ t. GoesTogether (is_some pairs) t)
   few : length (ended texts) ≤ budget
   counted : all_bytes final ≤ length (ended texts) + all_bytes before
 
@@ -95,7 +99,7 @@ has_passed rows cols budget number said s line Later (Passes small u is p) = rec
 has_passed rows cols budget number said s line Later (Fails small kind e is) = absurd (never_fails s _ (Ok s) refl e)
 has_passed rows cols budget number said s line Later (TooLong long e) = absurd (never_fails s _ (Ok s) refl e)
 
-ended_length : (line : List ℕ) (texts : List (List ℕ)) → length (ended (line ∷ texts)) ≡ length line + (length (ended texts) + 1)
+pub ended_length : (line : List ℕ) (texts : List (List ℕ)) → length (ended (line ∷ texts)) ≡ length line + (length (ended texts) + 1)
 ended_length line texts = let l = length-append line (10 ∷ ended texts) in omega (arith, l)
 
 -- two digits for each byte
@@ -150,6 +154,8 @@ rest_with rows cols budget number own before text texts last pairs final h later
       final_is = n.3;
       each = tt;
       stand = e.complete;
+      together = subst (λ (o : Option (List ℕ)). OfLines rows cols final (λ t. GoesTogether (is_some o) t)) (sym n.2)
+          (subst (λ (l : List RowLine). OfLines rows cols l (λ t. GoesTogether (is_some own) t)) (sym n.3) e.together);
       few = length_ended text texts budget h.small (subst (λ (x : List (List ℕ)). length (ended x) ≤ budget - (length text + 1)) (sym n.0) (omega arith));
       counted = let same : all_bytes final ≡ all_bytes before = ap (λ (l : List RowLine). all_bytes l) n.3 in omega (arith, same);
     }
@@ -163,6 +169,7 @@ rest_with rows cols budget number own before text texts last pairs final h later
       final_is = r.final_is ∙ sym (turned g.line r.lines before);
       each = (g.text_is.line_is, r.each);
       stand = (g.stands, r.stand);
+      together = r.together;
       few = length_ended text texts budget h.small r.few;
       counted = let c = r.counted in let l = ended_length text texts in let b = bytes_within text g.line g.text_is in omega (arith, c, l, b);
     }
@@ -188,6 +195,7 @@ record IsAll (rows cols budget : ℕ) (texts : List (List ℕ)) (last : List ℕ
   final_is : final ≡ reverse lines ++ []
   each : AllByRecursion IsLine lines
   stand : StandInOrder rows cols [] lines
+  together : OfLines rows cols final (λ t. GoesTogether (is_some pairs) t)
   few : length (ended texts) ≤ budget
   counted : all_bytes final ≤ length (ended texts)
 
@@ -205,6 +213,7 @@ second_passes rows cols budget number text texts last pairs final u small (HasPa
       final_is = r.final_is;
       each = r.each;
       stand = r.stand;
+      together = r.together;
       few = length_ended text texts budget small r.few;
       counted = let c = r.counted in let l = ended_length text texts in omega (arith, c, l);
     })
@@ -231,6 +240,7 @@ second_of rows cols budget number (text ∷ texts) last pairs final p = by_line 
           final_is = r.final_is;
           each = r.each;
           stand = r.stand;
+          together = r.together;
           few = r.few;
           counted = let c = r.counted in omega (arith, c);
         }
@@ -250,6 +260,7 @@ record IsFirst (rows cols budget : ℕ) (texts : List (List ℕ)) (last : List �
   final_is : final ≡ reverse lines ++ []
   each : AllByRecursion IsLine lines
   stand : StandInOrder rows cols [] lines
+  together : OfLines rows cols final (λ t. GoesTogether (is_some pairs) t)
   few : length (ended texts) ≤ budget
   counted : all_bytes final < length (ended texts)
 
@@ -276,6 +287,7 @@ first_of_text rows cols budget number (text ∷ texts) last pairs final p =
       final_is = r.final_is;
       each = r.each;
       stand = r.stand;
+      together = r.together;
       few = length_ended text texts budget h.small r.few;
       counted = let c = r.counted in let l = ended_length text texts in omega (arith, c, l);
     }
@@ -305,3 +317,8 @@ that_of_certificate rows cols text pairs final p = subst (λ (l : List RowLine).
 
     lines_are : f.lines ≡ reverse final
     lines_are = sym (ap (λ (l : List RowLine). reverse l) (f.final_is ∙ append-nil (reverse f.lines)) ∙ reverse-reverse f.lines)
+
+-- all lines of an accepted text go together
+pub accepted_together : (rows cols : ℕ) (text : List ℕ) (pairs : Option (List ℕ)) (lines : List RowLine) → IsAnswer rows cols text (Ok (Ended pairs lines)) → OfLines rows cols lines (λ t. GoesTogether (is_some pairs) t)
+unfolding Judged JudgedFrom
+accepted_together rows cols text pairs lines p = (first_of_text rows cols limit 1 (cut_of text).lines (cut_of text).last pairs lines p).together

@@ -1,5 +1,5 @@
 -- What an audit's answer says of the text of a certificate.
-use Rattle.std.specs.Prelude.{ℕ, ◌+◌, ◌≤◌, ◌≡◌, ◌⊎◌, List, [], ◌∷◌, length, reverse, Option, None, Some, Result, Ok, Err}
+use Rattle.std.specs.Prelude.{ℕ, ◌+◌, ◌≤◌, ◌≡◌, ◌⊎◌, ◌↔◌, List, [], ◌∷◌, length, reverse, is_some, Option, None, Some, Result, Ok, Err}
 use Rattle.ti_conforms.specs.Charsets.{IsAmong}
 use Rattle.ti_rows.specs.declared.rows.Row.{Row}
 use Rattle.ti_lines.specs.declared.row_lines.RowLine.{RowLine}
@@ -10,6 +10,7 @@ use Rattle.ti_lines.specs.Judgements.{fault_at, LastCall}
 use Rattle.ti_lines.specs.declared.judgements.LineFault.{LineFault}
 use Rattle.ti_cert.specs.Strings.{row_string}
 use Rattle.ti_cert.specs.Table.{CheckedTable}
+use Rattle.ti_cert.specs.Clashes.{GoesTogether, OfLines}
 use Rattle.ti_cert.specs.Order.{GivesBytes, IsComplete, IsInPlace}
 use Rattle.ti_cert.specs.Certificates.{Said, Ended, HasEffect, IsAskedFor, IsAnswer, limit}
 use Rattle.ti_cert.specs.declared.faults.CertFault.{CertFault}
@@ -105,3 +106,20 @@ abbrev pub IsThatOfCertificate : Type 0
 IsThatOfCertificate =
     (rows cols : ℕ) (text : List ℕ) (pairs : Option (List ℕ)) (lines : List RowLine)
     → IsAnswer rows cols text (Ok (Ended pairs lines)) → IsCertificate rows cols text pairs (reverse lines)
+
+-- The text of a certificate is accepted, with its pairs and lines, where all its lines go together.
+abbrev pub IsAcceptedCertificate : Type 0
+IsAcceptedCertificate = (rows cols : ℕ) (text : List ℕ) (pairs : Option (List ℕ)) (lines : List RowLine)
+    → IsCertificate rows cols text pairs lines → OfLines rows cols (reverse lines) (λ t. GoesTogether (is_some pairs) t)
+    → IsAnswer rows cols text (Ok (Ended pairs (reverse lines)))
+
+-- the text of a certificate with these pairs and lines, and all its lines go together
+pub record IsAcceptable (rows cols : ℕ) (text : List ℕ) (pairs : Option (List ℕ))
+    (lines : List RowLine) : Type 0 where
+  pub certificate : IsCertificate rows cols text pairs lines
+  pub together : OfLines rows cols (reverse lines) (λ t. GoesTogether (is_some pairs) t)
+
+-- So a text is accepted, with these pairs and lines, exactly if it is such a text.
+abbrev pub AcceptsCertificates : Type 0
+AcceptsCertificates = (rows cols : ℕ) (text : List ℕ) (pairs : Option (List ℕ)) (lines : List RowLine)
+    → IsAnswer rows cols text (Ok (Ended pairs (reverse lines))) ↔ IsAcceptable rows cols text pairs lines

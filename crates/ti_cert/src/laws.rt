@@ -2,7 +2,9 @@
 
 ghost use Rattle.ti_cert.specs.Basic.{BasicAccepted, BasicAgrees, BasicAlone};
 ghost use Rattle.ti_cert.specs.Disagreements.{DisagreementExcludesYes};
-ghost use Rattle.ti_cert.specs.Texts.{IsThatOfCertificate, OneAnswer, OneTable, NoOther, OneFault};
+ghost use Rattle.ti_cert.specs.Texts.{
+    AcceptsCertificates, IsAcceptedCertificate, IsThatOfCertificate, OneAnswer, OneTable, NoOther, OneFault,
+};
 
 /// A text has one answer: what its lines say, or its first fault in one line. So what an audit makes of
 /// a text is the same each time: tables with the same pairs and strings, or the same fault, but where
@@ -19,6 +21,17 @@ pub fn one_answer()
 /// for, none missing, and the last line.
 pub fn accepted_text()
     ensures { IsThatOfCertificate }
+{}
+
+/// The text of a certificate is accepted, with its pairs and lines, where all its lines go together.
+pub fn certificate_accepted()
+    ensures { IsAcceptedCertificate }
+{}
+
+/// So a text is accepted, with these pairs and lines, exactly if it is that of a certificate whose lines
+/// go together.
+pub fn accepted_exactly()
+    ensures { AcceptsCertificates }
 {}
 
 /// The certificate of a basic entry is accepted, for every size. So no audit finds a fault in it.
