@@ -1,7 +1,6 @@
 -- A text that is accepted with just the lines of a basic entry is its basic text.
 use Rattle.std.proofs.Common.{◌≡◌, ℕ, List, [], ◌∷◌, map, reverse, None, Result, Ok, inl, inr, refl, sym, ap, subst, ◌∙◌}
 use Rattle.std.proofs.lemmas.Bool.{and_parts}
-use Rattle.std.proofs.lemmas.List.{reverse-reverse}
 use Rattle.std.proofs.lemmas.Option.{same_Some}
 use Rattle.vt_term.specs.Text.{Splits}
 use Rattle.vt_term.proofs.Splits.{one_splitting}

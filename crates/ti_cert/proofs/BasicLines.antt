@@ -1,12 +1,9 @@
 -- Each line of a basic certificate, by itself: its tokens, its effect and its text.
-use Rattle.std.proofs.Common.{◌≡◌, ◌<◌, ◌≤◌, ◌+◌, ◌/◌, ◌%◌, ◌^◌, ◌==◌, ◌&&◌, ℕ, zero, suc, Bool, true, false, not, if◌then◌else◌, List, [], ◌∷◌, ◌++◌, length, Option, Some, None, inl, inr, refl, sym, ap, subst, ◌∙◌, arith, append-nil, length-append, lit<}
-use Rattle.std.specs.Prelude.{slice_index, codes}
+use Rattle.std.proofs.Common.{◌≡◌, ◌<◌, ◌≤◌, ◌+◌, ◌^◌, ℕ, zero, suc, Bool, List, [], ◌∷◌, ◌++◌, length, Some, inl, inr, refl, sym, ap, subst, ◌∙◌, arith, append-nil, length-append, lit<}
+use Rattle.std.specs.Prelude.{codes}
 use Rattle.std.specs.Fmt.{decimal}
 use Rattle.std.specs.List.{AllByRecursion}
-use Rattle.std.specs.Option.{option_map}
-use Rattle.std.proofs.lemmas.Bool.{agree_below, agree_below_at}
 use Rattle.std.proofs.lemmas.Fmt.{decimal_digit, length-decimal-le}
-use Rattle.std.proofs.lemmas.List.Folds.{list_all-append}
 use Rattle.hex.specs.Hex.{IsBytes, encode_lower, encode_with, lower_digits}
 use Rattle.hex.proofs.HexLemmas.{length-encode_with}
 use Rattle.vt_term.specs.Size.{IsSize}
@@ -21,18 +18,14 @@ use Rattle.vt_effects.specs.Basic.{home_text, clear_text, el_text, sgr0_text}
 use Rattle.vt_effects.specs.Record.{record_of}
 use Rattle.vt_effects.proofs.Basics.{clear_record, cup_record, sgr0_record, home_record, el_record}
 use Rattle.ti_lines.specs.EffectText.{spelled, row_name, col_name}
-use Rattle.ti_lines.proofs.Digits.{decimal_lacks}
 use Rattle.ti_conforms.specs.Charsets.{IsAmong, charset_after}
 use Rattle.ti_rows.specs.declared.rows.Row.{Row}
 use Rattle.ti_rows.specs.declared.rows.Row.TheVariants.{Clear, Cup, Home, El, Sgr0}
 use Rattle.ti_rows.specs.Asked.{start_of}
 use Rattle.ti_rows.specs.Names.{name_in_order}
 use Rattle.ti_lines.specs.declared.row_lines.RowLine.{RowLine}
-use Rattle.ti_lines.specs.Heads.{IsAcscText, is_end, size_text, IsSizeText}
+use Rattle.ti_lines.specs.Heads.{size_text, IsSizeText}
 use Rattle.ti_lines.specs.RowLines.{IsLine, line_text}
-use Rattle.ti_lines.proofs.CutFacts.{lacks}
-use Rattle.ti_lines.proofs.Hex.{both}
-use Rattle.ti_lines.specs.Text.{line_end}
 use Rattle.ti_cert.specs.Certificates.{HasEffect, IsAskedFor}
 use Rattle.ti_cert.specs.Basic.{basic_bytes, basic_effect, basic_line}
 use Rattle.ti_cert.proofs.BasicOrder.{Kind, IsClear, IsCup, IsEl, IsHome, IsSgr0}

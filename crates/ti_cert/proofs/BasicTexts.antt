@@ -1,18 +1,17 @@
 -- The text of a basic certificate is accepted.
-use Rattle.std.proofs.Common.{◌≡◌, ◌⊎◌, ◌≤◌, ◌+◌, ◌-◌, ◌*◌, ℕ, zero, suc, Bool, true, false, List, [], ◌∷◌, ◌++◌, map, reverse, length, None, Result, Ok, Err, inl, inr, refl, sym, ap, subst, ◌∙◌, arith, length-append, append-nil}
+use Rattle.std.proofs.Common.{◌≡◌, ◌≤◌, ◌+◌, ◌*◌, ℕ, zero, suc, Bool, true, false, List, [], ◌∷◌, ◌++◌, map, reverse, length, None, Result, Ok, Err, inl, inr, refl, sym, ap, ◌∙◌, arith, length-append}
 use Rattle.std.specs.List.{AllByRecursion, flat_map, range_with_len}
 use Rattle.std.proofs.lemmas.List.FromFn.{length-map-range_with_len}
 use Rattle.vt_term.specs.Size.{IsSize}
 use Rattle.ti_conforms.specs.Charsets.{IsAmong}
 use Rattle.ti_rows.specs.declared.rows.Row.{Row}
-use Rattle.ti_rows.specs.declared.rows.Row.TheVariants.{Clear, Cup, Home, El, Sgr0}
+use Rattle.ti_rows.specs.declared.rows.Row.TheVariants.{Cup, Home, El, Sgr0}
 use Rattle.ti_lines.specs.declared.row_lines.RowLine.{RowLine}
-use Rattle.ti_lines.specs.Heads.{size_text, end_text}
+use Rattle.ti_lines.specs.Heads.{size_text}
 use Rattle.ti_lines.specs.RowLines.{IsLine, line_text}
 use Rattle.ti_lines.specs.Texts.{row_lines, ended}
-use Rattle.ti_lines.specs.Judgements.{fault_at, JudgedFrom, Judged}
-use Rattle.ti_lines.proofs.Texts.{judge_step, judge_end}
-use Rattle.ti_cert.specs.Certificates.{Said, Nothing, Sized, Listing, Ended, Stands, Closes, JudgesLater, IsLast, IsRow, HasNoPairs, HasSize, rules_of, limit, IsAnswer}
+use Rattle.ti_lines.specs.Judgements.{fault_at}
+use Rattle.ti_cert.specs.Certificates.{Said, Ended}
 use Rattle.ti_cert.specs.Texts.{StandInOrder, IsCertificate, IsRefused}
 use Rattle.ti_cert.specs.Basic.{basic_line, places, only_if, basic_rows, basic_text, BasicAccepted, IsStopped}
 use Rattle.ti_cert.specs.declared.faults.CertFault.{CertFault}
@@ -53,8 +52,7 @@ are_basic rows cols home el = record {
 stand : (rows cols : ℕ) (home el : Bool) (before : List RowLine) (rest : List Row) → IsSize rows cols → IsReady rows cols home el before rest → StandInOrder rows cols before (map basic_line rest)
 stand rows cols home el before [] size ready = ready_end rows cols home el before ready
 stand rows cols home el before (row ∷ rest) size ready =
-    let k = ready.each row (inl refl) in
-    (
+    let k = ready.each row (inl refl) in (
       record {
         place = ready_place rows cols home el before row rest ready;
         has = has_effect rows cols row (has_tokens rows cols home el row size k);

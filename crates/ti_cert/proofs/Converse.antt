@@ -1,9 +1,9 @@
 -- The text of a certificate is accepted if its lines go together.
-use Rattle.std.proofs.Common.{◌≡◌, ◌≤◌, ◌+◌, ◌-◌, ℕ, List, [], ◌∷◌, ◌++◌, length, reverse, is_some, Option, Some, None, Result, Ok, Err, refl, sym, ap, subst, ◌∙◌, arith, append-nil, length-append}
+use Rattle.std.proofs.Common.{◌≡◌, ◌≤◌, ◌+◌, ◌-◌, ℕ, List, [], ◌∷◌, ◌++◌, length, reverse, is_some, Option, Some, None, Result, Ok, refl, sym, ap, subst, ◌∙◌, arith, append-nil}
 use Rattle.std.specs.List.{AllByRecursion}
 use Rattle.std.proofs.lemmas.List.{reverse-reverse}
 use Rattle.ti_lines.specs.declared.row_lines.RowLine.{RowLine}
-use Rattle.ti_lines.specs.Heads.{size_text, acsc_text, end_text, IsSizeText, IsAcscText}
+use Rattle.ti_lines.specs.Heads.{size_text, acsc_text, end_text, IsAcscText}
 use Rattle.ti_lines.specs.RowLines.{line_text, IsLine}
 use Rattle.ti_lines.specs.Texts.{acsc_lines, row_lines, ended, IsAcsc}
 use Rattle.ti_lines.specs.Judgements.{JudgedFrom, Judged}

@@ -32,7 +32,7 @@ use Rattle.ti_lines.specs.Text.{line_end}
 use Rattle.ti_lines.specs.Cut.{cut_at}
 use Rattle.ti_lines.specs.Hex.{hex_text}
 use Rattle.ti_lines.specs.EffectText.{row_name, col_name, look_name, ink_name, set_name, move_text, pending_text, erasure_text, scroll_text, switch_letter, mark_letter, ink_letter, is_dot, lettered, look_letters, look_text, ink_text, set_text, rows_text, visible_text, texts, nonempty, joined, spelled, IsPlain, IsPlainMove, IsPlainErasure, IsPlainRegion}
-use Rattle.ti_lines.specs.Heads.{acsc_word, end_text, is_end, size_text, acsc_text, IsSizeText, IsAcscText}
+use Rattle.ti_lines.specs.Heads.{acsc_word, end_text, is_end, size_text, acsc_text, IsAcscText}
 use Rattle.ti_lines.specs.RowLines.{numbers_text, line_text, IsLine, IsTextOf}
 use Rattle.ti_lines.proofs.CutFacts.{lacks, cut_front}
 use Rattle.ti_lines.proofs.TextCuts.{AllLack}

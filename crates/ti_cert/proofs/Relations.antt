@@ -1,10 +1,9 @@
 -- The judgement of a whole text, as what its lines say.
-use Rattle.std.proofs.Common.{◌≡◌, ◌<◌, ◌+◌, ◌-◌, ◌⊎◌, ℕ, Bool, is_some, List, [], ◌∷◌, ◌++◌, length, Option, None, Result, Ok, Err, IfErr, inl, inr, refl, sym, ap, subst, ◌∙◌, arith}
+use Rattle.std.proofs.Common.{◌≡◌, ◌<◌, ◌+◌, ◌-◌, ◌⊎◌, ℕ, List, [], ◌∷◌, ◌++◌, length, Option, None, Result, Ok, Err, IfErr, inl, inr, refl, sym, ap, subst, ◌∙◌, arith}
 use Rattle.ti_lines.specs.declared.row_lines.RowLine.{RowLine}
 use Rattle.ti_lines.specs.Text.{cut_of}
 use Rattle.ti_lines.specs.Reader.{Rose, AtEnd}
 use Rattle.ti_lines.proofs.Gaves.{gave_nothing}
-use Rattle.ti_conforms.specs.Table.{Table}
 use Rattle.ti_lines.specs.Judgements.{fault_at, AtLine, Passes, Fails, TooLong, JudgedLine, JudgedLines, JudgedFrom, Judged, LastCall, GivesOr, Outcome, Whole, Early, Cuts, Reports}
 use Rattle.ti_lines.specs.declared.judgements.LineFault.{LineFault}
 use Rattle.ti_cert.specs.Clashes.{kind_of}

@@ -1,12 +1,12 @@
 -- A capability and its parameters name one row at most, and it is found by the capability's name.
-use Rattle.std.proofs.Common.{Bor, ◌≡◌, ◌≢◌, ℕ, ◌<◌, ◌==◌, ◌+◌, Bool, true, false, List, Option, Some, None, IfSome, IfNone, inl, inr, refl, sym, ap, ◌∙◌, arith}
+use Rattle.std.proofs.Common.{Bor, ◌≡◌, ◌≢◌, ℕ, ◌<◌, ◌==◌, Bool, true, false, List, Option, Some, None, IfSome, IfNone, inl, inr, refl, sym, ap, ◌∙◌, arith}
 use Rattle.std.proofs.lemmas.Option.{same_Some, none-some}
 use Rattle.std.specs.Prelude.{option_copied}
 use Rattle.ti_caps.specs.Table.{name_at, place_in}
 use Rattle.ti_caps.proofs.Tables.{place_in_name}
 use Rattle.ti_rows.specs.declared.rows.Row.{Row}
 use Rattle.ti_rows.specs.Names.{order, string_in_order, name_in_order, name_of, cap_of}
-use Rattle.ti_rows.specs.Params.{params, with_params, HasParams}
+use Rattle.ti_rows.specs.Params.{with_params, HasParams}
 use Rattle.ti_rows.proofs.NameFacts.{named, orders_small, strings_small}
 use Rattle.ti_rows.proofs.Readers.{finds_params, params_found}
 use Rattle.std.proofs.lemmas.Bool.{agree_below, agree_below_at, cases_order, eqb-false}

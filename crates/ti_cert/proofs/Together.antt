@@ -1,11 +1,10 @@
 -- What was found wrong with all lines together is so by the terminal's own tokens, and so is that nothing is.
-use Rattle.std.proofs.Common.{◌≡◌, inl, inr, ◌-◌, ◌&&◌, ℕ, Bool, true, false, not, List, [], ◌∷◌, ◌++◌, Option, Some, None, refl, sym, ap, subst, ◌∙◌}
+use Rattle.std.proofs.Common.{◌≡◌, ◌&&◌, ℕ, Bool, true, false, not, List, [], ◌∷◌, ◌++◌, Option, Some, None, refl, sym, ap, subst, ◌∙◌}
 use Rattle.std.specs.Prelude.{is_some}
 use Rattle.std.proofs.lemmas.Bool.{true≢false, and_right}
 use Rattle.std.proofs.lemmas.Option.{same_Some, none-some}
 use Rattle.vt_term.specs.Function.{function_of}
 use Rattle.vt_term.specs.Screen.{Charset, is_graphic}
-use Rattle.vt_term.specs.Text.{Splits}
 use Rattle.vt_term.proofs.Splits.{one_splitting, splits_append, empty_splits}
 use Rattle.vt_effects.specs.declared.effects.Sets.{Sets}
 use Rattle.vt_effects.specs.declared.effects.Switch.{Switch}
@@ -18,12 +17,12 @@ use Rattle.ti_conforms.specs.Closures.{Settled, First, After, SomeLeads, Leaves,
 use Rattle.ti_conforms.specs.Closures as closing
 use Rattle.ti_conforms.proofs.Reaches.{reached_can, can_reached}
 use Rattle.ti_rows.specs.declared.rows.Row.{Row}
-use Rattle.ti_rows.specs.declared.rows.Row.TheVariants.{Clear, Csr, Smcup, Enacs, Sgr0, Smacs, Rmacs}
+use Rattle.ti_rows.specs.declared.rows.Row.TheVariants.{Clear, Smcup, Enacs, Sgr0, Smacs, Rmacs}
 use Rattle.ti_conforms.specs.Table.{Table, or_nothing, text_of, widening, resync, resync_front, resync_of, Activates}
 use Rattle.ti_conforms.specs.Sets.{CanHave, LeadsBy, CanSettle, AfterResync, AfterLine, Occurs, has_sets}
 use Rattle.ti_conforms.specs.Sets as sets
 use Rattle.ti_conforms.proofs.Holds.{Leads}
-use Rattle.ti_cert.specs.Clashes.{Misswitches, SwitchesRight, StaysGraphic, BeginsOpen, ResyncsPlain, IsClash, GoesTogether}
+use Rattle.ti_cert.specs.Clashes.{Misswitches, SwitchesRight, StaysGraphic, ResyncsPlain, IsClash, GoesTogether}
 use Rattle.ti_cert.specs.Seen.{LeadsAs, IsOfLine, IsLineSeen, AreSeen, ChangesBy, NoLine, ByLine, KeepsSets, IsFound, parts_of, Misleads, AreSettled, ClashesAs, NoneClashes}
 use Rattle.ti_cert.specs.Seen as seen
 use Rattle.ti_cert.specs.declared.clashes.Clash.{Clash}

@@ -1,5 +1,5 @@
 -- (Serves the code alone.) What is known while a certificate is read, and how that stands to what its lines say.
-use Rattle.std.specs.Prelude.{ℕ, ◌+◌, ◌-◌, ◌≡◌, ◌⊎◌, Bool, true, false, not, List, [], ◌∷◌, length, Option, None, Some, Result, Ok, Err}
+use Rattle.std.specs.Prelude.{ℕ, ◌+◌, ◌-◌, ◌≡◌, ◌⊎◌, Bool, true, List, [], ◌∷◌, length, Option, None, Some, Result, Ok, Err}
 use Rattle.vt_effects.specs.declared.effects.Effect.{Effect}
 use Rattle.ti_conforms.specs.declared.closures.Charsets.{Charsets}
 use Rattle.vt_effects.specs.Record.{record_of}

@@ -101,25 +101,27 @@ pub record IsCertificate (rows cols : ℕ) (text : List ℕ) (pairs : Option (Li
   pub stands : StandInOrder rows cols [] lines
   pub few : length text ≤ limit
 
--- A text that is accepted is that of a certificate.
-abbrev pub IsThatOfCertificate : Type 0
-IsThatOfCertificate =
-    (rows cols : ℕ) (text : List ℕ) (pairs : Option (List ℕ)) (lines : List RowLine)
-    → IsAnswer rows cols text (Ok (Ended pairs lines)) → IsCertificate rows cols text pairs (reverse lines)
-
 -- The text of a certificate is accepted, with its pairs and lines, where all its lines go together.
 abbrev pub IsAcceptedCertificate : Type 0
-IsAcceptedCertificate = (rows cols : ℕ) (text : List ℕ) (pairs : Option (List ℕ)) (lines : List RowLine)
+IsAcceptedCertificate =
+    (rows cols : ℕ) (text : List ℕ) (pairs : Option (List ℕ)) (lines : List RowLine)
     → IsCertificate rows cols text pairs lines → OfLines rows cols (reverse lines) (λ t. GoesTogether (is_some pairs) t)
     → IsAnswer rows cols text (Ok (Ended pairs (reverse lines)))
 
--- the text of a certificate with these pairs and lines, and all its lines go together
+-- the text of a certificate whose lines go together
 pub record IsAcceptable (rows cols : ℕ) (text : List ℕ) (pairs : Option (List ℕ))
     (lines : List RowLine) : Type 0 where
   pub certificate : IsCertificate rows cols text pairs lines
   pub together : OfLines rows cols (reverse lines) (λ t. GoesTogether (is_some pairs) t)
 
--- So a text is accepted, with these pairs and lines, exactly if it is such a text.
+-- A text is accepted, with these pairs and lines, exactly if it is one of these.
 abbrev pub AcceptsCertificates : Type 0
-AcceptsCertificates = (rows cols : ℕ) (text : List ℕ) (pairs : Option (List ℕ)) (lines : List RowLine)
+AcceptsCertificates =
+    (rows cols : ℕ) (text : List ℕ) (pairs : Option (List ℕ)) (lines : List RowLine)
     → IsAnswer rows cols text (Ok (Ended pairs (reverse lines))) ↔ IsAcceptable rows cols text pairs lines
+
+-- A text that is accepted is that of a certificate.
+abbrev pub IsThatOfCertificate : Type 0
+IsThatOfCertificate =
+    (rows cols : ℕ) (text : List ℕ) (pairs : Option (List ℕ)) (lines : List RowLine)
+    → IsAnswer rows cols text (Ok (Ended pairs lines)) → IsCertificate rows cols text pairs (reverse lines)

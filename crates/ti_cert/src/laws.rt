@@ -3,7 +3,13 @@
 ghost use Rattle.ti_cert.specs.Basic.{BasicAccepted, BasicAgrees, BasicAlone};
 ghost use Rattle.ti_cert.specs.Disagreements.{DisagreementExcludesYes};
 ghost use Rattle.ti_cert.specs.Texts.{
-    AcceptsCertificates, IsAcceptedCertificate, IsThatOfCertificate, OneAnswer, OneTable, NoOther, OneFault,
+  AcceptsCertificates,
+  IsAcceptedCertificate,
+  IsThatOfCertificate,
+  OneAnswer,
+  OneTable,
+  NoOther,
+  OneFault,
 };
 
 /// A text has one answer: what its lines say, or its first fault in one line. So what an audit makes of

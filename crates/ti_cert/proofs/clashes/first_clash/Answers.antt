@@ -1,4 +1,4 @@
-use Rattle.std.proofs.Common.{◌≡◌, Bool, subst, ◌&&◌}
+use Rattle.std.proofs.Common.{Bool, subst}
 use Rattle.ti_cert.specs.Seen.{ClashesAs, NoneClashes}
 use Rattle.ti_cert.proofs.Together.{together, clash}
 use Rattle.ti_cert.proofs.clashes.first_clash.Goals as goal
