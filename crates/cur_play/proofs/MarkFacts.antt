@@ -1,9 +1,11 @@
 -- The marks of a session, call by call.
-use Rattle.std.proofs.Common.{◌≡◌, ◌==◌, ℕ, Bool, true, false, Option, Some, None, Result, Ok, Err, if◌then◌else◌, refl, sym, ap, ◌∙◌}
+use Rattle.std.proofs.Common.{◌≡◌, ◌==◌, ℕ, Bool, true, false, Option, Some, None, Result, Ok, Err, ℤ, if◌then◌else◌, refl, sym, ap, ◌∙◌}
 use Rattle.cur_drawing.specs.declared.refusals.Refusal.{Refusal}
+use Rattle.cur_drawing.specs.Cells.{pair_count}
 use Rattle.cur_drawing.specs.Grids.{Grid, cell_at}
 use Rattle.cur_drawing.specs.Marks.{AreSame, IsUnmarked, Keeps, Marking}
-use Rattle.cur_windows.specs.VirtualScreen.{Screen, initialized}
+use Rattle.cur_drawing.specs.Windows.{place_below}
+use Rattle.cur_windows.specs.VirtualScreen.{Screen, init_pair, initialized}
 use Rattle.cur_update.specs.Painters.{Painted}
 
 -- screens of equal cells
@@ -22,13 +24,19 @@ keeps_all m n g h all v same i j u = absurd (let none : n.all ≡ false = u.some
 pub keeps_same : (m : Marking) (g h : Grid) → h ≡ g → Keeps m g m h
 keeps_same m g h e v same i j u = same i j u ∙ sym (ap (λ (x : Grid). cell_at x i j) e)
 
-chosen_grid : (b : Bool) (v w : Screen) (x y : Result (Unit {0}) Refusal) → w.grid ≡ v.grid → (if b then (v, x) else (w, y)).0.grid ≡ v.grid
+abbrev grid_of : Screen × Result (Unit {0}) Refusal → Grid
+grid_of p = p.0.grid
+
+chosen_grid : (b : Bool) (v w : Screen) (x y : Result (Unit {0}) Refusal) → w.grid ≡ v.grid → grid_of (if b then (v, x) else (w, y)) ≡ v.grid
 chosen_grid true v w x y e = refl
 chosen_grid false v w x y e = e
 
 -- a pair's colours are no cell
-pub initialized_grid : (p f b : Option ℕ) (v : Screen) → (initialized p f b v).0.grid ≡ v.grid
+initialized_grid : (p f b : Option ℕ) (v : Screen) → (initialized p f b v).0.grid ≡ v.grid
 initialized_grid (Some p) (Some f) (Some b) v = chosen_grid (p == 0) v _ _ _ refl
 initialized_grid (Some p) (Some f) None v = refl
 initialized_grid (Some p) None b v = refl
 initialized_grid None f b v = refl
+
+pub init_pair_grid : (p f b : ℤ) (v w : Screen) (x : Result (Unit {0}) Refusal) → (w, x) ≡ init_pair p f b v → w.grid ≡ v.grid
+init_pair_grid p f b v w x e = ap grid_of e ∙ initialized_grid (place_below p pair_count) (place_below f 8) (place_below b 8) v
