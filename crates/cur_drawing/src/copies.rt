@@ -1,11 +1,14 @@
 //! Copying rectangles of cells between grids.
 ghost use Rattle.std.specs.Prelude.{◌≡◌, ◌<◌, ◌≤◌, ◌+◌, ◌-◌, ℕ, length, slice_index_or};
 ghost use Rattle.cur_drawing.specs.Cells.{space};
+ghost use Rattle.cur_drawing.specs.Calls.{place};
 ghost use Rattle.cur_drawing.specs.Grids.{Fits, copied, drawn_in, line_at, moved_to, overlaid, row_of, shape_of, taken};
+ghost use Rattle.cur_drawing.specs.Marks.{AreSame, IsSameIn, Keeps};
 ghost use Rattle.cur_drawing.specs.Spans.{ArePlaces};
 
 use crate::cells::Cell;
 use crate::differences::changed;
+use crate::marks::Marks;
 use crate::rules::SkipSpaces;
 use grids::{Area, Grid, Place};
 
@@ -47,27 +50,42 @@ pub fn overlay_shift(grid: &mut Grid<Cell>, patch: Patch)
 }
 
 /// The rectangle gets the cells of another grid from a place on. Of each line only the cells from the first one that
-/// differs to the last one are written.
-pub fn copy_changed(grid: &mut Grid<Cell>, area: Area, source: &Grid<Cell>, from: Place)
+/// differs to the last one are written, and marked as well.
+pub fn copy_changed(
+    grid: &mut Grid<Cell>,
+    area: Area,
+    source: &Grid<Cell>,
+    from: Place,
+    marks: &mut Marks,
+)
     requires target { Fits area grid.old }
     requires source { Fits (moved_to area from) source.now }
     requires places { ArePlaces area from }
     ensures value { grid.new ≡ copied area from source.now grid.old }
     ensures shape { shape_of grid.new ≡ shape_of grid.old }
+    ensures marked { Keeps marks.old grid.old marks.new grid.new }
 {
     for k in 0..area.rows {
-        copy_changed_row(grid, area, k, source, from);
+        copy_changed_row(grid, area, k, source, from, marks);
     }
 }
 
 // The row `k` of the rectangle.
-fn copy_changed_row(grid: &mut Grid<Cell>, area: Area, k: u16, source: &Grid<Cell>, from: Place)
+fn copy_changed_row(
+    grid: &mut Grid<Cell>,
+    area: Area,
+    k: u16,
+    source: &Grid<Cell>,
+    from: Place,
+    marks: &mut Marks,
+)
     requires target { Fits area grid.old }
     requires source { Fits (moved_to area from) source.now }
     requires places { ArePlaces area from }
     requires within { k < area.rows }
     ensures value { grid.new ≡ drawn_in (row_of area k) (taken area from source.now) grid.old }
     ensures shape { shape_of grid.new ≡ shape_of grid.old }
+    ensures marked { Keeps marks.old grid.old marks.new grid.new }
 {
     let (row, from_row) = (area.top + k, from.row + k);
     let old = part_of(grid.line(row as usize), area.left, area.cols);
@@ -86,6 +104,52 @@ fn copy_changed_row(grid: &mut Grid<Cell>, area: Area, k: u16, source: &Grid<Cel
         col: from.col + span.at,
     };
     grid.copy_from(part, source, place);
+    marks.mark(row, part.left, part.left + part.cols);
+}
+
+/// The rectangle, from the first column on, gets the cells of the same places of another grid, which has the same cells
+/// outside the marks: only what is marked is written.
+pub fn copy_marked(grid: &mut Grid<Cell>, area: Area, source: &Grid<Cell>, marks: &Marks)
+    requires left { area.left ≡ 0 }
+    requires short { area.top + area.rows < 65536 }
+    requires target { Fits area grid.old }
+    requires source { Fits area source.now }
+    requires marked { AreSame marks.now grid.old source.now }
+    ensures value { grid.new ≡ copied area (place area.top area.left) source.now grid.old }
+    ensures shape { shape_of grid.new ≡ shape_of grid.old }
+{
+    for k in 0..area.rows {
+        copy_marked_row(grid, area, k, source, marks);
+    }
+}
+
+// The row `k` of the rectangle.
+fn copy_marked_row(
+    grid: &mut Grid<Cell>,
+    area: Area,
+    k: u16,
+    source: &Grid<Cell>,
+    marks: &Marks,
+)
+    requires left { area.left ≡ 0 }
+    requires short { area.top + area.rows < 65536 }
+    requires target { Fits area grid.old }
+    requires source { Fits area source.now }
+    requires within { k < area.rows }
+    requires marked { IsSameIn marks.now (area.top + k) grid.old source.now }
+    ensures value { grid.new ≡ drawn_in (row_of area k) (taken area (place area.top area.left) source.now) grid.old }
+    ensures shape { shape_of grid.new ≡ shape_of grid.old }
+{
+    let row = area.top + k;
+    let span = marks.columns(row, area.cols);
+    let left = area.left + span.at;
+    let part = Area {
+        top: row,
+        left,
+        rows: 1,
+        cols: span.size,
+    };
+    grid.copy_from(part, source, Place { row, col: left });
 }
 
 // The `cols` cells of a line from the column `left` on.

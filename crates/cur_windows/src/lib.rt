@@ -19,7 +19,7 @@ mod virtual_screen;
 pub use copies::in_order;
 pub use creations::in_range;
 pub use cur_drawing::{
-    Area, Attrs, Border, Cell, Place, Put, Refusal, Window, first_diff, last_diff,
+    Area, Attrs, Border, Cell, Marks, Place, Put, Refusal, Window, first_diff, last_diff,
 };
 pub use desks::{Desk, WINDOWS};
 pub use hints::Hint;

@@ -9,7 +9,7 @@ ghost use Rattle.cur_windows.specs.Pads.{area, is_pad, pad_added, part_shown};
 use crate::desks::{Desk, blank_grid};
 use crate::slots::{Origin, whole_area};
 use crate::virtual_screen::{Copy, Virtual};
-use cur_drawing::{Refusal, Window, cursor_in_part};
+use cur_drawing::{Marks, Refusal, Window, cursor_in_part};
 use grids::{Area, Place};
 use std::alloc::AllocError;
 
@@ -140,7 +140,8 @@ impl Desk {
             clears: slot.window.clears,
             root: slot.root,
         };
-        screen.show(copy, self.grid_of(&slot), None);
+        let mut marks = Marks::unknown(self.alloc);
+        screen.show(copy, self.grid_of(&slot), None, &mut marks);
         slot.window.clears = false;
         self.windows[id] = Some(slot);
     }

@@ -1,6 +1,7 @@
 //! Copying a window to the virtual screen.
 ghost use Rattle.std.specs.Prelude.{◌≡◌, ◌<◌, ◌≤◌, ◌+◌, IfSome, Some, None, if◌then◌else◌, false};
 ghost use Rattle.cur_drawing.specs.Calls.{IsCanvas, place};
+ghost use Rattle.cur_drawing.specs.Marks.{Keeps};
 ghost use Rattle.cur_drawing.specs.Windows.{IsWindow};
 ghost use Rattle.cur_windows.specs.Desks as spec;
 ghost use Rattle.cur_windows.specs.Creations as make;
@@ -9,7 +10,7 @@ ghost use Rattle.cur_windows.specs.VirtualScreen.{refresh, noutrefresh, area_on_
 use crate::desks::Desk;
 use crate::slots::Slot;
 use crate::virtual_screen::{Copy, Virtual};
-use cur_drawing::{Cell, Refusal};
+use cur_drawing::{Cell, Marks, Refusal};
 use grids::{Area, Grid, Place};
 
 impl Desk {
@@ -20,6 +21,22 @@ impl Desk {
         requires rows { (screen.old).rows ≡ (self.old).rows }
         requires cols { (screen.old).cols ≡ (self.old).cols }
         ensures { refresh self.new screen.new result ≡ noutrefresh self.old screen.old id }
+    {
+        let mut marks = Marks::unknown(self.alloc);
+        self.noutrefresh_marked(id, screen, &mut marks)
+    }
+
+    /// As `noutrefresh`; where the screen's cells have changed they are marked as well.
+    pub fn noutrefresh_marked(
+        &mut self,
+        id: usize,
+        screen: &mut Virtual,
+        marks: &mut Marks,
+    ) -> Result<(), Refusal>
+        requires rows { (screen.old).rows ≡ (self.old).rows }
+        requires cols { (screen.old).cols ≡ (self.old).cols }
+        ensures step { refresh self.new screen.new result ≡ noutrefresh self.old screen.old id }
+        ensures marked { Keeps marks.old (screen.old).grid marks.new (screen.new).grid }
     {
         let mut slot = self.find(id)?;
         self.check_window(&slot)?;
@@ -36,7 +53,7 @@ impl Desk {
             clears: slot.window.clears,
             root: slot.root,
         };
-        screen.show(copy, self.grid_of(&slot), self.scrolled);
+        screen.show(copy, self.grid_of(&slot), self.scrolled, marks);
         self.scrolled = None;
         slot.window.clears = false;
         self.windows[id] = Some(slot);

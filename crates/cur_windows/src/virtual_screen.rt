@@ -2,12 +2,15 @@
 ghost use Rattle.std.specs.Prelude.{ℕ, length, slice_index_or, ◌≡◌, ◌<◌, ◌≤◌, ◌+◌, IfOk, IfSome, replicate};
 ghost use Rattle.cur_drawing.specs.Cells.{IsCell, space};
 ghost use Rattle.cur_drawing.specs.Grids.{Fits, line_at, moved_to};
+ghost use Rattle.cur_drawing.specs.Marks.{AreSame, Keeps};
 ghost use Rattle.cur_drawing.specs.Spans.{ArePlaces};
 ghost use Rattle.cur_windows.specs.VirtualScreen as spec;
 
 use crate::desks::blank_grid;
 use crate::hints::{Hint, Owners, Scroll, later_of};
-use cur_drawing::{Cell, PAIRS, Refusal, all_cells, copy_changed, place_below};
+use cur_drawing::{
+    Cell, Marks, PAIRS, Refusal, all_cells, copy_changed, copy_marked, place_below,
+};
 use grids::{Area, Grid, Place};
 use std::alloc::{AllocError, Global};
 use std::marker::Model;
@@ -180,10 +183,12 @@ impl Virtual {
         (colors.foreground, colors.background)
     }
 
-    /// Becomes what another virtual screen of its size is. Takes no memory.
-    pub fn copy_from(&mut self, other: &Virtual)
+    /// Becomes what another virtual screen of its size is, whose cells are the same outside the marks. Only what is marked
+    /// is copied. Takes no memory.
+    pub fn copy_marked(&mut self, other: &Virtual, marks: &Marks)
         requires rows { (self.old).rows ≡ (other.now).rows }
         requires cols { (self.old).cols ≡ (other.now).cols }
+        requires marked { AreSame marks.now (self.old).grid (other.now).grid }
         ensures { self.new ≡ other.now }
     {
         let area = Area {
@@ -192,8 +197,7 @@ impl Virtual {
             rows: self.rows,
             cols: self.cols,
         };
-        self.grid
-            .copy_from(area, &other.grid, Place { row: 0, col: 0 });
+        copy_marked(&mut self.grid, area, &other.grid, marks);
         self.pairs.copy_from_slice(&other.pairs);
         self.cursor = other.cursor;
         self.clearok = other.clearok;
@@ -201,16 +205,24 @@ impl Virtual {
         self.owners = other.owners;
     }
 
-    // A rectangle gets the cells of a grid from a place on. A scroll replaces the one that is remembered.
-    pub(crate) fn show(&mut self, copy: Copy, grid: &Grid<Cell>, scrolled: Option<Scroll>)
+    // A rectangle gets the cells of a grid from a place on, and where they differ they are marked. A scroll replaces the
+    // one that is remembered.
+    pub(crate) fn show(
+        &mut self,
+        copy: Copy,
+        grid: &Grid<Cell>,
+        scrolled: Option<Scroll>,
+        marks: &mut Marks,
+    )
         requires rows { copy.area.top + copy.area.rows ≤ (self.old).rows }
         requires cols { copy.area.left + copy.area.cols ≤ (self.old).cols }
         requires source { Fits (moved_to copy.area copy.from) grid.now }
         requires places { ArePlaces copy.area copy.from }
         requires cursor { IfSome copy.cursor (λ p. (p.row < (self.old).rows) × (p.col < (self.old).cols)) }
-        ensures { self.new ≡ spec.shown copy.area grid.now copy.from copy.cursor copy.clears self.old }
+        ensures value { self.new ≡ spec.shown copy.area grid.now copy.from copy.cursor copy.clears self.old }
+        ensures marked { Keeps marks.old (self.old).grid marks.new (self.new).grid }
     {
-        copy_changed(&mut self.grid, copy.area, grid, copy.from);
+        copy_changed(&mut self.grid, copy.area, grid, copy.from, marks);
         let kept = self.owners.take(copy, self.cols, self.scrolled);
         self.scrolled = later_of(kept, scrolled);
         self.cursor = copy.cursor;

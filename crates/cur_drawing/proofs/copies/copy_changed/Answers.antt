@@ -9,6 +9,7 @@ pub loop-k-init : goal.loop-k-init
 loop-k-init c = record {
   value = drawn_in_none (top_rows c.args.area 0) (taken c.args.area c.args.from c.args.source.now) c.args.grid.now (no_rows c.args.area);
   shape = refl;
+  marked = λ v same. same;
 }
 
 pub copy_changed_row-requires-clause-target : goal.copy_changed_row-requires-clause-target
@@ -21,4 +22,5 @@ loop-k-preserved c =
       value = c.copy_changed_row.ensures.value ∙ ap (drawn_in (row_of a k) f) c.loop-k.invariant.value
           ∙ drawn_join (top_rows a k) (row_of a k) (top_rows a (k + 1)) f f c.args.grid.now (next_row a k) (row_apart a k) (λ i j d h. refl);
       shape = c.copy_changed_row.ensures.shape ∙ c.loop-k.invariant.shape;
+      marked = λ v same. c.copy_changed_row.ensures.marked v (c.loop-k.invariant.marked v same);
     }

@@ -1,6 +1,7 @@
--- The rows that were gone through are copied.
+-- The rows that were gone through are copied, and where they differed they are marked.
 use Rattle.std.proofs.Common.{◌≡◌}
 use Rattle.cur_drawing.specs.Grids.{drawn_in, taken, shape_of}
+use Rattle.cur_drawing.specs.Marks.{Keeps}
 use Rattle.grids.proofs.Rectangles.{top_rows}
 use Rattle.cur_drawing.proofs.copies.copy_changed.Given as goal
 
@@ -8,4 +9,5 @@ abbrev pub invariant-loop-k : goal.invariant-loop-k
 invariant-loop-k l = record {
   value : l.grid ≡ drawn_in (top_rows l.area l.k) (taken l.area l.from l.source) l.fn.grid;
   shape : shape_of l.grid ≡ shape_of l.fn.grid;
+  marked : Keeps l.fn.marks l.fn.grid l.marks l.grid;
 }

@@ -1,5 +1,6 @@
-use Rattle.std.proofs.Common.{◌∙◌, arith}
+use Rattle.std.proofs.Common.{◌∙◌, arith, refl}
 use Rattle.cur_drawing.proofs.ChangedRows.{row_copied, row_equal, equal_beside}
+use Rattle.cur_drawing.proofs.MarkFacts.{copied_kept}
 use Rattle.cur_drawing.proofs.copies.copy_changed_row.Goals as goal
 
 pub returns-in_default-clause-value : goal.returns-in_default-clause-value
@@ -17,3 +18,7 @@ returns-clause-value c =
     ∙ row_copied a c.args.from c.args.k s c.args.source.now c.args.grid.now c.requires.within c.requires.target c.requires.source (omega (arith, changes.within, c.part_of-old.ensures.len))
     (equal_beside a c.args.from c.args.k s c.args.source.now c.args.grid.now c.part_of-old.result.now c.part_of-new.result.now c.line.result.now c.line-2.result.now c.line.ensures c.line-2.ensures
     c.part_of-old.ensures.cells c.part_of-new.ensures.cells c.part_of-old.ensures.len changes.before changes.after)
+
+pub returns-clause-marked : goal.returns-clause-marked
+returns-clause-marked c =
+    copied_kept _ _ c.args.source.now c.args.grid.now c.copy_from.new.self c.args.marks.now c.mark.new.self refl c.copy_from.ensures.value c.mark.ensures.kept c.mark.ensures.marked

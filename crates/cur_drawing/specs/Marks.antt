@@ -1,0 +1,34 @@
+-- Marks at the places of a grid that may differ from another one: of each line, the columns from one on and before another.
+use Rattle.std.specs.Prelude.{ℕ, ◌<◌, ◌≤◌, ◌≡◌, ◌⊎◌, Bool, false, List, length, slice_index_or}
+use Rattle.cur_drawing.specs.Grids.{Grid, cell_at}
+use Rattle.cur_drawing.specs.declared.marks.Marked.{Marked}
+
+pub record Marking : Type 0 where
+  -- all places are marked
+  pub all : Bool
+  -- the marked columns of the lines, if not all places are; a line that isn't among these is marked as a whole
+  pub lines : List Marked
+
+abbrev pub nothing : Marked
+nothing = record { from = 0; end = 0 }
+
+abbrev pub marked_at : Marking → ℕ → Marked
+marked_at m i = slice_index_or m.lines i nothing
+
+pub record IsUnmarked (m : Marking) (i j : ℕ) : Type 0 where
+  pub some : m.all ≡ false
+  pub line : i < length m.lines
+  pub column : (j < (marked_at m i).from) ⊎ ((marked_at m i).end ≤ j)
+
+-- the line i of two grids is the same in each place that isn't marked
+abbrev pub IsSameIn : Marking → ℕ → Grid → Grid → Type 0
+IsSameIn m i v w = (j : ℕ) → IsUnmarked m i j → cell_at v i j ≡ cell_at w i j
+
+-- two grids are the same in each place that isn't marked
+abbrev pub AreSame : Marking → Grid → Grid → Type 0
+AreSame m v w = (i : ℕ) → IsSameIn m i v w
+
+-- What was the same as the one grid in all places that the one marking leaves is the same as the other grid in all places
+-- that the other leaves. So what was marked stays marked, and each place in which the two grids differ is marked.
+abbrev pub Keeps : Marking → Grid → Marking → Grid → Type 0
+Keeps m g n h = (v : Grid) → AreSame m v g → AreSame n v h
