@@ -46,7 +46,7 @@ abbrev pub infocmp_rules : App
 infocmp_rules = with_rule (with_rule (with_rule (new_app (codes "infocmp")) (switch_rule (codes "c") 99)) (switch_rule (codes "n") 110)) (several_rule (codes "ENTRY"))
 
 abbrev pub check_rules : App
-check_rules = with_size_rules (with_rule (with_rule (with_rule (new_app (codes "check")) (long_switch_rule (codes "all"))) out_rule) (positional_rule (codes "ENTRY")))
+check_rules = with_size_rules (with_rule (with_rule (with_rule (with_rule (new_app (codes "check")) (long_switch_rule (codes "all"))) (long_switch_rule (codes "json"))) out_rule) (positional_rule (codes "ENTRY")))
 
 abbrev pub verify_rules : App
 verify_rules = with_rule (with_size_rules (with_rule (new_app (codes "verify")) (positional_rule (codes "ENTRY")))) (positional_rule (codes "CERT"))
@@ -62,7 +62,7 @@ abbrev pub show_rules : App
 show_rules = with_script_rules (new_app (codes "show"))
 
 abbrev pub survey_rules : App
-survey_rules = with_rule (with_size_rules (with_rule (new_app (codes "survey")) (long_switch_rule (codes "all")))) (several_rule (codes "FILE"))
+survey_rules = with_rule (with_size_rules (with_rule (with_rule (new_app (codes "survey")) (long_switch_rule (codes "all"))) (long_switch_rule (codes "json")))) (several_rule (codes "FILE"))
 
 -- the program by itself: its own name is not among the words, and a command has to follow
 abbrev pub program : App

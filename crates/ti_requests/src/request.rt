@@ -39,6 +39,19 @@ pub struct FaultsWords<'a> {
     pub cols: &'a str,
 }
 
+/// The words of `check --json`.
+#[derive(Clone, Copy, Debug)]
+pub struct ReportWords<'a> {
+    /// Whether all faults of the entry are reported.
+    pub lists_all: bool,
+    /// The entry.
+    pub entry: &'a str,
+    /// The terminal's rows, a decimal number.
+    pub rows: &'a str,
+    /// The terminal's columns, a decimal number.
+    pub cols: &'a str,
+}
+
 /// The words of `verify`.
 #[derive(Clone, Copy, Debug)]
 pub struct VerifyWords<'a> {
@@ -105,6 +118,8 @@ pub enum Request<'a> {
     Check(CheckWords<'a>),
     /// `check --all ENTRY ROWS COLS`: list all faults of an entry.
     CheckAll(FaultsWords<'a>),
+    /// `check --json [--all] ENTRY ROWS COLS`: report on an entry, or on all its faults, in JSON.
+    CheckJson(ReportWords<'a>),
     /// `verify ENTRY ROWS COLS CERT`: verify the certificate of an entry.
     Verify(VerifyWords<'a>),
     /// `play ENTRY ROWS COLS CERT SCRIPT`: play a script of curses calls.
@@ -113,6 +128,8 @@ pub enum Request<'a> {
     Show(ScriptWords<'a>),
     /// `survey [--all] ROWS COLS FILE..`: check all entries of some files.
     Survey(SurveyWords<'a>),
+    /// `survey --json [--all] ROWS COLS FILE..`: report on all entries of some files in JSON.
+    SurveyJson(SurveyWords<'a>),
     /// `infocmp ENTRY`: print an entry.
     Print {
         /// The entry.
