@@ -21,4 +21,4 @@ numbers_whole (n ∷ ns) = numbers_whole ns
 
 pub report_whole : (report : Report) → has_float (report_data report) ≡ false
 report_whole report =
-    rw (text_whole report.bytes, text_whole report.capability, text_whole report.cause, number_whole report.line, numbers_whole report.parameters.items, text_whole report.seen, text_whole report.start, text_whole report.wanted) refl
+    rw (text_whole report.bytes, text_whole report.capability, text_whole report.cause, text_whole report.entry, number_whole report.line, numbers_whole report.parameters.items, text_whole report.seen, text_whole report.start, text_whole report.wanted) refl

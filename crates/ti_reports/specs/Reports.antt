@@ -33,7 +33,7 @@ report_data report = object (
     member (codes "bytes") (text_data report.bytes)
     (member (codes "capability") (text_data report.capability)
     (member (codes "cause") (text_data report.cause)
-    (member (codes "entry") (string (string_bytes report.entry))
+    (member (codes "entry") (text_data report.entry)
     (member (codes "file") (string (string_bytes report.file))
     (member (codes "line") (number_data report.line)
     (member (codes "parameters") (numbers_data report.parameters.items)
@@ -54,7 +54,7 @@ with_entry report ms =
     put (codes "verdict") (string (word_of report.verdict))
     (put (codes "size") (size_data report.rows report.cols)
     (put (codes "file") (string (string_bytes report.file))
-    (put (codes "entry") (string (string_bytes report.entry)) ms)))
+    (put (codes "entry") (text_data report.entry) ms)))
 
 abbrev pub with_string : Report → Members → Members
 with_string report ms =

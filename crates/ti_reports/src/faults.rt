@@ -67,7 +67,7 @@ fn yes_report(alloc: Global, subject: &Subject<'_>) -> Result<Report, AllocError
     ensures { IfOk result (λ report. spec.ReportsYes subject.now report) }
 {
     Ok(Report {
-        entry: text_of(alloc, first_name(subject.entry.names()))?,
+        entry: Some(text_of(alloc, first_name(subject.entry.names()))?),
         rows: subject.size.rows,
         cols: subject.size.cols,
         verdict: Verdict::Yes,
@@ -89,7 +89,7 @@ fn fault_report(alloc: Global, subject: &Subject<'_>, no: &No) -> Result<Report,
 {
     let explanation = explanation(alloc, subject.entry, subject.size, no)?;
     Ok(Report {
-        entry: text_of(alloc, first_name(subject.entry.names()))?,
+        entry: Some(text_of(alloc, first_name(subject.entry.names()))?),
         rows: subject.size.rows,
         cols: subject.size.cols,
         verdict: Verdict::No,

@@ -2,10 +2,12 @@
 #![tactic(auto)]
 
 mod checks;
+mod entries;
 mod explanations;
 mod faults;
 mod findings;
 mod lines;
+mod refusals;
 mod reports;
 mod sent;
 mod surveys;

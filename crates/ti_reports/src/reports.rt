@@ -34,8 +34,8 @@ impl Verdict {
 /// What one object says: of an entry, or of one of its faults. What doesn't apply is `None`.
 #[derive(Debug, Drop)]
 pub struct Report {
-    /// The entry's first name.
-    pub entry: String,
+    /// The entry's first name; `None` where it is a file that has no entries.
+    pub entry: Option<String>,
     /// The terminal's rows.
     pub rows: usize,
     /// The terminal's columns.
@@ -94,7 +94,7 @@ fn put_entry(
     ensures { OnOk result (members_view members.new.entries
         ≡ spec.with_entry report.now (members_view members.old.entries)) }
 {
-    let entry = Value::try_from_str(alloc, report.entry.as_str())?;
+    let entry = text_value(alloc, &report.entry)?;
     let file = Value::try_from_str(alloc, report.file.as_str())?;
     let verdict = Value::try_from_str(alloc, report.verdict.word())?;
     let size = size_value(alloc, report.rows, report.cols)?;

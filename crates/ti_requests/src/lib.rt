@@ -4,5 +4,6 @@
 mod request;
 
 pub use request::{
-    CheckWords, ExpandWords, FaultsWords, Request, ScriptWords, SurveyWords, VerifyWords,
+    CheckWords, ExpandWords, FaultsWords, ReportWords, Request, ScriptWords, SurveyWords,
+    VerifyWords,
 };
