@@ -61,8 +61,8 @@ AsksFor name rows (CheckAll words) =
     (name ≡ codes "check") × (is_on (codes "json") rows ≡ false) × (is_on (codes "all") rows ≡ true)
     × (first_of (codes "out") rows ≡ None) × (words.entry.now ≡ word_of (codes "ENTRY") rows)
     × (words.rows.now ≡ word_of (codes "ROWS") rows) × (words.cols.now ≡ word_of (codes "COLS") rows)
-AsksFor name rows (CheckJson words) =
-    (name ≡ codes "check") × (is_on (codes "json") rows ≡ true) × (words.lists_all ≡ is_on (codes "all") rows)
+AsksFor name rows (CheckJson lists_all words) =
+    (name ≡ codes "check") × (is_on (codes "json") rows ≡ true) × (lists_all ≡ is_on (codes "all") rows)
     × (first_of (codes "out") rows ≡ None) × (words.entry.now ≡ word_of (codes "ENTRY") rows)
     × (words.rows.now ≡ word_of (codes "ROWS") rows) × (words.cols.now ≡ word_of (codes "COLS") rows)
 AsksFor name rows (Verify words) =

@@ -41,7 +41,7 @@ fn reads(request: &Request<'_>) -> usize
         Request::Tic { entry, .. } | Request::Print { entry } => of_paths(&[file_of(entry)]),
         Request::Check(words) => of_paths(&[file_of(words.entry)]),
         Request::CheckAll(words) => of_paths(&[file_of(words.entry)]),
-        Request::CheckJson(words) => of_paths(&[file_of(words.entry)]),
+        Request::CheckJson { words, .. } => of_paths(&[file_of(words.entry)]),
         Request::Verify(words) => of_paths(&[file_of(words.entry), words.certificate]),
         Request::Play(words) | Request::Show(words) => {
             of_paths(&[file_of(words.entry), words.certificate, words.script])

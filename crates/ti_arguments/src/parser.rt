@@ -13,8 +13,7 @@ use clap::ArgMatches;
 use clap::error::{Error, ErrorKind};
 use std::alloc::{AllocError, Global};
 use ti_requests::{
-    CheckWords, ExpandWords, FaultsWords, ReportWords, Request, ScriptWords, SurveyWords,
-    VerifyWords,
+    CheckWords, ExpandWords, FaultsWords, Request, ScriptWords, SurveyWords, VerifyWords,
 };
 
 /// What a line that can be understood asks for.
@@ -142,12 +141,14 @@ fn check_request<'a>(alloc: Global, words: &ArgMatches<'a>) -> Result<Request<'a
             rows: word(words, "ROWS"),
             cols: word(words, "COLS"),
         })),
-        (true, lists_all, None) => Ok(Request::CheckJson(ReportWords {
+        (true, lists_all, None) => Ok(Request::CheckJson {
             lists_all,
-            entry: word(words, "ENTRY"),
-            rows: word(words, "ROWS"),
-            cols: word(words, "COLS"),
-        })),
+            words: FaultsWords {
+                entry: word(words, "ENTRY"),
+                rows: word(words, "ROWS"),
+                cols: word(words, "COLS"),
+            },
+        }),
         (json, _, Some(_)) => Err(UsageFault::Usage(String::from_str(alloc, no_out(json))?)),
     }
 }

@@ -1,5 +1,5 @@
 -- What `check --json` answers, by what its files hold.
-use Rattle.std.specs.Prelude.{◌≡◌, ℕ, List, [], ◌∷◌, Option, Some, None}
+use Rattle.std.specs.Prelude.{◌≡◌, ℕ, Bool, List, [], ◌∷◌, Option, Some, None}
 use Rattle.ti_caps.specs.Entry.{Content}
 use Rattle.ti_checker.specs.declared.causes.No.{No}
 use Rattle.ti_commands.specs.Contents.{Held}
@@ -11,7 +11,7 @@ use Rattle.ti_commands.specs.declared.sources.SourceText.{SourceText}
 use Rattle.ti_reports.specs.Faults.{AreFoundLines}
 use Rattle.ti_reports.specs.Findings.{AreFound}
 use Rattle.ti_reports.specs.declared.faults.Subject.{Subject}
-use Rattle.ti_requests.specs.declared.request.ReportWords.{ReportWords}
+use Rattle.ti_requests.specs.declared.request.FaultsWords.{FaultsWords}
 use Rattle.ti_verdicts.specs.Checks.{TellsNotes}
 use Rattle.ti_verdicts.specs.FaultLists.{EndsAsNo}
 
@@ -32,12 +32,12 @@ pub record TellsFound (subject : Subject) (nos : List No) (reply : Reply) : Type
 
 -- The entry that the word gives, at the size that the words give: the reply has its notes, and reports its first fault, or
 -- all of them, or that there is none.
-pub record ReportsOn (held : Held) (words : ReportWords) (reply : Reply) : Type 0 where
+pub record ReportsOn (held : Held) (lists_all : Bool) (words : FaultsWords) (reply : Reply) : Type 0 where
   pub subject : Subject
   pub given : SizeGiven words.rows.now words.cols.now subject.size.rows subject.size.cols
   pub gives : IsSourced held words.entry.now subject.entry.now subject.source.now
   pub file : subject.file.now ≡ file_of subject.source.now words.entry.now
   pub notes : TellsNotes subject.entry.now reply.notes.items
   pub nos : List No
-  pub found : AreFound words.lists_all subject.entry.now subject.size.rows subject.size.cols nos
+  pub found : AreFound lists_all subject.entry.now subject.size.rows subject.size.cols nos
   pub tells : TellsFound subject nos reply

@@ -10,21 +10,22 @@ use std::alloc::{AllocError, Global};
 use ti_caps::Entry;
 use ti_checker::No;
 use ti_commands::{Failure, Files, Reply, SourceText, size_words, sourced_entry};
-use ti_requests::ReportWords;
+use ti_requests::FaultsWords;
 use ti_verdicts::{explain_no, no_failure, notes_on};
 use ti_words::Remarks;
 use vt_term::Size;
 
 /// Replies with the notes on the entry that the `words` give and, in JSON, with what is wrong with it: its first fault,
-/// or all of them where the `words` ask for that; or that it has a certificate. The reply fails as the first fault does.
+/// or all of them where `lists_all`; or that it has a certificate. The reply fails as the first fault does.
 /// Further lines go to `remarks`.
 pub fn check_reports<F: Files>(
     alloc: Global,
-    words: &ReportWords<'_>,
+    lists_all: bool,
+    words: &FaultsWords<'_>,
     files: &mut F,
     remarks: &mut Remarks,
 ) -> Result<Reply, Failure>
-    ensures reply { IfOk result (λ reply. spec.ReportsOn (F.holds files.old) words.now reply) }
+    ensures reply { IfOk result (λ reply. spec.ReportsOn (F.holds files.old) lists_all words.now reply) }
     ensures failure { IfErr result (λ e. FailsForEntry (F.holds files.old) words.now.rows.now words.now.cols.now
         words.now.entry.now e) }
     ensures kept { F.holds files.new ≡ F.holds files.old }
@@ -32,7 +33,7 @@ pub fn check_reports<F: Files>(
     let size = size_words(alloc, words.rows, words.cols, remarks)?;
     let found = sourced_entry(alloc, files, words.entry, remarks)?;
     let notes = notes_on(alloc, &found.entry, size)?;
-    let nos = found_faults(alloc, &found.entry, size, words.lists_all)?;
+    let nos = found_faults(alloc, &found.entry, size, lists_all)?;
     let subject = Subject {
         entry: &found.entry,
         size,
@@ -40,7 +41,7 @@ pub fn check_reports<F: Files>(
         source: &found.source,
     };
     let reply = reply_of(alloc, &subject, notes, nos.as_slice())?;
-    if !words.lists_all {
+    if !lists_all {
         explain_first(alloc, &found.entry, size, nos.as_slice(), remarks);
     }
     Ok(reply)

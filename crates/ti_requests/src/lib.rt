@@ -4,6 +4,5 @@
 mod request;
 
 pub use request::{
-    CheckWords, ExpandWords, FaultsWords, ReportWords, Request, ScriptWords, SurveyWords,
-    VerifyWords,
+    CheckWords, ExpandWords, FaultsWords, Request, ScriptWords, SurveyWords, VerifyWords,
 };

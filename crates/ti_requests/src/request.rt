@@ -28,22 +28,9 @@ pub struct CheckWords<'a> {
     pub out: Option<&'a str>,
 }
 
-/// The words of `check --all`.
+/// The words of `check --all` and of `check --json`.
 #[derive(Clone, Copy, Debug)]
 pub struct FaultsWords<'a> {
-    /// The entry.
-    pub entry: &'a str,
-    /// The terminal's rows, a decimal number.
-    pub rows: &'a str,
-    /// The terminal's columns, a decimal number.
-    pub cols: &'a str,
-}
-
-/// The words of `check --json`.
-#[derive(Clone, Copy, Debug)]
-pub struct ReportWords<'a> {
-    /// Whether all faults of the entry are reported.
-    pub lists_all: bool,
     /// The entry.
     pub entry: &'a str,
     /// The terminal's rows, a decimal number.
@@ -119,7 +106,12 @@ pub enum Request<'a> {
     /// `check --all ENTRY ROWS COLS`: list all faults of an entry.
     CheckAll(FaultsWords<'a>),
     /// `check --json [--all] ENTRY ROWS COLS`: report on an entry, or on all its faults, in JSON.
-    CheckJson(ReportWords<'a>),
+    CheckJson {
+        /// Whether all faults are reported.
+        lists_all: bool,
+        /// The entry and the size.
+        words: FaultsWords<'a>,
+    },
     /// `verify ENTRY ROWS COLS CERT`: verify the certificate of an entry.
     Verify(VerifyWords<'a>),
     /// `play ENTRY ROWS COLS CERT SCRIPT`: play a script of curses calls.

@@ -40,7 +40,7 @@ fn is_entry(request: &Request<'_>, path: &str) -> bool {
         Request::Tic { entry, .. } | Request::Print { entry } => *entry == path,
         Request::Check(words) => words.entry == path,
         Request::CheckAll(words) => words.entry == path,
-        Request::CheckJson(words) => words.entry == path,
+        Request::CheckJson { words, .. } => words.entry == path,
         Request::Verify(words) => words.entry == path,
         Request::Play(words) | Request::Show(words) => words.entry == path,
         Request::Common { first, second } | Request::Neither { first, second } => {

@@ -123,7 +123,9 @@ fn reply_to<F: Files, O: Output, E: Write + IsTerminal>(
         Request::Tic { entry, out } => compile_entry(alloc, entry, *out, files, remarks),
         Request::Check(words) => check_counted(alloc, words, files, err, remarks),
         Request::CheckAll(words) => check_all(alloc, words, files, remarks),
-        Request::CheckJson(words) => check_reports(alloc, words, files, remarks),
+        Request::CheckJson { lists_all, words } => {
+            check_reports(alloc, *lists_all, words, files, remarks)
+        }
         Request::Verify(words) => verify_certificate(alloc, words, files, remarks),
         Request::Play(words) => {
             play_script(alloc, words, files, out, remarks)?;
