@@ -1,6 +1,6 @@
 //! What the string that a no is about sends.
 
-ghost use Rattle.std.specs.Prelude.{IfOk};
+ghost use Rattle.std.specs.Prelude.{◌≡◌, IfOk, option_copied};
 ghost use Rattle.ti_reports.specs.Sent as spec;
 
 use std::alloc::{AllocError, Global};
@@ -14,14 +14,29 @@ use ti_rows::Row;
 pub fn sent_text(alloc: Global, entry: &Entry, no: &No) -> Result<Option<String>, AllocError>
     ensures { IfOk result (λ text. spec.IsSentText entry.now no.now text) }
 {
-    match (row_of(no), entry.get_string(no.cap)) {
-        (Some(row), Some(string)) => sent_for(alloc, string, row),
-        _ => Ok(None),
+    sent_for(alloc, row_of(no), entry.get_string(no.cap))
+}
+
+/// What `string` sends for `row`, in hexadecimal, where there are both.
+fn sent_for(
+    alloc: Global,
+    row: Option<Row>,
+    string: Option<&[u8]>,
+) -> Result<Option<String>, AllocError>
+    ensures { IfOk result (λ text. spec.IsSent row.entry (option_copied string.entry) text) }
+{
+    match row {
+        Some(row) => match string {
+            Some(string) => sent_by(alloc, string, row),
+            None => Ok(None),
+        },
+        None => Ok(None),
     }
 }
 
 /// What `string` sends for `row`, in hexadecimal; `None` where it can't be expanded.
-fn sent_for(alloc: Global, string: &[u8], row: Row) -> Result<Option<String>, AllocError>
+#[tactic(auto, using(crate::proofs::Sends::unsent_sends_nothing))]
+fn sent_by(alloc: Global, string: &[u8], row: Row) -> Result<Option<String>, AllocError>
     ensures { IfOk result (λ text. spec.IsSentBy string.now row text) }
 {
     match send(alloc, string, row) {
@@ -35,5 +50,8 @@ fn sent_for(alloc: Global, string: &[u8], row: Row) -> Result<Option<String>, Al
 fn row_of(no: &No) -> Option<Row>
     ensures { spec.IsRowOf no.now result }
 {
-    Row::named(name(no.cap))?.with_params(no.params.as_slice())
+    match Row::named(name(no.cap)) {
+        Some(row) => row.with_params(no.params.as_slice()),
+        None => None,
+    }
 }
