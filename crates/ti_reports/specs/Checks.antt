@@ -10,7 +10,6 @@ use Rattle.ti_commands.specs.declared.failure.Reply.{Reply}
 use Rattle.ti_commands.specs.declared.sources.SourceText.{SourceText}
 use Rattle.ti_reports.specs.Faults.{AreFoundLines}
 use Rattle.ti_reports.specs.Findings.{AreFound}
-use Rattle.ti_reports.specs.declared.faults.Subject.{Subject}
 use Rattle.ti_requests.specs.declared.request.FaultsWords.{FaultsWords}
 use Rattle.ti_verdicts.specs.Checks.{TellsNotes}
 use Rattle.ti_verdicts.specs.FaultLists.{EndsAsNo}
@@ -26,18 +25,23 @@ EndsAsFirst [] failure = failure ≡ None
 EndsAsFirst (first ∷ others) failure = EndsAsNo first failure
 
 -- the reply reports these faults, and fails as the first does
-pub record TellsFound (subject : Subject) (nos : List No) (reply : Reply) : Type 0 where
-  pub lines : AreFoundLines subject nos reply.text.items
+pub record TellsFound (entry : Content) (height width : ℕ) (file : List ℕ) (source : Option SourceText) (nos : List No)
+    (reply : Reply) : Type 0 where
+  pub lines : AreFoundLines entry height width file source nos reply.text.items
   pub ends : EndsAsFirst nos reply.failure
 
 -- The entry that the word gives, at the size that the words give: the reply has its notes, and reports its first fault, or
 -- all of them, or that there is none.
 pub record ReportsOn (held : Held) (lists_all : Bool) (words : FaultsWords) (reply : Reply) : Type 0 where
-  pub subject : Subject
-  pub given : SizeGiven words.rows.now words.cols.now subject.size.rows subject.size.cols
-  pub gives : IsSourced held words.entry.now subject.entry.now subject.source.now
-  pub file : subject.file.now ≡ file_of subject.source.now words.entry.now
-  pub notes : TellsNotes subject.entry.now reply.notes.items
+  pub height : ℕ
+  pub width : ℕ
+  pub given : SizeGiven words.rows.now words.cols.now height width
+  pub entry : Content
+  pub source : Option SourceText
+  pub gives : IsSourced held words.entry.now entry source
+  pub file : List ℕ
+  pub stands : file ≡ file_of source words.entry.now
+  pub notes : TellsNotes entry reply.notes.items
   pub nos : List No
-  pub found : AreFound lists_all subject.entry.now subject.size.rows subject.size.cols nos
-  pub tells : TellsFound subject nos reply
+  pub found : AreFound lists_all entry height width nos
+  pub tells : TellsFound entry height width file source nos reply

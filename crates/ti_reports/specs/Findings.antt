@@ -7,10 +7,10 @@ use Rattle.ti_checker.specs.declared.causes.No.{No}
 use Rattle.ti_faults.specs.AllFaults.{AreAllFaults, HasCertificate}
 
 -- there is a certificate, or this no alone is so, and is the first
-abbrev pub AreFirst : Content → ℕ → ℕ → List No → Type 0
-AreFirst entry rows cols [] = HasCertificate entry rows cols
-AreFirst entry rows cols (refusal ∷ []) = IsNo entry rows cols refusal × (refusal.cause ≢ NoMemory)
-AreFirst entry rows cols (refusal ∷ other ∷ more) = ⊥
+pub data AreFirst (entry : Content) (rows cols : ℕ) (nos : List No) : Type 0 where
+  NoFault : nos ≡ [] → HasCertificate entry rows cols → AreFirst entry rows cols nos
+  Faulty : (refusal : No) → IsNo entry rows cols refusal → refusal.cause ≢ NoMemory → nos ≡ refusal ∷ []
+      → AreFirst entry rows cols nos
 
 abbrev pub AreFound : Bool → Content → ℕ → ℕ → List No → Type 0
 AreFound true entry rows cols nos = AreAllFaults entry rows cols nos

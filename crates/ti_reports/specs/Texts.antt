@@ -1,5 +1,5 @@
 -- Bytes as text: JSON has no others.
-use Rattle.std.specs.Prelude.{◌≡◌, ◌⊎◌, ◌+◌, ◌/◌, ◌%◌, ◌≤◌, ◌&&◌, ℕ, List, [], ◌∷◌, if◌then◌else◌, nat_le}
+use Rattle.std.specs.Prelude.{◌≡◌, ◌+◌, ◌/◌, ◌%◌, ◌≤◌, ◌&&◌, ℕ, List, [], ◌∷◌, if◌then◌else◌, nat_le}
 use Rattle.std.specs.List.{flat_map}
 use Rattle.std.specs.Str.{IsUtf8}
 
@@ -15,5 +15,6 @@ abbrev pub shown : List ℕ → List ℕ
 shown bytes = flat_map shown_byte bytes
 
 -- bytes that are text stand for themselves, and others are shown
-abbrev pub IsTextOf : List ℕ → List ℕ → Type 0
-IsTextOf bytes text = (IsUtf8 bytes × (text ≡ bytes)) ⊎ ((IsUtf8 bytes → ⊥) × (text ≡ shown bytes))
+pub data IsTextOf (bytes text : List ℕ) : Type 0 where
+  AsText : IsUtf8 bytes → text ≡ bytes → IsTextOf bytes text
+  AsShown : (IsUtf8 bytes → ⊥) → text ≡ shown bytes → IsTextOf bytes text

@@ -55,7 +55,8 @@ fn reply_of(
     nos: &[No],
 ) -> Result<Reply, AllocError>
     ensures noted { IfOk result (λ reply. reply.notes ≡ notes) }
-    ensures told { IfOk result (λ reply. spec.TellsFound subject.now nos.now reply) }
+    ensures told { IfOk result (λ reply. spec.TellsFound subject.now.entry.now
+        subject.now.size.rows subject.now.size.cols subject.now.file.now subject.now.source.now nos.now reply) }
 {
     Ok(Reply {
         notes,

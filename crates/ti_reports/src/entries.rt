@@ -25,7 +25,8 @@ pub fn file_lines<W: Watcher>(
     bytes: &[u8],
     watcher: &mut W,
 ) -> Result<Vec<u8>, AllocError>
-    ensures { IfOk result (λ lines. spec.AreReports asked path.now bytes.now lines.items) }
+    ensures { IfOk result (λ lines. spec.AreReports asked.size.rows asked.size.cols asked.lists_all
+        path.now bytes.now lines.items) }
 {
     if is_compiled(bytes) {
         compiled_lines(alloc, asked, path, bytes)
@@ -41,7 +42,8 @@ fn compiled_lines(
     path: &str,
     bytes: &[u8],
 ) -> Result<Vec<u8>, AllocError>
-    ensures { IfOk result (λ lines. spec.AreReportsBy true asked path.now bytes.now lines.items) }
+    ensures { IfOk result (λ lines. spec.AreReportsBy true asked.size.rows asked.size.cols asked.lists_all
+        path.now bytes.now lines.items) }
 {
     match decode(bytes) {
         Ok(packed) => packed_lines(alloc, asked, path, &packed),
@@ -59,7 +61,8 @@ fn packed_lines(
     path: &str,
     packed: &Packed<'_>,
 ) -> Result<Vec<u8>, AllocError>
-    ensures { IfOk result (λ lines. spec.IsPackedPart asked path.now packed.now lines.items) }
+    ensures { IfOk result (λ lines. spec.IsPackedPart asked.size.rows asked.size.cols asked.lists_all
+        path.now packed.now lines.items) }
 {
     let entry = unpacked_entry(alloc, packed)?;
     let name = first_name(packed.names());
@@ -74,7 +77,8 @@ fn text_lines<W: Watcher>(
     bytes: &[u8],
     watcher: &mut W,
 ) -> Result<Vec<u8>, AllocError>
-    ensures { IfOk result (λ lines. spec.AreReportsBy false asked path.now bytes.now lines.items) }
+    ensures { IfOk result (λ lines. spec.AreReportsBy false asked.size.rows asked.size.cols asked.lists_all
+        path.now bytes.now lines.items) }
 {
     match read(alloc, bytes) {
         Ok(raws) => source_lines(alloc, asked, path, raws.as_slice(), watcher),
@@ -97,7 +101,8 @@ fn source_lines<W: Watcher>(
     watcher: &mut W,
 ) -> Result<Vec<u8>, AllocError>
     requires { AllByRecursion IsRaw raws.now }
-    ensures { IfOk result (λ lines. HasParts (spec.IsSourcePart asked path.now raws.now)
+    ensures { IfOk result (λ lines. HasParts (spec.IsSourcePart asked.size.rows asked.size.cols asked.lists_all
+        path.now raws.now)
         (range_with_len 0 (length raws.now)) lines.items) }
 {
     let mut lines = Vec::new(alloc);
@@ -120,7 +125,8 @@ fn source_part(
 ) -> Result<Vec<u8>, AllocError>
     requires read { AllByRecursion IsRaw raws.now }
     requires there { place < length raws.now }
-    ensures { IfOk result (λ lines. spec.IsSourcePart asked path.now raws.now place lines.items) }
+    ensures { IfOk result (λ lines. spec.IsSourcePart asked.size.rows asked.size.cols asked.lists_all
+        path.now raws.now place lines.items) }
 {
     let raw = raw_at(raws, place);
     let entry = entry_at(alloc, raws, place)?;
@@ -145,7 +151,8 @@ fn entry_lines(
     name: &[u8],
     entry: &Result<Entry, CommandRefusal>,
 ) -> Result<Vec<u8>, AllocError>
-    ensures { IfOk result (λ lines. spec.IsReported asked path.now name.now entry.now lines.items) }
+    ensures { IfOk result (λ lines. spec.IsReported asked.size.rows asked.size.cols asked.lists_all
+        path.now name.now entry.now lines.items) }
 {
     match entry {
         Ok(entry) => said_lines(alloc, asked, path, entry),
@@ -157,13 +164,9 @@ fn entry_lines(
 }
 
 /// The lines of what is found out about `entry`, which the file at `path` has.
-fn said_lines(
-    alloc: Global,
-    asked: Asked,
-    path: &str,
-    entry: &Entry,
-) -> Result<Vec<u8>, AllocError>
-    ensures { IfOk result (λ lines. spec.AreOfEntry asked path.now entry.now lines.items) }
+fn said_lines(alloc: Global, asked: Asked, path: &str, entry: &Entry) -> Result<Vec<u8>, AllocError>
+    ensures { IfOk result (λ lines. spec.AreOfEntry asked.size.rows asked.size.cols asked.lists_all
+        path.now entry.now lines.items) }
 {
     let nos = found_faults(alloc, entry, asked.size, asked.lists_all)?;
     let subject = Subject {

@@ -1,8 +1,11 @@
 //! Reports on an entry that is there.
 
-ghost use Rattle.std.specs.Prelude.{◌≡◌, IfOk};
+ghost use Rattle.std.specs.Prelude.{IfOk, string_bytes};
+ghost use Rattle.ti_caps.specs.Table.{name_at};
 ghost use Rattle.ti_reports.specs.Faults as spec;
-ghost use Rattle.ti_verdicts.specs.Lines.{HasParts};
+ghost use Rattle.ti_reports.specs.Texts.{IsTextOf};
+ghost use Rattle.ti_verdicts.specs.Lines.{HasParts, first_name};
+ghost use Rattle.ti_verdicts.specs.Refusals.{cause_name};
 
 use crate::explanations::explanation;
 use crate::lines::value_line;
@@ -10,8 +13,8 @@ use crate::reports::{Report, Verdict, report_line};
 use crate::sent::sent_text;
 use crate::texts::text_of;
 use std::alloc::{AllocError, Global};
-use ti_caps::{Entry, name};
-use ti_checker::No;
+use ti_caps::{Cap, Entry, name};
+use ti_checker::{Cause, No};
 use ti_commands::SourceText;
 use ti_verdicts::{cause_name, first_name};
 use vt_term::Size;
@@ -30,22 +33,20 @@ pub struct Subject<'a> {
 }
 
 /// The lines of the faults `nos` of the `subject`; or that it has none.
-pub fn found_lines(
-    alloc: Global,
-    subject: &Subject<'_>,
-    nos: &[No],
-) -> Result<Vec<u8>, AllocError>
-    ensures { IfOk result (λ lines. spec.AreFoundLines subject.now nos.now lines.items) }
+pub fn found_lines(alloc: Global, subject: &Subject<'_>, nos: &[No]) -> Result<Vec<u8>, AllocError>
+    ensures { IfOk result (λ lines. spec.AreFoundLines subject.now.entry.now
+        subject.now.size.rows subject.now.size.cols subject.now.file.now subject.now.source.now nos.now lines.items) }
 {
     match nos {
-        [] => report_line(alloc, &yes_report(alloc, subject)?),
+        [] => yes_line(alloc, subject),
         [_, ..] => fault_lines(alloc, subject, nos),
     }
 }
 
 /// A line for each of the faults `nos` of the `subject`, in their order.
 fn fault_lines(alloc: Global, subject: &Subject<'_>, nos: &[No]) -> Result<Vec<u8>, AllocError>
-    ensures { IfOk result (λ lines. HasParts (spec.IsFaultLine subject.now) nos.now lines.items) }
+    ensures { IfOk result (λ lines. HasParts (spec.IsFaultLine subject.now.entry.now
+        subject.now.size.rows subject.now.size.cols subject.now.file.now subject.now.source.now) nos.now lines.items) }
 {
     let mut lines = Vec::new(alloc);
     for no in nos {
@@ -57,17 +58,29 @@ fn fault_lines(alloc: Global, subject: &Subject<'_>, nos: &[No]) -> Result<Vec<u
 
 /// The line of the fault `no` of the `subject`.
 fn fault_line(alloc: Global, subject: &Subject<'_>, no: &No) -> Result<Vec<u8>, AllocError>
-    ensures { IfOk result (λ line. spec.IsFaultLine subject.now no.now line.items) }
+    ensures { IfOk result (λ line. spec.IsFaultLine subject.now.entry.now
+        subject.now.size.rows subject.now.size.cols subject.now.file.now subject.now.source.now no.now line.items) }
 {
-    report_line(alloc, &fault_report(alloc, subject, no)?)
+    let report = fault_report(alloc, subject, no)?;
+    report_line(alloc, &report)
+}
+
+/// The line that the `subject` has a certificate.
+fn yes_line(alloc: Global, subject: &Subject<'_>) -> Result<Vec<u8>, AllocError>
+    ensures { IfOk result (λ line. spec.IsReportLine (spec.ReportsYes subject.now.entry.now
+        subject.now.size.rows subject.now.size.cols subject.now.file.now) line.items) }
+{
+    let report = yes_report(alloc, subject)?;
+    report_line(alloc, &report)
 }
 
 /// The report that the `subject` has a certificate.
 fn yes_report(alloc: Global, subject: &Subject<'_>) -> Result<Report, AllocError>
-    ensures { IfOk result (λ report. spec.ReportsYes subject.now report) }
+    ensures { IfOk result (λ report. spec.ReportsYes subject.now.entry.now
+        subject.now.size.rows subject.now.size.cols subject.now.file.now report) }
 {
     Ok(Report {
-        entry: Some(text_of(alloc, first_name(subject.entry.names()))?),
+        entry: Some(name_text(alloc, subject.entry)?),
         rows: subject.size.rows,
         cols: subject.size.cols,
         verdict: Verdict::Yes,
@@ -85,17 +98,18 @@ fn yes_report(alloc: Global, subject: &Subject<'_>) -> Result<Report, AllocError
 
 /// The report of the fault `no` of the `subject`.
 fn fault_report(alloc: Global, subject: &Subject<'_>, no: &No) -> Result<Report, AllocError>
-    ensures { IfOk result (λ report. spec.ReportsFault subject.now no.now report) }
+    ensures { IfOk result (λ report. spec.ReportsFault subject.now.entry.now
+        subject.now.size.rows subject.now.size.cols subject.now.file.now subject.now.source.now no.now report) }
 {
     let explanation = explanation(alloc, subject.entry, subject.size, no)?;
     Ok(Report {
-        entry: Some(text_of(alloc, first_name(subject.entry.names()))?),
+        entry: Some(name_text(alloc, subject.entry)?),
         rows: subject.size.rows,
         cols: subject.size.cols,
         verdict: Verdict::No,
-        capability: Some(text_of(alloc, name(no.cap))?),
+        capability: Some(cap_text(alloc, no.cap)?),
         parameters: Vec::from_slice(alloc, no.params.as_slice())?,
-        cause: Some(text_of(alloc, cause_name(no.cause))?),
+        cause: Some(cause_text(alloc, no.cause)?),
         bytes: sent_text(alloc, subject.entry, no)?,
         start: explanation.start,
         wanted: explanation.wanted,
@@ -103,4 +117,25 @@ fn fault_report(alloc: Global, subject: &Subject<'_>, no: &No) -> Result<Report,
         file: String::from_str(alloc, subject.file)?,
         line: value_line(alloc, subject.source, no.cap)?,
     })
+}
+
+/// The first name of `entry`.
+fn name_text(alloc: Global, entry: &Entry) -> Result<String, AllocError>
+    ensures { IfOk result (λ text. IsTextOf (first_name entry.now.names) (string_bytes text)) }
+{
+    text_of(alloc, first_name(entry.names()))
+}
+
+/// The name of `cap`.
+fn cap_text(alloc: Global, cap: Cap) -> Result<String, AllocError>
+    ensures { IfOk result (λ text. IsTextOf (name_at cap) (string_bytes text)) }
+{
+    text_of(alloc, name(cap))
+}
+
+/// The name of `cause`.
+fn cause_text(alloc: Global, cause: Cause) -> Result<String, AllocError>
+    ensures { IfOk result (λ text. IsTextOf (cause_name cause) (string_bytes text)) }
+{
+    text_of(alloc, cause_name(cause))
 }

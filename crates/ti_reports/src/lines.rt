@@ -30,11 +30,7 @@ fn line_in(alloc: Global, source: &SourceText<'_>, cap: Cap) -> Result<Option<us
     // the name was resolved before, so memory ran out
     match origin(alloc, source.raws.as_slice(), source.name.as_bytes(), cap) {
         Ok(None) => Ok(None),
-        Ok(Some(origin)) => Ok(Some(line_of_field(
-            alloc,
-            source.text.as_slice(),
-            origin,
-        )?)),
+        Ok(Some(origin)) => Ok(Some(line_of_field(alloc, source.text.as_slice(), origin)?)),
         Err(_) => Err(AllocError),
     }
 }

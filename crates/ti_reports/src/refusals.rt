@@ -8,7 +8,8 @@ use crate::surveys::Asked;
 use crate::texts::text_of;
 use std::alloc::{AllocError, Global};
 
-/// The line that an entry of the file at `path` can't be had under this `name`, or no entry of it without one, and `why`.
+/// The line that an entry of the file at `path` can't be had under this `name`, or that none of it can without one, and
+/// `why`.
 pub fn refused_line(
     alloc: Global,
     asked: Asked,
@@ -16,7 +17,8 @@ pub fn refused_line(
     name: Option<&[u8]>,
     why: &[u8],
 ) -> Result<Vec<u8>, AllocError>
-    ensures { IfOk result (λ line. spec.IsRefusedLine asked path.now (option_map (λ n. n.now) name.entry) line.items) }
+    ensures { IfOk result (λ line. spec.IsRefusedLine asked.size.rows asked.size.cols
+        path.now (option_map (λ n. n.now) name.entry) line.items) }
 {
     report_line(alloc, &refused_report(alloc, asked, path, name, why)?)
 }
@@ -29,7 +31,8 @@ fn refused_report(
     name: Option<&[u8]>,
     why: &[u8],
 ) -> Result<Report, AllocError>
-    ensures { IfOk result (λ report. spec.ReportsRefused asked path.now (option_map (λ n. n.now) name.entry) report) }
+    ensures { IfOk result (λ report. spec.ReportsRefused asked.size.rows asked.size.cols
+        path.now (option_map (λ n. n.now) name.entry) report) }
 {
     Ok(Report {
         entry: text_if(alloc, name)?,

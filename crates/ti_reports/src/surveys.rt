@@ -73,7 +73,7 @@ fn survey_paths<F: Files, W: Watcher>(
     watcher: &mut W,
     remarks: &mut Remarks,
 ) -> Result<Surveyed, AllocError>
-    ensures told { IfOk result (λ surveyed. EndsPaths (spec.AreReports asked)
+    ensures told { IfOk result (λ surveyed. EndsPaths (spec.AreReports asked.size.rows asked.size.cols asked.lists_all)
         (F.holds files.old) (texts_of paths.now) surveyed.lines.items surveyed.failure) }
     ensures kept { F.holds files.new ≡ F.holds files.old }
 {
@@ -107,7 +107,7 @@ fn survey_path<F: Files, W: Watcher>(
     watcher: &mut W,
     remarks: &mut Remarks,
 ) -> Result<Surveyed, AllocError>
-    ensures told { IfOk result (λ surveyed. EndsPath (spec.AreReports asked)
+    ensures told { IfOk result (λ surveyed. EndsPath (spec.AreReports asked.size.rows asked.size.cols asked.lists_all)
         (F.holds files.old) path.now surveyed.lines.items surveyed.failure) }
     ensures kept { F.holds files.new ≡ F.holds files.old }
 {
