@@ -168,7 +168,7 @@ With --json there is no certificate either. The output is a JSON object on a lin
 --all one for each fault, or one with the verdict `yes`. Each has the members entry (the first name), size (rows and cols),
 verdict (`yes` or `no`), capability, parameters, cause, bytes (what the string sends, in hexadecimal), start, wanted and
 seen (the words of the lines that begin so), file (its path) and line (on which the value stands); what doesn't apply is
-null. Standard error and the exit status are those of the form without --json.
+null. The notes, the line `refused: ` and the exit status are those of the form without --json.
 
 A certificate has at most 67108864 bytes. The limits of a source file and of a compiled file are those of
 `ticurses tic --help`.
