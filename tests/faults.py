@@ -221,5 +221,6 @@ def judge_by_hand():
     print("faults: an entry with six faults is mended in one round")
 
 
-judge_planted()
-judge_by_hand()
+if __name__ == "__main__":
+    judge_planted()
+    judge_by_hand()

@@ -17,7 +17,7 @@ from crates import TOP, listed
 # the scripts that run the program, which `rt ci` leaves built
 OF_PROGRAM = {
     "c.sh", "compiled.sh", "examples.sh", "expansions.sh", "faults.sh", "hello.sh", "infocmp.sh", "manual.sh", "python.sh",
-    "reality.sh", "screens.sh", "scripts.sh", "tour.sh",
+    "reality.sh", "reports.sh", "screens.sh", "scripts.sh", "tour.sh",
 }
 
 

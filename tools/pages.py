@@ -15,7 +15,7 @@ CRATES = os.path.join(TOP, "crates")
 
 # The parts of the project, each with its crates from the top down.
 PARTS = [
-    ("The program", ["ticurses", "ti_arguments", "ti_requests", "cur_commands", "ti_verdicts", "ti_commands", "ti_words"]),
+    ("The program", ["ticurses", "ti_arguments", "ti_requests", "cur_commands", "ti_reports", "ti_verdicts", "ti_commands", "ti_words"]),
     ("For programs", ["curses", "hello", "curses_c"]),
     ("Descriptions", ["ti_resolve", "ti_source", "ti_compiled", "ti_caps", "ti_parm", "ti_reach"]),
     ("The terminal", ["vt_effects", "vt_term", "vt_screen", "grids"]),
@@ -28,7 +28,7 @@ PARTS = [
 # The crates whose exported clauses are the promises to users; a helper crate counts where these cite it.
 PUBLISHED = [
     "ti_caps", "ti_source", "ti_resolve", "ti_compiled", "ti_parm", "ti_reach", "vt_term", "vt_effects", "ti_cert",
-    "ti_checker", "cur_windows", "cur_pads", "cur_update", "cur_play", "ti_commands", "ti_verdicts", "cur_commands",
+    "ti_checker", "cur_windows", "cur_pads", "cur_update", "cur_play", "ti_commands", "ti_verdicts", "ti_reports", "cur_commands",
     "ti_arguments",
 ]
 

@@ -5,7 +5,7 @@ use Rattle.std.specs.Str.{bytes_eq}
 use Rattle.ti_arguments.specs.declared.parser.ParsedLine.{ParsedLine}
 use Rattle.ti_arguments.specs.declared.parser.ParsedLine.TheVariants as answers
 use Rattle.ti_requests.specs.declared.request.Request.{Request}
-use Rattle.ti_requests.specs.declared.request.Request.TheVariants.{Expand, Feed, Tic, Check, CheckAll, Verify, Play, Show, Survey, Print, Common, Neither}
+use Rattle.ti_requests.specs.declared.request.Request.TheVariants.{Expand, Feed, Tic, Check, CheckAll, CheckJson, Verify, Play, Show, Survey, SurveyJson, Print, Common, Neither}
 use Rattle.ti_requests.specs.declared.request.ScriptWords.{ScriptWords}
 use denote.Ref.{Bor}
 
@@ -40,10 +40,12 @@ paths_read (Feed rows cols file) = file.now ∷ []
 paths_read (Tic entry out) = entry_path entry.now ∷ []
 paths_read (Check words) = entry_path words.entry.now ∷ []
 paths_read (CheckAll words) = entry_path words.entry.now ∷ []
+paths_read (CheckJson lists_all words) = entry_path words.entry.now ∷ []
 paths_read (Verify words) = entry_path words.entry.now ∷ words.certificate.now ∷ []
 paths_read (Play words) = script_paths words
 paths_read (Show words) = script_paths words
 paths_read (Survey words) = map (λ p. p.now) words.paths.items
+paths_read (SurveyJson words) = map (λ p. p.now) words.paths.items
 paths_read (Print entry) = entry_path entry.now ∷ []
 paths_read (Common first second) = entry_path first.now ∷ entry_path second.now ∷ []
 paths_read (Neither first second) = entry_path first.now ∷ entry_path second.now ∷ []

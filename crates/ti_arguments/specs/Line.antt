@@ -59,9 +59,8 @@ infocmp_rules =
 
 abbrev pub check_rules : App
 check_rules =
-    with_size_rules
-    (with_rule (with_rule (with_rule (new_app (codes "check")) (long_switch_rule (codes "all"))) out_rule)
-    (positional_rule (codes "ENTRY")))
+    with_size_rules (with_rule (with_rule (with_rule (with_rule (new_app (codes "check"))
+    (long_switch_rule (codes "all"))) (long_switch_rule (codes "json"))) out_rule) (positional_rule (codes "ENTRY")))
 
 abbrev pub verify_rules : App
 verify_rules =
@@ -82,8 +81,8 @@ show_rules = with_script_rules (new_app (codes "show"))
 
 abbrev pub survey_rules : App
 survey_rules =
-    with_rule (with_size_rules (with_rule (new_app (codes "survey")) (long_switch_rule (codes "all"))))
-    (several_rule (codes "FILE"))
+    with_rule (with_size_rules (with_rule (with_rule (new_app (codes "survey")) (long_switch_rule (codes "all")))
+    (long_switch_rule (codes "json")))) (several_rule (codes "FILE"))
 
 -- the program by itself: its own name is not among the words, and a command has to follow
 abbrev pub program : App

@@ -12,7 +12,8 @@ use Rattle.ti_arguments.specs.declared.parser.ParsedLine.{ParsedLine}
 use Rattle.ti_arguments.specs.declared.parser.ParsedLine.TheVariants as answers
 use Rattle.ti_requests.specs.declared.request.Request.{Request}
 use Rattle.ti_requests.specs.declared.request.ScriptWords.{ScriptWords}
-use Rattle.ti_requests.specs.declared.request.Request.TheVariants.{Expand, Feed, Tic, Check, CheckAll, Verify, Play, Show, Survey, Print, Common, Neither}
+use Rattle.ti_requests.specs.declared.request.SurveyWords.{SurveyWords}
+use Rattle.ti_requests.specs.declared.request.Request.TheVariants.{Expand, Feed, Tic, Check, CheckAll, CheckJson, Verify, Play, Show, Survey, SurveyJson, Print, Common, Neither}
 
 -- the word that stands for an argument, if it has one
 abbrev pub word_of : Text → List Row → Text
@@ -39,6 +40,13 @@ Plays rows words =
     × (words.cols.now ≡ word_of (codes "COLS") rows)
     × (words.certificate.now ≡ word_of (codes "CERT") rows) × (words.script.now ≡ word_of (codes "SCRIPT") rows)
 
+-- the words of a survey
+abbrev pub Surveys : Text → List Row → SurveyWords → Type 0
+Surveys name rows words =
+    (name ≡ codes "survey") × (words.lists_all ≡ is_on (codes "all") rows)
+    × (words.rows.now ≡ word_of (codes "ROWS") rows) × (words.cols.now ≡ word_of (codes "COLS") rows)
+    × (map (λ f. f.now) words.paths.items ≡ words_of (codes "FILE") rows)
+
 -- the request of a command of this name with these words for its arguments
 abbrev pub AsksFor : Text → List Row → Request → Type 0
 AsksFor name rows (Expand words) =
@@ -53,12 +61,16 @@ AsksFor name rows (Tic entry out) =
     (name ≡ codes "tic") × (entry.now ≡ word_of (codes "ENTRY") rows)
     × (option_map (λ o. o.now) out ≡ first_of (codes "out") rows)
 AsksFor name rows (Check words) =
-    (name ≡ codes "check") × (is_on (codes "all") rows ≡ false) × (words.entry.now ≡ word_of (codes "ENTRY") rows)
-    × (words.rows.now ≡ word_of (codes "ROWS") rows)
+    (name ≡ codes "check") × (is_on (codes "json") rows ≡ false) × (is_on (codes "all") rows ≡ false)
+    × (words.entry.now ≡ word_of (codes "ENTRY") rows) × (words.rows.now ≡ word_of (codes "ROWS") rows)
     × (words.cols.now ≡ word_of (codes "COLS") rows) × (option_map (λ o. o.now) words.out ≡ first_of (codes "out") rows)
 AsksFor name rows (CheckAll words) =
-    (name ≡ codes "check") × (is_on (codes "all") rows ≡ true) × (first_of (codes "out") rows ≡ None)
-    × (words.entry.now ≡ word_of (codes "ENTRY") rows)
+    (name ≡ codes "check") × (is_on (codes "json") rows ≡ false) × (is_on (codes "all") rows ≡ true)
+    × (first_of (codes "out") rows ≡ None) × (words.entry.now ≡ word_of (codes "ENTRY") rows)
+    × (words.rows.now ≡ word_of (codes "ROWS") rows) × (words.cols.now ≡ word_of (codes "COLS") rows)
+AsksFor name rows (CheckJson lists_all words) =
+    (name ≡ codes "check") × (is_on (codes "json") rows ≡ true) × (lists_all ≡ is_on (codes "all") rows)
+    × (first_of (codes "out") rows ≡ None) × (words.entry.now ≡ word_of (codes "ENTRY") rows)
     × (words.rows.now ≡ word_of (codes "ROWS") rows) × (words.cols.now ≡ word_of (codes "COLS") rows)
 AsksFor name rows (Verify words) =
     (name ≡ codes "verify") × (words.entry.now ≡ word_of (codes "ENTRY") rows)
@@ -66,10 +78,8 @@ AsksFor name rows (Verify words) =
     × (words.certificate.now ≡ word_of (codes "CERT") rows)
 AsksFor name rows (Play words) = (name ≡ codes "play") × Plays rows words
 AsksFor name rows (Show words) = (name ≡ codes "show") × Plays rows words
-AsksFor name rows (Survey words) =
-    (name ≡ codes "survey") × (words.lists_all ≡ is_on (codes "all") rows)
-    × (words.rows.now ≡ word_of (codes "ROWS") rows) × (words.cols.now ≡ word_of (codes "COLS") rows)
-    × (map (λ f. f.now) words.paths.items ≡ words_of (codes "FILE") rows)
+AsksFor name rows (Survey words) = (is_on (codes "json") rows ≡ false) × Surveys name rows words
+AsksFor name rows (SurveyJson words) = (is_on (codes "json") rows ≡ true) × Surveys name rows words
 AsksFor name rows (Print entry) = IsInfocmp name rows false false (entry.now ∷ [])
 AsksFor name rows (Common first second) = IsInfocmp name rows true false (first.now ∷ second.now ∷ [])
 AsksFor name rows (Neither first second) = IsInfocmp name rows false true (first.now ∷ second.now ∷ [])

@@ -168,6 +168,11 @@ fn check_command<'a>(alloc: Global) -> Result<Command<'a>, AllocError>
             "all",
             "List all faults of the entry, and write no certificate",
         ))?
+        .arg(long_switch(
+            alloc,
+            "json",
+            "Report in JSON, an object a line, and write no certificate",
+        ))?
         .arg(out_option(alloc, "Write the certificate to this file"))?
         .arg(entry(alloc))?;
     with_size(alloc, command)
@@ -231,6 +236,11 @@ fn survey_command<'a>(alloc: Global) -> Result<Command<'a>, AllocError>
             alloc,
             "all",
             "List all faults of each entry, a line for each",
+        ))?
+        .arg(long_switch(
+            alloc,
+            "json",
+            "Report in JSON, an object a line",
         ))?;
     with_size(alloc, command)?.arg(several(
         alloc,

@@ -164,6 +164,12 @@ would do what is wanted in that place, which is judged in that run, the last of 
 entry seems to be for a terminal of another kind. The last line is the number of faults, and then how many have which
 CAUSE. Standard error has the first of them too, after `refused: `. If nothing is wrong, the output is `yes`.
 
+With --json there is no certificate either. The output is a JSON object on a line of its own: what is wrong first, or with
+--all one for each fault, or one with the verdict `yes`. Each has the members entry (the first name), size (rows and cols),
+verdict (`yes` or `no`), capability, parameters, cause, bytes (what the string sends, in hexadecimal), start, wanted and
+seen (the words of the lines that begin so), file (its path) and line (on which the value stands); what doesn't apply is
+null. The notes, the line `refused: ` and the exit status are those of the form without --json.
+
 A certificate has at most 67108864 bytes. The limits of a source file and of a compiled file are those of
 `ticurses tic --help`.
 
@@ -194,7 +200,8 @@ and for the entry each KIND of `ticurses tic --help`.
 
 Example:
   ticurses check my.ti:myterm 24 80 --out myterm.cert
-  ticurses check --all my.ti:myterm 24 80";
+  ticurses check --all my.ti:myterm 24 80
+  ticurses check --all --json my.ti:myterm 24 80";
 
 /// `verify` in one line.
 pub const VERIFY: &str =
@@ -371,6 +378,10 @@ the number of the lines before it, and then how many got each answer.
 With --all an entry that has no certificate has a line `NAME no CAP P..: CAUSE` for each of its faults, those that
 `ticurses check --all` lists.
 
+With --json the output is a JSON object on a line of its own for each of these lines but the last, with the members of
+`ticurses check --json`. In place of KIND the verdict is `refused`, and cause has the KIND; entry is null where a FILE has a
+fault of its own; line is null.
+
 A FILE has at most 16777216 bytes. One that can't be read has no line, and the others are checked all the same.
 
 Exit status: 0 done, whatever the answers are; 1 refused, with a line `refused: BadSize` on standard error; 2 usage
@@ -379,4 +390,5 @@ written; 4 out of memory.
 
 Example:
   ticurses survey 24 80 my.ti /usr/share/terminfo/*/*
-  ticurses survey --all 24 80 my.ti";
+  ticurses survey --all 24 80 my.ti
+  ticurses survey --json 24 80 my.ti";

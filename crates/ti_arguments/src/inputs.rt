@@ -41,11 +41,12 @@ fn reads(request: &Request<'_>) -> usize
         Request::Tic { entry, .. } | Request::Print { entry } => of_paths(&[file_of(entry)]),
         Request::Check(words) => of_paths(&[file_of(words.entry)]),
         Request::CheckAll(words) => of_paths(&[file_of(words.entry)]),
+        Request::CheckJson { words, .. } => of_paths(&[file_of(words.entry)]),
         Request::Verify(words) => of_paths(&[file_of(words.entry), words.certificate]),
         Request::Play(words) | Request::Show(words) => {
             of_paths(&[file_of(words.entry), words.certificate, words.script])
         }
-        Request::Survey(words) => of_paths(words.paths.as_slice()),
+        Request::Survey(words) | Request::SurveyJson(words) => of_paths(words.paths.as_slice()),
         Request::Common { first, second } | Request::Neither { first, second } => {
             of_paths(&[file_of(first), file_of(second)])
         }

@@ -122,29 +122,45 @@ fn tic_request<'a>(words: &ArgMatches<'a>) -> Request<'a>
     }
 }
 
-/// With `--all` no certificate is written.
+/// With `--all` or `--json` no certificate is written.
 fn check_request<'a>(alloc: Global, words: &ArgMatches<'a>) -> Result<Request<'a>, UsageFault>
     ensures { IfOk result (λ request. AsksFor (codes "check") (rows_of (found_of words.now)) request) }
 {
+    let json = is_on(words, "json");
     let all = is_on(words, "all");
     let out = first_word(words, "out");
-    match (all, out) {
-        (false, out) => Ok(Request::Check(CheckWords {
+    match (json, all, out) {
+        (false, false, out) => Ok(Request::Check(CheckWords {
             entry: word(words, "ENTRY"),
             rows: word(words, "ROWS"),
             cols: word(words, "COLS"),
             out,
         })),
-        (true, None) => Ok(Request::CheckAll(FaultsWords {
+        (false, true, None) => Ok(Request::CheckAll(FaultsWords {
             entry: word(words, "ENTRY"),
             rows: word(words, "ROWS"),
             cols: word(words, "COLS"),
         })),
-        (true, Some(_)) => Err(UsageFault::Usage(String::from_str(
-            alloc,
-            "error: check writes a certificate, or with --all lists the faults: --out is not for --all\n\n\
-             For more information, try '--help'.\n",
-        )?)),
+        (true, lists_all, None) => Ok(Request::CheckJson {
+            lists_all,
+            words: FaultsWords {
+                entry: word(words, "ENTRY"),
+                rows: word(words, "ROWS"),
+                cols: word(words, "COLS"),
+            },
+        }),
+        (json, _, Some(_)) => Err(UsageFault::Usage(String::from_str(alloc, no_out(json))?)),
+    }
+}
+
+/// Why `check --all` or `check --json` takes no `--out`.
+fn no_out(json: bool) -> &'static str {
+    if json {
+        "error: check writes a certificate, or with --json reports on the entry: --out is not for --json\n\n\
+         For more information, try '--help'.\n"
+    } else {
+        "error: check writes a certificate, or with --all lists the faults: --out is not for --all\n\n\
+         For more information, try '--help'.\n"
     }
 }
 
@@ -177,12 +193,18 @@ fn survey_request<'a>(alloc: Global, words: &ArgMatches<'a>) -> Result<Request<'
     ensures { IfOk result (λ request. AsksFor (codes "survey") (rows_of (found_of words.now)) request) }
 {
     let paths = words.get_strs("FILE").unwrap_or(&[]);
-    Ok(Request::Survey(SurveyWords {
+    let json = is_on(words, "json");
+    let words = SurveyWords {
         lists_all: is_on(words, "all"),
         rows: word(words, "ROWS"),
         cols: word(words, "COLS"),
         paths: Vec::from_slice(alloc, paths)?,
-    }))
+    };
+    if json {
+        Ok(Request::SurveyJson(words))
+    } else {
+        Ok(Request::Survey(words))
+    }
 }
 
 /// One entry is printed, two are compared.

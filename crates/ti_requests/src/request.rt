@@ -28,7 +28,7 @@ pub struct CheckWords<'a> {
     pub out: Option<&'a str>,
 }
 
-/// The words of `check --all`.
+/// The words of `check --all` and of `check --json`.
 #[derive(Clone, Copy, Debug)]
 pub struct FaultsWords<'a> {
     /// The entry.
@@ -105,6 +105,13 @@ pub enum Request<'a> {
     Check(CheckWords<'a>),
     /// `check --all ENTRY ROWS COLS`: list all faults of an entry.
     CheckAll(FaultsWords<'a>),
+    /// `check --json [--all] ENTRY ROWS COLS`: report on an entry, or on all its faults, in JSON.
+    CheckJson {
+        /// Whether all faults are reported.
+        lists_all: bool,
+        /// The entry and the size.
+        words: FaultsWords<'a>,
+    },
     /// `verify ENTRY ROWS COLS CERT`: verify the certificate of an entry.
     Verify(VerifyWords<'a>),
     /// `play ENTRY ROWS COLS CERT SCRIPT`: play a script of curses calls.
@@ -113,6 +120,8 @@ pub enum Request<'a> {
     Show(ScriptWords<'a>),
     /// `survey [--all] ROWS COLS FILE..`: check all entries of some files.
     Survey(SurveyWords<'a>),
+    /// `survey --json [--all] ROWS COLS FILE..`: report on all entries of some files in JSON.
+    SurveyJson(SurveyWords<'a>),
     /// `infocmp ENTRY`: print an entry.
     Print {
         /// The entry.

@@ -11,7 +11,7 @@ use Rattle.ti_commands.specs.Words.{texts_of}
 use Rattle.ti_commands.specs.declared.failure.Failure.{Failure}
 use Rattle.ti_commands.specs.declared.failure.CommandRefusal.{CommandRefusal}
 use Rattle.ti_verdicts.specs.Lines.{HasParts, IsSourcePart, IsTold, first_name}
-use Rattle.ti_verdicts.specs.Surveys.{EndsPath, EndsPaths, HasLines, MayHaveLines, Misses, first_failure}
+use Rattle.ti_verdicts.specs.Surveys.{EndsPath, EndsPaths, HasLines, MayHaveLines, Misses, OfFile, first_failure}
 use denote.Ref.{Bor}
 
 -- ---- parts
@@ -59,38 +59,38 @@ missed_first paths path failure m = record {
   fails = m.fails;
 }
 
-may_have : (Says : List ℕ → Content → List ℕ → Type 0) (held : Held) (path lines : List ℕ) (failure : Option Failure) → EndsPath Says held path lines failure → MayHaveLines Says held path lines
-may_have Says held path lines None h = inl h
-may_have Says held path lines (Some failure) h = inr h.0
+may_have : (Are : OfFile) (held : Held) (path lines : List ℕ) (failure : Option Failure) → EndsPath Are held path lines failure → MayHaveLines Are held path lines
+may_have Are held path lines None h = inl h
+may_have Are held path lines (Some failure) h = inr h.0
 
-ends_end : (Says : List ℕ → Content → List ℕ → Type 0) (held : Held) (paths : List (List ℕ)) (path lines own : List ℕ) (failure told : Option Failure) → EndsPaths Says held paths lines failure → EndsPath Says held path own told
-    → EndsPaths Says held (paths ++ path ∷ []) (lines ++ own) (first_failure failure told)
-ends_end Says held paths path lines own None None h p = parts_end (HasLines Says held) paths path lines own h p
-ends_end Says held paths path lines own None (Some told) h p = (
-  parts_end (MayHaveLines Says held) paths path lines own (parts_as (HasLines Says held) (MayHaveLines Says held) (λ x part q. inl q) paths lines h) (inr p.0),
+ends_end : (Are : OfFile) (held : Held) (paths : List (List ℕ)) (path lines own : List ℕ) (failure told : Option Failure) → EndsPaths Are held paths lines failure → EndsPath Are held path own told
+    → EndsPaths Are held (paths ++ path ∷ []) (lines ++ own) (first_failure failure told)
+ends_end Are held paths path lines own None None h p = parts_end (HasLines Are held) paths path lines own h p
+ends_end Are held paths path lines own None (Some told) h p = (
+  parts_end (MayHaveLines Are held) paths path lines own (parts_as (HasLines Are held) (MayHaveLines Are held) (λ x part q. inl q) paths lines h) (inr p.0),
   record { front = paths; path = path; behind = []; spelled = refl; fails = p.1 },
 )
-ends_end Says held paths path lines own (Some failure) told h p =
-    (parts_end (MayHaveLines Says held) paths path lines own h.0 (may_have Says held path own told p), missed_first paths path failure h.1)
+ends_end Are held paths path lines own (Some failure) told h p =
+    (parts_end (MayHaveLines Are held) paths path lines own h.0 (may_have Are held path own told p), missed_first paths path failure h.1)
 
 taken_text : (words : List (Bor (List ℕ))) (n : ℕ) (d : Bor (List ℕ)) → n < length words → take (suc n) (texts_of words) ≡ take n (texts_of words) ++ (get_or words n d).now ∷ []
 taken_text [] n d h = absurd (omega (arith, h))
 taken_text (word ∷ words) zero d h = refl
 taken_text (word ∷ words) (suc n) d h = ap (λ (l : List (List ℕ)). word.now ∷ l) (taken_text words n d (omega (arith, h)))
 
-pub ends_more : (Says : List ℕ → Content → List ℕ → Type 0) (held : Held) (words : List (Bor (List ℕ))) (n : ℕ) (d : Bor (List ℕ)) (lines own : List ℕ) (failure told : Option Failure) → n < length words
-    → EndsPaths Says held (take n (texts_of words)) lines failure → EndsPath Says held (get_or words n d).now own told → EndsPaths Says held (take (n + 1) (texts_of words)) (lines ++ own) (first_failure failure told)
-ends_more Says held words n d lines own failure told l h p =
-    subst (λ (m : ℕ). EndsPaths Says held (take m (texts_of words)) (lines ++ own) (first_failure failure told)) (sym (add-one n))
-    (subst (λ (ys : List (List ℕ)). EndsPaths Says held ys (lines ++ own) (first_failure failure told)) (sym (taken_text words n d l)) (ends_end Says held (take n (texts_of words)) (get_or words n d).now lines own failure told h p))
+pub ends_more : (Are : OfFile) (held : Held) (words : List (Bor (List ℕ))) (n : ℕ) (d : Bor (List ℕ)) (lines own : List ℕ) (failure told : Option Failure) → n < length words
+    → EndsPaths Are held (take n (texts_of words)) lines failure → EndsPath Are held (get_or words n d).now own told → EndsPaths Are held (take (n + 1) (texts_of words)) (lines ++ own) (first_failure failure told)
+ends_more Are held words n d lines own failure told l h p =
+    subst (λ (m : ℕ). EndsPaths Are held (take m (texts_of words)) (lines ++ own) (first_failure failure told)) (sym (add-one n))
+    (subst (λ (ys : List (List ℕ)). EndsPaths Are held ys (lines ++ own) (first_failure failure told)) (sym (taken_text words n d l)) (ends_end Are held (take n (texts_of words)) (get_or words n d).now lines own failure told h p))
 
 -- one more path, of files that hold what they held
-pub ends_step : (Says : List ℕ → Content → List ℕ → Type 0) (held now : Held) (words : List (Bor (List ℕ))) (n : ℕ) (d : Bor (List ℕ)) (lines own more : List ℕ) (failure told both : Option Failure) → n < length words → now ≡ held → more ≡ lines ++ own
-    → both ≡ first_failure failure told → EndsPaths Says held (take n (texts_of words)) lines failure → EndsPath Says now (get_or words n d).now own told → EndsPaths Says held (take (n + 1) (texts_of words)) more both
-ends_step Says held now words n d lines own more failure told both l same spelled first h p =
-    subst (λ (b : Option Failure). EndsPaths Says held (take (n + 1) (texts_of words)) more b) (sym first)
-    (subst (λ (t : List ℕ). EndsPaths Says held (take (n + 1) (texts_of words)) t (first_failure failure told)) (sym spelled)
-    (ends_more Says held words n d lines own failure told l h (subst (λ (k : Held). EndsPath Says k (get_or words n d).now own told) same p)))
+pub ends_step : (Are : OfFile) (held now : Held) (words : List (Bor (List ℕ))) (n : ℕ) (d : Bor (List ℕ)) (lines own more : List ℕ) (failure told both : Option Failure) → n < length words → now ≡ held → more ≡ lines ++ own
+    → both ≡ first_failure failure told → EndsPaths Are held (take n (texts_of words)) lines failure → EndsPath Are now (get_or words n d).now own told → EndsPaths Are held (take (n + 1) (texts_of words)) more both
+ends_step Are held now words n d lines own more failure told both l same spelled first h p =
+    subst (λ (b : Option Failure). EndsPaths Are held (take (n + 1) (texts_of words)) more b) (sym first)
+    (subst (λ (t : List ℕ). EndsPaths Are held (take (n + 1) (texts_of words)) t (first_failure failure told)) (sym spelled)
+    (ends_more Are held words n d lines own failure told l h (subst (λ (k : Held). EndsPath Are k (get_or words n d).now own told) same p)))
 
 -- ---- lines
 

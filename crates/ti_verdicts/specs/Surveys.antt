@@ -11,18 +11,22 @@ use Rattle.ti_commands.specs.declared.failure.Reply.{Reply}
 use Rattle.ti_verdicts.specs.Lines.{AreLines, HasParts, SaysBy}
 use Rattle.ti_requests.specs.declared.request.SurveyWords.{SurveyWords}
 
+-- what the lines of a file are, by its path and its bytes
+abbrev pub OfFile : Type 1
+OfFile = List ℕ → List ℕ → List ℕ → Type 0
+
 -- the lines of what a path holds
-abbrev pub HasLines : (List ℕ → Content → List ℕ → Type 0) → Held → List ℕ → List ℕ → Type 0
-HasLines Says held path lines = HasBytes (held path) longest_file (λ bytes. AreLines Says path bytes lines)
+abbrev pub HasLines : OfFile → Held → List ℕ → List ℕ → Type 0
+HasLines Are held path lines = HasBytes (held path) longest_file (λ bytes. Are path bytes lines)
 
 -- or none
-abbrev pub MayHaveLines : (List ℕ → Content → List ℕ → Type 0) → Held → List ℕ → List ℕ → Type 0
-MayHaveLines Says held path lines = HasLines Says held path lines ⊎ (lines ≡ [])
+abbrev pub MayHaveLines : OfFile → Held → List ℕ → List ℕ → Type 0
+MayHaveLines Are held path lines = HasLines Are held path lines ⊎ (lines ≡ [])
 
 -- a path has its lines, or it has none and can't be had, as the failure says
-abbrev pub EndsPath : (List ℕ → Content → List ℕ → Type 0) → Held → List ℕ → List ℕ → Option Failure → Type 0
-EndsPath Says held path lines None = HasLines Says held path lines
-EndsPath Says held path lines (Some failure) = (lines ≡ []) × IsFileFailure path failure
+abbrev pub EndsPath : OfFile → Held → List ℕ → List ℕ → Option Failure → Type 0
+EndsPath Are held path lines None = HasLines Are held path lines
+EndsPath Are held path lines (Some failure) = (lines ≡ []) × IsFileFailure path failure
 
 -- one of the paths can't be had
 pub record Misses (paths : List (List ℕ)) (failure : Failure) : Type 0 where
@@ -33,9 +37,9 @@ pub record Misses (paths : List (List ℕ)) (failure : Failure) : Type 0 where
   pub fails : IsFileFailure path failure
 
 -- each path has its lines; or one can't be had, and each has its lines or none
-abbrev pub EndsPaths : (List ℕ → Content → List ℕ → Type 0) → Held → List (List ℕ) → List ℕ → Option Failure → Type 0
-EndsPaths Says held paths lines None = HasParts (HasLines Says held) paths lines
-EndsPaths Says held paths lines (Some failure) = HasParts (MayHaveLines Says held) paths lines × Misses paths failure
+abbrev pub EndsPaths : OfFile → Held → List (List ℕ) → List ℕ → Option Failure → Type 0
+EndsPaths Are held paths lines None = HasParts (HasLines Are held) paths lines
+EndsPaths Are held paths lines (Some failure) = HasParts (MayHaveLines Are held) paths lines × Misses paths failure
 
 -- the first of two failures
 abbrev pub first_failure : Option Failure → Option Failure → Option Failure
@@ -49,8 +53,8 @@ pub record IsSurveyed (certifies : Content → ℕ → ℕ → List ℕ → Type
   pub width : ℕ
   pub given : SizeGiven words.rows.now words.cols.now height width
   pub lines : List ℕ
-  pub ends : EndsPaths (SaysBy words.lists_all certifies refuses height width) held
-      (texts_of words.paths.items) lines reply.failure
+  pub ends : EndsPaths (AreLines
+      (SaysBy words.lists_all certifies refuses height width)) held (texts_of words.paths.items) lines reply.failure
   pub counts : List ℕ
   pub says : reply.text.items ≡ lines ++ counts
   pub no_notes : reply.notes.items ≡ []

@@ -42,7 +42,7 @@ pub fn check_entry<C: Certifier, F: Files>(
 }
 
 /// The lines of the notes on `entry`; none where one of its strings sends no whole tokens.
-pub(crate) fn notes_on(alloc: Global, entry: &Entry, size: Size) -> Result<Vec<u8>, AllocError>
+pub fn notes_on(alloc: Global, entry: &Entry, size: Size) -> Result<Vec<u8>, AllocError>
     ensures { IfOk result (λ lines. TellsNotes entry.now lines.items) }
 {
     match notes(alloc, entry, size) {

@@ -21,9 +21,12 @@ mod verifications;
 mod watchers;
 
 pub use certifiers::{Certifier, Checker};
-pub use checks::check_entry;
+pub use checks::{check_entry, notes_on};
 pub use fault_lists::check_all;
-pub use refusals::no_words;
+pub use lines::{first_name, is_compiled, refusal_words};
+pub use locations::line_of_field;
+pub use reasons::explain_no;
+pub use refusals::{cause_name, no_failure, no_words};
 pub use surveys::survey_files;
 pub use verifications::{checked_at, verify_certificate};
 pub use watchers::Watcher;

@@ -29,7 +29,7 @@ fn name_end(names: &[u8]) -> Option<usize>
 }
 
 /// The first of an entry's `names`.
-pub(crate) fn first_name(names: &[u8]) -> &[u8]
+pub fn first_name(names: &[u8]) -> &[u8]
     ensures { result.now ≡ spec.first_name names.now }
 {
     match name_end(names) {
@@ -195,7 +195,7 @@ fn entry_lines<C: Certifier>(
 }
 
 /// The kind of `refusal`, and the name that it is about.
-fn refusal_words(alloc: Global, refusal: &CommandRefusal) -> Result<Vec<u8>, AllocError> {
+pub fn refusal_words(alloc: Global, refusal: &CommandRefusal) -> Result<Vec<u8>, AllocError> {
     let mut words = format!(in alloc; "{refusal}")?.into_bytes();
     if let CommandRefusal::Resolve(
         ResolveFault::NoSuchEntry(name) | ResolveFault::Cycle(name) | ResolveFault::TooMany(name),
@@ -359,7 +359,7 @@ fn refused_line(
 }
 
 /// Whether `bytes` begin as a compiled file does.
-fn is_compiled(bytes: &[u8]) -> bool
+pub fn is_compiled(bytes: &[u8]) -> bool
     ensures { result ≡ spec.is_compiled bytes.now }
 {
     match bytes {

@@ -60,7 +60,7 @@ fn place_line(
 
 /// The line of `text` on which the field at `origin` stands.
 #[tactic(auto, unfolding(crate::specs::Locations::line_of_field))]
-fn line_of_field(alloc: Global, text: &[u8], origin: Origin) -> Result<usize, AllocError>
+pub fn line_of_field(alloc: Global, text: &[u8], origin: Origin) -> Result<usize, AllocError>
     ensures { IfOk result (λ line. line ≡ spec.line_of_field text.now origin) }
 {
     let lines = field_lines(alloc, text, origin.entry)?;

@@ -67,7 +67,8 @@ pub fn verdict(words: Result<Vec<u8>, AllocError>) -> Failure
     }
 }
 
-pub(crate) fn cause_name(cause: Cause) -> &'static [u8]
+/// The name of `cause` in the line of a no.
+pub fn cause_name(cause: Cause) -> &'static [u8]
     ensures { result.now ≡ spec.cause_name cause }
 {
     match cause {

@@ -3,7 +3,7 @@
 ghost use Rattle.std.specs.Prelude.{◌≡◌, IfErr, IfOk};
 ghost use Rattle.ti_commands.specs.Sizes.{LacksSize};
 ghost use Rattle.ti_commands.specs.Words.{texts_of};
-ghost use Rattle.ti_verdicts.specs.Lines.{SaysTo};
+ghost use Rattle.ti_verdicts.specs.Lines.{AreLines, SaysTo};
 ghost use Rattle.ti_verdicts.specs.Surveys as spec;
 
 use crate::asked::Asked;
@@ -78,7 +78,7 @@ fn survey_paths<C: Certifier, F: Files, W: Watcher>(
     course: &mut Course<W>,
     remarks: &mut Remarks,
 ) -> Result<Surveyed, AllocError>
-    ensures told { IfOk result (λ surveyed. spec.EndsPaths (SaysTo C.certifies C.refuses asked.now)
+    ensures told { IfOk result (λ surveyed. spec.EndsPaths (AreLines (SaysTo C.certifies C.refuses asked.now))
         (F.holds files.old) (texts_of paths.now) surveyed.lines.items surveyed.failure) }
     ensures kept { F.holds files.new ≡ F.holds files.old }
 {
@@ -112,7 +112,7 @@ fn survey_path<C: Certifier, F: Files, W: Watcher>(
     course: &mut Course<W>,
     remarks: &mut Remarks,
 ) -> Result<Surveyed, AllocError>
-    ensures told { IfOk result (λ surveyed. spec.EndsPath (SaysTo C.certifies C.refuses asked.now)
+    ensures told { IfOk result (λ surveyed. spec.EndsPath (AreLines (SaysTo C.certifies C.refuses asked.now))
         (F.holds files.old) path.now surveyed.lines.items surveyed.failure) }
     ensures kept { F.holds files.new ≡ F.holds files.old }
 {

@@ -24,7 +24,7 @@ pub fn hint_path<F: Files>(
     if is_entry(request, path) {
         hint_entry(alloc, path, files, remarks);
     }
-    if matches!(request, Request::Survey(_)) && is_folder(path, files) {
+    if matches!(request, Request::Survey(_) | Request::SurveyJson(_)) && is_folder(path, files) {
         let tree = path.trim_end_matches('/');
         if let Ok(words) = format!(in alloc;
             ": survey takes files; those in its folders are {tree}/*/*"
@@ -40,6 +40,7 @@ fn is_entry(request: &Request<'_>, path: &str) -> bool {
         Request::Tic { entry, .. } | Request::Print { entry } => *entry == path,
         Request::Check(words) => words.entry == path,
         Request::CheckAll(words) => words.entry == path,
+        Request::CheckJson { words, .. } => words.entry == path,
         Request::Verify(words) => words.entry == path,
         Request::Play(words) | Request::Show(words) => words.entry == path,
         Request::Common { first, second } | Request::Neither { first, second } => {

@@ -13,6 +13,7 @@ use ti_commands::{
     Comparison, Failure, Files, Output, Reply, Written, compare_entries, compile_entry,
     expand_string, feed_file, print_entry, report, write_reply, write_text,
 };
+use ti_reports::{check_reports, survey_reports};
 use ti_requests::{CheckWords, Request};
 use ti_verdicts::{Checker, check_all, check_entry, survey_files, verify_certificate};
 use ti_words::Remarks;
@@ -122,6 +123,9 @@ fn reply_to<F: Files, O: Output, E: Write + IsTerminal>(
         Request::Tic { entry, out } => compile_entry(alloc, entry, *out, files, remarks),
         Request::Check(words) => check_counted(alloc, words, files, err, remarks),
         Request::CheckAll(words) => check_all(alloc, words, files, remarks),
+        Request::CheckJson { lists_all, words } => {
+            check_reports(alloc, *lists_all, words, files, remarks)
+        }
         Request::Verify(words) => verify_certificate(alloc, words, files, remarks),
         Request::Play(words) => {
             play_script(alloc, words, files, out, remarks)?;
@@ -131,6 +135,10 @@ fn reply_to<F: Files, O: Output, E: Write + IsTerminal>(
         Request::Survey(words) => {
             let line = ProgressLine::new(alloc, err);
             survey_files(alloc, &Checker, words, files, line, remarks)
+        }
+        Request::SurveyJson(words) => {
+            let line = ProgressLine::new(alloc, err);
+            survey_reports(alloc, words, files, line, remarks)
         }
         Request::Print { entry } => print_entry(alloc, entry, files, remarks),
         Request::Common { first, second } => {

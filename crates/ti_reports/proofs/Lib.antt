@@ -1,0 +1,4 @@
+pub mod Floats
+pub mod Members
+pub mod Parts
+pub mod Sends

@@ -1,0 +1,8 @@
+-- The members of a report, put into an object one by one, stand there in the order of their names.
+use Rattle.std.proofs.Common.{◌≡◌, refl}
+use Rattle.serde_json.specs.Data.{no_members, object}
+use Rattle.ti_reports.specs.Reports.{report_data, with_entry, with_run, with_string}
+use Rattle.ti_reports.specs.declared.reports.Report.{Report}
+
+pub members_in_order : (report : Report) → object (with_run report (with_string report (with_entry report no_members))) ≡ report_data report
+members_in_order report = refl

@@ -1,0 +1,47 @@
+-- What `check --json` answers, by what its files hold.
+use Rattle.std.specs.Prelude.{◌≡◌, ℕ, Bool, List, [], ◌∷◌, Option, Some, None}
+use Rattle.ti_caps.specs.Entry.{Content}
+use Rattle.ti_checker.specs.declared.causes.No.{No}
+use Rattle.ti_commands.specs.Contents.{Held}
+use Rattle.ti_commands.specs.Sizes.{SizeGiven}
+use Rattle.ti_commands.specs.Sources.{IsSourced}
+use Rattle.ti_commands.specs.declared.failure.Failure.{Failure}
+use Rattle.ti_commands.specs.declared.failure.Reply.{Reply}
+use Rattle.ti_commands.specs.declared.sources.SourceText.{SourceText}
+use Rattle.ti_reports.specs.Faults.{AreFoundLines}
+use Rattle.ti_reports.specs.Findings.{AreFound}
+use Rattle.ti_requests.specs.declared.request.FaultsWords.{FaultsWords}
+use Rattle.ti_verdicts.specs.Checks.{TellsNotes}
+use Rattle.ti_verdicts.specs.FaultLists.{EndsAsNo}
+
+-- the path of the source, or the word that is the path of a compiled file
+abbrev pub file_of : Option SourceText → List ℕ → List ℕ
+file_of (Some source) word = source.path.now
+file_of None word = word
+
+-- the reply fails as the first of these does, if there is one
+abbrev pub EndsAsFirst : List No → Option Failure → Type 0
+EndsAsFirst [] failure = failure ≡ None
+EndsAsFirst (first ∷ others) failure = EndsAsNo first failure
+
+-- the reply reports these faults, and fails as the first does
+pub record TellsFound (entry : Content) (height width : ℕ) (file : List ℕ) (source : Option SourceText) (nos : List No)
+    (reply : Reply) : Type 0 where
+  pub lines : AreFoundLines entry height width file source nos reply.text.items
+  pub ends : EndsAsFirst nos reply.failure
+
+-- The entry that the word gives, at the size that the words give: the reply has its notes, and reports its first fault, or
+-- all of them, or that there is none.
+pub record ReportsOn (held : Held) (lists_all : Bool) (words : FaultsWords) (reply : Reply) : Type 0 where
+  pub height : ℕ
+  pub width : ℕ
+  pub given : SizeGiven words.rows.now words.cols.now height width
+  pub entry : Content
+  pub source : Option SourceText
+  pub gives : IsSourced held words.entry.now entry source
+  pub file : List ℕ
+  pub stands : file ≡ file_of source words.entry.now
+  pub notes : TellsNotes entry reply.notes.items
+  pub nos : List No
+  pub found : AreFound lists_all entry height width nos
+  pub tells : TellsFound entry height width file source nos reply

@@ -1,0 +1,69 @@
+-- What is reported of an entry: that it has a certificate, or each of its faults.
+use Rattle.std.specs.Prelude.{◌≡◌, ℕ, List, [], ◌∷◌, Option, Some, None, String, string_bytes}
+use Rattle.std.specs.declared.alloc.Global.{Global}
+use Rattle.ti_caps.specs.Entry.{Content}
+use Rattle.ti_caps.specs.Table.{name_at}
+use Rattle.ti_checker.specs.declared.causes.No.{No}
+use Rattle.ti_commands.specs.declared.sources.SourceText.{SourceText}
+use Rattle.ti_reports.specs.Reports.{report_line}
+use Rattle.ti_reports.specs.Sent.{IsSentText}
+use Rattle.ti_reports.specs.Sources.{IsValueLine}
+use Rattle.ti_reports.specs.Texts.{IsTextOf}
+use Rattle.ti_reports.specs.declared.reports.Report.{Report}
+use Rattle.ti_reports.specs.declared.reports.Verdict.TheVariants as verdicts
+use Rattle.ti_verdicts.specs.Lines.{HasParts, first_name}
+use Rattle.ti_verdicts.specs.Refusals.{cause_name}
+
+-- the text of these bytes is there
+abbrev pub HasText : List ℕ → Option (String Global) → Type 0
+HasText bytes (Some text) = IsTextOf bytes (string_bytes text)
+HasText bytes None = ⊥
+
+-- the report is about this entry, for this size, in this file
+pub record IsAbout (entry : Content) (height width : ℕ) (file : List ℕ) (report : Report) : Type 0 where
+  pub name : HasText (first_name entry.names) report.entry
+  pub rows : report.rows ≡ height
+  pub cols : report.cols ≡ width
+  pub path : string_bytes report.file ≡ file
+
+-- it says nothing of a fault
+pub record IsFaultless (report : Report) : Type 0 where
+  pub capability : report.capability ≡ None
+  pub parameters : report.parameters.items ≡ []
+  pub bytes : report.bytes ≡ None
+  pub start : report.start ≡ None
+  pub wanted : report.wanted ≡ None
+  pub seen : report.seen ≡ None
+  pub line : report.line ≡ None
+
+-- the entry has a certificate
+pub record ReportsYes (entry : Content) (height width : ℕ) (file : List ℕ) (report : Report) : Type 0 where
+  pub about : IsAbout entry height width file report
+  pub verdict : report.verdict ≡ verdicts.Yes
+  pub cause : report.cause ≡ None
+  pub faultless : IsFaultless report
+
+-- it has this fault; what is said of the run that shows it is in free words
+pub record ReportsFault (entry : Content) (height width : ℕ) (file : List ℕ) (source : Option SourceText) (refusal : No)
+    (report : Report) : Type 0 where
+  pub about : IsAbout entry height width file report
+  pub verdict : report.verdict ≡ verdicts.No
+  pub capability : HasText (name_at refusal.cap) report.capability
+  pub parameters : report.parameters.items ≡ refusal.params.items
+  pub cause : HasText (cause_name refusal.cause) report.cause
+  pub bytes : IsSentText entry refusal report.bytes
+  pub line : IsValueLine source refusal.cap report.line
+
+-- the line of a report of which this holds
+abbrev pub IsReportLine : (Report → Type 0) → List ℕ → Type 0
+IsReportLine P line = (report : Report) × P report × (line ≡ report_line report)
+
+abbrev pub IsFaultLine : Content → ℕ → ℕ → List ℕ → Option SourceText → No → List ℕ → Type 0
+IsFaultLine entry height width file source refusal line =
+    IsReportLine (ReportsFault entry height width file source refusal) line
+
+-- a line for each fault, in their order, or one that there is none
+abbrev pub AreFoundLines : Content → ℕ → ℕ → List ℕ → Option SourceText → List No → List ℕ → Type 0
+AreFoundLines entry height width file source [] lines = IsReportLine (ReportsYes entry height width file) lines
+AreFoundLines entry height width file source (first ∷ others) lines =
+    HasParts (IsFaultLine entry height width file source) (first ∷ others) lines

@@ -1,0 +1,93 @@
+//! The command `check --json`.
+
+ghost use Rattle.std.specs.Prelude.{◌≡◌, IfErr, IfOk};
+ghost use Rattle.ti_reports.specs.Checks as spec;
+ghost use Rattle.ti_verdicts.specs.Checks.{FailsForEntry};
+
+use crate::faults::{Subject, found_lines};
+use crate::findings::found_faults;
+use std::alloc::{AllocError, Global};
+use ti_caps::Entry;
+use ti_checker::No;
+use ti_commands::{Failure, Files, Reply, SourceText, size_words, sourced_entry};
+use ti_requests::FaultsWords;
+use ti_verdicts::{explain_no, no_failure, notes_on};
+use ti_words::Remarks;
+use vt_term::Size;
+
+/// Replies with the notes on the entry that the `words` give and, in JSON, with what is wrong with it: its first fault,
+/// or all of them where `lists_all`; or that it has a certificate. The reply fails as the first fault does.
+/// Further lines go to `remarks`.
+pub fn check_reports<F: Files>(
+    alloc: Global,
+    lists_all: bool,
+    words: &FaultsWords<'_>,
+    files: &mut F,
+    remarks: &mut Remarks,
+) -> Result<Reply, Failure>
+    ensures reply { IfOk result (λ reply. spec.ReportsOn (F.holds files.old) lists_all words.now reply) }
+    ensures failure { IfErr result (λ e. FailsForEntry (F.holds files.old) words.now.rows.now words.now.cols.now
+        words.now.entry.now e) }
+    ensures kept { F.holds files.new ≡ F.holds files.old }
+{
+    let size = size_words(alloc, words.rows, words.cols, remarks)?;
+    let found = sourced_entry(alloc, files, words.entry, remarks)?;
+    let notes = notes_on(alloc, &found.entry, size)?;
+    let nos = found_faults(alloc, &found.entry, size, lists_all)?;
+    let subject = Subject {
+        entry: &found.entry,
+        size,
+        file: file_of(&found.source, words.entry),
+        source: &found.source,
+    };
+    let reply = reply_of(alloc, &subject, notes, nos.as_slice())?;
+    if !lists_all {
+        explain_first(alloc, &found.entry, size, nos.as_slice(), remarks);
+    }
+    Ok(reply)
+}
+
+/// The reply with `notes` that says that `nos` are the faults of the `subject`.
+fn reply_of(
+    alloc: Global,
+    subject: &Subject<'_>,
+    notes: Vec<u8>,
+    nos: &[No],
+) -> Result<Reply, AllocError>
+    ensures noted { IfOk result (λ reply. reply.notes ≡ notes) }
+    ensures told { IfOk result (λ reply. spec.TellsFound subject.now.entry.now
+        subject.now.size.rows subject.now.size.cols subject.now.file.now subject.now.source.now nos.now reply) }
+{
+    Ok(Reply {
+        notes,
+        text: found_lines(alloc, subject, nos)?,
+        failure: failure_of(alloc, nos),
+    })
+}
+
+/// The failure of the first of the faults `nos`, if there is one.
+fn failure_of(alloc: Global, nos: &[No]) -> Option<Failure>
+    ensures { spec.EndsAsFirst nos.now result }
+{
+    match nos {
+        [] => None,
+        [first, ..] => Some(no_failure(alloc, first)),
+    }
+}
+
+/// The path of the file that `word` names: that of the source, or else the whole word.
+fn file_of<'a>(source: &'a Option<SourceText<'a>>, word: &'a str) -> &'a str
+    ensures { result.now ≡ spec.file_of source.now word.now }
+{
+    match source {
+        Some(source) => source.path,
+        None => word,
+    }
+}
+
+/// Adds to `remarks` what explains the first of `nos`.
+fn explain_first(alloc: Global, entry: &Entry, size: Size, nos: &[No], remarks: &mut Remarks) {
+    if let [first, ..] = nos {
+        explain_no(alloc, entry, size, first, remarks);
+    }
+}

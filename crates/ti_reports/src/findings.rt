@@ -1,0 +1,48 @@
+//! What is found out about an entry.
+
+ghost use Rattle.std.specs.Prelude.{◌≡◌, [], ◌∷◌, IfOk};
+ghost use Rattle.ti_reports.specs.Findings as spec;
+
+use std::alloc::{AllocError, Global};
+use ti_caps::Entry;
+use ti_checker::{Cause, No, check};
+use ti_faults::faults;
+use vt_term::Size;
+
+/// All faults of `entry` where `lists_all`, or else the first alone; none where it has a certificate.
+pub fn found_faults(
+    alloc: Global,
+    entry: &Entry,
+    size: Size,
+    lists_all: bool,
+) -> Result<Vec<No>, AllocError>
+    ensures { IfOk result (λ nos. spec.AreFound lists_all entry.now size.rows size.cols nos.items) }
+{
+    if lists_all {
+        faults(alloc, entry, size)
+    } else {
+        first_fault(alloc, entry, size)
+    }
+}
+
+/// The no of `check` about `entry`, or none.
+fn first_fault(alloc: Global, entry: &Entry, size: Size) -> Result<Vec<No>, AllocError>
+    ensures { IfOk result (λ nos. spec.AreFirst entry.now size.rows size.cols nos.items) }
+{
+    match check(alloc, entry, size) {
+        Ok(_text) => Ok(Vec::new(alloc)),
+        Err(no) => match no.cause {
+            Cause::NoMemory => Err(AllocError),
+            _ => only(alloc, no),
+        },
+    }
+}
+
+/// `no` alone.
+fn only(alloc: Global, no: No) -> Result<Vec<No>, AllocError>
+    ensures { IfOk result (λ nos. nos.items ≡ no ∷ []) }
+{
+    let mut nos = Vec::new(alloc);
+    nos.push(no)?;
+    Ok(nos)
+}

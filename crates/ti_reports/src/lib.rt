@@ -1,0 +1,17 @@
+//! What the program reports to other programs: a JSON object a line for each entry, or for each of its faults.
+#![tactic(auto)]
+
+mod checks;
+mod entries;
+mod explanations;
+mod faults;
+mod findings;
+mod lines;
+mod refusals;
+mod reports;
+mod sent;
+mod surveys;
+mod texts;
+
+pub use checks::check_reports;
+pub use surveys::survey_reports;

@@ -1,0 +1,62 @@
+//! Reports of what can't be had.
+
+ghost use Rattle.std.specs.Prelude.{◌≡◌, IfOk, option_map};
+ghost use Rattle.ti_reports.specs.Surveys as spec;
+
+use crate::reports::{Report, Verdict, report_line};
+use crate::surveys::Asked;
+use crate::texts::text_of;
+use std::alloc::{AllocError, Global};
+
+/// The line that an entry of the file at `path` can't be had under this `name`, or that none of it can without one, and
+/// `why`.
+pub fn refused_line(
+    alloc: Global,
+    asked: Asked,
+    path: &str,
+    name: Option<&[u8]>,
+    why: &[u8],
+) -> Result<Vec<u8>, AllocError>
+    ensures { IfOk result (λ line. spec.IsRefusedLine asked.size.rows asked.size.cols
+        path.now (option_map (λ n. n.now) name.entry) line.items) }
+{
+    report_line(alloc, &refused_report(alloc, asked, path, name, why)?)
+}
+
+/// The report that an entry of the file at `path` can't be had under this `name`, and `why`.
+fn refused_report(
+    alloc: Global,
+    asked: Asked,
+    path: &str,
+    name: Option<&[u8]>,
+    why: &[u8],
+) -> Result<Report, AllocError>
+    ensures { IfOk result (λ report. spec.ReportsRefused asked.size.rows asked.size.cols
+        path.now (option_map (λ n. n.now) name.entry) report) }
+{
+    Ok(Report {
+        entry: text_if(alloc, name)?,
+        rows: asked.size.rows,
+        cols: asked.size.cols,
+        verdict: Verdict::Refused,
+        capability: None,
+        parameters: Vec::new(alloc),
+        cause: Some(text_of(alloc, why)?),
+        bytes: None,
+        start: None,
+        wanted: None,
+        seen: None,
+        file: String::from_str(alloc, path)?,
+        line: None,
+    })
+}
+
+/// The text of `bytes`, where there are any.
+fn text_if(alloc: Global, bytes: Option<&[u8]>) -> Result<Option<String>, AllocError>
+    ensures { IfOk result (λ text. spec.IsTextIf (option_map (λ b. b.now) bytes.entry) text) }
+{
+    match bytes {
+        Some(bytes) => Ok(Some(text_of(alloc, bytes)?)),
+        None => Ok(None),
+    }
+}

@@ -1,0 +1,200 @@
+"""What --json reports, field by field beside what the plain form prints of the same entries."""
+
+import json
+import re
+import sys
+
+from faults import COLS, FIVE, MENDED, ROWS, all_entries
+from trying import PROGRAM, TOP, Case, run_cases
+
+# the members of an object, and what each may be
+TEXT, NUMBER = (str, type(None)), (int, type(None))
+MEMBERS = {
+    "bytes": TEXT, "capability": TEXT, "cause": TEXT, "entry": TEXT, "file": (str,), "line": NUMBER, "parameters": (list,),
+    "seen": TEXT, "size": (dict,), "start": TEXT, "verdict": (str,), "wanted": TEXT,
+}  # fmt: skip
+OF_FAULTS = ["bytes", "capability", "cause", "line", "seen", "start", "wanted"]
+SIZE = [str(ROWS), str(COLS)]
+
+# names with what JSON escapes, with characters beyond ASCII, and with bytes that are no text
+NAMES = """quoted"name\\|a "right" one,
+	cup=\\E[%i%p1%d;%p2%dH, clear=\\E[H\\E[2J, sgr0=\\E[m,
+größe|written in UTF-8,
+	clear=\\E[2J, sgr0=\\E[m,
+lost|uses what isn't there,
+	use=nobody,
+""".encode() + b"lat\xeen\x7f|written in Latin-1,\n\tclear=\\E[H\\E[2J, sgr0=\\E[m,\n"
+NAMES_SHOWN = ['quoted"name\\', "größe", "lost", "lat\\356n\\177"]
+
+LETTERS = {"E": 27, "n": 10, "r": 13, "t": 9, "b": 8, "f": 12}
+
+
+def fail(text):
+    sys.exit(f"reports: {text}")
+
+
+def objects(told, size=(ROWS, COLS)):
+    """The objects of an output: each line is one, written without a space, with the members in order."""
+    found = []
+    for line in told.out.decode().splitlines():
+        one = json.loads(line)
+        written = json.dumps(one, ensure_ascii=False, sort_keys=True, separators=(",", ":"))
+        if written.replace("\x7f", "\\u007f") not in (line, line.replace("\x7f", "\\u007f")):
+            fail(f"not as Python writes it: {line}")
+        if list(one) != list(MEMBERS) or not all(isinstance(one[key], kinds) for key, kinds in MEMBERS.items()):
+            fail(f"not the members of a report: {line}")
+        if one["size"] != {"cols": size[1], "rows": size[0]}:
+            fail(f"not the size that was given: {line}")
+        if one["verdict"] != "no" and any(one[key] is not None for key in OF_FAULTS if key != "cause"):
+            fail(f"a fault of an entry without one: {line}")
+        found.append(one)
+    return found
+
+
+def said(one):
+    """The words of the plain form for an object."""
+    if one["verdict"] == "yes":
+        return "yes"
+    if one["verdict"] == "refused":
+        return f"refused: {one['cause']}"
+    return f"no {one['capability']}{''.join(f' {it}' for it in one['parameters'])}: {one['cause']}"
+
+
+def sent(line):
+    """What a line says that a string sends, in hexadecimal; None where it is cut, or no string is sent."""
+    found = re.search(r" sends '(.*)'$", line)
+    if not found or found[1].endswith(" .."):
+        return None
+    escapes = re.sub(r"\\([0-7]{3})", lambda it: chr(int(it[1], 8)), found[1])
+    text = re.sub(r"\\(.)", lambda it: chr(LETTERS.get(it[1], ord(it[1]))), escapes, flags=re.S)
+    return text.encode("latin-1").hex()
+
+
+def blocks(text):
+    """The lines of `check --all`: of each fault its own, and those below it."""
+    found = []
+    for line in text.splitlines():
+        if line.startswith("no "):
+            found.append((line, []))
+        elif not line.startswith(("total ", "yes")):
+            found[-1][1].append(line.removeprefix("  "))
+    return found
+
+
+def judge_lines(one, lines, path):
+    """An object says what the lines below its fault say."""
+    for key in ("start", "wanted", "seen"):
+        plain = [line.removeprefix(f"{key}: ") for line in lines if line.startswith(f"{key}: ")]
+        if [one[key]] != (plain or [None]):
+            fail(f"{key} of {one} is not that of {lines}")
+    places = [line for line in lines if line.startswith(f"{path}:")]
+    wanted = [f"{path}:{one['line']}: {one['capability']} of "] if one["line"] else []
+    if len(places) != len(wanted) or not all(map(str.startswith, places, wanted)):
+        fail(f"the line of {one} is not that of {lines}")
+    for line in lines:
+        if sent(line) not in (None, one["bytes"]):
+            fail(f"the bytes of {one} are not those of {line}")
+    if one["bytes"] is not None and not any(" sends '" in line for line in lines):
+        fail(f"the bytes of {one} stand in none of {lines}")
+
+
+def judge_entries(path, held, names):
+    """`check --json` and `check --all --json` of entries beside the plain forms."""
+    forms = [["--all"], ["--all", "--json"], [], ["--json"]]
+    cases = [Case(["check", *form, "--", f"{path}:{name}", *SIZE]) for name in names for form in forms]
+    told = run_cases(PROGRAM, cases, {path: held})
+    count = 0
+    for at, name in enumerate(names):
+        every, every_json, first, first_json = told[4 * at : 4 * at + 4]
+        found = blocks(every.out.decode())
+        ones, one = objects(every_json), objects(first_json)
+        if [said(it) for it in ones] != ([line for line, _ in found] or ["yes"]):
+            fail(f"check --all --json of {name} reported {ones}, and --all printed {found}")
+        if len(one) != 1 or first.status != int(said(one[0]) != "yes"):
+            fail(f"check --json of {name} reported {one}, and check ended with {first.status}")
+        if one[0]["verdict"] == "no" and f"refused: {said(one[0])}\n" not in first.err.decode():
+            fail(f"check --json of {name} reported {one}, and check printed {first.err}")
+        for it, (_, lines) in zip(ones, found):
+            judge_lines(it, lines, path)
+        if one[0]["verdict"] == "no":
+            judge_lines({**one[0], "line": None}, first.err.decode().splitlines(), "no path")
+        if {(it["entry"], it["file"]) for it in [*ones, *one]} != {(name, path)}:
+            fail(f"not entry and file of {name}: {ones} {one}")
+        if (first.status, first.err) != (first_json.status, first_json.err) or every.status != every_json.status:
+            fail(f"check --json of {name} ended with {first_json.status} {first_json.err} and check with {first.status} {first.err}")
+        count += len(ones)
+    return count
+
+
+def judge_survey(path, held):
+    """`survey --json` and `survey --all --json` beside the plain forms."""
+    forms = [[], ["--json"], ["--all"], ["--all", "--json"]]
+    told = run_cases(PROGRAM, [Case(["survey", *form, *SIZE, path]) for form in forms], {path: held})
+    for plain, reported in zip(told[::2], told[1::2]):
+        ones = objects(reported)
+        *lines, counts = plain.out.decode("latin-1").splitlines()
+        wanted = [f"{it['entry']} {said(it)}" for it in ones]
+        if [shown(line) for line in lines] != [shown(it.encode().decode("latin-1")) for it in wanted]:
+            fail(f"survey --json reported {wanted}, and survey printed {lines}")
+        if counts.split(",")[0] != f"total {len(ones)}":
+            fail(f"survey --json reported {len(ones)} objects, and survey counted {counts}")
+        if (plain.status, plain.err) != (reported.status, reported.err):
+            fail(f"survey --json ended with {reported.status} {reported.err} and survey with {plain.status} {plain.err}")
+        if any(it["file"] != path for it in ones):
+            fail(f"not the file {path}: {ones}")
+
+
+def shown(line):
+    """A line with the bytes that are shown by their octal digits."""
+    return re.sub(r"[^ -~]", lambda it: f"\\{ord(it[0]):03o}", line)
+
+
+def judge_names():
+    """Names with quotes and backslashes, in UTF-8, and of bytes that are no text."""
+    cases = [Case(["survey", "--json", *SIZE, "names"]), Case(["survey", "--json", *SIZE, "faulty"])]
+    told, faulty = run_cases(PROGRAM, cases, {"names": NAMES, "faulty": b" x\n"})
+    ones = objects(told)
+    if [it["entry"] for it in ones] != NAMES_SHOWN:
+        fail(f"names: {ones}")
+    if [it["verdict"] for it in ones] != ["yes", "no", "refused", "no"] or ones[2]["cause"] != "NoSuchEntry nobody":
+        fail(f"verdicts: {ones}")
+    (one,) = objects(faulty)
+    if (one["entry"], one["file"], one["verdict"]) != (None, "faulty", "refused") or faulty.status:
+        fail(f"a file without entries: {one} {faulty.status}")
+
+
+NO_OUT = b"error: check writes a certificate, or with --json reports on the entry: --out is not for --json\n"
+
+
+def judge_refused():
+    """What can't be reported on is refused as in the plain form."""
+    refused = [["five.ti:six", *SIZE], ["six.ti:six", *SIZE], ["five.ti:five", "1", "6"], ["five.ti:five", "x", "6"]]
+    cases = [Case(["check", *form, *words]) for words in refused for form in ([], ["--json"])]
+    cases += [Case(["check", "--json", "--out", "cert", "five.ti:five", *SIZE])]
+    cases += [Case(["survey", *form, *SIZE, "six.ti", "five.ti"]) for form in ([], ["--json"])]
+    *told, both, plain, survey = run_cases(PROGRAM, cases, {"five.ti": FIVE})
+    for one, other in zip(told[::2], told[1::2]):
+        if (one.status, one.out, one.err) != (other.status, other.out, other.err) or not one.status:
+            fail(f"a refusal of check --json: {other.status} {other.out} {other.err}, and of check {one.err}")
+    if both.status != 2 or not both.err.startswith(NO_OUT) or both.out:
+        fail(f"--json beside --out: {both.status} {both.err}")
+    if (plain.status, plain.err) != (survey.status, survey.err) or plain.status != 3 or len(objects(survey)) != 2:
+        fail(f"a survey without one of its files: {survey.status} {survey.out} {survey.err}")
+
+
+def main():
+    source, wanted = all_entries()
+    count = judge_entries("planted", source.text(), list(wanted))
+    with open(f"{TOP}/examples/terminals.ti", "rb") as file:
+        samples = file.read()
+    names = [line.split("|")[0].rstrip(",") for line in samples.decode().splitlines() if line and line[0] not in "# \t"]
+    count += judge_entries("samples", samples, names)
+    count += judge_entries("five.ti", FIVE, ["five", "base"]) + judge_entries("mended.ti", MENDED, ["five", "base"])
+    for path, held in (("planted", source.text()), ("samples", samples), ("five.ti", FIVE), ("names", NAMES)):
+        judge_survey(path, held)
+    judge_names()
+    judge_refused()
+    print(f"reports: {count} objects of check --json say what the plain form says, and so do those of survey --json")
+
+
+main()
