@@ -1,6 +1,7 @@
 -- Where the value of a capability stands in a source text, in the form that editors read.
-use Rattle.std.specs.Prelude.{◌≡◌, ℕ, List, [], ◌∷◌, ◌++◌, Option, Some, None, codes, slice_get}
+use Rattle.std.specs.Prelude.{◌≡◌, ◌==◌, ℕ, List, [], ◌∷◌, ◌++◌, Option, Some, None, codes, slice_get}
 use Rattle.std.specs.Fmt.{decimal}
+use Rattle.std.specs.List.{before_first}
 use Rattle.ti_caps.specs.Table.{name_at}
 use Rattle.ti_commands.specs.declared.sources.SourceText.{SourceText}
 use Rattle.ti_resolve.specs.Origins.{IsOrigin}
@@ -8,7 +9,8 @@ use Rattle.ti_resolve.specs.Uses.{names_at}
 use Rattle.ti_resolve.specs.declared.origins.Origin.{Origin}
 use Rattle.ti_source.specs.Lines.{field_lines_of}
 use Rattle.ti_source.specs.declared.lines.FieldLine.{FieldLine}
-use Rattle.ti_verdicts.specs.Lines.{first_name}
+use Rattle.ti_source.specs.declared.types.RawEntry.{RawEntry}
+use Rattle.ti_verdicts.specs.declared.locations.Stands.{Stands}
 
 -- the number of a line, if there is one
 abbrev pub number_of : Option FieldLine → ℕ
@@ -19,16 +21,20 @@ number_of (Some field) = field.line
 unfoldable pub line_of_field : List ℕ → Origin → ℕ
 line_of_field text origin = number_of (slice_get (field_lines_of text origin.entry) origin.field)
 
--- `FILE:LINE: CAP of NAME`, with the first name of the entry that has the field
-unfoldable pub place_text : SourceText → ℕ → Origin → List ℕ
-place_text source cap origin =
-    source.path.now
-    ++ (codes ":" ++ (decimal (line_of_field source.text.items origin) ++ (codes ": " ++ (name_at cap ++ (codes " of " ++ (first_name (names_at source.raws.items origin.entry) ++ 10 ∷ []))))))
+-- an entry's first name
+abbrev pub first_name : List ℕ → List ℕ
+first_name names = before_first (λ b. b == 124) names
+
+-- `FILE:LINE: CAP of NAME` by the file's path and text and its entries, with the first name of the entry that has the field
+unfoldable pub place_text : List ℕ → List ℕ → List RawEntry → ℕ → Origin → List ℕ
+place_text path text raws cap origin =
+    path
+    ++ (codes ":" ++ (decimal (line_of_field text origin) ++ (codes ": " ++ (name_at cap ++ (codes " of " ++ first_name (names_at raws origin.entry))))))
 
 -- a capability without a value has no such line
 abbrev pub origin_text : SourceText → ℕ → Option Origin → List ℕ
 origin_text source cap None = []
-origin_text source cap (Some origin) = place_text source cap origin
+origin_text source cap (Some origin) = place_text source.path.now source.text.items source.raws.items cap origin ++ 10 ∷ []
 
 -- the field that gives the entry its value is the first one about it, of the entry's own or of those that it uses
 pub record IsLocatedIn (source : SourceText) (cap : ℕ) (line : List ℕ) : Type 0 where
@@ -40,3 +46,16 @@ pub record IsLocatedIn (source : SourceText) (cap : ℕ) (line : List ℕ) : Typ
 abbrev pub IsLocation : Option SourceText → ℕ → List ℕ → Type 0
 IsLocation None cap line = line ≡ []
 IsLocation (Some source) cap line = IsLocatedIn source cap line
+
+-- ---- an entry by its place
+
+-- where an entry stands: the path and the text of a source, all entries of the text, and the place of this one
+pub record Standing : Type 0 where
+  pub path : List ℕ
+  pub text : List ℕ
+  pub raws : List RawEntry
+  pub place : ℕ
+
+-- (Serves the code alone.) the same without where it lies in memory
+abbrev pub standing_of : Stands → Standing
+standing_of stands = record { path = stands.path.now; text = stands.text.now; raws = stands.raws.now; place = stands.place }

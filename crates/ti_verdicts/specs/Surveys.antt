@@ -8,21 +8,25 @@ use Rattle.ti_commands.specs.Sizes.{SizeGiven}
 use Rattle.ti_commands.specs.Words.{texts_of}
 use Rattle.ti_commands.specs.declared.failure.Failure.{Failure}
 use Rattle.ti_commands.specs.declared.failure.Reply.{Reply}
-use Rattle.ti_verdicts.specs.Lines.{AreLines, HasParts, SaysBy}
+use Rattle.ti_verdicts.specs.Lines.{AreLines, HasPairs, Saying, SaysBy}
 use Rattle.ti_requests.specs.declared.request.SurveyWords.{SurveyWords}
 
--- the lines of what a path holds
-abbrev pub HasLines : (List ℕ → Content → List ℕ → Type 0) → Held → List ℕ → List ℕ → Type 0
-HasLines Says held path lines = HasBytes (held path) longest_file (λ bytes. AreLines Says path bytes lines)
+-- the lines of what a path holds, and where the faults in them stand
+abbrev pub HasLines : Saying → Held → List ℕ → List ℕ → List ℕ → Type 0
+HasLines Says held path lines places = HasBytes (held path) longest_file (λ bytes. AreLines Says path bytes lines places)
 
--- or none
-abbrev pub MayHaveLines : (List ℕ → Content → List ℕ → Type 0) → Held → List ℕ → List ℕ → Type 0
-MayHaveLines Says held path lines = HasLines Says held path lines ⊎ (lines ≡ [])
+-- there are none
+abbrev pub HasNone : List ℕ → List ℕ → Type 0
+HasNone lines places = (lines ≡ []) × (places ≡ [])
+
+-- the first or the second
+abbrev pub MayHaveLines : Saying → Held → List ℕ → List ℕ → List ℕ → Type 0
+MayHaveLines Says held path lines places = HasLines Says held path lines places ⊎ HasNone lines places
 
 -- a path has its lines, or it has none and can't be had, as the failure says
-abbrev pub EndsPath : (List ℕ → Content → List ℕ → Type 0) → Held → List ℕ → List ℕ → Option Failure → Type 0
-EndsPath Says held path lines None = HasLines Says held path lines
-EndsPath Says held path lines (Some failure) = (lines ≡ []) × IsFileFailure path failure
+abbrev pub EndsPath : Saying → Held → List ℕ → List ℕ → List ℕ → Option Failure → Type 0
+EndsPath Says held path lines places None = HasLines Says held path lines places
+EndsPath Says held path lines places (Some failure) = HasNone lines places × IsFileFailure path failure
 
 -- one of the paths can't be had
 pub record Misses (paths : List (List ℕ)) (failure : Failure) : Type 0 where
@@ -33,22 +37,22 @@ pub record Misses (paths : List (List ℕ)) (failure : Failure) : Type 0 where
   pub fails : IsFileFailure path failure
 
 -- each path has its lines; or one can't be had, and each has its lines or none
-abbrev pub EndsPaths : (List ℕ → Content → List ℕ → Type 0) → Held → List (List ℕ) → List ℕ → Option Failure → Type 0
-EndsPaths Says held paths lines None = HasParts (HasLines Says held) paths lines
-EndsPaths Says held paths lines (Some failure) = HasParts (MayHaveLines Says held) paths lines × Misses paths failure
+abbrev pub EndsPaths : Saying → Held → List (List ℕ) → List ℕ → List ℕ → Option Failure → Type 0
+EndsPaths Says held paths lines places None = HasPairs (HasLines Says held) paths lines places
+EndsPaths Says held paths lines places (Some failure) = HasPairs (MayHaveLines Says held) paths lines places × Misses paths failure
 
 -- the first of two failures
 abbrev pub first_failure : Option Failure → Option Failure → Option Failure
 first_failure (Some failure) later = Some failure
 first_failure None later = later
 
--- the lines of each path, and after them the line of counts; it fails where a path can't be had
+-- The lines of each path, and after them the line of counts; its notes are where the faults in the lines stand. It fails
+-- where a path can't be had.
 pub record IsSurveyed (certifies : Content → ℕ → ℕ → List ℕ → Type 0) (refuses : Content → ℕ → ℕ → No → Type 0) (held : Held) (words : SurveyWords) (reply : Reply) : Type 0 where
   pub height : ℕ
   pub width : ℕ
   pub given : SizeGiven words.rows.now words.cols.now height width
   pub lines : List ℕ
-  pub ends : EndsPaths (SaysBy words.lists_all certifies refuses height width) held (texts_of words.paths.items) lines reply.failure
+  pub ends : EndsPaths (SaysBy words.lists_all certifies refuses height width) held (texts_of words.paths.items) lines reply.notes.items reply.failure
   pub counts : List ℕ
   pub says : reply.text.items ≡ lines ++ counts
-  pub no_notes : reply.notes.items ≡ []
