@@ -7,17 +7,14 @@ use Rattle.ti_checker.specs.declared.causes.No.{No}
 use Rattle.ti_compiled.specs.Contents.{read_of}
 use Rattle.ti_compiled.specs.declared.types.PackFault.{PackFault}
 use Rattle.ti_faults.specs.AllFaults.{AreAllFaults}
-use Rattle.ti_resolve.specs.Origins.{IsOriginAt}
-use Rattle.ti_resolve.specs.declared.origins.Origin.{Origin}
 use Rattle.ti_source.specs.Source.{source_of}
 use Rattle.ti_source.specs.declared.types.RawEntry.{RawEntry}
 use Rattle.ti_commands.specs.Findings.{FitsTo, IsSourceFailure, ResolvesAt}
 use Rattle.ti_commands.specs.declared.failure.Failure.TheVariants.{Refused}
 use Rattle.ti_commands.specs.declared.failure.CommandRefusal.{CommandRefusal}
-use Rattle.ti_verdicts.specs.Locations.{Standing, first_name, place_text}
+use Rattle.ti_verdicts.specs.Locations.{IsPlaced, PlaceInSource, first_name}
 use Rattle.ti_verdicts.specs.Refusals.{no_text}
 use Rattle.ti_verdicts.specs.declared.asked.Asked.{Asked}
-use Rattle.ti_words.specs.Shown.{shown}
 
 -- a text that has a part for each item, one after another
 unfoldable pub HasParts : {X : Type 0} → (X → List ℕ → Type 0) → List X → List ℕ → Type 0
@@ -38,7 +35,7 @@ line_of name words = name ++ (words ++ 10 ∷ [])
 
 -- what may be said of an entry by where it stands, its name and what it has: lines, and where the faults in them stand
 abbrev pub Saying : Type 1
-Saying = Option Standing → List ℕ → Content → List ℕ → List ℕ → Type 0
+Saying = Option PlaceInSource → List ℕ → Content → List ℕ → List ℕ → Type 0
 
 -- there is a certificate
 pub record HasYes (Certifies : List ℕ → Type 0) (words : List ℕ) : Type 0 where
@@ -68,28 +65,13 @@ HasAnswer certifies refuses height width name entry line = (words : List ℕ) ×
 abbrev pub fault_line : List ℕ → No → List ℕ
 fault_line name refusal = line_of name (codes " " ++ no_text refusal)
 
--- Where the value with the fault stands, and then its line, as far as it can be shown; a capability without a value, and a
--- compiled file, have none.
-abbrev pub placed_text : Standing → List ℕ → No → Option Origin → List ℕ
-placed_text standing name refusal None = []
-placed_text standing name refusal (Some origin) = shown (place_text standing.path standing.text standing.raws refusal.cap origin ++ (codes ": " ++ (name ++ (codes " " ++ no_text refusal)))) ++ 10 ∷ []
-
-pub record IsPlacedIn (standing : Standing) (name : List ℕ) (refusal : No) (line : List ℕ) : Type 0 where
-  pub origin : Option Origin
-  pub first : IsOriginAt standing.raws standing.place refusal.cap origin
-  pub says : line ≡ placed_text standing name refusal origin
-
-abbrev pub IsPlaced : Option Standing → List ℕ → No → List ℕ → Type 0
-IsPlaced None name refusal line = line ≡ []
-IsPlaced (Some standing) name refusal line = IsPlacedIn standing name refusal line
-
 -- a line for each of its faults, or for the yes of an entry that has none
 abbrev pub fault_lines : List ℕ → List No → List ℕ
 fault_lines name [] = line_of name (codes " yes")
 fault_lines name (first ∷ others) = flat_map (fault_line name) (first ∷ others)
 
 -- the lines of all faults of an entry, under its name, and for each of them where its value stands
-pub record HasAllFaults (height width : ℕ) (stands : Option Standing) (name : List ℕ) (entry : Content) (lines places : List ℕ) : Type 0 where
+pub record HasAllFaults (height width : ℕ) (stands : Option PlaceInSource) (name : List ℕ) (entry : Content) (lines places : List ℕ) : Type 0 where
   pub nos : List No
   pub all : AreAllFaults entry height width nos
   pub says : lines ≡ fault_lines name nos
@@ -112,10 +94,14 @@ IsRefusalText words = (told : List ℕ) × (words ≡ codes " refused: " ++ told
 abbrev pub IsRefusedLine : List ℕ → List ℕ → Type 0
 IsRefusedLine name line = (words : List ℕ) × IsRefusalText words × (line ≡ line_of name words)
 
+-- this line, and nothing beside it
+abbrev pub IsRefused : List ℕ → List ℕ → List ℕ → Type 0
+IsRefused name lines places = IsRefusedLine name lines × (places ≡ [])
+
 -- what is said under its name of an entry that is there, or of one that can't be had
-abbrev pub IsTold : Saying → Result Content CommandRefusal → Option Standing → List ℕ → List ℕ → List ℕ → Type 0
+abbrev pub IsTold : Saying → Result Content CommandRefusal → Option PlaceInSource → List ℕ → List ℕ → List ℕ → Type 0
 IsTold Says (Ok entry) stands name lines places = Says stands name entry lines places
-IsTold Says (Err refusal) stands name lines places = IsRefusedLine name lines × (places ≡ [])
+IsTold Says (Err refusal) stands name lines places = IsRefused name lines places
 
 -- ---- the lines of an entry
 
@@ -150,8 +136,7 @@ pub record HasEntry (Says : Saying) (bytes lines places : List ℕ) : Type 0 whe
 pub record IsFaultyFile (path bytes line places : List ℕ) : Type 0 where
   pub fault : PackFault
   pub faulty : read_of bytes ≡ Err fault
-  pub told : IsRefusedLine path line
-  pub none : places ≡ []
+  pub told : IsRefused path line places
 
 -- the entries of a source text
 pub record HasEntries (Says : Saying) (path bytes lines places : List ℕ) : Type 0 where
@@ -163,8 +148,7 @@ pub record HasEntries (Says : Saying) (path bytes lines places : List ℕ) : Typ
 pub record LacksEntries (path bytes line places : List ℕ) : Type 0 where
   pub refusal : CommandRefusal
   pub faulty : IsSourceFailure bytes (Refused refusal)
-  pub told : IsRefusedLine path line
-  pub none : places ≡ []
+  pub told : IsRefused path line places
 
 abbrev pub AreLinesBy : Bool → Saying → List ℕ → List ℕ → List ℕ → List ℕ → Type 0
 AreLinesBy true Says path bytes lines places = HasEntry Says bytes lines places ⊎ IsFaultyFile path bytes lines places

@@ -4,13 +4,16 @@ use Rattle.std.specs.Fmt.{decimal}
 use Rattle.std.specs.List.{before_first}
 use Rattle.ti_caps.specs.Table.{name_at}
 use Rattle.ti_commands.specs.declared.sources.SourceText.{SourceText}
-use Rattle.ti_resolve.specs.Origins.{IsOrigin}
+use Rattle.ti_checker.specs.declared.causes.No.{No}
+use Rattle.ti_resolve.specs.Origins.{IsOrigin, IsOriginAt}
 use Rattle.ti_resolve.specs.Uses.{names_at}
 use Rattle.ti_resolve.specs.declared.origins.Origin.{Origin}
 use Rattle.ti_source.specs.Lines.{field_lines_of}
 use Rattle.ti_source.specs.declared.lines.FieldLine.{FieldLine}
 use Rattle.ti_source.specs.declared.types.RawEntry.{RawEntry}
-use Rattle.ti_verdicts.specs.declared.locations.Stands.{Stands}
+use Rattle.ti_verdicts.specs.Refusals.{no_text}
+use Rattle.ti_verdicts.specs.declared.locations.SourcePlace.{SourcePlace}
+use Rattle.ti_words.specs.Shown.{shown}
 
 -- the number of a line, if there is one
 abbrev pub number_of : Option FieldLine → ℕ
@@ -50,12 +53,34 @@ IsLocation (Some source) cap line = IsLocatedIn source cap line
 -- ---- an entry by its place
 
 -- where an entry stands: the path and the text of a source, all entries of the text, and the place of this one
-pub record Standing : Type 0 where
+pub record PlaceInSource : Type 0 where
   pub path : List ℕ
   pub text : List ℕ
   pub raws : List RawEntry
   pub place : ℕ
 
+-- Where the value stands that a fault is about, and then the fault under the name of its entry, as far as it can be shown;
+-- there is no line for a capability without a value.
+abbrev pub placed_text : PlaceInSource → List ℕ → No → Option Origin → List ℕ
+placed_text stands name refusal None = []
+placed_text stands name refusal (Some origin) =
+    shown (place_text stands.path stands.text stands.raws refusal.cap origin ++ (codes ": " ++ (name ++ (codes " " ++ no_text refusal)))) ++ 10 ∷ []
+
+-- the value is that of the entry at its place, whatever other entries have its names
+pub record IsPlacedIn (stands : PlaceInSource) (name : List ℕ) (refusal : No) (line : List ℕ) : Type 0 where
+  pub origin : Option Origin
+  pub first : IsOriginAt stands.raws stands.place refusal.cap origin
+  pub says : line ≡ placed_text stands name refusal origin
+
+-- the line of a fault; the entry of a compiled file has none
+abbrev pub IsPlaced : Option PlaceInSource → List ℕ → No → List ℕ → Type 0
+IsPlaced None name refusal line = line ≡ []
+IsPlaced (Some stands) name refusal line = IsPlacedIn stands name refusal line
+
 -- (Serves the code alone.) the same without where it lies in memory
-abbrev pub standing_of : Stands → Standing
-standing_of stands = record { path = stands.path.now; text = stands.text.now; raws = stands.raws.now; place = stands.place }
+abbrev pub place_in : SourcePlace → PlaceInSource
+place_in stands = record { path = stands.path.now; text = stands.text.now; raws = stands.raws.now; place = stands.place }
+
+abbrev pub place_if : Option SourcePlace → Option PlaceInSource
+place_if None = None
+place_if (Some stands) = Some (place_in stands)
