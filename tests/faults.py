@@ -135,6 +135,17 @@ def listing(source, faults):
     return [*lines, counts([fault[2] for fault, _ in faults])]
 
 
+def places(source, wanted):
+    """What `survey --all` is to print on standard error: where each fault stands, and its line."""
+    lines = []
+    for name, faults in wanted.items():
+        for fault, owner in faults:
+            cap = named(fault[0])
+            if fault[2] != "Absent":
+                lines.append(f"planted:{source.places[owner, cap]}: {cap} of {owner}: {name} {words(fault)}")
+    return lines
+
+
 def is_explained(lines):
     """Below each fault, and the line that says where it stands, there is a line that explains it."""
     below = [line for line in lines if not line.startswith("planted:")]
@@ -162,6 +173,8 @@ def judge_planted():
     lines.append(counts([fault[2] for faults in wanted.values() for fault, _ in faults or [(("", "", "yes"), "")]]))
     if told[-1].out.decode().splitlines() != lines or told[-1].status:
         fail(f"survey --all printed {told[-1].out.decode()} and was to print {lines}")
+    if told[-1].err.decode().splitlines() != places(source, wanted):
+        fail(f"survey --all printed {told[-1].err.decode()} on standard error and was to print {places(source, wanted)}")
     number = sum(map(len, wanted.values()))
     print(f"faults: each of {number} planted faults of {len(wanted)} entries is listed once, where it stands, and no other")
 
@@ -221,6 +234,47 @@ def judge_by_hand():
     print("faults: an entry with six faults is mended in one round")
 
 
+SUGGESTED = re.compile(r"  (\w+=.+) would be right on this terminal")
+
+
+def judge_suggestions():
+    """The entry with the faults is right with the strings that are suggested for it, as they are printed."""
+    [listed] = run_cases(PROGRAM, [Case(["check", "--all", "five.ti:five", "24", "80"])], {"five.ti": FIVE})
+    fields = [found[1] for found in map(SUGGESTED.fullmatch, listed.out.decode().splitlines()) if found]
+    if [named(field) for field in fields] != ["bel", "cr", "ed", "el", "el1"]:
+        fail(f"suggested were {fields}")
+    mended = FIVE.replace(b"xmc#1, ", b"").replace(b"five|five faults,", f"five|mended, {', '.join(fields)},".encode())
+    [told] = run_cases(PROGRAM, [Case(["check", "--all", "five.ti:five", "24", "80"])], {"five.ti": mended})
+    if (told.status, told.out) != (0, b"yes\n"):
+        fail(f"with {fields} the entry is {told.status} {told.out}")
+    print("faults: the strings that are suggested, as they are printed, mend an entry")
+
+
+# two entries of one name, which has a byte that isn't shown
+TWINS = rb"""tw@n|one of two,
+	clear=\E[H\E[2J, cup=\E[%i%p1%d;%p2%dH, sgr0=\E[m, el=\E[1K,
+tw@n|the other one,
+	clear=\E[H\E[2J, cup=\E[%i%p1%d;%p2%dH, sgr0=\E[m,
+	ed=\E[K,
+""".replace(b"@", b"\xed")
+TWIN_PLACES = rb"""twins.ti:2: el of tw\355n: tw\355n no el: WrongEffect
+twins.ti:5: ed of tw\355n: tw\355n no ed: WrongEffect
+"""
+TWIN_LINES = b"tw\xedn no el: WrongEffect\ntw\xedn no ed: WrongEffect\n"
+
+
+def judge_places():
+    """Of two entries with one name each has its own places; a survey of first faults has none."""
+    words = ["24", "80", "twins.ti"]
+    every, first = run_cases(PROGRAM, [Case(["survey", "--all", *words]), Case(["survey", *words])], {"twins.ti": TWINS})
+    for told, err in ((every, TWIN_PLACES), (first, b"")):
+        if (told.status, told.out, told.err) != (0, TWIN_LINES + b"total 2, WrongEffect 2\n", err):
+            fail(f"a survey of two entries of one name: {told.status} {told.out} {told.err}")
+    print("faults: a survey says where each fault stands, by the entry's place")
+
+
 if __name__ == "__main__":
     judge_planted()
     judge_by_hand()
+    judge_suggestions()
+    judge_places()

@@ -376,7 +376,8 @@ A FILE with a fault of its own has one line, `FILE refused: KIND`; a source with
 the number of the lines before it, and then how many got each answer.
 
 With --all an entry that has no certificate has a line `NAME no CAP P..: CAUSE` for each of its faults, those that
-`ticurses check --all` lists.
+`ticurses check --all` lists. For each of them whose value stands in a source FILE, standard error has the line
+`FILE:LINE: CAP of ENTRY: NAME no CAP P..: CAUSE`; ENTRY is NAME, or an entry that it uses.
 
 With --json the output is a JSON object on a line of its own for each of these lines but the last, with the members of
 `ticurses check --json`. In place of KIND the verdict is `refused`, and cause has the KIND; entry is null where a FILE has a

@@ -97,8 +97,9 @@ fn tried(
     string: Option<&'static [u8]>,
 ) -> Result<Option<&'static [u8]>, AllocError>
     requires { IfSome string (λ bytes. IsTrue (string_fits bytes.now)) }
-    ensures { IfOk result (λ found. spec.IsFirstAccepted entry.now size.rows size.cols before.now row
+    ensures found { IfOk result (λ found. spec.IsFirstAccepted entry.now size.rows size.cols before.now row
         (standards.as_list (option_copied string.entry)) (option_copied found)) }
+    ensures fits { IfOk result (λ found. IfSome found (λ bytes. IsTrue (string_fits bytes.now))) }
 {
     let Some(bytes) = string else {
         return Ok(None);
@@ -115,8 +116,9 @@ fn first_accepted(
     before: &[No],
     row: Row,
 ) -> Result<Option<&'static [u8]>, AllocError>
-    ensures { IfOk result (λ found. spec.IsFirstAccepted entry.now size.rows size.cols before.now row
+    ensures found { IfOk result (λ found. spec.IsFirstAccepted entry.now size.rows size.cols before.now row
         (standards.candidates entry.now row) (option_copied found)) }
+    ensures fits { IfOk result (λ found. IfSome found (λ bytes. IsTrue (string_fits bytes.now))) }
 {
     let fits_best = matching(entry, row);
     match tried(alloc, entry, size, before, row, fits_best)? {
@@ -139,7 +141,8 @@ pub fn remedy(
     cap: Cap,
     before: &[No],
 ) -> Result<Option<&'static [u8]>, AllocError>
-    ensures { IfOk result (λ found. spec.IsRemedy entry.now size.rows size.cols before.now cap (option_copied found)) }
+    ensures found { IfOk result (λ found. spec.IsRemedy entry.now size.rows size.cols before.now cap (option_copied found)) }
+    ensures fits { IfOk result (λ found. IfSome found (λ bytes. IsTrue (string_fits bytes.now))) }
 {
     match row_of(cap) {
         Some(row) => first_accepted(alloc, entry, size, before, row),

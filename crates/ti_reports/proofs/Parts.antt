@@ -6,7 +6,7 @@ use Rattle.ti_commands.specs.Findings.{ResolvesAt}
 use Rattle.ti_commands.specs.declared.failure.CommandRefusal.{CommandRefusal}
 use Rattle.ti_reports.specs.Surveys.{IsReported, IsSourcePart}
 use Rattle.ti_source.specs.declared.types.RawEntry.{RawEntry}
-use Rattle.ti_verdicts.specs.Lines.{first_name}
+use Rattle.ti_verdicts.specs.Locations.{first_name}
 
 pub source_part_of : (height width : ℕ) (all : Bool) (path : List ℕ) (raws : List RawEntry) (place : ℕ) (raw : RawEntry) (entry : Result Content CommandRefusal) (names name lines : List ℕ)
     → slice_get raws place ≡ Some raw → names ≡ raw.names → name ≡ first_name names → ResolvesAt raws place entry → IsReported height width all path name entry lines

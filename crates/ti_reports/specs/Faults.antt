@@ -11,7 +11,8 @@ use Rattle.ti_reports.specs.Sources.{IsValueLine}
 use Rattle.ti_reports.specs.Texts.{IsTextOf}
 use Rattle.ti_reports.specs.declared.reports.Report.{Report}
 use Rattle.ti_reports.specs.declared.reports.Verdict.TheVariants as verdicts
-use Rattle.ti_verdicts.specs.Lines.{HasParts, first_name}
+use Rattle.ti_verdicts.specs.Lines.{HasParts}
+use Rattle.ti_verdicts.specs.Locations.{first_name}
 use Rattle.ti_verdicts.specs.Refusals.{cause_name}
 
 -- the text of these bytes is there

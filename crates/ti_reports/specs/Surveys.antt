@@ -20,7 +20,8 @@ use Rattle.ti_reports.specs.declared.reports.Verdict.TheVariants as verdicts
 use Rattle.ti_requests.specs.declared.request.SurveyWords.{SurveyWords}
 use Rattle.ti_source.specs.Source.{source_of}
 use Rattle.ti_source.specs.declared.types.RawEntry.{RawEntry}
-use Rattle.ti_verdicts.specs.Lines.{HasParts, first_name, is_compiled}
+use Rattle.ti_verdicts.specs.Lines.{HasParts, is_compiled}
+use Rattle.ti_verdicts.specs.Locations.{first_name}
 use Rattle.ti_verdicts.specs.Surveys.{EndsPaths}
 
 -- ---- an entry
@@ -100,6 +101,10 @@ AreReportsBy false height width all path bytes lines = HasEntries height width a
 abbrev pub AreReports : ℕ → ℕ → Bool → List ℕ → List ℕ → List ℕ → Type 0
 AreReports height width all path bytes lines = AreReportsBy (is_compiled bytes) height width all path bytes lines
 
+-- these lines, and nothing beside them
+abbrev pub AreAlone : ℕ → ℕ → Bool → List ℕ → List ℕ → List ℕ → List ℕ → Type 0
+AreAlone height width all path bytes lines beside = AreReports height width all path bytes lines × (beside ≡ [])
+
 -- ---- the reply
 
 -- the lines of each path; it fails where a path can't be had
@@ -107,6 +112,5 @@ pub record IsSurveyed (held : Held) (words : SurveyWords) (reply : Reply) : Type
   pub height : ℕ
   pub width : ℕ
   pub given : SizeGiven words.rows.now words.cols.now height width
-  pub ends : EndsPaths (AreReports height width words.lists_all) held (texts_of words.paths.items) reply.text.items
-      reply.failure
-  pub no_notes : reply.notes.items ≡ []
+  pub ends : EndsPaths (AreAlone height width words.lists_all) held (texts_of words.paths.items) reply.text.items
+      reply.notes.items reply.failure

@@ -4,7 +4,8 @@ ghost use Rattle.std.specs.Prelude.{IfOk, string_bytes};
 ghost use Rattle.ti_caps.specs.Table.{name_at};
 ghost use Rattle.ti_reports.specs.Faults as spec;
 ghost use Rattle.ti_reports.specs.Texts.{IsTextOf};
-ghost use Rattle.ti_verdicts.specs.Lines.{HasParts, first_name};
+ghost use Rattle.ti_verdicts.specs.Lines.{HasParts};
+ghost use Rattle.ti_verdicts.specs.Locations.{first_name};
 ghost use Rattle.ti_verdicts.specs.Refusals.{cause_name};
 
 use crate::explanations::explanation;

@@ -1,6 +1,6 @@
 //! The command `survey --json`.
 
-ghost use Rattle.std.specs.Prelude.{◌≡◌, IfErr, IfOk};
+ghost use Rattle.std.specs.Prelude.{◌≡◌, [], IfErr, IfOk};
 ghost use Rattle.ti_commands.specs.Sizes.{LacksSize};
 ghost use Rattle.ti_commands.specs.Words.{texts_of};
 ghost use Rattle.ti_reports.specs.Surveys as spec;
@@ -73,8 +73,8 @@ fn survey_paths<F: Files, W: Watcher>(
     watcher: &mut W,
     remarks: &mut Remarks,
 ) -> Result<Surveyed, AllocError>
-    ensures told { IfOk result (λ surveyed. EndsPaths (spec.AreReports asked.size.rows asked.size.cols asked.lists_all)
-        (F.holds files.old) (texts_of paths.now) surveyed.lines.items surveyed.failure) }
+    ensures told { IfOk result (λ surveyed. EndsPaths (spec.AreAlone asked.size.rows asked.size.cols asked.lists_all)
+        (F.holds files.old) (texts_of paths.now) surveyed.lines.items [] surveyed.failure) }
     ensures kept { F.holds files.new ≡ F.holds files.old }
 {
     let mut lines = Vec::new(alloc);
@@ -107,8 +107,8 @@ fn survey_path<F: Files, W: Watcher>(
     watcher: &mut W,
     remarks: &mut Remarks,
 ) -> Result<Surveyed, AllocError>
-    ensures told { IfOk result (λ surveyed. EndsPath (spec.AreReports asked.size.rows asked.size.cols asked.lists_all)
-        (F.holds files.old) path.now surveyed.lines.items surveyed.failure) }
+    ensures told { IfOk result (λ surveyed. EndsPath (spec.AreAlone asked.size.rows asked.size.cols asked.lists_all)
+        (F.holds files.old) path.now surveyed.lines.items [] surveyed.failure) }
     ensures kept { F.holds files.new ≡ F.holds files.old }
 {
     match read_whole(alloc, files, path, LONGEST_FILE, remarks) {

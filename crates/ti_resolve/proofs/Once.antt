@@ -38,14 +38,14 @@ expands_once raws names one other (one_use name others place inner rest found us
     ∙ (ap (λ p. (p ∷ f.inner) ++ f.rest) (sym same) ∙ sym f.whole))
 
 -- an entry and all that it uses are one list
-whole_at_once : (raws : List RawEntry) (root : ℕ) (places others : List ℕ) → IsWhole raws root places → IsWhole raws root others → places ≡ others
+pub whole_at_once : (raws : List RawEntry) (root : ℕ) (places others : List ℕ) → IsWhole raws root places → IsWhole raws root others → places ≡ others
 whole_at_once raws root places others w v =
     let used : w.used ≡ v.used = expands_once raws (uses_in (fields_at raws root)) w.used v.used w.expands v.expands in
     w.whole ∙ (ap (λ u. root ∷ u) used ∙ sym v.whole)
 
-pub whole_once : (raws : List RawEntry) (name : List ℕ) (root other_root : ℕ) (places others : List ℕ) → place_named raws name ≡ Some root → place_named raws name ≡ Some other_root → IsWhole raws root places → IsWhole raws other_root others → places ≡ others
-whole_once raws name root other_root places others found other_found w v =
-    whole_at_once raws root places others w (subst (λ p. IsWhole raws p others) (some_same other_root root (sym other_found ∙ found)) v)
+-- a name asks for one place
+pub root_once : (raws : List RawEntry) (name : List ℕ) (root other_root : ℕ) → place_named raws name ≡ Some root → place_named raws name ≡ Some other_root → root ≡ other_root
+root_once raws name root other_root found other_found = some_same root other_root (sym found ∙ other_found)
 
 pub resolved_at_once : ResolvedAtOnce
 resolved_at_once raws root one other is_one is_other r s =
@@ -55,4 +55,4 @@ resolved_at_once raws root one other is_one is_other r s =
 
 pub resolved_once : ResolvedOnce
 resolved_once raws name one other is_one is_other r s =
-    resolved_at_once raws r.root one other is_one is_other r.there (subst (λ p. IsResolvedAt raws p other) (some_same s.root r.root (sym s.found ∙ r.found)) s.there)
+    resolved_at_once raws r.root one other is_one is_other r.there (subst (λ p. IsResolvedAt raws p other) (root_once raws name s.root r.root s.found r.found) s.there)

@@ -1,5 +1,5 @@
 -- Where the value of a capability stands, and that it is the value of the resolved entry.
-use Rattle.std.proofs.Common.{◌≡◌, ℕ, ◌<◌, ◌≤◌, Bool, true, false, List, [], ◌∷◌, Option, Some, None, Ok, refl, sym, ap, ◌∙◌, length, get_or, drop, ◌+◌, arith}
+use Rattle.std.proofs.Common.{◌≡◌, ℕ, ◌<◌, ◌≤◌, Bool, true, false, List, [], ◌∷◌, Option, Some, None, Ok, refl, sym, ap, subst, ◌∙◌, length, get_or, drop, ◌+◌, arith}
 use Rattle.std.specs.Prelude.{⊤, if◌then◌else◌, nat_lt, option_map, slice_get}
 use Rattle.std.specs.List.{find, position, position_or_len}
 use Rattle.std.specs.Option.{option_or}
@@ -14,13 +14,13 @@ use Rattle.ti_source.specs.declared.types.Field.{Field}
 use Rattle.ti_source.specs.declared.types.Field.TheVariants.{Set, Cancel, Include}
 use Rattle.ti_source.specs.declared.types.RawEntry.{RawEntry}
 use Rattle.ti_resolve.specs.declared.origins.Origin.{Origin}
-use Rattle.ti_resolve.specs.Origins.{GivesValue, IsOrigin, field_there, first_of, giving, is_set, origin_at, origin_in}
-use Rattle.ti_resolve.specs.Resolved.{own_of_all}
+use Rattle.ti_resolve.specs.Origins.{GivesValue, GivesValueAt, IsOriginAt, field_there, first_of, giving, is_set, origin_at, origin_in}
+use Rattle.ti_resolve.specs.Resolved.{IsResolvedAt, own_of_all}
 use Rattle.ti_resolve.specs.Uses.{place_named, fields_at, names_at, is_about, first_about, value_given}
 use Rattle.ti_resolve.specs.Walk.{walk_at}
 use Rattle.ti_resolve.proofs.Firsts.{about_at, first_same, own_first}
 use Rattle.ti_resolve.proofs.Law.{walk_is_whole}
-use Rattle.ti_resolve.proofs.Once.{whole_once}
+use Rattle.ti_resolve.proofs.Once.{root_once, whole_at_once}
 
 -- the places from one on: nothing is found at it, or something is
 pub first_more : {X : Type 0} (found : ℕ → Option X) (places : List ℕ) (i place : ℕ) (all : Option X) → i < length places → place ≡ get_or places i 0 → found place ≡ None → first_of found (drop i places) ≡ all → first_of found (drop (i + 1) places) ≡ all
@@ -32,16 +32,10 @@ first_found found places i place x all inside is some was =
     ap (λ o. option_or o (first_of found (drop (i + 1) places))) (sym some ∙ ap found is) ∙ (ap (first_of found) (sym (drop_more places i 0 inside)) ∙ was)
 
 -- what the walk entered first
-pub origin_is : (raws : List RawEntry) (name after : List ℕ) (root cap : ℕ) (origin : Option Origin) → place_named raws name ≡ Some root → walk_at raws root ≡ Ok after → origin ≡ giving raws (first_of (origin_in raws cap) after) → IsOrigin raws name cap origin
-origin_is raws name after root cap origin found walked is =
+pub origin_there : (raws : List RawEntry) (after : List ℕ) (root cap : ℕ) (origin : Option Origin) → walk_at raws root ≡ Ok after → origin ≡ giving raws (first_of (origin_in raws cap) after) → IsOriginAt raws root cap origin
+origin_there raws after root cap origin walked is =
     let whole = walk_is_whole raws 65 root (names_at raws root) after walked in
-    record {
-      root = root;
-      places = whole.0;
-      found = found;
-      whole = whole.1;
-      first = is ∙ ap (giving raws) (first_same (origin_in raws cap) after whole.0 whole.2);
-    }
+    record { places = whole.0; whole = whole.1; first = is ∙ ap (giving raws) (first_same (origin_in raws cap) after whole.0 whole.2) }
 
 map_twice : {X Y Z : Type 0} (f : Y → Z) (g : X → Y) (o : Option X) → option_map f (option_map g o) ≡ option_map (λ x. f (g x)) o
 map_twice f g None = refl
@@ -118,12 +112,16 @@ given raws cap (Some origin) (Some field) there about =
     let is : field_there raws origin ≡ Some field = cc in
     ap (λ o. option_map (field_there raws) (if is_set o then Some origin else None)) is ∙ field_gives cap origin raws field is about
 
-pub gives_value : (raws : List RawEntry) (name : List ℕ) (cap : ℕ) (origin : Option Origin) → cap < 497 → IsOrigin raws name cap origin → GivesValue raws name cap origin
-gives_value raws name cap origin inside o entry r =
-    let places : o.places ≡ r.there.places = whole_once raws name o.root r.root o.places r.there.places o.found r.found o.whole r.there.whole in
+pub gives_value_at : (raws : List RawEntry) (root cap : ℕ) (origin : Option Origin) → cap < 497 → IsOriginAt raws root cap origin → GivesValueAt raws root cap origin
+gives_value_at raws root cap origin inside o entry r =
+    let places : o.places ≡ r.places = whole_at_once raws root o.places r.places o.whole r.whole in
     let field = first_of (about_at raws cap) o.places in
     let value : value_at entry cap ≡ value_given field =
-    r.there.values cap inside ∙ (ap (λ ps. value_given (first_about cap (own_of_all raws ps))) (sym places) ∙ ap value_given (own_first raws cap o.places)) in
+    r.values cap inside ∙ (ap (λ ps. value_given (first_about cap (own_of_all raws ps))) (sym places) ∙ ap value_given (own_first raws cap o.places)) in
     ap (option_map (field_there raws)) o.first
     ∙ (given raws cap (first_of (origin_in raws cap) o.places) field (all_there raws cap o.places) (all_about raws cap o.places)
     ∙ ap (set_to cap) (sym value))
+
+-- the entry that a name asks for is at one place
+pub gives_value : (raws : List RawEntry) (name : List ℕ) (root cap : ℕ) (origin : Option Origin) → place_named raws name ≡ Some root → GivesValueAt raws root cap origin → GivesValue raws name cap origin
+gives_value raws name root cap origin found gives entry r = gives entry (subst (λ p. IsResolvedAt raws p entry) (root_once raws name r.root root r.found found) r.there)

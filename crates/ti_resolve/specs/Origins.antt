@@ -3,11 +3,12 @@ use Rattle.std.specs.Prelude.{ℕ, ◌≡◌, Bool, true, false, List, [], ◌�
 use Rattle.std.specs.List.{position}
 use Rattle.std.specs.Option.{option_or}
 use Rattle.ti_caps.specs.Entry.{Content, value_at}
+use Rattle.ti_caps.specs.declared.value.Value.{Value}
 use Rattle.ti_source.specs.declared.types.Field.{Field}
 use Rattle.ti_source.specs.declared.types.Field.TheVariants.{Set}
 use Rattle.ti_source.specs.declared.types.RawEntry.{RawEntry}
 use Rattle.ti_resolve.specs.declared.origins.Origin.{Origin}
-use Rattle.ti_resolve.specs.Resolved.{IsResolved, IsWhole}
+use Rattle.ti_resolve.specs.Resolved.{IsResolved, IsResolvedAt, IsWhole}
 use Rattle.ti_resolve.specs.Uses.{place_named, fields_at, is_about}
 
 abbrev pub origin_at : ℕ → ℕ → Origin
@@ -35,17 +36,26 @@ abbrev pub giving : List RawEntry → Option Origin → Option Origin
 giving raws None = None
 giving raws (Some origin) = if is_set (field_there raws origin) then Some origin else None
 
--- The first field about the capability in the entry that a name asks for and all that it uses, in their
--- order; or None, if there is no such field or it cancels.
-pub record IsOrigin (raws : List RawEntry) (name : List ℕ) (cap : ℕ) (origin : Option Origin) : Type 0 where
-  pub root : ℕ
+-- The first field about the capability in the entry at a place and all that it uses, in their order; or
+-- None, if there is no such field or it cancels.
+pub record IsOriginAt (raws : List RawEntry) (root cap : ℕ) (origin : Option Origin) : Type 0 where
   pub places : List ℕ
-  pub found : place_named raws name ≡ Some root
   pub whole : IsWhole raws root places
   pub first : origin ≡ giving raws (first_of (origin_in raws cap) places)
 
--- the field there sets the capability to the value that the entry has, and there is one if it has a value
+-- the same for the entry that a name asks for
+pub record IsOrigin (raws : List RawEntry) (name : List ℕ) (cap : ℕ) (origin : Option Origin) : Type 0 where
+  pub root : ℕ
+  pub found : place_named raws name ≡ Some root
+  pub there : IsOriginAt raws root cap origin
+
+-- the field there sets the capability to this value, and there is one if there is a value
+abbrev pub Gives : List RawEntry → ℕ → Option Origin → Option Value → Type 0
+Gives raws cap origin value = option_map (field_there raws) origin ≡ option_map (λ given. Some (Set cap given)) value
+
+-- it is the value that the entry has
+abbrev pub GivesValueAt : List RawEntry → ℕ → ℕ → Option Origin → Type 0
+GivesValueAt raws root cap origin = (entry : Content) → IsResolvedAt raws root entry → Gives raws cap origin (value_at entry cap)
+
 abbrev pub GivesValue : List RawEntry → List ℕ → ℕ → Option Origin → Type 0
-GivesValue raws name cap origin =
-    (entry : Content) → IsResolved raws name entry
-    → option_map (field_there raws) origin ≡ option_map (λ value. Some (Set cap value)) (value_at entry cap)
+GivesValue raws name cap origin = (entry : Content) → IsResolved raws name entry → Gives raws cap origin (value_at entry cap)

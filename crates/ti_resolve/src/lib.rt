@@ -11,6 +11,6 @@ mod walk;
 pub use faults::ResolveFault;
 pub use origins::Origin;
 pub use resolution::{
-    answers_once, expands_once, faults_are_so, faults_from_are_so, origin, resolve, resolve_at,
-    resolved_at_once, resolved_once, walks_resolve,
+    answers_once, expands_once, faults_are_so, faults_from_are_so, origin, origin_at, resolve,
+    resolve_at, resolved_at_once, resolved_once, walks_resolve,
 };

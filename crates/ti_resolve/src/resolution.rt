@@ -4,7 +4,7 @@ ghost use Rattle.std.specs.Prelude.{◌≡◌, ◌<◌, [], Some, IfOk, MatchRes
 ghost use Rattle.std.specs.List.{AllByRecursion};
 ghost use Rattle.ti_source.specs.Raw.{IsRaw};
 ghost use Rattle.ti_resolve.specs.Faults.{AnswersOnce, FaultsAreSo, FaultsFromAreSo, WalksResolve};
-ghost use Rattle.ti_resolve.specs.Origins.{GivesValue, IsOrigin};
+ghost use Rattle.ti_resolve.specs.Origins.{GivesValue, GivesValueAt, IsOrigin, IsOriginAt};
 ghost use Rattle.ti_resolve.specs.Resolved.{ExpandsOnce, IsResolved, IsResolvedAt, ResolvedAtOnce, ResolvedOnce};
 ghost use Rattle.ti_resolve.specs.Walk.{Gives, FailsBy, walk_at, walk_of};
 
@@ -63,6 +63,24 @@ fn resolve_in(alloc: Global, index: &Index<'_>, name: &[u8]) -> Result<Entry, Re
     }
 }
 
+/// Where the value of `cap` stands in the entry at the place `root`, in entries with their index.
+fn origin_from(
+    alloc: Global,
+    index: &Index<'_>,
+    root: usize,
+    cap: Cap,
+) -> Result<Option<Origin>, ResolveFault>
+    requires { root < length index.now.raws.now }
+    ensures origin { IfOk result (λ found. IsOriginAt index.now.raws.now root cap found) }
+    ensures value { IfOk result (λ found. GivesValueAt index.now.raws.now root cap found) }
+    ensures walk { MatchResult result (λ _. IsOk (walk_at index.now.raws.now root)) (λ fault. FailsBy fault (walk_at index.now.raws.now root)) }
+{
+    // the capability is in the table
+    let _ = cap.place();
+    let entered = entered_from(alloc, index, root)?;
+    Ok(giving(index.raws, cap, entered.as_slice()))
+}
+
 /// Where the value of `cap` stands in the entry that `name` asks for, in entries with their index.
 fn origin_of(
     alloc: Global,
@@ -75,13 +93,10 @@ fn origin_of(
     ensures walk { MatchResult result (λ _. IsOk (walk_of index.now.raws.now name.now))
         (λ fault. FailsBy fault (walk_of index.now.raws.now name.now)) }
 {
-    // the capability is in the table
-    let _ = cap.place();
-    let Some(root) = index.find(name) else {
-        return Err(ResolveFault::no_such_entry(alloc, name));
-    };
-    let entered = entered_from(alloc, index, root)?;
-    Ok(giving(index.raws, cap, entered.as_slice()))
+    match index.find(name) {
+        Some(root) => origin_from(alloc, index, root, cap),
+        None => Err(ResolveFault::no_such_entry(alloc, name)),
+    }
 }
 
 /// The entry that a name asks for, with all that it uses: depth first and left to right, an entry's own
@@ -137,6 +152,26 @@ pub fn origin(
 {
     let index = Index::new(alloc, raws)?;
     origin_of(alloc, &index, name, cap)
+}
+
+/// Where the value of `cap` stands in the entry at `place` in `raws`, as `origin` says it; the entry's names don't
+/// count, as in `resolve_at`.
+///
+/// # Errors
+/// Those of `resolve_at`.
+pub fn origin_at(
+    alloc: Global,
+    raws: &[RawEntry],
+    place: usize,
+    cap: Cap,
+) -> Result<Option<Origin>, ResolveFault>
+    requires { place < length raws.now }
+    ensures origin { IfOk result (λ found. IsOriginAt raws.now place cap found) }
+    ensures value { IfOk result (λ found. GivesValueAt raws.now place cap found) }
+    ensures walk { MatchResult result (λ _. IsOk (walk_at raws.now place)) (λ fault. FailsBy fault (walk_at raws.now place)) }
+{
+    let index = Index::new(alloc, raws)?;
+    origin_from(alloc, &index, place, cap)
 }
 
 /// A law: uses stand for one list of entries.

@@ -14,3 +14,4 @@ pub mod Cuts
 pub mod Relations
 pub mod Just
 pub mod FieldLines
+pub mod StringBack

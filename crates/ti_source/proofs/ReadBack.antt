@@ -70,7 +70,7 @@ string_bytes_fit (b ∷ bytes) e h =
     let low : 0 < b = grind (arith, nat_tests) in
     ((low, h.0), string_bytes_fit bytes parts.1 h.1)
 
-text_bytes : (bytes : List ℕ) → IsTrue (string_fits bytes) → AllByRecursion (λ b. b < 256) bytes → AllByRecursion StringByte bytes
+pub text_bytes : (bytes : List ℕ) → IsTrue (string_fits bytes) → AllByRecursion (λ b. b < 256) bytes → AllByRecursion StringByte bytes
 text_bytes bytes e h = string_bytes_fit bytes (and_parts (nat_le (length bytes) 4095) (list_all (λ b. not (b == 0)) bytes) e).1 h
 
 -- the text of a value neither breaks the line nor ends the field

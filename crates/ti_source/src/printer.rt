@@ -1,6 +1,9 @@
 //! Printing an entry.
 
-ghost use Rattle.std.specs.Prelude.{◌≡◌, ◌<◌, ◌/◌, ◌%◌, ◌+◌, ◌++◌, ◌∷◌, [], Ok, IfOk, OnOk, decimal, ◌&&◌, nat_le};
+ghost use Rattle.std.specs.Prelude.{◌≡◌, ◌<◌, ◌/◌, ◌%◌, ◌+◌, ◌++◌, ◌∷◌, [], Ok, IfOk, IsTrue, OnOk, decimal, ◌&&◌, nat_le};
+ghost use Rattle.std.specs.List.{AllByRecursion};
+ghost use Rattle.ti_caps.specs.Fits.{string_fits};
+ghost use Rattle.ti_source.specs.Escapes.{unescaped};
 ghost use Rattle.ti_caps.specs.declared.types.Kind.TheVariants as kinds;
 ghost use Rattle.ti_caps.specs.Entry.{IsEntry, value_at};
 ghost use Rattle.ti_caps.specs.Table.{name_at, place_of_rank};
@@ -70,6 +73,30 @@ fn push_string(text: &mut Vec<u8>, bytes: &[u8]) -> Result<(), AllocError>
         push_byte(text, *byte)?;
     }
     Ok(())
+}
+
+/// The range of a byte's type, read at each: nothing of the loop is left in the program.
+fn are_bytes(bytes: &[u8])
+    ensures { AllByRecursion (λ b. b < 256) bytes.now }
+{
+    for byte in bytes {
+        let _byte = *byte;
+    }
+}
+
+/// The value of a string that stands for `bytes`, as `print` writes it: `unescape` gives them back.
+///
+/// The error is out of memory.
+#[tactic(auto, using(crate::proofs::StringBack::string_back))]
+pub fn escape(alloc: Global, bytes: &[u8]) -> Result<Vec<u8>, AllocError>
+    requires { IsTrue (string_fits bytes.now) }
+    ensures text { IfOk result (λ text. text.items ≡ string_text bytes.now) }
+    ensures reads_back { IfOk result (λ text. unescaped text.items ≡ Ok bytes.now) }
+{
+    are_bytes(bytes);
+    let mut text = Vec::new(alloc);
+    push_string(&mut text, bytes)?;
+    Ok(text)
 }
 
 fn push_number(text: &mut Vec<u8>, number: u32) -> Result<(), AllocError>

@@ -16,6 +16,7 @@ use Rattle.ti_requests.specs.declared.request.FaultsWords.{FaultsWords}
 use Rattle.ti_verdicts.specs.Checks.{HasText, TellsNotes}
 use Rattle.ti_verdicts.specs.Lines.{HasParts}
 use Rattle.ti_verdicts.specs.Locations.{IsLocation}
+use Rattle.ti_verdicts.specs.Remedies.{HasRemedy}
 use Rattle.ti_verdicts.specs.Refusals.{TellsNo, cause_name, no_text}
 
 -- ---- a fault
@@ -29,12 +30,15 @@ abbrev pub indented : List ℕ → List ℕ
 indented [] = []
 indented (b ∷ rest) = codes "  " ++ (flat_map indented_byte (b ∷ rest) ++ 10 ∷ [])
 
--- its line; below it where its value stands in the source, and others in free words, each of which begins with two
--- spaces
-abbrev pub HasFaultLines : Option SourceText → No → List ℕ → Type 0
-HasFaultLines source refusal lines =
-    (line : List ℕ) × (further : List ℕ) × IsLocation source refusal.cap line
-    × (lines ≡ no_text refusal ++ 10 ∷ (line ++ indented further))
+-- lines in free words, each after two spaces
+abbrev pub AreIndented : List ℕ → Type 0
+AreIndented lines = (text : List ℕ) × (lines ≡ indented text)
+
+-- Its line; below it where its value stands in the source, further lines in free words, each of which begins with two
+-- spaces, and the line of the string that would be right.
+abbrev pub HasFaultLines : Content → Option SourceText → ℕ → ℕ → List No → No → List ℕ → Type 0
+HasFaultLines entry source rows cols nos refusal lines =
+    (line : List ℕ) × (further : List ℕ) × (remedy : List ℕ) × IsLocation source refusal.cap line × AreIndented further × HasRemedy entry rows cols nos refusal.cap remedy × (lines ≡ no_text refusal ++ 10 ∷ (line ++ (further ++ remedy)))
 
 -- ---- how many
 
@@ -61,9 +65,9 @@ counts_line nos = codes "total " ++ (decimal (length nos) ++ (flat_map (count_pa
 -- ---- the reply
 
 -- the lines of each fault, in their order, and the line of counts
-pub record IsFaultsText (source : Option SourceText) (nos : List No) (text : List ℕ) : Type 0 where
+pub record IsFaultsText (entry : Content) (source : Option SourceText) (rows cols : ℕ) (nos : List No) (text : List ℕ) : Type 0 where
   pub lines : List ℕ
-  pub each : HasParts (HasFaultLines source) nos lines
+  pub each : HasParts (HasFaultLines entry source rows cols nos) nos lines
   pub says : text ≡ lines ++ counts_line nos
 
 abbrev pub EndsAsNo : No → Option Failure → Type 0
@@ -71,14 +75,14 @@ EndsAsNo refusal (Some failure) = TellsNo refusal failure
 EndsAsNo refusal None = ⊥
 
 -- the reply lists these faults, and fails as the first does
-pub record HasFaults (source : Option SourceText) (first : No) (others : List No) (reply : Reply) : Type 0 where
-  pub text : IsFaultsText source (first ∷ others) reply.text.items
+pub record HasFaults (entry : Content) (source : Option SourceText) (rows cols : ℕ) (first : No) (others : List No) (reply : Reply) : Type 0 where
+  pub text : IsFaultsText entry source rows cols (first ∷ others) reply.text.items
   pub ends : EndsAsNo first reply.failure
 
 -- without a fault it is `yes`
-abbrev pub TellsFaults : Option SourceText → List No → Reply → Type 0
-TellsFaults source [] reply = HasText (codes "yes\n") reply
-TellsFaults source (first ∷ others) reply = HasFaults source first others reply
+abbrev pub TellsFaults : Content → Option SourceText → ℕ → ℕ → List No → Reply → Type 0
+TellsFaults entry source rows cols [] reply = HasText (codes "yes\n") reply
+TellsFaults entry source rows cols (first ∷ others) reply = HasFaults entry source rows cols first others reply
 
 -- The entry that the word gives, at the size that the words give: the reply has its notes, and lists all its faults, or
 -- says that there is none.
@@ -92,4 +96,4 @@ pub record ListsFaults (held : Held) (words : FaultsWords) (reply : Reply) : Typ
   pub notes : TellsNotes entry reply.notes.items
   pub nos : List No
   pub all : AreAllFaults entry height width nos
-  pub tells : TellsFaults source nos reply
+  pub tells : TellsFaults entry source height width nos reply

@@ -2,7 +2,8 @@
 pub mod Refusals
 pub mod Verifications
 pub mod Checks
+pub mod Locations
 pub mod Lines
 pub mod Surveys
-pub mod Locations
+pub mod Remedies
 pub mod FaultLists

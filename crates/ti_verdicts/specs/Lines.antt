@@ -1,6 +1,7 @@
--- The lines of a survey: one for each entry of a file, in order, or for each of its faults.
-use Rattle.std.specs.Prelude.{◌≡◌, ◌⊎◌, ◌==◌, ◌&&◌, ◌||◌, ℕ, Bool, true, false, List, [], ◌∷◌, ◌++◌, Some, Result, Ok, Err, codes, length, slice_get}
-use Rattle.std.specs.List.{before_first, flat_map, range_with_len}
+-- The lines of a survey: one for each entry of a file, in order, or for each of its faults; and of those of a source text
+-- the lines that say where they stand.
+use Rattle.std.specs.Prelude.{◌≡◌, ◌⊎◌, ◌==◌, ◌&&◌, ◌||◌, ℕ, Bool, true, false, List, [], ◌∷◌, ◌++◌, Option, Some, None, Result, Ok, Err, codes, length, slice_get}
+use Rattle.std.specs.List.{flat_map, range_with_len}
 use Rattle.ti_caps.specs.Entry.{Content}
 use Rattle.ti_checker.specs.declared.causes.No.{No}
 use Rattle.ti_compiled.specs.Contents.{read_of}
@@ -11,6 +12,7 @@ use Rattle.ti_source.specs.declared.types.RawEntry.{RawEntry}
 use Rattle.ti_commands.specs.Findings.{FitsTo, IsSourceFailure, ResolvesAt}
 use Rattle.ti_commands.specs.declared.failure.Failure.TheVariants.{Refused}
 use Rattle.ti_commands.specs.declared.failure.CommandRefusal.{CommandRefusal}
+use Rattle.ti_verdicts.specs.Locations.{IsPlaced, PlaceInSource, first_name}
 use Rattle.ti_verdicts.specs.Refusals.{no_text}
 use Rattle.ti_verdicts.specs.declared.asked.Asked.{Asked}
 
@@ -19,15 +21,21 @@ unfoldable pub HasParts : {X : Type 0} → (X → List ℕ → Type 0) → List 
 HasParts P [] text = text ≡ []
 HasParts P (x ∷ xs) text = (own : List ℕ) × (later : List ℕ) × (text ≡ own ++ later) × P x own × HasParts P xs later
 
--- an entry's first name
-abbrev pub first_name : List ℕ → List ℕ
-first_name names = before_first (λ b. b == 124) names
+-- two texts that each have a part for each item, one after another
+unfoldable pub HasPairs : {X : Type 0} → (X → List ℕ → List ℕ → Type 0) → List X → List ℕ → List ℕ → Type 0
+HasPairs P [] text other = (text ≡ []) × (other ≡ [])
+HasPairs P (x ∷ xs) text other =
+    (own : List ℕ) × (later : List ℕ) × (beside : List ℕ) × (further : List ℕ) × (text ≡ own ++ later) × (other ≡ beside ++ further) × P x own beside × HasPairs P xs later further
 
 -- a name, and what is said of it
 abbrev pub line_of : List ℕ → List ℕ → List ℕ
 line_of name words = name ++ (words ++ 10 ∷ [])
 
 -- ---- what is said
+
+-- what may be said of an entry by where it stands, its name and what it has: lines, and where the faults in them stand
+abbrev pub Saying : Type 1
+Saying = Option PlaceInSource → List ℕ → Content → List ℕ → List ℕ → Type 0
 
 -- there is a certificate
 pub record HasYes (Certifies : List ℕ → Type 0) (words : List ℕ) : Type 0 where
@@ -68,22 +76,21 @@ abbrev pub fault_lines : List ℕ → List No → List ℕ
 fault_lines name [] = line_of name (codes " yes")
 fault_lines name (first ∷ others) = flat_map (fault_line name) (first ∷ others)
 
--- the lines of all faults of an entry, under its name
-abbrev pub HasAllFaults : ℕ → ℕ → List ℕ → Content → List ℕ → Type 0
-HasAllFaults height width name entry lines =
-    (nos : List No) × AreAllFaults entry height width nos × (lines ≡ fault_lines name nos)
+-- the lines of all faults of an entry, under its name, and for each of them where its value stands
+pub record HasAllFaults (height width : ℕ) (stands : Option PlaceInSource) (name : List ℕ) (entry : Content) (lines places : List ℕ) : Type 0 where
+  pub nos : List No
+  pub all : AreAllFaults entry height width nos
+  pub says : lines ≡ fault_lines name nos
+  pub placed : HasParts (IsPlaced stands name) nos places
 
 -- what is said of an entry under its name: all its faults, or what a certifier says
-abbrev pub SaysBy : Bool → (Content → ℕ → ℕ → List ℕ → Type 0) → (Content → ℕ → ℕ → No → Type 0) → ℕ → ℕ → List ℕ
-    → Content → List ℕ → Type 0
-SaysBy true certifies refuses height width = HasAllFaults height width
-SaysBy false certifies refuses height width = HasAnswer certifies refuses height width
+abbrev pub SaysBy : Bool → (Content → ℕ → ℕ → List ℕ → Type 0) → (Content → ℕ → ℕ → No → Type 0) → ℕ → ℕ → Saying
+SaysBy true certifies refuses height width stands name entry lines places = HasAllFaults height width stands name entry lines places
+SaysBy false certifies refuses height width stands name entry lines places = HasAnswer certifies refuses height width name entry lines × (places ≡ [])
 
 -- what is said of it, as it is asked
-abbrev pub SaysTo : {C : Type 0} → (C → Content → ℕ → ℕ → List ℕ → Type 0) → (C → Content → ℕ → ℕ → No → Type 0)
-    → Asked C → List ℕ → Content → List ℕ → Type 0
-SaysTo certifies refuses asked =
-    SaysBy asked.lists_all (certifies asked.certifier.now) (refuses asked.certifier.now) asked.size.rows asked.size.cols
+abbrev pub SaysTo : {C : Type 0} → (C → Content → ℕ → ℕ → List ℕ → Type 0) → (C → Content → ℕ → ℕ → No → Type 0) → Asked C → Saying
+SaysTo certifies refuses asked = SaysBy asked.lists_all (certifies asked.certifier.now) (refuses asked.certifier.now) asked.size.rows asked.size.cols
 
 -- what can't be had is refused, in free words
 abbrev pub IsRefusalText : List ℕ → Type 0
@@ -93,27 +100,30 @@ IsRefusalText words = (told : List ℕ) × (words ≡ codes " refused: " ++ told
 abbrev pub IsRefusedLine : List ℕ → List ℕ → Type 0
 IsRefusedLine name line = (words : List ℕ) × IsRefusalText words × (line ≡ line_of name words)
 
+-- this line, and nothing beside it
+abbrev pub IsRefused : List ℕ → List ℕ → List ℕ → Type 0
+IsRefused name lines places = IsRefusedLine name lines × (places ≡ [])
+
 -- what is said under its name of an entry that is there, or of one that can't be had
-abbrev pub IsTold : (List ℕ → Content → List ℕ → Type 0) → Result Content CommandRefusal → List ℕ → List ℕ → Type 0
-IsTold Says (Ok entry) name lines = Says name entry lines
-IsTold Says (Err refusal) name lines = IsRefusedLine name lines
+abbrev pub IsTold : Saying → Result Content CommandRefusal → Option PlaceInSource → List ℕ → List ℕ → List ℕ → Type 0
+IsTold Says (Ok entry) stands name lines places = Says stands name entry lines places
+IsTold Says (Err refusal) stands name lines places = IsRefused name lines places
 
 -- ---- the lines of an entry
 
--- of the entry at a place of a source text, whatever other entries have its names
-pub record IsSourcePart (Says : List ℕ → Content → List ℕ → Type 0) (raws : List RawEntry) (place : ℕ)
-    (lines : List ℕ) : Type 0 where
+-- of an entry of a source text by its place, whatever other entries have its names
+pub record IsSourcePart (Says : Saying) (path text : List ℕ) (raws : List RawEntry) (place : ℕ) (lines places : List ℕ) : Type 0 where
   pub raw : RawEntry
   pub there : slice_get raws place ≡ Some raw
   pub entry : Result Content CommandRefusal
   pub resolves : ResolvesAt raws place entry
-  pub told : IsTold Says entry (first_name raw.names) lines
+  pub told : IsTold Says entry (Some (record { path = path; text = text; raws = raws; place = place })) (first_name raw.names) lines places
 
 -- of the entry of a compiled file
-pub record IsFilePart (Says : List ℕ → Content → List ℕ → Type 0) (packed : Content) (lines : List ℕ) : Type 0 where
+pub record IsFilePart (Says : Saying) (packed : Content) (lines places : List ℕ) : Type 0 where
   pub entry : Result Content CommandRefusal
   pub fits : FitsTo packed entry
-  pub told : IsTold Says entry (first_name packed.names) lines
+  pub told : IsTold Says entry None (first_name packed.names) lines places
 
 -- ---- a file
 
@@ -123,33 +133,33 @@ is_compiled (first ∷ second ∷ rest) = ((first == 0x1a) && (second == 0x01)) 
 is_compiled _ = false
 
 -- the entry of a compiled file
-pub record HasEntry (Says : List ℕ → Content → List ℕ → Type 0) (bytes lines : List ℕ) : Type 0 where
+pub record HasEntry (Says : Saying) (bytes lines places : List ℕ) : Type 0 where
   pub packed : Content
   pub reads : read_of bytes ≡ Ok packed
-  pub told : IsFilePart Says packed lines
+  pub told : IsFilePart Says packed lines places
 
 -- or it has a fault
-pub record IsFaultyFile (path bytes line : List ℕ) : Type 0 where
+pub record IsFaultyFile (path bytes line places : List ℕ) : Type 0 where
   pub fault : PackFault
   pub faulty : read_of bytes ≡ Err fault
-  pub told : IsRefusedLine path line
+  pub told : IsRefused path line places
 
 -- the entries of a source text
-pub record HasEntries (Says : List ℕ → Content → List ℕ → Type 0) (bytes lines : List ℕ) : Type 0 where
+pub record HasEntries (Says : Saying) (path bytes lines places : List ℕ) : Type 0 where
   pub raws : List RawEntry
   pub reads : source_of bytes ≡ Ok raws
-  pub each : HasParts (IsSourcePart Says raws) (range_with_len 0 (length raws)) lines
+  pub each : HasPairs (IsSourcePart Says path bytes raws) (range_with_len 0 (length raws)) lines places
 
 -- or it has a fault
-pub record LacksEntries (path bytes line : List ℕ) : Type 0 where
+pub record LacksEntries (path bytes line places : List ℕ) : Type 0 where
   pub refusal : CommandRefusal
   pub faulty : IsSourceFailure bytes (Refused refusal)
-  pub told : IsRefusedLine path line
+  pub told : IsRefused path line places
 
-abbrev pub AreLinesBy : Bool → (List ℕ → Content → List ℕ → Type 0) → List ℕ → List ℕ → List ℕ → Type 0
-AreLinesBy true Says path bytes lines = HasEntry Says bytes lines ⊎ IsFaultyFile path bytes lines
-AreLinesBy false Says path bytes lines = HasEntries Says bytes lines ⊎ LacksEntries path bytes lines
+abbrev pub AreLinesBy : Bool → Saying → List ℕ → List ℕ → List ℕ → List ℕ → Type 0
+AreLinesBy true Says path bytes lines places = HasEntry Says bytes lines places ⊎ IsFaultyFile path bytes lines places
+AreLinesBy false Says path bytes lines places = HasEntries Says path bytes lines places ⊎ LacksEntries path bytes lines places
 
 -- the lines of a file: its first bytes show whether it is compiled
-abbrev pub AreLines : (List ℕ → Content → List ℕ → Type 0) → List ℕ → List ℕ → List ℕ → Type 0
-AreLines Says path bytes lines = AreLinesBy (is_compiled bytes) Says path bytes lines
+abbrev pub AreLines : Saying → List ℕ → List ℕ → List ℕ → List ℕ → Type 0
+AreLines Says path bytes lines places = AreLinesBy (is_compiled bytes) Says path bytes lines places

@@ -1,14 +1,19 @@
 -- Where the value of a capability stands in a source text, in the form that editors read.
-use Rattle.std.specs.Prelude.{◌≡◌, ℕ, List, [], ◌∷◌, ◌++◌, Option, Some, None, codes, slice_get}
+use Rattle.std.specs.Prelude.{◌≡◌, ◌==◌, ℕ, List, [], ◌∷◌, ◌++◌, Option, Some, None, codes, slice_get}
 use Rattle.std.specs.Fmt.{decimal}
+use Rattle.std.specs.List.{before_first}
 use Rattle.ti_caps.specs.Table.{name_at}
 use Rattle.ti_commands.specs.declared.sources.SourceText.{SourceText}
-use Rattle.ti_resolve.specs.Origins.{IsOrigin}
+use Rattle.ti_checker.specs.declared.causes.No.{No}
+use Rattle.ti_resolve.specs.Origins.{IsOrigin, IsOriginAt}
 use Rattle.ti_resolve.specs.Uses.{names_at}
 use Rattle.ti_resolve.specs.declared.origins.Origin.{Origin}
 use Rattle.ti_source.specs.Lines.{field_lines_of}
 use Rattle.ti_source.specs.declared.lines.FieldLine.{FieldLine}
-use Rattle.ti_verdicts.specs.Lines.{first_name}
+use Rattle.ti_source.specs.declared.types.RawEntry.{RawEntry}
+use Rattle.ti_verdicts.specs.Refusals.{no_text}
+use Rattle.ti_verdicts.specs.declared.locations.SourcePlace.{SourcePlace}
+use Rattle.ti_words.specs.Shown.{shown}
 
 -- the number of a line, if there is one
 abbrev pub number_of : Option FieldLine → ℕ
@@ -19,17 +24,20 @@ number_of (Some field) = field.line
 unfoldable pub line_of_field : List ℕ → Origin → ℕ
 line_of_field text origin = number_of (slice_get (field_lines_of text origin.entry) origin.field)
 
--- `FILE:LINE: CAP of NAME`, with the first name of the entry that has the field
-unfoldable pub place_text : SourceText → ℕ → Origin → List ℕ
-place_text source cap origin =
-    source.path.now
-    ++ (codes ":" ++ (decimal (line_of_field source.text.items origin) ++ (codes ": "
-    ++ (name_at cap ++ (codes " of " ++ (first_name (names_at source.raws.items origin.entry) ++ 10 ∷ []))))))
+-- an entry's first name
+abbrev pub first_name : List ℕ → List ℕ
+first_name names = before_first (λ b. b == 124) names
+
+-- `FILE:LINE: CAP of NAME` by the file's path and text and its entries, with the first name of the entry that has the field
+unfoldable pub place_text : List ℕ → List ℕ → List RawEntry → ℕ → Origin → List ℕ
+place_text path text raws cap origin =
+    path
+    ++ (codes ":" ++ (decimal (line_of_field text origin) ++ (codes ": " ++ (name_at cap ++ (codes " of " ++ first_name (names_at raws origin.entry))))))
 
 -- a capability without a value has no such line
 abbrev pub origin_text : SourceText → ℕ → Option Origin → List ℕ
 origin_text source cap None = []
-origin_text source cap (Some origin) = place_text source cap origin
+origin_text source cap (Some origin) = place_text source.path.now source.text.items source.raws.items cap origin ++ 10 ∷ []
 
 -- the field that gives the entry its value is the first one about it, of the entry's own or of those that it uses
 pub record IsLocatedIn (source : SourceText) (cap : ℕ) (line : List ℕ) : Type 0 where
@@ -41,3 +49,38 @@ pub record IsLocatedIn (source : SourceText) (cap : ℕ) (line : List ℕ) : Typ
 abbrev pub IsLocation : Option SourceText → ℕ → List ℕ → Type 0
 IsLocation None cap line = line ≡ []
 IsLocation (Some source) cap line = IsLocatedIn source cap line
+
+-- ---- an entry by its place
+
+-- where an entry stands: the path and the text of a source, all entries of the text, and the place of this one
+pub record PlaceInSource : Type 0 where
+  pub path : List ℕ
+  pub text : List ℕ
+  pub raws : List RawEntry
+  pub place : ℕ
+
+-- Where the value stands that a fault is about, and then the fault under the name of its entry, as far as it can be shown;
+-- there is no line for a capability without a value.
+abbrev pub placed_text : PlaceInSource → List ℕ → No → Option Origin → List ℕ
+placed_text stands name refusal None = []
+placed_text stands name refusal (Some origin) =
+    shown (place_text stands.path stands.text stands.raws refusal.cap origin ++ (codes ": " ++ (name ++ (codes " " ++ no_text refusal)))) ++ 10 ∷ []
+
+-- the value is that of the entry at its place, whatever other entries have its names
+pub record IsPlacedIn (stands : PlaceInSource) (name : List ℕ) (refusal : No) (line : List ℕ) : Type 0 where
+  pub origin : Option Origin
+  pub first : IsOriginAt stands.raws stands.place refusal.cap origin
+  pub says : line ≡ placed_text stands name refusal origin
+
+-- the line of a fault; the entry of a compiled file has none
+abbrev pub IsPlaced : Option PlaceInSource → List ℕ → No → List ℕ → Type 0
+IsPlaced None name refusal line = line ≡ []
+IsPlaced (Some stands) name refusal line = IsPlacedIn stands name refusal line
+
+-- (Serves the code alone.) the same without where it lies in memory
+abbrev pub place_in : SourcePlace → PlaceInSource
+place_in stands = record { path = stands.path.now; text = stands.text.now; raws = stands.raws.now; place = stands.place }
+
+abbrev pub place_if : Option SourcePlace → Option PlaceInSource
+place_if None = None
+place_if (Some stands) = Some (place_in stands)

@@ -11,8 +11,9 @@ use crate::indents::indented;
 use crate::locations::location;
 use crate::reasons::explain_no;
 use crate::refusals::{no_failure, no_words};
-use crate::remedies::{note_another_kind, suggest};
+use crate::remedies::{note_another_kind, suggestion};
 use std::alloc::{AllocError, Global};
+use ti_caps::Entry;
 use ti_checker::No;
 use ti_commands::{Failure, Files, Reply, Sourced, size_words, sourced_entry};
 use ti_faults::faults;
@@ -52,7 +53,8 @@ fn reply_of(
     nos: &[No],
 ) -> Result<Reply, AllocError>
     ensures noted { IfOk result (λ reply. reply.notes ≡ notes) }
-    ensures told { IfOk result (λ reply. spec.TellsFaults found.now.source nos.now reply) }
+    ensures told { IfOk result (λ reply. spec.TellsFaults found.now.entry found.now.source size.rows size.cols nos.now
+        reply) }
 {
     match nos {
         [] => Ok(Reply {
@@ -75,7 +77,8 @@ fn faults_text(
     size: Size,
     nos: &[No],
 ) -> Result<Vec<u8>, AllocError>
-    ensures { IfOk result (λ text. spec.IsFaultsText found.now.source nos.now text.items) }
+    ensures { IfOk result (λ text. spec.IsFaultsText found.now.entry found.now.source size.rows size.cols nos.now
+        text.items) }
 {
     let mut text = fault_lines(alloc, found, size, nos)?;
     let counts = counts_line(alloc, nos)?;
@@ -90,7 +93,8 @@ fn fault_lines(
     size: Size,
     nos: &[No],
 ) -> Result<Vec<u8>, AllocError>
-    ensures { IfOk result (λ lines. HasParts (spec.HasFaultLines found.now.source) nos.now lines.items) }
+    ensures { IfOk result (λ lines. HasParts
+        (spec.HasFaultLines found.now.entry found.now.source size.rows size.cols nos.now) nos.now lines.items) }
 {
     let mut lines = Vec::new(alloc);
     for no in nos {
@@ -109,18 +113,27 @@ fn own_lines(
     no: &No,
     nos: &[No],
 ) -> Result<Vec<u8>, AllocError>
-    ensures { IfOk result (λ lines. spec.HasFaultLines found.now.source no.now lines.items) }
+    ensures { IfOk result (λ lines. spec.HasFaultLines found.now.entry found.now.source size.rows size.cols nos.now
+        no.now lines.items) }
 {
     let mut lines = no_words(alloc, no)?;
     lines.push(b'\n')?;
     let place = location(alloc, &found.source, no.cap)?;
     lines.extend_from_slice(place.as_slice())?;
-    let mut remarks = Remarks::new(alloc);
-    explain_no(alloc, &found.entry, size, no, &mut remarks);
-    suggest(alloc, &found.entry, size, no, nos, &mut remarks)?;
-    let further = indented(alloc, without_end(remarks.as_slice()))?;
+    let further = explanation(alloc, &found.entry, size, no)?;
     lines.extend_from_slice(further.as_slice())?;
+    let remedy = suggestion(alloc, &found.entry, size, no, nos)?;
+    lines.extend_from_slice(remedy.as_slice())?;
     Ok(lines)
+}
+
+/// The lines that explain `no`, a fault of `entry`.
+fn explanation(alloc: Global, entry: &Entry, size: Size, no: &No) -> Result<Vec<u8>, AllocError>
+    ensures { IfOk result (λ lines. spec.AreIndented lines.items) }
+{
+    let mut remarks = Remarks::new(alloc);
+    explain_no(alloc, entry, size, no, &mut remarks);
+    indented(alloc, without_end(remarks.as_slice()))
 }
 
 /// The `text` without the end of its last line.

@@ -1,13 +1,14 @@
-//! The lines of a survey: one for each entry of a file, or for each of its faults.
+//! The lines of a survey: one for each entry of a file, or for each of its faults, and where these stand.
 
-ghost use Rattle.std.specs.Prelude.{◌≡◌, ◌==◌, ◌<◌, IfOk, Some, false, true, length, slice_get};
-ghost use Rattle.std.specs.List as List;
+ghost use Rattle.std.specs.Prelude.{◌≡◌, ◌++◌, ◌<◌, [], IfOk, IfSome, OnOk, Some, false, true, length, slice_get};
 ghost use Rattle.std.specs.List.{AllByRecursion, flat_map, range_with_len};
 ghost use Rattle.ti_source.specs.Raw.{IsRaw};
 ghost use Rattle.ti_verdicts.specs.Lines as spec;
+ghost use Rattle.ti_verdicts.specs.Locations.{IsPlaced, place_if};
 
 use crate::asked::Asked;
 use crate::certifiers::Certifier;
+use crate::locations::{SourcePlace, first_name, placed};
 use crate::refusals::no_words;
 use crate::tallies::Tally;
 use crate::watchers::{Course, Watcher};
@@ -21,20 +22,45 @@ use ti_resolve::ResolveFault;
 use ti_source::{FaultKind, RawEntry, read};
 use vt_term::Size;
 
-/// Where the first of `names` ends, if another follows.
-fn name_end(names: &[u8]) -> Option<usize>
-    ensures { result ≡ List.position (λ byte. byte == 124) names.now }
-{
-    names.iter().position(|byte| *byte == b'|')
+/// What is said of an entry, a file or several.
+#[derive(Drop)]
+pub struct Said {
+    /// The lines.
+    pub lines: Vec<u8>,
+    /// Where the faults in them stand.
+    pub places: Vec<u8>,
 }
 
-/// The first of an entry's `names`.
-pub fn first_name(names: &[u8]) -> &[u8]
-    ensures { result.now ≡ spec.first_name names.now }
-{
-    match name_end(names) {
-        None => names,
-        Some(end) => &names[..end],
+impl Said {
+    /// Nothing yet.
+    pub fn new(alloc: Global) -> Said
+        ensures lines { result.lines.items ≡ [] }
+        ensures places { result.places.items ≡ [] }
+    {
+        Said {
+            lines: Vec::new(alloc),
+            places: Vec::new(alloc),
+        }
+    }
+
+    /// These `lines`, which have no faults that stand anywhere.
+    fn of_lines(alloc: Global, lines: Vec<u8>) -> Said
+        ensures lines { result.lines ≡ lines }
+        ensures places { result.places.items ≡ [] }
+    {
+        Said {
+            lines,
+            places: Vec::new(alloc),
+        }
+    }
+
+    /// Adds what `later` says.
+    pub fn add(&mut self, later: &Said) -> Result<(), AllocError>
+        ensures lines { OnOk result (self.new.lines.items ≡ self.old.lines.items ++ later.now.lines.items) }
+        ensures places { OnOk result (self.new.places.items ≡ self.old.places.items ++ later.now.places.items) }
+    {
+        self.lines.extend_from_slice(later.lines.as_slice())?;
+        self.places.extend_from_slice(later.places.as_slice())
     }
 }
 
@@ -87,18 +113,42 @@ fn refused(alloc: Global, why: &[u8], tally: &mut Tally) -> Result<Vec<u8>, Allo
     Ok(words)
 }
 
-/// The lines of the faults of `entry` under its `name`, which `tally` counts; or that it has none.
+/// The lines of the faults of `entry` under its `name`, which `tally` counts, and where they stand; or that there are
+/// none.
 fn all_faults(
     alloc: Global,
     size: Size,
+    stands: &Option<SourcePlace<'_>>,
     name: &[u8],
     entry: &Entry,
     tally: &mut Tally,
-) -> Result<Vec<u8>, AllocError>
-    ensures { IfOk result (λ lines. spec.HasAllFaults size.rows size.cols name.now entry.now lines.items) }
+) -> Result<Said, AllocError>
+    requires { IfSome stands.now (λ there. there.place < length there.raws.now) }
+    ensures { IfOk result (λ said. spec.HasAllFaults size.rows size.cols (place_if stands.now) name.now entry.now
+        said.lines.items said.places.items) }
 {
     let nos = faults(alloc, entry, size)?;
-    listed(alloc, name, nos.as_slice(), tally)
+    let lines = listed(alloc, name, nos.as_slice(), tally)?;
+    let places = places_of(alloc, stands, name, nos.as_slice())?;
+    Ok(Said { lines, places })
+}
+
+/// For each of the faults `nos` of the entry of this `name`, which `stands` there, the line that says where it stands.
+fn places_of(
+    alloc: Global,
+    stands: &Option<SourcePlace<'_>>,
+    name: &[u8],
+    nos: &[No],
+) -> Result<Vec<u8>, AllocError>
+    requires { IfSome stands.now (λ there. there.place < length there.raws.now) }
+    ensures { IfOk result (λ places. spec.HasParts (IsPlaced (place_if stands.now) name.now) nos.now places.items) }
+{
+    let mut places = Vec::new(alloc);
+    for no in nos {
+        let own = placed(alloc, stands, name, no)?;
+        places.extend_from_slice(own.as_slice())?;
+    }
+    Ok(places)
 }
 
 /// The lines of the faults `nos` of the entry of this `name`; or that it has none.
@@ -157,36 +207,42 @@ fn answer_line<C: Certifier>(
     line(alloc, name, words.as_slice())
 }
 
-/// What is said of `entry` under its `name`, as it is asked.
-fn said_lines<C: Certifier>(
+/// What is said of `entry`, which `stands` there, under its `name`, as it is asked.
+fn said_of<C: Certifier>(
     alloc: Global,
     asked: &Asked<'_, C>,
+    stands: &Option<SourcePlace<'_>>,
     name: &[u8],
     entry: &Entry,
     tally: &mut Tally,
-) -> Result<Vec<u8>, AllocError>
-    ensures { IfOk result (λ lines. spec.SaysTo C.certifies C.refuses asked.now name.now entry.now lines.items) }
+) -> Result<Said, AllocError>
+    requires { IfSome stands.now (λ there. there.place < length there.raws.now) }
+    ensures { IfOk result (λ said. spec.SaysTo C.certifies C.refuses asked.now (place_if stands.now) name.now entry.now
+        said.lines.items said.places.items) }
 {
     if asked.lists_all {
-        all_faults(alloc, asked.size, name, entry, tally)
+        all_faults(alloc, asked.size, stands, name, entry, tally)
     } else {
-        answer_line(alloc, asked, name, entry, tally)
+        let line = answer_line(alloc, asked, name, entry, tally)?;
+        Ok(Said::of_lines(alloc, line))
     }
 }
 
-/// What is said of `entry` under its `name`, whether it is there or can't be had.
+/// What is said of `entry` under its `name`, whether it is there, as it `stands`, or can't be had.
 fn entry_lines<C: Certifier>(
     alloc: Global,
     asked: &Asked<'_, C>,
+    stands: &Option<SourcePlace<'_>>,
     name: &[u8],
     entry: &Result<Entry, CommandRefusal>,
     tally: &mut Tally,
-) -> Result<Vec<u8>, AllocError>
-    ensures { IfOk result (λ lines. spec.IsTold (spec.SaysTo C.certifies C.refuses asked.now)
-        entry.now name.now lines.items) }
+) -> Result<Said, AllocError>
+    requires { IfSome stands.now (λ there. there.place < length there.raws.now) }
+    ensures { IfOk result (λ said. spec.IsTold (spec.SaysTo C.certifies C.refuses asked.now) entry.now
+        (place_if stands.now) name.now said.lines.items said.places.items) }
 {
     match entry {
-        Ok(entry) => said_lines(alloc, asked, name, entry, tally),
+        Ok(entry) => said_of(alloc, asked, stands, name, entry, tally),
         Err(refusal) => {
             let why = refusal_words(alloc, refusal)?;
             refused_line(alloc, name, why.as_slice(), tally)
@@ -216,72 +272,80 @@ fn raw_at(raws: &[RawEntry], place: usize) -> &RawEntry
     &raws[place]
 }
 
-/// The lines of the entry at `place` in `raws`, which are the entries of a source text.
+/// What is said of the entry of a source text that `stands` there.
 fn source_part<C: Certifier>(
     alloc: Global,
     asked: &Asked<'_, C>,
-    raws: &[RawEntry],
-    place: usize,
+    stands: SourcePlace<'_>,
     tally: &mut Tally,
-) -> Result<Vec<u8>, AllocError>
-    requires read { AllByRecursion IsRaw raws.now }
-    requires there { place < length raws.now }
-    ensures { IfOk result (λ line. spec.IsSourcePart (spec.SaysTo C.certifies C.refuses asked.now)
-        raws.now place line.items) }
+) -> Result<Said, AllocError>
+    requires read { AllByRecursion IsRaw stands.raws.now }
+    requires there { stands.place < length stands.raws.now }
+    ensures { IfOk result (λ said. spec.IsSourcePart (spec.SaysTo C.certifies C.refuses asked.now)
+        stands.entry.path.now stands.entry.text.now stands.entry.raws.now stands.entry.place
+        said.lines.items said.places.items) }
 {
-    let raw = raw_at(raws, place);
-    let entry = entry_at(alloc, raws, place)?;
+    let raw = raw_at(stands.raws, stands.place);
+    let entry = entry_at(alloc, stands.raws, stands.place)?;
     let name = first_name(raw.names.as_slice());
-    entry_lines(alloc, asked, name, &entry, tally)
+    entry_lines(alloc, asked, &Some(stands), name, &entry, tally)
 }
 
-/// The lines of the entry of `packed`.
+/// What is said of the entry of `packed`.
 fn file_line<C: Certifier>(
     alloc: Global,
     asked: &Asked<'_, C>,
     packed: &Packed<'_>,
     tally: &mut Tally,
-) -> Result<Vec<u8>, AllocError>
-    ensures { IfOk result (λ line. spec.IsFilePart (spec.SaysTo C.certifies C.refuses asked.now)
-        packed.now line.items) }
+) -> Result<Said, AllocError>
+    ensures { IfOk result (λ said. spec.IsFilePart (spec.SaysTo C.certifies C.refuses asked.now)
+        packed.now said.lines.items said.places.items) }
 {
     let entry = unpacked_entry(alloc, packed)?;
     let name = first_name(packed.names());
-    entry_lines(alloc, asked, name, &entry, tally)
+    entry_lines(alloc, asked, &None, name, &entry, tally)
 }
 
-/// The lines of the entries `raws` of a source text, in order.
+/// What is said of the entries `raws` of the source `text` at `path`, in order.
 fn source_lines<C: Certifier, W: Watcher>(
     alloc: Global,
     asked: &Asked<'_, C>,
+    path: &str,
+    text: &[u8],
     raws: &[RawEntry],
     course: &mut Course<W>,
-) -> Result<Vec<u8>, AllocError>
+) -> Result<Said, AllocError>
     requires { AllByRecursion IsRaw raws.now }
-    ensures { IfOk result (λ lines. spec.HasParts
-        (spec.IsSourcePart (spec.SaysTo C.certifies C.refuses asked.now) raws.now)
-        (range_with_len 0 (length raws.now)) lines.items) }
+    ensures { IfOk result (λ said. spec.HasPairs
+        (spec.IsSourcePart (spec.SaysTo C.certifies C.refuses asked.now) path.now text.now raws.now)
+        (range_with_len 0 (length raws.now)) said.lines.items said.places.items) }
 {
-    let mut lines = Vec::new(alloc);
+    let mut said = Said::new(alloc);
     for place in 0..raws.len() {
         let name = first_name(raw_at(raws, place).names.as_slice());
         course.watcher.begins(place, raws.len(), name);
-        let own = source_part(alloc, asked, raws, place, &mut course.tally)?;
-        lines.extend_from_slice(own.as_slice())?;
+        let stands = SourcePlace {
+            path,
+            text,
+            raws,
+            place,
+        };
+        let own = source_part(alloc, asked, stands, &mut course.tally)?;
+        said.add(&own)?;
     }
-    Ok(lines)
+    Ok(said)
 }
 
-/// The lines of the file at `path` with these `bytes`: a compiled one, as its first two bytes show, or a source text.
+/// What is said of the file at `path` with these `bytes`: a compiled one, as its first two bytes show, or a source.
 pub fn file_lines<C: Certifier, W: Watcher>(
     alloc: Global,
     asked: &Asked<'_, C>,
     path: &str,
     bytes: &[u8],
     course: &mut Course<W>,
-) -> Result<Vec<u8>, AllocError>
-    ensures { IfOk result (λ lines. spec.AreLines (spec.SaysTo C.certifies C.refuses asked.now)
-        path.now bytes.now lines.items) }
+) -> Result<Said, AllocError>
+    ensures { IfOk result (λ said. spec.AreLines (spec.SaysTo C.certifies C.refuses asked.now)
+        path.now bytes.now said.lines.items said.places.items) }
 {
     if is_compiled(bytes) {
         compiled_lines(alloc, asked, path, bytes, &mut course.tally)
@@ -290,39 +354,39 @@ pub fn file_lines<C: Certifier, W: Watcher>(
     }
 }
 
-/// The lines of the compiled file at `path` with these `bytes`.
+/// What is said of the compiled file at `path` with these `bytes`.
 fn compiled_lines<C: Certifier>(
     alloc: Global,
     asked: &Asked<'_, C>,
     path: &str,
     bytes: &[u8],
     tally: &mut Tally,
-) -> Result<Vec<u8>, AllocError>
-    ensures { IfOk result (λ lines. spec.AreLinesBy true (spec.SaysTo C.certifies C.refuses asked.now)
-        path.now bytes.now lines.items) }
+) -> Result<Said, AllocError>
+    ensures { IfOk result (λ said. spec.AreLinesBy true (spec.SaysTo C.certifies C.refuses asked.now)
+        path.now bytes.now said.lines.items said.places.items) }
 {
     match decode(bytes) {
         Ok(packed) => file_line(alloc, asked, &packed, tally),
         Err(fault) => {
             let why = format!(in alloc; "{fault}")?;
-            refused_line(alloc, path.as_bytes(), why.as_bytes(), tally)
+            path_line(alloc, path, why.as_bytes(), tally)
         }
     }
 }
 
-/// The lines of the source text at `path` with these `bytes`.
+/// What is said of the source text at `path` with these `bytes`.
 fn text_lines<C: Certifier, W: Watcher>(
     alloc: Global,
     asked: &Asked<'_, C>,
     path: &str,
     bytes: &[u8],
     course: &mut Course<W>,
-) -> Result<Vec<u8>, AllocError>
-    ensures { IfOk result (λ lines. spec.AreLinesBy false (spec.SaysTo C.certifies C.refuses asked.now)
-        path.now bytes.now lines.items) }
+) -> Result<Said, AllocError>
+    ensures { IfOk result (λ said. spec.AreLinesBy false (spec.SaysTo C.certifies C.refuses asked.now)
+        path.now bytes.now said.lines.items said.places.items) }
 {
     match read(alloc, bytes) {
-        Ok(raws) => source_lines(alloc, asked, raws.as_slice(), course),
+        Ok(raws) => source_lines(alloc, asked, path, bytes, raws.as_slice(), course),
         Err(fault) => match fault.kind {
             FaultKind::NoMemory => Err(AllocError),
             _ => {
@@ -334,13 +398,8 @@ fn text_lines<C: Certifier, W: Watcher>(
 }
 
 /// The line of the file at `path`, which has no entries, and `why`.
-fn path_line(
-    alloc: Global,
-    path: &str,
-    why: &[u8],
-    tally: &mut Tally,
-) -> Result<Vec<u8>, AllocError>
-    ensures { IfOk result (λ line. spec.IsRefusedLine path.now line.items) }
+fn path_line(alloc: Global, path: &str, why: &[u8], tally: &mut Tally) -> Result<Said, AllocError>
+    ensures { IfOk result (λ said. spec.IsRefused path.now said.lines.items said.places.items) }
 {
     refused_line(alloc, path.as_bytes(), why, tally)
 }
@@ -351,11 +410,12 @@ fn refused_line(
     name: &[u8],
     why: &[u8],
     tally: &mut Tally,
-) -> Result<Vec<u8>, AllocError>
-    ensures { IfOk result (λ line. spec.IsRefusedLine name.now line.items) }
+) -> Result<Said, AllocError>
+    ensures { IfOk result (λ said. spec.IsRefused name.now said.lines.items said.places.items) }
 {
     let words = refused(alloc, why, tally)?;
-    line(alloc, name, words.as_slice())
+    let lines = line(alloc, name, words.as_slice())?;
+    Ok(Said::of_lines(alloc, lines))
 }
 
 /// Whether `bytes` begin as a compiled file does.

@@ -1,15 +1,48 @@
 //! Where the value of a capability stands in a source text.
 
-ghost use Rattle.std.specs.Prelude.{◌≡◌, IfOk};
+ghost use Rattle.std.specs.Prelude.{◌≡◌, ◌<◌, ◌==◌, IfOk, IfSome, Some, length};
+ghost use Rattle.std.specs.List as List;
 ghost use Rattle.ti_resolve.specs.Uses.{names_at};
 ghost use Rattle.ti_verdicts.specs.Locations as spec;
 
-use crate::lines::first_name;
+use crate::refusals::no_words;
 use std::alloc::{AllocError, Global};
 use ti_caps::{Cap, name};
+use ti_checker::No;
 use ti_commands::SourceText;
-use ti_resolve::{Origin, origin};
+use ti_resolve::{Origin, origin, origin_at};
 use ti_source::{RawEntry, field_lines};
+use ti_words::push_shown;
+
+/// Where an entry of a source text stands.
+#[derive(Drop)]
+pub struct SourcePlace<'a> {
+    /// The file's path.
+    pub path: &'a str,
+    /// The file's text.
+    pub text: &'a [u8],
+    /// All entries of the text, as they were read.
+    pub raws: &'a [RawEntry],
+    /// The place of the entry among them.
+    pub place: usize,
+}
+
+/// Where the first of `names` ends, if another follows.
+fn name_end(names: &[u8]) -> Option<usize>
+    ensures { result ≡ List.position (λ byte. byte == 124) names.now }
+{
+    names.iter().position(|byte| *byte == b'|')
+}
+
+/// The first of an entry's `names`.
+pub(crate) fn first_name(names: &[u8]) -> &[u8]
+    ensures { result.now ≡ spec.first_name names.now }
+{
+    match name_end(names) {
+        None => names,
+        Some(end) => &names[..end],
+    }
+}
 
 /// The line that says where the value of `cap` stands in `source`, as `FILE:LINE: CAP of NAME`; nothing where there is
 /// no source or no value.
@@ -39,21 +72,96 @@ fn location_in(alloc: Global, source: &SourceText<'_>, cap: Cap) -> Result<Vec<u
 }
 
 /// The line of the field at `origin`, which is about `cap`.
-#[tactic(auto, unfolding(crate::specs::Locations::place_text))]
 fn place_line(
     alloc: Global,
     source: &SourceText<'_>,
     cap: Cap,
     origin: Origin,
 ) -> Result<Vec<u8>, AllocError>
-    ensures { IfOk result (λ line. line.items ≡ spec.place_text source.now cap origin) }
+    ensures { IfOk result (λ line. line.items ≡ spec.origin_text source.now cap (Some origin)) }
 {
-    let number = line_of_field(alloc, source.text.as_slice(), origin)?;
-    let mut line = Vec::from_slice(alloc, source.path.as_bytes())?;
-    line.extend_from_slice(format!(in alloc; ":{number}: ")?.as_bytes())?;
-    line.extend_from_slice(name(cap))?;
-    line.extend_from_slice(b" of ")?;
-    line.extend_from_slice(first_name(names_of(source.raws.as_slice(), origin.entry)))?;
+    let text = source.text.as_slice();
+    let raws = source.raws.as_slice();
+    let mut line = place_words(alloc, source.path, text, raws, cap, origin)?;
+    line.push(b'\n')?;
+    Ok(line)
+}
+
+/// `FILE:LINE: CAP of NAME` of the field at `origin`, which is about `cap`, in the `text` at `path` with the entries
+/// `raws`.
+#[tactic(auto, unfolding(crate::specs::Locations::place_text))]
+fn place_words(
+    alloc: Global,
+    path: &str,
+    text: &[u8],
+    raws: &[RawEntry],
+    cap: Cap,
+    origin: Origin,
+) -> Result<Vec<u8>, AllocError>
+    ensures { IfOk result (λ words. words.items ≡ spec.place_text path.now text.now raws.now cap origin) }
+{
+    let number = line_of_field(alloc, text, origin)?;
+    let mut words = Vec::from_slice(alloc, path.as_bytes())?;
+    words.extend_from_slice(format!(in alloc; ":{number}: ")?.as_bytes())?;
+    words.extend_from_slice(name(cap))?;
+    words.extend_from_slice(b" of ")?;
+    words.extend_from_slice(first_name(names_of(raws, origin.entry)))?;
+    Ok(words)
+}
+
+/// The line that says where the value stands that `no` is about, and what `no` says of the entry of this name, which
+/// `stands` there; nothing where that is no source, or there is no value.
+pub fn placed(
+    alloc: Global,
+    stands: &Option<SourcePlace<'_>>,
+    name: &[u8],
+    no: &No,
+) -> Result<Vec<u8>, AllocError>
+    requires { IfSome stands.now (λ there. there.place < length there.raws.now) }
+    ensures { IfOk result (λ line. spec.IsPlaced (spec.place_if stands.now) name.now no.now line.items) }
+{
+    match stands {
+        None => Ok(Vec::new(alloc)),
+        Some(stands) => placed_in(alloc, stands, name, no),
+    }
+}
+
+/// The line of `no`, a fault of the entry of this name at `stands`.
+fn placed_in(
+    alloc: Global,
+    stands: &SourcePlace<'_>,
+    name: &[u8],
+    no: &No,
+) -> Result<Vec<u8>, AllocError>
+    requires { stands.now.place < length stands.now.raws.now }
+    ensures { IfOk result (λ line. spec.IsPlacedIn (spec.place_in stands.now) name.now no.now line.items) }
+{
+    // the entry was resolved before, so memory ran out
+    match origin_at(alloc, stands.raws, stands.place, no.cap) {
+        Ok(None) => Ok(Vec::new(alloc)),
+        Ok(Some(origin)) => placed_line(alloc, stands, name, no, origin),
+        Err(_) => Err(AllocError),
+    }
+}
+
+/// The line of `no`, a fault of the entry of this name at `stands`, where the field at `origin` gives the value.
+fn placed_line(
+    alloc: Global,
+    stands: &SourcePlace<'_>,
+    name: &[u8],
+    no: &No,
+    origin: Origin,
+) -> Result<Vec<u8>, AllocError>
+    ensures { IfOk result (λ line. line.items
+        ≡ spec.placed_text (spec.place_in stands.now) name.now no.now (Some origin)) }
+{
+    let mut words = place_words(alloc, stands.path, stands.text, stands.raws, no.cap, origin)?;
+    words.extend_from_slice(b": ")?;
+    words.extend_from_slice(name)?;
+    words.extend_from_slice(b" ")?;
+    words.extend_from_slice(no_words(alloc, no)?.as_slice())?;
+    let mut line = Vec::new(alloc);
+    push_shown(&mut line, words.as_slice())?;
     line.push(b'\n')?;
     Ok(line)
 }

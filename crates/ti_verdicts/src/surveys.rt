@@ -8,7 +8,7 @@ ghost use Rattle.ti_verdicts.specs.Surveys as spec;
 
 use crate::asked::Asked;
 use crate::certifiers::Certifier;
-use crate::lines::file_lines;
+use crate::lines::{Said, file_lines};
 use crate::tallies::Tally;
 use crate::watchers::{Course, Watcher};
 use std::alloc::{AllocError, Global};
@@ -19,16 +19,17 @@ use ti_words::Remarks;
 /// What a survey of some paths has found so far.
 #[derive(Drop)]
 struct Surveyed {
-    /// The lines of the paths.
-    lines: Vec<u8>,
+    /// The lines of the paths, and where the faults in them stand.
+    said: Said,
     /// The failure of the first path that can't be had.
     failure: Option<Failure>,
 }
 
 /// Says for each entry of each file that the `words` name whether the `certifier` writes a certificate, or why not, or
-/// lists all faults of each, as the `words` ask for; and counts the answers. What can't be read as an entry has its
-/// line too. The reply fails as the first file does that can't be had, and the others are surveyed all the same. The
-/// `watcher` sees how far the survey has come.
+/// lists all faults of each, as the `words` ask for; and counts the answers. What can't be read as an entry has its line
+/// too. The reply's notes say of each fault that is listed of a source's entry where its value stands. The reply fails as
+/// the first file does that can't be had, and the others are surveyed all the same. The `watcher` sees how far the survey
+/// has come.
 ///
 /// # Errors
 /// Why the words give no size; out of memory.
@@ -59,11 +60,12 @@ pub fn survey_files<C: Certifier, F: Files, W: Watcher + Drop>(
     let surveyed = survey_paths(alloc, &asked, paths, files, &mut course, remarks);
     course.watcher.ends();
     let surveyed = surveyed?;
-    let mut text = surveyed.lines;
+    let Said { lines, places } = surveyed.said;
+    let mut text = lines;
     let counts = course.tally.line(alloc)?;
     text.extend_from_slice(counts.as_slice())?;
     Ok(Reply {
-        notes: Vec::new(alloc),
+        notes: places,
         text,
         failure: surveyed.failure,
     })
@@ -79,18 +81,19 @@ fn survey_paths<C: Certifier, F: Files, W: Watcher>(
     remarks: &mut Remarks,
 ) -> Result<Surveyed, AllocError>
     ensures told { IfOk result (λ surveyed. spec.EndsPaths (AreLines (SaysTo C.certifies C.refuses asked.now))
-        (F.holds files.old) (texts_of paths.now) surveyed.lines.items surveyed.failure) }
+        (F.holds files.old) (texts_of paths.now) surveyed.said.lines.items surveyed.said.places.items
+        surveyed.failure) }
     ensures kept { F.holds files.new ≡ F.holds files.old }
 {
-    let mut lines = Vec::new(alloc);
+    let mut said = Said::new(alloc);
     let mut failure = None;
     for (done, path) in paths.iter().enumerate() {
         course.watcher.begins(done, paths.len(), path.as_bytes());
         let own = survey_path(alloc, asked, path, files, course, remarks)?;
-        lines.extend_from_slice(own.lines.as_slice())?;
+        said.add(&own.said)?;
         failure = first_failure(failure, own.failure);
     }
-    Ok(Surveyed { lines, failure })
+    Ok(Surveyed { said, failure })
 }
 
 /// The first of two failures: `failure`, or else `later`.
@@ -113,17 +116,18 @@ fn survey_path<C: Certifier, F: Files, W: Watcher>(
     remarks: &mut Remarks,
 ) -> Result<Surveyed, AllocError>
     ensures told { IfOk result (λ surveyed. spec.EndsPath (AreLines (SaysTo C.certifies C.refuses asked.now))
-        (F.holds files.old) path.now surveyed.lines.items surveyed.failure) }
+        (F.holds files.old) path.now surveyed.said.lines.items surveyed.said.places.items
+        surveyed.failure) }
     ensures kept { F.holds files.new ≡ F.holds files.old }
 {
     match read_whole(alloc, files, path, LONGEST_FILE, remarks) {
         Ok(bytes) => Ok(Surveyed {
-            lines: file_lines(alloc, asked, path, bytes.as_slice(), course)?,
+            said: file_lines(alloc, asked, path, bytes.as_slice(), course)?,
             failure: None,
         }),
         Err(Failure::NoMemory) => Err(AllocError),
         Err(failure) => Ok(Surveyed {
-            lines: Vec::new(alloc),
+            said: Said::new(alloc),
             failure: Some(failure),
         }),
     }

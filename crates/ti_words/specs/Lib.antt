@@ -1,2 +1,3 @@
--- Numbers in messages.
+-- Numbers and bytes in messages.
 pub mod Numbers
+pub mod Shown

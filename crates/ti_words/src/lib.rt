@@ -24,8 +24,8 @@ pub use checked_strings::{
 };
 pub use names::unknown_names;
 pub use numbers::push_numbers;
-pub use remarks::{Remarks, write_shown};
-pub use remedies::{OF_ANOTHER_KIND, explain_remedy};
+pub use remarks::{Remarks, push_shown, write_shown};
+pub use remedies::OF_ANOTHER_KIND;
 pub use seen::Seen;
 pub use sources::{explain_large, explain_packed, explain_resolving, explain_source, hint_carets};
 pub use strings::{

@@ -1,6 +1,10 @@
 //! Further lines for standard error.
 
-use std::alloc::Global;
+ghost use Rattle.std.specs.Prelude.{◌≡◌, ◌++◌, ◌&&◌, nat_le, OnOk};
+ghost use Rattle.ti_source.specs.Prints.{octal};
+ghost use Rattle.ti_words.specs.Shown.{shown, shown_byte};
+
+use std::alloc::{AllocError, Global};
 use std::io;
 use std::io::Write;
 
@@ -39,34 +43,63 @@ impl Remarks {
         }
     }
 
-    fn push_line(&mut self, subject: &[u8], words: &[u8]) -> io::Result<()> {
+    fn push_line(&mut self, subject: &[u8], words: &[u8]) -> Result<(), AllocError> {
         self.text.push(b'\'')?;
-        write_shown(&mut self.text, subject)?;
+        push_shown(&mut self.text, subject)?;
         self.text.push(b'\'')?;
         self.push_words(words)
     }
 
-    fn push_words(&mut self, words: &[u8]) -> io::Result<()> {
-        write_shown(&mut self.text, words)?;
+    fn push_words(&mut self, words: &[u8]) -> Result<(), AllocError> {
+        push_shown(&mut self.text, words)?;
         self.text.push(b'\n')?;
         Ok(())
     }
 }
 
-/// Writes `bytes` to `out` so that no terminal takes them for a sequence: each byte outside 32 to 126 as a backslash
+/// Appends `bytes` to `text` so that no terminal takes them for a sequence: each byte outside 32 to 126 as a backslash
 /// and three octal digits.
+pub fn push_shown(text: &mut Vec<u8>, bytes: &[u8]) -> Result<(), AllocError>
+    ensures { OnOk result (text.new.items ≡ text.old.items ++ shown bytes.now) }
+{
+    for byte in bytes {
+        push_byte(text, *byte)?;
+    }
+    Ok(())
+}
+
+fn push_byte(text: &mut Vec<u8>, byte: u8) -> Result<(), AllocError>
+    ensures { OnOk result (text.new.items ≡ text.old.items ++ shown_byte byte) }
+{
+    if is_printable(byte) {
+        text.extend_from_slice(&[byte])
+    } else {
+        text.extend_from_slice(&octal(byte))
+    }
+}
+
+/// Writes `bytes` to `out` as `push_shown` appends them.
 pub fn write_shown<W: Write>(out: &mut W, bytes: &[u8]) -> io::Result<()> {
     for byte in bytes {
-        match *byte {
-            32..=126 => out.write_all(&[*byte])?,
-            other => out.write_all(&octal(other))?,
+        if is_printable(*byte) {
+            out.write_all(&[*byte])?;
+        } else {
+            out.write_all(&octal(*byte))?;
         }
     }
     Ok(())
 }
 
+fn is_printable(byte: u8) -> bool
+    ensures { result ≡ (nat_le 32 byte && nat_le byte 126) }
+{
+    32 <= byte && byte <= 126
+}
+
 /// The escape of `byte`.
-fn octal(byte: u8) -> [u8; 4] {
+fn octal(byte: u8) -> [u8; 4]
+    ensures { result ≡ octal byte }
+{
     [
         b'\\',
         b'0' + byte / 64,

@@ -1,16 +1,15 @@
-use Rattle.std.proofs.Common.{◌++◌, ◌∙◌, ℕ, List, ap}
 use Rattle.ti_verdicts.specs.Lines as spec
-use Rattle.ti_verdicts.specs.Lines.{HasParts}
-use Rattle.ti_verdicts.proofs.Parts.{parts_step}
+use Rattle.ti_verdicts.specs.Lines.{HasPairs}
+use Rattle.ti_verdicts.proofs.Parts.{pairs_step}
 use Rattle.ti_verdicts.proofs.lines.source_lines.Goals as goal
 
 pub loop-place-init : goal.loop-place-init
-unfolding HasParts
-loop-place-init g c = c.new-lines.ensures.items
+unfolding HasPairs
+loop-place-init g c = (c.new-said.ensures.lines, c.new-said.ensures.places)
 
--- the line of the next entry follows those so far
+-- the lines of the next entry follow those so far
 pub loop-place-preserved : goal.loop-place-preserved
 loop-place-preserved g c =
-    parts_step (spec.IsSourcePart (spec.SaysTo g.C.Certifier.certifies g.C.Certifier.refuses c.args.asked.now) c.args.raws.now) c.loop-place.place
-    c.loop-place.lines.items c.in_ok-own.own.items c.extend_from_slice.new.self.items
-    (c.in_ok-extend_from_slice.ensures.items ∙ ap (λ (own : List ℕ). c.loop-place.lines.items ++ own) c.as_slice-in-loop-place.ensures.value) c.loop-place.invariant c.in_ok-own.ensures
+    pairs_step (spec.IsSourcePart (spec.SaysTo g.C.Certifier.certifies g.C.Certifier.refuses c.args.asked.now) c.args.path.now c.args.text.now c.args.raws.now) c.loop-place.place
+    c.loop-place.said.lines.items c.in_ok-own.own.lines.items c.add.new.self.lines.items c.loop-place.said.places.items c.in_ok-own.own.places.items c.add.new.self.places.items
+    c.in_ok-add.ensures.lines c.in_ok-add.ensures.places c.loop-place.invariant c.in_ok-own.ensures

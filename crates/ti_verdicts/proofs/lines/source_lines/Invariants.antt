@@ -5,4 +5,4 @@ use Rattle.ti_verdicts.proofs.lines.source_lines.Given as goal
 -- the entries before this one have their lines
 abbrev pub invariant-loop-place : goal.invariant-loop-place
 invariant-loop-place g l =
-    spec.HasParts (spec.IsSourcePart (spec.SaysTo g.C.Certifier.certifies g.C.Certifier.refuses l.asked) l.raws) (range_with_len 0 l.place) l.lines.items
+    spec.HasPairs (spec.IsSourcePart (spec.SaysTo g.C.Certifier.certifies g.C.Certifier.refuses l.asked) l.path l.text l.raws) (range_with_len 0 l.place) l.said.lines.items l.said.places.items

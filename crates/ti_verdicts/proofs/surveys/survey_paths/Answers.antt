@@ -1,11 +1,11 @@
-use Rattle.std.proofs.Common.{◌<◌, ◌++◌, ◌∙◌, ℕ, List, length, ap, refl, arith}
-use Rattle.ti_verdicts.specs.Lines.{AreLines, SaysTo, HasParts}
+use Rattle.std.proofs.Common.{◌<◌, ◌∙◌, length, refl, arith}
+use Rattle.ti_verdicts.specs.Lines.{AreLines, HasPairs, SaysTo}
 use Rattle.ti_verdicts.proofs.Parts.{ends_step}
 use Rattle.ti_verdicts.proofs.surveys.survey_paths.Goals as goal
 
 pub loop-done-init : goal.loop-done-init
-unfolding HasParts
-loop-done-init g c = record { told = c.new-lines.ensures.items; kept = refl }
+unfolding HasPairs
+loop-done-init g c = record { told = (c.new-said.ensures.lines, c.new-said.ensures.places); kept = refl }
 
 -- the lines of the next path follow those so far
 pub loop-done-preserved : goal.loop-done-preserved
@@ -13,7 +13,8 @@ loop-done-preserved g c =
     let here : c.loop-done.done < length c.args.paths.now = omega arith in
     record {
       told = ends_step (AreLines (SaysTo g.C.Certifier.certifies g.C.Certifier.refuses c.args.asked.now)) (g.F.Files.holds c.args.files.now) (g.F.Files.holds c.loop-done.files)
-          c.args.paths.now c.loop-done.done _ c.loop-done.lines.items c.in_ok-own.own.lines.items c.extend_from_slice.new.self.items c.loop-done.failure c.in_ok-own.own.failure c.first_failure-failure.result here c.loop-done.invariant.kept
-          (c.in_ok-extend_from_slice.ensures.items ∙ ap (λ (own : List ℕ). c.loop-done.lines.items ++ own) c.as_slice.ensures.value) c.first_failure-failure.ensures c.loop-done.invariant.told c.in_ok-own.ensures.told;
+          c.args.paths.now c.loop-done.done _ c.loop-done.said.lines.items c.in_ok-own.own.said.lines.items c.add.new.self.lines.items c.loop-done.said.places.items c.in_ok-own.own.said.places.items c.add.new.self.places.items
+          c.loop-done.failure c.in_ok-own.own.failure c.first_failure-failure.result here c.loop-done.invariant.kept c.in_ok-add.ensures.lines c.in_ok-add.ensures.places c.first_failure-failure.ensures c.loop-done.invariant.told
+          c.in_ok-own.ensures.told;
       kept = c.survey_path.ensures.kept ∙ c.loop-done.invariant.kept;
     }

@@ -7,6 +7,6 @@ use Rattle.ti_verdicts.proofs.surveys.survey_paths.Given as goal
 -- the paths so far have their lines, and no file is changed
 abbrev pub invariant-loop-done : goal.invariant-loop-done
 invariant-loop-done g l = record {
-  told : EndsPaths (AreLines (SaysTo g.C.Certifier.certifies g.C.Certifier.refuses l.asked)) (g.F.Files.holds l.initial.files) (take l.done (texts_of l.paths)) l.lines.items l.failure;
+  told : EndsPaths (AreLines (SaysTo g.C.Certifier.certifies g.C.Certifier.refuses l.asked)) (g.F.Files.holds l.initial.files) (take l.done (texts_of l.paths)) l.said.lines.items l.said.places.items l.failure;
   kept : g.F.Files.holds l.files ≡ g.F.Files.holds l.initial.files;
 }

@@ -1,0 +1,32 @@
+-- The line of a string that would be right in the place of one that is at fault.
+use Rattle.std.specs.Prelude.{◌≡◌, ℕ, Bool, true, false, List, [], ◌++◌, Option, Some, None, Ok, codes}
+use Rattle.ti_caps.specs.Entry.{Content}
+use Rattle.ti_caps.specs.Table.{name_at}
+use Rattle.ti_checker.specs.declared.causes.No.{No}
+use Rattle.ti_remedies.specs.Remedies.{IsRemedy, is_of_another_kind}
+use Rattle.ti_source.specs.Escapes.{unescaped}
+use Rattle.ti_source.specs.Prints.{string_text}
+
+-- a string as a source text has it: as it is printed there, and so that it is read as just these bytes
+pub record IsSpelled (string spelled : List ℕ) : Type 0 where
+  pub printed : spelled ≡ string_text string
+  pub reads : unescaped spelled ≡ Ok string
+
+-- `CAP=STRING would be right on this terminal`, after two spaces
+abbrev pub remedy_line : ℕ → List ℕ → List ℕ
+remedy_line cap spelled = codes "  " ++ (name_at cap ++ (codes "=" ++ (spelled ++ codes " would be right on this terminal\n")))
+
+abbrev pub TellsRemedy : ℕ → Option (List ℕ) → List ℕ → Type 0
+TellsRemedy cap None line = line ≡ []
+TellsRemedy cap (Some string) line = (spelled : List ℕ) × IsSpelled string spelled × (line ≡ remedy_line cap spelled)
+
+-- where the faults show a terminal of another kind there is no string, and else the remedy
+abbrev pub IsSuggestedBy : Bool → Content → ℕ → ℕ → List No → ℕ → Option (List ℕ) → Type 0
+IsSuggestedBy true entry rows cols nos cap found = found ≡ None
+IsSuggestedBy false entry rows cols nos cap found = IsRemedy entry rows cols nos cap found
+
+-- the line of the string that was judged right in the place of the entry's own; none where there is no such string
+pub record HasRemedy (entry : Content) (rows cols : ℕ) (nos : List No) (cap : ℕ) (line : List ℕ) : Type 0 where
+  pub found : Option (List ℕ)
+  pub judged : IsSuggestedBy (is_of_another_kind nos) entry rows cols nos cap found
+  pub says : TellsRemedy cap found line

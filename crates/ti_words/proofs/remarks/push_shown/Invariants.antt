@@ -1,0 +1,7 @@
+use Rattle.std.proofs.Common.{◌≡◌, ◌++◌, take, flat_map}
+use Rattle.ti_words.specs.Shown.{shown_byte}
+use Rattle.ti_words.proofs.remarks.push_shown.Given as goal
+
+-- the bytes before this one are shown
+abbrev pub invariant-loop-byte : goal.invariant-loop-byte
+invariant-loop-byte l = l.text.items ≡ l.fn.text.items ++ flat_map shown_byte (take l.byte-index l.bytes)
