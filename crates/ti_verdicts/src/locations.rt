@@ -35,7 +35,7 @@ fn name_end(names: &[u8]) -> Option<usize>
 }
 
 /// The first of an entry's `names`.
-pub(crate) fn first_name(names: &[u8]) -> &[u8]
+pub fn first_name(names: &[u8]) -> &[u8]
     ensures { result.now ≡ spec.first_name names.now }
 {
     match name_end(names) {
