@@ -1,5 +1,6 @@
 pub mod InkFacts
 pub mod Counts
 pub mod Likeness
+pub mod MarkedLines
 pub mod Plainly
 pub mod Findings

@@ -1,12 +1,13 @@
 //! Where the virtual screen differs from what was shown last.
-ghost use Rattle.std.specs.Prelude.{◌≡◌, ◌<◌, ◌≤◌, ℕ, true, length, IfSome};
+ghost use Rattle.std.specs.Prelude.{◌≡◌, ◌<◌, ◌≤◌, ◌+◌, ℕ, true, length, IfSome};
 ghost use Rattle.cur_drawing.specs.Differences.{AreEqualIn};
+ghost use Rattle.cur_drawing.specs.Marks.{AreSame};
 ghost use Rattle.cur_looks.specs.declared.inks.Ink.{Ink};
 ghost use Rattle.cur_windows.specs.VirtualScreen.{colors_at};
 ghost use Rattle.cur_update.specs.Shift.{AreAlikeOutside, AreFound, IsShift, found_at};
 
 use crate::scrolls::{found_scroll, scroll_of};
-use cur_drawing::{Cell, PAIRS, first_diff, last_diff};
+use cur_drawing::{Cell, Marks, PAIRS, Span, first_diff, last_diff};
 use cur_paint::{Changes, Columns};
 use cur_scrolls::{Scroll, line_before};
 use cur_windows::Virtual;
@@ -44,15 +45,42 @@ impl<'a, C: Certificate> Shift<'a, C> {
         changed_columns(self.shown.row(from as u16), self.screen.row(to as u16))
     }
 
-    /// Finds for each line the columns in which it may be printed otherwise.
-    pub(crate) fn find(&self, columns: &mut [Columns], cols: usize)
+    /// The columns in which the line `row` of the screen may be printed otherwise than that of the screen that was shown
+    /// last. Only what is marked is compared.
+    fn columns_marked(&self, marks: &Marks, row: usize, cols: usize) -> Columns
+        requires marked { AreSame marks.now (self.now.shown.now).grid (self.now.screen.now).grid }
+        ensures order { result.from ≤ result.end }
+        ensures within { result.end ≤ cols }
+        ensures same { (old new : ℕ → ℕ → Ink) → IsShift (C.table self.now.checked.now) (C.partners self.now.checked.now)
+            self.now.shown.now self.now.screen.now self.now.same_pairs old new
+            → AreAlikeOutside old new row row result.from result.end cols }
+    {
+        let (old_rows, old_cols) = self.shown.size();
+        let (new_rows, new_cols) = self.screen.size();
+        let is_same_size = old_rows == new_rows
+            && old_cols == new_cols
+            && cols == new_cols as usize;
+        if !(self.same_pairs && is_same_size && row < new_rows as usize) {
+            return Columns { from: 0, end: cols };
+        }
+        let row = row as u16;
+        changed_within(
+            self.shown.row(row),
+            self.screen.row(row),
+            marks.columns(row, new_cols),
+        )
+    }
+
+    /// Finds for each line the columns in which it may be printed otherwise, among those that are marked.
+    pub(crate) fn find(&self, marks: &Marks, columns: &mut [Columns], cols: usize)
+        requires marked { AreSame marks.now (self.now.shown.now).grid (self.now.screen.now).grid }
         ensures long { length columns.new ≡ length columns.old }
         ensures found { (old new : ℕ → ℕ → Ink) → IsShift (C.table self.now.checked.now) (C.partners self.now.checked.now)
             self.now.shown.now self.now.screen.now self.now.same_pairs old new
             → AreFound columns.new (length columns.new) cols old new }
     {
         for row in 0..columns.len() {
-            columns[row] = self.columns_between(row, row, cols);
+            columns[row] = self.columns_marked(marks, row, cols);
         }
     }
 }
@@ -142,6 +170,26 @@ fn changed_columns(old: &[Cell], new: &[Cell]) -> Columns
             end: last + 1,
         },
         None => Columns { from: 0, end: 0 },
+    }
+}
+
+/// The same of two lines that are equal outside the columns of `span`: only these are compared.
+fn changed_within(old: &[Cell], new: &[Cell], span: Span) -> Columns
+    requires same_length { length old.now ≡ length new.now }
+    requires within { span.at + span.size ≤ length new.now }
+    requires before { AreEqualIn old.now new.now 0 span.at }
+    requires after { AreEqualIn old.now new.now (span.at + span.size) (length new.now) }
+    ensures order { result.from ≤ result.end }
+    ensures within { result.end ≤ length new.now }
+    ensures before { AreEqualIn old.now new.now 0 result.from }
+    ensures after { AreEqualIn old.now new.now result.end (length new.now) }
+{
+    let from = span.at as usize;
+    let end = from + span.size as usize;
+    let columns = changed_columns(&old[from..end], &new[from..end]);
+    Columns {
+        from: from + columns.from,
+        end: from + columns.end,
     }
 }
 

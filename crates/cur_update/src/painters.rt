@@ -1,5 +1,6 @@
 //! A painter, which makes a terminal show the virtual screen.
 ghost use Rattle.std.specs.Prelude.{◌≡◌, IfOk, OnOk, OnErr};
+ghost use Rattle.cur_drawing.specs.Marks.{AreSame};
 ghost use Rattle.cur_looks.specs.declared.beliefs.Mode.TheVariants.{Normal};
 ghost use Rattle.cur_paint.specs.declared.updates.Status.TheVariants.{Fresh, Lost};
 ghost use Rattle.cur_paint.specs.Finish.{Finishes};
@@ -13,7 +14,7 @@ use crate::bells::{Unsent, ring};
 use crate::changes::{Found, Shift, same_pairs};
 use crate::inks::{has_line, means_of};
 use crate::screens::{PrintedScreen, all_cells};
-use cur_drawing::{Refusal, place_below};
+use cur_drawing::{Marks, Refusal, place_below};
 use cur_looks::{Mode, Place, Row};
 use cur_paint::{Columns, Knowledge, Screens, Status, Wanted};
 use cur_windows::{Size, Virtual};
@@ -25,6 +26,7 @@ use ti_conforms::Certificate;
 /// A painter for the terminal of a verified certificate: what that shows, and what is known of it.
 #[derive(Drop)]
 pub struct Painter<C: Certificate> {
+    alloc: Global,
     checked: C,
     shown: Shown,
     session: Knowledge,
@@ -36,6 +38,13 @@ pub struct Painter<C: Certificate> {
 struct Shown {
     screen: Virtual,
     columns: Vec<Columns>,
+}
+
+/// The screen to be shown, and marks outside of which its cells are those of the screen that was shown last.
+#[derive(Drop)]
+struct Frame<'a> {
+    screen: &'a Virtual,
+    marks: &'a Marks,
 }
 
 impl<C: Certificate> Model for Painter<C> {
@@ -64,6 +73,7 @@ impl<C: Certificate> Painter<C> {
         let screen = Virtual::new(alloc, size)?;
         let columns = no_columns(alloc, checked.rows())?;
         Ok(Painter {
+            alloc,
             checked,
             shown: Shown { screen, columns },
             session: Knowledge::new(),
@@ -86,13 +96,38 @@ impl<C: Certificate> Painter<C> {
         ensures certificate { self.new.checked ≡ self.old.checked }
         ensures mode { self.new.mode ≡ self.old.mode }
     {
+        let marks = Marks::unknown(self.alloc);
+        self.update_marked(screen, &marks, wire)
+    }
+
+    /// As `update`, where the screen's cells outside the marks are those of the screen that was shown last: only what is
+    /// marked is compared and copied.
+    pub fn update_marked<W: Wire>(
+        &mut self,
+        screen: &Virtual,
+        marks: &Marks,
+        wire: &mut W,
+    ) -> Result<(), WireFault>
+        requires rows { (screen.now).rows ≡ (C.table self.old.checked).rows }
+        requires cols { (screen.now).cols ≡ (C.table self.old.checked).cols }
+        requires marked { AreSame marks.now self.old.shown.grid (screen.now).grid }
+        ensures refreshes { Refreshes W.went W.failures wire.old wire.new result (C.table self.old.checked)
+            (ink_at (C.table self.old.checked) (C.partners self.old.checked) self.old.shown)
+            (ink_at (C.table self.old.checked) (C.partners self.old.checked) screen.now)
+            (wanted_of screen.now self.old.mode) self.old.session self.new.session }
+        ensures shown { OnOk result (self.new.shown ≡ screen.now) }
+        ensures kept { OnErr result (self.new.shown ≡ self.old.shown) }
+        ensures certificate { self.new.checked ≡ self.old.checked }
+        ensures mode { self.new.mode ≡ self.old.mode }
+    {
         let wanted = wanted_of(screen, self.mode);
+        let frame = Frame { screen, marks };
         refresh(
             &self.checked,
             &mut self.shown,
             &mut self.session,
             wire,
-            screen,
+            &frame,
             wanted,
         )
     }
@@ -180,22 +215,24 @@ fn refresh<C: Certificate, W: Wire>(
     shown: &mut Shown,
     session: &mut Knowledge,
     wire: &mut W,
-    screen: &Virtual,
+    frame: &Frame<'_>,
     wanted: Wanted,
 ) -> Result<(), WireFault>
-    requires rows { (screen.now).rows ≡ (C.table checked.now).rows }
-    requires cols { (screen.now).cols ≡ (C.table checked.now).cols }
+    requires rows { (frame.now.screen.now).rows ≡ (C.table checked.now).rows }
+    requires cols { (frame.now.screen.now).cols ≡ (C.table checked.now).cols }
     requires shown { IsPainter (C.table checked.now) shown.old.screen wanted.mode }
-    requires wanted { wanted ≡ wanted_of screen.now wanted.mode }
+    requires wanted { wanted ≡ wanted_of frame.now.screen.now wanted.mode }
+    requires marked { AreSame frame.now.marks.now (shown.old.screen).grid (frame.now.screen.now).grid }
     ensures refreshes { Refreshes W.went W.failures wire.old wire.new result (C.table checked.now)
         (ink_at (C.table checked.now) (C.partners checked.now) shown.old.screen)
-        (ink_at (C.table checked.now) (C.partners checked.now) screen.now) wanted session.old session.new }
-    ensures shown { OnOk result (shown.new.screen ≡ screen.now) }
+        (ink_at (C.table checked.now) (C.partners checked.now) frame.now.screen.now) wanted session.old session.new }
+    ensures shown { OnOk result (shown.new.screen ≡ frame.now.screen.now) }
     ensures kept { OnErr result (shown.new.screen ≡ shown.old.screen) }
 {
     // only these calls' contracts say that the certificate is verified, that each cell can be printed, and that the
     // cursor is on the screen
     let _ = checked.rows();
+    let screen = frame.screen;
     all_cells(screen);
     let _ = screen.row(0);
     let same_pairs = same_pairs(&shown.screen, screen);
@@ -206,7 +243,7 @@ fn refresh<C: Certificate, W: Wire>(
         same_pairs,
     };
     let cols = checked.cols();
-    shift.find(&mut shown.columns, cols);
+    shift.find(frame.marks, &mut shown.columns, cols);
     let found = Found {
         shift,
         cols,
@@ -229,7 +266,7 @@ fn refresh<C: Certificate, W: Wire>(
         new: &new,
     };
     cur_paint::update(&screens, session, wire, &found, wanted)?;
-    shown.screen.copy_from(screen);
+    shown.screen.copy_marked(screen, frame.marks);
     Ok(())
 }
 

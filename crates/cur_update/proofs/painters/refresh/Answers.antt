@@ -14,21 +14,21 @@ pub update-requires-clause-drawable : goal.update-requires-clause-drawable
 update-requires-clause-drawable g c =
     let t = g.C.Certificate.table c.args.checked.now in
     let partners = g.C.Certificate.partners c.args.checked.now in
-    subst (CanShow t) (sym (as_table c.means_of-means.result t partners c.args.screen.now c.means_of-means.ensures)) (can_show t partners c.args.screen.now c.all_cells.ensures)
+    subst (CanShow t) (sym (as_table c.means_of-means.result t partners c.args.frame.now.screen.now c.means_of-means.ensures)) (can_show t partners c.args.frame.now.screen.now c.all_cells.ensures)
 
 pub update-requires-clause-changes : goal.update-requires-clause-changes
 update-requires-clause-changes g c =
     let t = g.C.Certificate.table c.args.checked.now in
     let partners = g.C.Certificate.partners c.args.checked.now in
     let means = c.means_of-means.result in
-    let shift : IsShift t partners c.args.shown.now.screen c.args.screen.now c.same_pairs-same_pairs.result
-    (ink_at_with means partners c.args.shown.now.screen) (ink_at_with means partners c.args.screen.now) = record {
+    let shift : IsShift t partners c.args.shown.now.screen c.args.frame.now.screen.now c.same_pairs-same_pairs.result
+    (ink_at_with means partners c.args.shown.now.screen) (ink_at_with means partners c.args.frame.now.screen.now) = record {
       before = as_table c.means_of-means.result t partners c.args.shown.now.screen c.means_of-means.ensures;
-      after = as_table c.means_of-means.result t partners c.args.screen.now c.means_of-means.ensures;
+      after = as_table c.means_of-means.result t partners c.args.frame.now.screen.now c.means_of-means.ensures;
       pairs = c.same_pairs-same_pairs.ensures;
     } in
     let old : ℕ → ℕ → Ink = ink_at_with means partners c.args.shown.now.screen in
-    let new : ℕ → ℕ → Ink = ink_at_with means partners c.args.screen.now in
+    let new : ℕ → ℕ → Ink = ink_at_with means partners c.args.frame.now.screen.now in
     let P : List Columns → Type 0 = λ x. AreFound x (length x) c.cols-cols.result old new in
     let found : List Columns = c.find.new.columns in
     let rest : List Columns = drop (length found) c.args.shown.now.columns.items in
@@ -43,5 +43,5 @@ returns-clause-refreshes g c =
     let means = c.means_of-means.result in
     let R : (ℕ → ℕ → Ink) → (ℕ → ℕ → Ink) → Type 0 =
     λ old new. Refreshed {W = g.row.W.Denot} g.W.Wire.went c.args.wire.now c.update.new.wire t old new c.args.wanted c.args.session.now c.update.new.session in
-    subst (λ (old : ℕ → ℕ → Ink). R old (ink_at t partners c.args.screen.now)) (as_table means t partners c.args.shown.now.screen c.means_of-means.ensures)
-    (subst (R (ink_at_with means partners c.args.shown.now.screen)) (as_table means t partners c.args.screen.now c.means_of-means.ensures) c.in_ok-update.ensures.refreshes)
+    subst (λ (old : ℕ → ℕ → Ink). R old (ink_at t partners c.args.frame.now.screen.now)) (as_table means t partners c.args.shown.now.screen c.means_of-means.ensures)
+    (subst (R (ink_at_with means partners c.args.shown.now.screen)) (as_table means t partners c.args.frame.now.screen.now c.means_of-means.ensures) c.in_ok-update.ensures.refreshes)
