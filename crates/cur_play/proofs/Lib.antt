@@ -5,4 +5,5 @@ pub mod Deliveries
 pub mod Plays
 pub mod Failures
 pub mod Logs
+pub mod MarkFacts
 pub mod Wires

@@ -1,5 +1,6 @@
 //! What calls do before anything is sent.
 ghost use Rattle.std.specs.Prelude.{◌≡◌};
+ghost use Rattle.cur_drawing.specs.Marks.{Keeps};
 ghost use Rattle.cur_play.specs.Drawings.{Draws, SameSizes};
 ghost use Rattle.cur_play.specs.Steps.{showing};
 
@@ -9,13 +10,14 @@ use crate::creations::make;
 use cur_calls::Call;
 use cur_pads::pnoutrefresh;
 use cur_update::Painter;
-use cur_windows::{Desk, Virtual};
+use cur_windows::{Desk, Marks, Virtual};
 use ti_conforms::Certificate;
 
-/// Does all of a call but what it sends.
+/// Does all of a call but what it sends. Where the virtual screen's cells have changed they are marked as well.
 pub(crate) fn draw<C: Certificate>(
     desk: &mut Desk,
     screen: &mut Virtual,
+    marks: &mut Marks,
     painter: &mut Painter<C>,
     call: &Call<'_>,
 ) -> Answer
@@ -28,6 +30,7 @@ pub(crate) fn draw<C: Certificate>(
     ensures cols { (screen.new).cols ≡ (screen.old).cols }
     ensures certificate { painter.new.checked ≡ painter.old.checked }
     ensures painter { painter.new ≡ record painter.old { mode = painter.new.mode } }
+    ensures marked { Keeps marks.old (screen.old).grid marks.new (screen.new).grid }
 {
     if let Some(outcome) = make(desk, call) {
         return answer_of(outcome);
@@ -35,13 +38,14 @@ pub(crate) fn draw<C: Certificate>(
     if let Some(outcome) = change(desk, call) {
         return answer_of(outcome);
     }
-    show(desk, screen, painter, call)
+    show(desk, screen, marks, painter, call)
 }
 
 /// A call on more than windows; those that only send do nothing here.
 fn show<C: Certificate>(
     desk: &mut Desk,
     screen: &mut Virtual,
+    marks: &mut Marks,
     painter: &mut Painter<C>,
     call: &Call<'_>,
 ) -> Answer
@@ -50,9 +54,10 @@ fn show<C: Certificate>(
     ensures step { (record { desk = desk.new; screen = screen.new; mode = painter.new.mode; status = painter.old.session.status }, result)
         ≡ showing (C.table painter.old.checked) (record { desk = desk.old; screen = screen.old; mode = painter.old.mode; status = painter.old.session.status }) call.now }
     ensures painter { painter.new ≡ record painter.old { mode = painter.new.mode } }
+    ensures marked { Keeps marks.old (screen.old).grid marks.new (screen.new).grid }
 {
     match call {
-        Call::Show { window, .. } => answer_of(desk.noutrefresh(*window, screen)),
+        Call::Show { window, .. } => answer_of(desk.noutrefresh_marked(*window, screen, marks)),
         Call::ShowPad {
             window,
             row,
@@ -63,6 +68,7 @@ fn show<C: Certificate>(
             right,
             ..
         } => {
+            marks.mark_all();
             answer_of(pnoutrefresh(
                 desk, *window, *row, *col, *top, *left, *bottom, *right, screen,
             ))

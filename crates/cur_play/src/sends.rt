@@ -1,5 +1,6 @@
 //! What calls send.
 ghost use Rattle.std.specs.Prelude.{◌≡◌, ℕ, List};
+ghost use Rattle.cur_drawing.specs.Marks.{AreSame};
 ghost use Rattle.cur_windows.specs.VirtualScreen.{Screen};
 ghost use Rattle.cur_play.specs.Outputs.{Puts};
 ghost use Rattle.cur_play.specs.Sends.{Delivers};
@@ -8,7 +9,7 @@ ghost use Rattle.cur_play.specs.Steps as spec;
 use crate::answers::Answer;
 use cur_calls::{Call, PadCall, ScreenCall, ShowCall};
 use cur_update::{Painter, Unsent, Wire};
-use cur_windows::Virtual;
+use cur_windows::{Marks, Virtual};
 use ti_conforms::Certificate;
 
 /// What a call sends.
@@ -44,15 +45,17 @@ pub(crate) fn output_of(call: &Call<'_>) -> Emission
     }
 }
 
-/// Sends it.
+/// Sends it. The marks are where the screen may differ from what was shown last.
 pub(crate) fn send<C: Certificate, W: Wire>(
     screen: &mut Virtual,
+    marks: &mut Marks,
     painter: &mut Painter<C>,
     output: Emission,
     wire: &mut W,
 ) -> Answer
     requires rows { (screen.old).rows ≡ (C.table painter.old.checked).rows }
     requires cols { (screen.old).cols ≡ (C.table painter.old.checked).cols }
+    requires marked { AreSame marks.old painter.old.shown.grid (screen.old).grid }
     ensures delivers { Delivers (C.table painter.old.checked) output screen.old painter.old.session.status result
         screen.new painter.new.session.status }
     ensures puts { (bytes : List ℕ)
@@ -60,23 +63,26 @@ pub(crate) fn send<C: Certificate, W: Wire>(
         screen.old output result bytes painter.old painter.new }
     ensures certificate { painter.new.checked ≡ painter.old.checked }
     ensures mode { painter.new.mode ≡ painter.old.mode }
+    ensures marked { AreSame marks.new painter.new.shown.grid (screen.new).grid }
 {
     match output {
         Emission::Nothing => Answer::Done,
-        Emission::Update => update(screen, painter, wire),
+        Emission::Update => update(screen, marks, painter, wire),
         Emission::Bell => ring(painter, wire),
         Emission::End => finish(painter, wire),
     }
 }
 
-/// Makes the terminal show the virtual screen.
+/// Makes the terminal show the virtual screen, which differs from what was shown last only where it is marked.
 fn update<C: Certificate, W: Wire>(
     screen: &mut Virtual,
+    marks: &mut Marks,
     painter: &mut Painter<C>,
     wire: &mut W,
 ) -> Answer
     requires rows { (screen.old).rows ≡ (C.table painter.old.checked).rows }
     requires cols { (screen.old).cols ≡ (C.table painter.old.checked).cols }
+    requires marked { AreSame marks.old painter.old.shown.grid (screen.old).grid }
     ensures delivers { Delivers (C.table painter.old.checked) Emission.Update screen.old painter.old.session.status
         result screen.new painter.new.session.status }
     ensures puts { (bytes : List ℕ)
@@ -84,10 +90,12 @@ fn update<C: Certificate, W: Wire>(
         screen.old Emission.Update result bytes painter.old painter.new }
     ensures certificate { painter.new.checked ≡ painter.old.checked }
     ensures mode { painter.new.mode ≡ painter.old.mode }
+    ensures marked { AreSame marks.new painter.new.shown.grid (screen.new).grid }
 {
-    match painter.update(screen, wire) {
+    match painter.update_marked(screen, marks, wire) {
         Ok(()) => {
             screen.shown();
+            marks.clear();
             Answer::Done
         }
         Err(_) => Answer::WireFailed,
@@ -104,6 +112,7 @@ fn ring<C: Certificate, W: Wire>(painter: &mut Painter<C>, wire: &mut W) -> Answ
         screen Emission.Bell result bytes painter.old painter.new }
     ensures certificate { painter.new.checked ≡ painter.old.checked }
     ensures mode { painter.new.mode ≡ painter.old.mode }
+    ensures shown { painter.new.shown ≡ painter.old.shown }
 {
     match painter.beep(wire) {
         Ok(()) => Answer::Done,
@@ -122,6 +131,7 @@ fn finish<C: Certificate, W: Wire>(painter: &mut Painter<C>, wire: &mut W) -> An
         screen Emission.End result bytes painter.old painter.new }
     ensures certificate { painter.new.checked ≡ painter.old.checked }
     ensures mode { painter.new.mode ≡ painter.old.mode }
+    ensures shown { painter.new.shown ≡ painter.old.shown }
 {
     match painter.finish(wire) {
         Ok(()) => Answer::Done,

@@ -1,0 +1,42 @@
+-- The marks of a session, call by call.
+use Rattle.std.proofs.Common.{◌≡◌, ◌==◌, ℕ, Bool, true, false, Option, Some, None, Result, Ok, Err, ℤ, if◌then◌else◌, refl, sym, ap, ◌∙◌}
+use Rattle.cur_drawing.specs.declared.refusals.Refusal.{Refusal}
+use Rattle.cur_drawing.specs.Cells.{pair_count}
+use Rattle.cur_drawing.specs.Grids.{Grid, cell_at}
+use Rattle.cur_drawing.specs.Marks.{AreSame, IsUnmarked, Keeps, Marking}
+use Rattle.cur_drawing.specs.Windows.{place_below}
+use Rattle.cur_windows.specs.VirtualScreen.{Screen, init_pair, initialized}
+use Rattle.cur_update.specs.Painters.{Painted}
+
+-- screens of equal cells
+pub same_cells : (m : Marking) (v w x y : Screen) → v ≡ x → y ≡ w → AreSame m x.grid w.grid → AreSame m v.grid y.grid
+same_cells m v w x y e f same i j u =
+    ap (λ (s : Screen). cell_at s.grid i j) e ∙ same i j u ∙ sym (ap (λ (s : Screen). cell_at s.grid i j) f)
+
+-- a screen that was shown
+pub same_shown : (m : Marking) (v w x : Screen) → v ≡ x → w.grid ≡ x.grid → AreSame m v.grid w.grid
+same_shown m v w x e f i j u = ap (λ (s : Screen). cell_at s.grid i j) e ∙ sym (ap (λ (g : Grid). cell_at g i j) f)
+
+-- what all marks leave is the same
+pub keeps_all : (m n : Marking) (g h : Grid) → n.all ≡ true → Keeps m g n h
+keeps_all m n g h all v same i j u = absurd (let none : n.all ≡ false = u.some in cc)
+
+pub keeps_same : (m : Marking) (g h : Grid) → h ≡ g → Keeps m g m h
+keeps_same m g h e v same i j u = same i j u ∙ sym (ap (λ (x : Grid). cell_at x i j) e)
+
+abbrev grid_of : Screen × Result (Unit {0}) Refusal → Grid
+grid_of p = p.0.grid
+
+chosen_grid : (b : Bool) (v w : Screen) (x y : Result (Unit {0}) Refusal) → w.grid ≡ v.grid → grid_of (if b then (v, x) else (w, y)) ≡ v.grid
+chosen_grid true v w x y e = refl
+chosen_grid false v w x y e = e
+
+-- a pair's colours are no cell
+initialized_grid : (p f b : Option ℕ) (v : Screen) → (initialized p f b v).0.grid ≡ v.grid
+initialized_grid (Some p) (Some f) (Some b) v = chosen_grid (p == 0) v _ _ _ refl
+initialized_grid (Some p) (Some f) None v = refl
+initialized_grid (Some p) None b v = refl
+initialized_grid None f b v = refl
+
+pub init_pair_grid : (p f b : ℤ) (v w : Screen) (x : Result (Unit {0}) Refusal) → (w, x) ≡ init_pair p f b v → w.grid ≡ v.grid
+init_pair_grid p f b v w x e = ap grid_of e ∙ initialized_grid (place_below p pair_count) (place_below f 8) (place_below b 8) v
