@@ -124,13 +124,7 @@ pub fn copy_marked(grid: &mut Grid<Cell>, area: Area, source: &Grid<Cell>, marks
 }
 
 // The row `k` of the rectangle.
-fn copy_marked_row(
-    grid: &mut Grid<Cell>,
-    area: Area,
-    k: u16,
-    source: &Grid<Cell>,
-    marks: &Marks,
-)
+fn copy_marked_row(grid: &mut Grid<Cell>, area: Area, k: u16, source: &Grid<Cell>, marks: &Marks)
     requires left { area.left ≡ 0 }
     requires short { area.top + area.rows < 65536 }
     requires target { Fits area grid.old }

@@ -8,9 +8,7 @@ ghost use Rattle.cur_windows.specs.VirtualScreen as spec;
 
 use crate::desks::blank_grid;
 use crate::hints::{Hint, Owners, Scroll, later_of};
-use cur_drawing::{
-    Cell, Marks, PAIRS, Refusal, all_cells, copy_changed, copy_marked, place_below,
-};
+use cur_drawing::{Cell, Marks, PAIRS, Refusal, all_cells, copy_changed, copy_marked, place_below};
 use grids::{Area, Grid, Place};
 use std::alloc::{AllocError, Global};
 use std::marker::Model;

@@ -24,6 +24,11 @@ returns-in_default g c =
     let all = played_refused g.W.Wire.went g.W.Wire.failures g.met.W.Wire.lawful bound c.args.wire.now g.C.Certificate.table g.C.Certificate.partners
     c.args.desk.now c.args.screen.now c.args.painter.now c.args.call.now c.draw.new.desk c.draw.new.screen c.draw.new.painter c.draw.result
     c.requires.checked c.requires.rows c.requires.cols c.in_default.not-Done c.draw.ensures.draws c.draw.ensures.sizes c.draw.ensures.painter in
-    record { step = all.step; carries = all.carries; sizes = all.sizes; certificate = all.certificate;
+    record {
+      step = all.step;
+      carries = all.carries;
+      sizes = all.sizes;
+      certificate = all.certificate;
       marked = same_cells c.draw.new.marks c.draw.new.painter.shown c.draw.new.screen c.args.painter.now.shown c.draw.new.screen (ap (λ (p : Painted _). p.shown) c.draw.ensures.painter) refl
-          (c.draw.ensures.marked c.args.painter.now.shown.grid c.requires.marked) }
+          (c.draw.ensures.marked c.args.painter.now.shown.grid c.requires.marked);
+    }
