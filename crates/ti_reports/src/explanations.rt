@@ -20,7 +20,7 @@ pub struct Explanation {
 }
 
 /// What the lines that explain the `no` of `entry` say of a run.
-pub fn explanation(
+pub fn explained(
     alloc: Global,
     entry: &Entry,
     size: Size,

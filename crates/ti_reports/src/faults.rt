@@ -8,7 +8,7 @@ ghost use Rattle.ti_verdicts.specs.Lines.{HasParts};
 ghost use Rattle.ti_verdicts.specs.Locations.{first_name};
 ghost use Rattle.ti_verdicts.specs.Refusals.{cause_name};
 
-use crate::explanations::explanation;
+use crate::explanations::explained;
 use crate::lines::value_line;
 use crate::reports::{Report, Verdict, report_line};
 use crate::sent::sent_text;
@@ -102,7 +102,7 @@ fn fault_report(alloc: Global, subject: &Subject<'_>, no: &No) -> Result<Report,
     ensures { IfOk result (λ report. spec.ReportsFault subject.now.entry.now
         subject.now.size.rows subject.now.size.cols subject.now.file.now subject.now.source.now no.now report) }
 {
-    let explanation = explanation(alloc, subject.entry, subject.size, no)?;
+    let explanation = explained(alloc, subject.entry, subject.size, no)?;
     Ok(Report {
         entry: Some(name_text(alloc, subject.entry)?),
         rows: subject.size.rows,
