@@ -42,7 +42,7 @@ range_more from (suc n) = ap (λ (l : List ℕ). from ∷ l) (range_more (from +
 pairs_end : {X : Type 0} (P : X → List ℕ → List ℕ → Type 0) (xs : List X) (x : X) (text own other beside : List ℕ) → HasPairs P xs text other → P x own beside → HasPairs P (xs ++ x ∷ []) (text ++ own) (other ++ beside)
 unfolding HasPairs
 pairs_end P [] x text own other beside h p =
-    (own, [], beside, [], ap (λ (t : List ℕ). t ++ own) h.0 ∙ sym (append-nil own), ap (λ (t : List ℕ). t ++ beside) h.1 ∙ sym (append-nil beside), p, refl, refl)
+    (own, [], beside, [], ap (λ (t : List ℕ). t ++ own) h.0 ∙ sym (append-nil own), ap (λ (t : List ℕ). t ++ beside) h.1 ∙ sym (append-nil beside), p, (refl, refl))
 pairs_end P (first ∷ xs) x text own other beside h p = (
   h.0,
   h.1 ++ own,
@@ -125,3 +125,14 @@ source_part_of Says path text raws place raw entry names name lines places there
   resolves = r;
   told = subst (λ (n : List ℕ). IsTold Says entry (Some (record { path = path; text = text; raws = raws; place = place })) n lines places) (b ∙ ap first_name a) t;
 }
+
+-- ---- a text that was written part by part
+
+pub five_parts : (a b c d e start first second third fourth : List ℕ) → start ≡ a → first ≡ start ++ b → second ≡ first ++ c → third ≡ second ++ d → fourth ≡ third ++ e → fourth ≡ a ++ (b ++ (c ++ (d ++ e)))
+five_parts a b c d e start first second third fourth p q r s t =
+    t
+    ∙ (ap (λ (x : List ℕ). x ++ e) s
+    ∙ (append_assoc second d e
+    ∙ (ap (λ (x : List ℕ). x ++ (d ++ e)) r
+    ∙ (append_assoc first c (d ++ e)
+    ∙ (ap (λ (x : List ℕ). x ++ (c ++ (d ++ e))) q ∙ (append_assoc start b (c ++ (d ++ e)) ∙ ap (λ (x : List ℕ). x ++ (b ++ (c ++ (d ++ e)))) p))))))

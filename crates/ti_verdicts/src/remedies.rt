@@ -1,6 +1,6 @@
 //! What would be right in the place of a string that is at fault.
 
-ghost use Rattle.std.specs.Prelude.{IfOk, IfSome, IsTrue, Some};
+ghost use Rattle.std.specs.Prelude.{◌≡◌, IfOk, IfSome, IsTrue, Some};
 ghost use Rattle.std.specs.Option.{option_copied};
 ghost use Rattle.ti_caps.specs.Fits.{string_fits};
 ghost use Rattle.ti_remedies.specs.Remedies as remedies;
@@ -33,18 +33,25 @@ fn suggested(
     }
 }
 
+/// The line of what would be right for `cap`, `spelled` as a source has it.
+fn spelled_line(alloc: Global, cap: Cap, spelled: &[u8]) -> Result<Vec<u8>, AllocError>
+    ensures { IfOk result (λ line. line.items ≡ spec.remedy_line cap spelled.now) }
+{
+    let mut line = Vec::from_slice(alloc, b"  ")?;
+    line.extend_from_slice(name(cap))?;
+    line.extend_from_slice(b"=")?;
+    line.extend_from_slice(spelled)?;
+    line.extend_from_slice(b" would be right on this terminal\n")?;
+    Ok(line)
+}
+
 /// The line of a `string` that would be right for `cap`.
 fn remedy_line(alloc: Global, cap: Cap, string: &[u8]) -> Result<Vec<u8>, AllocError>
     requires { IsTrue (string_fits string.now) }
     ensures { IfOk result (λ line. spec.TellsRemedy cap (Some string.now) line.items) }
 {
     let spelled = escape(alloc, string)?;
-    let mut line = Vec::from_slice(alloc, b"  ")?;
-    line.extend_from_slice(name(cap))?;
-    line.extend_from_slice(b"=")?;
-    line.extend_from_slice(spelled.as_slice())?;
-    line.extend_from_slice(b" would be right on this terminal\n")?;
-    Ok(line)
+    spelled_line(alloc, cap, spelled.as_slice())
 }
 
 /// The line of the string that would be right in the place of the one that `no` is about; none if there is no such
