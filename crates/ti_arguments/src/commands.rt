@@ -237,11 +237,7 @@ fn survey_command<'a>(alloc: Global) -> Result<Command<'a>, AllocError>
             "all",
             "List all faults of each entry, a line for each",
         ))?
-        .arg(long_switch(
-            alloc,
-            "json",
-            "Report in JSON, an object a line",
-        ))?;
+        .arg(long_switch(alloc, "json", "Report in JSON, an object a line"))?;
     with_size(alloc, command)?.arg(several(
         alloc,
         "FILE",
