@@ -9,7 +9,7 @@ use Rattle.ti_commands.specs.declared.failure.Failure.{Failure}
 use Rattle.ti_commands.specs.declared.failure.Reply.{Reply}
 use Rattle.ti_commands.specs.declared.sources.SourceText.{SourceText}
 use Rattle.ti_reports.specs.Faults.{AreFoundLines}
-use Rattle.ti_reports.specs.Findings.{AreFound}
+use Rattle.ti_reports.specs.Findings.{AreFaults}
 use Rattle.ti_requests.specs.declared.request.FaultsWords.{FaultsWords}
 use Rattle.ti_verdicts.specs.Checks.{TellsNotes}
 use Rattle.ti_verdicts.specs.FaultLists.{EndsAsNo}
@@ -43,5 +43,5 @@ pub record ReportsOn (held : Held) (lists_all : Bool) (words : FaultsWords) (rep
   pub stands : file ≡ file_of source words.entry.now
   pub notes : TellsNotes entry reply.notes.items
   pub nos : List No
-  pub found : AreFound lists_all entry height width nos
+  pub found : AreFaults lists_all entry height width nos
   pub tells : TellsFound entry height width file source nos reply

@@ -8,7 +8,7 @@ use Rattle.ti_commands.specs.declared.sources.SourceText.{SourceText}
 use Rattle.ti_reports.specs.Reports.{report_line}
 use Rattle.ti_reports.specs.Sent.{IsSentText}
 use Rattle.ti_reports.specs.Sources.{IsValueLine}
-use Rattle.ti_reports.specs.Texts.{IsTextOf}
+use Rattle.ti_reports.specs.Texts.{IsShownAs}
 use Rattle.ti_reports.specs.declared.reports.Report.{Report}
 use Rattle.ti_reports.specs.declared.reports.Verdict.TheVariants as verdicts
 use Rattle.ti_verdicts.specs.Lines.{HasParts}
@@ -16,13 +16,13 @@ use Rattle.ti_verdicts.specs.Locations.{first_name}
 use Rattle.ti_verdicts.specs.Refusals.{cause_name}
 
 -- the text of these bytes is there
-abbrev pub HasText : List ℕ → Option (String Global) → Type 0
-HasText bytes (Some text) = IsTextOf bytes (string_bytes text)
-HasText bytes None = ⊥
+abbrev pub HasWords : List ℕ → Option (String Global) → Type 0
+HasWords bytes (Some text) = IsShownAs bytes (string_bytes text)
+HasWords bytes None = ⊥
 
 -- the report is about this entry, for this size, in this file
-pub record IsAbout (entry : Content) (height width : ℕ) (file : List ℕ) (report : Report) : Type 0 where
-  pub name : HasText (first_name entry.names) report.entry
+pub record Concerns (entry : Content) (height width : ℕ) (file : List ℕ) (report : Report) : Type 0 where
+  pub name : HasWords (first_name entry.names) report.entry
   pub rows : report.rows ≡ height
   pub cols : report.cols ≡ width
   pub path : string_bytes report.file ≡ file
@@ -39,7 +39,7 @@ pub record IsFaultless (report : Report) : Type 0 where
 
 -- the entry has a certificate
 pub record ReportsYes (entry : Content) (height width : ℕ) (file : List ℕ) (report : Report) : Type 0 where
-  pub about : IsAbout entry height width file report
+  pub about : Concerns entry height width file report
   pub verdict : report.verdict ≡ verdicts.Yes
   pub cause : report.cause ≡ None
   pub faultless : IsFaultless report
@@ -47,11 +47,11 @@ pub record ReportsYes (entry : Content) (height width : ℕ) (file : List ℕ) (
 -- it has this fault; what is said of the run that shows it is in free words
 pub record ReportsFault (entry : Content) (height width : ℕ) (file : List ℕ) (source : Option SourceText) (refusal : No)
     (report : Report) : Type 0 where
-  pub about : IsAbout entry height width file report
+  pub about : Concerns entry height width file report
   pub verdict : report.verdict ≡ verdicts.No
-  pub capability : HasText (name_at refusal.cap) report.capability
+  pub capability : HasWords (name_at refusal.cap) report.capability
   pub parameters : report.parameters.items ≡ refusal.params.items
-  pub cause : HasText (cause_name refusal.cause) report.cause
+  pub cause : HasWords (cause_name refusal.cause) report.cause
   pub bytes : IsSentText entry refusal report.bytes
   pub line : IsValueLine source refusal.cap report.line
 

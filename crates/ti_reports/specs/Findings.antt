@@ -12,6 +12,6 @@ pub data AreFirst (entry : Content) (rows cols : ℕ) (nos : List No) : Type 0 w
   Faulty : (refusal : No) → IsNo entry rows cols refusal → refusal.cause ≢ NoMemory → nos ≡ refusal ∷ []
       → AreFirst entry rows cols nos
 
-abbrev pub AreFound : Bool → Content → ℕ → ℕ → List No → Type 0
-AreFound true entry rows cols nos = AreAllFaults entry rows cols nos
-AreFound false entry rows cols nos = AreFirst entry rows cols nos
+abbrev pub AreFaults : Bool → Content → ℕ → ℕ → List No → Type 0
+AreFaults true entry rows cols nos = AreAllFaults entry rows cols nos
+AreFaults false entry rows cols nos = AreFirst entry rows cols nos

@@ -16,7 +16,7 @@ IsNamed name (Some row) = name_of row ≡ name
 IsNamed name None = (row : Row) → name_of row ≢ name
 
 -- the row of the no's capability with its parameters, if it is about a row
-pub record IsRowOf (refusal : No) (row : Option Row) : Type 0 where
+pub record IsRowFor (refusal : No) (row : Option Row) : Type 0 where
   pub first : Option Row
   pub named : IsNamed (name_at refusal.cap) first
   pub given : row ≡ option_and_then (λ it. with_params it refusal.params.items) first
@@ -27,13 +27,13 @@ IsSentBy string row (Some text) = (bytes : List ℕ) × Sends string row bytes �
 IsSentBy string row None = (bytes : List ℕ) → Sends string row bytes → ⊥
 
 -- without a row, or without a string, nothing is sent
-abbrev pub IsSent : Option Row → Option (List ℕ) → Option (String Global) → Type 0
-IsSent None string text = text ≡ None
-IsSent (Some row) None text = text ≡ None
-IsSent (Some row) (Some string) text = IsSentBy string row text
+abbrev pub IsSentFor : Option Row → Option (List ℕ) → Option (String Global) → Type 0
+IsSentFor None string text = text ≡ None
+IsSentFor (Some row) None text = text ≡ None
+IsSentFor (Some row) (Some string) text = IsSentBy string row text
 
 -- what the entry's string for the no's row sends
 pub record IsSentText (entry : Content) (refusal : No) (text : Option (String Global)) : Type 0 where
   pub row : Option Row
-  pub of : IsRowOf refusal row
-  pub sent : IsSent row (string_at entry refusal.cap) text
+  pub of : IsRowFor refusal row
+  pub sent : IsSentFor row (string_at entry refusal.cap) text

@@ -13,8 +13,8 @@ use Rattle.ti_commands.specs.declared.failure.Failure.TheVariants.{Refused}
 use Rattle.ti_commands.specs.declared.failure.Reply.{Reply}
 use Rattle.ti_compiled.specs.Contents.{read_of}
 use Rattle.ti_compiled.specs.declared.types.PackFault.{PackFault}
-use Rattle.ti_reports.specs.Faults.{AreFoundLines, HasText, IsFaultless, IsReportLine}
-use Rattle.ti_reports.specs.Findings.{AreFound}
+use Rattle.ti_reports.specs.Faults.{AreFoundLines, HasWords, IsFaultless, IsReportLine}
+use Rattle.ti_reports.specs.Findings.{AreFaults}
 use Rattle.ti_reports.specs.declared.reports.Report.{Report}
 use Rattle.ti_reports.specs.declared.reports.Verdict.TheVariants as verdicts
 use Rattle.ti_requests.specs.declared.request.SurveyWords.{SurveyWords}
@@ -28,7 +28,7 @@ use Rattle.ti_verdicts.specs.Surveys.{EndsPaths}
 
 -- the text of these bytes, if there are any
 abbrev pub IsTextIf : Option (List ℕ) → Option (String Global) → Type 0
-IsTextIf (Some bytes) text = HasText bytes text
+IsTextIf (Some bytes) text = HasWords bytes text
 IsTextIf None text = text ≡ None
 
 -- nothing is had under this name, or of the whole file; the cause is in free words
@@ -41,24 +41,24 @@ pub record ReportsRefused (height width : ℕ) (path : List ℕ) (name : Option 
   pub cause : IsSome report.cause
   pub faultless : IsFaultless report
 
-abbrev pub IsRefusedLine : ℕ → ℕ → List ℕ → Option (List ℕ) → List ℕ → Type 0
-IsRefusedLine height width path name line = IsReportLine (ReportsRefused height width path name) line
+abbrev pub IsRefusedReport : ℕ → ℕ → List ℕ → Option (List ℕ) → List ℕ → Type 0
+IsRefusedReport height width path name line = IsReportLine (ReportsRefused height width path name) line
 
 -- the reports on an entry that is there, without the lines of a source
 pub record AreOfEntry (height width : ℕ) (all : Bool) (path : List ℕ) (entry : Content) (lines : List ℕ) : Type 0 where
   pub nos : List No
-  pub found : AreFound all entry height width nos
+  pub found : AreFaults all entry height width nos
   pub tells : AreFoundLines entry height width path None nos lines
 
 -- or of one that can't be had under its name
 abbrev pub IsReported : ℕ → ℕ → Bool → List ℕ → List ℕ → Result Content CommandRefusal → List ℕ → Type 0
 IsReported height width all path name (Ok entry) lines = AreOfEntry height width all path entry lines
-IsReported height width all path name (Err refusal) lines = IsRefusedLine height width path (Some name) lines
+IsReported height width all path name (Err refusal) lines = IsRefusedReport height width path (Some name) lines
 
 -- ---- the entries of a file
 
 -- the entry at a place of a source text, whatever other entries have its names
-pub record IsSourcePart (height width : ℕ) (all : Bool) (path : List ℕ) (raws : List RawEntry) (place : ℕ) (lines : List ℕ) : Type 0 where
+pub record IsSourceReport (height width : ℕ) (all : Bool) (path : List ℕ) (raws : List RawEntry) (place : ℕ) (lines : List ℕ) : Type 0 where
   pub raw : RawEntry
   pub there : slice_get raws place ≡ Some raw
   pub entry : Result Content CommandRefusal
@@ -66,36 +66,36 @@ pub record IsSourcePart (height width : ℕ) (all : Bool) (path : List ℕ) (raw
   pub told : IsReported height width all path (first_name raw.names) entry lines
 
 -- the entry of a compiled file
-pub record IsPackedPart (height width : ℕ) (all : Bool) (path : List ℕ) (packed : Content) (lines : List ℕ) : Type 0 where
+pub record IsPackedReport (height width : ℕ) (all : Bool) (path : List ℕ) (packed : Content) (lines : List ℕ) : Type 0 where
   pub entry : Result Content CommandRefusal
   pub fits : FitsTo packed entry
   pub told : IsReported height width all path (first_name packed.names) entry lines
 
 -- a compiled file has an entry, or a fault
-pub record HasEntry (height width : ℕ) (all : Bool) (path bytes lines : List ℕ) : Type 0 where
+pub record HasReport (height width : ℕ) (all : Bool) (path bytes lines : List ℕ) : Type 0 where
   pub packed : Content
   pub reads : read_of bytes ≡ Ok packed
-  pub told : IsPackedPart height width all path packed lines
+  pub told : IsPackedReport height width all path packed lines
 
-pub record IsFaultyFile (height width : ℕ) (all : Bool) (path bytes line : List ℕ) : Type 0 where
+pub record IsFaultyReport (height width : ℕ) (all : Bool) (path bytes line : List ℕ) : Type 0 where
   pub fault : PackFault
   pub faulty : read_of bytes ≡ Err fault
-  pub told : IsRefusedLine height width path None line
+  pub told : IsRefusedReport height width path None line
 
 -- a source text has entries, or a fault
-pub record HasEntries (height width : ℕ) (all : Bool) (path bytes lines : List ℕ) : Type 0 where
+pub record HasReports (height width : ℕ) (all : Bool) (path bytes lines : List ℕ) : Type 0 where
   pub raws : List RawEntry
   pub reads : source_of bytes ≡ Ok raws
-  pub each : HasParts (IsSourcePart height width all path raws) (range_with_len 0 (length raws)) lines
+  pub each : HasParts (IsSourceReport height width all path raws) (range_with_len 0 (length raws)) lines
 
-pub record LacksEntries (height width : ℕ) (all : Bool) (path bytes line : List ℕ) : Type 0 where
+pub record LacksReports (height width : ℕ) (all : Bool) (path bytes line : List ℕ) : Type 0 where
   pub refusal : CommandRefusal
   pub faulty : IsSourceFailure bytes (Refused refusal)
-  pub told : IsRefusedLine height width path None line
+  pub told : IsRefusedReport height width path None line
 
 abbrev pub AreReportsBy : Bool → ℕ → ℕ → Bool → List ℕ → List ℕ → List ℕ → Type 0
-AreReportsBy true height width all path bytes lines = HasEntry height width all path bytes lines ⊎ IsFaultyFile height width all path bytes lines
-AreReportsBy false height width all path bytes lines = HasEntries height width all path bytes lines ⊎ LacksEntries height width all path bytes lines
+AreReportsBy true height width all path bytes lines = HasReport height width all path bytes lines ⊎ IsFaultyReport height width all path bytes lines
+AreReportsBy false height width all path bytes lines = HasReports height width all path bytes lines ⊎ LacksReports height width all path bytes lines
 
 -- the lines of a file: its first bytes show whether it is compiled
 abbrev pub AreReports : ℕ → ℕ → Bool → List ℕ → List ℕ → List ℕ → Type 0
@@ -108,7 +108,7 @@ AreAlone height width all path bytes lines beside = AreReports height width all 
 -- ---- the reply
 
 -- the lines of each path; it fails where a path can't be had
-pub record IsSurveyed (held : Held) (words : SurveyWords) (reply : Reply) : Type 0 where
+pub record AreSurveyed (held : Held) (words : SurveyWords) (reply : Reply) : Type 0 where
   pub height : ℕ
   pub width : ℕ
   pub given : SizeGiven words.rows.now words.cols.now height width

@@ -61,7 +61,7 @@ fn packed_lines(
     path: &str,
     packed: &Packed<'_>,
 ) -> Result<Vec<u8>, AllocError>
-    ensures { IfOk result (λ lines. spec.IsPackedPart asked.size.rows asked.size.cols asked.lists_all
+    ensures { IfOk result (λ lines. spec.IsPackedReport asked.size.rows asked.size.cols asked.lists_all
         path.now packed.now lines.items) }
 {
     let entry = unpacked_entry(alloc, packed)?;
@@ -101,7 +101,7 @@ fn source_lines<W: Watcher>(
     watcher: &mut W,
 ) -> Result<Vec<u8>, AllocError>
     requires { AllByRecursion IsRaw raws.now }
-    ensures { IfOk result (λ lines. HasParts (spec.IsSourcePart asked.size.rows asked.size.cols asked.lists_all
+    ensures { IfOk result (λ lines. HasParts (spec.IsSourceReport asked.size.rows asked.size.cols asked.lists_all
         path.now raws.now)
         (range_with_len 0 (length raws.now)) lines.items) }
 {
@@ -125,7 +125,7 @@ fn source_part(
 ) -> Result<Vec<u8>, AllocError>
     requires read { AllByRecursion IsRaw raws.now }
     requires there { place < length raws.now }
-    ensures { IfOk result (λ lines. spec.IsSourcePart asked.size.rows asked.size.cols asked.lists_all
+    ensures { IfOk result (λ lines. spec.IsSourceReport asked.size.rows asked.size.cols asked.lists_all
         path.now raws.now place lines.items) }
 {
     let raw = raw_at(raws, place);

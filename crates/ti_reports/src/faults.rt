@@ -3,7 +3,7 @@
 ghost use Rattle.std.specs.Prelude.{IfOk, string_bytes};
 ghost use Rattle.ti_caps.specs.Table.{name_at};
 ghost use Rattle.ti_reports.specs.Faults as spec;
-ghost use Rattle.ti_reports.specs.Texts.{IsTextOf};
+ghost use Rattle.ti_reports.specs.Texts.{IsShownAs};
 ghost use Rattle.ti_verdicts.specs.Lines.{HasParts};
 ghost use Rattle.ti_verdicts.specs.Locations.{first_name};
 ghost use Rattle.ti_verdicts.specs.Refusals.{cause_name};
@@ -122,21 +122,21 @@ fn fault_report(alloc: Global, subject: &Subject<'_>, no: &No) -> Result<Report,
 
 /// The first name of `entry`.
 fn name_text(alloc: Global, entry: &Entry) -> Result<String, AllocError>
-    ensures { IfOk result (λ text. IsTextOf (first_name entry.now.names) (string_bytes text)) }
+    ensures { IfOk result (λ text. IsShownAs (first_name entry.now.names) (string_bytes text)) }
 {
     text_of(alloc, first_name(entry.names()))
 }
 
 /// The name of `cap`.
 fn cap_text(alloc: Global, cap: Cap) -> Result<String, AllocError>
-    ensures { IfOk result (λ text. IsTextOf (name_at cap) (string_bytes text)) }
+    ensures { IfOk result (λ text. IsShownAs (name_at cap) (string_bytes text)) }
 {
     text_of(alloc, name(cap))
 }
 
 /// The name of `cause`.
 fn cause_text(alloc: Global, cause: Cause) -> Result<String, AllocError>
-    ensures { IfOk result (λ text. IsTextOf (cause_name cause) (string_bytes text)) }
+    ensures { IfOk result (λ text. IsShownAs (cause_name cause) (string_bytes text)) }
 {
     text_of(alloc, cause_name(cause))
 }

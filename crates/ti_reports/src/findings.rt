@@ -16,7 +16,7 @@ pub fn found_faults(
     size: Size,
     lists_all: bool,
 ) -> Result<Vec<No>, AllocError>
-    ensures { IfOk result (λ nos. spec.AreFound lists_all entry.now size.rows size.cols nos.items) }
+    ensures { IfOk result (λ nos. spec.AreFaults lists_all entry.now size.rows size.cols nos.items) }
 {
     if lists_all {
         faults(alloc, entry, size)

@@ -17,7 +17,7 @@ pub fn refused_line(
     name: Option<&[u8]>,
     why: &[u8],
 ) -> Result<Vec<u8>, AllocError>
-    ensures { IfOk result (λ line. spec.IsRefusedLine asked.size.rows asked.size.cols
+    ensures { IfOk result (λ line. spec.IsRefusedReport asked.size.rows asked.size.cols
         path.now (option_map (λ n. n.now) name.entry) line.items) }
 {
     report_line(alloc, &refused_report(alloc, asked, path, name, why)?)

@@ -27,7 +27,7 @@ fn sent_for(
     row: Option<Row>,
     string: Option<&[u8]>,
 ) -> Result<Option<String>, AllocError>
-    ensures { IfOk result (λ text. spec.IsSent row (option_copied string.entry) text) }
+    ensures { IfOk result (λ text. spec.IsSentFor row (option_copied string.entry) text) }
 {
     match row {
         Some(row) => match string {
@@ -52,7 +52,7 @@ fn sent_by(alloc: Global, string: &[u8], row: Row) -> Result<Option<String>, All
 
 /// The row with the capability and the parameters of `no`.
 fn row_of(no: &No) -> Option<Row>
-    ensures { spec.IsRowOf no.now result }
+    ensures { spec.IsRowFor no.now result }
 {
     with_params(first_row(no.cap), no.params.as_slice())
 }

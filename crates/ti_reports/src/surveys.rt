@@ -44,7 +44,7 @@ pub fn survey_reports<F: Files, W: Watcher + Drop>(
     mut watcher: W,
     remarks: &mut Remarks,
 ) -> Result<Reply, Failure>
-    ensures reply { IfOk result (λ reply. spec.IsSurveyed (F.holds files.old) words.now reply) }
+    ensures reply { IfOk result (λ reply. spec.AreSurveyed (F.holds files.old) words.now reply) }
     ensures failure { IfErr result (λ e. LacksSize words.now.rows.now words.now.cols.now e) }
     ensures kept { F.holds files.new ≡ F.holds files.old }
 {

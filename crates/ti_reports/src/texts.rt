@@ -1,13 +1,15 @@
 //! Bytes as the text that a report has of them.
 
 ghost use Rattle.std.specs.Prelude.{◌≡◌, ◌<◌, ◌+◌, ◌++◌, ◌∷◌, [], IfOk, OnOk, string_bytes};
+ghost use Rattle.ti_source.specs.Prints.{octal};
+ghost use Rattle.ti_words.specs.Shown.{shown, shown_byte};
 ghost use Rattle.ti_reports.specs.Texts as spec;
 
 use std::alloc::{AllocError, Global};
 
 /// The text of `bytes`: themselves where they are UTF-8, else as `Remarks` shows them.
 pub fn text_of(alloc: Global, bytes: &[u8]) -> Result<String, AllocError>
-    ensures { IfOk result (λ text. spec.IsTextOf bytes.now (string_bytes text)) }
+    ensures { IfOk result (λ text. spec.IsShownAs bytes.now (string_bytes text)) }
 {
     match str::from_utf8(bytes) {
         Ok(text) => String::from_str(alloc, text),
@@ -17,7 +19,7 @@ pub fn text_of(alloc: Global, bytes: &[u8]) -> Result<String, AllocError>
 
 /// The bytes, each outside 32 to 126 as a backslash and three octal digits.
 fn shown(alloc: Global, bytes: &[u8]) -> Result<String, AllocError>
-    ensures { IfOk result (λ text. string_bytes text ≡ spec.shown bytes.now) }
+    ensures { IfOk result (λ text. string_bytes text ≡ shown bytes.now) }
 {
     let mut text = String::new(alloc);
     for byte in bytes {
@@ -28,7 +30,7 @@ fn shown(alloc: Global, bytes: &[u8]) -> Result<String, AllocError>
 
 /// Appends `byte` to `text`, as it is shown.
 fn push_shown(byte: u8, text: &mut String) -> Result<(), AllocError>
-    ensures { OnOk result (string_bytes text.new ≡ string_bytes text.old ++ spec.shown_byte byte) }
+    ensures { OnOk result (string_bytes text.new ≡ string_bytes text.old ++ shown_byte byte) }
 {
     match byte {
         32..=126 => text.push(char::from(byte)),
@@ -38,7 +40,7 @@ fn push_shown(byte: u8, text: &mut String) -> Result<(), AllocError>
 
 /// Appends the escape of `byte` to `text`.
 fn push_octal(byte: u8, text: &mut String) -> Result<(), AllocError>
-    ensures { OnOk result (string_bytes text.new ≡ string_bytes text.old ++ spec.octal byte) }
+    ensures { OnOk result (string_bytes text.new ≡ string_bytes text.old ++ octal byte) }
 {
     text.push('\\')?;
     push_digit(byte / 64, text)?;

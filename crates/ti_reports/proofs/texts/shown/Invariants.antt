@@ -1,5 +1,5 @@
 use Rattle.std.proofs.Common.{◌≡◌, string_bytes, take, flat_map}
-use Rattle.ti_reports.specs.Texts.{shown_byte}
+use Rattle.ti_words.specs.Shown.{shown_byte}
 use Rattle.ti_reports.proofs.texts.shown.Given as goal
 
 -- the bytes before this one are shown
