@@ -41,6 +41,10 @@ several_rule id =
 abbrev pub with_size_rules : App → App
 with_size_rules a = with_rule (with_rule a (positional_rule (codes "ROWS"))) (positional_rule (codes "COLS"))
 
+-- all faults, and JSON
+abbrev pub with_report_rules : App → App
+with_report_rules a = with_rule (with_rule a (long_switch_rule (codes "all"))) (long_switch_rule (codes "json"))
+
 abbrev pub expand_rules : App
 expand_rules =
     with_rule (with_size_rules (with_rule (with_rule (new_app (codes "expand")) (long_switch_rule (codes "cup")))
@@ -59,8 +63,8 @@ infocmp_rules =
 
 abbrev pub check_rules : App
 check_rules =
-    with_size_rules (with_rule (with_rule (with_rule (with_rule (new_app (codes "check"))
-    (long_switch_rule (codes "all"))) (long_switch_rule (codes "json"))) out_rule) (positional_rule (codes "ENTRY")))
+    with_size_rules
+    (with_rule (with_rule (with_report_rules (new_app (codes "check"))) out_rule) (positional_rule (codes "ENTRY")))
 
 abbrev pub verify_rules : App
 verify_rules =
@@ -80,9 +84,7 @@ abbrev pub show_rules : App
 show_rules = with_script_rules (new_app (codes "show"))
 
 abbrev pub survey_rules : App
-survey_rules =
-    with_rule (with_size_rules (with_rule (with_rule (new_app (codes "survey")) (long_switch_rule (codes "all")))
-    (long_switch_rule (codes "json")))) (several_rule (codes "FILE"))
+survey_rules = with_rule (with_size_rules (with_report_rules (new_app (codes "survey")))) (several_rule (codes "FILE"))
 
 -- the program by itself: its own name is not among the words, and a command has to follow
 abbrev pub program : App

@@ -3,7 +3,7 @@
 ghost use Rattle.std.specs.Prelude.{◌≡◌, Some, IfOk, codes, false};
 ghost use Rattle.clap.specs.Words.{app_of, rule_of, with_subcommand};
 ghost use Rattle.clap.specs.declared.builder.command.Command.TheViews.{out-Command};
-ghost use Rattle.ti_arguments.specs.Line.{check_rules, expand_rules, feed_rules, infocmp_rules, line, long_switch_rule, out_rule, params_rule, play_rules, positional_rule, program, several_rule, show_rules, survey_rules, switch_rule, tic_rules, verify_rules, with_plays, with_script_rules, with_size_rules, with_verdicts};
+ghost use Rattle.ti_arguments.specs.Line.{check_rules, expand_rules, feed_rules, infocmp_rules, line, long_switch_rule, out_rule, params_rule, play_rules, positional_rule, program, several_rule, show_rules, survey_rules, switch_rule, tic_rules, verify_rules, with_plays, with_script_rules, with_report_rules, with_size_rules, with_verdicts};
 
 use crate::help;
 use clap::{Arg, ArgAction, Command};
@@ -109,6 +109,22 @@ fn with_size<'a>(alloc: Global, command: Command<'a>) -> Result<Command<'a>, All
         .arg(positional(alloc, "COLS", "The terminal's columns, 2 to 500"))
 }
 
+/// `command` with the switches for all faults and for JSON, and their help.
+fn with_reports<'a>(
+    alloc: Global,
+    command: Command<'a>,
+    all: &'a str,
+    json: &'a str,
+) -> Result<Command<'a>, AllocError>
+    requires { (out-Command command).has_globals ≡ false }
+    ensures shape { IfOk result (λ c. app_of c ≡ with_report_rules (app_of command.entry)) }
+    ensures local { IfOk result (λ c. (out-Command c).has_globals ≡ false) }
+{
+    command
+        .arg(long_switch(alloc, "all", all))?
+        .arg(long_switch(alloc, "json", json))
+}
+
 fn feed_command<'a>(alloc: Global) -> Result<Command<'a>, AllocError>
     ensures shape { IfOk result (λ c. app_of c ≡ feed_rules) }
     ensures local { IfOk result (λ c. (out-Command c).has_globals ≡ false) }
@@ -162,17 +178,10 @@ fn check_command<'a>(alloc: Global) -> Result<Command<'a>, AllocError>
 {
     let command = Command::new(alloc, "check")
         .about(help::CHECK)
-        .after_help(help::CHECK_MORE)
-        .arg(long_switch(
-            alloc,
-            "all",
-            "List all faults of the entry, and write no certificate",
-        ))?
-        .arg(long_switch(
-            alloc,
-            "json",
-            "Report in JSON, an object a line, and write no certificate",
-        ))?
+        .after_help(help::CHECK_MORE);
+    let all = "List all faults of the entry, and write no certificate";
+    let json = "Report in JSON, an object a line, and write no certificate";
+    let command = with_reports(alloc, command, all, json)?
         .arg(out_option(alloc, "Write the certificate to this file"))?
         .arg(entry(alloc))?;
     with_size(alloc, command)
@@ -231,13 +240,10 @@ fn survey_command<'a>(alloc: Global) -> Result<Command<'a>, AllocError>
 {
     let command = Command::new(alloc, "survey")
         .about(help::SURVEY)
-        .after_help(help::SURVEY_MORE)
-        .arg(long_switch(
-            alloc,
-            "all",
-            "List all faults of each entry, a line for each",
-        ))?
-        .arg(long_switch(alloc, "json", "Report in JSON, an object a line"))?;
+        .after_help(help::SURVEY_MORE);
+    let all = "List all faults of each entry, a line for each";
+    let json = "Report in JSON, an object a line";
+    let command = with_reports(alloc, command, all, json)?;
     with_size(alloc, command)?.arg(several(
         alloc,
         "FILE",
