@@ -1,7 +1,7 @@
 use Rattle.std.proofs.Common.{◌++◌, ◌∙◌, ℕ, List, ap}
 use Rattle.ti_reports.specs.Surveys.{IsSourceReport}
 use Rattle.ti_verdicts.specs.Lines.{HasParts}
-use Rattle.ti_verdicts.proofs.Parts.{parts_step}
+use Rattle.ti_reports.proofs.Ranges.{parts_step}
 use Rattle.ti_reports.proofs.entries.source_lines.Goals as goal
 
 pub loop-place-init : goal.loop-place-init
