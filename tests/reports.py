@@ -130,7 +130,7 @@ def judge_survey(path, held):
     """`survey --json` and `survey --all --json` beside the plain forms."""
     forms = [[], ["--json"], ["--all"], ["--all", "--json"]]
     told = run_cases(PROGRAM, [Case(["survey", *form, *SIZE, path]) for form in forms], {path: held})
-    for plain, reported in zip(told[::2], told[1::2]):
+    for form, plain, reported in zip(forms[::2], told[::2], told[1::2]):
         ones = objects(reported)
         *lines, counts = plain.out.decode("latin-1").splitlines()
         wanted = [f"{it['entry']} {said(it)}" for it in ones]
@@ -138,7 +138,9 @@ def judge_survey(path, held):
             fail(f"survey --json reported {wanted}, and survey printed {lines}")
         if counts.split(",")[0] != f"total {len(ones)}":
             fail(f"survey --json reported {len(ones)} objects, and survey counted {counts}")
-        if (plain.status, plain.err) != (reported.status, reported.err):
+        # only with --all the plain form says on standard error where each fault stands
+        places = plain.err if form else b""
+        if (plain.status, plain.err) != (reported.status, reported.err + places):
             fail(f"survey --json ended with {reported.status} {reported.err} and survey with {plain.status} {plain.err}")
         if any(it["file"] != path for it in ones):
             fail(f"not the file {path}: {ones}")
