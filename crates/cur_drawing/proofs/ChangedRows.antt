@@ -6,12 +6,12 @@ use Rattle.std.proofs.lemmas.List.{get_or_default}
 use Rattle.grids.specs.declared.areas.Area.{Area}
 use Rattle.grids.specs.declared.areas.Place.{Place}
 use Rattle.grids.specs.Grids as base
-use Rattle.grids.proofs.Drawings.{drawn_same, drawn_kept}
+use Rattle.grids.proofs.Drawings.{cell_at-drawn_in, drawn_same, drawn_kept}
 use Rattle.cur_drawing.specs.declared.spans.Span.{Span}
 use Rattle.cur_drawing.specs.Cells.{Content, space}
 use Rattle.cur_drawing.specs.Grids.{Grid, Fits, cell_at, copied, drawn_in, is_in, line_at, moved_to, row_of, taken}
 use Rattle.cur_drawing.specs.Calls.{place}
-use Rattle.cur_drawing.specs.Differences.{AreEqualAt, AreEqualIn}
+use Rattle.cur_drawing.specs.Differences.{AreEqualAt, AreEqualIn, DifferAt, HasChanges}
 
 -- these places of the row k
 abbrev part_of : Area → ℕ → Span → Area
@@ -35,6 +35,9 @@ after_left a k i j h = grind (arith, nat_tests)
 
 before_right : (a : Area) (k i j : ℕ) → is_in (row_of a k) i j ≡ true → j < a.left + a.cols
 before_right a k i j h = grind (arith, nat_tests)
+
+in_this_row : (a : Area) (k x : ℕ) → x < a.cols → is_in (row_of a k) (a.top + k) (a.left + x) ≡ true
+in_this_row a k x lt = grind (arith, nat_tests)
 
 part_in_row : (a : Area) (k i j : ℕ) (s : Span) → s.at + s.size ≤ a.cols → is_in (part_of a k s) i j ≡ true → is_in (row_of a k) i j ≡ true
 part_in_row a k i j s le h = grind (arith, nat_tests)
@@ -105,6 +108,18 @@ row_equal a from k source g lt fits there equal =
     (λ i j d. kept (is_in (row_of a k) i j) (taken a from source i j (base.cell_at d g i j)) (base.cell_at d g i j)
     (rest_equal a from k i j nothing source g d lt fits there equal (no_part a k i j)))
 
+-- a cell of a row that was copied
+cell_copied : (a : Area) (from : Place) (k x : ℕ) (source g h : Grid) → k < a.rows → x < a.cols → Fits a g → Fits (moved_to a from) source → h ≡ drawn_in (row_of a k) (taken a from source) g →
+    cell_at h (a.top + k) (a.left + x) ≡ cell_at source (from.row + k) (from.col + x)
+cell_copied a from k x source g h lt near fits there e =
+    let row : from.row + (a.top + k - a.top) ≡ from.row + k = omega arith in
+    let col : from.col + (a.left + x - a.left) ≡ from.col + x = omega arith in
+    let old : Content = cell_at g (a.top + k) (a.left + x) in
+    ap (λ (y : Grid). cell_at y (a.top + k) (a.left + x)) e
+    ∙ cell_at-drawn_in (row_of a k) (taken a from source) space g (a.top + k) (a.left + x) (in_this_row a k x near) (omega (arith, near, fits.cols (a.top + k) (omega (arith, fits.rows))))
+    ∙ ap (λ (n : ℕ). base.cell_at old source n (from.col + (a.left + x - a.left))) row ∙ ap (λ (n : ℕ). base.cell_at old source (from.row + k) n) col
+    ∙ get_or_default (line_at source (from.row + k)) (from.col + x) old space (omega (arith, near, there.cols (from.row + k) (omega (arith, there.rows))))
+
 -- ---- from the parts of two lines that were compared
 abbrev pub IsPart : List Content → ℕ → ℕ → List Content → Type 0
 IsPart part left cols line = (j : ℕ) → j < cols → get_or part j space ≡ get_or line (left + j) space
@@ -114,3 +129,19 @@ pub equal_beside : (a : Area) (from : Place) (k : ℕ) (s : Span) (source g : Gr
 equal_beside a from k s source g old new line line2 e e2 is is2 long before after x lt side =
     let same : AreEqualAt old new x = elim side [ inl low ↦ before x (omega arith) low | inr high ↦ after x high (omega (arith, long)) ] in
     sym (ap (λ (l : List Content). get_or l (a.left + x) space) e) ∙ sym (is x lt) ∙ same ∙ is2 x lt ∙ ap (λ (l : List Content). get_or l (from.col + x) space) e2
+
+-- where the parts differ, the row is changed
+pub changed_there : (a : Area) (from : Place) (k x : ℕ) (source g h : Grid) (old new line line2 : List Content) → k < a.rows → Fits a g → Fits (moved_to a from) source → h ≡ drawn_in (row_of a k) (taken a from source) g →
+    line ≡ line_at g (a.top + k) → line2 ≡ line_at source (from.row + k) → IsPart old a.left a.cols line → IsPart new from.col a.cols line2 → length old ≡ a.cols → DifferAt old new x →
+    cell_at g (a.top + k) (a.left + x) ≡ cell_at h (a.top + k) (a.left + x) → ⊥
+changed_there a from k x source g h old new line line2 lt fits there value e e2 is is2 long differ same =
+    let near : x < a.cols = omega (arith, differ.within, long) in
+    differ.apart (is x near ∙ ap (λ (l : List Content). get_or l (a.left + x) space) e ∙ same ∙ cell_copied a from k x source g h lt near fits there value
+    ∙ sym (ap (λ (l : List Content). get_or l (from.col + x) space) e2) ∙ sym (is2 x near))
+
+-- from the first place in which two lists differ to the last one there is a place
+pub some_changed : (a b : List Content) (s : Span) → HasChanges a b s → 0 < s.size
+some_changed a b s changes = elim (cases_lt 0 s.size) [
+  | inl some ↦ some
+  | inr none ↦ absurd (changes.first.apart (changes.after s.at (omega (arith, none)) changes.first.within))
+]

@@ -1,7 +1,9 @@
--- Marks that are joined, and copies of what is marked.
-use Rattle.std.proofs.Common.{◌≡◌, ◌≢◌, ℕ, ◌+◌, ◌<◌, ◌≤◌, ◌⊎◌, Bool, false, List, length, get_or, replicate, refl, sym, ap, ◌∙◌, inl, inr, arith, subst}
-use Rattle.std.proofs.lemmas.Bool.{cases_eq}
+-- Columns that are marked, and copies of what is marked.
+use Rattle.std.proofs.Common.{◌≡◌, ◌≢◌, ℕ, ◌+◌, ◌-◌, ◌<◌, ◌≤◌, ◌⊎◌, false, length, refl, sym, ap, ◌∙◌, inl, inr, arith, subst}
+use Rattle.std.proofs.lemmas.Bool.{cases_eq, cases_lt}
 use Rattle.std.proofs.lemmas.Bool.Decides.{nat_tests}
+use Rattle.std.proofs.lemmas.Grind.{get_or-set_at}
+use Rattle.std.proofs.lemmas.List.{get_or-set_other, length-set}
 use Rattle.grids.specs.declared.areas.Area.{Area}
 use Rattle.grids.specs.declared.areas.Place.{Place}
 use Rattle.grids.proofs.Drawings.{cell_at-drawn_in_off}
@@ -10,12 +12,134 @@ use Rattle.cur_drawing.specs.declared.marks.Marked.{Marked}
 use Rattle.cur_drawing.specs.declared.spans.Span.{Span}
 use Rattle.cur_drawing.specs.Cells.{Content, space}
 use Rattle.cur_drawing.specs.Calls.{place}
-use Rattle.cur_drawing.specs.Grids.{Grid, cell_at, copied, drawn_in, is_in, taken}
-use Rattle.cur_drawing.specs.Marks.{IsSameIn, IsUnmarked, Keeps, Marking}
+use Rattle.cur_drawing.specs.Grids.{Grid, cell_at, copied, drawn_in, is_in, row_of, taken}
+use Rattle.cur_drawing.specs.Marks.{IsSameIn, IsUnmarked, IsUntouched, Keeps, Marking, MarksOnly, marked_at, marked_between, nothing, widened}
 use Rattle.cur_drawing.proofs.ChangedRows.{AreEqualBeside}
 
-abbrev pub unmarked : Marked
-unmarked = record { from = 65535; end = 0 }
+-- ---- columns of a line that are marked as well
+
+abbrev IsOff : Marked → ℕ → Type 0
+IsOff x j = (j < x.from) ⊎ (x.end ≤ j)
+
+off_before : (from end j : ℕ) (x : Marked) → IsOff (widened from end x) j → IsOff x j
+off_before from end j x off = grind (arith, nat_tests)
+
+off_new : (from end j : ℕ) (x : Marked) → IsOff (widened from end x) j → (j < from) ⊎ (end ≤ j)
+off_new from end j x off = grind (arith, nat_tests)
+
+-- columns that aren't one after another are none
+off_all : (x : Marked) → IsOff x x.from → x.end ≤ x.from
+off_all x (inl low) = absurd (omega (arith, low))
+off_all x (inr past) = past
+
+off_joined : (from end j : ℕ) (x : Marked) → (j < x.from) × (j < from) → IsOff (widened from end x) j
+off_joined from end j x low = let one = low.0 in let two = low.1 in grind (arith, nat_tests)
+
+off_joined_after : (from end j : ℕ) (x : Marked) → x.end ≤ j → end ≤ j → IsOff (widened from end x) j
+off_joined_after from end j x one two = grind (arith, nat_tests)
+
+off_alone : (from end j : ℕ) (x : Marked) → x.end ≤ x.from → (j < from) ⊎ (end ≤ j) → IsOff (widened from end x) j
+off_alone from end j x none off = grind (arith, nat_tests)
+
+-- before the new columns, where none was marked
+off_left : (from end j : ℕ) (x : Marked) → ((k : ℕ) → k ≤ j → IsOff x k) → j < from → IsOff (widened from end x) j
+off_left from end j x off lt = elim (cases_lt j x.from) [
+  | inl low ↦ off_joined from end j x (low, lt)
+  | inr past ↦ off_alone from end j x (off_all x (off x.from past)) (inl lt)
+]
+
+-- after them
+off_right : (from end j : ℕ) (x : Marked) → ((k : ℕ) → j ≤ k → IsOff x k) → end ≤ j → IsOff (widened from end x) j
+off_right from end j x off le = elim (cases_lt j x.end) [
+  | inl near ↦ off_alone from end j x (off_all x (off x.from (from_on (off j (omega arith)) near))) (inr le)
+  | inr past ↦ off_joined_after from end j x past le
+]
+  where
+    from_on : IsOff x j → j < x.end → j ≤ x.from
+    from_on (inl low) near = omega (arith, low)
+    from_on (inr past) near = absurd (omega (arith, near, past))
+
+line_marked : (m : Marking) (row from end i : ℕ) → i ≡ row → i < length m.lines → marked_at (marked_between row from end m) i ≡ widened from end (marked_at m i)
+line_marked m row from end i same lt =
+    get_or-set_at m.lines row i (widened from end (marked_at m row)) nothing same (subst (λ (r : ℕ). r < length m.lines) same lt)
+    ∙ ap (λ (r : ℕ). widened from end (marked_at m r)) (sym same)
+
+line_beside : (m : Marking) (row i from end : ℕ) → i ≢ row → marked_at (marked_between row from end m) i ≡ marked_at m i
+line_beside m row i from end apart = get_or-set_other m.lines row i (widened from end (marked_at m row)) nothing apart
+
+as_many : (m : Marking) (row from end : ℕ) → length (marked_between row from end m).lines ≡ length m.lines
+as_many m row from end = length-set m.lines row (widened from end (marked_at m row))
+
+unmarked_before : (m : Marking) (row from end i j : ℕ) → IsUnmarked (marked_between row from end m) i j → IsUnmarked m i j
+unmarked_before m row from end i j u =
+    let within : i < length m.lines = omega (arith, u.line, as_many m row from end) in record {
+      some = u.some;
+      line = within;
+      column = elim (cases_eq i row) [
+        | inl same ↦ off_before from end j (marked_at m i) (subst (λ (x : Marked). IsOff x j) (line_marked m row from end i same within) u.column)
+        | inr apart ↦ subst (λ (x : Marked). IsOff x j) (line_beside m row i from end apart) u.column
+      ];
+    }
+
+unmarked_beside : (m : Marking) (row from end j : ℕ) → IsUnmarked (marked_between row from end m) row j → (j < from) ⊎ (end ≤ j)
+unmarked_beside m row from end j u =
+    let within : row < length m.lines = omega (arith, u.line, as_many m row from end) in
+    off_new from end j (marked_at m row) (subst (λ (x : Marked). IsOff x j) (line_marked m row from end row refl within) u.column)
+
+unmarked_still : (m : Marking) (row from end i j : ℕ) → IsUnmarked m i j → (i ≡ row → IsOff (widened from end (marked_at m i)) j) → IsUnmarked (marked_between row from end m) i j
+unmarked_still m row from end i j u off = record {
+  some = u.some;
+  line = omega (arith, u.line, as_many m row from end);
+  column = elim (cases_eq i row) [
+    | inl same ↦ subst (λ (x : Marked). IsOff x j) (sym (line_marked m row from end i same u.line)) (off same)
+    | inr apart ↦ subst (λ (x : Marked). IsOff x j) (sym (line_beside m row i from end apart)) u.column
+  ];
+}
+
+-- ---- no more is marked than differs
+
+-- the columns from the first one in which a line differs to the last one are marked
+pub marks_only : (m n : Marking) (row from end : ℕ) (g h : Grid) → n ≡ marked_between row from end m → from < end → (cell_at g row from ≡ cell_at h row from → ⊥) → (cell_at g row (end - 1) ≡ cell_at h row (end - 1) → ⊥) → MarksOnly m g n h
+marks_only m n row from end g h e some first last i j side =
+    subst (λ (x : Marking). IsUnmarked x i j) (sym e) (elim side [
+      | inl all ↦ unmarked_still m row from end i j (all j (omega arith)).unmarked (λ is. off_left from end j (marked_at m i) (λ k le. (all k le).unmarked.column) (before all is))
+      | inr all ↦ unmarked_still m row from end i j (all j (omega arith)).unmarked (λ is. off_right from end j (marked_at m i) (λ k le. (all k le).unmarked.column) (after all is))
+    ])
+  where
+    before : ((k : ℕ) → k ≤ j → IsUntouched m g h i k) → i ≡ row → j < from
+    before all is = elim (cases_lt j from) [
+      | inl near ↦ near
+      | inr past ↦ absurd (first (subst (λ (r : ℕ). cell_at g r from ≡ cell_at h r from) is (all from past).same))
+    ]
+
+    after : ((k : ℕ) → j ≤ k → IsUntouched m g h i k) → i ≡ row → end ≤ j
+    after all is = elim (cases_lt j end) [
+      | inl near ↦ absurd (last (subst (λ (r : ℕ). cell_at g r (end - 1) ≡ cell_at h r (end - 1)) is (all (end - 1) (omega (arith, near))).same))
+      | inr past ↦ past
+    ]
+
+pub marks_only_none : (m : Marking) (g : Grid) → MarksOnly m g m g
+marks_only_none m g i j side = elim side [ inl all ↦ (all j (omega arith)).unmarked | inr all ↦ (all j (omega arith)).unmarked ]
+
+-- two steps of which each line is changed by one at most
+pub marks_only_then : (m n o : Marking) (g h x : Grid) → MarksOnly m g n h → MarksOnly n h o x → ((i : ℕ) → ((j : ℕ) → cell_at g i j ≡ cell_at h i j) ⊎ ((j : ℕ) → cell_at h i j ≡ cell_at x i j)) → MarksOnly m g o x
+marks_only_then m n o g h x one two apart i j side =
+    two i j (elim side [
+      | inl all ↦ inl (λ k le. next k (all k le) (one i k (inl (λ l lt. first l (all l (omega (arith, le, lt)))))))
+      | inr all ↦ inr (λ k le. next k (all k le) (one i k (inr (λ l lt. first l (all l (omega (arith, le, lt)))))))
+    ])
+  where
+    first : (k : ℕ) → IsUntouched m g x i k → IsUntouched m g h i k
+    first k u = record {
+      unmarked = u.unmarked;
+      same = elim (apart i) [ inl same ↦ same k | inr same ↦ u.same ∙ sym (same k) ];
+    }
+
+    next : (k : ℕ) → IsUntouched m g x i k → IsUnmarked n i k → IsUntouched n h x i k
+    next k u off = record {
+      unmarked = off;
+      same = elim (apart i) [ inl same ↦ sym (same k) ∙ u.same | inr same ↦ same k ];
+    }
 
 left_of : (a : Area) (i j : ℕ) → j < a.left → is_in a i j ≡ false
 left_of a i j h = grind (arith, nat_tests)
@@ -34,12 +158,12 @@ beside a i j one h = elim (cases_eq i a.top) [
 ]
 
 -- a row that is copied and marked
-pub copied_kept : (a : Area) (from : Place) (source g h : Grid) (m n : Marking) → a.rows ≡ 1 → h ≡ copied a from source g →
-    ((i j : ℕ) → IsUnmarked n i j → IsUnmarked m i j) → ((j : ℕ) → IsUnmarked n a.top j → (j < a.left) ⊎ (a.left + a.cols ≤ j)) → Keeps m g n h
-copied_kept a from source g h m n one e kept marked v same i j u =
-    same i j (kept i j u)
+pub copied_kept : (a : Area) (from : Place) (source g h : Grid) (m n : Marking) → a.rows ≡ 1 → h ≡ copied a from source g → n ≡ marked_between a.top a.left (a.left + a.cols) m → Keeps m g n h
+copied_kept a from source g h m n one e marks v same i j off =
+    let u : IsUnmarked (marked_between a.top a.left (a.left + a.cols) m) i j = subst (λ (x : Marking). IsUnmarked x i j) marks off in
+    same i j (unmarked_before m a.top a.left (a.left + a.cols) i j u)
     ∙ sym (ap (λ (x : Grid). cell_at x i j) e ∙ cell_at-drawn_in_off a (taken a from source) space g i j
-    (beside a i j one (λ (is : i ≡ a.top). marked j (subst (λ (r : ℕ). IsUnmarked n r j) is u))))
+    (beside a i j one (λ (is : i ≡ a.top). unmarked_beside m a.top a.left (a.left + a.cols) j (subst (λ (r : ℕ). IsUnmarked (marked_between a.top a.left (a.left + a.cols) m) r j) is u))))
 
 -- a row of which what isn't marked is the same
 pub equal_beside_marks : (a : Area) (k : ℕ) (s : Span) (source g : Grid) (m : Marking) → a.left ≡ 0 → IsSameIn m (a.top + k) g source →
@@ -55,3 +179,14 @@ below_top a k j = grind (arith, nat_tests)
 pub same_below : (a : Area) (k : ℕ) (f : ℕ → ℕ → Content → Content) (source g h : Grid) (m : Marking) → h ≡ drawn_in (top_rows a k) f g → IsSameIn m (a.top + k) g source → IsSameIn m (a.top + k) h source
 same_below a k f source g h m e same j u =
     ap (λ (x : Grid). cell_at x (a.top + k) j) e ∙ cell_at-drawn_in_off (top_rows a k) f space g (a.top + k) j (below_top a k j) ∙ same j u
+
+off_this_row : (a : Area) (k i j : ℕ) → i ≢ a.top + k → is_in (row_of a k) i j ≡ false
+off_this_row a k i j apart = grind (arith, nat_tests)
+
+-- rows are changed one after the other
+pub row_by_row : (a : Area) (k : ℕ) (f e : ℕ → ℕ → Content → Content) (g h x : Grid) → h ≡ drawn_in (top_rows a k) f g → x ≡ drawn_in (row_of a k) e h → (i : ℕ) →
+    ((j : ℕ) → cell_at g i j ≡ cell_at h i j) ⊎ ((j : ℕ) → cell_at h i j ≡ cell_at x i j)
+row_by_row a k f e g h x rows row i = elim (cases_eq i (a.top + k)) [
+  | inl same ↦ inl (λ j. sym (ap (λ (y : Grid). cell_at y i j) rows ∙ cell_at-drawn_in_off (top_rows a k) f space g i j (subst (λ (r : ℕ). is_in (top_rows a k) r j ≡ false) (sym same) (below_top a k j))))
+  | inr apart ↦ inr (λ j. sym (ap (λ (y : Grid). cell_at y i j) row ∙ cell_at-drawn_in_off (row_of a k) e space h i j (off_this_row a k i j apart)))
+]

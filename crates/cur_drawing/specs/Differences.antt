@@ -1,5 +1,5 @@
 -- Where two lists of cells differ: the least place and the greatest one.
-use Rattle.std.specs.Prelude.{ℕ, ◌+◌, ◌<◌, ◌≤◌, ◌≡◌, List, length, slice_index_or, Option, Some, None}
+use Rattle.std.specs.Prelude.{ℕ, ◌+◌, ◌-◌, ◌<◌, ◌≤◌, ◌≡◌, List, length, slice_index_or, Option, Some, None}
 use Rattle.cur_drawing.specs.Cells.{Content, space}
 use Rattle.cur_drawing.specs.declared.spans.Span.{Span}
 
@@ -23,10 +23,12 @@ abbrev pub IsLast : List Content → List Content → Option ℕ → Type 0
 IsLast a b None = AreEqualIn a b 0 (length a)
 IsLast a b (Some k) = DifferAt a b k × AreEqualIn a b (k + 1) (length a)
 
--- places of these lists outside which they are equal
+-- the places of these lists from the first one in which they differ to the last one
 pub record HasChanges (a b : List Content) (s : Span) : Type 0 where
   pub within : s.at + s.size ≤ length a
   pub before : AreEqualIn a b 0 s.at
+  pub first : DifferAt a b s.at
+  pub last : DifferAt a b (s.at + s.size - 1)
   pub after : AreEqualIn a b (s.at + s.size) (length a)
 
 abbrev pub IsChanged : List Content → List Content → Option Span → Type 0

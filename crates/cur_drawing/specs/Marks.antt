@@ -1,5 +1,5 @@
 -- Marks at the places of a grid that may differ from another one: of each line, the columns from one on and before another.
-use Rattle.std.specs.Prelude.{ℕ, ◌<◌, ◌≤◌, ◌≡◌, ◌⊎◌, Bool, false, List, length, slice_index_or}
+use Rattle.std.specs.Prelude.{ℕ, ◌<◌, ◌≤◌, ◌≡◌, ◌⊎◌, Bool, false, List, length, replicate, slice_index_or, slice_set, nat_lt, min, max, if◌then◌else◌}
 use Rattle.cur_drawing.specs.Grids.{Grid, cell_at}
 use Rattle.cur_drawing.specs.declared.marks.Marked.{Marked}
 
@@ -14,6 +14,18 @@ nothing = record { from = 0; end = 0 }
 
 abbrev pub marked_at : Marking → ℕ → Marked
 marked_at m i = slice_index_or m.lines i nothing
+
+-- no mark in so many lines
+abbrev pub none_marked : ℕ → Marking
+none_marked rows = record { all = false; lines = replicate rows nothing }
+
+-- the columns from one on and before another, those that were marked, and all between them
+abbrev pub widened : ℕ → ℕ → Marked → Marked
+widened from end m = if nat_lt m.from m.end then record { from = min m.from from; end = max m.end end } else record { from = from; end = end }
+
+-- columns of the line i are marked as well
+abbrev pub marked_between : ℕ → ℕ → ℕ → Marking → Marking
+marked_between i from end m = record m { lines = slice_set m.lines i (widened from end (marked_at m i)) }
 
 pub record IsUnmarked (m : Marking) (i j : ℕ) : Type 0 where
   pub some : m.all ≡ false
@@ -32,3 +44,13 @@ AreSame m v w = (i : ℕ) → IsSameIn m i v w
 -- that the other leaves. So what was marked stays marked, and each place in which the two grids differ is marked.
 abbrev pub Keeps : Marking → Grid → Marking → Grid → Type 0
 Keeps m g n h = (v : Grid) → AreSame m v g → AreSame n v h
+
+-- a place that isn't marked, and in which two grids are the same
+pub record IsUntouched (m : Marking) (g h : Grid) (i j : ℕ) : Type 0 where
+  pub unmarked : IsUnmarked m i j
+  pub same : cell_at g i j ≡ cell_at h i j
+
+-- No more is marked afterwards than from the first to the last place of each line that was marked or in which the grids
+-- differ: a place before these, or after them, is unmarked.
+abbrev pub MarksOnly : Marking → Grid → Marking → Grid → Type 0
+MarksOnly m g n h = (i j : ℕ) → ((k : ℕ) → k ≤ j → IsUntouched m g h i k) ⊎ ((k : ℕ) → j ≤ k → IsUntouched m g h i k) → IsUnmarked n i j

@@ -3,7 +3,7 @@ ghost use Rattle.std.specs.Prelude.{◌≡◌, ◌<◌, ◌≤◌, ◌+◌, ◌-
 ghost use Rattle.cur_drawing.specs.Cells.{space};
 ghost use Rattle.cur_drawing.specs.Calls.{place};
 ghost use Rattle.cur_drawing.specs.Grids.{Fits, copied, drawn_in, line_at, moved_to, overlaid, row_of, shape_of, taken};
-ghost use Rattle.cur_drawing.specs.Marks.{AreSame, IsSameIn, Keeps};
+ghost use Rattle.cur_drawing.specs.Marks.{AreSame, IsSameIn, Keeps, MarksOnly};
 ghost use Rattle.cur_drawing.specs.Spans.{ArePlaces};
 
 use crate::cells::Cell;
@@ -64,6 +64,7 @@ pub fn copy_changed(
     ensures value { grid.new ≡ copied area from source.now grid.old }
     ensures shape { shape_of grid.new ≡ shape_of grid.old }
     ensures marked { Keeps marks.old grid.old marks.new grid.new }
+    ensures only { MarksOnly marks.old grid.old marks.new grid.new }
 {
     for k in 0..area.rows {
         copy_changed_row(grid, area, k, source, from, marks);
@@ -86,6 +87,7 @@ fn copy_changed_row(
     ensures value { grid.new ≡ drawn_in (row_of area k) (taken area from source.now) grid.old }
     ensures shape { shape_of grid.new ≡ shape_of grid.old }
     ensures marked { Keeps marks.old grid.old marks.new grid.new }
+    ensures only { MarksOnly marks.old grid.old marks.new grid.new }
 {
     let (row, from_row) = (area.top + k, from.row + k);
     let old = part_of(grid.line(row as usize), area.left, area.cols);

@@ -1,6 +1,6 @@
 //! Marks at the places of a screen that may differ from another one.
-ghost use Rattle.std.specs.Prelude.{ℕ, ◌≡◌, ◌<◌, ◌≤◌, ◌+◌, ◌⊎◌, IfOk, length, slice_index_or, true};
-ghost use Rattle.cur_drawing.specs.Marks.{IsUnmarked, nothing};
+ghost use Rattle.std.specs.Prelude.{ℕ, ◌≡◌, ◌<◌, ◌≤◌, ◌+◌, ◌⊎◌, IfOk, length, true, []};
+ghost use Rattle.cur_drawing.specs.Marks.{IsUnmarked, marked_between, none_marked, widened};
 
 use crate::spans::Span;
 use std::alloc::{AllocError, Global};
@@ -14,10 +14,22 @@ pub struct Marked {
 }
 
 // No column.
-const NONE: Marked = Marked {
-    from: u16::MAX,
-    end: 0,
-};
+const NONE: Marked = Marked { from: 0, end: 0 };
+
+impl Marked {
+    // These columns and those from `from` on and before `end`, with all between them.
+    fn widened(self, from: u16, end: u16) -> Marked
+        ensures { result ≡ widened from end self }
+    {
+        if self.from >= self.end {
+            return Marked { from, end };
+        }
+        Marked {
+            from: self.from.min(from),
+            end: self.end.max(end),
+        }
+    }
+}
 
 /// For each line of a screen, the columns in which it may differ from another screen; or all places may differ.
 #[derive(Drop)]
@@ -37,18 +49,15 @@ impl Model for Marks {
 impl Marks {
     /// Marks for `rows` lines, none of which is marked. An error where a growth was refused.
     pub fn new(alloc: Global, rows: u16) -> Result<Marks, AllocError>
-        ensures { IfOk result (λ m. (i j : ℕ) → i < rows → IsUnmarked m i j) }
+        ensures { IfOk result (λ m. m ≡ none_marked rows) }
     {
-        let mut lines = Vec::with_capacity(alloc, rows as usize)?;
-        for _row in 0..rows {
-            lines.push(NONE)?;
-        }
+        let lines = vec![in alloc; NONE; rows as usize]?;
         Ok(Marks { all: false, lines })
     }
 
     /// Marks at all places, however many there are. Takes no memory.
     pub fn unknown(alloc: Global) -> Marks
-        ensures { result.all ≡ true }
+        ensures { result ≡ record { all = true; lines = [] } }
     {
         Marks {
             all: true,
@@ -58,37 +67,34 @@ impl Marks {
 
     /// Marks all places.
     pub fn mark_all(&mut self)
-        ensures { self.new.all ≡ true }
+        ensures { self.new ≡ record self.old { all = true } }
     {
         self.all = true;
     }
 
-    /// Marks the columns from `from` on and before `end` of the line `row` as well.
+    /// Marks the columns from `from` on and before `end` of the line `row` as well, with all between these and
+    /// those that are marked. A line that isn't among the lines is marked as a whole already.
     pub fn mark(&mut self, row: u16, from: u16, end: u16)
-        ensures kept { (i j : ℕ) → IsUnmarked self.new i j → IsUnmarked self.old i j }
-        ensures marked { (j : ℕ) → IsUnmarked self.new row j → (j < from) ⊎ (end ≤ j) }
+        ensures { self.new ≡ marked_between row from end self.old }
     {
         let row = row as usize;
         if row < self.lines.len() {
-            let line = self.lines[row];
-            self.lines[row] = Marked {
-                from: line.from.min(from),
-                end: line.end.max(end),
-            };
+            self.lines[row] = self.lines[row].widened(from, end);
         }
     }
 
-    /// Takes all marks off.
+    /// Takes all marks off the lines.
     pub fn clear(&mut self)
-        ensures { (i j : ℕ) → i < length self.old.lines → IsUnmarked self.new i j }
+        ensures { self.new ≡ none_marked (length self.old.lines) }
     {
-        clear_lines(&mut self.lines);
+        self.lines.fill(NONE);
         self.all = false;
     }
 
     /// The marked columns of the line `row`, of `cols` columns.
     pub fn columns(&self, row: u16, cols: u16) -> Span
         ensures within { result.at + result.size ≤ cols }
+        ensures marked { (j : ℕ) → result.at ≤ j → j < result.at + result.size → IsUnmarked self.now row j → ⊥ }
         ensures others { (j : ℕ) → j < cols → (j < result.at) ⊎ (result.at + result.size ≤ j)
             → IsUnmarked self.now row j }
     {
@@ -105,15 +111,5 @@ impl Marks {
             at: line.from,
             size: end - line.from,
         }
-    }
-}
-
-// No column of a line is marked any more.
-fn clear_lines(lines: &mut [Marked])
-    ensures long { length lines.new ≡ length lines.old }
-    ensures clear { (i : ℕ) → i < length lines.old → (slice_index_or lines.new i nothing).end ≡ 0 }
-{
-    for row in 0..lines.len() {
-        lines[row] = NONE;
     }
 }

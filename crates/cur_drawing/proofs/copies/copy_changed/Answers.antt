@@ -3,6 +3,7 @@ use Rattle.cur_drawing.specs.Cells.{Content}
 use Rattle.cur_drawing.specs.Grids.{row_of, drawn_in, taken}
 use Rattle.grids.proofs.Drawings.{drawn_in_none, drawn_join, fits_same}
 use Rattle.grids.proofs.Rectangles.{top_rows, no_rows, next_row, row_apart}
+use Rattle.cur_drawing.proofs.MarkFacts.{marks_only_none, marks_only_then, row_by_row}
 use Rattle.cur_drawing.proofs.copies.copy_changed.Goals as goal
 
 pub loop-k-init : goal.loop-k-init
@@ -10,6 +11,7 @@ loop-k-init c = record {
   value = drawn_in_none (top_rows c.args.area 0) (taken c.args.area c.args.from c.args.source.now) c.args.grid.now (no_rows c.args.area);
   shape = refl;
   marked = λ v same. same;
+  only = marks_only_none c.args.marks.now c.args.grid.now;
 }
 
 pub copy_changed_row-requires-clause-target : goal.copy_changed_row-requires-clause-target
@@ -23,4 +25,6 @@ loop-k-preserved c =
           ∙ drawn_join (top_rows a k) (row_of a k) (top_rows a (k + 1)) f f c.args.grid.now (next_row a k) (row_apart a k) (λ i j d h. refl);
       shape = c.copy_changed_row.ensures.shape ∙ c.loop-k.invariant.shape;
       marked = λ v same. c.copy_changed_row.ensures.marked v (c.loop-k.invariant.marked v same);
+      only = marks_only_then c.args.marks.now c.loop-k.marks c.copy_changed_row.new.marks c.args.grid.now c.loop-k.grid c.copy_changed_row.new.grid c.loop-k.invariant.only c.copy_changed_row.ensures.only
+          (row_by_row a k f f c.args.grid.now c.loop-k.grid c.copy_changed_row.new.grid c.loop-k.invariant.value c.copy_changed_row.ensures.value);
     }

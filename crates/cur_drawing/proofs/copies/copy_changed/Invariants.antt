@@ -1,7 +1,7 @@
--- The rows that were gone through are copied, and where they differed they are marked.
+-- The rows that were gone through are copied, and from the first to the last place of each that differed marked.
 use Rattle.std.proofs.Common.{◌≡◌}
 use Rattle.cur_drawing.specs.Grids.{drawn_in, taken, shape_of}
-use Rattle.cur_drawing.specs.Marks.{Keeps}
+use Rattle.cur_drawing.specs.Marks.{Keeps, MarksOnly}
 use Rattle.grids.proofs.Rectangles.{top_rows}
 use Rattle.cur_drawing.proofs.copies.copy_changed.Given as goal
 
@@ -10,4 +10,5 @@ invariant-loop-k l = record {
   value : l.grid ≡ drawn_in (top_rows l.area l.k) (taken l.area l.from l.source) l.fn.grid;
   shape : shape_of l.grid ≡ shape_of l.fn.grid;
   marked : Keeps l.fn.marks l.fn.grid l.marks l.grid;
+  only : MarksOnly l.fn.marks l.fn.grid l.marks l.grid;
 }

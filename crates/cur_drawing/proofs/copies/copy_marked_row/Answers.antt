@@ -1,4 +1,4 @@
-use Rattle.std.proofs.Common.{◌∙◌, arith}
+use Rattle.std.proofs.Common.{◌∙◌}
 use Rattle.cur_drawing.specs.Calls.{place}
 use Rattle.cur_drawing.proofs.ChangedRows.{row_copied}
 use Rattle.cur_drawing.proofs.MarkFacts.{equal_beside_marks}
