@@ -1,7 +1,7 @@
 //! Copying a window to the virtual screen.
 ghost use Rattle.std.specs.Prelude.{◌≡◌, ◌<◌, ◌≤◌, ◌+◌, IfSome, Some, None, if◌then◌else◌, false};
 ghost use Rattle.cur_drawing.specs.Calls.{IsCanvas, place};
-ghost use Rattle.cur_drawing.specs.Marks.{Keeps};
+ghost use Rattle.cur_drawing.specs.Marks.{Keeps, MarksOnly};
 ghost use Rattle.cur_drawing.specs.Windows.{IsWindow};
 ghost use Rattle.cur_windows.specs.Desks as spec;
 ghost use Rattle.cur_windows.specs.Creations as make;
@@ -26,7 +26,8 @@ impl Desk {
         self.noutrefresh_marked(id, screen, &mut marks)
     }
 
-    /// As `noutrefresh`; where the screen's cells have changed they are marked as well.
+    /// As `noutrefresh`; where the screen's cells have changed they are marked as well, and of each line no more than from
+    /// the first to the last of these places and of those that are marked.
     pub fn noutrefresh_marked(
         &mut self,
         id: usize,
@@ -37,6 +38,7 @@ impl Desk {
         requires cols { (screen.old).cols ≡ (self.old).cols }
         ensures step { refresh self.new screen.new result ≡ noutrefresh self.old screen.old id }
         ensures marked { Keeps marks.old (screen.old).grid marks.new (screen.new).grid }
+        ensures only { MarksOnly marks.old (screen.old).grid marks.new (screen.new).grid }
     {
         let mut slot = self.find(id)?;
         self.check_window(&slot)?;

@@ -2,7 +2,7 @@
 ghost use Rattle.std.specs.Prelude.{ℕ, length, slice_index_or, ◌≡◌, ◌<◌, ◌≤◌, ◌+◌, IfOk, IfSome, replicate};
 ghost use Rattle.cur_drawing.specs.Cells.{IsCell, space};
 ghost use Rattle.cur_drawing.specs.Grids.{Fits, line_at, moved_to};
-ghost use Rattle.cur_drawing.specs.Marks.{AreSame, Keeps};
+ghost use Rattle.cur_drawing.specs.Marks.{AreSame, Keeps, MarksOnly};
 ghost use Rattle.cur_drawing.specs.Spans.{ArePlaces};
 ghost use Rattle.cur_windows.specs.VirtualScreen as spec;
 
@@ -219,6 +219,7 @@ impl Virtual {
         requires cursor { IfSome copy.cursor (λ p. (p.row < (self.old).rows) × (p.col < (self.old).cols)) }
         ensures value { self.new ≡ spec.shown copy.area grid.now copy.from copy.cursor copy.clears self.old }
         ensures marked { Keeps marks.old (self.old).grid marks.new (self.new).grid }
+        ensures only { MarksOnly marks.old (self.old).grid marks.new (self.new).grid }
     {
         copy_changed(&mut self.grid, copy.area, grid, copy.from, marks);
         let kept = self.owners.take(copy, self.cols, self.scrolled);

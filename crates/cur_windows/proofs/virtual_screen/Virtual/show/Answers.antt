@@ -1,5 +1,12 @@
+use Rattle.std.proofs.Common.{subst}
+use Rattle.cur_drawing.specs.Marks.{MarksOnly}
+use Rattle.cur_windows.specs.VirtualScreen.{Screen}
 use Rattle.cur_windows.proofs.Displays.{screen_kept}
 use Rattle.cur_windows.proofs.virtual_screen.Virtual.show.Goals as goal
 
 pub invariant_of-self : goal.invariant_of-self
 invariant_of-self c = screen_kept _ _ _ _ _ c.self.view_is c.self.invariant c.copy_changed.ensures.shape c.requires.cursor
+
+pub returns-clause-only : goal.returns-clause-only
+returns-clause-only c =
+    subst (λ (s : Screen). MarksOnly c.args.marks.now s.grid c.copy_changed.new.marks c.copy_changed.new.grid) c.self.view_is c.copy_changed.ensures.only
