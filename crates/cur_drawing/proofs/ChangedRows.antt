@@ -145,3 +145,31 @@ some_changed a b s changes = elim (cases_lt 0 s.size) [
   | inl some ↦ some
   | inr none ↦ absurd (changes.first.apart (changes.after s.at (omega (arith, none)) changes.first.within))
 ]
+
+-- ---- a rectangle of one line
+pub first_line : (line : List Content) (g : Grid) (i : ℕ) → line ≡ line_at g i → line ≡ line_at g (i + 0)
+first_line line g i e = let none : i ≡ i + 0 = omega arith in e ∙ ap (λ (n : ℕ). line_at g n) none
+
+first_row : (a : Area) → a.rows ≡ 1 → row_of a 0 ≡ a
+first_row a one = let top : a.top + 0 ≡ a.top = omega arith in λ k. record { top = top k; left = a.left; rows = sym one k; cols = a.cols }
+
+first_part : (a : Area) (s : Span) → part_of a 0 s ≡ record { top = a.top; left = a.left + s.at; rows = 1; cols = s.size }
+first_part a s = let top : a.top + 0 ≡ a.top = omega arith in λ k. record { top = top k; left = a.left + s.at; rows = 1; cols = s.size }
+
+pub line_drawn : (a : Area) (f : ℕ → ℕ → Content → Content) (g : Grid) → a.rows ≡ 1 → drawn_in (row_of a 0) f g ≡ drawn_in a f g
+line_drawn a f g one = ap (λ (b : Area). drawn_in b f g) (first_row a one)
+
+pub line_copied : (a : Area) (from : Place) (s : Span) (source g : Grid) → a.rows ≡ 1 → Fits a g → Fits (moved_to a from) source → s.at + s.size ≤ a.cols → AreEqualBeside a from 0 s source g →
+    copied (record { top = a.top; left = a.left + s.at; rows = 1; cols = s.size }) (place from.row (from.col + s.at)) source g ≡ copied a from source g
+line_copied a from s source g one fits there le equal =
+    let row : from.row ≡ from.row + 0 = omega arith in
+    ap (λ (b : Area). copied b (place from.row (from.col + s.at)) source g) (sym (first_part a s))
+    ∙ ap (λ (n : ℕ). copied (part_of a 0 s) (place n (from.col + s.at)) source g) row
+    ∙ row_copied a from 0 s source g (omega (arith, one)) fits there le equal ∙ line_drawn a (taken a from source) g one
+
+pub line_equal : (a : Area) (from : Place) (source g : Grid) → a.rows ≡ 1 → Fits a g → Fits (moved_to a from) source → AreEqualBeside a from 0 (record { at = 0; size = 0 }) source g → g ≡ copied a from source g
+line_equal a from source g one fits there equal = row_equal a from 0 source g (omega (arith, one)) fits there equal ∙ line_drawn a (taken a from source) g one
+
+-- ---- the part of a row
+pub part_fits : (a : Area) (k : ℕ) (s : Span) (g : Grid) → k < a.rows → s.at + s.size ≤ a.cols → Fits a g → Fits (part_of a k s) g
+part_fits a k s g lt le fits = record { rows = omega (arith, fits.rows); cols = λ i near. omega (arith, fits.cols i near) }

@@ -1,5 +1,5 @@
 -- Columns that are marked, and copies of what is marked.
-use Rattle.std.proofs.Common.{◌≡◌, ◌≢◌, ℕ, ◌+◌, ◌-◌, ◌<◌, ◌≤◌, ◌⊎◌, false, length, refl, sym, ap, ◌∙◌, inl, inr, arith, subst}
+use Rattle.std.proofs.Common.{◌≡◌, ◌≢◌, ℕ, ◌+◌, ◌-◌, ◌<◌, ◌≤◌, ◌⊎◌, max, false, length, refl, sym, ap, ◌∙◌, inl, inr, arith, subst}
 use Rattle.std.proofs.lemmas.Bool.{cases_eq, cases_lt}
 use Rattle.std.proofs.lemmas.Bool.Decides.{nat_tests}
 use Rattle.std.proofs.lemmas.Grind.{get_or-set_at}
@@ -13,7 +13,7 @@ use Rattle.cur_drawing.specs.declared.spans.Span.{Span}
 use Rattle.cur_drawing.specs.Cells.{Content, space}
 use Rattle.cur_drawing.specs.Calls.{place}
 use Rattle.cur_drawing.specs.Grids.{Grid, cell_at, copied, drawn_in, is_in, row_of, taken}
-use Rattle.cur_drawing.specs.Marks.{IsSameIn, IsUnmarked, IsUntouched, Keeps, Marking, MarksOnly, marked_at, marked_between, nothing, widened}
+use Rattle.cur_drawing.specs.Marks.{IsCopiedBut, IsSameIn, IsUnmarked, IsUntouched, Keeps, Marking, MarksOnly, marked_at, marked_between, nothing, widened}
 use Rattle.cur_drawing.proofs.ChangedRows.{AreEqualBeside}
 
 -- ---- columns of a line that are marked as well
@@ -70,7 +70,7 @@ line_beside m row i from end apart = get_or-set_other m.lines row i (widened fro
 as_many : (m : Marking) (row from end : ℕ) → length (marked_between row from end m).lines ≡ length m.lines
 as_many m row from end = length-set m.lines row (widened from end (marked_at m row))
 
-unmarked_before : (m : Marking) (row from end i j : ℕ) → IsUnmarked (marked_between row from end m) i j → IsUnmarked m i j
+pub unmarked_before : (m : Marking) (row from end i j : ℕ) → IsUnmarked (marked_between row from end m) i j → IsUnmarked m i j
 unmarked_before m row from end i j u =
     let within : i < length m.lines = omega (arith, u.line, as_many m row from end) in record {
       some = u.some;
@@ -81,7 +81,7 @@ unmarked_before m row from end i j u =
       ];
     }
 
-unmarked_beside : (m : Marking) (row from end j : ℕ) → IsUnmarked (marked_between row from end m) row j → (j < from) ⊎ (end ≤ j)
+pub unmarked_beside : (m : Marking) (row from end j : ℕ) → IsUnmarked (marked_between row from end m) row j → (j < from) ⊎ (end ≤ j)
 unmarked_beside m row from end j u =
     let within : row < length m.lines = omega (arith, u.line, as_many m row from end) in
     off_new from end j (marked_at m row) (subst (λ (x : Marked). IsOff x j) (line_marked m row from end row refl within) u.column)
@@ -95,6 +95,13 @@ unmarked_still m row from end i j u off = record {
     | inr apart ↦ subst (λ (x : Marked). IsOff x j) (sym (line_beside m row i from end apart)) u.column
   ];
 }
+
+-- ---- the marked columns of a part of a line
+pub before_part : (from left at j : ℕ) → at ≡ max from left → j < at - left → left + j < from
+before_part from left at j e low = grind (arith, nat_tests)
+
+pub after_part : (from size left at end j : ℕ) → at ≡ max from left → end ≡ max (from + size) at → at - left + (end - at) ≤ j → from + size ≤ left + j
+after_part from size left at end j e f high = grind (arith, nat_tests)
 
 -- ---- no more is marked than differs
 
@@ -179,6 +186,13 @@ below_top a k j = grind (arith, nat_tests)
 pub same_below : (a : Area) (k : ℕ) (f : ℕ → ℕ → Content → Content) (source g h : Grid) (m : Marking) → h ≡ drawn_in (top_rows a k) f g → IsSameIn m (a.top + k) g source → IsSameIn m (a.top + k) h source
 same_below a k f source g h m e same j u =
     ap (λ (x : Grid). cell_at x (a.top + k) j) e ∙ cell_at-drawn_in_off (top_rows a k) f space g (a.top + k) j (below_top a k j) ∙ same j u
+
+-- a row below those that were copied, of which what isn't marked is the same
+pub equal_beside_touched : (a : Area) (from : Place) (k : ℕ) (f : ℕ → ℕ → Content → Content) (s : Span) (source g h : Grid) (m : Marking) → k < a.rows → h ≡ drawn_in (top_rows a k) f g → IsCopiedBut m a from source g →
+    ((j : ℕ) → j < a.cols → (j < s.at) ⊎ (s.at + s.size ≤ j) → IsUnmarked m (a.top + k) (a.left + j)) → AreEqualBeside a from k s source h
+equal_beside_touched a from k f s source g h m lt e same others x near side =
+    ap (λ (y : Grid). cell_at y (a.top + k) (a.left + x)) e ∙ cell_at-drawn_in_off (top_rows a k) f space g (a.top + k) (a.left + x) (below_top a k (a.left + x))
+    ∙ same k x lt near (others x near side)
 
 off_this_row : (a : Area) (k i j : ℕ) → i ≢ a.top + k → is_in (row_of a k) i j ≡ false
 off_this_row a k i j apart = grind (arith, nat_tests)

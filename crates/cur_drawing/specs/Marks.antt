@@ -1,5 +1,7 @@
 -- Marks at the places of a grid that may differ from another one: of each line, the columns from one on and before another.
-use Rattle.std.specs.Prelude.{ℕ, ◌<◌, ◌≤◌, ◌≡◌, ◌⊎◌, Bool, false, List, length, replicate, slice_index_or, slice_set, nat_lt, min, max, if◌then◌else◌}
+use Rattle.std.specs.Prelude.{ℕ, ◌+◌, ◌<◌, ◌≤◌, ◌≡◌, ◌⊎◌, Bool, false, List, length, replicate, slice_index_or, slice_set, nat_lt, min, max, if◌then◌else◌}
+use Rattle.grids.specs.declared.areas.Area.{Area}
+use Rattle.grids.specs.declared.areas.Place.{Place}
 use Rattle.cur_drawing.specs.Grids.{Grid, cell_at}
 use Rattle.cur_drawing.specs.declared.marks.Marked.{Marked}
 
@@ -39,6 +41,12 @@ IsSameIn m i v w = (j : ℕ) → IsUnmarked m i j → cell_at v i j ≡ cell_at 
 -- two grids are the same in each place that isn't marked
 abbrev pub AreSame : Marking → Grid → Grid → Type 0
 AreSame m v w = (i : ℕ) → IsSameIn m i v w
+
+-- a rectangle has the cells of another grid from a place on, in each place that isn't marked
+abbrev pub IsCopiedBut : Marking → Area → Place → Grid → Grid → Type 0
+IsCopiedBut m a from source g =
+    (i j : ℕ) → i < a.rows → j < a.cols → IsUnmarked m (a.top + i) (a.left + j)
+    → cell_at g (a.top + i) (a.left + j) ≡ cell_at source (from.row + i) (from.col + j)
 
 -- What was the same as the one grid in all places that the one marking leaves is the same as the other grid in all places
 -- that the other leaves. So what was marked stays marked, and each place in which the two grids differ is marked.

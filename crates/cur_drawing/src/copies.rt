@@ -3,7 +3,7 @@ ghost use Rattle.std.specs.Prelude.{◌≡◌, ◌<◌, ◌≤◌, ◌+◌, ◌-
 ghost use Rattle.cur_drawing.specs.Cells.{space};
 ghost use Rattle.cur_drawing.specs.Calls.{place};
 ghost use Rattle.cur_drawing.specs.Grids.{Fits, copied, drawn_in, line_at, moved_to, overlaid, row_of, shape_of, taken};
-ghost use Rattle.cur_drawing.specs.Marks.{AreSame, IsSameIn, Keeps, MarksOnly};
+ghost use Rattle.cur_drawing.specs.Marks.{AreSame, IsCopiedBut, IsSameIn, Keeps, MarksOnly};
 ghost use Rattle.cur_drawing.specs.Spans.{ArePlaces};
 
 use crate::cells::Cell;
@@ -49,15 +49,51 @@ pub fn overlay_shift(grid: &mut Grid<Cell>, patch: Patch)
     }
 }
 
-/// The rectangle gets the cells of another grid from a place on. Of each line only the cells from the first one that
-/// differs to the last one are written, and marked as well.
+/// The rectangle, which outside the marks `touched` has the cells of another grid from a place on, gets all of them. Of
+/// each line only the cells from the first one that differs to the last one are written, and marked in `marks` as well.
 pub fn copy_changed(
+    grid: &mut Grid<Cell>,
+    area: Area,
+    source: &Grid<Cell>,
+    from: Place,
+    touched: &Marks,
+    marks: &mut Marks,
+)
+    requires target { Fits area grid.old }
+    requires source { Fits (moved_to area from) source.now }
+    requires places { ArePlaces area from }
+    requires touched { IsCopiedBut touched.now area from source.now grid.old }
+    ensures value { grid.new ≡ copied area from source.now grid.old }
+    ensures shape { shape_of grid.new ≡ shape_of grid.old }
+    ensures marked { Keeps marks.old grid.old marks.new grid.new }
+    ensures only { MarksOnly marks.old grid.old marks.new grid.new }
+{
+    for k in 0..area.rows {
+        let row = area.top + k;
+        let span = touched.columns_from(row, area.left, area.cols);
+        let part = Area {
+            top: row,
+            left: area.left + span.at,
+            rows: 1,
+            cols: span.size,
+        };
+        let place = Place {
+            row: from.row + k,
+            col: from.col + span.at,
+        };
+        copy_changed_line(grid, part, source, place, marks);
+    }
+}
+
+// The same of a rectangle of one line, in which each cell may differ.
+fn copy_changed_line(
     grid: &mut Grid<Cell>,
     area: Area,
     source: &Grid<Cell>,
     from: Place,
     marks: &mut Marks,
 )
+    requires one { area.rows ≡ 1 }
     requires target { Fits area grid.old }
     requires source { Fits (moved_to area from) source.now }
     requires places { ArePlaces area from }
@@ -66,47 +102,23 @@ pub fn copy_changed(
     ensures marked { Keeps marks.old grid.old marks.new grid.new }
     ensures only { MarksOnly marks.old grid.old marks.new grid.new }
 {
-    for k in 0..area.rows {
-        copy_changed_row(grid, area, k, source, from, marks);
-    }
-}
-
-// The row `k` of the rectangle.
-fn copy_changed_row(
-    grid: &mut Grid<Cell>,
-    area: Area,
-    k: u16,
-    source: &Grid<Cell>,
-    from: Place,
-    marks: &mut Marks,
-)
-    requires target { Fits area grid.old }
-    requires source { Fits (moved_to area from) source.now }
-    requires places { ArePlaces area from }
-    requires within { k < area.rows }
-    ensures value { grid.new ≡ drawn_in (row_of area k) (taken area from source.now) grid.old }
-    ensures shape { shape_of grid.new ≡ shape_of grid.old }
-    ensures marked { Keeps marks.old grid.old marks.new grid.new }
-    ensures only { MarksOnly marks.old grid.old marks.new grid.new }
-{
-    let (row, from_row) = (area.top + k, from.row + k);
-    let old = part_of(grid.line(row as usize), area.left, area.cols);
-    let new = part_of(source.line(from_row as usize), from.col, area.cols);
+    let old = part_of(grid.line(area.top as usize), area.left, area.cols);
+    let new = part_of(source.line(from.row as usize), from.col, area.cols);
     let Some(span) = changed(old, new) else {
         return;
     };
     let part = Area {
-        top: row,
+        top: area.top,
         left: area.left + span.at,
         rows: 1,
         cols: span.size,
     };
     let place = Place {
-        row: from_row,
+        row: from.row,
         col: from.col + span.at,
     };
     grid.copy_from(part, source, place);
-    marks.mark(row, part.left, part.left + part.cols);
+    marks.mark(part.top, part.left, part.left + part.cols);
 }
 
 /// The rectangle, from the first column on, gets the cells of the same places of another grid, which has the same cells

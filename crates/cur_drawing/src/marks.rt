@@ -72,8 +72,8 @@ impl Marks {
         self.all = true;
     }
 
-    /// Marks the columns from `from` on and before `end` of the line `row` as well, with all between these and
-    /// those that are marked. A line that isn't among the lines is marked as a whole already.
+    /// Marks the columns from `from` on and before `end` of the line `row` as well, with all between them and those that
+    /// are marked there. A line that isn't among the lines is marked as a whole already.
     pub fn mark(&mut self, row: u16, from: u16, end: u16)
         ensures { self.new ≡ marked_between row from end self.old }
     {
@@ -110,6 +110,22 @@ impl Marks {
         Span {
             at: line.from,
             size: end - line.from,
+        }
+    }
+
+    /// The marked columns of the line `row` among the `cols` columns from `left` on, counted from there.
+    pub(crate) fn columns_from(&self, row: u16, left: u16, cols: u16) -> Span
+        requires { left + cols < 65536 }
+        ensures within { result.at + result.size ≤ cols }
+        ensures others { (j : ℕ) → j < cols → (j < result.at) ⊎ (result.at + result.size ≤ j)
+            → IsUnmarked self.now row (left + j) }
+    {
+        let span = self.columns(row, left + cols);
+        let at = span.at.max(left);
+        let end = (span.at + span.size).max(at);
+        Span {
+            at: at - left,
+            size: end - at,
         }
     }
 }
