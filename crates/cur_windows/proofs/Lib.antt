@@ -11,3 +11,5 @@ pub mod Displays
 pub mod Slices
 pub mod ViewFacts
 pub mod Within
+pub mod WrittenLines
+pub mod TouchedFacts

@@ -11,4 +11,5 @@ pub mod Refusals
 pub mod Rows
 pub mod VirtualScreen
 pub mod Sizes
+pub mod Touched
 pub mod Views

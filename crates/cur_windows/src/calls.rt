@@ -2,11 +2,13 @@
 ghost use Rattle.std.specs.Prelude.{◌≡◌, bit_and, bit_or, ◌-◌};
 ghost use Rattle.cur_windows.specs.Desks as spec;
 ghost use Rattle.cur_drawing.specs.Calls as call;
+ghost use Rattle.cur_drawing.specs.Marks.{Keeps};
 ghost use Rattle.cur_drawing.specs.Windows as window;
 
 use crate::desks::Desk;
 use crate::hints::{after_writing, joined};
-use cur_drawing::{Attrs, Border, Put, Refusal};
+use crate::touched::touch;
+use cur_drawing::{Attrs, Border, Marks, Put, Refusal};
 
 // The calls on one window. Each refuses with `Full` a number above 63, and else with `NoWindow` one that names no
 // window; a refusal changes nothing, but for `NoScroll` and strings.
@@ -121,12 +123,23 @@ impl Desk {
     pub fn addch(&mut self, id: usize, put: Put) -> Result<(), Refusal>
         ensures { spec.step self.new result ≡ spec.on_window self.old id (call.added put) }
     {
+        let mut touched = Marks::unknown(self.alloc);
+        self.addch_marked(id, put, &mut touched)
+    }
+
+    /// As `addch`; where window 0's grid has changed it is marked as well.
+    pub fn addch_marked(&mut self, id: usize, put: Put, touched: &mut Marks) -> Result<(), Refusal>
+        ensures step { spec.step self.new result ≡ spec.on_window self.old id (call.added put) }
+        ensures touched { Keeps touched.old (spec.grid_at self.old 0) touched.new (spec.grid_at self.new 0) }
+    {
         let mut slot = self.find(id)?;
         let region = self.region_of(&slot);
+        let first = slot.window.row;
         let mut lines = 0;
         let grid = &mut self.grids[slot.root as usize];
         let answer = slot.window.add(grid, put, &mut lines);
         self.scrolled = after_writing(self.scrolled, region, lines);
+        touch(touched, &slot, first);
         self.windows[id] = Some(slot);
         answer
     }
@@ -139,12 +152,28 @@ impl Desk {
     pub fn addstr(&mut self, id: usize, text: &[u8]) -> Result<(), Refusal>
         ensures { spec.step self.new result ≡ spec.on_window self.old id (call.added_all text.now) }
     {
+        let mut touched = Marks::unknown(self.alloc);
+        self.addstr_marked(id, text, &mut touched)
+    }
+
+    /// As `addstr`; where window 0's grid has changed it is marked as well.
+    pub fn addstr_marked(
+        &mut self,
+        id: usize,
+        text: &[u8],
+        touched: &mut Marks,
+    ) -> Result<(), Refusal>
+        ensures step { spec.step self.new result ≡ spec.on_window self.old id (call.added_all text.now) }
+        ensures touched { Keeps touched.old (spec.grid_at self.old 0) touched.new (spec.grid_at self.new 0) }
+    {
         let mut slot = self.find(id)?;
         let region = self.region_of(&slot);
+        let first = slot.window.row;
         let mut lines = 0;
         let grid = &mut self.grids[slot.root as usize];
         let answer = slot.window.add_all(grid, text, &mut lines);
         self.scrolled = after_writing(self.scrolled, region, lines);
+        touch(touched, &slot, first);
         self.windows[id] = Some(slot);
         answer
     }

@@ -13,6 +13,7 @@ mod refreshes;
 mod rows;
 mod sizes;
 mod slots;
+mod touched;
 mod views;
 mod virtual_screen;
 

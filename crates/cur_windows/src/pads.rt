@@ -140,8 +140,9 @@ impl Desk {
             clears: slot.window.clears,
             root: slot.root,
         };
+        let unknown = Marks::unknown(self.alloc);
         let mut marks = Marks::unknown(self.alloc);
-        screen.show(copy, self.grid_of(&slot), None, &mut marks);
+        screen.show(copy, self.grid_of(&slot), None, &unknown, &mut marks);
         slot.window.clears = false;
         self.windows[id] = Some(slot);
     }

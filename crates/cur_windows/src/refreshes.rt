@@ -1,11 +1,11 @@
 //! Copying a window to the virtual screen.
 ghost use Rattle.std.specs.Prelude.{◌≡◌, ◌<◌, ◌≤◌, ◌+◌, IfSome, Some, None, if◌then◌else◌, false};
 ghost use Rattle.cur_drawing.specs.Calls.{IsCanvas, place};
-ghost use Rattle.cur_drawing.specs.Marks.{Keeps, MarksOnly};
+ghost use Rattle.cur_drawing.specs.Marks.{AreSame, Keeps, MarksOnly};
 ghost use Rattle.cur_drawing.specs.Windows.{IsWindow};
 ghost use Rattle.cur_windows.specs.Desks as spec;
 ghost use Rattle.cur_windows.specs.Creations as make;
-ghost use Rattle.cur_windows.specs.VirtualScreen.{refresh, noutrefresh, area_on_screen, cursor_on_screen};
+ghost use Rattle.cur_windows.specs.VirtualScreen.{refresh, noutrefresh, shown, area_on_screen, cursor_on_screen};
 
 use crate::desks::Desk;
 use crate::slots::Slot;
@@ -22,28 +22,55 @@ impl Desk {
         requires cols { (screen.old).cols ≡ (self.old).cols }
         ensures { refresh self.new screen.new result ≡ noutrefresh self.old screen.old id }
     {
+        let mut touched = Marks::unknown(self.alloc);
         let mut marks = Marks::unknown(self.alloc);
-        self.noutrefresh_marked(id, screen, &mut marks)
+        self.noutrefresh_marked(id, screen, &mut touched, &mut marks)
     }
 
-    /// As `noutrefresh`; where the screen's cells have changed they are marked as well, and of each line no more than from
-    /// the first to the last of these places and of those that are marked.
+    /// As `noutrefresh`. Outside the marks `touched` the screen has the cells of window 0's grid, and it has them outside
+    /// these marks afterwards; what isn't marked of that grid isn't looked at. Where the screen's cells have changed,
+    /// `marks` are added.
     pub fn noutrefresh_marked(
         &mut self,
         id: usize,
         screen: &mut Virtual,
+        touched: &mut Marks,
         marks: &mut Marks,
     ) -> Result<(), Refusal>
         requires rows { (screen.old).rows ≡ (self.old).rows }
         requires cols { (screen.old).cols ≡ (self.old).cols }
+        requires touched { AreSame touched.old (screen.old).grid (spec.grid_at self.old 0) }
         ensures step { refresh self.new screen.new result ≡ noutrefresh self.old screen.old id }
+        ensures touched { AreSame touched.new (screen.new).grid (spec.grid_at self.new 0) }
         ensures marked { Keeps marks.old (screen.old).grid marks.new (screen.new).grid }
         ensures only { MarksOnly marks.old (screen.old).grid marks.new (screen.new).grid }
     {
         let mut slot = self.find(id)?;
         self.check_window(&slot)?;
-        let area = self.place_on_screen(&slot);
-        let cursor = cursor_in(&slot, area);
+        self.copy_slot(&slot, screen, touched, marks);
+        self.scrolled = None;
+        slot.window.clears = false;
+        self.windows[id] = Some(slot);
+        Ok(())
+    }
+
+    // Copies the whole window to the screen, with its cursor and its `clearok`, and the desk's hint.
+    fn copy_slot(&self, slot: &Slot, screen: &mut Virtual, touched: &mut Marks, marks: &mut Marks)
+        requires canvas { IsCanvas (spec.grid_at self.now (slot.now).root) (slot.now).window }
+        requires root { (slot.now).root < 64 }
+        requires window { (spec.origin_at self.now (slot.now).root).pad ≡ false }
+        requires rows { (screen.old).rows ≡ (self.now).rows }
+        requires cols { (screen.old).cols ≡ (self.now).cols }
+        requires touched { AreSame touched.old (screen.old).grid (spec.grid_at self.now 0) }
+        ensures value { screen.new ≡ shown (area_on_screen self.now slot.now) (spec.grid_at self.now (slot.now).root)
+            (place (slot.now).window.area.top (slot.now).window.area.left) (cursor_on_screen self.now slot.now)
+            (slot.now).window.clears screen.old }
+        ensures touched { AreSame touched.new (screen.new).grid (spec.grid_at self.now 0) }
+        ensures marked { Keeps marks.old (screen.old).grid marks.new (screen.new).grid }
+        ensures only { MarksOnly marks.old (screen.old).grid marks.new (screen.new).grid }
+    {
+        let (rows, cols) = (self.rows, self.cols);
+        let area = self.place_on_screen(slot);
         let from = Place {
             row: slot.window.area.top,
             col: slot.window.area.left,
@@ -51,15 +78,21 @@ impl Desk {
         let copy = Copy {
             area,
             from,
-            cursor,
+            cursor: cursor_in(slot, area),
             clears: slot.window.clears,
             root: slot.root,
         };
-        screen.show(copy, self.grid_of(&slot), self.scrolled, marks);
-        self.scrolled = None;
-        slot.window.clears = false;
-        self.windows[id] = Some(slot);
-        Ok(())
+        let grid = self.grid_of(slot);
+        if slot.root != 0 || area.top != from.row || area.left != from.col {
+            let unknown = Marks::unknown(self.alloc);
+            screen.show(copy, grid, self.scrolled, &unknown, marks);
+            touched.mark_all();
+            return;
+        }
+        screen.show(copy, grid, self.scrolled, touched, marks);
+        if area.rows == rows && area.cols == cols {
+            touched.clear();
+        }
     }
 
     // The grid that a window lies in.

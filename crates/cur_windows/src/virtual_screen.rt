@@ -2,7 +2,7 @@
 ghost use Rattle.std.specs.Prelude.{ℕ, length, slice_index_or, ◌≡◌, ◌<◌, ◌≤◌, ◌+◌, IfOk, IfSome, replicate};
 ghost use Rattle.cur_drawing.specs.Cells.{IsCell, space};
 ghost use Rattle.cur_drawing.specs.Grids.{Fits, line_at, moved_to};
-ghost use Rattle.cur_drawing.specs.Marks.{AreSame, Keeps, MarksOnly};
+ghost use Rattle.cur_drawing.specs.Marks.{AreSame, IsCopiedBut, Keeps, MarksOnly};
 ghost use Rattle.cur_drawing.specs.Spans.{ArePlaces};
 ghost use Rattle.cur_windows.specs.VirtualScreen as spec;
 
@@ -203,13 +203,14 @@ impl Virtual {
         self.owners = other.owners;
     }
 
-    // A rectangle gets the cells of a grid from a place on, and where they differ they are marked. A scroll replaces the
-    // one that is remembered.
+    // A rectangle, which outside the marks `touched` has the cells of a grid from a place on, gets all of them, and where
+    // they differ they are marked. A scroll replaces the one that is remembered.
     pub(crate) fn show(
         &mut self,
         copy: Copy,
         grid: &Grid<Cell>,
         scrolled: Option<Scroll>,
+        touched: &Marks,
         marks: &mut Marks,
     )
         requires rows { copy.area.top + copy.area.rows ≤ (self.old).rows }
@@ -217,11 +218,13 @@ impl Virtual {
         requires source { Fits (moved_to copy.area copy.from) grid.now }
         requires places { ArePlaces copy.area copy.from }
         requires cursor { IfSome copy.cursor (λ p. (p.row < (self.old).rows) × (p.col < (self.old).cols)) }
+        requires touched { IsCopiedBut touched.now copy.area copy.from grid.now (self.old).grid }
         ensures value { self.new ≡ spec.shown copy.area grid.now copy.from copy.cursor copy.clears self.old }
         ensures marked { Keeps marks.old (self.old).grid marks.new (self.new).grid }
         ensures only { MarksOnly marks.old (self.old).grid marks.new (self.new).grid }
+        ensures legal { spec.IsScreen self.old }
     {
-        copy_changed(&mut self.grid, copy.area, grid, copy.from, marks);
+        copy_changed(&mut self.grid, copy.area, grid, copy.from, touched, marks);
         let kept = self.owners.take(copy, self.cols, self.scrolled);
         self.scrolled = later_of(kept, scrolled);
         self.cursor = copy.cursor;

@@ -8,5 +8,4 @@ pub invariant_of-self : goal.invariant_of-self
 invariant_of-self c = screen_kept _ _ _ _ _ c.self.view_is c.self.invariant c.copy_changed.ensures.shape c.requires.cursor
 
 pub returns-clause-only : goal.returns-clause-only
-returns-clause-only c =
-    subst (λ (s : Screen). MarksOnly c.args.marks.now s.grid c.copy_changed.new.marks c.copy_changed.new.grid) c.self.view_is c.copy_changed.ensures.only
+returns-clause-only c = subst (λ (v : Screen). MarksOnly c.args.marks.now v.grid c.copy_changed.new.marks c.copy_changed.new.grid) c.self.view_is c.copy_changed.ensures.only

@@ -1,5 +1,0 @@
-use Rattle.cur_windows.proofs.Closures.{closes_canvas}
-use Rattle.cur_windows.proofs.desks.Desk.addstr.Goals as goal
-
-pub invariant_of-self : goal.invariant_of-self
-invariant_of-self c = closes_canvas _ _ c.args.id _ _ _ _ c.self.view_is c.self.invariant c.in_ok-slot.ensures.there c.index_mut-grid.ensures.value c.add_all-answer.ensures.kept

@@ -1,0 +1,12 @@
+-- The lines that were gone through are marked as well.
+use Rattle.std.proofs.Common.{◌≡◌, ℕ, false}
+use Rattle.cur_drawing.specs.Grids.{is_in}
+use Rattle.cur_drawing.specs.Marks.{IsUnmarked}
+use Rattle.cur_drawing.specs.Windows.{lines_of}
+use Rattle.cur_windows.proofs.touched.mark_lines.Given as goal
+
+abbrev pub invariant-loop-k : goal.invariant-loop-k
+invariant-loop-k l = record {
+  kept : (i j : ℕ) → IsUnmarked l.touched i j → IsUnmarked l.fn.touched i j;
+  lines : (i j : ℕ) → IsUnmarked l.touched i j → is_in (lines_of l.window l.first l.k) i j ≡ false;
+}
