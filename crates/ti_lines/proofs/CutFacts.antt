@@ -2,10 +2,11 @@
 use Rattle.std.proofs.Common.{◌≡◌, ℕ, suc, ◌+◌, ◌==◌, Bool, true, false, not, ◌&&◌, cond, if◌then◌else◌, List, [], ◌∷◌, ◌++◌, Option, None, Some, length, take, drop, refl, ap, ◌∙◌, arith}
 use Rattle.std.specs.Prelude.{nat_lt}
 use Rattle.std.specs.Option.{option_map}
-use Rattle.std.specs.List.{position, position_or_len, list_all}
+use Rattle.std.specs.List.{position, position_or_len}
 use Rattle.std.proofs.lemmas.Bool.Decides.{nat_tests}
 use Rattle.std.proofs.lemmas.Option.{some_pair_parts}
 use Rattle.ti_lines.specs.Cut.{cut_at}
+use Rattle.ti_lines.proofs.TextCuts.{lacks}
 
 -- so many bytes before, and what is after one more
 abbrev pub around : List ℕ → Option ℕ → Option (List ℕ × List ℕ)
@@ -39,10 +40,6 @@ step b text n o false h = moved b text n (length text) ∙ ap (option_map (λ p.
 pub cut_found : (c : ℕ) (text : List ℕ) → around text (position (λ b. b == c) text) ≡ cut_at c text
 cut_found c [] = refl
 cut_found c (b ∷ text) = step b text (position_or_len (λ d. d == c) text) (cut_at c text) (b == c) (cut_found c text)
-
--- the byte is not in the list
-abbrev pub lacks : ℕ → List ℕ → Bool
-lacks c xs = list_all (λ b. not (b == c)) xs
 
 front_rest : (b : ℕ) (front rest tail : List ℕ) (o : Option (List ℕ × List ℕ)) (t more : Bool) → (not t && more) ≡ true → (more ≡ true → o ≡ Some (front, rest))
     → (if t then starts tail else option_map (λ p. (b ∷ p.0, p.1)) o) ≡ Some (b ∷ front, rest)

@@ -3,7 +3,7 @@ use Rattle.std.proofs.Common.{append_assoc, append-nil, ◌≡◌, ℕ, ◌+◌,
 use Rattle.std.specs.Prelude.{if◌then◌else◌, ◌==◌, nat_le, nat_lt}
 use Rattle.std.specs.Option.{option_and_then}
 use Rattle.std.specs.Fmt.{decimal}
-use Rattle.std.proofs.lemmas.Bool.{and_parts, cases_eq, cond-true, cond-false}
+use Rattle.std.proofs.lemmas.Bool.{and_from, and_parts, cases_eq, cond-true, cond-false}
 use Rattle.std.proofs.lemmas.Bool.Decides.{nat_tests}
 use Rattle.std.proofs.lemmas.Option.{cond_some, option_and_then_some, same_Some}
 use Rattle.std.proofs.lemmas.Fmt.{decimal_by_steps, decimal_digit, decimal_step, first_decimal}
@@ -134,16 +134,13 @@ positive_written ds n h = by_value (number_at ds) refl h
         let some : 0 < k = grind (arith, nat_tests) in
         (number_written ds n (e ∙ ap (λ (x : ℕ). Some x) c.1), omega (arith, some, c.1))
 
--- digits have no space and no comma
+-- digits have no byte below 48
 abbrev Lacking : ℕ → ℕ → List ℕ → Type 0
 Lacking c n ds = lacks c ds ≡ true
 
 digit_lacks : (c d : ℕ) → c < 48 → lacks c ((48 + d) ∷ []) ≡ true
 digit_lacks c d h = let e : ((48 + d) == c) ≡ false = grind (arith, nat_tests) in ap (λ t. not t && true) e
 
-pub both_true : (a b : Bool) → a ≡ true → b ≡ true → (a && b) ≡ true
-both_true a b h k = rw (h, k) refl
-
 pub decimal_lacks : (c n : ℕ) → c < 48 → n < 65536 → lacks c (decimal n) ≡ true
 decimal_lacks c n h k = decimal_by_steps (Lacking c) (λ m l. digit_lacks c m h)
-    (λ m ds l r. list_all-append (λ b. not (b == c)) ds ((48 + m % 10) ∷ []) ∙ both_true (lacks c ds) (lacks c ((48 + m % 10) ∷ [])) r (digit_lacks c (m % 10) h)) n (omega arith)
+    (λ m ds l r. list_all-append (λ b. not (b == c)) ds ((48 + m % 10) ∷ []) ∙ and_from (lacks c ds) (lacks c ((48 + m % 10) ∷ [])) r (digit_lacks c (m % 10) h)) n (omega arith)

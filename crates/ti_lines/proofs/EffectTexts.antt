@@ -14,6 +14,7 @@ use Rattle.ti_lines.proofs.TextCuts.{parts_joined, some_part, AllLack, split_joi
 use Rattle.ti_lines.proofs.Glyphs.{branch, mapped}
 use Rattle.ti_lines.proofs.Forms.{all_written}
 use Rattle.ti_lines.proofs.Orders.{words_add, Leads, leads}
+use Rattle.ti_lines.proofs.Lacking.{words_lack}
 
 abbrev none_yet : Found
 none_yet = record { effect = unchanged; next = 0 }
@@ -57,20 +58,17 @@ no_dash : (f : Found) → with_words none_yet ((45 ∷ []) ∷ []) ≡ Some f �
 unfolding with_word word_at
 no_dash f h = cc
 
-split_text : (w : List ℕ) (ws : List (List ℕ)) → AllLack 32 (w ∷ ws) → words_of (joined (w ∷ ws)) ≡ w ∷ ws
-split_text w ws h = split_joined 32 w ws h
-
 dash_alone : words_of (45 ∷ []) ≡ (45 ∷ []) ∷ []
 unfolding parts_of
 dash_alone = refl
 
-said_again : (e : Effect) (ws : List (List ℕ)) → Leads 0 unchanged ws e → effect_in (joined ws) ≡ Some e
+said_again : (e : Effect) (ws : List (List ℕ)) → AllLack 32 ws → Leads 0 unchanged ws e → effect_in (joined ws) ≡ Some e
 unfolding effect_in read_behind
-said_again e [] l = ap (λ (f : Found). Some f.effect) (same_Some none_yet (record { effect = e; next = l.next }) l.read)
-said_again e (w ∷ ws) l = by_dash (is_all (45 ∷ []) (joined (w ∷ ws))) refl
+said_again e [] spaces l = ap (λ (f : Found). Some f.effect) (same_Some none_yet (record { effect = e; next = l.next }) l.read)
+said_again e (w ∷ ws) spaces l = by_dash (is_all (45 ∷ []) (joined (w ∷ ws))) refl
   where
     same : words_of (joined (w ∷ ws)) ≡ w ∷ ws
-    same = split_text w ws l.spaces
+    same = split_joined 32 w ws spaces
 
     by_dash : (t : Bool) → is_all (45 ∷ []) (joined (w ∷ ws)) ≡ t → (if t then Some unchanged else option_map (λ f. f.effect) (with_words none_yet (words_of (joined (w ∷ ws))))) ≡ Some e
     by_dash true t =
@@ -80,7 +78,7 @@ said_again e (w ∷ ws) l = by_dash (is_all (45 ∷ []) (joined (w ∷ ws))) ref
 
 pub spelled_reads : (e : Effect) (text : List ℕ) → IsPlain e → spelled e ≡ text → effect_in text ≡ Some e
 unfolding spelled
-spelled_reads e text p h = ap effect_in (sym h) ∙ said_again e (words e) (leads e p)
+spelled_reads e text p h = ap effect_in (sym h) ∙ said_again e (words e) (words_lack 32 e (omega arith) p) (leads e p)
 
 pub one_text : OneText
 one_text d e p q h = same_Some d e (sym (spelled_reads d (spelled e) p h) ∙ spelled_reads e (spelled e) q refl)

@@ -1,5 +1,5 @@
 -- Each word is read as it is written, and in no other form.
-use Rattle.std.proofs.Common.{◌≡◌, ℕ, ◌<◌, Bool, true, false, not, List, [], ◌∷◌, ◌++◌, length, Option, Some, None, refl, sym, ap, ◌∙◌, subst, arith}
+use Rattle.std.proofs.Common.{◌≡◌, ℕ, ◌<◌, true, false, List, [], ◌∷◌, ◌++◌, length, Option, Some, None, refl, sym, ap, ◌∙◌, subst, arith}
 use Rattle.std.specs.Prelude.{if◌then◌else◌, ◌==◌}
 use Rattle.std.specs.Option.{option_map, option_or, option_and_then}
 use Rattle.std.specs.Fmt.{decimal}
@@ -7,25 +7,21 @@ use Rattle.std.specs.List.{list_all, join_with_byte}
 use Rattle.std.proofs.lemmas.Bool.{cond-false}
 use Rattle.std.proofs.lemmas.Option.{option_and_then_some, same_Some}
 use Rattle.std.proofs.lemmas.Slice.Eq.{bytes_eq-Decides}
-use Rattle.std.proofs.lemmas.List.Folds.{list_all-append}
 use Rattle.vt_effects.specs.declared.effects.Move.{Move}
 use Rattle.vt_effects.specs.declared.effects.Move.TheVariants as moves
 use Rattle.vt_effects.specs.declared.effects.Erasure.TheVariants as erasures
 use Rattle.vt_effects.specs.declared.effects.Scroll.TheVariants as scrolls
-use Rattle.vt_effects.specs.declared.effects.Switch.{Switch}
 use Rattle.vt_effects.specs.declared.effects.Switch.TheVariants as switches
-use Rattle.vt_effects.specs.declared.effects.Ink.TheVariants as inks
-use Rattle.vt_term.specs.Color.{Black, Red, Green, Yellow, Blue, Magenta, Cyan, White}
 use Rattle.vt_effects.specs.declared.effects.Ink.{Ink}
 use Rattle.vt_effects.specs.declared.effects.Sets.{Sets}
 use Rattle.vt_effects.specs.declared.effects.Region.{Region}
 use Rattle.ti_lines.specs.declared.words.Word.{Word}
 use Rattle.ti_lines.specs.declared.words.Word.TheVariants.{Row, Col, EndsPending, Erases, Scrolls, Looks, Inks, Chooses, Rows, Shows}
 use Rattle.ti_lines.specs.declared.words.Marks.{Marks}
-use Rattle.ti_lines.specs.EffectText.{row_name, col_name, nopend, all_name, tail_name, head_name, rest_name, next_name, up_name, down_name, look_name, ink_name, set_name, rows_name, show_name, hide_name, move_text, erasure_text, scroll_text, visible_text, set_text, rows_text, lettered, switch_letter, ink_letter, is_dot, IsPlainMove, IsPlainErasure, IsPlainRegion}
+use Rattle.ti_lines.specs.EffectText.{row_name, col_name, nopend, all_name, tail_name, head_name, rest_name, next_name, up_name, down_name, look_name, ink_name, set_name, rows_name, show_name, hide_name, move_text, erasure_text, scroll_text, visible_text, set_text, rows_text, lettered, ink_letter, is_dot, IsPlainMove, IsPlainErasure, IsPlainRegion}
 use Rattle.ti_lines.specs.EffectReader.{behind, number_at, positive, all_signed, move_at, next_at, letters_at, marks_of, inks_of, sets_of, marks_at, inks_at, sets_at, parts_of, region_of, region_at, is_all, fixed_at, numbered_at, lettered_at, word_at}
-use Rattle.ti_lines.proofs.TextCuts.{parts_joined, some_part, lacks, split_front, split_whole}
-use Rattle.ti_lines.proofs.Digits.{number_reads, number_written, positive_reads, positive_written, decimal_lacks, both_true}
+use Rattle.ti_lines.proofs.TextCuts.{parts_joined, some_part, split_front, split_whole}
+use Rattle.ti_lines.proofs.Digits.{number_reads, number_written, positive_reads, positive_written, decimal_lacks}
 use Rattle.ti_lines.proofs.Glyphs.{branch, mapped, either, equal, behind_written, letters_written, is_lettered, mark_letters, set_letters, marks_written, inks_written, sets_written, marks_read, inks_read, sets_read}
 
 abbrev pub word_text : Word → List ℕ
@@ -183,7 +179,6 @@ word_written w z h =
 pub record IsRead (t : List ℕ) (x : Word) : Type 0 where
   pub read : word_at t ≡ Some x
   pub some : 0 < length t
-  pub spaces : lacks 32 t ≡ true
 
 -- a number after a name, and two that are not 0
 to_read : (b : Move → Word) (k : ℕ) → k < 65536 → option_or (option_or (option_map b (option_map (λ n. moves.To n) (number_at (decimal k)))) None) None ≡ Some (b (moves.To k))
@@ -196,40 +191,39 @@ forward_read : (b : Move → Word) (k : ℕ) → 0 < k → k < 65536 → option_
 forward_read b k some h = ap (λ (o : Option ℕ). option_or (option_or (option_map b (option_map (λ n. moves.Forward n) o)) None) None) (positive_reads k some h)
 
 -- a word that is always the same
-pub fixed_read : (t : List ℕ) (x : Word) → fixed_at t ≡ Some x → 0 < length t → lacks 32 t ≡ true → IsRead t x
+pub fixed_read : (t : List ℕ) (x : Word) → fixed_at t ≡ Some x → 0 < length t → IsRead t x
 unfolding word_at
-fixed_read t x h some spaces = record { read = ap (λ (o : Option Word). option_or o (option_or (numbered_at t) (lettered_at t))) h; some = some; spaces = spaces }
+fixed_read t x h some = record { read = ap (λ (o : Option Word). option_or o (option_or (numbered_at t) (lettered_at t))) h; some = some }
 
 pub row_to : (k : ℕ) → k < 65536 → IsRead (move_text row_name (moves.To k)) (Row (moves.To k))
 unfolding word_at
-row_to k h = record { read = to_read (λ m. Row m) k h; some = omega arith; spaces = decimal_lacks 32 k (omega arith) h }
+row_to k h = record { read = to_read (λ m. Row m) k h; some = omega arith }
 
 pub row_back : (k : ℕ) → 0 < k → k < 65536 → IsRead (move_text row_name (moves.Back k)) (Row (moves.Back k))
 unfolding word_at
-row_back k some h = record { read = back_read (λ m. Row m) k some h; some = omega arith; spaces = decimal_lacks 32 k (omega arith) h }
+row_back k some h = record { read = back_read (λ m. Row m) k some h; some = omega arith }
 
 pub row_forward : (k : ℕ) → 0 < k → k < 65536 → IsRead (move_text row_name (moves.Forward k)) (Row (moves.Forward k))
 unfolding word_at
-row_forward k some h = record { read = forward_read (λ m. Row m) k some h; some = omega arith; spaces = decimal_lacks 32 k (omega arith) h }
+row_forward k some h = record { read = forward_read (λ m. Row m) k some h; some = omega arith }
 
 pub col_to : (k : ℕ) → k < 65536 → IsRead (move_text col_name (moves.To k)) (Col (moves.To k))
 unfolding word_at
-col_to k h = record { read = to_read (λ m. Col m) k h; some = omega arith; spaces = decimal_lacks 32 k (omega arith) h }
+col_to k h = record { read = to_read (λ m. Col m) k h; some = omega arith }
 
 pub col_back : (k : ℕ) → 0 < k → k < 65536 → IsRead (move_text col_name (moves.Back k)) (Col (moves.Back k))
 unfolding word_at
-col_back k some h = record { read = back_read (λ m. Col m) k some h; some = omega arith; spaces = decimal_lacks 32 k (omega arith) h }
+col_back k some h = record { read = back_read (λ m. Col m) k some h; some = omega arith }
 
 pub col_forward : (k : ℕ) → 0 < k → k < 65536 → IsRead (move_text col_name (moves.Forward k)) (Col (moves.Forward k))
 unfolding word_at
-col_forward k some h = record { read = forward_read (λ m. Col m) k some h; some = omega arith; spaces = decimal_lacks 32 k (omega arith) h }
+col_forward k some h = record { read = forward_read (λ m. Col m) k some h; some = omega arith }
 
 pub next_read : (n : ℕ) → 0 < n → n < 65536 → IsRead (next_name ++ decimal n) (Erases (erasures.Next n))
 unfolding word_at
 next_read n some h = record {
   read = ap (λ (o : Option ℕ). option_or (option_or (option_map (λ n. Erases (erasures.Next n)) o) None) None) (positive_reads n some h);
   some = omega arith;
-  spaces = decimal_lacks 32 n (omega arith) h;
 }
 
 -- two numbers and a comma
@@ -239,15 +233,11 @@ pair_read t b h k =
     ∙ (ap (option_and_then (λ (top : ℕ). option_and_then (λ (bottom : ℕ). Some (record { top = top; bottom = bottom })) (number_at (decimal b)))) (number_reads t h)
     ∙ ap (option_and_then (λ (bottom : ℕ). Some (record { top = t; bottom = bottom }))) (number_reads b k))
 
-both_lack : (c : ℕ) (xs ys : List ℕ) → lacks c xs ≡ true → lacks c ys ≡ true → lacks c (xs ++ ys) ≡ true
-both_lack c xs ys h k = list_all-append (λ b. not (b == c)) xs ys ∙ both_true (lacks c xs) (lacks c ys) h k
-
 pub region_read : (r : Region) → IsPlainRegion (Some r) → IsRead (rows_text (Some r)) (Rows r)
 unfolding word_at
 region_read r h = record {
   read = ap (λ (o : Option Region). option_or (option_map (λ r. Rows r) o) None) (pair_read r.top r.bottom h.0 h.1);
   some = omega arith;
-  spaces = both_lack 32 (decimal r.top) (44 ∷ decimal r.bottom) (decimal_lacks 32 r.top (omega arith) h.0) (decimal_lacks 32 r.bottom (omega arith) h.1);
 }
 
 -- letters, not each of them a dot
@@ -258,49 +248,12 @@ record SomeLetters (name letters : List ℕ) : Type 0 where
 some_letters : (name letters : List ℕ) → list_all is_dot letters ≡ false → SomeLetters name letters
 some_letters name letters h = record { text = cond-false (list_all is_dot letters) [] (name ++ letters) h; found = cond-false (list_all is_dot letters) None (Some letters) h }
 
-letters_lack : (name letters : List ℕ) → lacks 32 name ≡ true → lacks 32 letters ≡ true → lacks 32 (lettered name letters) ≡ true
-letters_lack name letters h k = by_dots (list_all is_dot letters)
-  where
-    by_dots : (t : Bool) → lacks 32 (if t then [] else name ++ letters) ≡ true
-    by_dots true = refl
-    by_dots false = both_lack 32 name letters h k
-
-switch_lacks : (on off : ℕ) (s : Switch) → (on == 32) ≡ false → (off == 32) ≡ false → (switch_letter on off s == 32) ≡ false
-switch_lacks on off switches.Kept h k = refl
-switch_lacks on off switches.On h k = h
-switch_lacks on off switches.Off h k = k
-
-ink_lacks : (i : Ink) → (ink_letter i == 32) ≡ false
-ink_lacks inks.Kept = refl
-ink_lacks inks.Default = refl
-ink_lacks (inks.Color Black) = refl
-ink_lacks (inks.Color Red) = refl
-ink_lacks (inks.Color Green) = refl
-ink_lacks (inks.Color Yellow) = refl
-ink_lacks (inks.Color Blue) = refl
-ink_lacks (inks.Color Magenta) = refl
-ink_lacks (inks.Color Cyan) = refl
-ink_lacks (inks.Color White) = refl
-
-two_lack : (a b : ℕ) → (a == 32) ≡ false → (b == 32) ≡ false → lacks 32 (a ∷ b ∷ []) ≡ true
-two_lack a b h k = rw (h, k) refl
-
-three_lack : (a b c : ℕ) → (a == 32) ≡ false → (b == 32) ≡ false → (c == 32) ≡ false → lacks 32 (a ∷ b ∷ c ∷ []) ≡ true
-three_lack a b c h k l = rw (h, k, l) refl
-
-marks_lack : (m : Marks) → lacks 32 (mark_letters m) ≡ true
-marks_lack m =
-    both_lack 32 (switch_letter 49 48 m.bold ∷ switch_letter 49 48 m.faint ∷ switch_letter 49 48 m.underline ∷ []) (switch_letter 49 48 m.blink ∷ switch_letter 49 48 m.negative ∷ switch_letter 49 48 m.concealed ∷ [])
-    (three_lack (switch_letter 49 48 m.bold) (switch_letter 49 48 m.faint) (switch_letter 49 48 m.underline) (switch_lacks 49 48 m.bold refl refl) (switch_lacks 49 48 m.faint refl refl) (switch_lacks 49 48 m.underline refl refl))
-    (three_lack (switch_letter 49 48 m.blink) (switch_letter 49 48 m.negative) (switch_letter 49 48 m.concealed) (switch_lacks 49 48 m.blink refl refl) (switch_lacks 49 48 m.negative refl refl) (switch_lacks 49 48 m.concealed refl refl))
-
 pub look_read : (m : Marks) → list_all is_dot (mark_letters m) ≡ false → IsRead (lettered look_name (mark_letters m)) (Looks m)
 unfolding word_at
 look_read m h = let s = some_letters look_name (mark_letters m) h in record {
   read = ap word_at s.text ∙ ap (λ (o : Option (List ℕ)). option_or (option_map (λ m. Looks m) (option_and_then marks_of o)) None) s.found
       ∙ ap (λ (o : Option Marks). option_or (option_map (λ m. Looks m) o) None) (marks_read m);
   some = omega (arith, ap length s.text);
-  spaces = letters_lack look_name (mark_letters m) refl (marks_lack m);
 }
 
 pub ink_read : (f b : Ink) → list_all is_dot (ink_letter f ∷ ink_letter b ∷ []) ≡ false → IsRead (lettered ink_name (ink_letter f ∷ ink_letter b ∷ [])) (Inks f b)
@@ -309,7 +262,6 @@ ink_read f b h = let s = some_letters ink_name (ink_letter f ∷ ink_letter b �
   read = ap word_at s.text ∙ ap (λ (o : Option (List ℕ)). option_or (option_map (λ (i : Ink × Ink). Inks i.0 i.1) (option_and_then inks_of o)) None) s.found
       ∙ ap (λ (o : Option (Ink × Ink)). option_or (option_map (λ (i : Ink × Ink). Inks i.0 i.1) o) None) (inks_read f b);
   some = omega (arith, ap length s.text);
-  spaces = letters_lack ink_name (ink_letter f ∷ ink_letter b ∷ []) refl (two_lack (ink_letter f) (ink_letter b) (ink_lacks f) (ink_lacks b));
 }
 
 pub set_read : (s : Sets) → list_all is_dot (set_letters s) ≡ false → IsRead (set_text s) (Chooses s)
@@ -318,7 +270,4 @@ set_read x h = let s = some_letters set_name (set_letters x) h in record {
   read = ap word_at s.text ∙ ap (λ (o : Option (List ℕ)). option_map (λ s. Chooses s) (option_and_then sets_of o)) s.found
       ∙ ap (option_map (λ s. Chooses s)) (sets_read x);
   some = omega (arith, ap length s.text);
-  spaces = letters_lack set_name (set_letters x) refl
-      (three_lack (switch_letter 48 66 x.g0_graphic) (switch_letter 48 66 x.g1_graphic) (switch_letter 79 73 x.shifted_out)
-      (switch_lacks 48 66 x.g0_graphic refl refl) (switch_lacks 48 66 x.g1_graphic refl refl) (switch_lacks 79 73 x.shifted_out refl refl));
 }

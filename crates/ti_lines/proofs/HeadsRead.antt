@@ -10,7 +10,8 @@ use Rattle.ti_lines.proofs.Digits.{number_reads, number_written, IsNumber, decim
 use Rattle.ti_lines.specs.Cut.{cut_at}
 use Rattle.ti_lines.specs.Hex.{hex_text, hex_in}
 use Rattle.ti_lines.specs.Heads.{first_word, version, acsc_word, behind_word, acsc_in, two_numbers_in, size_in, IsSizeText, IsAcscText}
-use Rattle.ti_lines.proofs.CutFacts.{lacks, cut_front, cut_is}
+use Rattle.ti_lines.proofs.TextCuts.{lacks}
+use Rattle.ti_lines.proofs.CutFacts.{cut_front, cut_is}
 use Rattle.ti_lines.proofs.Hex.{hex_written, hex_read, IsHex}
 use Rattle.ti_lines.proofs.LinesRead.{mapped}
 

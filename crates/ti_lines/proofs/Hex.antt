@@ -1,7 +1,8 @@
 -- A word of hexadecimal digits, read and written.
 use Rattle.std.proofs.Common.{◌≡◌, ℕ, ◌+◌, ◌-◌, ◌*◌, ◌/◌, ◌%◌, ◌<◌, ◌≤◌, ◌==◌, ◌&&◌, nat_le, nat_lt, not, Bool, true, false, if◌then◌else◌, suc, List, [], ◌∷◌, length, Option, Some, None, Result, Ok, Err, refl, sym, ap, ◌∙◌, subst, arith}
 use Rattle.std.specs.Prelude.{slice_index, bytes_eq}
-use Rattle.std.proofs.lemmas.Bool.{agree_below, agree_below_at, and_parts, ltb-true, leb-true, eqb-true}
+use Rattle.std.specs.List.{list_all}
+use Rattle.std.proofs.lemmas.Bool.{agree_below, agree_below_at, and_from, and_parts, ltb-true, leb-true, eqb-true}
 use Rattle.std.proofs.lemmas.Bool.Decides.{nat_tests}
 use Rattle.std.proofs.lemmas.Option.{same_Some, none-some}
 use Rattle.std.proofs.lemmas.Slice.Eq.{bytes_eq-Decides}
@@ -148,29 +149,18 @@ hex_written text bytes h = if_dash (bytes_eq text (45 ∷ [])) text bytes _ (IsH
     digits_there (c ∷ text) bytes h e = omega (arith, e)
 
 -- what is written is read so
-unfoldable is_lower_digit : ℕ → Bool
-is_lower_digit v = not (is_upper (slice_index lower_digits v)) && not (slice_index lower_digits v == 45)
-
-each_is_lower : agree_below is_lower_digit (λ _. true) 16 ≡ true
-unfolding is_lower_digit
-each_is_lower = refl
-
-lower_digit : (v : ℕ) → v < 16 → not (is_upper (slice_index lower_digits v)) ≡ true
-unfolding is_lower_digit
-lower_digit v lt = (and_parts (not (is_upper (slice_index lower_digits v))) _ (agree_below_at is_lower_digit (λ _. true) 16 v each_is_lower lt)).0
-
-pub both : (a b : Bool) → a ≡ true → b ≡ true → (a && b) ≡ true
-both a b h k = rw (h, k) refl
+pub encoded_each : (test : ℕ → Bool) → agree_below (λ v. test (slice_index lower_digits v)) (λ _. true) 16 ≡ true → (bytes : List ℕ) → IsBytes bytes → list_all test (encode_lower bytes) ≡ true
+unfolding encode_with
+encoded_each test each [] h = refl
+encoded_each test each (b ∷ bytes) h =
+    let small : b < 256 = h 0 in
+    and_from _ _ (digit (b / 16) (omega (arith, small))) (and_from _ _ (digit (b % 16) (omega arith)) (encoded_each test each bytes (λ i. h (suc i))))
+  where
+    digit : (v : ℕ) → v < 16 → test (slice_index lower_digits v) ≡ true
+    digit v lt = agree_below_at (λ v. test (slice_index lower_digits v)) (λ _. true) 16 v each lt
 
 encoded_lower : (bytes : List ℕ) → IsBytes bytes → lacks_upper (encode_lower bytes) ≡ true
-unfolding encode_with
-encoded_lower [] h = refl
-encoded_lower (b ∷ bytes) h =
-    let small : b < 256 = h 0 in
-    both _ _ (lower_digit (b / 16) (omega (arith, small))) (both _ _ (lower_digit (b % 16) (omega arith)) (encoded_lower bytes (tail_bytes b bytes h)))
-  where
-    tail_bytes : (b : ℕ) (bytes : List ℕ) → IsBytes (b ∷ bytes) → IsBytes bytes
-    tail_bytes b bytes h i = h (suc i)
+encoded_lower bytes h = encoded_each (λ d. not (is_upper d)) refl bytes h
 
 and_false : (x : Bool) → (x && false) ≡ false
 and_false true = refl
@@ -192,5 +182,5 @@ hex_read [] h = refl
 hex_read (b ∷ bytes) h =
     let text = encode_lower (b ∷ bytes) in
     ap (λ (t : Bool). if t then Some [] else (if has_lower_digits text then decoded (decode_of text) else None)) (not_dash b bytes)
-    ∙ ap (λ (t : Bool). if t then decoded (decode_of text) else None) (both (not (length text == 0)) (lacks_upper text) (digits_written b bytes) (encoded_lower (b ∷ bytes) h))
+    ∙ ap (λ (t : Bool). if t then decoded (decode_of text) else None) (and_from (not (length text == 0)) (lacks_upper text) (digits_written b bytes) (encoded_lower (b ∷ bytes) h))
     ∙ ap decoded (decode_of-encode_lower (b ∷ bytes) h)

@@ -9,6 +9,7 @@ pub mod Recorded
 pub mod EffectTexts
 pub mod CutFacts
 pub mod Hex
+pub mod Lacking
 pub mod NumbersRead
 pub mod LinesRead
 pub mod HeadsRead

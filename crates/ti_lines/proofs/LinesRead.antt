@@ -1,17 +1,16 @@
 -- A line's text, read and written.
-use Rattle.std.proofs.Common.{◌≡◌, ◌≢◌, ℕ, zero, suc, ◌<◌, ◌==◌, not, Bool, true, List, [], ◌∷◌, ◌++◌, length, Option, Some, None, IfSome, Result, Ok, Err, IfOk, refl, sym, ap, ◌∙◌, subst, arith, ◌/◌, ◌%◌, inl, inr, append_assoc, append-nil}
+use Rattle.std.proofs.Common.{◌≡◌, ◌≢◌, ℕ, zero, suc, ◌<◌, List, [], ◌∷◌, ◌++◌, length, Option, Some, None, IfSome, Result, Ok, Err, IfOk, refl, sym, ap, ◌∙◌, subst, arith, inl, inr, append_assoc, append-nil}
 use Rattle.std.specs.Fmt.{decimal}
 use Rattle.std.specs.List.{AllByRecursion}
 use Rattle.std.specs.Option.{option_map, option_and_then}
-use Rattle.std.specs.Prelude.{slice_index}
 use Rattle.std.specs.Cmp.Lexicographic.{slice_cmp}
 use Rattle.std.specs.Ordering.{nat_cmp, is_eq}
 use Rattle.std.specs.declared.cmp.Ordering.TheVariants.{Less}
-use Rattle.std.proofs.lemmas.Bool.{agree_below, agree_below_at, cases_order, true≢false}
+use Rattle.std.proofs.lemmas.Bool.{cases_order, true≢false}
 use Rattle.std.proofs.lemmas.Map.Text.{is_eq-slice_cmp}
 use Rattle.std.proofs.lemmas.Slice.Eq.{bytes_eq-Decides}
 use Rattle.std.proofs.lemmas.Option.{same_Some, none-some, option_and_then_some}
-use Rattle.hex.specs.Hex.{encode_with, encode_lower, lower_digits, IsBytes}
+use Rattle.hex.specs.Hex.{IsBytes}
 use Rattle.ti_lines.specs.EffectText.{spelled, IsPlain}
 use Rattle.ti_lines.specs.EffectReader.{number_at, effect_in}
 use Rattle.ti_lines.proofs.Digits.{number_reads, number_written, IsNumber, decimal_lacks}
@@ -26,8 +25,9 @@ use Rattle.ti_lines.specs.declared.row_lines.RowLine.{RowLine}
 use Rattle.ti_lines.specs.Cut.{cut_at}
 use Rattle.ti_lines.specs.Hex.{hex_text, hex_in}
 use Rattle.ti_lines.specs.RowLines.{numbers_text, line_text, IsLine, IsTextOf, numbers_before, row_before, line_behind, line_of}
-use Rattle.ti_lines.proofs.CutFacts.{lacks, cut_front, cut_is, IsCut}
-use Rattle.ti_lines.proofs.Hex.{hex_written, hex_read, IsHex, both}
+use Rattle.ti_lines.proofs.CutFacts.{cut_front, cut_is, IsCut}
+use Rattle.ti_lines.proofs.Hex.{hex_written, hex_read, IsHex}
+use Rattle.ti_lines.proofs.Lacking.{hex_lacks, name_lacks}
 
 -- the value after `option_map`
 pub mapped : {A B : Type 0} (f : A → B) (o : Option A) (z : B) → option_map f o ≡ Some z → (y : A) × (o ≡ Some y) × (f y ≡ z)
@@ -79,29 +79,6 @@ numbers_read (n ∷ ns) done rest h =
     ∙ numbers_read ns (done ++ n ∷ []) rest h.1
     ∙ ap (λ (d : List ℕ). Some (d, rest)) (append_assoc done (n ∷ []) ns)
 
--- hexadecimal words have no spaces
-unfoldable is_no_space : ℕ → Bool
-is_no_space v = not (slice_index lower_digits v == 32)
-
-each_is_no_space : agree_below is_no_space (λ _. true) 16 ≡ true
-unfolding is_no_space
-each_is_no_space = refl
-
-digit_lacks : (v : ℕ) → v < 16 → not (slice_index lower_digits v == 32) ≡ true
-unfolding is_no_space
-digit_lacks v lt = agree_below_at is_no_space (λ _. true) 16 v each_is_no_space lt
-
-digits_lack : (bytes : List ℕ) → IsBytes bytes → lacks 32 (encode_lower bytes) ≡ true
-unfolding encode_with
-digits_lack [] h = refl
-digits_lack (b ∷ bytes) h =
-    let small : b < 256 = h 0 in
-    both _ _ (digit_lacks (b / 16) (omega (arith, small))) (both _ _ (digit_lacks (b % 16) (omega arith)) (digits_lack bytes (λ i. h (suc i))))
-
-hex_lacks : (bytes : List ℕ) → IsBytes bytes → lacks 32 (hex_text bytes) ≡ true
-hex_lacks [] h = refl
-hex_lacks (b ∷ bytes) h = digits_lack (b ∷ bytes) h
-
 -- the bytes and the effect
 abbrev behind_text : List ℕ → Effect → List ℕ
 behind_text bytes e = hex_text bytes ++ 32 ∷ spelled e
@@ -133,7 +110,7 @@ behind_written row text line h =
 
 behind_read : (row : Row) (bytes : List ℕ) (e : Effect) → IsBytes bytes → IsPlain e → line_behind row (behind_text bytes e) ≡ Some (line_with row bytes e)
 behind_read row bytes e h p =
-    ap (λ (o : Option (List ℕ × List ℕ)). option_and_then (λ q. option_and_then (λ effect. option_map (λ b. record { row = row; bytes = b; effect = effect }) (hex_in q.0)) (effect_in q.1)) o) (cut_front 32 (hex_text bytes) (spelled e) (hex_lacks bytes h))
+    ap (λ (o : Option (List ℕ × List ℕ)). option_and_then (λ q. option_and_then (λ effect. option_map (λ b. record { row = row; bytes = b; effect = effect }) (hex_in q.0)) (effect_in q.1)) o) (cut_front 32 (hex_text bytes) (spelled e) (hex_lacks 32 bytes (omega arith) h))
     ∙ ap (λ (o : Option Effect). option_and_then (λ effect. option_map (λ b. record { row = row; bytes = b; effect = effect }) (hex_in (hex_text bytes))) o) (spelled_reads e (spelled e) p refl)
     ∙ ap (λ (o : Option (List ℕ)). option_map (λ b. record { row = row; bytes = b; effect = e }) o) (hex_read bytes h)
 
@@ -174,18 +151,7 @@ rest_read first line h same =
     ∙ ap (λ (o : Option Row). option_map (λ row. (row, behind_text line.bytes line.effect)) o) (params_found first line.row same) in
     ap (λ (o : Option (Row × List ℕ)). option_and_then (λ p. line_behind p.0 p.1) o) row_so ∙ behind_read line.row line.bytes line.effect h.bytes h.effect
 
--- names have no spaces, and differ
-unfoldable name_lacks : ℕ → Bool
-name_lacks n = lacks 32 (name_in_order n)
-
-each_name_lacks : agree_below name_lacks (λ _. true) 42 ≡ true
-unfolding name_lacks name_in_order
-each_name_lacks = refl
-
-named_lacks : (row : Row) → lacks 32 (name_of row) ≡ true
-unfolding name_lacks
-named_lacks row = agree_below_at name_lacks (λ _. true) 42 (order row) each_name_lacks (orders_small row)
-
+-- names differ
 not_itself : (xs ys : List ℕ) → slice_cmp nat_cmp xs ys ≡ Less → xs ≡ ys → ⊥
 not_itself xs ys h e = true≢false (sym ((bytes_eq-Decides xs ys).1 e) ∙ sym (is_eq-slice_cmp xs ys) ∙ ap is_eq h)
 
@@ -198,7 +164,7 @@ same_name a b h = elim (cases_order (order a) (order b)) [
 
 -- how a line's text is cut
 cut_line : (line : RowLine) → cut_at 32 (line_text line) ≡ Some (name_of line.row, rest_text line)
-cut_line line = cut_front 32 (name_of line.row) (rest_text line) (named_lacks line.row)
+cut_line line = cut_front 32 (name_of line.row) (rest_text line) (name_lacks 32 line.row (omega arith))
 
 pub no_line : (text : List ℕ) (line : RowLine) → cut_at 32 text ≡ None → IsTextOf text line → ⊥
 no_line text line h t = none-some _ (sym h ∙ ap (λ (x : List ℕ). cut_at 32 x) (sym t.spelled) ∙ cut_line line)

@@ -28,7 +28,6 @@ use Rattle.ti_lines.specs.declared.words.Marks.{Marks}
 use Rattle.ti_lines.specs.declared.words.Found.{Found}
 use Rattle.ti_lines.specs.EffectText.{row_name, col_name, ink_name, look_name, set_name, is_dot, switch_letter, ink_letter, move_text, pending_text, erasure_text, scroll_text, look_text, ink_text, set_text, rows_text, visible_text, lettered, texts, nonempty, words, IsPlainMove, IsPlainErasure, IsPlainRegion, IsPlain}
 use Rattle.ti_lines.specs.EffectReader.{rank, with_marks, put, put_next, with_word, with_words, word_at}
-use Rattle.ti_lines.proofs.TextCuts.{AllLack}
 use Rattle.ti_lines.proofs.Glyphs.{mark_letters, set_letters}
 use Rattle.ti_lines.proofs.Forms.{word_text, IsPlainWord, IsWord, word_written, IsRead, fixed_read, row_to, row_back, row_forward, col_to, col_back, col_forward, next_read, region_read, look_read, ink_read, set_read}
 
@@ -146,7 +145,6 @@ words_add (w ∷ ws) found f h p m =
 pub record Leads (place : ℕ) (e : Effect) (ws : List (List ℕ)) (final : Effect) : Type 0 where
   pub next : ℕ
   pub read : with_words (record { effect = e; next = place }) ws ≡ Some (record { effect = final; next = next })
-  pub spaces : AllLack 32 ws
 
 lower_word : (place : ℕ) (e : Effect) (w : List ℕ) (f : Found) → with_word (record { effect = e; next = place + 1 }) w ≡ Some f → with_word (record { effect = e; next = place }) w ≡ Some f
 unfolding with_word
@@ -161,12 +159,11 @@ lower_word place e w f h =
 lower : (place : ℕ) (e : Effect) (ws : List (List ℕ)) (final : Effect) → Leads (place + 1) e ws final → Leads place e ws final
 lower place e [] final l =
     let same : e ≡ final = ap (λ (f : Found). f.effect) (same_Some (record { effect = e; next = place + 1 }) (record { effect = final; next = l.next }) l.read) in
-    record { next = place; read = ap (λ (x : Effect). Some (record { effect = x; next = place })) same; spaces = tt }
+    record { next = place; read = ap (λ (x : Effect). Some (record { effect = x; next = place })) same }
 lower place e (w ∷ ws) final l = record {
   next = l.next;
   read = option_and_then_some (λ f. with_words f ws) (with_word (record { effect = e; next = place + 1 }) w) (record { effect = final; next = l.next }) l.read
       (λ f h k. ap (option_and_then (λ f. with_words f ws)) (lower_word place e w f h) ∙ k);
-  spaces = l.spaces;
 }
 
 -- what a text says at its place of an effect: nothing, or one word
@@ -193,7 +190,6 @@ step place e f t ts final (Spoken x is r p) l =
     subst (λ (ws : List (List ℕ)). Leads place e ws final) (sym (front_word t ts is.some)) (record {
       next = l.next;
       read = ap (option_and_then (λ f. with_words f (nonempty ts))) (spoken place e f t x is r p) ∙ l.read;
-      spaces = (is.spaces, l.spaces);
     })
 
 -- each kind of word
@@ -211,20 +207,20 @@ col_says (moves.Forward n) e k p = Spoken (Col (moves.Forward n)) (col_forward n
 
 pending_says : (b : Bool) (e : Effect) → e.ends_pending ≡ false → Says 2 (pending_text b) e (record e { ends_pending = b })
 pending_says false e k = Silent refl (ap (λ (b : Bool). record e { ends_pending = b }) (sym k))
-pending_says true e k = Spoken EndsPending (fixed_read _ EndsPending refl (omega arith) refl) refl refl
+pending_says true e k = Spoken EndsPending (fixed_read _ EndsPending refl (omega arith)) refl refl
 
 erasure_says : (x : Erasure) (e : Effect) → e.erasure ≡ erasures.Nothing → IsPlainErasure x → Says 3 (erasure_text x) e (record e { erasure = x })
 erasure_says erasures.Nothing e k p = Silent refl (ap (λ (x : Erasure). record e { erasure = x }) (sym k))
-erasure_says erasures.Screen e k p = Spoken (Erases erasures.Screen) (fixed_read _ _ refl (omega arith) refl) refl refl
-erasure_says erasures.Tail e k p = Spoken (Erases erasures.Tail) (fixed_read _ _ refl (omega arith) refl) refl refl
-erasure_says erasures.Head e k p = Spoken (Erases erasures.Head) (fixed_read _ _ refl (omega arith) refl) refl refl
-erasure_says erasures.Rest e k p = Spoken (Erases erasures.Rest) (fixed_read _ _ refl (omega arith) refl) refl refl
+erasure_says erasures.Screen e k p = Spoken (Erases erasures.Screen) (fixed_read _ _ refl (omega arith)) refl refl
+erasure_says erasures.Tail e k p = Spoken (Erases erasures.Tail) (fixed_read _ _ refl (omega arith)) refl refl
+erasure_says erasures.Head e k p = Spoken (Erases erasures.Head) (fixed_read _ _ refl (omega arith)) refl refl
+erasure_says erasures.Rest e k p = Spoken (Erases erasures.Rest) (fixed_read _ _ refl (omega arith)) refl refl
 erasure_says (erasures.Next n) e k p = Spoken (Erases (erasures.Next n)) (next_read n p.0 p.1) refl refl
 
 scroll_says : (s : Scroll) (e : Effect) → e.scroll ≡ scrolls.Still → Says 4 (scroll_text s) e (record e { scroll = s })
 scroll_says scrolls.Still e k = Silent refl (ap (λ (s : Scroll). record e { scroll = s }) (sym k))
-scroll_says scrolls.Up e k = Spoken (Scrolls scrolls.Up) (fixed_read _ _ refl (omega arith) refl) refl refl
-scroll_says scrolls.Down e k = Spoken (Scrolls scrolls.Down) (fixed_read _ _ refl (omega arith) refl) refl refl
+scroll_says scrolls.Up e k = Spoken (Scrolls scrolls.Up) (fixed_read _ _ refl (omega arith)) refl refl
+scroll_says scrolls.Down e k = Spoken (Scrolls scrolls.Down) (fixed_read _ _ refl (omega arith)) refl refl
 
 -- the dot is for what is kept
 switch_kept : (on off : ℕ) (s : Switch) → is_dot on ≡ false → is_dot off ≡ false → is_dot (switch_letter on off s) ≡ true → s ≡ switches.Kept
@@ -309,8 +305,8 @@ rows_say (Some r) e k p = Spoken (Rows r) (region_read r p) refl refl
 
 visible_says : (s : Switch) (e : Effect) → e.visible ≡ switches.Kept → Says 9 (visible_text s) e (record e { visible = s })
 visible_says switches.Kept e k = Silent refl (ap (λ (s : Switch). record e { visible = s }) (sym k))
-visible_says switches.On e k = Spoken (Shows switches.On) (fixed_read _ _ refl (omega arith) refl) refl refl
-visible_says switches.Off e k = Spoken (Shows switches.Off) (fixed_read _ _ refl (omega arith) refl) refl refl
+visible_says switches.On e k = Spoken (Shows switches.On) (fixed_read _ _ refl (omega arith)) refl refl
+visible_says switches.Off e k = Spoken (Shows switches.Off) (fixed_read _ _ refl (omega arith)) refl refl
 
 -- the first words of an effect
 abbrev moved_row : Effect → Effect
@@ -355,4 +351,4 @@ leads e p =
     (step 7 (inked e) (chosen e) (set_text e.charset) _ e (set_says e.charset (inked e) refl)
     (step 8 (chosen e) (framed e) (rows_text e.margins) _ e (rows_say e.margins (chosen e) refl p.margins)
     (step 9 (framed e) e (visible_text e.visible) [] e (visible_says e.visible (framed e) refl)
-    (record { next = 10; read = refl; spaces = tt }))))))))))
+    (record { next = 10; read = refl }))))))))))
