@@ -1,6 +1,7 @@
 use Rattle.std.proofs.Common.{List, ℕ, [], refl, subst}
 use Rattle.vt_term.specs.Text.{Splits}
-use Rattle.ti_cert.proofs.Judgements.{recorded_at, record_sets}
+use Rattle.ti_cert.proofs.Decided.{record_sets}
+use Rattle.ti_cert.proofs.Judgements.{recorded_at}
 use Rattle.ti_checker.proofs.switches.change_by.Goals as goal
 
 pub returns-in-Some-clause-change : goal.returns-in-Some-clause-change
