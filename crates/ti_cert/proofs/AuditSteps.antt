@@ -215,7 +215,7 @@ is_no_memory ReadFailed = inr (λ e. cc)
 pub last_lacks : (p : Progress) (row : Row) → Some row ≡ missing p.size.rows p.size.cols p.place.last 42 → AnswersLast p (Err (missing_line row))
 last_lacks p row e = λ pairs lines st pa. Lacks row (missing_at_end p.size.rows p.size.cols lines p.place.last row p.size.limits st.place (sym e)) refl
 
-has_cap : (lines : List RowLine) (row other : Row) → order row ≡ order other → speaks_of lines row ≡ true → HasCap lines other
+pub has_cap : (lines : List RowLine) (row other : Row) → order row ≡ order other → speaks_of lines row ≡ true → HasCap lines other
 has_cap [] row other same e = absurd (true≢false (sym e))
 has_cap (line ∷ lines) row other same e = by_cases (has_cap lines row other same) (or_cases (order row == order line.row) (speaks_of lines row) e)
   where

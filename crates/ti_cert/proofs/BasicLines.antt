@@ -139,7 +139,7 @@ pub record HasText (row : Row) : Type 0 where
   pub line_is : IsLine (basic_line row)
   pub short : length (line_text (basic_line row)) < 100
 
-is_bytes : (xs : List ℕ) → AllByRecursion (λ b. b < 256) xs → IsBytes xs
+pub is_bytes : (xs : List ℕ) → AllByRecursion (λ b. b < 256) xs → IsBytes xs
 is_bytes [] h i = omega arith
 is_bytes (x ∷ xs) h zero = h.0
 is_bytes (x ∷ xs) h (suc i) = is_bytes xs h.1 i

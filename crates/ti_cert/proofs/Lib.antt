@@ -7,10 +7,12 @@ pub mod Judgements
 pub mod Order
 pub mod PlaceFacts
 pub mod Together
+pub mod Decided
 pub mod AuditSteps
 pub mod Relations
 pub mod Singleness
 pub mod Texts
+pub mod Asked
 pub mod LineTexts
 pub mod Converse
 pub mod Accepted

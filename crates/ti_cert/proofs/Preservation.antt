@@ -1,6 +1,7 @@
 -- What is known of lines stays so when one more line is known.
 use Rattle.std.proofs.Common.{◌≡◌, ◌⊎◌, ◌<◌, nat_lt, ℕ, Bool, true, false, if◌then◌else◌, List, [], ◌∷◌, ◌++◌, Some, inl, inr, refl, sym, ap, ◌∙◌, subst}
-use Rattle.std.specs.Prelude.{replicate}
+use Rattle.std.specs.Prelude.{◌==◌, not, length, replicate}
+use Rattle.std.proofs.lemmas.Bool.{true≢false}
 use Rattle.vt_term.specs.Text.{Splits}
 use Rattle.vt_effects.specs.declared.effects.Effect.{Effect}
 use Rattle.vt_effects.specs.declared.effects.Sets.{Sets}
@@ -14,13 +15,13 @@ use Rattle.ti_rows.specs.declared.rows.Row.{Row}
 use Rattle.ti_rows.specs.declared.rows.Row.TheVariants.{Clear, Cup, Home, Cr, Hpa, Vpa, Cub1, Cuf1, Cuu1, Cud1, Cub, Cuf, Cuu, Cud, El, El1, Ed, Ech, Sgr, Sgr0, Setaf, Setab, Op, Smul, Rev, Blink, Dim, Bold, Invis, Smso, Enacs, Smacs, Rmacs, Csr, Ind, Ri, Civis, Cnorm, Cvvis, Smcup, Rmcup, Bel}
 use Rattle.ti_rows.specs.declared.rows.Attributes.{Attributes}
 use Rattle.ti_rows.specs.Bits.{number_of}
-use Rattle.ti_rows.specs.Names.{order, no_attributes}
+use Rattle.ti_rows.specs.Names.{order}
 use Rattle.ti_rows.specs.Lists.{rank}
 use Rattle.ti_rows.specs.Looks.{learned, shown}
 use Rattle.ti_rows.specs.Asked.{start_of, asked, rendering, just, ink_of, defaults_both_inks, with_marks_on}
 use Rattle.ti_rows.proofs.Answers.{earlier_kept}
 use Rattle.ti_conforms.specs.Table.{settles}
-use Rattle.ti_cert.specs.Strings.{Strings, row_string, has_group, Adds}
+use Rattle.ti_cert.specs.Strings.{Strings, group_at, row_string, has_group, Adds}
 use Rattle.ti_cert.specs.Known.{Known, looks_with, HasRecord, IsKept, IsChange, IsFrom, IsTold, Holds, with_change}
 use Rattle.ti_cert.specs.Certificates.{rival}
 use Rattle.ti_conforms.specs.Looks.{LooksAlone, no_looks}
@@ -29,7 +30,7 @@ use Rattle.ti_cert.proofs.Singles.{looks_more}
 use Rattle.ti_cert.proofs.GroupFacts.{there_some, none_at_first}
 
 -- what the table asks depends on the looks in the rows of `sgr` and `smso` alone
-asked_by : (l m : Looks) (r : Row) (f : Effect) → ((a : Attributes) → r ≡ Sgr a → shown l a ≡ shown m a) → (r ≡ Smso → l.standout ≡ m.standout) → asked l r f ≡ asked m r f
+pub asked_by : (l m : Looks) (r : Row) (f : Effect) → ((a : Attributes) → r ≡ Sgr a → shown l a ≡ shown m a) → (r ≡ Smso → l.standout ≡ m.standout) → asked l r f ≡ asked m r f
 asked_by l m Clear f s t = refl
 asked_by l m (Cup row col) f s t = refl
 asked_by l m Home f s t = refl
@@ -73,12 +74,6 @@ asked_by l m Smcup f s t = refl
 asked_by l m Rmcup f s t = refl
 asked_by l m Bel f s t = refl
 
-off : (s : Strings) (r q : Row) {A : Type 0} → r ≡ q → has_group s r ≡ true → has_group s q ≡ false → A
-off s r q e t h = let wrong : true ≡ false = sym t ∙ (ap (λ (x : Row). has_group s x) e ∙ h) in cc
-
-off_sgr : (s : Strings) (r : Row) (a : Attributes) {A : Type 0} → r ≡ Sgr a → has_group s r ≡ true → has_group s (Sgr no_attributes) ≡ false → A
-off_sgr s r a e t h = off s r (Sgr a) e t h
-
 lower : (rows cols : ℕ) (r : Row) (a b : Attributes) → r ≡ Sgr b → (order r ≡ order (Sgr a) → nat_lt (rank rows cols r) (rank rows cols (Sgr a)) ≡ true) → number_of b < number_of a
 lower rows cols r a b e later = let h : nat_lt (number_of b) (number_of a) ≡ true = ap (λ (x : Row). nat_lt (rank rows cols x) (number_of a)) (sym e) ∙ later (ap order e) in less (number_of b) (number_of a) h
 
@@ -86,56 +81,57 @@ not_itself : (rows cols : ℕ) (r : Row) {A : Type 0} → r ≡ Smso → (order 
 not_itself rows cols r e later = let h : nat_lt 0 0 ≡ true = ap (λ (x : Row). nat_lt (rank rows cols x) 0) (sym e) ∙ later (ap order e) in cc
 
 -- a line that was judged before is judged the same with what one more line tells of the looks
-learned_keeps : (s : Strings) (l : Looks) (row : Row) (e : Effect) (r : Row) (f : Effect) → has_group s (rival row) ≡ false → has_group s r ≡ true
-    → (order r ≡ order row → nat_lt (rank s.rows s.cols r) (rank s.rows s.cols row) ≡ true) → asked l r f ≡ asked (learned row e l) r f
-learned_keeps s l Clear e r f wrong there later = refl
-learned_keeps s l (Cup row col) e r f wrong there later = refl
-learned_keeps s l Home e r f wrong there later = refl
-learned_keeps s l Cr e r f wrong there later = refl
-learned_keeps s l (Hpa col) e r f wrong there later = refl
-learned_keeps s l (Vpa row) e r f wrong there later = refl
-learned_keeps s l Cub1 e r f wrong there later = refl
-learned_keeps s l Cuf1 e r f wrong there later = refl
-learned_keeps s l Cuu1 e r f wrong there later = refl
-learned_keeps s l Cud1 e r f wrong there later = refl
-learned_keeps s l (Cub n) e r f wrong there later = refl
-learned_keeps s l (Cuf n) e r f wrong there later = refl
-learned_keeps s l (Cuu n) e r f wrong there later = refl
-learned_keeps s l (Cud n) e r f wrong there later = refl
-learned_keeps s l El e r f wrong there later = refl
-learned_keeps s l El1 e r f wrong there later = refl
-learned_keeps s l Ed e r f wrong there later = refl
-learned_keeps s l (Ech n) e r f wrong there later = refl
-learned_keeps s l (Sgr a) e r f wrong there later = asked_by l (learned (Sgr a) e l) r f (λ b is. sym (earlier_kept l a b e (lower s.rows s.cols r a b is later))) (λ is. off s r Smso is there wrong)
-learned_keeps s l Sgr0 e r f wrong there later = refl
-learned_keeps s l (Setaf c) e r f wrong there later = refl
-learned_keeps s l (Setab c) e r f wrong there later = refl
-learned_keeps s l Op e r f wrong there later = refl
-learned_keeps s l Smul e r f wrong there later = asked_by l (learned Smul e l) r f (λ b is. off_sgr s r b is there wrong) (λ is. refl)
-learned_keeps s l Rev e r f wrong there later = asked_by l (learned Rev e l) r f (λ b is. off_sgr s r b is there wrong) (λ is. refl)
-learned_keeps s l Blink e r f wrong there later = asked_by l (learned Blink e l) r f (λ b is. off_sgr s r b is there wrong) (λ is. refl)
-learned_keeps s l Dim e r f wrong there later = asked_by l (learned Dim e l) r f (λ b is. off_sgr s r b is there wrong) (λ is. refl)
-learned_keeps s l Bold e r f wrong there later = asked_by l (learned Bold e l) r f (λ b is. off_sgr s r b is there wrong) (λ is. refl)
-learned_keeps s l Invis e r f wrong there later = asked_by l (learned Invis e l) r f (λ b is. off_sgr s r b is there wrong) (λ is. refl)
-learned_keeps s l Smso e r f wrong there later = asked_by l (learned Smso e l) r f (λ b is. off_sgr s r b is there wrong) (λ is. not_itself s.rows s.cols r is later)
-learned_keeps s l Enacs e r f wrong there later = refl
-learned_keeps s l Smacs e r f wrong there later = refl
-learned_keeps s l Rmacs e r f wrong there later = refl
-learned_keeps s l (Csr top bottom) e r f wrong there later = refl
-learned_keeps s l Ind e r f wrong there later = refl
-learned_keeps s l Ri e r f wrong there later = refl
-learned_keeps s l Civis e r f wrong there later = refl
-learned_keeps s l Cnorm e r f wrong there later = refl
-learned_keeps s l Cvvis e r f wrong there later = refl
-learned_keeps s l Smcup e r f wrong there later = refl
-learned_keeps s l Rmcup e r f wrong there later = refl
-learned_keeps s l Bel e r f wrong there later = refl
+pub learned_keeps : (rows cols : ℕ) (l : Looks) (row : Row) (e : Effect) (r : Row) (f : Effect) → (order r ≡ order (rival row) → ⊥)
+    → (order r ≡ order row → nat_lt (rank rows cols r) (rank rows cols row) ≡ true) → asked l r f ≡ asked (learned row e l) r f
+learned_keeps rows cols l Clear e r f never later = refl
+learned_keeps rows cols l (Cup row col) e r f never later = refl
+learned_keeps rows cols l Home e r f never later = refl
+learned_keeps rows cols l Cr e r f never later = refl
+learned_keeps rows cols l (Hpa col) e r f never later = refl
+learned_keeps rows cols l (Vpa row) e r f never later = refl
+learned_keeps rows cols l Cub1 e r f never later = refl
+learned_keeps rows cols l Cuf1 e r f never later = refl
+learned_keeps rows cols l Cuu1 e r f never later = refl
+learned_keeps rows cols l Cud1 e r f never later = refl
+learned_keeps rows cols l (Cub n) e r f never later = refl
+learned_keeps rows cols l (Cuf n) e r f never later = refl
+learned_keeps rows cols l (Cuu n) e r f never later = refl
+learned_keeps rows cols l (Cud n) e r f never later = refl
+learned_keeps rows cols l El e r f never later = refl
+learned_keeps rows cols l El1 e r f never later = refl
+learned_keeps rows cols l Ed e r f never later = refl
+learned_keeps rows cols l (Ech n) e r f never later = refl
+learned_keeps rows cols l (Sgr a) e r f never later = asked_by l (learned (Sgr a) e l) r f (λ b is. sym (earlier_kept l a b e (lower rows cols r a b is later))) (λ is. absurd (never (ap order is)))
+learned_keeps rows cols l Sgr0 e r f never later = refl
+learned_keeps rows cols l (Setaf c) e r f never later = refl
+learned_keeps rows cols l (Setab c) e r f never later = refl
+learned_keeps rows cols l Op e r f never later = refl
+learned_keeps rows cols l Smul e r f never later = asked_by l (learned Smul e l) r f (λ b is. absurd (never (ap order is))) (λ is. refl)
+learned_keeps rows cols l Rev e r f never later = asked_by l (learned Rev e l) r f (λ b is. absurd (never (ap order is))) (λ is. refl)
+learned_keeps rows cols l Blink e r f never later = asked_by l (learned Blink e l) r f (λ b is. absurd (never (ap order is))) (λ is. refl)
+learned_keeps rows cols l Dim e r f never later = asked_by l (learned Dim e l) r f (λ b is. absurd (never (ap order is))) (λ is. refl)
+learned_keeps rows cols l Bold e r f never later = asked_by l (learned Bold e l) r f (λ b is. absurd (never (ap order is))) (λ is. refl)
+learned_keeps rows cols l Invis e r f never later = asked_by l (learned Invis e l) r f (λ b is. absurd (never (ap order is))) (λ is. refl)
+learned_keeps rows cols l Smso e r f never later = asked_by l (learned Smso e l) r f (λ b is. absurd (never (ap order is))) (λ is. not_itself rows cols r is later)
+learned_keeps rows cols l Enacs e r f never later = refl
+learned_keeps rows cols l Smacs e r f never later = refl
+learned_keeps rows cols l Rmacs e r f never later = refl
+learned_keeps rows cols l (Csr top bottom) e r f never later = refl
+learned_keeps rows cols l Ind e r f never later = refl
+learned_keeps rows cols l Ri e r f never later = refl
+learned_keeps rows cols l Civis e r f never later = refl
+learned_keeps rows cols l Cnorm e r f never later = refl
+learned_keeps rows cols l Cvvis e r f never later = refl
+learned_keeps rows cols l Smcup e r f never later = refl
+learned_keeps rows cols l Rmcup e r f never later = refl
+learned_keeps rows cols l Bel e r f never later = refl
 
 either_keeps : (k : Known) (row : Row) (e : Effect) (r : Row) (f : Effect) (b : Bool) → has_group k.strings (rival row) ≡ b → has_group k.strings r ≡ true
     → (order r ≡ order row → nat_lt (rank k.strings.rows k.strings.cols r) (rank k.strings.rows k.strings.cols row) ≡ true)
     → asked k.looks r f ≡ asked (if b then k.looks else learned row e k.looks) r f
 either_keeps k row e r f true is there later = refl
-either_keeps k row e r f false is there later = learned_keeps k.strings k.looks row e r f is there later
+either_keeps k row e r f false is there later = learned_keeps k.strings.rows k.strings.cols k.looks row e r f
+    (λ same. true≢false (sym there ∙ (ap (λ (n : ℕ). not (length (group_at k.strings n) == 0)) same ∙ is))) later
 
 pub among_front : {A : Type 0} (xs ys : List A) (x : A) → IsAmong xs x → IsAmong (xs ++ ys) x
 among_front [] ys x a = absurd a

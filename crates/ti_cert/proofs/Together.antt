@@ -35,14 +35,14 @@ over_append : (ts us : List (List ℕ)) (c : Charset) → charset_over (ts ++ us
 over_append [] us c = refl
 over_append (t ∷ ts) us c = over_append ts us (charset_after (function_of t) c)
 
-joined : (a b : List ℕ) (f g : Charset → Charset) → Leads a f → Leads b g → Leads (a ++ b) (λ c. g (f c))
+pub joined : (a b : List ℕ) (f g : Charset → Charset) → Leads a f → Leads b g → Leads (a ++ b) (λ c. g (f c))
 joined a b f g p q = record {
   tokens = p.tokens ++ q.tokens;
   whole = splits_append a p.tokens q.tokens [] b [] p.whole q.whole;
   leads = λ c. over_append p.tokens q.tokens c ∙ (ap (λ (x : Charset). charset_over q.tokens x) (p.leads c) ∙ q.leads (f c));
 }
 
-nothing : Leads [] (λ c. c)
+pub nothing : Leads [] (λ c. c)
 nothing = record { tokens = []; whole = empty_splits; leads = λ c. refl }
 
 -- a string leads charsets as its change says
@@ -67,7 +67,7 @@ resync_leads t reach changes r smacs escapes p =
     (joined (text_of t (widening t)) (text_of t Clear) (λ c. c) (λ c. c) (keeps t (widening t) (t.line_of (widening t)) refl p.widens) (keeps t Clear (t.line_of Clear) refl p.clears))
 
 -- there is one splitting, so there is one such charset
-led : (bytes : List ℕ) (f : Charset → Charset) (c d : Charset) → Leads bytes f → LeadsBy bytes c d → d ≡ f c
+pub led : (bytes : List ℕ) (f : Charset → Charset) (c d : Charset) → Leads bytes f → LeadsBy bytes c d → d ≡ f c
 led bytes f c d p l =
     let same = one_splitting bytes l.tokens p.tokens [] [] l.whole p.whole in
     l.is ∙ (ap (λ (ts : List (List ℕ)). charset_over ts c) (sym same.0) ∙ p.leads c)
@@ -129,6 +129,23 @@ is_settled t reach changes r smacs escapes settled p d (AfterLine c _ row bytes 
     let x : IsLineSeen p.found.seen.tokens changes row bytes = p.found.seen.lines row bytes there in
     p.all.close_complete d (After c d (p.all.close_sound c (is_settled t reach changes r smacs escapes settled p c s))
     (record { change = x.change; among = x.settled keeps; leads = line_led bytes x.change c d x.leads l }))
+
+-- a table's sets are just those that can be had and settled
+pub record SetsAre (t : Table) : Type 0 where
+  pub had : (c : Charset) → t.reached c ≡ true → CanHave t c
+  pub reached : (c : Charset) → CanHave t c → t.reached c ≡ true
+  pub can_settle : (c : Charset) → t.settled c ≡ true → CanSettle t c
+  pub settled : (c : Charset) → CanSettle t c → t.settled c ≡ true
+
+-- so are those that were computed
+pub sets_are : (t : Table) (reach : Reach) (changes : List Sets) (r : Resync) (smacs : Option Sets) (escapes : Bool) (settled : Charsets) → IsFound t reach changes r smacs escapes → AreSettled reach changes r settled
+    → ((c : Charset) → t.reached c ≡ can_have reach c) → ((c : Charset) → t.settled c ≡ closing.has settled c) → SetsAre t
+sets_are t reach changes r smacs escapes settled found all had has = record {
+  had = λ c h. can_be t reach changes found.seen c (sym (had c) ∙ h);
+  reached = λ c h. had c ∙ (ap (λ (x : Reach). can_have x c) found.seen.reach_is ∙ reached_can found.seen.tokens c (token_reached t reach changes found.seen c h));
+  can_settle = λ c h. in_settled t reach changes r smacs escapes settled (record { found = found; all = all }) c (sym (has c) ∙ h);
+  settled = λ c h. has c ∙ is_settled t reach changes r smacs escapes settled (record { found = found; all = all }) c h;
+}
 
 -- ---- the set that is active
 

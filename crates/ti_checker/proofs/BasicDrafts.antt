@@ -1,5 +1,5 @@
 -- The lines of a basic entry are its basic text, and no row of it is refused unless memory runs out.
-use Rattle.std.proofs.Common.{◌≡◌, ◌<◌, ℕ, true, List, [], ◌∷◌, ◌++◌, map, reverse, Option, None, Some, Ok, inl, inr, refl, sym, ap, subst, ◌∙◌}
+use Rattle.std.proofs.Common.{◌≡◌, ℕ, true, List, [], ◌∷◌, map, reverse, Option, None, Some, Ok, inl, inr, refl, sym, ap, subst, ◌∙◌}
 use Rattle.std.proofs.lemmas.Bool.{and_parts}
 use Rattle.std.proofs.lemmas.List.{reverse-reverse}
 use Rattle.std.proofs.lemmas.Option.{same_Some, none-some}
@@ -16,33 +16,31 @@ use Rattle.ti_rows.specs.declared.rows.Row.TheVariants.{Home, El}
 use Rattle.ti_rows.specs.Asked.{start_of, asked}
 use Rattle.ti_rows.specs.Lists.{IsInRange}
 use Rattle.ti_rows.specs.Looks.{learned}
-use Rattle.ti_rows.specs.Names.{order}
-use Rattle.ti_rows.proofs.NameFacts.{orders_small}
 use Rattle.ti_rows.proofs.Rightness.{recorded_is_right}
 use Rattle.ti_lines.specs.declared.row_lines.RowLine.{RowLine}
-use Rattle.ti_lines.specs.Texts.{line_texts, ended}
 use Rattle.ti_conforms.specs.Entries.{has_string, is_checked, string_of}
-use Rattle.ti_cert.specs.Basic.{basic_bytes, basic_effect, basic_line, basic_rows, basic_text, basic_text_of, IsBasic}
+use Rattle.ti_cert.specs.Basic.{basic_bytes, basic_effect, basic_line, basic_rows, basic_text_of, IsBasic}
 use Rattle.ti_cert.specs.Certificates.{Ended, IsAnswer}
 use Rattle.ti_cert.specs.Order.{Precedes}
 use Rattle.ti_conforms.specs.Looks.{no_looks}
 use Rattle.ti_cert.proofs.BasicAgreement.{among_checked, checked_kind, some_string}
 use Rattle.ti_cert.proofs.BasicLines.{HasTokens, tokens_of, has_tokens, has_effect}
-use Rattle.ti_cert.proofs.BasicOrder.{Rises, Kind, IsClear, IsCup, IsEl, IsHome, IsSgr0, kind_of, in_range, rows_rise}
+use Rattle.ti_cert.proofs.BasicOrder.{Rises, Kind, IsClear, IsCup, IsEl, IsHome, IsSgr0, kind_of, in_range}
 use Rattle.ti_cert.proofs.BasicTexts.{basic_accepted}
 use Rattle.ti_checker.specs.Certificate.{IsCertificateOf}
-use Rattle.ti_checker.specs.First.{SendsRight, IsDrafted}
-use Rattle.ti_checker.specs.Limit.{IsLineOf, InOrder, AreLines, text_with}
-use Rattle.ti_checker.specs.No.{SendsSome, HasFaultyString, IsRowFault, IsOfRow, HasUnasked, IsUntamed, ClaimsNothing}
+use Rattle.ti_checker.specs.First.{SendsRight}
+use Rattle.ti_checker.specs.Limit.{IsLineOf, InOrder}
+use Rattle.ti_checker.specs.No.{SendsSome, HasFaultyString, IsRowFault, IsOfRow, HasUnasked, IsUntamed, ClaimsNothing, IsNo, OfEntry, OfRow, OfAll, OutOfMemory}
 use Rattle.ti_checker.specs.declared.causes.Cause.{Cause}
 use Rattle.ti_checker.specs.declared.causes.Cause.TheVariants.{FlagOut, Absent, AcsByte, Parm, StaticRead, Unfinished, Stuck, NotTame, BadLook, WrongEffect, NotShown, TooLong, NoResync, NoMemory}
 use Rattle.ti_checker.specs.declared.causes.No.{No}
 use Rattle.ti_checker.specs.Taught.{IsAskedOf}
-use Rattle.ti_checker.proofs.Exclusions.{none_faulty}
+use Rattle.ti_checker.proofs.Certified.{none_of_all}
+use Rattle.ti_checker.proofs.Exclusions.{none_faulty, not_unfit}
 use Rattle.ti_checker.proofs.Walks.{same_string}
 use Rattle.ti_conforms.proofs.Matches.{same_checked}
-use Rattle.ti_checker.proofs.Order.{same_lines, reversed_has}
-use Rattle.ti_checker.proofs.Passages.{line_once, same_bytes, last, text_is, none_certified}
+use Rattle.ti_checker.proofs.Order.{reversed_has}
+use Rattle.ti_checker.proofs.Passages.{same_bytes, none_certified}
 
 abbrev rows_of : Content → ℕ → ℕ → List Row
 rows_of entry rows cols = basic_rows rows cols (has_string entry Home) (has_string entry El)
@@ -99,38 +97,6 @@ own_line entry rows cols line b a =
     let h = line_among (rows_of entry rows cols) line a in
     let k = kind_of rows cols (has_string entry Home) (has_string entry El) h.row h.among in
     record { row = h.row; range = (in_range rows cols (has_string entry Home) (has_string entry El) h.row k).0; checked = checked_kind entry rows cols h.row b k; is = h.is }
-
--- ---- all lines of the entry
-
-pub lines_are : (entry : Content) (rows cols : ℕ) (lines : List RowLine) → IsSize rows cols → IsBasic entry rows cols → AreLines entry rows cols (λ row. order row < 42) lines → lines ≡ map basic_line (rows_of entry rows cols)
-lines_are entry rows cols lines size b are =
-    same_lines rows cols lines (map basic_line (rows_of entry rows cols)) are.ordered (in_order_of rows cols (rows_of entry rows cols) (rows_rise rows cols (has_string entry Home) (has_string entry El))) over back
-  where
-    is_basic_line : (line : RowLine) → IsAmong lines line → line ≡ basic_line line.row
-    is_basic_line line a = let k = are.each line a in line_once entry rows cols line (basic_line line.row) k (basic_is entry rows cols line.row size b k.sent.range k.sent.checked) refl
-
-    over : (line : RowLine) → IsAmong lines line → IsAmong (map basic_line (rows_of entry rows cols)) line
-    over line a =
-        let k = are.each line a in
-        subst (λ (l : RowLine). IsAmong (map basic_line (rows_of entry rows cols)) l) (sym (is_basic_line line a))
-        (among_lines (rows_of entry rows cols) line.row (among_checked entry rows cols line.row b k.sent.range k.sent.checked))
-
-    back : (line : RowLine) → IsAmong (map basic_line (rows_of entry rows cols)) line → IsAmong lines line
-    back line a =
-        let o = own_line entry rows cols line b a in
-        let h = are.all o.row o.range o.checked (orders_small o.row) in
-        let same : h.line ≡ line = is_basic_line h.line h.among ∙ (ap basic_line h.of_row ∙ sym o.is) in
-        subst (λ (l : RowLine). IsAmong lines l) same h.among
-
-pub text_is_basic : (entry : Content) (rows cols : ℕ) (lines : List RowLine) → IsSize rows cols → IsBasic entry rows cols → AreLines entry rows cols (λ row. order row < 42) lines → text_with entry rows cols lines ≡ basic_text_of entry rows cols
-unfolding basic_text
-text_is_basic entry rows cols lines size b are =
-    ap (λ (pairs : Option (List ℕ)). ended (line_texts (record { rows = rows; cols = cols; acsc = pairs; lines = lines }))) b.no_pairs
-    ∙ ap (λ (ls : List RowLine). ended (line_texts (record { rows = rows; cols = cols; acsc = None; lines = ls }))) (lines_are entry rows cols lines size b are)
-
-pub draft_is_basic : (entry : Content) (rows cols : ℕ) (text : List ℕ) → IsSize rows cols → IsBasic entry rows cols → IsDrafted entry rows cols (λ row. order row < 42) text → text ++ last ≡ basic_text_of entry rows cols
-draft_is_basic entry rows cols text size b d =
-    ap (λ (x : List ℕ). x ++ last) d.written.text_is ∙ (sym (text_is entry rows cols d.written.lines) ∙ text_is_basic entry rows cols d.written.lines size b d.written.are)
 
 -- ---- the basic text is its certificate
 
@@ -215,3 +181,10 @@ by_cause entry rows cols row NoResync size b range checked f = absurd (its_claim
 
 pub only_memory : (entry : Content) (rows cols : ℕ) (refusal : No) → IsSize rows cols → IsBasic entry rows cols → IsOfRow entry rows cols refusal → refusal.cause ≡ NoMemory
 only_memory entry rows cols refusal size b h = by_cause entry rows cols h.row refusal.cause size b h.range h.checked h.fault
+
+-- nor is it for any other reason
+pub never_refused : (entry : Content) (rows cols : ℕ) (refusal : No) → IsSize rows cols → IsBasic entry rows cols → IsNo entry rows cols refusal → refusal.cause ≡ NoMemory
+never_refused entry rows cols refusal size b (OfEntry h) = absurd (not_unfit entry refusal b.fit h)
+never_refused entry rows cols refusal size b (OfRow fit h) = only_memory entry rows cols refusal size b h
+never_refused entry rows cols refusal size b (OfAll fit written h) = absurd (none_of_all entry rows cols (basic_text_of entry rows cols) refusal (is_certificate entry rows cols size b) h)
+never_refused entry rows cols refusal size b (OutOfMemory e) = e

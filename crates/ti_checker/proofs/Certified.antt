@@ -1,52 +1,48 @@
--- A text that was judged and agrees with an entry is the entry's certificate.
-use Rattle.std.proofs.Common.{◌≡◌, inl, inr, ℕ, Bool, true, false, List, Option, Some, None, Ok, if◌then◌else◌, refl, sym, subst, ◌∙◌}
-use Rattle.std.proofs.lemmas.Bool.{cases_Bool}
-use Rattle.std.proofs.lemmas.Option.{none-some}
+-- Strings of which there is a certificate have no clash.
+use Rattle.std.proofs.Common.{◌≡◌, ℕ, true, false, List, Option, Some, None, refl, sym, ap, subst, ◌∙◌}
+use Rattle.std.specs.Prelude.{is_some}
+use Rattle.std.proofs.lemmas.Bool.{false≢true}
 use Rattle.ti_caps.specs.Entry.{Content, string_at}
 use Rattle.ti_rows.specs.declared.rows.Row.{Row}
-use Rattle.ti_rows.specs.Lists.{IsInRange, rank}
-use Rattle.ti_rows.specs.Names.{order}
-use Rattle.std.specs.List.{slice_get}
-use Rattle.ti_conforms.specs.Sends.{Sends}
-use Rattle.ti_conforms.specs.Entries.{acsc, is_checked, EntryAgrees}
-use Rattle.ti_cert.specs.Strings.{allows, group_at, row_string}
-use Rattle.ti_cert.specs.Table as tables
-use Rattle.ti_cert.specs.Certificates.{Ended, IsAnswer}
-use Rattle.ti_cert.specs.Texts.{IsTableOf}
-use Rattle.ti_cert.proofs.Accepted.{agrees_at}
-use Rattle.ti_cert.proofs.Ranges.{in_range}
-use Rattle.ti_checker.specs.Certificate.{IsSent, IsCertificateOf}
+use Rattle.ti_conforms.specs.Charsets.{IsAmong}
+use Rattle.ti_conforms.specs.Entries.{acsc, is_checked, EntrySends, EntryAgrees}
+use Rattle.ti_conforms.specs.Table.{Table}
+use Rattle.ti_lines.specs.declared.row_lines.RowLine.{RowLine}
+use Rattle.ti_cert.specs.Clashes.{GoesTogether, OfLines}
+use Rattle.ti_cert.specs.declared.clashes.Clash.{Clash}
+use Rattle.ti_cert.specs.declared.clashes.Clash.TheVariants as clashes
+use Rattle.ti_cert.proofs.Texts.{accepted_together}
+use Rattle.ti_checker.specs.Certificate.{IsCertificateOf}
+use Rattle.ti_checker.specs.No.{HasClash, IsOfAll, AtSmacs, AtRmacs, AtAcsc, AtClear}
+use Rattle.ti_checker.specs.declared.causes.No.{No}
+use Rattle.ti_checker.proofs.Sent.{never_clashes}
 
-within : (b : Bool) (o : Option (List ℕ)) (bytes : List ℕ) → (if b then o else None) ≡ Some bytes → b ≡ true
-within true o bytes h = refl
-within false o bytes h = absurd (none-some bytes h)
+-- the table of its lines is just what the entry sends
+lines_agree : (entry : Content) (rows cols : ℕ) (text : List ℕ) (Is : Table → Type 0) (c : IsCertificateOf entry rows cols text) → (o : OfLines rows cols c.lines Is) → EntryAgrees rows cols entry o.table.line_of
+lines_agree entry rows cols text Is c o row range = record { checked = checked; unchecked = unchecked (o.table.line_of row) refl }
+  where
+    by_line : (line : RowLine) → IsAmong c.lines line → EntrySends entry (o.table.line_of line.row) line.row
+    by_line line a =
+        let s = (c.sends line a).sends in
+        record { string = s.string; there = s.there; sends = record { bytes = line.bytes; sends = s.sends; line_has = o.kept line a } }
 
-is_sent : (entry : Content) (rows cols : ℕ) (line_of : Row → Option (List ℕ)) → EntryAgrees rows cols entry line_of → (row : Row) (bytes : List ℕ) → IsInRange rows cols row → line_of row ≡ Some bytes
-    → IsSent entry rows cols row bytes
-is_sent entry rows cols line_of agrees row bytes range there = elim (cases_Bool (is_checked entry row)) [
-  | inl checked ↦ (let s = (agrees row range).checked checked in
-      let same : Some s.sends.bytes ≡ Some bytes = sym s.sends.line_has ∙ there in
-      let is : s.sends.bytes ≡ bytes = cc in
-      record { range = range; checked = checked; sends = record { string = s.string; there = s.there; sends = subst (λ (x : List ℕ). Sends s.string row x) is s.sends.sends } })
-  | inr unchecked ↦ absurd (none-some bytes (sym ((agrees row range).unchecked unchecked) ∙ there))
-]
+    checked : is_checked entry row ≡ true → EntrySends entry (o.table.line_of row) row
+    checked on = let h = c.complete row range on in subst (λ (r : Row). EntrySends entry (o.table.line_of r) r) h.of_row (by_line h.line h.among)
 
-pub certified : (entry : Content) (t : tables.CheckedTable) (rows cols : ℕ) (text : List ℕ) → IsTableOf rows cols text t → t.acsc ≡ string_at entry acsc
-    → EntryAgrees t.known.strings.rows t.known.strings.cols entry (λ row. row_string t.known.strings row) → t.known.strings.rows ≡ rows → t.known.strings.cols ≡ cols → IsCertificateOf entry rows cols text
-certified entry t rows cols text is pairs agrees r c =
-    let all : EntryAgrees rows cols entry (λ row. row_string t.known.strings row) = agrees_at entry t rows cols agrees r c in
-    record {
-      lines = is.lines;
-      says = subst (λ (o : Option (List ℕ)). IsAnswer rows cols text (Ok (Ended o is.lines))) pairs is.says;
-      sends = λ line among.
-          let there = is.kept line among in
-          let allowed : allows t.known.strings.rows t.known.strings.cols line.row ≡ true =
-          within (allows t.known.strings.rows t.known.strings.cols line.row) (slice_get (group_at t.known.strings (order line.row)) (rank t.known.strings.rows t.known.strings.cols line.row)) line.bytes there in
-          let range : IsInRange rows cols line.row =
-          subst (λ (n : ℕ). IsInRange rows n line.row) c (subst (λ (n : ℕ). IsInRange n t.known.strings.cols line.row) r (in_range t.known.strings.rows t.known.strings.cols line.row allowed)) in
-          is_sent entry rows cols (λ row. row_string t.known.strings row) all line.row line.bytes range there;
-      complete = λ row range checked.
-          let s = (all row range).checked checked in
-          let h = is.found row s.sends.bytes s.sends.line_has in
-          record { line = h.line; among = h.among; of_row = h.of_row };
-    }
+    unchecked : (line : Option (List ℕ)) → o.table.line_of row ≡ line → is_checked entry row ≡ false → o.table.line_of row ≡ None
+    unchecked None e off = e
+    unchecked (Some bytes) e off =
+        let g = o.found row bytes e in
+        absurd (false≢true (sym off ∙ (ap (λ (r : Row). is_checked entry r) (sym g.of_row) ∙ (c.sends g.line g.among).checked)))
+
+none_clashes : (entry : Content) (rows cols : ℕ) (text : List ℕ) (clash : Clash) → IsCertificateOf entry rows cols text → HasClash entry rows cols clash → ⊥
+none_clashes entry rows cols text clash c h =
+    let o = accepted_together rows cols text (string_at entry acsc) c.lines c.says in
+    never_clashes entry rows cols h.table o.table (is_some (string_at entry acsc)) clash h.has o.rows_are
+    (lines_agree entry rows cols text (λ t. GoesTogether (is_some (string_at entry acsc)) t) c o) h.is o.is
+
+pub none_of_all : (entry : Content) (rows cols : ℕ) (text : List ℕ) (refusal : No) → IsCertificateOf entry rows cols text → IsOfAll entry rows cols refusal → ⊥
+none_of_all entry rows cols text refusal c (AtSmacs p about h wrong) = none_clashes entry rows cols text (clashes.Smacs p.charset) c h
+none_of_all entry rows cols text refusal c (AtRmacs p about h wrong) = none_clashes entry rows cols text (clashes.Rmacs p.charset) c h
+none_of_all entry rows cols text refusal c (AtAcsc about h) = none_clashes entry rows cols text clashes.Acsc c h
+none_of_all entry rows cols text refusal c (AtClear about h) = none_clashes entry rows cols text clashes.Clear c h

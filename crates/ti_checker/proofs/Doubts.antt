@@ -24,7 +24,7 @@ one_record rows cols row a b ts us e f same split other recorded told =
     let tokens : us ≡ ts = (one_splitting a ts us [] [] split (subst (λ (x : List ℕ). Splits x us []) (sym same) other)).0 in
     same_Some e f (sym recorded ∙ (ap (λ (x : List (List ℕ)). record_of rows cols (start_of rows cols row) x) (sym tokens) ∙ told))
 
-same_effect : (rows cols : ℕ) (string : List ℕ) (l m : RowLine) → l.row ≡ m.row → IsLineFor rows cols string l → IsLineFor rows cols string m → l.effect ≡ m.effect
+pub same_effect : (rows cols : ℕ) (string : List ℕ) (l m : RowLine) → l.row ≡ m.row → IsLineFor rows cols string l → IsLineFor rows cols string m → l.effect ≡ m.effect
 same_effect rows cols string l m same is js =
     one_record rows cols l.row l.bytes m.bytes is.has.tokens js.has.tokens l.effect m.effect
     (one_sent string l.row l.bytes m.bytes is.sends (subst (λ (r : Row). Sends string r m.bytes) (sym same) js.sends)) is.has.splits js.has.splits is.has.recorded

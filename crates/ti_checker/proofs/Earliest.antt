@@ -4,6 +4,7 @@ use Rattle.std.proofs.Math.Nat.{eq-or-lt_of_le}
 use Rattle.std.proofs.lemmas.Bool.{false≢true}
 use Rattle.std.proofs.lemmas.Option.{same_Some}
 use Rattle.vt_term.specs.Size.{IsSize}
+use Rattle.vt_effects.specs.declared.effects.Effect.{Effect}
 use Rattle.ti_caps.specs.Entry.{Content}
 use Rattle.ti_conforms.specs.Charsets.{IsAmong}
 use Rattle.ti_rows.specs.declared.rows.Row.{Row}
@@ -74,6 +75,12 @@ added_is : (entry : Content) (rows cols : ℕ) (lines : List RowLine) (string : 
     → new ≡ front_with entry rows cols (lines ++ a.line ∷ [])
 added_is entry rows cols lines string row old new a e =
     a.added ∙ (ap (λ (l : List ℕ). l ++ (line_text a.line ++ 10 ∷ [])) e ∙ sym (front_end entry rows cols lines a.line))
+
+-- the same with what the text and the bytes were before
+pub added_same : (old between new : List ℕ) (row : Row) (a b : List ℕ) (e : Effect) → between ≡ old → a ≡ b → new ≡ between ++ (line_text (record { row = row; bytes = a; effect = e }) ++ 10 ∷ [])
+    → new ≡ old ++ (line_text (record { row = row; bytes = b; effect = e }) ++ 10 ∷ [])
+added_same old between new row a b e p q h =
+    h ∙ (ap (λ (t : List ℕ). t ++ (line_text (record { row = row; bytes = a; effect = e }) ++ 10 ∷ [])) p ∙ ap (λ (x : List ℕ). old ++ (line_text (record { row = row; bytes = x; effect = e }) ++ 10 ∷ [])) q)
 
 right_stands : (entry : Content) (rows cols : ℕ) (row : Row) (string : List ℕ) → string_of entry row ≡ Some string → SendsAsked rows cols string row → RowStands entry rows cols row
 right_stands entry rows cols row string there right checked other found =

@@ -36,7 +36,7 @@ use Rattle.ti_checker.specs.Mislooks.{Mislooks}
 use Rattle.ti_checker.proofs.Mislooked.{right_looks}
 use Rattle.ti_checker.proofs.Walks.{same_string}
 use Rattle.ti_conforms.proofs.Matches.{same_checked}
-use Rattle.ti_checker.specs.No.{SendsSome, HasWrong, IsFaulty, IsRowFault, cause_of_unfit, IsOfEntry, IsOfAll, AtSmacs, AtRmacs, AtAcsc, AtClear, Unnamed, IsNo, OfEntry, OfRow, OfAll, OutOfMemory, ClaimsNothing}
+use Rattle.ti_checker.specs.No.{SendsSome, HasWrong, IsFaulty, IsRowFault, cause_of_unfit, IsOfEntry, IsOfAll, AtSmacs, AtRmacs, AtAcsc, AtClear, IsNo, OfEntry, OfRow, OfAll, OutOfMemory, ClaimsNothing}
 use Rattle.ti_checker.specs.declared.causes.Cause.{Cause}
 use Rattle.ti_checker.specs.declared.causes.Cause.TheVariants.{FlagOut, Absent, AcsByte, Parm, StaticRead, Unfinished, Stuck, NotTame, BadLook, WrongEffect, NotShown, TooLong, NoResync, NoMemory}
 use Rattle.ti_checker.specs.declared.causes.No.{No}
@@ -123,7 +123,6 @@ all_claims entry rows cols refusal c (AtSmacs p about clash h) = absurd (none_at
 all_claims entry rows cols refusal c (AtRmacs p about clash h) = absurd (none_at_rmacs entry rows cols c p clash h)
 all_claims entry rows cols refusal c (AtAcsc about h) = absurd (none_graphic entry rows cols c h)
 all_claims entry rows cols refusal c (AtClear about h) = absurd (none_open entry rows cols c h)
-all_claims entry rows cols refusal c (Unnamed about h) = subst ClaimsNothing (sym about.cause_is) tt
 
 pub no_excludes_yes : (entry : Content) (rows cols : ℕ) (refusal : No) → IsNo entry rows cols refusal → (refusal.cause ≡ TooLong → ⊥) → Conforms entry rows cols → ClaimsNothing refusal.cause
 no_excludes_yes entry rows cols refusal (OfEntry h) not_long c = absurd (not_unfit entry refusal c.fit h)
@@ -150,7 +149,6 @@ all_not_long entry rows cols refusal (AtSmacs p about clash h) e = never_long re
 all_not_long entry rows cols refusal (AtRmacs p about clash h) e = never_long refusal.cause (WrongEffect p) about.cause_is e refl
 all_not_long entry rows cols refusal (AtAcsc about h) e = never_long refusal.cause BadLook about.cause_is e refl
 all_not_long entry rows cols refusal (AtClear about h) e = never_long refusal.cause NoResync about.cause_is e refl
-all_not_long entry rows cols refusal (Unnamed about h) e = never_long refusal.cause NotShown about.cause_is e refl
 
 pub too_long_excludes : (entry : Content) (rows cols : ℕ) (refusal : No) (text : List ℕ) → IsNo entry rows cols refusal → refusal.cause ≡ TooLong → IsCertificateOf entry rows cols text → ⊥
 too_long_excludes entry rows cols refusal text (OfEntry h) e c = never_long refusal.cause (cause_of_unfit h.why) h.about.cause_is e (unfit_not_long h.why)

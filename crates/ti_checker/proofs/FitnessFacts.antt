@@ -1,5 +1,5 @@
 -- Where the lines of all rows are not too long, those before a row aren't either.
-use Rattle.std.proofs.Common.{◌≡◌, ◌⊎◌, inl, inr, ◌<◌, ◌≤◌, ℕ, true, List, [], ◌∷◌, length, sym, ap, subst, arith}
+use Rattle.std.proofs.Common.{◌≡◌, ◌⊎◌, inl, inr, ◌<◌, ◌≤◌, ℕ, true, List, [], ◌∷◌, ◌++◌, length, refl, sym, ap, subst, ◌∙◌, arith, length-append}
 use Rattle.std.proofs.Math.Nat.{eq-or-lt_of_le}
 use Rattle.ti_caps.specs.Entry.{Content}
 use Rattle.ti_conforms.specs.Charsets.{IsAmong}
@@ -12,10 +12,11 @@ use Rattle.ti_lines.specs.declared.row_lines.RowLine.{RowLine}
 use Rattle.ti_conforms.specs.Entries.{is_checked}
 use Rattle.ti_cert.specs.Order.{Precedes, HasLine}
 use Rattle.ti_checker.specs.First.{EachWritten, IsDrafted}
-use Rattle.ti_checker.specs.Limit.{InOrder, StaysWithin, FitsLimit}
+use Rattle.ti_cert.specs.Certificates.{limit}
+use Rattle.ti_checker.specs.Limit.{InOrder, StaysWithin, FitsLimit, IsFullText, text_with}
 use Rattle.ti_checker.proofs.Earliest.{drafted_as}
 use Rattle.ti_checker.proofs.Order.{IsWithin, no_longer}
-use Rattle.ti_checker.proofs.Passages.{length_by_lines, text_length}
+use Rattle.ti_checker.proofs.Passages.{length_by_lines, last, text_is}
 
 -- ---- those before a row
 
@@ -118,18 +119,27 @@ within_before entry rows cols row f = record {
 
 -- ---- all of them are written
 
+all_drafted : (entry : Content) (rows cols : ℕ) (text : List ℕ) → IsDrafted entry rows cols (λ row. order row < 42) text → IsDrafted entry rows cols (λ row. Unit {0}) text
+all_drafted entry rows cols text d = drafted_as entry rows cols (λ row. order row < 42) (λ row. Unit {0}) text (λ row range lt. tt) (λ row range checked u. orders_small row) d
+
+pub full_text : (entry : Content) (rows cols : ℕ) (front text : List ℕ) → IsDrafted entry rows cols (λ row. order row < 42) front → text ≡ front ++ last → IsFullText entry rows cols text
+full_text entry rows cols front text d e =
+    let all = all_drafted entry rows cols front d in
+    let is : text ≡ text_with entry rows cols all.written.lines = e ∙ (ap (λ (x : List ℕ). x ++ last) all.written.text_is ∙ sym (text_is entry rows cols all.written.lines)) in
+    record {
+      lines = all.written.lines;
+      are = all.written.are;
+      text_is = is;
+      short = let n = ap (λ (x : List ℕ). length x) e in
+          let l = length-append front last in
+          let s = all.written.short in
+          omega (arith, n, l, s);
+    }
+
 pub each_written : (entry : Content) (rows cols : ℕ) (text : List ℕ) → IsDrafted entry rows cols (λ row. order row < 42) text → EachWritten entry rows cols
-each_written entry rows cols text d = record {
-  stands = λ row range. d.stand row range (orders_small row);
-  within = record {
-    lines = all.written.lines;
-    are = all.written.are;
-    short = let l = text_length entry rows cols all.written.lines in
-        let e = ap (λ (x : List ℕ). length x) all.written.text_is in
-        let s = all.written.short in
-        omega (arith, l, e, s);
-  };
-}
-  where
-    all : IsDrafted entry rows cols (λ row. Unit {0}) text
-    all = drafted_as entry rows cols (λ row. order row < 42) (λ row. Unit {0}) text (λ row range lt. tt) (λ row range checked u. orders_small row) d
+each_written entry rows cols text d =
+    let f = full_text entry rows cols text (text ++ last) d refl in
+    record {
+      stands = λ row range. d.stand row range (orders_small row);
+      within = record { lines = f.lines; are = f.are; short = subst (λ (x : List ℕ). length x ≤ limit) f.text_is f.short };
+    }

@@ -23,3 +23,7 @@ pub mod BasicDrafts
 pub mod Places
 pub mod Wanted
 pub mod Displays
+pub mod Learnings
+pub mod Standings
+pub mod Writings
+pub mod Conforming

@@ -16,7 +16,7 @@ use Rattle.ti_checker.proofs.Mislooked.{mislooks, not_mislooks}
 use Rattle.ti_checker.specs.First.{SendsAsked}
 use Rattle.ti_checker.specs.Limit.{IsLineFor}
 use Rattle.ti_checker.specs.Mislooks.{looks_other}
-use Rattle.ti_checker.specs.No.{HasOwnEffect, IsFaulty, IsMisfit, IsMisjudged}
+use Rattle.ti_checker.specs.No.{HasOwnEffect, IsFaulty, IsMisfit, IsMisjudged, IsNotWhole, IsRowRefused}
 use Rattle.ti_checker.specs.Taught.{IsAskedOf, IsTaught, After}
 use Rattle.ti_checker.specs.declared.causes.Cause.{Cause}
 use Rattle.ti_checker.specs.declared.causes.Cause.TheVariants.{FlagOut, Absent, AcsByte, Parm, StaticRead, Unfinished, Stuck, NotTame, BadLook, WrongEffect, NotShown, TooLong, NoResync, NoMemory}
@@ -91,3 +91,25 @@ sends_asked rows cols string row before bytes e taught is asked = record {
   asked = asked;
   right = recorded_is_right rows cols (learned row e before) row bytes is.has.tokens e is.has.splits is.has.recorded asked;
 }
+
+-- ---- bytes that are no whole control functions
+
+pub cut_refused : (rows cols : ℕ) (string : List ℕ) (row : Row) (bytes text : List ℕ) (cause : Cause) → Sends string row bytes → IsNotWhole bytes cause → IsRowRefused rows cols string row text cause
+cut_refused rows cols string row bytes text Unfinished sends h = record { bytes = bytes; sends = sends; holds = h }
+cut_refused rows cols string row bytes text Stuck sends h = record { bytes = bytes; sends = sends; holds = h }
+cut_refused rows cols string row bytes text NoMemory sends h = tt
+cut_refused rows cols string row bytes text FlagOut sends h = absurd h
+cut_refused rows cols string row bytes text Absent sends h = absurd h
+cut_refused rows cols string row bytes text AcsByte sends h = absurd h
+cut_refused rows cols string row bytes text (Parm fault) sends h = absurd h
+cut_refused rows cols string row bytes text StaticRead sends h = absurd h
+cut_refused rows cols string row bytes text NotTame sends h = absurd h
+cut_refused rows cols string row bytes text BadLook sends h = absurd h
+cut_refused rows cols string row bytes text (WrongEffect p) sends h = absurd h
+cut_refused rows cols string row bytes text NotShown sends h = absurd h
+cut_refused rows cols string row bytes text TooLong sends h = absurd h
+cut_refused rows cols string row bytes text NoResync sends h = absurd h
+
+pub cut_faulty : (rows cols : ℕ) (string : List ℕ) (row : Row) (bytes : List ℕ) (cause : Cause) → Sends string row bytes → IsNotWhole bytes cause → IsFaulty rows cols string row cause
+cut_faulty rows cols string row bytes TooLong sends h = absurd h
+cut_faulty rows cols string row bytes cause sends h = cut_refused rows cols string row bytes [] cause sends h

@@ -2,7 +2,7 @@
 use Rattle.std.proofs.Common.{◌≡◌, inl, inr, ◌&&◌, ℕ, ◌-◌, Bool, true, false, List, [], Option, None, Some, if◌then◌else◌, refl, sym, ap, subst, ◌∙◌}
 use Rattle.std.specs.Prelude.{Result, Ok, Err, is_some}
 use Rattle.std.proofs.lemmas.Bool.{false≢true, and_parts, cases_Bool}
-use Rattle.std.proofs.lemmas.Option.{none-some}
+use Rattle.std.proofs.lemmas.Option.{none-some, same_Some}
 use Rattle.vt_term.specs.Size.{IsSize}
 use Rattle.vt_term.specs.Screen.{State, Screen, Charset}
 use Rattle.vt_term.specs.Step.{steps}
@@ -11,12 +11,15 @@ use Rattle.vt_effects.specs.declared.effects.Sets.{Sets}
 use Rattle.ti_conforms.specs.declared.reach.Reach.{Reach}
 use Rattle.ti_conforms.proofs.Judgements.{over_steps}
 use Rattle.ti_conforms.specs.declared.entries.Group.TheVariants as groups
-use Rattle.ti_cert.specs.Clashes.{Misswitches, BeginsOpen, IsClash}
+use Rattle.ti_cert.specs.Clashes.{Misswitches, BeginsOpen, IsClash, GoesTogether}
 use Rattle.ti_cert.specs.Seen.{AreSeen, IsFound}
 use Rattle.ti_cert.specs.declared.clashes.Clash.{Clash}
 use Rattle.ti_cert.specs.declared.clashes.Clash.TheVariants as clashes
 use Rattle.ti_cert.specs.declared.clashes.Resync.{Resync}
 use Rattle.ti_caps.specs.Entry.{Content, string_at}
+use Rattle.ti_conforms.specs.Charsets.{IsAmong}
+use Rattle.ti_lines.specs.declared.row_lines.RowLine.{RowLine}
+use Rattle.ti_rows.specs.declared.rows.Looks.{Looks}
 use Rattle.ti_rows.specs.declared.rows.Row.{Row}
 use Rattle.ti_rows.specs.declared.rows.Row.TheVariants.{Clear, Csr, Smcup, Enacs, Sgr0, Smacs, Rmacs}
 use Rattle.ti_rows.specs.Lists.{IsInRange}
@@ -34,12 +37,13 @@ use Rattle.ti_cert.proofs.Ranges.{in_range, is_allowed}
 use Rattle.ti_checker.specs.Probes.{screen_of}
 use Rattle.ti_checker.specs.declared.probes.Probe.{Probe}
 use Rattle.ti_checker.specs.First.{EachStands, EachWritten, SendsAsked}
+use Rattle.ti_checker.specs.Limit.{AreLines}
 use Rattle.ti_checker.specs.No.{HasClash, AtSmacs, AtRmacs, AtAcsc, AtClear, IsNo, OfAll, IsToldAs}
 use Rattle.ti_checker.specs.Switches.{HasSent, OfSent, OfAllSent, RunsWrong, IsSeen, RowChanges}
 use Rattle.ti_checker.specs.declared.causes.No.{No}
 use Rattle.ti_checker.proofs.Together.{whole_screen}
 use Rattle.ti_checker.proofs.Quiet.{csr_keeps, clear_keeps}
-use Rattle.ti_checker.proofs.Settled.{all_seen}
+use Rattle.ti_checker.proofs.Settled.{all_seen, sent_line}
 
 -- ---- two tables that agree with an entry
 
@@ -85,6 +89,32 @@ settled_too entry rows cols a b h size sends d (AfterResync c _ r l) =
 settled_too entry rows cols a b h size sends d (AfterLine c _ row bytes s there keeps l) =
     AfterLine c d row bytes (settled_too entry rows cols a b h size sends c s) (line_there entry rows cols a b h sends row bytes there) keeps l
 
+-- ---- a clash of the one is one of the other
+
+misswitches_too : (entry : Content) (rows cols : ℕ) (a b : Table) → HasSent entry rows cols a → b.rows ≡ rows → EntryAgrees rows cols entry b.line_of → (row : Row) (c : Charset) → Misswitches a row c → Misswitches b row c
+misswitches_too entry rows cols a b h size sends row c m = record {
+  settles = settled_too entry rows cols a b h size sends c m.settles;
+  bytes = m.bytes;
+  there = line_there entry rows cols a b h sends row m.bytes m.there;
+  after = m.after;
+  leads = m.leads;
+  inactive = m.inactive;
+}
+
+pub never_clashes : (entry : Content) (rows cols : ℕ) (a b : Table) (pairs : Bool) (clash : Clash) → HasSent entry rows cols a → b.rows ≡ rows → EntryAgrees rows cols entry b.line_of → IsClash pairs a clash → GoesTogether pairs b → ⊥
+never_clashes entry rows cols a b pairs (clashes.Smacs c) h size sends m g = g.graphic c (misswitches_too entry rows cols a b h size sends Smacs c m)
+never_clashes entry rows cols a b pairs (clashes.Rmacs c) h size sends m g = g.plain c (misswitches_too entry rows cols a b h size sends Rmacs c m.1)
+never_clashes entry rows cols a b pairs clashes.Acsc h size sends m g = g.settles (record {
+  unsent = sym (ap (λ (x : Bool). pairs && (x && is_some (a.line_of Rmacs))) (same Smacs tt) ∙ ap (λ (x : Bool). pairs && (is_some (b.line_of Smacs) && x)) (same Rmacs tt)) ∙ m.2.unsent;
+  charset = m.2.charset;
+  settles = settled_too entry rows cols a b h size sends m.2.charset m.2.settles;
+  graphic = m.2.graphic;
+})
+  where
+    same : (row : Row) → IsInRange rows cols row → is_some (a.line_of row) ≡ is_some (b.line_of row)
+    same row range = ap (λ (o : Option (List ℕ)). is_some o) (same_line entry row (a.line_of row) (b.line_of row) (h.sends row range) (sends row range))
+never_clashes entry rows cols a b pairs clashes.Clear h size sends m g = g.escapes (λ rest e. m.3 rest (resync_same entry rows cols a b h size sends ∙ e))
+
 -- ---- where the entry conforms
 
 both : (a b : Bool) → a ≡ true → b ≡ true → (a && b) ≡ true
@@ -97,7 +127,7 @@ sets_checked entry checked =
     let r = and_parts (has_string entry Rmacs) (is_some (string_at entry acsc)) (and_parts (has_string entry Smacs) (has_string entry Rmacs && is_some (string_at entry acsc)) m).1 in
     (both (has_string entry Rmacs) (meets entry groups.Sets) r.0 m, r.1)
 
-line_some : (entry : Content) (rows cols : ℕ) (t : Table) → HasSent entry rows cols t → (row : Row) → IsInRange rows cols row → is_checked entry row ≡ true → is_some (t.line_of row) ≡ true
+pub line_some : (entry : Content) (rows cols : ℕ) (t : Table) → HasSent entry rows cols t → (row : Row) → IsInRange rows cols row → is_checked entry row ≡ true → is_some (t.line_of row) ≡ true
 line_some entry rows cols t h row range checked = ap (λ (o : Option (List ℕ)). is_some o) ((h.sends row range).checked checked).sends.line_has
 
 unsent_unchecked : (entry : Content) (rows cols : ℕ) (t : Table) → HasSent entry rows cols t → (is_some (string_at entry acsc) && has_sets t) ≡ false → is_checked entry Smacs ≡ false
@@ -144,7 +174,7 @@ sent_for : Option (List ℕ) → Row → Option (List ℕ)
 sent_for None row = None
 sent_for (Some string) row = bytes_of (sent string (values row))
 
-line_for : Content → ℕ → ℕ → Row → Option (List ℕ)
+pub line_for : Content → ℕ → ℕ → Row → Option (List ℕ)
 line_for entry rows cols row = if allows rows cols row && is_checked entry row then sent_for (string_of entry row) row else None
 
 some_there : (o : Option (List ℕ)) → is_some o ≡ true → (x : List ℕ) × (o ≡ Some x)
@@ -178,28 +208,51 @@ within : (a b : Bool) (o : Option (List ℕ)) (bytes : List ℕ) → (if a && b 
 within true b o bytes h = refl
 within false b o bytes h = absurd (none-some bytes h)
 
-table_for : Content → ℕ → ℕ → Table
-table_for entry rows cols = record {
+-- such a table, with looks and sets that the strings alone don't say
+abbrev pub table_with : Content → ℕ → ℕ → Looks → (Charset → Bool) → (Charset → Bool) → Table
+table_with entry rows cols looks reached settled = record {
   rows = rows;
   cols = cols;
   line_of = λ row. line_for entry rows cols row;
-  looks = no_looks;
-  reached = λ c. false;
-  settled = λ c. false;
+  looks = looks;
+  reached = reached;
+  settled = settled;
   resync = [];
   longest = no_lengths;
 }
 
+pub has_sent : (entry : Content) (rows cols : ℕ) (looks : Looks) (reached settled : Charset → Bool) → IsSize rows cols → EachStands entry rows cols → HasSent entry rows cols (table_with entry rows cols looks reached settled)
+unfolding line_for
+has_sent entry rows cols looks reached settled size stands = record {
+  size = size;
+  rows_are = refl;
+  sends = line_agrees entry rows cols stands;
+  only = λ row bytes there. in_range rows cols row (within (allows rows cols row) (is_checked entry row) (sent_for (string_of entry row) row) bytes there);
+}
+
 of_sent : (entry : Content) (rows cols : ℕ) (Is : Table → Type 0) → IsSize rows cols → EachStands entry rows cols → ((t : Table) → HasSent entry rows cols t → Is t) → OfSent entry rows cols Is
-unfolding table_for line_for
 of_sent entry rows cols Is size stands always =
-    let has : HasSent entry rows cols (table_for entry rows cols) = record {
-      size = size;
-      rows_are = refl;
-      sends = line_agrees entry rows cols stands;
-      only = λ row bytes there. in_range rows cols row (within (allows rows cols row) (is_checked entry row) (sent_for (string_of entry row) row) bytes there);
-    } in
-    record { table = table_for entry rows cols; has = has; is = always (table_for entry rows cols) has }
+    let t : Table = table_with entry rows cols no_looks (λ c. false) (λ c. false) in
+    let has : HasSent entry rows cols t = has_sent entry rows cols no_looks (λ c. false) (λ c. false) size stands in
+    record { table = t; has = has; is = always t has }
+
+-- the entry's line that says what a row's line in such a table is
+pub record ItsLine (lines : List RowLine) (row : Row) (bytes : List ℕ) : Type 0 where
+  pub line : RowLine
+  pub among : IsAmong lines line
+  pub of_row : line.row ≡ row
+  pub bytes_are : line.bytes ≡ bytes
+
+pub its_line : (entry : Content) (rows cols : ℕ) (lines : List RowLine) (t : Table) → HasSent entry rows cols t → AreLines entry rows cols (λ row. Unit {0}) lines → (row : Row) (bytes : List ℕ) → t.line_of row ≡ Some bytes → ItsLine lines row bytes
+its_line entry rows cols lines t h are row bytes there =
+    let range = h.only row bytes there in
+    elim (cases_Bool (is_checked entry row)) [
+      | inl checked ↦ (let l = are.all row range checked tt in
+          let k = are.each l.line l.among in
+          let own : t.line_of l.line.row ≡ Some l.line.bytes = sent_line entry rows cols t h l.line.row k.sent.sends.string l.line.bytes k.sent.range k.sent.checked k.sent.sends.there k.sent.sends.sends in
+          record { line = l.line; among = l.among; of_row = l.of_row; bytes_are = same_Some l.line.bytes bytes (sym own ∙ (ap (λ (r : Row). t.line_of r) l.of_row ∙ there)) })
+      | inr unchecked ↦ absurd (none-some bytes (sym ((h.sends row range).unchecked unchecked) ∙ there))
+    ]
 
 -- ---- noes of all strings together
 

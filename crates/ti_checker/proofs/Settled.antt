@@ -1,28 +1,32 @@
 -- What was seen of an entry's strings is so in every table of what it sends.
-use Rattle.std.proofs.Common.{◌≡◌, ◌⊎◌, inl, inr, ℕ, ◌+◌, ◌<◌, Bool, true, false, List, [], ◌∷◌, ◌++◌, Option, None, Some, refl, sym, ap, subst, ◌∙◌, arith, below_more}
+use Rattle.std.proofs.Common.{◌≡◌, ◌⊎◌, inl, inr, ℕ, ◌+◌, ◌<◌, ◌≤◌, Bool, true, false, List, [], ◌∷◌, ◌++◌, Option, None, Some, refl, sym, ap, subst, ◌∙◌, arith, below_more}
 use Rattle.std.specs.Prelude.{IfNone, IfSome}
 use Rattle.std.proofs.lemmas.Bool.{false≢true, cases_Bool}
 use Rattle.std.proofs.lemmas.Option.{same_Some, none-some}
 use Rattle.vt_term.specs.Size.{IsSize}
 use Rattle.vt_term.specs.Text.{Splits}
+use Rattle.vt_effects.specs.declared.effects.Effect.{Effect}
 use Rattle.vt_effects.specs.declared.effects.Sets.{Sets}
 use Rattle.ti_caps.specs.Entry.{Content}
 use Rattle.ti_conforms.specs.declared.reach.Reach.{Reach}
 use Rattle.ti_conforms.specs.Charsets.{IsAmong, joined, reach_of}
 use Rattle.ti_conforms.proofs.Reaches.{reach_of-append}
 use Rattle.ti_rows.specs.declared.rows.Row.{Row}
-use Rattle.ti_rows.specs.Lists.{IsInRange, next, rank, count}
+use Rattle.ti_rows.specs.Lists.{IsFirst, IsInRange, Follows, next, rank, count}
 use Rattle.ti_rows.specs.Names.{order}
 use Rattle.ti_rows.proofs.ListFacts.{last_is_last, ranks_below, one_of_rank}
 use Rattle.ti_rows.proofs.NameFacts.{orders_small}
 use Rattle.ti_conforms.specs.Sends.{Sends}
 use Rattle.ti_conforms.specs.Entries.{is_checked, string_of}
+use Rattle.ti_conforms.proofs.Matches.{same_checked}
 use Rattle.ti_conforms.proofs.Walks.{same_count}
 use Rattle.ti_conforms.specs.Table.{Table, settles}
 use Rattle.ti_conforms.specs.Sets.{Occurs}
 use Rattle.ti_cert.specs.Known.{with_change}
+use Rattle.ti_cert.proofs.Decided.{record_sets}
+use Rattle.ti_checker.specs.Limit.{IsLineFor}
 use Rattle.ti_cert.specs.Seen.{IsOfLine, IsLineSeen, AreSeen, NoLine, ByLine}
-use Rattle.ti_checker.specs.Switches.{HasSent, OfAllSent, IsChangeOf, IsBefore, IsCounted, IsSeen, RowChanges}
+use Rattle.ti_checker.specs.Switches.{HasSent, OfAllSent, IsChangeOf, IsBefore, IsCounted, IsSeen, IsSeenToo, RowChanges}
 
 -- ---- lines
 
@@ -135,15 +139,6 @@ seen_at entry rows cols reach changes n k m l s f = record {
   counted = λ row range checked before. s.counted row range checked (f row range checked before);
 }
 
-pub seen_unchecked : (entry : Content) (rows cols : ℕ) (row : Row) (reach : Reach) (changes : List Sets) → IsInRange rows cols row → is_checked entry row ≡ false
-    → IsSeen entry rows cols reach changes (order row) (rank rows cols row) → IsSeen entry rows cols reach changes (order row) (rank rows cols row + 1)
-seen_unchecked entry rows cols row reach changes range unchecked s =
-    seen_at entry rows cols reach changes (order row) (rank rows cols row) (order row) (rank rows cols row + 1) s
-    (λ other r checked b. elim (step_before rows cols row other range r b) [
-      | inl p ↦ p
-      | inr e ↦ absurd (false≢true (sym unchecked ∙ (ap (λ (x : Row). is_checked entry x) e ∙ checked)))
-    ])
-
 -- after the last list of a capability
 next_cap : (rows cols : ℕ) (row other : Row) → IsSize rows cols → IsInRange rows cols row → IsInRange rows cols other → next rows cols row ≡ None → IsBefore rows cols (order row + 1) 0 other
     → IsBefore rows cols (order row) (rank rows cols row + 1) other
@@ -166,6 +161,56 @@ seen_cap entry rows cols row reach changes size range last s =
 none_before : (rows cols : ℕ) (row : Row) → IsBefore rows cols 0 0 row → ⊥
 none_before rows cols row (inl lt) = omega (arith, lt)
 none_before rows cols row (inr p) = omega (arith, p.1)
+
+-- what the line of a string says
+pub is_seen_too : (rows cols : ℕ) (string : List ℕ) (row : Row) (bytes : List ℕ) (e : Effect) (old new : Reach) (before after : List Sets) → IsLineFor rows cols string (record { row = row; bytes = bytes; effect = e })
+    → ((tokens : List (List ℕ)) → Splits bytes tokens [] → new ≡ joined old (reach_of tokens)) → after ≡ with_change (settles row) before e.charset → IsSeenToo string row old before new after
+is_seen_too rows cols string row bytes e old new before after is reach changes = record {
+  tokens = is.has.tokens;
+  change = e.charset;
+  is = record { bytes = bytes; sends = is.sends; whole = is.has.splits; leads = record_sets rows cols row is.has.tokens e is.has.recorded };
+  reach_is = reach is.has.tokens is.has.splits;
+  changes_are = changes;
+}
+
+-- a row of a string
+pub seen_too : (entry : Content) (rows cols : ℕ) (string : List ℕ) (row : Row) (old new : Reach) (before after : List Sets) → IsInRange rows cols row → is_checked entry row ≡ true → string_of entry row ≡ Some string
+    → IsSeenToo string row old before new after → IsSeen entry rows cols old before (order row) (rank rows cols row) → IsSeen entry rows cols new after (order row) (rank rows cols row + 1)
+seen_too entry rows cols string row old new before after range checked there s seen =
+    seen_more entry rows cols row s.tokens s.change old new before after range (record { checked = checked; string = string; there = there; is = s.is }) s.reach_is s.changes_are seen
+
+pub seen_first : (entry : Content) (rows cols : ℕ) (first : Row) (reach : Reach) (changes : List Sets) → IsFirst rows cols first → IsSeen entry rows cols reach changes (order first) 0
+    → IsSeen entry rows cols reach changes (order first) (rank rows cols first)
+seen_first entry rows cols first reach changes is s = subst (λ (k : ℕ). IsSeen entry rows cols reach changes (order first) k) (sym is.rank_zero) s
+
+pub seen_next : (entry : Content) (rows cols : ℕ) (row next : Row) (reach : Reach) (changes : List Sets) → Follows rows cols row next → IsSeen entry rows cols reach changes (order row) (rank rows cols row + 1)
+    → IsSeen entry rows cols reach changes (order next) (rank rows cols next)
+seen_next entry rows cols row next reach changes f s =
+    subst (λ (n : ℕ). IsSeen entry rows cols reach changes n (rank rows cols next)) (sym f.same_order) (subst (λ (k : ℕ). IsSeen entry rows cols reach changes (order row) k) (sym f.rank_next) s)
+
+pub seen_last : (entry : Content) (rows cols : ℕ) (row first : Row) (reach : Reach) (changes : List Sets) → IsSize rows cols → IsInRange rows cols row → next rows cols row ≡ None → order row ≡ order first
+    → IsSeen entry rows cols reach changes (order row) (rank rows cols row + 1) → IsSeen entry rows cols reach changes (order first + 1) 0
+seen_last entry rows cols row first reach changes size range last same s =
+    subst (λ (n : ℕ). IsSeen entry rows cols reach changes (n + 1) 0) same (seen_cap entry rows cols row reach changes size range last s)
+
+pub seen_unchecked_cap : (entry : Content) (rows cols : ℕ) (first : Row) (reach : Reach) (changes : List Sets) → is_checked entry first ≡ false → IsSeen entry rows cols reach changes (order first) 0
+    → IsSeen entry rows cols reach changes (order first + 1) 0
+seen_unchecked_cap entry rows cols first reach changes unchecked s = seen_at entry rows cols reach changes (order first) 0 (order first + 1) 0 s (λ other range checked b. earlier other checked b)
+  where
+    earlier : (other : Row) → is_checked entry other ≡ true → IsBefore rows cols (order first + 1) 0 other → IsBefore rows cols (order first) 0 other
+    earlier other checked (inl lt) = below_more (λ k. order other ≡ k → IsBefore rows cols (order first) 0 other) (order first)
+        (λ k less e. inl (subst (λ (n : ℕ). n < order first) (sym e) less))
+        (λ e. absurd (false≢true (sym unchecked ∙ (sym (same_checked entry other first e) ∙ checked))))
+        (order other) lt refl
+    earlier other checked (inr p) = let no : ⊥ = omega (arith, p.1) in absurd no
+
+-- the rows of all capabilities
+pub seen_whole : (entry : Content) (rows cols place : ℕ) (reach : Reach) (changes : List Sets) → 42 ≤ place → IsSeen entry rows cols reach changes place 0 → IsSeen entry rows cols reach changes 42 0
+seen_whole entry rows cols place reach changes le s = seen_at entry rows cols reach changes place 0 42 0 s (λ other range checked b. earlier other b)
+  where
+    earlier : (other : Row) → IsBefore rows cols 42 0 other → IsBefore rows cols place 0 other
+    earlier other (inl lt) = inl (omega (arith, lt, le))
+    earlier other (inr p) = let no : ⊥ = omega (arith, p.1) in absurd no
 
 pub nothing_seen : (entry : Content) (rows cols : ℕ) (reach : Reach) (changes : List Sets) → reach ≡ reach_of [] → changes ≡ [] → IsSeen entry rows cols reach changes 0 0
 nothing_seen entry rows cols reach changes r e = record {

@@ -3,7 +3,7 @@ use Rattle.std.proofs.Common.{◌≡◌, inl, inr, ℕ, ◌-◌, ◌+◌, ◌<�
 use Rattle.std.proofs.lemmas.Bool.{cases_Bool}
 use Rattle.ti_caps.specs.Entry.{Content}
 use Rattle.ti_rows.specs.declared.rows.Row.{Row}
-use Rattle.ti_rows.specs.declared.rows.Row.TheVariants.{Clear, Csr}
+use Rattle.ti_rows.specs.declared.rows.Row.TheVariants.{Csr}
 use Rattle.ti_rows.specs.Lists.{IsInRange}
 use Rattle.ti_conforms.specs.Sends.{Sends}
 use Rattle.ti_conforms.specs.Entries.{is_checked, string_of, EntryAgrees}
@@ -14,7 +14,7 @@ use Rattle.ti_conforms.specs.declared.fitness.Unfit.{Unfit}
 use Rattle.ti_rows.specs.Names.{cap_of}
 use Rattle.ti_rows.specs.Params.{params}
 use Rattle.vt_term.specs.Size.{IsSize}
-use Rattle.ti_checker.specs.No.{IsFaulty, IsUnsendable, IsRowFault, cause_of_unfit, IsOfEntry, IsOfRow, Unnamed, GoTogether, IsNo, OfEntry, OfRow, OfAll, OutOfMemory}
+use Rattle.ti_checker.specs.No.{IsFaulty, IsUnsendable, IsRowFault, cause_of_unfit, IsOfEntry, IsOfRow, IsNo, OfEntry, OfRow, OutOfMemory}
 use Rattle.ti_checker.specs.First.{EachWritten}
 use Rattle.ti_checker.specs.Switches.{OfAllSent}
 use Rattle.ti_cert.specs.Clashes.{BeginsOpen}
@@ -55,10 +55,6 @@ row_again entry rows cols refusal string row cause fit written range checked the
   earlier = λ other r p. written.stands other r;
   within = within_before entry rows cols row written.within;
 })
-
-pub unnamed : (entry : Content) (rows cols : ℕ) (refusal : No) → IsFit entry → EachWritten entry rows cols → GoTogether entry rows cols → refusal.cap ≡ cap_of Clear → refusal.params.items ≡ [] → refusal.cause ≡ NotShown
-    → IsNo entry rows cols refusal
-unnamed entry rows cols refusal fit written together cap none cause = OfAll fit written (Unnamed (record { cap_is = cap; no_params = none; cause_is = cause }) together)
 
 -- why nothing is sent is a fault of the string
 pub unsendable : (rows cols : ℕ) (string : List ℕ) (row : Row) (cause : Cause) → IsUnsendable string row cause → IsFaulty rows cols string row cause

@@ -28,10 +28,6 @@ use Rattle.ti_cert.specs.Clashes.{IsClash, GoesTogether}
 use Rattle.ti_cert.specs.Order.{Precedes}
 use Rattle.ti_cert.specs.declared.clashes.Clash.{Clash}
 use Rattle.ti_cert.specs.declared.clashes.Clash.TheVariants as clashes
-use Rattle.ti_cert.specs.declared.faults.AgreeFault.TheVariants as agreeing
-use Rattle.ti_cert.specs.declared.faults.CertFaultKind.TheVariants as kinds_of_cert
-use Rattle.ti_cert.specs.declared.faults.VerifyFault.{VerifyFault}
-use Rattle.ti_cert.specs.declared.faults.VerifyFault.TheVariants.{Cert, Agree}
 use Rattle.ti_checker.specs.declared.causes.Cause.{Cause}
 use Rattle.ti_checker.specs.declared.causes.Cause.TheVariants.{FlagOut, Absent, AcsByte, Parm, StaticRead, Unfinished, Stuck, NotTame, BadLook, WrongEffect, NotShown, TooLong, NoResync, NoMemory}
 use Rattle.ti_checker.specs.declared.causes.No.{No}
@@ -193,8 +189,7 @@ GoTogether entry rows cols = OfAllSent entry rows cols (λ t. GoesTogether (is_s
 
 -- The strings are at fault together, by the first clash: `smacs` or `rmacs` leaves the other set active, and does so
 -- from a start with that charset; the graphic set can stay active where letters of line graphics can't be sent, which
--- is a fault of `acsc`; what leads out of an unknown state doesn't begin with ESC, which is one of `clear`. Where none
--- of them is so, `NotShown` of `clear` claims nothing.
+-- is a fault of `acsc`; what leads out of an unknown state doesn't begin with ESC, which is one of `clear`.
 pub data IsOfAll (entry : Content) (rows cols : ℕ) (refusal : No) : Type 0 where
   AtSmacs : (p : Probe) → IsAbout refusal (cap_of Smacs) (WrongEffect p)
       → HasClash entry rows cols (clashes.Smacs p.charset) → OfSent entry rows cols (λ t. RunsWrong rows cols Smacs p t)
@@ -205,7 +200,6 @@ pub data IsOfAll (entry : Content) (rows cols : ℕ) (refusal : No) : Type 0 whe
   AtAcsc : IsAbout refusal acsc BadLook → HasClash entry rows cols clashes.Acsc → IsOfAll entry rows cols refusal
   AtClear : IsAbout refusal (cap_of Clear) NoResync → HasClash entry rows cols clashes.Clear
       → IsOfAll entry rows cols refusal
-  Unnamed : IsAbout refusal (cap_of Clear) NotShown → GoTogether entry rows cols → IsOfAll entry rows cols refusal
 
 -- The entry as a whole is at fault; or it is fit, and a row is; or each row stands with all lines short enough, and the
 -- strings are at fault together; or memory ran out, which claims nothing.
@@ -226,13 +220,6 @@ ClaimsNothing NotTame = Unit {0}
 ClaimsNothing NotShown = Unit {0}
 ClaimsNothing NoMemory = Unit {0}
 ClaimsNothing _ = ⊥
-
--- ---- memory
-
--- memory ran out
-abbrev pub IsOutOfMemory : VerifyFault → Type 0
-IsOutOfMemory (Cert fault) = fault.kind ≡ kinds_of_cert.NoMemory
-IsOutOfMemory (Agree fault) = fault ≡ agreeing.NoMemory
 
 -- (Serves the code alone.) The no that names a clash: for `smacs` and `rmacs` with a start in which nothing but the
 -- charset matters

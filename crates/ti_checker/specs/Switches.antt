@@ -9,7 +9,7 @@ use Rattle.vt_effects.specs.declared.effects.Sets.{Sets}
 use Rattle.vt_effects.specs.Effect.{designated}
 use Rattle.ti_caps.specs.Entry.{Content}
 use Rattle.ti_conforms.specs.declared.reach.Reach.{Reach}
-use Rattle.ti_conforms.specs.Charsets.{IsAmong, charset_over, reach_of}
+use Rattle.ti_conforms.specs.Charsets.{IsAmong, charset_over, joined, reach_of}
 use Rattle.ti_rows.specs.declared.rows.Row.{Row}
 use Rattle.ti_rows.specs.Lists.{IsInRange, rank}
 use Rattle.ti_rows.specs.Names.{order}
@@ -18,6 +18,7 @@ use Rattle.ti_conforms.specs.Sends.{Sends}
 use Rattle.ti_conforms.specs.Entries.{is_checked, string_of, EntryAgrees}
 use Rattle.ti_conforms.specs.Table.{Table, settles, Activates}
 use Rattle.ti_conforms.specs.Sets.{Occurs}
+use Rattle.ti_cert.specs.Known.{with_change}
 use Rattle.ti_cert.specs.Seen.{IsOfLine, ChangesBy}
 use Rattle.ti_checker.specs.Probes.{screen_of}
 use Rattle.ti_checker.specs.declared.probes.Probe.{Probe}
@@ -86,6 +87,15 @@ pub record IsSeen (entry : Content) (rows cols : ℕ) (reach : Reach) (changes :
   pub told : (t : Table) → HasSent entry rows cols t → (change : Sets) → IsAmong changes change → IsOfLine t change
   pub counted : (row : Row) → IsInRange rows cols row → is_checked entry row ≡ true → IsBefore rows cols n k row
       → IsCounted entry tokens changes row
+
+-- what a string sends for a row is seen besides
+pub record IsSeenToo (string : List ℕ) (row : Row) (old : Reach) (before : List Sets) (new : Reach)
+    (after : List Sets) : Type 0 where
+  pub tokens : List (List ℕ)
+  pub change : Sets
+  pub is : IsChange string row tokens change
+  pub reach_is : new ≡ joined old (reach_of tokens)
+  pub changes_are : after ≡ with_change (settles row) before change
 
 -- what the row's line does in each table of what is sent
 abbrev pub RowChanges : Content → ℕ → ℕ → Row → Option Sets → Type 0

@@ -35,8 +35,7 @@ pub enum Cause {
     BadLook,
     /// From this start the terminal ends elsewhere than it should.
     WrongEffect(Probe),
-    /// The effect isn't the one that is asked for, or a certificate can't be had though all strings
-    /// together are right. They may be right.
+    /// The effect isn't the one that is asked for. The string may be right.
     NotShown,
     /// With this line and the last one, `end`, a certificate would be longer than any may be.
     TooLong,

@@ -1,12 +1,13 @@
 //! The text of a certificate, line by line.
 
-ghost use Rattle.std.specs.Prelude.{◌≡◌, ◌<◌, ◌≤◌, ◌+◌, ◌++◌, ◌∷◌, [], length, IfErr, IfNone, IfOk, IfSome, OnOk, Some, false, true};
+ghost use Rattle.std.specs.Prelude.{◌≡◌, ◌<◌, ◌≤◌, ◌+◌, ◌++◌, ◌∷◌, ℕ, List, [], length, IfErr, IfOk, OnOk};
 ghost use Rattle.ti_caps.specs.Entry.{string_at};
-ghost use Rattle.ti_cert.specs.Basic.{IsBasic, basic_text_of};
-ghost use Rattle.ti_cert.specs.Certificates.{limit};
+ghost use Rattle.ti_cert.specs.Basic.{IsBasic};
+ghost use Rattle.ti_cert.specs.Known.{with_change};
 ghost use Rattle.ti_checker.specs.First as told;
-ghost use Rattle.ti_checker.specs.Limit.{AddsLine, most};
+ghost use Rattle.ti_checker.specs.Limit.{AddsLine, IsFullText, most};
 ghost use Rattle.ti_checker.specs.No as spec;
+ghost use Rattle.ti_checker.specs.Switches.{IsSeen, IsSeenToo};
 ghost use Rattle.ti_checker.specs.Taught.{IsTaught};
 ghost use Rattle.ti_lines.specs.Heads.{acsc_text, end_text, size_text};
 ghost use Rattle.ti_lines.specs.RowLines.{line_text};
@@ -14,11 +15,15 @@ ghost use Rattle.ti_lines.specs.Texts.{acsc_lines, ended};
 ghost use Rattle.ti_rows.specs.Lists.{Follows, IsFirst, IsInRange};
 ghost use Rattle.ti_rows.specs.Names.{order};
 ghost use Rattle.ti_conforms.specs.Conforms.{IsFit};
+ghost use Rattle.ti_conforms.specs.Charsets.{joined, reach_of};
 ghost use Rattle.ti_conforms.specs.Entries as entries;
+ghost use Rattle.ti_conforms.specs.Table.{settles};
+ghost use Rattle.vt_term.specs.Text.{Splits};
 
 use crate::causes::{Cause, No};
 use crate::judgements::Judge;
 use crate::sends::checked_string;
+use crate::switches::Seen;
 use std::alloc::{AllocError, Global};
 use ti_caps::Entry;
 use ti_conforms::{NO_LOOKS, acsc};
@@ -35,6 +40,8 @@ struct Draft {
     judge: Judge,
     /// The words of the present row's effect.
     words: Vec<u8>,
+    /// What the strings of its lines do to the charsets.
+    seen: Seen,
 }
 
 /// The most bytes of a certificate before its last line.
@@ -78,23 +85,45 @@ fn push_head(alloc: Global, entry: &Entry, size: Size, text: &mut Vec<u8>) -> Re
 impl Draft {
     /// The lines before those of the capabilities.
     fn new(alloc: Global, entry: &Entry, size: Size) -> Result<Draft, AllocError>
-        ensures { IfOk result (λ draft. told.IsDrafted entry.now size.rows size.cols (λ row. order row < 0)
+        ensures drafted { IfOk result (λ draft. told.IsDrafted entry.now size.rows size.cols (λ row. order row < 0)
             draft.text.items) }
+        ensures seen { IfOk result (λ draft. IsSeen entry.now size.rows size.cols draft.seen.reach
+            draft.seen.changes.items 0 0) }
     {
         let _ = entry.names();
         let mut text = Vec::with_capacity(alloc, ROOM)?;
         push_head(alloc, entry, size, &mut text)?;
+        let seen = Seen::new(alloc);
         Ok(Draft {
             text,
             judge: Judge::new(alloc)?,
             words: Vec::new(alloc),
+            seen,
         })
+    }
+
+    /// Adds what the bytes of a row that were judged do to the charsets.
+    fn learn(&mut self, row: Row, effect: &Effect) -> Result<(), Cause>
+        ensures text { self.new.text.items ≡ self.old.text.items }
+        ensures bytes { self.new.judge.bytes.items ≡ self.old.judge.bytes.items }
+        ensures reach { OnOk result ((tokens : List (List ℕ)) → Splits self.old.judge.bytes.items tokens []
+            → self.new.seen.reach ≡ joined self.old.seen.reach (reach_of tokens)) }
+        ensures changes { OnOk result (self.new.seen.changes.items
+            ≡ with_change (settles row) self.old.seen.changes.items effect.now.charset) }
+        ensures fault { IfErr result (spec.IsNotWhole self.old.judge.bytes.items) }
+    {
+        self.judge.add_marks(&mut self.seen.reach)?;
+        match self.seen.add_change(row, effect.charset) {
+            Ok(()) => Ok(()),
+            Err(_) => Err(Cause::NoMemory),
+        }
     }
 
     /// Adds the line of a row whose bytes were judged.
     fn push_line(&mut self, row: Row, effect: &Effect) -> Result<(), AllocError>
-        ensures { OnOk result (self.new.text.items ≡ self.old.text.items
+        ensures text { OnOk result (self.new.text.items ≡ self.old.text.items
             ++ (line_text (record { row = row; bytes = self.old.judge.bytes.items; effect = effect.now }) ++ 10 ∷ [])) }
+        ensures seen { self.new.seen ≡ self.old.seen }
     {
         push_row_line(
             row,
@@ -133,6 +162,8 @@ fn push_row(
     requires taught { IsTaught size.rows size.cols string.now row looks.now }
     ensures right { OnOk result (told.SendsAsked size.rows size.cols string.now row) }
     ensures adds { OnOk result (AddsLine size.rows size.cols string.now row draft.old.text.items draft.new.text.items) }
+    ensures seen { OnOk result (IsSeenToo string.now row draft.old.seen.reach draft.old.seen.changes.items
+        draft.new.seen.reach draft.new.seen.changes.items) }
     ensures short { OnOk result (length draft.new.text.items ≤ most) }
     ensures refused { IfErr result (λ cause. spec.IsRowRefused size.rows size.cols string.now row draft.old.text.items
         cause) }
@@ -140,6 +171,7 @@ fn push_row(
         → IsTaught size.rows size.cols string.now next looks.new) }
 {
     let effect = draft.judge.judge_row(alloc, string, row, size, looks)?;
+    draft.learn(row, &effect)?;
     match draft.push_line(row, &effect) {
         Ok(()) => draft.check_length(),
         Err(_) => Err(Cause::NoMemory),
@@ -157,8 +189,12 @@ fn push_cap(
     requires first { IsFirst size.rows size.cols first }
     requires drafted { told.IsDrafted entry.now size.rows size.cols (λ row. order row < order first)
         draft.old.text.items }
+    requires seen { IsSeen entry.now size.rows size.cols draft.old.seen.reach draft.old.seen.changes.items
+        (order first) 0 }
     ensures drafted { OnOk result (told.IsDrafted entry.now size.rows size.cols (λ row. order row < order first + 1)
         draft.new.text.items) }
+    ensures seen { OnOk result (IsSeen entry.now size.rows size.cols draft.new.seen.reach draft.new.seen.changes.items
+        (order first + 1) 0) }
     ensures refused { IfErr result (spec.IsOfRow entry.now size.rows size.cols) }
 {
     let Some(string) = checked_string(entry, first) else {
@@ -188,8 +224,11 @@ fn push_at(
 ) -> Result<(), No>
     requires place { place < 42 }
     requires drafted { told.IsDrafted entry.now size.rows size.cols (λ row. order row < place) draft.old.text.items }
+    requires seen { IsSeen entry.now size.rows size.cols draft.old.seen.reach draft.old.seen.changes.items place 0 }
     ensures drafted { OnOk result (told.IsDrafted entry.now size.rows size.cols (λ row. order row < place + 1)
         draft.new.text.items) }
+    ensures seen { OnOk result (IsSeen entry.now size.rows size.cols draft.new.seen.reach draft.new.seen.changes.items
+        (place + 1) 0) }
     ensures refused { IfErr result (spec.IsOfRow entry.now size.rows size.cols) }
 {
     match Row::first(place) {
@@ -200,9 +239,12 @@ fn push_at(
 
 /// Adds the lines of all checked capabilities of the entry.
 fn push_caps(alloc: Global, entry: &Entry, size: Size, draft: &mut Draft) -> Result<(), No>
-    requires { told.IsDrafted entry.now size.rows size.cols (λ row. order row < 0) draft.old.text.items }
+    requires drafted { told.IsDrafted entry.now size.rows size.cols (λ row. order row < 0) draft.old.text.items }
+    requires seen { IsSeen entry.now size.rows size.cols draft.old.seen.reach draft.old.seen.changes.items 0 0 }
     ensures drafted { OnOk result (told.IsDrafted entry.now size.rows size.cols (λ row. order row < 42)
         draft.new.text.items) }
+    ensures seen { OnOk result (IsSeen entry.now size.rows size.cols draft.new.seen.reach draft.new.seen.changes.items
+        42 0) }
     ensures refused { IfErr result (spec.IsOfRow entry.now size.rows size.cols) }
 {
     for place in 0..42 {
@@ -211,24 +253,35 @@ fn push_caps(alloc: Global, entry: &Entry, size: Size, draft: &mut Draft) -> Res
     Ok(())
 }
 
+/// The text of all lines of an entry, and what their strings do to the charsets.
+#[derive(Drop)]
+pub(crate) struct Written {
+    pub text: Vec<u8>,
+    pub seen: Seen,
+}
+
 /// The whole text, with the last line.
-fn finished(draft: Draft) -> Result<Vec<u8>, AllocError>
-    ensures { IfOk result (λ text. text.items ≡ draft.text.items ++ (end_text ++ 10 ∷ [])) }
+fn finished(draft: Draft) -> Result<Written, AllocError>
+    ensures text { IfOk result (λ written. written.text.items ≡ draft.text.items ++ (end_text ++ 10 ∷ [])) }
+    ensures seen { IfOk result (λ written. written.seen ≡ draft.seen) }
 {
     let mut text = draft.text;
     text.extend_from_slice(b"end\n")?;
     text.shrink_to_fit();
-    Ok(text)
+    Ok(Written {
+        text,
+        seen: draft.seen,
+    })
 }
 
-/// The certificate's text of the lines of a fit entry, each of which was judged.
+/// The text of the lines of a fit entry, each of which was judged.
 #[tactic(auto, using(crate::proofs::Together::memory_no))]
-pub(crate) fn draft_of(alloc: Global, entry: &Entry, size: Size) -> Result<Vec<u8>, No>
+pub(crate) fn draft_of(alloc: Global, entry: &Entry, size: Size) -> Result<Written, No>
     requires { IsFit entry.now }
     ensures written { IfOk result (λ _. told.EachWritten entry.now size.rows size.cols) }
-    ensures within { IfOk result (λ text. length text.items ≤ limit) }
-    ensures basic_text { IsBasic entry.now size.rows size.cols
-        → IfOk result (λ text. text.items ≡ basic_text_of entry.now size.rows size.cols) }
+    ensures text { IfOk result (λ written. IsFullText entry.now size.rows size.cols written.text.items) }
+    ensures seen { IfOk result (λ written. IsSeen entry.now size.rows size.cols written.seen.reach
+        written.seen.changes.items 42 0) }
     ensures basic { IsBasic entry.now size.rows size.cols → IfErr result (λ refusal. refusal.cause ≡ Cause.NoMemory) }
     ensures refused { IfErr result (spec.IsNo entry.now size.rows size.cols) }
 {
@@ -237,7 +290,7 @@ pub(crate) fn draft_of(alloc: Global, entry: &Entry, size: Size) -> Result<Vec<u
     };
     push_caps(alloc, entry, size, &mut draft)?;
     match finished(draft) {
-        Ok(text) => Ok(text),
+        Ok(written) => Ok(written),
         Err(_) => Err(no_memory()),
     }
 }

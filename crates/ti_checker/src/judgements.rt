@@ -5,6 +5,7 @@ ghost use Rattle.ti_checker.specs.First.{SendsAsked};
 ghost use Rattle.ti_checker.specs.Limit.{IsLineFor};
 ghost use Rattle.ti_checker.specs.No as spec;
 ghost use Rattle.ti_checker.specs.Taught.{IsAskedOf, IsTaught};
+ghost use Rattle.ti_conforms.specs.Charsets.{joined, reach_of};
 ghost use Rattle.ti_rows.specs.Asked.{start_of};
 ghost use Rattle.ti_rows.specs.Lists.{Follows, IsInRange};
 ghost use Rattle.vt_effects.specs.Record.{IsRecordOf, record_of};
@@ -16,6 +17,7 @@ use crate::mislooks::looks_other;
 use crate::sends::sent_into;
 use crate::trials::probe_for;
 use std::alloc::{AllocError, Global};
+use ti_conforms::Reach;
 use ti_rows::{Looks, Row};
 use vt_effects::{Effect, effect_of_text};
 use vt_term::{Scanner, Size, TextFault, TextFaultKind, Token, TokenFault, TokenFaultKind, tokens};
@@ -128,6 +130,19 @@ impl Judge {
         ensures { result.now ≡ self.now.bytes.items }
     {
         self.bytes.as_slice()
+    }
+
+    /// Adds the marks of the sets that the tokens of what the row that was judged last sends turn on.
+    pub(crate) fn add_marks(&mut self, reach: &mut Reach) -> Result<(), Cause>
+        ensures bytes { self.new.bytes.items ≡ self.old.bytes.items }
+        ensures learned { OnOk result ((tokens : List (List ℕ)) → Splits self.old.bytes.items tokens []
+            → reach.new ≡ joined reach.old (reach_of tokens)) }
+        ensures fault { IfErr result (spec.IsNotWhole self.old.bytes.items) }
+    {
+        match reach.learn_text(&mut self.scanner, &self.bytes) {
+            Ok(()) => Ok(()),
+            Err(fault) => Err(not_whole(fault)),
+        }
     }
 
     /// The effect of what the entry's `string` sends for `row`. The bytes that it sends are kept.

@@ -1,18 +1,17 @@
 //! Which character set the strings of an entry leave active, all of them together.
 
-ghost use Rattle.std.specs.Prelude.{◌≡◌, ◌+◌, [], IfErr, IfNone, IfOk, IfSome, OnOk, false, is_some};
+ghost use Rattle.std.specs.Prelude.{◌≡◌, ℕ, List, [], IfErr, IfOk, OnOk, is_some};
 ghost use Rattle.ti_caps.specs.Entry.{string_at};
 ghost use Rattle.ti_cert.specs.Known.{with_change};
 ghost use Rattle.ti_checker.specs.First.{EachWritten};
 ghost use Rattle.ti_checker.specs.No.{GoTogether, IsFaulty, IsNo, IsToldAs};
 ghost use Rattle.ti_checker.specs.Probes.{screen_of};
 ghost use Rattle.ti_checker.specs.Switches as spec;
-ghost use Rattle.ti_conforms.specs.Charsets.{joined, reach_of};
-ghost use Rattle.ti_conforms.specs.Conforms.{IsFit};
+ghost use Rattle.ti_conforms.specs.Charsets.{reach_of};
+ghost use Rattle.ti_conforms.specs.Conforms.{Conforms, IsFit};
 ghost use Rattle.ti_conforms.specs.Entries as entries;
 ghost use Rattle.ti_conforms.specs.Table as checked;
-ghost use Rattle.ti_rows.specs.Lists.{IsFirst, IsInRange, rank};
-ghost use Rattle.ti_rows.specs.Names.{order};
+ghost use Rattle.ti_rows.specs.Lists.{IsInRange};
 ghost use Rattle.ti_rows.specs.Starts.{IsFree};
 ghost use Rattle.ti_rows.specs.declared.rows.Row.TheVariants as rows;
 
@@ -27,55 +26,50 @@ use ti_cert::{Clash, Resync, first_clash};
 use ti_conforms::{Reach, acsc, settles};
 use ti_rows::{NO_MARKS, Row};
 use vt_effects::{Sets, effect_of};
-use vt_term::{Charset, Size, Token};
+use vt_term::{Charset, Size};
 
-/// What an entry's strings do to the charsets: marks that their tokens turn on, and what whole strings
-/// leave.
+/// What strings do to the charsets: marks that their tokens turn on, and what whole strings leave.
 #[derive(Drop)]
-struct Seen {
-    reach: Reach,
+pub(crate) struct Seen {
+    pub reach: Reach,
     changes: Vec<Sets>,
 }
 
-/// The tokens that a string sends for a row, and what they leave of each charset.
-fn change_by(
-    alloc: Global,
-    string: &[u8],
-    row: Row,
-    size: Size,
-) -> Result<(Vec<Token>, Sets), Cause>
-    ensures change { IfOk result (λ change. spec.IsChange string.now row change.0.items change.1) }
+impl Seen {
+    /// Of no strings.
+    pub fn new(alloc: Global) -> Seen
+        ensures reach { result.reach ≡ reach_of [] }
+        ensures changes { result.changes.items ≡ [] }
+    {
+        Seen {
+            reach: Reach::none(),
+            changes: Vec::new(alloc),
+        }
+    }
+
+    /// Adds what the string of a row leaves, if that counts.
+    pub fn add_change(&mut self, row: Row, change: Sets) -> Result<(), AllocError>
+        ensures reach { self.new.reach ≡ self.old.reach }
+        ensures changes { OnOk result (self.new.changes.items
+            ≡ with_change (checked.settles row) self.old.changes.items change) }
+    {
+        if settles(row) {
+            self.changes.push(change)?;
+        }
+        Ok(())
+    }
+}
+
+/// What a string that is sent for a row leaves of each charset.
+fn change_by(alloc: Global, string: &[u8], row: Row, size: Size) -> Result<Sets, Cause>
+    ensures change { IfOk result (λ change. (tokens : List (List ℕ)) × spec.IsChange string.now row tokens change) }
     ensures faulty { IfErr result (λ cause. IsFaulty size.rows size.cols string.now row cause) }
 {
     let bytes = sent(alloc, string, row)?;
     let tokens = tokens_of(alloc, &bytes)?;
     match effect_of(&tokens, size, &row.start(size)) {
-        Some(effect) => Ok((tokens, effect.charset)),
+        Some(effect) => Ok(effect.charset),
         None => Err(Cause::NotTame),
-    }
-}
-
-/// What the entry's string for `row` does to the charset, `None` where the row isn't checked.
-fn change_at(
-    alloc: Global,
-    entry: &Entry,
-    row: Row,
-    size: Size,
-) -> Result<Option<(Vec<Token>, Sets)>, No>
-    requires fit { IsFit entry.now }
-    requires written { EachWritten entry.now size.rows size.cols }
-    requires range { IsInRange size.rows size.cols row }
-    ensures some { IfOk result (λ found. IfSome found (λ change. spec.IsChangeOf entry.now row change.0.items
-        change.1)) }
-    ensures none { IfOk result (λ found. IfNone found (entries.is_checked entry.now row ≡ false)) }
-    ensures refused { IfErr result (IsNo entry.now size.rows size.cols) }
-{
-    match checked_string(entry, row) {
-        Some(string) => match change_by(alloc, string, row, size) {
-            Ok(change) => Ok(Some(change)),
-            Err(cause) => Err(No::at(row, cause)),
-        },
-        None => Ok(None),
     }
 }
 
@@ -87,88 +81,13 @@ fn change_of(alloc: Global, entry: &Entry, row: Row, size: Size) -> Result<Optio
     ensures changes { IfOk result (λ change. spec.RowChanges entry.now size.rows size.cols row change) }
     ensures refused { IfErr result (IsNo entry.now size.rows size.cols) }
 {
-    match change_at(alloc, entry, row, size)? {
-        Some((_, change)) => Ok(Some(change)),
+    match checked_string(entry, row) {
+        Some(string) => match change_by(alloc, string, row, size) {
+            Ok(change) => Ok(Some(change)),
+            Err(cause) => Err(No::at(row, cause)),
+        },
         None => Ok(None),
     }
-}
-
-impl Seen {
-    fn new(alloc: Global) -> Seen
-        ensures reach { result.reach ≡ reach_of [] }
-        ensures changes { result.changes.items ≡ [] }
-    {
-        Seen {
-            reach: Reach::none(),
-            changes: Vec::new(alloc),
-        }
-    }
-
-    /// Adds the tokens of a row, and their change.
-    fn add(&mut self, row: Row, tokens: &[Token], change: Sets) -> Result<(), AllocError>
-        ensures reach { OnOk result (self.new.reach ≡ joined self.old.reach (reach_of tokens.now)) }
-        ensures changes { OnOk result (self.new.changes.items
-            ≡ with_change (checked.settles row) self.old.changes.items change) }
-    {
-        if settles(row) {
-            self.changes.push(change)?;
-        }
-        self.reach.learn_all(tokens);
-        Ok(())
-    }
-
-    /// Adds what the entry's string does for a row, where the row is checked.
-    fn learn(&mut self, alloc: Global, entry: &Entry, row: Row, size: Size) -> Result<(), No>
-        requires fit { IsFit entry.now }
-        requires written { EachWritten entry.now size.rows size.cols }
-        requires range { IsInRange size.rows size.cols row }
-        ensures seen { OnOk result (spec.IsSeen entry.now size.rows size.cols self.old.reach self.old.changes.items
-            (order row) (rank size.rows size.cols row)
-            → spec.IsSeen entry.now size.rows size.cols self.new.reach self.new.changes.items
-            (order row) (rank size.rows size.cols row + 1)) }
-        ensures refused { IfErr result (IsNo entry.now size.rows size.cols) }
-    {
-        if let Some((tokens, change)) = change_at(alloc, entry, row, size)? {
-            self.add(row, &tokens, change)?;
-        }
-        Ok(())
-    }
-
-    /// Learns what the strings of all rows of a capability send, from the row `first` on.
-    fn learn_rows(&mut self, alloc: Global, entry: &Entry, first: Row, size: Size) -> Result<(), No>
-        requires fit { IsFit entry.now }
-        requires written { EachWritten entry.now size.rows size.cols }
-        requires first { IsFirst size.rows size.cols first }
-        ensures seen { OnOk result (spec.IsSeen entry.now size.rows size.cols self.old.reach self.old.changes.items
-            (order first) 0
-            → spec.IsSeen entry.now size.rows size.cols self.new.reach self.new.changes.items (order first + 1) 0) }
-        ensures refused { IfErr result (IsNo entry.now size.rows size.cols) }
-    {
-        let mut row = first;
-        loop {
-            self.learn(alloc, entry, row, size)?;
-            match row.next(size) {
-                Some(next) => row = next,
-                None => return Ok(()),
-            }
-        }
-    }
-}
-
-/// What all checked strings of the entry do to the charsets.
-fn seen_of(alloc: Global, entry: &Entry, size: Size) -> Result<Seen, No>
-    requires fit { IsFit entry.now }
-    requires written { EachWritten entry.now size.rows size.cols }
-    ensures seen { IfOk result (λ seen. spec.IsSeen entry.now size.rows size.cols seen.reach seen.changes.items 42 0) }
-    ensures refused { IfErr result (IsNo entry.now size.rows size.cols) }
-{
-    let mut seen = Seen::new(alloc);
-    for order in 0..42 {
-        if let Some(first) = Row::first(order) {
-            seen.learn_rows(alloc, entry, first, size)?;
-        }
-    }
-    Ok(seen)
 }
 
 /// What the entry's strings that lead out of an unknown state do to the charsets.
@@ -233,14 +152,20 @@ fn has_pairs(entry: &Entry) -> bool
 }
 
 /// Judges all strings of the entry together, of which each is right by itself, as an audit of their lines
-/// does.
-pub(crate) fn check_together(alloc: Global, entry: &Entry, size: Size) -> Result<(), No>
+/// does. `seen` is what all of them do.
+pub(crate) fn check_together(
+    alloc: Global,
+    entry: &Entry,
+    size: Size,
+    seen: &Seen,
+) -> Result<(), No>
     requires fit { IsFit entry.now }
     requires written { EachWritten entry.now size.rows size.cols }
+    requires seen { spec.IsSeen entry.now size.rows size.cols seen.now.reach seen.now.changes.items 42 0 }
     ensures right { OnOk result (GoTogether entry.now size.rows size.cols) }
+    ensures conforms { OnOk result (Conforms entry.now size.rows size.cols) }
     ensures refused { IfErr result (IsNo entry.now size.rows size.cols) }
 {
-    let seen = seen_of(alloc, entry, size)?;
     let resync = resync_sets(alloc, entry, size)?;
     let smacs = change_of(alloc, entry, Row::Smacs, size)?;
     let begins = escapes(alloc, entry, size)?;

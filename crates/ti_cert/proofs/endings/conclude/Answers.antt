@@ -17,7 +17,7 @@ returns-in-Ok-clause-concluded c = λ held. subst (λ (k : Known). IsConcluded k
       rmacs_is = c.in_ok-resync.ensures.rmacs;
       smacs_is = c.in_ok-smacs.ensures.change;
     })
-    c.begins_with_escape-escapes.ensures.yes c.begins_with_escape-escapes.ensures.no c.in-Ok.ensures.settled c.in-Ok.ensures.none c.in-Ok.ensures.together)
+    c.begins_with_escape-escapes.ensures.yes c.begins_with_escape-escapes.ensures.no c.in-Ok.ensures.settled c.in-Ok.ensures.together)
 
 pub returns-in_err-resync-clause-fails : goal.returns-in_err-resync-clause-fails
 returns-in_err-resync-clause-fails c =

@@ -1,17 +1,17 @@
-use Rattle.std.proofs.Common.{◌≡◌, ◌∙◌, sym, subst}
+use Rattle.std.proofs.Common.{◌≡◌, sym, subst}
 use Rattle.std.proofs.lemmas.Result.{err_from_is_err_and}
 use Rattle.ti_checker.specs.No.{IsNo}
 use Rattle.ti_checker.specs.declared.causes.Cause.TheVariants.{NoMemory}
-use Rattle.ti_checker.proofs.BasicDrafts.{draft_is_basic, only_memory}
-use Rattle.ti_checker.proofs.FitnessFacts.{each_written}
+use Rattle.ti_checker.proofs.BasicDrafts.{only_memory}
+use Rattle.ti_checker.proofs.FitnessFacts.{each_written, full_text}
 use Rattle.ti_checker.proofs.Together.{row_no}
 use Rattle.ti_checker.proofs.drafts.draft_of.Goals as goal
 
 pub returns-in-Ok-finished-clause-written : goal.returns-in-Ok-finished-clause-written
 returns-in-Ok-finished-clause-written c = each_written c.args.entry.now c.args.size.rows c.args.size.cols c.push_caps.new.draft.text.items c.in_ok-push_caps.ensures.drafted
 
-pub returns-in-Ok-finished-clause-basic_text : goal.returns-in-Ok-finished-clause-basic_text
-returns-in-Ok-finished-clause-basic_text c = λ basic. c.in-Ok-finished.ensures ∙ draft_is_basic c.args.entry.now c.args.size.rows c.args.size.cols c.push_caps.new.draft.text.items c.args.size.limits basic c.in_ok-push_caps.ensures.drafted
+pub returns-in-Ok-finished-clause-text : goal.returns-in-Ok-finished-clause-text
+returns-in-Ok-finished-clause-text c = full_text c.args.entry.now c.args.size.rows c.args.size.cols c.push_caps.new.draft.text.items c.in-Ok-finished.written.text.items c.in_ok-push_caps.ensures.drafted c.in-Ok-finished.ensures.text
 
 pub returns-in_err-push_caps-clause-basic : goal.returns-in_err-push_caps-clause-basic
 returns-in_err-push_caps-clause-basic c = λ basic.

@@ -1,7 +1,13 @@
-use Rattle.std.proofs.Common.{refl}
-use Rattle.std.proofs.lemmas.Result.{on_ok_weaker}
+use Rattle.std.proofs.Common.{refl, sym, ap, subst, ◌∙◌}
+use Rattle.std.proofs.lemmas.Result.{err_from_is_err_and, on_ok_weaker}
 use Rattle.ti_conforms.proofs.Matches.{on_err}
 use Rattle.ti_checker.specs.Limit.{AddsLine}
+use Rattle.ti_checker.specs.Switches.{IsSeenToo}
+use Rattle.ti_checker.specs.No.{IsRowRefused}
+use Rattle.ti_checker.specs.declared.causes.Cause.{Cause}
+use Rattle.ti_checker.proofs.Earliest.{added_same}
+use Rattle.ti_checker.proofs.Misjudgements.{cut_refused}
+use Rattle.ti_checker.proofs.Settled.{is_seen_too}
 use Rattle.ti_checker.proofs.drafts.push_row.Goals as goal
 
 pub returns-in-Ok-clause-adds : goal.returns-in-Ok-clause-adds
@@ -10,9 +16,16 @@ returns-in-Ok-clause-adds c =
       line = record { row = c.args.row; bytes = c.judge_row.new.self.bytes.items; effect = c.in_ok-effect.effect };
       of_row = refl;
       is = c.in_ok-effect.ensures.line;
-      added = c.in-Ok.ensures;
+      added = added_same _ _ _ c.args.row _ _ c.in_ok-effect.effect c.learn.ensures.text c.learn.ensures.bytes c.in-Ok.ensures.text;
     } in
     on_ok_weaker c.check_length.result (λ h. adds) c.check_length.ensures.short
+
+pub returns-in-Ok-clause-seen : goal.returns-in-Ok-clause-seen
+returns-in-Ok-clause-seen c =
+    let seen : IsSeenToo c.args.string.now c.args.row c.args.draft.now.seen.reach c.args.draft.now.seen.changes.items c.push_line.new.self.seen.reach c.push_line.new.self.seen.changes.items =
+    is_seen_too c.args.size.rows c.args.size.cols c.args.string.now c.args.row c.judge_row.new.self.bytes.items c.in_ok-effect.effect _ _ _ _ c.in_ok-effect.ensures.line
+    (λ tokens whole. ap (λ s. s.reach) c.push_line.ensures.seen ∙ c.in_ok-learn.ensures.reach tokens whole) (ap (λ s. s.changes.items) c.push_line.ensures.seen ∙ c.in_ok-learn.ensures.changes) in
+    on_ok_weaker c.check_length.result (λ h. seen) c.check_length.ensures.short
 
 pub returns-in-Ok-clause-refused : goal.returns-in-Ok-clause-refused
 returns-in-Ok-clause-refused c =
@@ -20,8 +33,14 @@ returns-in-Ok-clause-refused c =
       line = record { row = c.args.row; bytes = c.judge_row.new.self.bytes.items; effect = c.in_ok-effect.effect };
       of_row = refl;
       is = c.in_ok-effect.ensures.line;
-      added = c.in-Ok.ensures;
+      added = added_same _ _ _ c.args.row _ _ c.in_ok-effect.effect c.learn.ensures.text c.learn.ensures.bytes c.in-Ok.ensures.text;
     } in
     on_err c.check_length.result
     (λ cause h. rw h.0 (record { new = c.push_line.new.self.text.items; adds = adds; long = h.1 }))
     c.check_length.ensures.long
+
+pub returns-in_err-learn-clause-refused : goal.returns-in_err-learn-clause-refused
+returns-in_err-learn-clause-refused c =
+    let e = err_from_is_err_and c.from_residual-in_err-learn.result c.from_residual-in_err-learn.ensures.1 in
+    rw e.1 (subst (λ (cause : Cause). IsRowRefused c.args.size.rows c.args.size.cols c.args.string.now c.args.row c.args.draft.now.text.items cause) (sym e.2)
+    (cut_refused c.args.size.rows c.args.size.cols c.args.string.now c.args.row c.judge_row.new.self.bytes.items c.args.draft.now.text.items c.in_err-learn.field-0.0 c.in_ok-effect.ensures.line.sends c.in_err-learn.ensures.fault))

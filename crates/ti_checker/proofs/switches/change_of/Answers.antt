@@ -1,11 +1,16 @@
-use Rattle.ti_checker.specs.Switches.{IsChangeOf}
-use Rattle.ti_checker.proofs.Settled.{unchecked_changes, checked_changes, found_some, found_none}
+use Rattle.ti_checker.proofs.Together.{row_again}
+use Rattle.ti_checker.proofs.Settled.{unchecked_changes, checked_changes}
 use Rattle.ti_checker.proofs.switches.change_of.Goals as goal
-use Rattle.ti_checker.proofs.switches.change_of.Goals.{in-Some, in-None}
 
-pub returns-clause-changes : goal.returns-clause-changes
-returns-clause-changes c = elim c.match-branch-2.branch [
-  | in-Some w ↦ rw w.result-is (checked_changes c.args.entry.now c.args.size.rows c.args.size.cols c.args.row _ w.in-Some.change c.requires.range
-      (found_some c.in_ok-change.field-0 _ (λ change. IsChangeOf c.args.entry.now c.args.row change.0.items change.1) w.in-Some.is c.in_ok-change.ensures.some))
-  | in-None w ↦ rw w.result-is (unchecked_changes c.args.entry.now c.args.size.rows c.args.size.cols c.args.row c.requires.range (found_none c.in_ok-change.field-0 w.in-None.is c.in_ok-change.ensures.none))
-]
+pub returns-in-Ok-clause-changes : goal.returns-in-Ok-clause-changes
+returns-in-Ok-clause-changes c =
+    let is = c.in-Ok.ensures.change in
+    checked_changes c.args.entry.now c.args.size.rows c.args.size.cols c.args.row is.0 c.in-Ok.change c.requires.range
+    (record { checked = c.in-Some.ensures.checked; string = c.in-Some.string.now; there = c.in-Some.ensures.there; is = is.1 })
+
+pub returns-in-None-clause-changes : goal.returns-in-None-clause-changes
+returns-in-None-clause-changes c = unchecked_changes c.args.entry.now c.args.size.rows c.args.size.cols c.args.row c.requires.range c.in-None.ensures.none
+
+pub returns-in-Err-clause-refused : goal.returns-in-Err-clause-refused
+returns-in-Err-clause-refused c = row_again c.args.entry.now c.args.size.rows c.args.size.cols c.at.result c.in-Some.string.now c.args.row c.in-Err.cause c.requires.fit c.requires.written c.requires.range
+    c.in-Some.ensures.checked c.in-Some.ensures.there c.at.ensures.cap c.at.ensures.params c.at.ensures.cause c.in-Err.ensures.faulty
