@@ -23,3 +23,5 @@ pub mod BasicDrafts
 pub mod Places
 pub mod Wanted
 pub mod Displays
+pub mod ProbeStarts
+pub mod Elsewhere

@@ -1,0 +1,30 @@
+-- In what the end of an effect differs from each end that is wanted of a row.
+use Rattle.std.specs.Prelude.{ℕ, ◌≡◌}
+use Rattle.vt_term.specs.Screen.{Screen}
+use Rattle.vt_effects.specs.declared.effects.Effect.{Effect}
+use Rattle.vt_effects.specs.Effect.{applied}
+use Rattle.ti_rows.specs.Starts.{Starts}
+use Rattle.ti_rows.specs.Wants.{Wants}
+use Rattle.ti_rows.specs.declared.rows.Looks.{Looks}
+use Rattle.ti_rows.specs.declared.rows.Row.{Row}
+use Rattle.ti_checker.specs.Breakage.{AgreeBefore}
+
+-- From some start of the row, whatever its cells are, the effect leads to an end that is like none of those that are
+-- wanted, however attributes look that agree with what the rows before taught.
+pub record Strays (Alike : Screen → Screen → Type 0) (rows cols : ℕ) (taught : Looks) (row : Row) (e : Effect) : Type 0 where
+  pub start : Screen
+  pub starts : Starts rows cols row start
+  pub apart : (looks : Looks) (wanted : Screen) → AgreeBefore row taught looks → Wants looks row start wanted
+      → Alike (applied e start) wanted → ⊥
+
+-- the cursor is in one place, with or without a pending wrap, and the margins are the same
+pub record HaveOnePlace (s t : Screen) : Type 0 where
+  pub row : s.row ≡ t.row
+  pub col : s.col ≡ t.col
+  pub pending : s.pending ≡ t.pending
+  pub top : s.top ≡ t.top
+  pub bottom : s.bottom ≡ t.bottom
+
+-- the effect leads elsewhere than is wanted
+abbrev pub LeadsElsewhere : ℕ → ℕ → Looks → Row → Effect → Type 0
+LeadsElsewhere rows cols taught row e = Strays HaveOnePlace rows cols taught row e
