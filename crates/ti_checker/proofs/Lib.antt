@@ -25,3 +25,4 @@ pub mod Wanted
 pub mod Displays
 pub mod ProbeStarts
 pub mod Elsewhere
+pub mod OneRendition

@@ -1,5 +1,5 @@
 -- With `NotTame` and `NotShown` a string may be right: but neither is said of a row that stands, and `NotShown` of none
--- that leads elsewhere than is wanted.
+-- that leads elsewhere than is wanted, or to another rendition.
 use Rattle.std.specs.Prelude.{ℕ, ◌≡◌, List}
 use Rattle.vt_effects.specs.declared.effects.Effect.{Effect}
 use Rattle.ti_rows.specs.declared.rows.Looks.{Looks}
@@ -7,7 +7,7 @@ use Rattle.ti_rows.specs.declared.rows.Row.{Row}
 use Rattle.ti_checker.specs.First.{SendsAsked}
 use Rattle.ti_checker.specs.Limit.{IsLineFor}
 use Rattle.ti_checker.specs.No.{IsFaulty}
-use Rattle.ti_checker.specs.Strays.{LeadsElsewhere}
+use Rattle.ti_checker.specs.Strays.{LeadsElsewhere, RendersOther}
 use Rattle.ti_checker.specs.Taught.{IsTaught}
 use Rattle.ti_checker.specs.declared.causes.Cause.TheVariants.{NotTame, NotShown}
 
@@ -36,4 +36,9 @@ pub record SendsSuch (Such : Looks → Effect → Type 0) (rows cols : ℕ) (str
 abbrev pub NeverElsewhere : Type 0
 NeverElsewhere = (rows cols : ℕ) (string : List ℕ) (row : Row)
     → SendsSuch (λ looks e. LeadsElsewhere rows cols looks row e) rows cols string row
+    → IsFaulty rows cols string row NotShown → ⊥
+
+abbrev pub NeverOther : Type 0
+NeverOther = (rows cols : ℕ) (string : List ℕ) (row : Row)
+    → SendsSuch (λ looks e. RendersOther rows cols looks row e) rows cols string row
     → IsFaulty rows cols string row NotShown → ⊥

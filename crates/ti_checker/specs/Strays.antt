@@ -25,6 +25,12 @@ pub record HaveOnePlace (s t : Screen) : Type 0 where
   pub top : s.top ≡ t.top
   pub bottom : s.bottom ≡ t.bottom
 
--- the effect leads elsewhere than is wanted
+abbrev pub HaveOneRendition : Screen → Screen → Type 0
+HaveOneRendition s t = s.rendition ≡ t.rendition
+
+-- the effect leads elsewhere than is wanted, and to another rendition
 abbrev pub LeadsElsewhere : ℕ → ℕ → Looks → Row → Effect → Type 0
 LeadsElsewhere rows cols taught row e = Strays HaveOnePlace rows cols taught row e
+
+abbrev pub RendersOther : ℕ → ℕ → Looks → Row → Effect → Type 0
+RendersOther rows cols taught row e = Strays HaveOneRendition rows cols taught row e

@@ -1,5 +1,6 @@
 use Rattle.std.proofs.Common.{arith, below_more}
 use Rattle.ti_checker.proofs.Elsewhere.{not_elsewhere}
+use Rattle.ti_checker.proofs.OneRendition.{not_other}
 use Rattle.ti_checker.proofs.trials.probe_for.Goals as goal
 
 pub loop-number-preserved : goal.loop-number-preserved
@@ -7,3 +8,6 @@ loop-number-preserved c = below_more _ _ c.loop-number.invariant c.in_default.en
 
 pub returns-clause-place : goal.returns-clause-place
 returns-clause-place c = not_elsewhere c.args.size.rows c.args.size.cols c.args.taught c.args.row c.args.effect.now c.args.size.limits (λ k lt. c.loop-number.invariant k (omega (arith, lt)))
+
+pub returns-clause-rendition : goal.returns-clause-rendition
+returns-clause-rendition c = not_other c.args.size.rows c.args.size.cols c.args.taught c.args.row c.args.effect.now (λ k lt. c.loop-number.invariant k (omega (arith, lt)))
