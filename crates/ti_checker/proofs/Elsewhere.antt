@@ -155,7 +155,7 @@ record EndsThere (e w : Effect) (p : Probe) : Type 0 where
   pending : (if e.ends_pending then false else p.pending) ≡ (if w.ends_pending then false else p.pending)
   bound : Bound e.margins w.margins p.top p.bottom
 
-ends_there : (taught : Looks) (row : Row) (e : Effect) (p : Probe) → EndsAsWanted taught row e p → EndsThere e (asked taught row e) p
+ends_there : {rows cols : ℕ} → (taught : Looks) (row : Row) (e : Effect) (p : Probe) → EndsAsWanted rows cols taught row e p → EndsThere e (asked taught row e) p
 ends_there taught row e p h =
     let is = placed _ taught row e h.wanted h.is in
     record {

@@ -26,3 +26,6 @@ pub mod Displays
 pub mod ProbeStarts
 pub mod Elsewhere
 pub mod OneRendition
+pub mod OneChange
+pub mod OneGrid
+pub mod Erasing

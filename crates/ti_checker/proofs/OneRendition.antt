@@ -98,7 +98,7 @@ everywhere : (rows cols : ℕ) (row : Row) (q r : Rendering) (s : Rendition) →
 everywhere rows cols row q r s h k = from_parts (rendered q s) (rendered r s) (marks_by_both q r (marks_of s) h.marks k.marks) (ink_by_both q.foreground r.foreground Red s.foreground h.foreground k.foreground)
     (ink_by_both q.background r.background Blue s.background h.background k.background)
 
-so_by : (e f : Effect) (r : Rendering) (taught : Looks) (row : Row) (p : Probe) → (h : EndsAsWanted taught row e p) → h.wanted.rendition ≡ r → RendersSo e.rendition r p
+so_by : {rows cols : ℕ} → (e f : Effect) (r : Rendering) (taught : Looks) (row : Row) (p : Probe) → (h : EndsAsWanted rows cols taught row e p) → h.wanted.rendition ≡ r → RendersSo e.rendition r p
 so_by e f r taught row p h is = record {
   marks = h.so.marks ∙ ap (λ (q : Rendering). marks_after q p.look) is;
   foreground = h.so.foreground ∙ ap (λ (q : Rendering). inked q.foreground p.foreground) is;
@@ -135,7 +135,7 @@ fixed_as l m row e f fixed (Only one is) = ap (λ (g : Effect). g.rendition) is 
 fixed_as l m row e f fixed (WithDefaults choice is) = ap (λ (g : Effect). g.rendition) is ∙ first_fixed l m row e fixed choice
 fixed_as l m row e f fixed (WithoutDefaults choice is) = ap (λ (g : Effect). g.rendition) is ∙ second_fixed l m row e fixed choice
 
-fixed_so : (taught : Looks) (row : Row) (e : Effect) (p : Probe) → is_fixed row ≡ true → EndsAsWanted taught row e p → RendersSo e.rendition (asked taught row e).rendition p
+fixed_so : {rows cols : ℕ} → (taught : Looks) (row : Row) (e : Effect) (p : Probe) → is_fixed row ≡ true → EndsAsWanted rows cols taught row e p → RendersSo e.rendition (asked taught row e).rendition p
 fixed_so taught row e p fixed h = so_by e h.wanted (asked taught row e).rendition taught row p h (fixed_as (looks_for taught row e p) taught row e h.wanted fixed h.is)
 
 fixed_end : (rows cols : ℕ) (taught : Looks) (row : Row) (e : Effect) → is_fixed row ≡ true → EndsBelow rows cols taught row e 32 → RendersOther rows cols taught row e → ⊥
@@ -173,7 +173,7 @@ standout_as l e f (Only one is) = ap (λ (g : Effect). g.rendition) is
 standout_as l e f (WithDefaults choice is) = never (sym choice)
 standout_as l e f (WithoutDefaults choice is) = never (sym choice)
 
-standout_so : (taught : Looks) (e : Effect) (p : Probe) → EndsAsWanted taught Smso e p → RendersSo e.rendition (with_marks_on (marks_after e.rendition p.look)) p
+standout_so : {rows cols : ℕ} → (taught : Looks) (e : Effect) (p : Probe) → EndsAsWanted rows cols taught Smso e p → RendersSo e.rendition (with_marks_on (marks_after e.rendition p.look)) p
 standout_so taught e p h = so_by e h.wanted (with_marks_on (marks_after e.rendition p.look)) taught Smso p h (standout_as (looks_for taught Smso e p) e h.wanted h.is)
 
 standout_end : (rows cols : ℕ) (taught : Looks) (e : Effect) → EndsBelow rows cols taught Smso e 32 → RendersOther rows cols taught Smso e → ⊥
@@ -194,7 +194,7 @@ record ShowsSome (m : Marks) (e : Effect) (p : Probe) : Type 0 where
   defaults : Bool
   so : RendersSo e.rendition (just m (ink_of defaults)) p
 
-shows_some : (l taught : Looks) (a : Attributes) (e : Effect) (p : Probe) → (h : EndsAsWanted taught (Sgr a) e p) → IsEnd l (Sgr a) e h.wanted → ShowsSome (shown l a) e p
+shows_some : {rows cols : ℕ} → (l taught : Looks) (a : Attributes) (e : Effect) (p : Probe) → (h : EndsAsWanted rows cols taught (Sgr a) e p) → IsEnd l (Sgr a) e h.wanted → ShowsSome (shown l a) e p
 shows_some l taught a e p h (Only one is) = never one
 shows_some l taught a e p h (WithDefaults choice is) = record { defaults = true; so = so_by e h.wanted (just (shown l a) inks.Default) taught (Sgr a) p h (ap (λ (g : Effect). g.rendition) is) }
 shows_some l taught a e p h (WithoutDefaults choice is) = record { defaults = false; so = so_by e h.wanted (just (shown l a) inks.Kept) taught (Sgr a) p h (ap (λ (g : Effect). g.rendition) is) }

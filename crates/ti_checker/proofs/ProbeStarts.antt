@@ -128,7 +128,7 @@ wherever rows cols c size = let two = size.0 in let wide = size.2 in free rows c
 -- ---- of each row
 
 -- the last line is on the screen, and room for one above or below it
-probe_starts : (rows cols : ℕ) (row : Row) (c : Choices) → IsSize rows cols → IsInRange rows cols row → Starts rows cols row (screen_of rows cols (probe_by c (start_of rows cols row) rows))
+pub probe_starts : (rows cols : ℕ) (row : Row) (c : Choices) → IsSize rows cols → IsInRange rows cols row → Starts rows cols row (screen_of rows cols (probe_by c (start_of rows cols row) rows))
 probe_starts rows cols (Cup row col) c size range = any rows cols c _ size (legal_fits rows cols size)
 probe_starts rows cols (Csr top bottom) c size range = any rows cols c _ size (legal_fits rows cols size)
 probe_starts rows cols Cub1 c size range = let two = size.0 in let wide = size.2 in

@@ -1,8 +1,10 @@
 -- In what the end of an effect differs from each end that is wanted of a row.
-use Rattle.std.specs.Prelude.{ℕ, ◌≡◌}
+use Rattle.std.specs.Prelude.{ℕ, ◌≡◌, List, Some}
 use Rattle.vt_term.specs.Screen.{Screen}
 use Rattle.vt_effects.specs.declared.effects.Effect.{Effect}
 use Rattle.vt_effects.specs.Effect.{applied}
+use Rattle.vt_effects.specs.Record.{record_of}
+use Rattle.ti_rows.specs.Asked.{start_of}
 use Rattle.ti_rows.specs.Starts.{Starts}
 use Rattle.ti_rows.specs.Wants.{Wants}
 use Rattle.ti_rows.specs.declared.rows.Looks.{Looks}
@@ -28,9 +30,19 @@ pub record HaveOnePlace (s t : Screen) : Type 0 where
 abbrev pub HaveOneRendition : Screen → Screen → Type 0
 HaveOneRendition s t = s.rendition ≡ t.rendition
 
--- the effect leads elsewhere than is wanted, and to another rendition
+abbrev pub HaveSameCells : Screen → Screen → Type 0
+HaveSameCells s t = s.grid ≡ t.grid
+
+-- the effect leads elsewhere than is wanted, to another rendition, and to other cells
 abbrev pub LeadsElsewhere : ℕ → ℕ → Looks → Row → Effect → Type 0
 LeadsElsewhere rows cols taught row e = Strays HaveOnePlace rows cols taught row e
 
 abbrev pub RendersOther : ℕ → ℕ → Looks → Row → Effect → Type 0
 RendersOther rows cols taught row e = Strays HaveOneRendition rows cols taught row e
+
+abbrev pub LeavesOtherCells : ℕ → ℕ → Looks → Row → Effect → Type 0
+LeavesOtherCells rows cols taught row e = Strays HaveSameCells rows cols taught row e
+
+-- the effect is what some text does from every start of the row
+abbrev pub IsRecorded : ℕ → ℕ → Row → Effect → Type 0
+IsRecorded rows cols row e = (tokens : List (List ℕ)) × (record_of rows cols (start_of rows cols row) tokens ≡ Some e)

@@ -11,6 +11,7 @@ use Rattle.ti_rows.specs.declared.rows.Looks.{Looks}
 use Rattle.ti_rows.specs.declared.rows.Marks.{Marks}
 use Rattle.ti_rows.specs.declared.rows.Row.{Row}
 use Rattle.ti_checker.specs.Breakage.{has_choice, wanted_end, with_defaults, without_defaults, marks_after, looks_for}
+use Rattle.ti_checker.specs.Cells.{becomes_blank}
 use Rattle.ti_checker.specs.declared.probes.Probe.{Probe}
 use Rattle.ti_checker.specs.declared.trials.Choices.{Choices}
 
@@ -68,8 +69,8 @@ probe_by c s rows = record {
 
 -- ---- what is known where a probe shows nothing
 
--- from the probe two effects lead to one end, as far as it isn't a matter of cells
-pub record EndSo (e f : Effect) (p : Probe) : Type 0 where
+-- from the probe two effects lead to one end, as far as sets and visibility don't matter
+pub record EndSo (rows cols : ℕ) (e f : Effect) (p : Probe) : Type 0 where
   pub row : moved e.row p.row ≡ moved f.row p.row
   pub col : moved e.col p.col ≡ moved f.col p.col
   pub pending : (if e.ends_pending then false else p.pending) ≡ (if f.ends_pending then false else p.pending)
@@ -78,6 +79,7 @@ pub record EndSo (e f : Effect) (p : Probe) : Type 0 where
   pub marks : marks_after e.rendition p.look ≡ marks_after f.rendition p.look
   pub foreground : inked e.rendition.foreground p.foreground ≡ inked f.rendition.foreground p.foreground
   pub background : inked e.rendition.background p.background ≡ inked f.rendition.background p.background
+  pub cells : (i j : ℕ) → i < rows → j < cols → becomes_blank e p i j ≡ becomes_blank f p i j
 
 -- an effect whose end is wanted where attributes look so
 pub data IsEnd (l : Looks) (row : Row) (e f : Effect) : Type 0 where
@@ -85,12 +87,12 @@ pub data IsEnd (l : Looks) (row : Row) (e f : Effect) : Type 0 where
   WithDefaults : has_choice row ≡ true → f ≡ asked l row (with_defaults e) → IsEnd l row e f
   WithoutDefaults : has_choice row ≡ true → f ≡ asked l row (without_defaults e) → IsEnd l row e f
 
-pub record EndsAsWanted (taught : Looks) (row : Row) (e : Effect) (p : Probe) : Type 0 where
+pub record EndsAsWanted (rows cols : ℕ) (taught : Looks) (row : Row) (e : Effect) (p : Probe) : Type 0 where
   pub wanted : Effect
   pub is : IsEnd (looks_for taught row e p) row e wanted
-  pub so : EndSo e wanted p
+  pub so : EndSo rows cols e wanted p
 
 -- so from the probes below this number, and from all
 abbrev pub EndsBelow : ℕ → ℕ → Looks → Row → Effect → ℕ → Type 0
 EndsBelow rows cols taught row e n = (k : ℕ) → k < n
-    → EndsAsWanted taught row e (probe_by (choices_of k) (start_of rows cols row) rows)
+    → EndsAsWanted rows cols taught row e (probe_by (choices_of k) (start_of rows cols row) rows)

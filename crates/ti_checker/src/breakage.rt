@@ -130,7 +130,7 @@ fn inks_differ(first: &Effect, second: &Effect, size: Size, probe: &Probe) -> bo
 fn differ(first: &Effect, second: &Effect, size: Size, probe: &Probe) -> bool
     requires { CanShow size.rows probe.now }
     ensures apart { IsTrue result → spec.EndAlike first.now second.now (screen_of size.rows size.cols probe.now) → ⊥ }
-    ensures so { result ≡ false → EndSo first.now second.now probe.now }
+    ensures so { result ≡ false → EndSo size.rows size.cols first.now second.now probe.now }
 {
     place_differs(first, second, size, probe)
         || modes_differ(first, second, size, probe)
@@ -227,7 +227,7 @@ pub(crate) fn breaks(row: Row, taught: Looks, effect: &Effect, size: Size, probe
     requires starts { Starts size.rows size.cols row (screen_of size.rows size.cols probe.now) }
     requires seen { CanShow size.rows probe.now }
     ensures unwanted { IsTrue result → spec.NotWanted size.rows size.cols taught row effect.now probe.now }
-    ensures wanted { result ≡ false → EndsAsWanted taught row effect.now probe.now }
+    ensures wanted { result ≡ false → EndsAsWanted size.rows size.cols taught row effect.now probe.now }
 {
     let looks = looks_for(taught, row, effect, probe);
     if has_choice(row) {
