@@ -12,10 +12,10 @@ use Rattle.ti_rows.specs.declared.rows.Row.{Row}
 use Rattle.ti_rows.proofs.ListFacts.{one_of_rank}
 use Rattle.ti_lines.specs.declared.row_lines.RowLine.{RowLine}
 use Rattle.ti_conforms.specs.Sends.{Sends}
-use Rattle.ti_checker.specs.Doubts.{OneTeaching, NeverUntamed, NeverUnasked, SendsSuch, NeverElsewhere, NeverOther, NeverOtherCells}
+use Rattle.ti_checker.specs.Doubts.{OneTeaching, NeverUntamed, NeverUnasked, SendsSuch, NeverElsewhere, NeverOther, NeverOtherCells, NeverOtherModes}
 use Rattle.ti_checker.specs.Limit.{IsLineFor}
 use Rattle.ti_checker.specs.No.{SendsSome, HasUnasked}
-use Rattle.ti_checker.specs.Strays.{LeadsElsewhere, LeavesOtherCells, RendersOther}
+use Rattle.ti_checker.specs.Strays.{LeadsElsewhere, LeavesOtherCells, LeavesOtherModes, RendersOther}
 use Rattle.ti_checker.specs.Taught.{IsAskedOf, IsTaught, AtFirst, After}
 use Rattle.ti_checker.proofs.Teaching.{one_sent}
 
@@ -74,3 +74,6 @@ never_other rows cols string row r s = s.holds.unasked.rendition (is_such (λ lo
 
 pub never_other_cells : NeverOtherCells
 never_other_cells rows cols string row r s = s.holds.unasked.cells (is_such (λ looks e. LeavesOtherCells rows cols looks row e) rows cols string row r s)
+
+pub never_other_modes : NeverOtherModes
+never_other_modes rows cols string row r s = s.holds.unasked.modes (is_such (λ looks e. LeavesOtherModes rows cols looks row e) rows cols string row r s)

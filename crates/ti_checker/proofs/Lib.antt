@@ -29,3 +29,4 @@ pub mod OneRendition
 pub mod OneChange
 pub mod OneGrid
 pub mod Erasing
+pub mod Modes

@@ -1,5 +1,5 @@
 -- With `NotTame` and `NotShown` a string may be right: but neither is said of a row that stands, and `NotShown` of none
--- that leads elsewhere than is wanted, to another rendition or to other cells.
+-- that leads elsewhere than is wanted, to another rendition, to other modes or to other cells.
 use Rattle.std.specs.Prelude.{ℕ, ◌≡◌, List}
 use Rattle.vt_effects.specs.declared.effects.Effect.{Effect}
 use Rattle.ti_rows.specs.declared.rows.Looks.{Looks}
@@ -7,7 +7,7 @@ use Rattle.ti_rows.specs.declared.rows.Row.{Row}
 use Rattle.ti_checker.specs.First.{SendsAsked}
 use Rattle.ti_checker.specs.Limit.{IsLineFor}
 use Rattle.ti_checker.specs.No.{IsFaulty}
-use Rattle.ti_checker.specs.Strays.{LeadsElsewhere, LeavesOtherCells, RendersOther}
+use Rattle.ti_checker.specs.Strays.{LeadsElsewhere, LeavesOtherCells, LeavesOtherModes, RendersOther}
 use Rattle.ti_checker.specs.Taught.{IsTaught}
 use Rattle.ti_checker.specs.declared.causes.Cause.TheVariants.{NotTame, NotShown}
 
@@ -46,4 +46,9 @@ NeverOther = (rows cols : ℕ) (string : List ℕ) (row : Row)
 abbrev pub NeverOtherCells : Type 0
 NeverOtherCells = (rows cols : ℕ) (string : List ℕ) (row : Row)
     → SendsSuch (λ looks e. LeavesOtherCells rows cols looks row e) rows cols string row
+    → IsFaulty rows cols string row NotShown → ⊥
+
+abbrev pub NeverOtherModes : Type 0
+NeverOtherModes = (rows cols : ℕ) (string : List ℕ) (row : Row)
+    → SendsSuch (λ looks e. LeavesOtherModes rows cols looks row e) rows cols string row
     → IsFaulty rows cols string row NotShown → ⊥

@@ -39,7 +39,7 @@ use Rattle.ti_checker.specs.First.{RowStands, EachWritten}
 use Rattle.ti_checker.specs.Limit.{Overflows, PassesLimit, StaysWithin}
 use Rattle.ti_checker.specs.Mislooks.{Mislooks, looks_other}
 use Rattle.ti_checker.specs.Probes.{screen_of}
-use Rattle.ti_checker.specs.Strays.{IsRecorded, LeadsElsewhere, LeavesOtherCells, RendersOther}
+use Rattle.ti_checker.specs.Strays.{IsRecorded, LeadsElsewhere, LeavesOtherCells, LeavesOtherModes, RendersOther}
 use Rattle.ti_checker.specs.Switches.{OfSent, OfAllSent, RunsWrong}
 use Rattle.ti_checker.specs.Taught.{IsAskedOf, IsTaught}
 
@@ -66,13 +66,14 @@ pub record HasOwnEffect (rows cols : ℕ) (row : Row) (bytes : List ℕ) : Type 
   pub own : Mislooks rows cols row bytes → ⊥
 
 -- an effect that isn't the one that is asked for, where attributes look as the rows of the string before this one
--- teach, and that leads to no other place, to no other rendition and to no other cells than is wanted
+-- teach, and that leads to no other place, rendition, modes and cells than are wanted
 pub record IsUnasked (rows cols : ℕ) (string : List ℕ) (row : Row) (e : Effect) : Type 0 where
   pub looks : Looks
   pub taught : IsTaught rows cols string row looks
   pub unasked : IsAskedOf looks row e → ⊥
   pub place : LeadsElsewhere rows cols looks row e → ⊥
   pub rendition : RendersOther rows cols looks row e → ⊥
+  pub modes : LeavesOtherModes rows cols looks row e → ⊥
   pub cells : LeavesOtherCells rows cols looks row e → ⊥
 
 -- whole control functions with such an effect
@@ -124,7 +125,7 @@ IsMisfit rows cols looks row e BadLook = looks_other row e ≡ true
 IsMisfit rows cols looks row e (WrongEffect p) = (looks_other row e ≡ false) × IsShown rows cols looks row e p
 IsMisfit rows cols looks row e NotShown =
     (looks_other row e ≡ false) × (IsAskedOf looks row e → ⊥) × (LeadsElsewhere rows cols looks row e → ⊥)
-    × (RendersOther rows cols looks row e → ⊥)
+    × (RendersOther rows cols looks row e → ⊥) × (LeavesOtherModes rows cols looks row e → ⊥)
     × (IsRecorded rows cols row e → LeavesOtherCells rows cols looks row e → ⊥)
 IsMisfit rows cols looks row e _ = ⊥
 

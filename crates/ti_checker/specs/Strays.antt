@@ -33,7 +33,12 @@ HaveOneRendition s t = s.rendition ≡ t.rendition
 abbrev pub HaveSameCells : Screen → Screen → Type 0
 HaveSameCells s t = s.grid ≡ t.grid
 
--- the effect leads elsewhere than is wanted, to another rendition, and to other cells
+-- the active set and both sets are the same, and so is whether the cursor is seen
+pub record HaveSameModes (s t : Screen) : Type 0 where
+  pub charset : s.charset ≡ t.charset
+  pub visible : s.visible ≡ t.visible
+
+-- the effect leads elsewhere than is wanted, to another rendition, to other cells, and to other modes
 abbrev pub LeadsElsewhere : ℕ → ℕ → Looks → Row → Effect → Type 0
 LeadsElsewhere rows cols taught row e = Strays HaveOnePlace rows cols taught row e
 
@@ -42,6 +47,9 @@ RendersOther rows cols taught row e = Strays HaveOneRendition rows cols taught r
 
 abbrev pub LeavesOtherCells : ℕ → ℕ → Looks → Row → Effect → Type 0
 LeavesOtherCells rows cols taught row e = Strays HaveSameCells rows cols taught row e
+
+abbrev pub LeavesOtherModes : ℕ → ℕ → Looks → Row → Effect → Type 0
+LeavesOtherModes rows cols taught row e = Strays HaveSameModes rows cols taught row e
 
 -- the effect is what some text does from every start of the row
 abbrev pub IsRecorded : ℕ → ℕ → Row → Effect → Type 0

@@ -5,7 +5,7 @@ use Rattle.vt_effects.specs.declared.effects.Effect.{Effect}
 use Rattle.vt_effects.specs.declared.starts.Start.{Start}
 use Rattle.vt_effects.specs.declared.starts.Margins.{Margins}
 use Rattle.vt_effects.specs.declared.starts.Margins.TheVariants as margins
-use Rattle.vt_effects.specs.Effect.{moved, inked, top_of, bottom_of}
+use Rattle.vt_effects.specs.Effect.{moved, switched, inked, designated, top_of, bottom_of}
 use Rattle.ti_rows.specs.Asked.{start_of, asked}
 use Rattle.ti_rows.specs.declared.rows.Looks.{Looks}
 use Rattle.ti_rows.specs.declared.rows.Marks.{Marks}
@@ -69,7 +69,7 @@ probe_by c s rows = record {
 
 -- ---- what is known where a probe shows nothing
 
--- from the probe two effects lead to one end, as far as sets and visibility don't matter
+-- from the probe two effects lead to one end
 pub record EndSo (rows cols : ℕ) (e f : Effect) (p : Probe) : Type 0 where
   pub row : moved e.row p.row ≡ moved f.row p.row
   pub col : moved e.col p.col ≡ moved f.col p.col
@@ -79,6 +79,8 @@ pub record EndSo (rows cols : ℕ) (e f : Effect) (p : Probe) : Type 0 where
   pub marks : marks_after e.rendition p.look ≡ marks_after f.rendition p.look
   pub foreground : inked e.rendition.foreground p.foreground ≡ inked f.rendition.foreground p.foreground
   pub background : inked e.rendition.background p.background ≡ inked f.rendition.background p.background
+  pub charset : designated e.charset p.charset ≡ designated f.charset p.charset
+  pub visible : switched e.visible p.visible ≡ switched f.visible p.visible
   pub cells : (i j : ℕ) → i < rows → j < cols → becomes_blank e p i j ≡ becomes_blank f p i j
 
 -- an effect whose end is wanted where attributes look so

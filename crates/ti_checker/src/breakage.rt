@@ -5,7 +5,7 @@ ghost use Rattle.ti_checker.specs.Breakage as spec;
 ghost use Rattle.ti_checker.specs.Probes.{CanShow, screen_of};
 ghost use Rattle.ti_checker.specs.Trials.{EndSo, EndsAsWanted};
 ghost use Rattle.ti_rows.specs.Starts.{Starts};
-ghost use Rattle.vt_effects.specs.Effect.{bottom_of, inked, moved, top_of};
+ghost use Rattle.vt_effects.specs.Effect.{bottom_of, designated, inked, moved, switched, top_of};
 
 use crate::cells::cells_differ;
 use crate::probes::Probe;
@@ -90,6 +90,10 @@ fn modes_differ(first: &Effect, second: &Effect, size: Size, probe: &Probe) -> b
     ensures apart { IsTrue result → spec.EndAlike first.now second.now (screen_of size.rows size.cols probe.now) → ⊥ }
     ensures pending { result ≡ false → (if first.now.ends_pending then false else probe.now.pending)
         ≡ (if second.now.ends_pending then false else probe.now.pending) }
+    ensures visible { result ≡ false → switched first.now.visible probe.now.visible
+        ≡ switched second.now.visible probe.now.visible }
+    ensures charset { result ≡ false → designated first.now.charset probe.now.charset
+        ≡ designated second.now.charset probe.now.charset }
 {
     pending_after(first, probe) != pending_after(second, probe)
         || switched(first.visible, probe.visible) != switched(second.visible, probe.visible)
