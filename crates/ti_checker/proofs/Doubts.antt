@@ -1,8 +1,10 @@
 -- A row that stands has no cause with which a string may be right.
-use Rattle.std.proofs.Common.{◌≡◌, ℕ, List, [], Some, sym, ap, subst, ◌∙◌, arith}
+use Rattle.std.proofs.Common.{◌≡◌, ℕ, List, [], Some, refl, sym, ap, subst, ◌∙◌, arith}
 use Rattle.std.proofs.lemmas.Option.{none-some, same_Some}
+use Rattle.vt_term.specs.Screen.{Screen}
 use Rattle.vt_term.specs.Text.{Splits}
 use Rattle.vt_term.proofs.Splits.{one_splitting}
+use Rattle.vt_effects.specs.Effect.{applied}
 use Rattle.vt_effects.specs.Record.{record_of}
 use Rattle.vt_effects.specs.declared.effects.Effect.{Effect}
 use Rattle.ti_rows.specs.Asked.{start_of}
@@ -15,7 +17,7 @@ use Rattle.ti_conforms.specs.Sends.{Sends}
 use Rattle.ti_checker.specs.Doubts.{OneTeaching, NeverUntamed, NeverUnasked, SendsSuch, NeverElsewhere, NeverOther, NeverOtherCells, NeverOtherModes}
 use Rattle.ti_checker.specs.Limit.{IsLineFor}
 use Rattle.ti_checker.specs.No.{SendsSome, HasUnasked}
-use Rattle.ti_checker.specs.Strays.{LeadsElsewhere, LeavesOtherCells, LeavesOtherModes, RendersOther}
+use Rattle.ti_checker.specs.Strays.{HaveOnePlace, HaveOneRendition, HaveSameCells, HaveSameModes, Strays}
 use Rattle.ti_checker.specs.Taught.{IsAskedOf, IsTaught, AtFirst, After}
 use Rattle.ti_checker.proofs.Teaching.{one_sent}
 
@@ -66,14 +68,21 @@ never_unasked rows cols string row r s =
 
 -- ---- nor about one that shows what is wrong
 
+never_strays : (Alike : Screen → Screen → Type 0) → ((t : Screen) → Alike t t) → (rows cols : ℕ) (string : List ℕ) (row : Row) → SendsSuch (λ looks e. Strays Alike rows cols looks row e) rows cols string row
+    → SendsSome string row (λ bytes. HasUnasked rows cols string row bytes) → ⊥
+never_strays Alike same rows cols string row r s =
+    let h = is_such (λ looks e. Strays Alike rows cols looks row e) rows cols string row r s in
+    let w = s.holds.unasked.wanted h.start h.starts in
+    h.apart w.looks (applied s.holds.has.effect h.start) w.agree w.wanted (same (applied s.holds.has.effect h.start))
+
 pub never_elsewhere : NeverElsewhere
-never_elsewhere rows cols string row r s = s.holds.unasked.place (is_such (λ looks e. LeadsElsewhere rows cols looks row e) rows cols string row r s)
+never_elsewhere rows cols string row r s = never_strays HaveOnePlace (λ t. record { row = refl; col = refl; pending = refl; top = refl; bottom = refl }) rows cols string row r s
 
 pub never_other : NeverOther
-never_other rows cols string row r s = s.holds.unasked.rendition (is_such (λ looks e. RendersOther rows cols looks row e) rows cols string row r s)
+never_other rows cols string row r s = never_strays HaveOneRendition (λ t. refl) rows cols string row r s
 
 pub never_other_cells : NeverOtherCells
-never_other_cells rows cols string row r s = s.holds.unasked.cells (is_such (λ looks e. LeavesOtherCells rows cols looks row e) rows cols string row r s)
+never_other_cells rows cols string row r s = never_strays HaveSameCells (λ t. refl) rows cols string row r s
 
 pub never_other_modes : NeverOtherModes
-never_other_modes rows cols string row r s = s.holds.unasked.modes (is_such (λ looks e. LeavesOtherModes rows cols looks row e) rows cols string row r s)
+never_other_modes rows cols string row r s = never_strays HaveSameModes (λ t. record { charset = refl; visible = refl }) rows cols string row r s

@@ -1,4 +1,4 @@
--- An effect that no probe shows wrong leads nowhere else than is wanted, from any start of the row.
+-- An effect that no probe shows wrong leads where it is wanted to, from any start of the row.
 use Rattle.std.proofs.Common.{◌≡◌, ℕ, ◌+◌, ◌-◌, ◌<◌, ◌≤◌, ◌&&◌, Bool, true, false, if◌then◌else◌, Option, None, Some, ◌⊎◌, inl, inr, refl, sym, ap, subst, ◌∙◌, arith}
 use Rattle.std.proofs.lemmas.Bool.{cases_eq, lt-ltb, true≢false, false≢true}
 use Rattle.vt_term.specs.Screen.{Screen, IsScreen}
@@ -23,7 +23,7 @@ use Rattle.ti_rows.specs.Wants.{Wants}
 use Rattle.ti_rows.proofs.StartFacts.{starts_allowed}
 use Rattle.ti_rows.proofs.WantFacts.{asked_is_wanted}
 use Rattle.ti_checker.specs.Breakage.{AgreeBefore, has_choice, wanted_end, with_defaults, without_defaults}
-use Rattle.ti_checker.specs.Strays.{HaveOnePlace, LeadsElsewhere}
+use Rattle.ti_checker.specs.Strays.{HaveOnePlace}
 use Rattle.ti_checker.specs.Trials.{choices_of, top_by, bottom_by, probe_by, IsEnd, Only, WithDefaults, WithoutDefaults, EndSo, EndsAsWanted, EndsBelow}
 use Rattle.ti_checker.specs.declared.probes.Probe.{Probe}
 
@@ -203,8 +203,7 @@ pub agree_with_itself : (row : Row) (l : Looks) → AgreeBefore row l l
 agree_with_itself (Sgr a) l = λ b lt. refl
 agree_with_itself _ l = tt
 
-pub not_elsewhere : (rows cols : ℕ) (taught : Looks) (row : Row) (e : Effect) → IsSize rows cols → EndsBelow rows cols taught row e 32 → LeadsElsewhere rows cols taught row e → ⊥
-not_elsewhere rows cols taught row e size ends h =
-    h.apart taught (applied (asked taught row e) h.start) (agree_with_itself row taught) (end_wanted rows cols taught row e h.start h.starts)
-    (one_place rows cols (start_of rows cols row) e (asked taught row e) h.start size.0 (starts_allowed rows cols row h.start h.starts) (spans rows cols row)
-    (λ k lt. ends_there taught row e (probe_by (choices_of k) (start_of rows cols row) rows) (ends k lt)))
+pub same_place : (rows cols : ℕ) (taught : Looks) (row : Row) (e : Effect) (s : Screen) → IsSize rows cols → Starts rows cols row s → EndsBelow rows cols taught row e 32 → HaveOnePlace (applied e s) (applied (asked taught row e) s)
+same_place rows cols taught row e s size starts ends =
+    one_place rows cols (start_of rows cols row) e (asked taught row e) s size.0 (starts_allowed rows cols row s starts) (spans rows cols row)
+    (λ k lt. ends_there taught row e (probe_by (choices_of k) (start_of rows cols row) rows) (ends k lt))

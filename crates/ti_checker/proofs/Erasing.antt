@@ -1,4 +1,4 @@
--- What is wanted of the cells, row by row, and that an effect which no probe shows wrong leaves no others.
+-- What is wanted of the cells, row by row, and that an effect which no probe shows wrong leaves them so.
 use Rattle.std.proofs.Common.{◌≡◌, ◌⊎◌, inl, inr, ℕ, ◌+◌, ◌-◌, ◌<◌, ◌≤◌, Bool, true, false, List, Some, length, refl, sym, ap, subst, ◌∙◌, arith}
 use Rattle.std.proofs.lemmas.Bool.{lt-leb, ne_eqb, true≢false}
 use Rattle.vt_term.specs.Grid.{line_at}
@@ -16,14 +16,14 @@ use Rattle.ti_rows.specs.Lists.{IsInRange}
 use Rattle.ti_rows.specs.declared.rows.Looks.{Looks}
 use Rattle.ti_rows.specs.declared.rows.Row.{Row}
 use Rattle.ti_rows.specs.declared.rows.Row.TheVariants.{Clear, El, El1, Ed, Ech, Sgr, Ind, Ri, Cvvis, Smcup, Rmcup}
+use Rattle.ti_rows.specs.Starts.{Starts}
 use Rattle.ti_rows.proofs.StartFacts.{starts_allowed}
 use Rattle.ti_checker.specs.Breakage.{has_choice, is_free, wanted_end, with_defaults, without_defaults}
 use Rattle.ti_checker.specs.Cells.{is_blank_after, is_erased}
 use Rattle.ti_checker.specs.Probes.{screen_of}
-use Rattle.ti_checker.specs.Strays.{IsRecorded, LeavesOtherCells}
+use Rattle.ti_checker.specs.Strays.{IsRecorded}
 use Rattle.ti_checker.specs.Trials.{choices_of, probe_by, IsEnd, Only, WithDefaults, WithoutDefaults, EndsAsWanted, EndsBelow}
 use Rattle.ti_checker.specs.declared.probes.Probe.{Probe}
-use Rattle.ti_checker.proofs.Elsewhere.{agree_with_itself, end_wanted}
 use Rattle.ti_checker.proofs.OneChange.{IsAtMargin, IsOneChange, one_change}
 use Rattle.ti_checker.proofs.OneGrid.{Agree, Corners, IsOne, SameCells, same_grid, none_cells, screen_cells, tail_cells, head_cells, rest_cells, next_cells, up_cells, down_cells}
 use Rattle.ti_checker.proofs.ProbeStarts.{probe_starts}
@@ -153,12 +153,11 @@ same_as_asked rows cols taught Smcup e size range h ends = record { scroll = kep
 same_as_asked rows cols taught Rmcup e size range h ends = record { scroll = kept_still rows cols e size.0 h; chosen = λ row col i j lt. refl }
 same_as_asked rows cols taught _ e size range h ends = nothing rows cols taught _ e size range h ends refl refl refl
 
-pub not_otherwise : (rows cols : ℕ) (taught : Looks) (row : Row) (e : Effect) → IsSize rows cols → IsInRange rows cols row → EndsBelow rows cols taught row e 32 → IsRecorded rows cols row e → LeavesOtherCells rows cols taught row e → ⊥
-not_otherwise rows cols taught row e size range ends text h =
-    let s : Screen = h.start in
+pub same_cells : (rows cols : ℕ) (taught : Looks) (row : Row) (e : Effect) (s : Screen) → IsSize rows cols → IsInRange rows cols row → IsRecorded rows cols row e → Starts rows cols row s → EndsBelow rows cols taught row e 32
+    → (applied e s).grid ≡ (applied (asked taught row e) s).grid
+same_cells rows cols taught row e s size range text starts ends =
     let w : Effect = asked taught row e in
-    let allowed : Allows rows cols (start_of rows cols row) s = starts_allowed rows cols row s h.starts in
+    let allowed : Allows rows cols (start_of rows cols row) s = starts_allowed rows cols row s starts in
     let wide : (k : ℕ) → k < length s.grid → length (line_at s.grid k) ≤ cols = λ k lt. (let c = allowed.screen.columns k (let lines = allowed.screen.lines in omega (arith, lt, lines)) in let width = allowed.cols in omega (arith, c, width)) in
-    h.apart taught (applied w s) (agree_with_itself row taught) (end_wanted rows cols taught row e s h.starts)
-    (same_grid cols e.erasure w.erasure e.scroll w.scroll s.top s.bottom s.row s.col (blank s.rendition) s.grid wide
-    (same_as_asked rows cols taught row e size range (one_change rows cols (start_of rows cols row) text.0 e text.1) ends))
+    same_grid cols e.erasure w.erasure e.scroll w.scroll s.top s.bottom s.row s.col (blank s.rendition) s.grid wide
+    (same_as_asked rows cols taught row e size range (one_change rows cols (start_of rows cols row) text.0 e text.1) ends)

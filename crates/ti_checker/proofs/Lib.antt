@@ -30,3 +30,4 @@ pub mod OneChange
 pub mod OneGrid
 pub mod Erasing
 pub mod Modes
+pub mod Complete

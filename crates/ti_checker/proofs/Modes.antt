@@ -1,5 +1,4 @@
--- An effect that no probe shows wrong leads to no other sets and no other visibility than is wanted, from any start of the
--- row.
+-- An effect that no probe shows wrong leaves the sets and the visibility that are wanted, from any start of the row.
 use Rattle.std.proofs.Common.{◌≡◌, ℕ, ◌<◌, Bool, true, false, refl, sym, ap, ◌∙◌, arith}
 use Rattle.std.proofs.lemmas.Bool.{true≢false}
 use Rattle.vt_term.specs.Screen.{Charset, Screen}
@@ -13,10 +12,8 @@ use Rattle.ti_rows.specs.declared.rows.Looks.{Looks}
 use Rattle.ti_rows.specs.declared.rows.Row.{Row}
 use Rattle.ti_rows.specs.declared.rows.Row.TheVariants.{Clear, Sgr, Cvvis}
 use Rattle.ti_checker.specs.Breakage.{has_choice, wanted_end, with_defaults, without_defaults}
-use Rattle.ti_checker.specs.Strays.{HaveSameModes, LeavesOtherModes}
 use Rattle.ti_checker.specs.Trials.{choices_of, probe_by, IsEnd, Only, WithDefaults, WithoutDefaults, EndsAsWanted, EndsBelow}
 use Rattle.ti_checker.specs.declared.probes.Probe.{Probe}
-use Rattle.ti_checker.proofs.Elsewhere.{agree_with_itself, end_wanted}
 
 never : {A : Type 0} → true ≡ false → A
 never h = absurd (true≢false h)
@@ -61,7 +58,7 @@ sets_by_both x y c h k =
     ∙ (ap (λ (b : Bool). record (designated x c) { g0_graphic = switched y.g0_graphic c.g0_graphic; g1_graphic = b }) one
     ∙ ap (λ (b : Bool). record (designated y c) { shifted_out = b }) out)
 
-same_sets : (rows cols : ℕ) (taught : Looks) (row : Row) (e : Effect) (c : Charset) → EndsBelow rows cols taught row e 32 → designated e.charset c ≡ designated (asked taught row e).charset c
+pub same_sets : (rows cols : ℕ) (taught : Looks) (row : Row) (e : Effect) (c : Charset) → EndsBelow rows cols taught row e 32 → designated e.charset c ≡ designated (asked taught row e).charset c
 same_sets rows cols taught row e c ends =
     let at : (k : ℕ) → k < 32 → designated e.charset (probe_by (choices_of k) (start_of rows cols row) rows).charset ≡ designated (asked taught row e).charset (probe_by (choices_of k) (start_of rows cols row) rows).charset =
     λ k lt. sets_at taught row e (probe_by (choices_of k) (start_of rows cols row) rows) (ends k lt) in
@@ -70,23 +67,20 @@ same_sets rows cols taught row e c ends =
 -- ---- the cursor
 
 -- all rows but the one that may show it or not
-is_told : Row → Bool
+abbrev pub is_told : Row → Bool
 is_told Cvvis = false
 is_told _ = true
 
 only_seen : (l m : Looks) (row : Row) (e : Effect) → is_told row ≡ true → (wanted_end l row e).visible ≡ (asked m row e).visible
-unfolding is_told
 only_seen l m Cvvis e told = never (sym told)
 only_seen l m _ e told = refl
 
 first_seen : (l m : Looks) (row : Row) (e : Effect) → is_told row ≡ true → has_choice row ≡ true → (asked l row (with_defaults e)).visible ≡ (asked m row e).visible
-unfolding is_told
 first_seen l m (Sgr a) e told choice = refl
 first_seen l m Cvvis e told choice = never (sym told)
 first_seen l m _ e told choice = never (sym choice)
 
 second_seen : (l m : Looks) (row : Row) (e : Effect) → is_told row ≡ true → has_choice row ≡ true → (asked l row (without_defaults e)).visible ≡ (asked m row e).visible
-unfolding is_told
 second_seen l m (Sgr a) e told choice = refl
 second_seen l m Cvvis e told choice = never (sym told)
 second_seen l m _ e told choice = never (sym choice)
@@ -99,18 +93,13 @@ seen_as l m row e f told (WithoutDefaults choice is) = ap (λ (g : Effect). g.vi
 seen_at : {rows cols : ℕ} → (taught : Looks) (row : Row) (e : Effect) (p : Probe) → is_told row ≡ true → EndsAsWanted rows cols taught row e p → switched e.visible p.visible ≡ switched (asked taught row e).visible p.visible
 seen_at taught row e p told h = h.so.visible ∙ ap (λ (x : Switch). switched x p.visible) (seen_as _ taught row e h.wanted told h.is)
 
-told_end : (rows cols : ℕ) (taught : Looks) (row : Row) (e : Effect) → is_told row ≡ true → EndsBelow rows cols taught row e 32 → LeavesOtherModes rows cols taught row e → ⊥
-told_end rows cols taught row e told ends h =
+pub told_seen : (rows cols : ℕ) (taught : Looks) (row : Row) (e : Effect) (v : Bool) → is_told row ≡ true → EndsBelow rows cols taught row e 32 → switched e.visible v ≡ switched (asked taught row e).visible v
+told_seen rows cols taught row e v told ends =
     let at : (k : ℕ) → k < 32 → switched e.visible (probe_by (choices_of k) (start_of rows cols row) rows).visible ≡ switched (asked taught row e).visible (probe_by (choices_of k) (start_of rows cols row) rows).visible =
     λ k lt. seen_at taught row e (probe_by (choices_of k) (start_of rows cols row) rows) told (ends k lt) in
-    h.apart taught (applied (asked taught row e) h.start) (agree_with_itself row taught) (end_wanted rows cols taught row e h.start h.starts)
-    (record { charset = same_sets rows cols taught row e h.start.charset ends; visible = by_both e.visible (asked taught row e).visible h.start.visible (at 8 (omega arith)) (at 0 (omega arith)) })
+    by_both e.visible (asked taught row e).visible v (at 8 (omega arith)) (at 0 (omega arith))
 
 -- it may become visible, or stay as it was
-abbrev by_choice : Bool → Effect → Effect
-by_choice true e = with_defaults e
-by_choice false e = without_defaults e
-
 record IsSeenSo (e : Effect) (p : Probe) : Type 0 where
   shows : Bool
   so : switched e.visible p.visible ≡ switched (on_or_kept shows) p.visible
@@ -124,27 +113,13 @@ stays_seen : (b : Bool) → switched (on_or_kept b) true ≡ true
 stays_seen true = refl
 stays_seen false = refl
 
-choice_seen : (b : Bool) (l : Looks) (e : Effect) → (asked l Cvvis (by_choice b e)).visible ≡ on_or_kept b
-choice_seen true l e = refl
-choice_seen false l e = refl
+pub record IsChosen (e : Effect) (v : Bool) : Type 0 where
+  pub shows : Bool
+  pub same : switched e.visible v ≡ switched (on_or_kept shows) v
 
-choice_sets : (b : Bool) (l : Looks) (e : Effect) → (asked l Cvvis e).charset ≡ (asked l Cvvis (by_choice b e)).charset
-choice_sets true l e = refl
-choice_sets false l e = refl
-
-choice_end : (rows cols : ℕ) (taught : Looks) (e : Effect) → EndsBelow rows cols taught Cvvis e 32 → LeavesOtherModes rows cols taught Cvvis e → ⊥
-choice_end rows cols taught e ends h =
+pub chosen_seen : (rows cols : ℕ) (taught : Looks) (e : Effect) (v : Bool) → EndsBelow rows cols taught Cvvis e 32 → IsChosen e v
+chosen_seen rows cols taught e v ends =
     let at : (k : ℕ) → k < 32 → IsSeenSo e (probe_by (choices_of k) (start_of rows cols Cvvis) rows) = λ k lt. seen_so taught e (probe_by (choices_of k) (start_of rows cols Cvvis) rows) (ends k lt) _ (ends k lt).is in
     let hidden : IsSeenSo e (probe_by (choices_of 8) (start_of rows cols Cvvis) rows) = at 8 (omega arith) in
     let seen : IsSeenSo e (probe_by (choices_of 0) (start_of rows cols Cvvis) rows) = at 0 (omega arith) in
-    let b : Bool = hidden.shows in
-    h.apart taught (applied (asked taught Cvvis (by_choice b e)) h.start) (agree_with_itself Cvvis taught) (end_wanted rows cols taught Cvvis (by_choice b e) h.start h.starts)
-    (record {
-      charset = same_sets rows cols taught Cvvis e h.start.charset ends ∙ ap (λ (x : Sets). designated x h.start.charset) (choice_sets b taught e);
-      visible = by_both e.visible (on_or_kept b) h.start.visible hidden.so (seen.so ∙ (stays_seen seen.shows ∙ sym (stays_seen b))) ∙ ap (λ (x : Switch). switched x h.start.visible) (sym (choice_seen b taught e));
-    })
-
-pub not_other_modes : (rows cols : ℕ) (taught : Looks) (row : Row) (e : Effect) → EndsBelow rows cols taught row e 32 → LeavesOtherModes rows cols taught row e → ⊥
-unfolding is_told
-not_other_modes rows cols taught Cvvis e ends h = choice_end rows cols taught e ends h
-not_other_modes rows cols taught _ e ends h = told_end rows cols taught _ e refl ends h
+    record { shows = hidden.shows; same = by_both e.visible (on_or_kept hidden.shows) v hidden.so (seen.so ∙ (stays_seen seen.shows ∙ sym (stays_seen hidden.shows))) }

@@ -1,4 +1,4 @@
--- An effect that no probe shows wrong leads to no other rendition than is wanted, from any start of the row.
+-- An effect that no probe shows wrong renders as is wanted, from any start of the row.
 use Rattle.std.proofs.Common.{◌≡◌, ℕ, ◌<◌, ◌&&◌, ◌||◌, Bool, true, false, if◌then◌else◌, Option, None, Some, refl, sym, ap, subst, ◌∙◌, arith}
 use Rattle.std.proofs.lemmas.Bool.{and_parts, true≢false, false≢true}
 use Rattle.std.proofs.lemmas.Option.{none-some}
@@ -26,10 +26,9 @@ use Rattle.ti_rows.specs.declared.rows.Row.TheVariants.{Clear, Sgr, Smso, Cvvis}
 use Rattle.ti_rows.proofs.Answers.{earlier_kept}
 use Rattle.ti_checker.specs.Breakage.{AgreeBefore, has_choice, is_several, looks_for, looks_of, marks_after, wanted_end, with_defaults, without_defaults}
 use Rattle.ti_checker.specs.Mislooks.{marks_of}
-use Rattle.ti_checker.specs.Strays.{RendersOther}
 use Rattle.ti_checker.specs.Trials.{all_marks, choices_of, probe_by, IsEnd, Only, WithDefaults, WithoutDefaults, EndsAsWanted, EndsBelow}
 use Rattle.ti_checker.specs.declared.probes.Probe.{Probe}
-use Rattle.ti_checker.proofs.Elsewhere.{agree_with_itself, end_wanted}
+use Rattle.ti_checker.proofs.Elsewhere.{agree_with_itself}
 
 never : {A : Type 0} → true ≡ false → A
 never h = absurd (true≢false h)
@@ -107,25 +106,22 @@ so_by e f r taught row p h is = record {
 
 -- ---- rows whose rendition no look decides
 
-is_fixed : Row → Bool
+abbrev pub is_fixed : Row → Bool
 is_fixed (Sgr a) = false
 is_fixed Smso = false
 is_fixed _ = true
 
 only_fixed : (l m : Looks) (row : Row) (e : Effect) → is_fixed row ≡ true → (wanted_end l row e).rendition ≡ (asked m row e).rendition
-unfolding is_fixed
 only_fixed l m (Sgr a) e fixed = never (sym fixed)
 only_fixed l m Smso e fixed = never (sym fixed)
 only_fixed l m _ e fixed = refl
 
 first_fixed : (l m : Looks) (row : Row) (e : Effect) → is_fixed row ≡ true → has_choice row ≡ true → (asked l row (with_defaults e)).rendition ≡ (asked m row e).rendition
-unfolding is_fixed
 first_fixed l m (Sgr a) e fixed choice = never (sym fixed)
 first_fixed l m Cvvis e fixed choice = refl
 first_fixed l m _ e fixed choice = never (sym choice)
 
 second_fixed : (l m : Looks) (row : Row) (e : Effect) → is_fixed row ≡ true → has_choice row ≡ true → (asked l row (without_defaults e)).rendition ≡ (asked m row e).rendition
-unfolding is_fixed
 second_fixed l m (Sgr a) e fixed choice = never (sym fixed)
 second_fixed l m Cvvis e fixed choice = refl
 second_fixed l m _ e fixed choice = never (sym choice)
@@ -138,10 +134,9 @@ fixed_as l m row e f fixed (WithoutDefaults choice is) = ap (λ (g : Effect). g.
 fixed_so : {rows cols : ℕ} → (taught : Looks) (row : Row) (e : Effect) (p : Probe) → is_fixed row ≡ true → EndsAsWanted rows cols taught row e p → RendersSo e.rendition (asked taught row e).rendition p
 fixed_so taught row e p fixed h = so_by e h.wanted (asked taught row e).rendition taught row p h (fixed_as (looks_for taught row e p) taught row e h.wanted fixed h.is)
 
-fixed_end : (rows cols : ℕ) (taught : Looks) (row : Row) (e : Effect) → is_fixed row ≡ true → EndsBelow rows cols taught row e 32 → RendersOther rows cols taught row e → ⊥
-fixed_end rows cols taught row e fixed ends h =
-    h.apart taught (applied (asked taught row e) h.start) (agree_with_itself row taught) (end_wanted rows cols taught row e h.start h.starts)
-    (everywhere rows cols row e.rendition (asked taught row e).rendition h.start.rendition (fixed_so taught row e (unmarked rows cols row) fixed (ends 0 (omega arith))) (fixed_so taught row e (all_on rows cols row) fixed (ends 8 (omega arith))))
+pub fixed_rendered : (rows cols : ℕ) (taught : Looks) (row : Row) (e : Effect) (s : Rendition) → is_fixed row ≡ true → EndsBelow rows cols taught row e 32 → rendered e.rendition s ≡ rendered (asked taught row e).rendition s
+fixed_rendered rows cols taught row e s fixed ends =
+    everywhere rows cols row e.rendition (asked taught row e).rendition s (fixed_so taught row e (unmarked rows cols row) fixed (ends 0 (omega arith))) (fixed_so taught row e (all_on rows cols row) fixed (ends 8 (omega arith)))
 
 -- ---- standout, which may look like anything that it turns on
 
@@ -176,16 +171,12 @@ standout_as l e f (WithoutDefaults choice is) = never (sym choice)
 standout_so : {rows cols : ℕ} → (taught : Looks) (e : Effect) (p : Probe) → EndsAsWanted rows cols taught Smso e p → RendersSo e.rendition (with_marks_on (marks_after e.rendition p.look)) p
 standout_so taught e p h = so_by e h.wanted (with_marks_on (marks_after e.rendition p.look)) taught Smso p h (standout_as (looks_for taught Smso e p) e h.wanted h.is)
 
-standout_end : (rows cols : ℕ) (taught : Looks) (e : Effect) → EndsBelow rows cols taught Smso e 32 → RendersOther rows cols taught Smso e → ⊥
-standout_end rows cols taught e ends h =
-    let s : Rendition = h.start.rendition in
-    let seen : Marks = marks_after e.rendition (marks_of s) in
-    let looks : Looks = record taught { standout = seen } in
+pub standout_rendered : (rows cols : ℕ) (taught : Looks) (e : Effect) (s : Rendition) → EndsBelow rows cols taught Smso e 32 → rendered e.rendition s ≡ rendered (with_marks_on (marks_after e.rendition (marks_of s))) s
+standout_rendered rows cols taught e s ends =
     let none = standout_so taught e (unmarked rows cols Smso) (ends 0 (omega arith)) in
     let all = standout_so taught e (all_on rows cols Smso) (ends 8 (omega arith)) in
-    h.apart looks (applied (asked looks Smso e) h.start) tt (end_wanted rows cols looks Smso e h.start h.starts)
-    (from_parts (rendered e.rendition s) (rendered (with_marks_on seen) s) (standout_marks e.rendition (marks_of s) all.marks)
-    (ink_by_both e.rendition.foreground inks.Kept Red s.foreground none.foreground all.foreground) (ink_by_both e.rendition.background inks.Kept Blue s.background none.background all.background))
+    from_parts (rendered e.rendition s) (rendered (with_marks_on (marks_after e.rendition (marks_of s))) s) (standout_marks e.rendition (marks_of s) all.marks)
+    (ink_by_both e.rendition.foreground inks.Kept Red s.foreground none.foreground all.foreground) (ink_by_both e.rendition.background inks.Kept Blue s.background none.background all.background)
 
 -- ---- sets of attributes
 
@@ -203,15 +194,6 @@ no_ink : (b : Bool) → inked (ink_of b) None ≡ None
 no_ink true = refl
 no_ink false = refl
 
--- the effect of which both colours are so
-abbrev inked_by : Bool → Effect → Effect
-inked_by true e = with_defaults e
-inked_by false e = without_defaults e
-
-inked_asked : (b : Bool) (l : Looks) (a : Attributes) (e : Effect) → (asked l (Sgr a) (inked_by b e)).rendition ≡ just (shown l a) (ink_of b)
-inked_asked true l a e = refl
-inked_asked false l a e = refl
-
 set_mark : (b x : Bool) → b ≡ switched (switch_of b) x
 set_mark true x = refl
 set_mark false x = refl
@@ -219,24 +201,32 @@ set_mark false x = refl
 just_marks : (m n : Marks) (i : Ink) → m ≡ marks_after (just m i) n
 just_marks m n i = same_sets _ _ _ _ _ _ _ _ _ _ _ _ (set_mark m.bold n.bold) (set_mark m.faint n.faint) (set_mark m.underline n.underline) (set_mark m.blink n.blink) (set_mark m.negative n.negative) (set_mark m.concealed n.concealed)
 
--- the end is wanted with looks by which the set is shown as it is seen there
-sgr_end : (rows cols : ℕ) (taught looks : Looks) (a : Attributes) (e : Effect) (m n : Marks) → ShowsSome m e (unmarked rows cols (Sgr a)) → ShowsSome n e (all_on rows cols (Sgr a)) → (h : RendersOther rows cols taught (Sgr a) e)
-    → AgreeBefore (Sgr a) taught looks → marks_after e.rendition (marks_of h.start.rendition) ≡ shown looks a → ⊥
-sgr_end rows cols taught looks a e m n none all h agree marks =
-    let s : Rendition = h.start.rendition in
+-- the set is shown so by some looks, with both colours kept or both default
+pub record IsRendered (taught : Looks) (a : Attributes) (e : Effect) (s : Rendition) : Type 0 where
+  pub looks : Looks
+  pub agree : AgreeBefore (Sgr a) taught looks
+  pub defaults : Bool
+  pub same : rendered e.rendition s ≡ rendered (just (shown looks a) (ink_of defaults)) s
+
+-- by looks by which the set is shown as it is seen there
+rendered_by : (rows cols : ℕ) (taught looks : Looks) (a : Attributes) (e : Effect) (m n : Marks) (s : Rendition) → ShowsSome m e (unmarked rows cols (Sgr a)) → ShowsSome n e (all_on rows cols (Sgr a)) → AgreeBefore (Sgr a) taught looks
+    → marks_after e.rendition (marks_of s) ≡ shown looks a → IsRendered taught a e s
+rendered_by rows cols taught looks a e m n s none all agree marks =
     let b : Bool = all.defaults in
-    h.apart looks (applied (asked looks (Sgr a) (inked_by b e)) h.start) agree (end_wanted rows cols looks (Sgr a) (inked_by b e) h.start h.starts)
-    (from_parts (rendered e.rendition s) (rendered (just (shown looks a) (ink_of b)) s) (marks ∙ just_marks (shown looks a) (marks_of s) (ink_of b))
-    (ink_by_both e.rendition.foreground (ink_of b) Red s.foreground (none.so.foreground ∙ (no_ink none.defaults ∙ sym (no_ink b))) all.so.foreground)
-    (ink_by_both e.rendition.background (ink_of b) Blue s.background (none.so.background ∙ (no_ink none.defaults ∙ sym (no_ink b))) all.so.background)
-    ∙ ap (λ (r : Rendering). rendered r s) (sym (inked_asked b looks a e)))
+    record {
+      looks = looks;
+      agree = agree;
+      defaults = b;
+      same = from_parts (rendered e.rendition s) (rendered (just (shown looks a) (ink_of b)) s) (marks ∙ just_marks (shown looks a) (marks_of s) (ink_of b))
+          (ink_by_both e.rendition.foreground (ink_of b) Red s.foreground (none.so.foreground ∙ (no_ink none.defaults ∙ sym (no_ink b))) all.so.foreground)
+          (ink_by_both e.rendition.background (ink_of b) Blue s.background (none.so.background ∙ (no_ink none.defaults ∙ sym (no_ink b))) all.so.background);
+    }
 
 -- as was taught
-several_end : (rows cols : ℕ) (taught : Looks) (a : Attributes) (e : Effect) → ShowsSome (shown taught a) e (unmarked rows cols (Sgr a)) → ShowsSome (shown taught a) e (all_on rows cols (Sgr a)) → RendersOther rows cols taught (Sgr a) e → ⊥
-several_end rows cols taught a e none all h =
-    let m : Marks = marks_of h.start.rendition in
-    sgr_end rows cols taught taught a e (shown taught a) (shown taught a) none all h (agree_with_itself (Sgr a) taught)
-    (marks_by_both e.rendition (just (shown taught a) inks.Kept) m none.so.marks all.so.marks ∙ sym (just_marks (shown taught a) m inks.Kept))
+several_rendered : (rows cols : ℕ) (taught : Looks) (a : Attributes) (e : Effect) (s : Rendition) → ShowsSome (shown taught a) e (unmarked rows cols (Sgr a)) → ShowsSome (shown taught a) e (all_on rows cols (Sgr a)) → IsRendered taught a e s
+several_rendered rows cols taught a e s none all =
+    rendered_by rows cols taught taught a e (shown taught a) (shown taught a) s none all (agree_with_itself (Sgr a) taught)
+    (marks_by_both e.rendition (just (shown taught a) inks.Kept) (marks_of s) none.so.marks all.so.marks ∙ sym (just_marks (shown taught a) (marks_of s) inks.Kept))
 
 -- or a single one, which may look like anything
 mixed_mark : (a s : Bool) (w : Switch) (c : Bool) → switched w false ≡ ((a && switched w false) || (s && switched w false)) → switched w true ≡ ((a && switched w true) || (s && switched w true))
@@ -314,13 +304,12 @@ alone_by false false false false false true false v e l h = ap (λ (z : Bool). s
 alone_by false false false false false false true v e l h = ap (λ (z : Bool). sets false false false false false (z || false)) (on_set v.concealed)
 alone_by s u r k d b i v e l h = never (sym (lone s u r k d b i h))
 
-alone_end : (rows cols : ℕ) (taught : Looks) (a : Attributes) (e : Effect) → is_several (Sgr a) ≡ false → ShowsSome (seen_in e (all_marks false) a) e (unmarked rows cols (Sgr a)) → ShowsSome (seen_in e (all_marks true) a) e (all_on rows cols (Sgr a)) → RendersOther rows cols taught (Sgr a) e → ⊥
-alone_end rows cols taught a e single none all h =
-    let m : Marks = marks_of h.start.rendition in
-    let v : Marks = marks_after e.rendition m in
-    let looks : Looks = taught_by v a e taught in
-    sgr_end rows cols taught looks a e (seen_in e (all_marks false) a) (seen_in e (all_marks true) a) none all h (λ b lt. sym (earlier_kept taught a b (record e { rendition = just v inks.Kept }) lt))
-    (mixed_marks e a m (none.so.marks ∙ sym (just_marks (seen_in e (all_marks false) a) (all_marks false) inks.Kept)) (all.so.marks ∙ sym (just_marks (seen_in e (all_marks true) a) (all_marks true) inks.Kept))
+alone_rendered : (rows cols : ℕ) (taught : Looks) (a : Attributes) (e : Effect) (s : Rendition) → is_several (Sgr a) ≡ false → ShowsSome (seen_in e (all_marks false) a) e (unmarked rows cols (Sgr a))
+    → ShowsSome (seen_in e (all_marks true) a) e (all_on rows cols (Sgr a)) → IsRendered taught a e s
+alone_rendered rows cols taught a e s single none all =
+    let v : Marks = marks_after e.rendition (marks_of s) in
+    rendered_by rows cols taught (taught_by v a e taught) a e (seen_in e (all_marks false) a) (seen_in e (all_marks true) a) s none all (λ b lt. sym (earlier_kept taught a b (record e { rendition = just v inks.Kept }) lt))
+    (mixed_marks e a (marks_of s) (none.so.marks ∙ sym (just_marks (seen_in e (all_marks false) a) (all_marks false) inks.Kept)) (all.so.marks ∙ sym (just_marks (seen_in e (all_marks true) a) (all_marks true) inks.Kept))
     ∙ alone_by a.standout a.underline a.reverse a.blink a.dim a.bold a.invisible v e taught single)
 
 -- by the looks by which the probes were judged
@@ -333,12 +322,9 @@ some_by rows cols taught a e b k is lt ends =
     let p : Probe = probe_by (choices_of k) (start_of rows cols (Sgr a)) rows in
     shows_some _ taught a e p (ends k lt) (subst (λ (l : Looks). IsEnd l (Sgr a) e (ends k lt).wanted) (told taught a e p b is) (ends k lt).is)
 
-set_end : (rows cols : ℕ) (taught : Looks) (a : Attributes) (e : Effect) (b : Bool) → is_several (Sgr a) ≡ b → EndsBelow rows cols taught (Sgr a) e 32 → RendersOther rows cols taught (Sgr a) e → ⊥
-set_end rows cols taught a e true several ends h = several_end rows cols taught a e (some_by rows cols taught a e true 0 several (omega arith) ends) (some_by rows cols taught a e true 8 several (omega arith) ends) h
-set_end rows cols taught a e false single ends h = alone_end rows cols taught a e single (some_by rows cols taught a e false 0 single (omega arith) ends) (some_by rows cols taught a e false 8 single (omega arith) ends) h
+set_by : (rows cols : ℕ) (taught : Looks) (a : Attributes) (e : Effect) (s : Rendition) (b : Bool) → is_several (Sgr a) ≡ b → EndsBelow rows cols taught (Sgr a) e 32 → IsRendered taught a e s
+set_by rows cols taught a e s true several ends = several_rendered rows cols taught a e s (some_by rows cols taught a e true 0 several (omega arith) ends) (some_by rows cols taught a e true 8 several (omega arith) ends)
+set_by rows cols taught a e s false single ends = alone_rendered rows cols taught a e s single (some_by rows cols taught a e false 0 single (omega arith) ends) (some_by rows cols taught a e false 8 single (omega arith) ends)
 
-pub not_other : (rows cols : ℕ) (taught : Looks) (row : Row) (e : Effect) → EndsBelow rows cols taught row e 32 → RendersOther rows cols taught row e → ⊥
-unfolding is_fixed
-not_other rows cols taught (Sgr a) e ends h = set_end rows cols taught a e (is_several (Sgr a)) refl ends h
-not_other rows cols taught Smso e ends h = standout_end rows cols taught e ends h
-not_other rows cols taught _ e ends h = fixed_end rows cols taught _ e refl ends h
+pub set_rendered : (rows cols : ℕ) (taught : Looks) (a : Attributes) (e : Effect) (s : Rendition) → EndsBelow rows cols taught (Sgr a) e 32 → IsRendered taught a e s
+set_rendered rows cols taught a e s ends = set_by rows cols taught a e s (is_several (Sgr a)) refl ends

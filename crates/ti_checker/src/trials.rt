@@ -2,7 +2,7 @@
 
 ghost use Rattle.std.specs.Prelude.{◌≡◌, IfNone, IfSome};
 ghost use Rattle.ti_checker.specs.Breakage.{IsShown};
-ghost use Rattle.ti_checker.specs.Strays.{IsRecorded, LeadsElsewhere, LeavesOtherCells, LeavesOtherModes, RendersOther};
+ghost use Rattle.ti_checker.specs.Strays.{IsAlwaysWanted, IsRecorded};
 ghost use Rattle.ti_checker.specs.Trials as spec;
 ghost use Rattle.ti_rows.specs.Asked.{start_of};
 ghost use Rattle.ti_rows.specs.Lists.{IsInRange};
@@ -131,17 +131,13 @@ fn shown_by(number: u8, row: Row, taught: Looks, effect: &Effect, size: Size) ->
 }
 
 /// A start of the row from which the effect leads to an end that isn't wanted, however attributes look
-/// that agree with what the rows before `taught`. `None` where those that are tried show nothing: then the
-/// effect leads nowhere else than is wanted, to no other rendition and no other modes, and to no other cells if
-/// a text has it.
+/// that agree with what the rows before `taught`. `None` where there is none: then the effect of a text leads
+/// from each start to an end that is wanted.
 pub(crate) fn probe_for(row: Row, taught: Looks, effect: &Effect, size: Size) -> Option<Probe>
     requires { IsInRange size.rows size.cols row }
     ensures shown { IfSome result (λ probe. IsShown size.rows size.cols taught row effect.now probe) }
-    ensures place { IfNone result (LeadsElsewhere size.rows size.cols taught row effect.now → ⊥) }
-    ensures rendition { IfNone result (RendersOther size.rows size.cols taught row effect.now → ⊥) }
-    ensures modes { IfNone result (LeavesOtherModes size.rows size.cols taught row effect.now → ⊥) }
-    ensures cells { IfNone result (IsRecorded size.rows size.cols row effect.now
-        → LeavesOtherCells size.rows size.cols taught row effect.now → ⊥) }
+    ensures wanted { IfNone result (IsRecorded size.rows size.cols row effect.now
+        → IsAlwaysWanted size.rows size.cols taught row effect.now) }
 {
     for number in 0..TRIES {
         if let Some(probe) = shown_by(number, row, taught, effect, size) {
