@@ -1,8 +1,10 @@
 -- A row that stands has no cause with which a string may be right.
-use Rattle.std.proofs.Common.{◌≡◌, ℕ, List, [], Some, sym, ap, subst, ◌∙◌, arith}
+use Rattle.std.proofs.Common.{◌≡◌, ℕ, List, [], Some, refl, sym, ap, subst, ◌∙◌, arith}
 use Rattle.std.proofs.lemmas.Option.{none-some, same_Some}
+use Rattle.vt_term.specs.Screen.{Screen}
 use Rattle.vt_term.specs.Text.{Splits}
 use Rattle.vt_term.proofs.Splits.{one_splitting}
+use Rattle.vt_effects.specs.Effect.{applied}
 use Rattle.vt_effects.specs.Record.{record_of}
 use Rattle.vt_effects.specs.declared.effects.Effect.{Effect}
 use Rattle.ti_rows.specs.Asked.{start_of}
@@ -12,8 +14,10 @@ use Rattle.ti_rows.specs.declared.rows.Row.{Row}
 use Rattle.ti_rows.proofs.ListFacts.{one_of_rank}
 use Rattle.ti_lines.specs.declared.row_lines.RowLine.{RowLine}
 use Rattle.ti_conforms.specs.Sends.{Sends}
-use Rattle.ti_checker.specs.Doubts.{OneTeaching, NeverUntamed, NeverUnasked}
+use Rattle.ti_checker.specs.Doubts.{OneTeaching, NeverUntamed, NeverUnasked, SendsSuch, NeverElsewhere, NeverOther, NeverOtherCells, NeverOtherModes}
 use Rattle.ti_checker.specs.Limit.{IsLineFor}
+use Rattle.ti_checker.specs.No.{SendsSome, HasUnasked}
+use Rattle.ti_checker.specs.Strays.{HaveOnePlace, HaveOneRendition, HaveSameCells, HaveSameModes, Strays}
 use Rattle.ti_checker.specs.Taught.{IsAskedOf, IsTaught, AtFirst, After}
 use Rattle.ti_checker.proofs.Teaching.{one_sent}
 
@@ -50,9 +54,35 @@ never_untamed rows cols string row r s =
     let tokens : r.is.has.tokens ≡ s.holds.tokens = (one_splitting s.bytes s.holds.tokens r.is.has.tokens [] [] s.holds.whole (subst (λ (x : List ℕ). Splits x r.is.has.tokens []) (sym same) r.is.has.splits)).0 in
     none-some r.effect (sym s.holds.unrecorded ∙ (ap (λ (x : List (List ℕ)). record_of rows cols (start_of rows cols row) x) (sym tokens) ∙ r.is.has.recorded))
 
-pub never_unasked : NeverUnasked
-never_unasked rows cols string row r s =
+-- whatever is so of what the string sends is so of what the no says that it sends
+is_such : (Such : Looks → Effect → Type 0) (rows cols : ℕ) (string : List ℕ) (row : Row) → SendsSuch Such rows cols string row → (s : SendsSome string row (λ bytes. HasUnasked rows cols string row bytes)) → Such s.holds.unasked.looks s.holds.has.effect
+is_such Such rows cols string row r s =
     let same : s.bytes ≡ r.bytes = one_sent string row s.bytes r.bytes s.sends r.is.sends in
     let effects : s.holds.has.effect ≡ r.effect = one_record rows cols row s.bytes r.bytes s.holds.has.tokens r.is.has.tokens s.holds.has.effect r.effect same s.holds.has.whole r.is.has.splits s.holds.has.recorded r.is.has.recorded in
     let looks : r.looks ≡ s.holds.unasked.looks = one_teaching rows cols string row s.holds.unasked.looks r.looks s.holds.unasked.taught r.taught in
-    s.holds.unasked.unasked (subst (λ (e : Effect). IsAskedOf s.holds.unasked.looks row e) (sym effects) (subst (λ (l : Looks). IsAskedOf l row r.effect) looks r.asked))
+    subst (λ (e : Effect). Such s.holds.unasked.looks e) (sym effects) (subst (λ (l : Looks). Such l r.effect) looks r.such)
+
+pub never_unasked : NeverUnasked
+never_unasked rows cols string row r s =
+    s.holds.unasked.unasked (is_such (λ looks e. IsAskedOf looks row e) rows cols string row (record { bytes = r.bytes; effect = r.effect; is = r.is; looks = r.looks; taught = r.taught; such = r.asked }) s)
+
+-- ---- nor about one that shows what is wrong
+
+never_strays : (Alike : Screen → Screen → Type 0) → ((t : Screen) → Alike t t) → (rows cols : ℕ) (string : List ℕ) (row : Row) → SendsSuch (λ looks e. Strays Alike rows cols looks row e) rows cols string row
+    → SendsSome string row (λ bytes. HasUnasked rows cols string row bytes) → ⊥
+never_strays Alike same rows cols string row r s =
+    let h = is_such (λ looks e. Strays Alike rows cols looks row e) rows cols string row r s in
+    let w = s.holds.unasked.wanted h.start h.starts in
+    h.apart w.looks (applied s.holds.has.effect h.start) w.agree w.wanted (same (applied s.holds.has.effect h.start))
+
+pub never_elsewhere : NeverElsewhere
+never_elsewhere rows cols string row r s = never_strays HaveOnePlace (λ t. record { row = refl; col = refl; pending = refl; top = refl; bottom = refl }) rows cols string row r s
+
+pub never_other : NeverOther
+never_other rows cols string row r s = never_strays HaveOneRendition (λ t. refl) rows cols string row r s
+
+pub never_other_cells : NeverOtherCells
+never_other_cells rows cols string row r s = never_strays HaveSameCells (λ t. refl) rows cols string row r s
+
+pub never_other_modes : NeverOtherModes
+never_other_modes rows cols string row r s = never_strays HaveSameModes (λ t. record { charset = refl; visible = refl }) rows cols string row r s

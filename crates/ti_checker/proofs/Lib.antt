@@ -27,3 +27,11 @@ pub mod Learnings
 pub mod Standings
 pub mod Writings
 pub mod Conforming
+pub mod ProbeStarts
+pub mod Elsewhere
+pub mod OneRendition
+pub mod OneChange
+pub mod OneGrid
+pub mod Erasing
+pub mod Modes
+pub mod Complete

@@ -42,7 +42,7 @@ misjudged rows cols string looks row bytes tokens NotShown size taught sends spl
   sends = sends;
   holds = record {
     has = own_effect rows cols row bytes tokens m.effect split m.recorded m.misfit.0;
-    unasked = record { looks = looks; taught = taught; unasked = m.misfit.1 };
+    unasked = record { looks = looks; taught = taught; unasked = m.misfit.1; wanted = m.misfit.2 (tokens, m.recorded) };
   };
 }
 misjudged rows cols string looks row bytes tokens NoMemory size taught sends split m = tt

@@ -1,11 +1,11 @@
 -- The cells after an effect, where all were alike before it.
-use Rattle.std.proofs.Common.{◌≡◌, ℕ, ◌+◌, ◌-◌, ◌<◌, ◌≤◌, ◌==◌, ◌&&◌, ◌||◌, Bool, true, false, if◌then◌else◌, length, refl, sym, ap, ◌∙◌, arith}
-use Rattle.std.proofs.lemmas.Bool.{leb-true}
-use Rattle.std.proofs.lemmas.List.{get_or-replicate, length-replicate}
+use Rattle.std.proofs.Common.{◌≡◌, ℕ, ◌+◌, ◌-◌, ◌<◌, ◌≤◌, ◌==◌, ◌&&◌, ◌||◌, Bool, true, false, if◌then◌else◌, length, ◌⊎◌, inl, inr, refl, sym, ap, subst, ◌∙◌, arith}
+use Rattle.std.proofs.lemmas.Bool.{cases_lt, leb-true}
+use Rattle.std.proofs.lemmas.List.{get_or-replicate, get_or_past, length-replicate}
 use Rattle.std.specs.Prelude.{List, [], nat_le, nat_lt, replicate, slice_index_or}
 use Rattle.grids.specs.Grids.{cell_at}
 use Rattle.grids.proofs.Drawings.{cell_at-drawn, line_at-drawn, length-line_drawn}
-use Rattle.vt_term.specs.Look.{Look, blank, space}
+use Rattle.vt_term.specs.Look.{IsPrinted, Look, blank, space}
 use Rattle.vt_term.specs.Grid.{Grid, line_at, look_at, uniform, drawn}
 use Rattle.vt_effects.specs.declared.effects.Effect.{Effect}
 use Rattle.vt_effects.specs.declared.effects.Erasure.{Erasure}
@@ -20,11 +20,21 @@ use Rattle.ti_checker.specs.declared.probes.Probe.{Probe}
 line_is : (rows cols i b : ℕ) → i < rows → line_at (uniform rows cols (filled_with b)) i ≡ replicate cols (filled_with b)
 line_is rows cols i b lt = get_or-replicate rows i (replicate cols (filled_with b)) [] lt
 
-uniform_wide : (rows cols i b : ℕ) → i < rows → length (line_at (uniform rows cols (filled_with b)) i) ≡ cols
+pub uniform_wide : (rows cols i b : ℕ) → i < rows → length (line_at (uniform rows cols (filled_with b)) i) ≡ cols
 uniform_wide rows cols i b lt = ap (λ (l : List Look). length l) (line_is rows cols i b lt) ∙ length-replicate cols (filled_with b)
 
 uniform_at : (rows cols i j b : ℕ) (d : Look) → i < rows → j < cols → cell_at d (uniform rows cols (filled_with b)) i j ≡ filled_with b
 uniform_at rows cols i j b d lt near = ap (λ (l : List Look). slice_index_or l j d) (line_is rows cols i b lt) ∙ get_or-replicate cols j (filled_with b) d near
+
+-- each place of such a grid, and what stands beyond it, can be printed
+pub printed_at : (rows cols i j b : ℕ) → 32 ≤ b → b ≤ 126 → IsPrinted (look_at (uniform rows cols (filled_with b)) i j).byte
+printed_at rows cols i j b low high = elim (cases_lt i rows) [
+  | inl lt ↦ elim (cases_lt j cols) [
+    | inl near ↦ subst (λ (x : Look). IsPrinted x.byte) (sym (uniform_at rows cols i j b space lt near)) (low, high)
+    | inr far ↦ subst (λ (x : Look). IsPrinted x.byte) (sym (ap (λ (l : List Look). slice_index_or l j space) (line_is rows cols i b lt) ∙ get_or_past (replicate cols (filled_with b)) j space (let e = length-replicate cols (filled_with b) in omega (arith, e, far)))) (omega arith, omega arith)
+  ]
+  | inr below ↦ subst (λ (l : List Look). IsPrinted (slice_index_or l j space).byte) (sym (get_or_past (uniform rows cols (filled_with b)) i [] (let e = length-replicate rows (replicate cols (filled_with b)) in omega (arith, e, below)))) (subst (λ (x : Look). IsPrinted x.byte) (sym (get_or_past [] j space (omega arith))) (omega arith, omega arith))
+]
 
 -- ---- after an erasure
 

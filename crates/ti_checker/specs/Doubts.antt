@@ -1,9 +1,13 @@
--- With `NotTame` and `NotShown` a string may be right: but neither is said of a row that stands.
+-- With `NotTame` and `NotShown` a string may be right: but neither is said of a row that stands, and `NotShown` of none
+-- that leads elsewhere than is wanted, to another rendition, to other modes or to other cells.
 use Rattle.std.specs.Prelude.{ℕ, ◌≡◌, List}
+use Rattle.vt_effects.specs.declared.effects.Effect.{Effect}
 use Rattle.ti_rows.specs.declared.rows.Looks.{Looks}
 use Rattle.ti_rows.specs.declared.rows.Row.{Row}
 use Rattle.ti_checker.specs.First.{SendsAsked}
+use Rattle.ti_checker.specs.Limit.{IsLineFor}
 use Rattle.ti_checker.specs.No.{IsFaulty}
+use Rattle.ti_checker.specs.Strays.{LeadsElsewhere, LeavesOtherCells, LeavesOtherModes, RendersOther}
 use Rattle.ti_checker.specs.Taught.{IsTaught}
 use Rattle.ti_checker.specs.declared.causes.Cause.TheVariants.{NotTame, NotShown}
 
@@ -18,4 +22,33 @@ NeverUntamed = (rows cols : ℕ) (string : List ℕ) (row : Row) → SendsAsked 
 
 abbrev pub NeverUnasked : Type 0
 NeverUnasked = (rows cols : ℕ) (string : List ℕ) (row : Row) → SendsAsked rows cols string row
+    → IsFaulty rows cols string row NotShown → ⊥
+
+-- what the string sends has an effect that is such, where attributes look as the rows of the string before this one teach
+pub record SendsSuch (Such : Looks → Effect → Type 0) (rows cols : ℕ) (string : List ℕ) (row : Row) : Type 0 where
+  pub bytes : List ℕ
+  pub effect : Effect
+  pub is : IsLineFor rows cols string (record { row = row; bytes = bytes; effect = effect })
+  pub looks : Looks
+  pub taught : IsTaught rows cols string row looks
+  pub such : Such looks effect
+
+abbrev pub NeverElsewhere : Type 0
+NeverElsewhere = (rows cols : ℕ) (string : List ℕ) (row : Row)
+    → SendsSuch (λ looks e. LeadsElsewhere rows cols looks row e) rows cols string row
+    → IsFaulty rows cols string row NotShown → ⊥
+
+abbrev pub NeverOther : Type 0
+NeverOther = (rows cols : ℕ) (string : List ℕ) (row : Row)
+    → SendsSuch (λ looks e. RendersOther rows cols looks row e) rows cols string row
+    → IsFaulty rows cols string row NotShown → ⊥
+
+abbrev pub NeverOtherCells : Type 0
+NeverOtherCells = (rows cols : ℕ) (string : List ℕ) (row : Row)
+    → SendsSuch (λ looks e. LeavesOtherCells rows cols looks row e) rows cols string row
+    → IsFaulty rows cols string row NotShown → ⊥
+
+abbrev pub NeverOtherModes : Type 0
+NeverOtherModes = (rows cols : ℕ) (string : List ℕ) (row : Row)
+    → SendsSuch (λ looks e. LeavesOtherModes rows cols looks row e) rows cols string row
     → IsFaulty rows cols string row NotShown → ⊥

@@ -10,5 +10,7 @@ pub mod No
 pub mod Notes
 pub mod Probes
 pub mod Resync
+pub mod Strays
 pub mod Switches
 pub mod Taught
+pub mod Trials

@@ -35,6 +35,7 @@ use Rattle.ti_checker.specs.First.{RowStands, EachWritten}
 use Rattle.ti_checker.specs.Limit.{Overflows, PassesLimit, StaysWithin}
 use Rattle.ti_checker.specs.Mislooks.{Mislooks, looks_other}
 use Rattle.ti_checker.specs.Probes.{screen_of}
+use Rattle.ti_checker.specs.Strays.{IsAlwaysWanted, IsRecorded}
 use Rattle.ti_checker.specs.Switches.{OfSent, OfAllSent, RunsWrong}
 use Rattle.ti_checker.specs.Taught.{IsAskedOf, IsTaught}
 
@@ -60,11 +61,13 @@ pub record HasOwnEffect (rows cols : ℕ) (row : Row) (bytes : List ℕ) : Type 
   pub recorded : record_of rows cols (start_of rows cols row) tokens ≡ Some effect
   pub own : Mislooks rows cols row bytes → ⊥
 
--- an effect that isn't the one that is asked for, where attributes look as the rows of the string before this one teach
+-- an effect that isn't the one that is asked for, where attributes look as the rows of the string before this one
+-- teach, though from each start of the row its end is one that is wanted
 pub record IsUnasked (rows cols : ℕ) (string : List ℕ) (row : Row) (e : Effect) : Type 0 where
   pub looks : Looks
   pub taught : IsTaught rows cols string row looks
   pub unasked : IsAskedOf looks row e → ⊥
+  pub wanted : IsAlwaysWanted rows cols looks row e
 
 -- whole control functions with such an effect
 pub record HasUnasked (rows cols : ℕ) (string : List ℕ) (row : Row) (bytes : List ℕ) : Type 0 where
@@ -78,8 +81,8 @@ pub record HasWrong (rows cols : ℕ) (string : List ℕ) (row : Row) (bytes : L
 
 -- The fault is one of the string's run; what is sent ends within a sequence, or has a byte that fits nothing; it has no
 -- one effect from all starts of the row; one attribute shows a mark that isn't its own; from a start of the row it runs
--- to an end that isn't wanted; or its effect isn't the one that is asked for. Each of these excludes those before it.
--- With `NotTame` and `NotShown` the string may still be right.
+-- to an end that isn't wanted; or its effect isn't the one that is asked for, though from each start its end is wanted.
+-- Each of these excludes those before it. With `NotTame` and `NotShown` the string may still be right.
 abbrev pub IsFaulty : ℕ → ℕ → List ℕ → Row → Cause → Type 0
 IsFaulty rows cols string row (Parm fault) = meaning string (values row) zeros ≡ Err fault
 IsFaulty rows cols string row StaticRead = ReadsStatic string row
@@ -113,7 +116,9 @@ IsNotWhole bytes _ = ⊥
 abbrev pub IsMisfit : ℕ → ℕ → Looks → Row → Effect → Cause → Type 0
 IsMisfit rows cols looks row e BadLook = looks_other row e ≡ true
 IsMisfit rows cols looks row e (WrongEffect p) = (looks_other row e ≡ false) × IsShown rows cols looks row e p
-IsMisfit rows cols looks row e NotShown = (looks_other row e ≡ false) × (IsAskedOf looks row e → ⊥)
+IsMisfit rows cols looks row e NotShown =
+    (looks_other row e ≡ false) × (IsAskedOf looks row e → ⊥)
+    × (IsRecorded rows cols row e → IsAlwaysWanted rows cols looks row e)
 IsMisfit rows cols looks row e _ = ⊥
 
 pub record Misfits (rows cols : ℕ) (looks : Looks) (row : Row) (tokens : List (List ℕ)) (cause : Cause) : Type 0 where

@@ -3,8 +3,9 @@
 ghost use Rattle.std.specs.Prelude.{◌≡◌, IsTrue, false, if◌then◌else◌};
 ghost use Rattle.ti_checker.specs.Breakage as spec;
 ghost use Rattle.ti_checker.specs.Probes.{CanShow, screen_of};
+ghost use Rattle.ti_checker.specs.Trials.{EndSo, EndsAsWanted};
 ghost use Rattle.ti_rows.specs.Starts.{Starts};
-ghost use Rattle.vt_effects.specs.Effect.{bottom_of, inked, top_of};
+ghost use Rattle.vt_effects.specs.Effect.{bottom_of, designated, inked, moved, switched, top_of};
 
 use crate::cells::cells_differ;
 use crate::probes::Probe;
@@ -71,7 +72,9 @@ fn looks_of(marks: Marks) -> Looks
 }
 
 fn place_differs(first: &Effect, second: &Effect, size: Size, probe: &Probe) -> bool
-    ensures { IsTrue result → spec.EndAlike first.now second.now (screen_of size.rows size.cols probe.now) → ⊥ }
+    ensures apart { IsTrue result → spec.EndAlike first.now second.now (screen_of size.rows size.cols probe.now) → ⊥ }
+    ensures row { result ≡ false → moved first.now.row probe.now.row ≡ moved second.now.row probe.now.row }
+    ensures col { result ≡ false → moved first.now.col probe.now.col ≡ moved second.now.col probe.now.col }
 {
     first.row.leads_from(probe.row) != second.row.leads_from(probe.row)
         || first.col.leads_from(probe.col) != second.col.leads_from(probe.col)
@@ -84,7 +87,13 @@ fn pending_after(effect: &Effect, probe: &Probe) -> bool
 }
 
 fn modes_differ(first: &Effect, second: &Effect, size: Size, probe: &Probe) -> bool
-    ensures { IsTrue result → spec.EndAlike first.now second.now (screen_of size.rows size.cols probe.now) → ⊥ }
+    ensures apart { IsTrue result → spec.EndAlike first.now second.now (screen_of size.rows size.cols probe.now) → ⊥ }
+    ensures pending { result ≡ false → (if first.now.ends_pending then false else probe.now.pending)
+        ≡ (if second.now.ends_pending then false else probe.now.pending) }
+    ensures visible { result ≡ false → switched first.now.visible probe.now.visible
+        ≡ switched second.now.visible probe.now.visible }
+    ensures charset { result ≡ false → designated first.now.charset probe.now.charset
+        ≡ designated second.now.charset probe.now.charset }
 {
     pending_after(first, probe) != pending_after(second, probe)
         || switched(first.visible, probe.visible) != switched(second.visible, probe.visible)
@@ -92,20 +101,29 @@ fn modes_differ(first: &Effect, second: &Effect, size: Size, probe: &Probe) -> b
 }
 
 fn margins_differ(first: &Effect, second: &Effect, size: Size, probe: &Probe) -> bool
-    ensures { IsTrue result → spec.EndAlike first.now second.now (screen_of size.rows size.cols probe.now) → ⊥ }
+    ensures apart { IsTrue result → spec.EndAlike first.now second.now (screen_of size.rows size.cols probe.now) → ⊥ }
+    ensures top { result ≡ false → top_of first.now.margins probe.now.top ≡ top_of second.now.margins probe.now.top }
+    ensures bottom { result ≡ false → bottom_of first.now.margins probe.now.bottom
+        ≡ bottom_of second.now.margins probe.now.bottom }
 {
     top_of(first.margins, probe.top) != top_of(second.margins, probe.top)
         || bottom_of(first.margins, probe.bottom) != bottom_of(second.margins, probe.bottom)
 }
 
 fn marks_differ(first: &Effect, second: &Effect, size: Size, probe: &Probe) -> bool
-    ensures { IsTrue result → spec.EndAlike first.now second.now (screen_of size.rows size.cols probe.now) → ⊥ }
+    ensures apart { IsTrue result → spec.EndAlike first.now second.now (screen_of size.rows size.cols probe.now) → ⊥ }
+    ensures marks { result ≡ false → spec.marks_after first.now.rendition probe.now.look
+        ≡ spec.marks_after second.now.rendition probe.now.look }
 {
     marks_after(first.rendition, probe.look) != marks_after(second.rendition, probe.look)
 }
 
 fn inks_differ(first: &Effect, second: &Effect, size: Size, probe: &Probe) -> bool
-    ensures { IsTrue result → spec.EndAlike first.now second.now (screen_of size.rows size.cols probe.now) → ⊥ }
+    ensures apart { IsTrue result → spec.EndAlike first.now second.now (screen_of size.rows size.cols probe.now) → ⊥ }
+    ensures foreground { result ≡ false → inked first.now.rendition.foreground probe.now.foreground
+        ≡ inked second.now.rendition.foreground probe.now.foreground }
+    ensures background { result ≡ false → inked first.now.rendition.background probe.now.background
+        ≡ inked second.now.rendition.background probe.now.background }
 {
     let (one, other) = (first.rendition, second.rendition);
     inked(one.foreground, probe.foreground) != inked(other.foreground, probe.foreground)
@@ -115,7 +133,8 @@ fn inks_differ(first: &Effect, second: &Effect, size: Size, probe: &Probe) -> bo
 /// Whether two effects lead from the probe to different ends.
 fn differ(first: &Effect, second: &Effect, size: Size, probe: &Probe) -> bool
     requires { CanShow size.rows probe.now }
-    ensures { IsTrue result → spec.EndAlike first.now second.now (screen_of size.rows size.cols probe.now) → ⊥ }
+    ensures apart { IsTrue result → spec.EndAlike first.now second.now (screen_of size.rows size.cols probe.now) → ⊥ }
+    ensures so { result ≡ false → EndSo size.rows size.cols first.now second.now probe.now }
 {
     place_differs(first, second, size, probe)
         || modes_differ(first, second, size, probe)
@@ -211,7 +230,8 @@ fn looks_for(taught: Looks, row: Row, effect: &Effect, probe: &Probe) -> Looks
 pub(crate) fn breaks(row: Row, taught: Looks, effect: &Effect, size: Size, probe: &Probe) -> bool
     requires starts { Starts size.rows size.cols row (screen_of size.rows size.cols probe.now) }
     requires seen { CanShow size.rows probe.now }
-    ensures { IsTrue result → spec.NotWanted size.rows size.cols taught row effect.now probe.now }
+    ensures unwanted { IsTrue result → spec.NotWanted size.rows size.cols taught row effect.now probe.now }
+    ensures wanted { result ≡ false → EndsAsWanted size.rows size.cols taught row effect.now probe.now }
 {
     let looks = looks_for(taught, row, effect, probe);
     if has_choice(row) {

@@ -1,6 +1,6 @@
 //! Which cells two effects leave different.
 
-ghost use Rattle.std.specs.Prelude.{◌≡◌, ◌<◌, IsTrue};
+ghost use Rattle.std.specs.Prelude.{◌≡◌, ◌<◌, ℕ, IsTrue, false};
 ghost use Rattle.ti_checker.specs.Cells as spec;
 ghost use Rattle.ti_checker.specs.Probes.{CanShow, screen_of};
 
@@ -42,8 +42,10 @@ fn becomes_blank(effect: &Effect, probe: &Probe, i: usize, j: usize) -> bool
 /// Whether a place becomes blank by one effect alone.
 fn place_differs(first: &Effect, second: &Effect, probe: &Probe, i: usize, j: usize) -> bool
     requires { i < 65536 }
-    ensures { IsTrue result → spec.becomes_blank first.now probe.now i j ≡ spec.becomes_blank second.now probe.now i j
-        → ⊥ }
+    ensures apart { IsTrue result → spec.becomes_blank first.now probe.now i j
+        ≡ spec.becomes_blank second.now probe.now i j → ⊥ }
+    ensures same { result ≡ false → spec.becomes_blank first.now probe.now i j
+        ≡ spec.becomes_blank second.now probe.now i j }
 {
     becomes_blank(first, probe, i, j) != becomes_blank(second, probe, i, j)
 }
@@ -52,7 +54,9 @@ fn place_differs(first: &Effect, second: &Effect, probe: &Probe, i: usize, j: us
 fn line_differs(first: &Effect, second: &Effect, size: Size, probe: &Probe, i: usize) -> bool
     requires line { i < size.rows }
     requires seen { CanShow size.rows probe.now }
-    ensures { IsTrue result → spec.HaveOneGrid first.now second.now (screen_of size.rows size.cols probe.now) → ⊥ }
+    ensures apart { IsTrue result → spec.HaveOneGrid first.now second.now (screen_of size.rows size.cols probe.now) → ⊥ }
+    ensures same { result ≡ false → (j : ℕ) → j < size.cols → spec.becomes_blank first.now probe.now i j
+        ≡ spec.becomes_blank second.now probe.now i j }
 {
     for j in 0..size.cols {
         if place_differs(first, second, probe, i, j) {
@@ -65,7 +69,9 @@ fn line_differs(first: &Effect, second: &Effect, size: Size, probe: &Probe, i: u
 /// Whether two effects leave different cells.
 pub(crate) fn cells_differ(first: &Effect, second: &Effect, size: Size, probe: &Probe) -> bool
     requires { CanShow size.rows probe.now }
-    ensures { IsTrue result → spec.HaveOneGrid first.now second.now (screen_of size.rows size.cols probe.now) → ⊥ }
+    ensures apart { IsTrue result → spec.HaveOneGrid first.now second.now (screen_of size.rows size.cols probe.now) → ⊥ }
+    ensures same { result ≡ false → (i j : ℕ) → i < size.rows → j < size.cols
+        → spec.becomes_blank first.now probe.now i j ≡ spec.becomes_blank second.now probe.now i j }
 {
     for i in 0..size.rows {
         if line_differs(first, second, size, probe, i) {

@@ -6,7 +6,7 @@ ghost use Rattle.std.specs.Prelude.{◌≡◌, ◌≢◌, ℕ, Bool, List, Optio
 ghost use Rattle.ti_caps.specs.Entry.{Content};
 ghost use Rattle.ti_checker.specs.Breakage.{ShownBreaks};
 ghost use Rattle.ti_checker.specs.Certificate.{BasicCertificate, IsCertificateOf};
-ghost use Rattle.ti_checker.specs.Doubts.{NeverUnasked, NeverUntamed, OneTeaching};
+ghost use Rattle.ti_checker.specs.Doubts.{NeverElsewhere, NeverOther, NeverOtherCells, NeverOtherModes, NeverUnasked, NeverUntamed, OneTeaching};
 ghost use Rattle.ti_checker.specs.Ignored.{is_unknown_mode, is_unknown_rendition, is_whole_sequence};
 ghost use Rattle.ti_checker.specs.No.{ClaimsNothing, IsNo};
 ghost use Rattle.ti_checker.specs.Notes.{EntryNotes};
@@ -77,4 +77,13 @@ pub fn no_doubt_of_what_stands()
     ensures one_teaching { OneTeaching }
     ensures untamed { NeverUntamed }
     ensures unasked { NeverUnasked }
+{}
+
+/// `NotShown` is so of no row whose string leads elsewhere than is wanted, to another rendition, to other
+/// modes or to other cells.
+pub fn what_differs_is_shown()
+    ensures place { NeverElsewhere }
+    ensures rendition { NeverOther }
+    ensures modes { NeverOtherModes }
+    ensures cells { NeverOtherCells }
 {}

@@ -1,7 +1,10 @@
 //! Looking for a probe.
 
-ghost use Rattle.std.specs.Prelude.{IfSome, IsTrue};
+ghost use Rattle.std.specs.Prelude.{◌≡◌, IfNone, IfSome};
 ghost use Rattle.ti_checker.specs.Breakage.{IsShown};
+ghost use Rattle.ti_checker.specs.Strays.{IsAlwaysWanted, IsRecorded};
+ghost use Rattle.ti_checker.specs.Trials as spec;
+ghost use Rattle.ti_rows.specs.Asked.{start_of};
 ghost use Rattle.ti_rows.specs.Lists.{IsInRange};
 
 use crate::breakage::breaks;
@@ -24,7 +27,9 @@ struct Choices {
 }
 
 impl Choices {
-    fn of(number: u8) -> Choices {
+    fn of(number: u8) -> Choices
+        ensures { result ≡ spec.choices_of number }
+    {
         Choices {
             low: number % 2 == 1,
             right: number / 2 % 2 == 1,
@@ -36,7 +41,9 @@ impl Choices {
 }
 
 /// Every mark, or none.
-fn all_marks(on: bool) -> Marks {
+fn all_marks(on: bool) -> Marks
+    ensures { result ≡ spec.all_marks on }
+{
     Marks {
         bold: on,
         faint: on,
@@ -47,39 +54,54 @@ fn all_marks(on: bool) -> Marks {
     }
 }
 
-/// The first and the last line of the region, with the cursor in this row: a wide region or a narrow one.
-fn region_by(narrow: bool, margins: Margins, row: u16, last: u16) -> (u16, u16) {
+/// The first line of the region, with the cursor in this row: of a wide region or a narrow one.
+fn top_by(narrow: bool, margins: Margins, row: u16, last: u16) -> u16
+    ensures { result ≡ spec.top_by narrow margins row last }
+{
     match margins {
-        Margins::Whole => (0, last),
-        Margins::Legal => (u16::from(narrow && 1 < last), last),
-        Margins::OnBottom => (if narrow { row.saturating_sub(1) } else { 0 }, row),
-        Margins::OnTop => (row, if narrow { row.saturating_add(1) } else { last }),
+        Margins::Whole => 0,
+        Margins::Legal => { if narrow && 1 < last { 1 } else { 0 } }
+        Margins::OnBottom => { if narrow { row.saturating_sub(1) } else { 0 } }
+        Margins::OnTop => row,
     }
 }
 
-fn color_by(on: bool, color: Color) -> Option<Color> {
+/// The last line of the region.
+fn bottom_by(narrow: bool, margins: Margins, row: u16, last: u16) -> u16
+    ensures { result ≡ spec.bottom_by narrow margins row last }
+{
+    match margins {
+        Margins::Whole | Margins::Legal => last,
+        Margins::OnBottom => row,
+        Margins::OnTop => { if narrow && row < last { row + 1 } else { last } }
+    }
+}
+
+fn color_by(on: bool, color: Color) -> Option<Color>
+    ensures { result ≡ spec.color_by on color }
+{
     if on { Some(color) } else { None }
 }
 
+/// A row or column at one end of these.
+fn end_by(greatest: bool, min: u16, max: u16) -> u16
+    ensures { result ≡ spec.end_by greatest min max }
+{
+    if greatest { max } else { min }
+}
+
 /// A state with the cursor in a corner of the start's rows and columns.
-fn probe_by(choices: Choices, start: &Start, size: Size) -> Probe {
-    let row = if choices.low {
-        start.row_max
-    } else {
-        start.row_min
-    };
+fn probe_by(choices: Choices, start: &Start, size: Size) -> Probe
+    ensures { result ≡ spec.probe_by choices start.now size.rows }
+{
+    let row = end_by(choices.low, start.row_min, start.row_max);
     let last = (size.rows - 1) as u16;
-    let (top, bottom) = region_by(choices.narrow, start.margins, row, last);
     Probe {
         row,
-        col: if choices.right {
-            start.col_max
-        } else {
-            start.col_min
-        },
+        col: end_by(choices.right, start.col_min, start.col_max),
         pending: choices.pending && start.pending,
-        top,
-        bottom,
+        top: top_by(choices.narrow, start.margins, row, last),
+        bottom: bottom_by(choices.narrow, start.margins, row, last),
         charset: Charset {
             g0_graphic: choices.marked,
             g1_graphic: choices.marked,
@@ -93,28 +115,32 @@ fn probe_by(choices: Choices, start: &Start, size: Size) -> Probe {
     }
 }
 
-/// Whether the probe is a start of the row from which the effect leads to an end that isn't wanted.
-fn shows(row: Row, taught: Looks, effect: &Effect, size: Size, probe: &Probe) -> bool
+/// The probe of this number, if from it the effect leads to an end that isn't wanted.
+fn shown_by(number: u8, row: Row, taught: Looks, effect: &Effect, size: Size) -> Option<Probe>
     requires { IsInRange size.rows size.cols row }
-    ensures { IsTrue result → IsShown size.rows size.cols taught row effect.now probe.now }
+    ensures shown { IfSome result (λ probe. IsShown size.rows size.cols taught row effect.now probe) }
+    ensures wanted { IfNone result (spec.EndsAsWanted size.rows size.cols taught row effect.now
+        (spec.probe_by (spec.choices_of number) (start_of size.rows size.cols row) size.rows)) }
 {
-    if probe.is_start_of(row, size) {
-        breaks(row, taught, effect, size, probe)
+    let probe = probe_by(Choices::of(number), &row.start(size), size);
+    if breaks(row, taught, effect, size, &probe) {
+        Some(probe)
     } else {
-        false
+        None
     }
 }
 
 /// A start of the row from which the effect leads to an end that isn't wanted, however attributes look
-/// that agree with what the rows before `taught`. `None` where those that are tried show nothing.
+/// that agree with what the rows before `taught`. `None` where there is none: then the effect of a text leads
+/// from each start to an end that is wanted.
 pub(crate) fn probe_for(row: Row, taught: Looks, effect: &Effect, size: Size) -> Option<Probe>
     requires { IsInRange size.rows size.cols row }
-    ensures { IfSome result (λ probe. IsShown size.rows size.cols taught row effect.now probe) }
+    ensures shown { IfSome result (λ probe. IsShown size.rows size.cols taught row effect.now probe) }
+    ensures wanted { IfNone result (IsRecorded size.rows size.cols row effect.now
+        → IsAlwaysWanted size.rows size.cols taught row effect.now) }
 {
-    let start = row.start(size);
     for number in 0..TRIES {
-        let probe = probe_by(Choices::of(number), &start, size);
-        if shows(row, taught, effect, size, &probe) {
+        if let Some(probe) = shown_by(number, row, taught, effect, size) {
             return Some(probe);
         }
     }

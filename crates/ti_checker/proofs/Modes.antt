@@ -1,0 +1,125 @@
+-- An effect that no probe shows wrong leaves the sets and the visibility that are wanted, from any start of the row.
+use Rattle.std.proofs.Common.{◌≡◌, ℕ, ◌<◌, Bool, true, false, refl, sym, ap, ◌∙◌, arith}
+use Rattle.std.proofs.lemmas.Bool.{true≢false}
+use Rattle.vt_term.specs.Screen.{Charset, Screen}
+use Rattle.vt_effects.specs.declared.effects.Effect.{Effect}
+use Rattle.vt_effects.specs.declared.effects.Sets.{Sets}
+use Rattle.vt_effects.specs.declared.effects.Switch.{Switch}
+use Rattle.vt_effects.specs.declared.effects.Switch.TheVariants as switches
+use Rattle.vt_effects.specs.Effect.{applied, designated, switched}
+use Rattle.ti_rows.specs.Asked.{start_of, asked, on_or_kept}
+use Rattle.ti_rows.specs.declared.rows.Looks.{Looks}
+use Rattle.ti_rows.specs.declared.rows.Row.{Row}
+use Rattle.ti_rows.specs.declared.rows.Row.TheVariants.{Clear, Sgr, Cvvis}
+use Rattle.ti_checker.specs.Breakage.{has_choice, wanted_end, with_defaults, without_defaults}
+use Rattle.ti_checker.specs.Trials.{choices_of, probe_by, IsEnd, Only, WithDefaults, WithoutDefaults, EndsAsWanted, EndsBelow}
+use Rattle.ti_checker.specs.declared.probes.Probe.{Probe}
+
+never : {A : Type 0} → true ≡ false → A
+never h = absurd (true≢false h)
+
+by_both : (a b : Switch) (c : Bool) → switched a false ≡ switched b false → switched a true ≡ switched b true → switched a c ≡ switched b c
+by_both a b true h k = k
+by_both a b false h k = h
+
+-- ---- sets
+
+only_sets : (l m : Looks) (row : Row) (e : Effect) → (wanted_end l row e).charset ≡ (asked m row e).charset
+only_sets l m Clear e = refl
+only_sets l m _ e = refl
+
+first_sets : (l m : Looks) (row : Row) (e : Effect) → has_choice row ≡ true → (asked l row (with_defaults e)).charset ≡ (asked m row e).charset
+first_sets l m (Sgr a) e choice = refl
+first_sets l m Cvvis e choice = refl
+first_sets l m _ e choice = never (sym choice)
+
+second_sets : (l m : Looks) (row : Row) (e : Effect) → has_choice row ≡ true → (asked l row (without_defaults e)).charset ≡ (asked m row e).charset
+second_sets l m (Sgr a) e choice = refl
+second_sets l m Cvvis e choice = refl
+second_sets l m _ e choice = never (sym choice)
+
+sets_as : (l m : Looks) (row : Row) (e f : Effect) → IsEnd l row e f → f.charset ≡ (asked m row e).charset
+sets_as l m row e f (Only one is) = ap (λ (g : Effect). g.charset) is ∙ only_sets l m row e
+sets_as l m row e f (WithDefaults choice is) = ap (λ (g : Effect). g.charset) is ∙ first_sets l m row e choice
+sets_as l m row e f (WithoutDefaults choice is) = ap (λ (g : Effect). g.charset) is ∙ second_sets l m row e choice
+
+sets_at : {rows cols : ℕ} → (taught : Looks) (row : Row) (e : Effect) (p : Probe) → EndsAsWanted rows cols taught row e p → designated e.charset p.charset ≡ designated (asked taught row e).charset p.charset
+sets_at taught row e p h = h.so.charset ∙ ap (λ (x : Sets). designated x p.charset) (sets_as _ taught row e h.wanted h.is)
+
+abbrev all_sets : Bool → Charset
+all_sets on = record { g0_graphic = on; g1_graphic = on; shifted_out = on }
+
+sets_by_both : (x y : Sets) (c : Charset) → designated x (all_sets false) ≡ designated y (all_sets false) → designated x (all_sets true) ≡ designated y (all_sets true) → designated x c ≡ designated y c
+sets_by_both x y c h k =
+    let zero : switched x.g0_graphic c.g0_graphic ≡ switched y.g0_graphic c.g0_graphic = by_both x.g0_graphic y.g0_graphic c.g0_graphic (ap (λ (d : Charset). d.g0_graphic) h) (ap (λ (d : Charset). d.g0_graphic) k) in
+    let one : switched x.g1_graphic c.g1_graphic ≡ switched y.g1_graphic c.g1_graphic = by_both x.g1_graphic y.g1_graphic c.g1_graphic (ap (λ (d : Charset). d.g1_graphic) h) (ap (λ (d : Charset). d.g1_graphic) k) in
+    let out : switched x.shifted_out c.shifted_out ≡ switched y.shifted_out c.shifted_out = by_both x.shifted_out y.shifted_out c.shifted_out (ap (λ (d : Charset). d.shifted_out) h) (ap (λ (d : Charset). d.shifted_out) k) in
+    ap (λ (b : Bool). record (designated x c) { g0_graphic = b }) zero
+    ∙ (ap (λ (b : Bool). record (designated x c) { g0_graphic = switched y.g0_graphic c.g0_graphic; g1_graphic = b }) one
+    ∙ ap (λ (b : Bool). record (designated y c) { shifted_out = b }) out)
+
+pub same_sets : (rows cols : ℕ) (taught : Looks) (row : Row) (e : Effect) (c : Charset) → EndsBelow rows cols taught row e 32 → designated e.charset c ≡ designated (asked taught row e).charset c
+same_sets rows cols taught row e c ends =
+    let at : (k : ℕ) → k < 32 → designated e.charset (probe_by (choices_of k) (start_of rows cols row) rows).charset ≡ designated (asked taught row e).charset (probe_by (choices_of k) (start_of rows cols row) rows).charset =
+    λ k lt. sets_at taught row e (probe_by (choices_of k) (start_of rows cols row) rows) (ends k lt) in
+    sets_by_both e.charset (asked taught row e).charset c (at 0 (omega arith)) (at 8 (omega arith))
+
+-- ---- the cursor
+
+-- all rows but the one that may show it or not
+abbrev pub is_told : Row → Bool
+is_told Cvvis = false
+is_told _ = true
+
+only_seen : (l m : Looks) (row : Row) (e : Effect) → is_told row ≡ true → (wanted_end l row e).visible ≡ (asked m row e).visible
+only_seen l m Cvvis e told = never (sym told)
+only_seen l m _ e told = refl
+
+first_seen : (l m : Looks) (row : Row) (e : Effect) → is_told row ≡ true → has_choice row ≡ true → (asked l row (with_defaults e)).visible ≡ (asked m row e).visible
+first_seen l m (Sgr a) e told choice = refl
+first_seen l m Cvvis e told choice = never (sym told)
+first_seen l m _ e told choice = never (sym choice)
+
+second_seen : (l m : Looks) (row : Row) (e : Effect) → is_told row ≡ true → has_choice row ≡ true → (asked l row (without_defaults e)).visible ≡ (asked m row e).visible
+second_seen l m (Sgr a) e told choice = refl
+second_seen l m Cvvis e told choice = never (sym told)
+second_seen l m _ e told choice = never (sym choice)
+
+seen_as : (l m : Looks) (row : Row) (e f : Effect) → is_told row ≡ true → IsEnd l row e f → f.visible ≡ (asked m row e).visible
+seen_as l m row e f told (Only one is) = ap (λ (g : Effect). g.visible) is ∙ only_seen l m row e told
+seen_as l m row e f told (WithDefaults choice is) = ap (λ (g : Effect). g.visible) is ∙ first_seen l m row e told choice
+seen_as l m row e f told (WithoutDefaults choice is) = ap (λ (g : Effect). g.visible) is ∙ second_seen l m row e told choice
+
+seen_at : {rows cols : ℕ} → (taught : Looks) (row : Row) (e : Effect) (p : Probe) → is_told row ≡ true → EndsAsWanted rows cols taught row e p → switched e.visible p.visible ≡ switched (asked taught row e).visible p.visible
+seen_at taught row e p told h = h.so.visible ∙ ap (λ (x : Switch). switched x p.visible) (seen_as _ taught row e h.wanted told h.is)
+
+pub told_seen : (rows cols : ℕ) (taught : Looks) (row : Row) (e : Effect) (v : Bool) → is_told row ≡ true → EndsBelow rows cols taught row e 32 → switched e.visible v ≡ switched (asked taught row e).visible v
+told_seen rows cols taught row e v told ends =
+    let at : (k : ℕ) → k < 32 → switched e.visible (probe_by (choices_of k) (start_of rows cols row) rows).visible ≡ switched (asked taught row e).visible (probe_by (choices_of k) (start_of rows cols row) rows).visible =
+    λ k lt. seen_at taught row e (probe_by (choices_of k) (start_of rows cols row) rows) told (ends k lt) in
+    by_both e.visible (asked taught row e).visible v (at 8 (omega arith)) (at 0 (omega arith))
+
+-- it may become visible, or stay as it was
+record IsSeenSo (e : Effect) (p : Probe) : Type 0 where
+  shows : Bool
+  so : switched e.visible p.visible ≡ switched (on_or_kept shows) p.visible
+
+seen_so : {rows cols : ℕ} → (taught : Looks) (e : Effect) (p : Probe) → (h : EndsAsWanted rows cols taught Cvvis e p) → (l : Looks) → IsEnd l Cvvis e h.wanted → IsSeenSo e p
+seen_so taught e p h l (Only one is) = never one
+seen_so taught e p h l (WithDefaults choice is) = record { shows = true; so = h.so.visible ∙ ap (λ (g : Effect). switched g.visible p.visible) is }
+seen_so taught e p h l (WithoutDefaults choice is) = record { shows = false; so = h.so.visible ∙ ap (λ (g : Effect). switched g.visible p.visible) is }
+
+stays_seen : (b : Bool) → switched (on_or_kept b) true ≡ true
+stays_seen true = refl
+stays_seen false = refl
+
+pub record IsChosen (e : Effect) (v : Bool) : Type 0 where
+  pub shows : Bool
+  pub same : switched e.visible v ≡ switched (on_or_kept shows) v
+
+pub chosen_seen : (rows cols : ℕ) (taught : Looks) (e : Effect) (v : Bool) → EndsBelow rows cols taught Cvvis e 32 → IsChosen e v
+chosen_seen rows cols taught e v ends =
+    let at : (k : ℕ) → k < 32 → IsSeenSo e (probe_by (choices_of k) (start_of rows cols Cvvis) rows) = λ k lt. seen_so taught e (probe_by (choices_of k) (start_of rows cols Cvvis) rows) (ends k lt) _ (ends k lt).is in
+    let hidden : IsSeenSo e (probe_by (choices_of 8) (start_of rows cols Cvvis) rows) = at 8 (omega arith) in
+    let seen : IsSeenSo e (probe_by (choices_of 0) (start_of rows cols Cvvis) rows) = at 0 (omega arith) in
+    record { shows = hidden.shows; same = by_both e.visible (on_or_kept hidden.shows) v hidden.so (seen.so ∙ (stays_seen seen.shows ∙ sym (stays_seen hidden.shows))) }
