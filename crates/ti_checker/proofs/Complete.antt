@@ -24,8 +24,8 @@ use Rattle.ti_checker.specs.Strays.{HaveOnePlace, IsAlwaysWanted, IsRecorded, Is
 use Rattle.ti_checker.specs.Trials.{EndsBelow}
 use Rattle.ti_checker.proofs.Elsewhere.{agree_with_itself, end_wanted, same_place}
 use Rattle.ti_checker.proofs.Erasing.{same_cells}
-use Rattle.ti_checker.proofs.Modes.{is_told, same_sets, told_seen, chosen_seen}
-use Rattle.ti_checker.proofs.OneRendition.{is_fixed, fixed_rendered, standout_rendered, set_rendered}
+use Rattle.ti_checker.proofs.Modes.{same_sets, told_seen, chosen_seen}
+use Rattle.ti_checker.proofs.OneRendition.{fixed_rendered, standout_rendered, set_rendered}
 
 -- ---- two effects have one end if they have all of its parts
 

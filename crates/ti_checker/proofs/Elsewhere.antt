@@ -1,7 +1,7 @@
 -- An effect that no probe shows wrong leads where it is wanted to, from any start of the row.
-use Rattle.std.proofs.Common.{◌≡◌, ℕ, ◌+◌, ◌-◌, ◌<◌, ◌≤◌, ◌&&◌, Bool, true, false, if◌then◌else◌, Option, None, Some, ◌⊎◌, inl, inr, refl, sym, ap, subst, ◌∙◌, arith}
+use Rattle.std.proofs.Common.{◌≡◌, ℕ, ◌-◌, ◌<◌, ◌≤◌, ◌&&◌, Bool, true, false, if◌then◌else◌, Option, None, Some, inl, inr, refl, sym, ap, subst, ◌∙◌, arith}
 use Rattle.std.proofs.lemmas.Bool.{cases_eq, lt-ltb, true≢false, false≢true}
-use Rattle.vt_term.specs.Screen.{Screen, IsScreen}
+use Rattle.vt_term.specs.Screen.{Screen}
 use Rattle.vt_term.specs.Size.{IsSize}
 use Rattle.vt_effects.specs.declared.effects.Effect.{Effect}
 use Rattle.vt_effects.specs.declared.effects.Move.{Move}
@@ -13,22 +13,18 @@ use Rattle.vt_effects.specs.declared.starts.Margins.TheVariants as margins
 use Rattle.vt_effects.specs.Effect.{applied, moved, top_of, bottom_of}
 use Rattle.vt_effects.specs.Start.{Allows, HasMargins}
 use Rattle.ti_rows.specs.Asked.{start_of, asked, is_default, ink_of, on_or_kept, is_on, just, rendering, showing, defaults_both_inks}
-use Rattle.ti_rows.specs.Lists.{IsInRange}
 use Rattle.ti_rows.specs.Looks.{shown}
 use Rattle.ti_rows.specs.declared.rows.Looks.{Looks}
 use Rattle.ti_rows.specs.declared.rows.Row.{Row}
 use Rattle.ti_rows.specs.declared.rows.Row.TheVariants.{Clear, Sgr, Cvvis, Ind, Ri}
 use Rattle.ti_rows.specs.Starts.{Starts}
 use Rattle.ti_rows.specs.Wants.{Wants}
-use Rattle.ti_rows.proofs.StartFacts.{starts_allowed}
+use Rattle.ti_rows.proofs.StartFacts.{never, starts_allowed}
 use Rattle.ti_rows.proofs.WantFacts.{asked_is_wanted}
 use Rattle.ti_checker.specs.Breakage.{AgreeBefore, has_choice, wanted_end, with_defaults, without_defaults}
 use Rattle.ti_checker.specs.Strays.{HaveOnePlace}
-use Rattle.ti_checker.specs.Trials.{choices_of, top_by, bottom_by, probe_by, IsEnd, Only, WithDefaults, WithoutDefaults, EndSo, EndsAsWanted, EndsBelow}
+use Rattle.ti_checker.specs.Trials.{choices_of, top_by, bottom_by, probe_by, IsEnd, Only, WithDefaults, WithoutDefaults, EndsAsWanted, EndsBelow}
 use Rattle.ti_checker.specs.declared.probes.Probe.{Probe}
-
-never : {A : Type 0} → true ≡ false → A
-never h = absurd (true≢false h)
 
 -- ---- moves that lead to one place from the ends of a range do so from all of it
 

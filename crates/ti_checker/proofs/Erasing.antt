@@ -1,5 +1,5 @@
 -- What is wanted of the cells, row by row, and that an effect which no probe shows wrong leaves them so.
-use Rattle.std.proofs.Common.{◌≡◌, ◌⊎◌, inl, inr, ℕ, ◌+◌, ◌-◌, ◌<◌, ◌≤◌, Bool, true, false, List, Some, length, refl, sym, ap, subst, ◌∙◌, arith}
+use Rattle.std.proofs.Common.{◌≡◌, inl, inr, ℕ, ◌-◌, ◌<◌, ◌≤◌, true, false, length, refl, sym, ap, subst, ◌∙◌, arith}
 use Rattle.std.proofs.lemmas.Bool.{lt-leb, ne_eqb, true≢false}
 use Rattle.vt_term.specs.Grid.{line_at}
 use Rattle.vt_term.specs.Look.{blank}
@@ -17,7 +17,7 @@ use Rattle.ti_rows.specs.declared.rows.Looks.{Looks}
 use Rattle.ti_rows.specs.declared.rows.Row.{Row}
 use Rattle.ti_rows.specs.declared.rows.Row.TheVariants.{Clear, El, El1, Ed, Ech, Sgr, Ind, Ri, Cvvis, Smcup, Rmcup}
 use Rattle.ti_rows.specs.Starts.{Starts}
-use Rattle.ti_rows.proofs.StartFacts.{starts_allowed}
+use Rattle.ti_rows.proofs.StartFacts.{never, starts_allowed}
 use Rattle.ti_checker.specs.Breakage.{has_choice, is_free, wanted_end, with_defaults, without_defaults}
 use Rattle.ti_checker.specs.Cells.{is_blank_after, is_erased}
 use Rattle.ti_checker.specs.Probes.{screen_of}
@@ -25,11 +25,8 @@ use Rattle.ti_checker.specs.Strays.{IsRecorded}
 use Rattle.ti_checker.specs.Trials.{choices_of, probe_by, IsEnd, Only, WithDefaults, WithoutDefaults, EndsAsWanted, EndsBelow}
 use Rattle.ti_checker.specs.declared.probes.Probe.{Probe}
 use Rattle.ti_checker.proofs.OneChange.{IsAtMargin, IsOneChange, one_change}
-use Rattle.ti_checker.proofs.OneGrid.{Agree, Corners, IsOne, SameCells, same_grid, none_cells, screen_cells, tail_cells, head_cells, rest_cells, next_cells, up_cells, down_cells}
+use Rattle.ti_checker.proofs.OneGrid.{Agree, IsOne, SameCells, same_grid, none_cells, screen_cells, tail_cells, head_cells, rest_cells, next_cells, up_cells, down_cells}
 use Rattle.ti_checker.proofs.ProbeStarts.{probe_starts}
-
-never : {A : Type 0} → true ≡ false → A
-never h = absurd (true≢false h)
 
 -- ---- what a wanted end changes of the cells
 

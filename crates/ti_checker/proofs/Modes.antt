@@ -1,26 +1,19 @@
 -- An effect that no probe shows wrong leaves the sets and the visibility that are wanted, from any start of the row.
 use Rattle.std.proofs.Common.{◌≡◌, ℕ, ◌<◌, Bool, true, false, refl, sym, ap, ◌∙◌, arith}
-use Rattle.std.proofs.lemmas.Bool.{true≢false}
-use Rattle.vt_term.specs.Screen.{Charset, Screen}
+use Rattle.vt_term.specs.Screen.{Charset}
 use Rattle.vt_effects.specs.declared.effects.Effect.{Effect}
 use Rattle.vt_effects.specs.declared.effects.Sets.{Sets}
 use Rattle.vt_effects.specs.declared.effects.Switch.{Switch}
-use Rattle.vt_effects.specs.declared.effects.Switch.TheVariants as switches
-use Rattle.vt_effects.specs.Effect.{applied, designated, switched}
+use Rattle.vt_effects.specs.Effect.{designated, switched}
 use Rattle.ti_rows.specs.Asked.{start_of, asked, on_or_kept}
 use Rattle.ti_rows.specs.declared.rows.Looks.{Looks}
 use Rattle.ti_rows.specs.declared.rows.Row.{Row}
 use Rattle.ti_rows.specs.declared.rows.Row.TheVariants.{Clear, Sgr, Cvvis}
+use Rattle.ti_rows.proofs.StartFacts.{never}
 use Rattle.ti_checker.specs.Breakage.{has_choice, wanted_end, with_defaults, without_defaults}
 use Rattle.ti_checker.specs.Trials.{choices_of, probe_by, IsEnd, Only, WithDefaults, WithoutDefaults, EndsAsWanted, EndsBelow}
 use Rattle.ti_checker.specs.declared.probes.Probe.{Probe}
-
-never : {A : Type 0} → true ≡ false → A
-never h = absurd (true≢false h)
-
-by_both : (a b : Switch) (c : Bool) → switched a false ≡ switched b false → switched a true ≡ switched b true → switched a c ≡ switched b c
-by_both a b true h k = k
-by_both a b false h k = h
+use Rattle.ti_checker.proofs.OneRendition.{by_both}
 
 -- ---- sets
 

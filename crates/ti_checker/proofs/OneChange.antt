@@ -1,6 +1,6 @@
 -- The record of a text erases cells or scrolls, and not both; and it scrolls only where each start is at a margin.
-use Rattle.std.proofs.Common.{◌≡◌, ◌⊎◌, inl, inr, ℕ, ◌+◌, ◌-◌, ◌==◌, ◌≤◌, min, ◌&&◌, Bool, true, false, if◌then◌else◌, List, [], ◌∷◌, Option, None, Some, IfSome, refl, sym, ap, subst, ◌∙◌, arith}
-use Rattle.std.proofs.lemmas.Bool.{and_parts, true≢false, lt-leb}
+use Rattle.std.proofs.Common.{◌≡◌, ◌⊎◌, inl, inr, ℕ, ◌+◌, ◌-◌, ◌==◌, min, ◌&&◌, Bool, true, false, if◌then◌else◌, List, [], ◌∷◌, Option, None, Some, IfSome, refl, sym, subst}
+use Rattle.std.proofs.lemmas.Bool.{and_parts}
 use Rattle.std.specs.Option.{unwrap_or, option_and_then}
 use Rattle.std.specs.Prelude.{nat_le, nat_lt}
 use Rattle.vt_term.specs.Function.{function_of, Function, EraseExtent, ToEnd, FromStart, Print, LineFeed, CarriageReturn, Backspace, Tab, ShiftOut, ShiftIn, ReverseIndex, NextLine, CursorUp, CursorDown, CursorForward, CursorBack, CursorColumn, CursorRow, CursorPosition, EraseLine, EraseDisplay, EraseCells, InsertCells, DeleteCells, InsertLines, DeleteLines, ScrollUp, ScrollDown, CodeElement, G0, G1, Designate, SelectRendition, ModeKind, Standard, Private, Modes, Ignored}
@@ -16,9 +16,7 @@ use Rattle.vt_effects.specs.declared.effects.Switch.TheVariants as switches
 use Rattle.vt_effects.specs.declared.starts.Start.{Start}
 use Rattle.vt_effects.specs.Effect.{moved, unchanged}
 use Rattle.vt_effects.specs.Record.{all_extended, and_back, and_forward, are_whole, back_by, cells_erased, display_erased, erases_nothing, erases_screen, extended, forward_by, if_some, is_first, is_kept, is_still, is_unmoved, keeps_background, keeps_margins, line_erased, line_fed, line_reversed, margins_set, may_scroll, mode_set, modes_set, on_bottom, on_top, record_of, screen_erased, scrolling, tabbed, with_col, with_row}
-
-never : {A : Type 0} → true ≡ false → A
-never h = absurd (true≢false h)
+use Rattle.ti_rows.proofs.StartFacts.{never}
 
 -- each start is on its bottom or on its top margin
 abbrev pub IsAtMargin : ℕ → Start → Type 0

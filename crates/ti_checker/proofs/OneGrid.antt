@@ -1,6 +1,6 @@
 -- An effect that no probe shows wrong leaves no other cells than is wanted, from any start of the row.
 use Rattle.std.proofs.Common.{◌≡◌, ◌⊎◌, inl, inr, ℕ, ◌+◌, ◌-◌, ◌<◌, ◌≤◌, ◌==◌, ◌&&◌, ◌||◌, Bool, true, false, if◌then◌else◌, length, refl, sym, ap, subst, ◌∙◌, arith}
-use Rattle.std.proofs.lemmas.Bool.{cases_lt, le-leb, lt-leb, true≢false}
+use Rattle.std.proofs.lemmas.Bool.{cases_lt, le-leb, lt-leb}
 use Rattle.std.proofs.lemmas.Bool.Decides.{nat_tests}
 use Rattle.std.specs.Prelude.{nat_le, nat_lt}
 use Rattle.grids.proofs.Drawings.{drawn_kept}
@@ -13,10 +13,8 @@ use Rattle.vt_effects.specs.declared.effects.Scroll.TheVariants as scrolls
 use Rattle.vt_effects.specs.Effect.{blanked, erased, scrolled}
 use Rattle.vt_effects.specs.Record.{is_still}
 use Rattle.vt_effects.proofs.Cells.{drawn_agrees}
+use Rattle.ti_rows.proofs.StartFacts.{never}
 use Rattle.ti_checker.specs.Cells.{is_erased, is_blank_after}
-
-never : {A : Type 0} → true ≡ false → A
-never h = absurd (true≢false h)
 
 -- ---- what two changes of the cells have in common
 

@@ -1,41 +1,38 @@
 -- An effect that no probe shows wrong renders as is wanted, from any start of the row.
 use Rattle.std.proofs.Common.{◌≡◌, ℕ, ◌<◌, ◌&&◌, ◌||◌, Bool, true, false, if◌then◌else◌, Option, None, Some, refl, sym, ap, subst, ◌∙◌, arith}
-use Rattle.std.proofs.lemmas.Bool.{and_parts, true≢false, false≢true}
+use Rattle.std.proofs.lemmas.Bool.{and_parts, false≢true}
 use Rattle.std.proofs.lemmas.Option.{none-some}
 use Rattle.vt_term.specs.Color.{Color, Red, Blue}
 use Rattle.vt_term.specs.Look.{Rendition}
-use Rattle.vt_term.specs.Screen.{Screen}
 use Rattle.vt_effects.specs.declared.effects.Effect.{Effect}
 use Rattle.vt_effects.specs.declared.effects.Ink.{Ink}
 use Rattle.vt_effects.specs.declared.effects.Ink.TheVariants as inks
 use Rattle.vt_effects.specs.declared.effects.Rendering.{Rendering}
 use Rattle.vt_effects.specs.declared.effects.Switch.{Switch}
 use Rattle.vt_effects.specs.declared.effects.Switch.TheVariants as switches
-use Rattle.vt_effects.specs.Effect.{applied, inked, rendered, switched}
+use Rattle.vt_effects.specs.Effect.{inked, rendered, switched}
 use Rattle.vt_effects.specs.Record.{switch_of}
 use Rattle.ti_rows.specs.Asked.{start_of, asked, ink_of, is_on, just, on_or_kept, with_marks_on}
-use Rattle.ti_rows.specs.Bits.{number_of}
 use Rattle.ti_rows.specs.Looks.{learned, shown}
-use Rattle.ti_rows.specs.Starts.{Starts}
-use Rattle.ti_rows.specs.Wants.{Wants, marked}
+use Rattle.ti_rows.specs.Wants.{marked}
 use Rattle.ti_rows.specs.declared.rows.Attributes.{Attributes}
 use Rattle.ti_rows.specs.declared.rows.Looks.{Looks}
 use Rattle.ti_rows.specs.declared.rows.Marks.{Marks}
 use Rattle.ti_rows.specs.declared.rows.Row.{Row}
-use Rattle.ti_rows.specs.declared.rows.Row.TheVariants.{Clear, Sgr, Smso, Cvvis}
+use Rattle.ti_rows.specs.declared.rows.Row.TheVariants.{Sgr, Smso, Cvvis}
 use Rattle.ti_rows.proofs.Answers.{earlier_kept}
+use Rattle.ti_rows.proofs.StartFacts.{never}
 use Rattle.ti_checker.specs.Breakage.{AgreeBefore, has_choice, is_several, looks_for, looks_of, marks_after, wanted_end, with_defaults, without_defaults}
 use Rattle.ti_checker.specs.Mislooks.{marks_of}
 use Rattle.ti_checker.specs.Trials.{all_marks, choices_of, probe_by, IsEnd, Only, WithDefaults, WithoutDefaults, EndsAsWanted, EndsBelow}
 use Rattle.ti_checker.specs.declared.probes.Probe.{Probe}
 use Rattle.ti_checker.proofs.Elsewhere.{agree_with_itself}
-
-never : {A : Type 0} → true ≡ false → A
-never h = absurd (true≢false h)
+use Rattle.ti_checker.proofs.Teaching.{sets, same_sets}
+use Rattle.ti_checker.proofs.Wanted.{set_mark}
 
 -- ---- two renderings that do the same where nothing is on and where all is on
 
-by_both : (a b : Switch) (c : Bool) → switched a false ≡ switched b false → switched a true ≡ switched b true → switched a c ≡ switched b c
+pub by_both : (a b : Switch) (c : Bool) → switched a false ≡ switched b false → switched a true ≡ switched b true → switched a c ≡ switched b c
 by_both a b true h k = k
 by_both a b false h k = h
 
@@ -49,18 +46,6 @@ ink_by_both inks.Default (inks.Color y) d c h k = absurd (none-some y h)
 ink_by_both (inks.Color x) inks.Kept d c h k = absurd (none-some x (sym h))
 ink_by_both (inks.Color x) inks.Default d c h k = absurd (none-some x (sym h))
 ink_by_both (inks.Color x) (inks.Color y) d c h k = h
-
-abbrev sets : Bool → Bool → Bool → Bool → Bool → Bool → Marks
-sets b f u k n c = record { bold = b; faint = f; underline = u; blink = k; negative = n; concealed = c }
-
-same_sets : (b f u k n c b' f' u' k' n' c' : Bool) → b ≡ b' → f ≡ f' → u ≡ u' → k ≡ k' → n ≡ n' → c ≡ c' → sets b f u k n c ≡ sets b' f' u' k' n' c'
-same_sets b f u k n c b' f' u' k' n' c' p q r s t v =
-    ap (λ (z : Bool). sets z f u k n c) p
-    ∙ (ap (λ (z : Bool). sets b' z u k n c) q
-    ∙ (ap (λ (z : Bool). sets b' f' z k n c) r
-    ∙ (ap (λ (z : Bool). sets b' f' u' z n c) s
-    ∙ (ap (λ (z : Bool). sets b' f' u' k' z c) t
-    ∙ ap (λ (z : Bool). sets b' f' u' k' n' z) v))))
 
 marks_by_both : (q r : Rendering) (m : Marks) → marks_after q (all_marks false) ≡ marks_after r (all_marks false) → marks_after q (all_marks true) ≡ marks_after r (all_marks true) → marks_after q m ≡ marks_after r m
 marks_by_both q r m h k = same_sets _ _ _ _ _ _ _ _ _ _ _ _
@@ -193,10 +178,6 @@ shows_some l taught a e p h (WithoutDefaults choice is) = record { defaults = fa
 no_ink : (b : Bool) → inked (ink_of b) None ≡ None
 no_ink true = refl
 no_ink false = refl
-
-set_mark : (b x : Bool) → b ≡ switched (switch_of b) x
-set_mark true x = refl
-set_mark false x = refl
 
 just_marks : (m n : Marks) (i : Ink) → m ≡ marks_after (just m i) n
 just_marks m n i = same_sets _ _ _ _ _ _ _ _ _ _ _ _ (set_mark m.bold n.bold) (set_mark m.faint n.faint) (set_mark m.underline n.underline) (set_mark m.blink n.blink) (set_mark m.negative n.negative) (set_mark m.concealed n.concealed)

@@ -12,7 +12,7 @@ use Rattle.ti_rows.specs.Asked.{start_of}
 use Rattle.ti_rows.specs.Lists.{IsInRange}
 use Rattle.ti_rows.specs.declared.rows.Row.{Row}
 use Rattle.ti_rows.specs.declared.rows.Row.TheVariants.{Cup, Cub1, Cuf1, Cuu1, Cud1, Cub, Cuf, Cuu, Cud, El, El1, Ed, Ech, Csr, Ind, Ri}
-use Rattle.ti_rows.specs.Starts.{IsAny, IsFree, IsCalm, IsCalmAnywhere, Starts}
+use Rattle.ti_rows.specs.Starts.{IsAny, IsFree, IsCalm, Starts}
 use Rattle.ti_checker.specs.Probes.{screen_of}
 use Rattle.ti_checker.specs.Trials.{choices_of, top_by, bottom_by, row_by, probe_by}
 use Rattle.ti_checker.specs.declared.probes.Probe.{Probe}

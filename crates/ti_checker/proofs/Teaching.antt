@@ -98,10 +98,10 @@ either_shown true false lx mx sx tx f g = ap (λ (z : Bool). z || false) (f refl
 either_shown false true lx mx sx tx f g = g refl
 either_shown false false lx mx sx tx f g = refl
 
-abbrev sets : Bool → Bool → Bool → Bool → Bool → Bool → Marks
+abbrev pub sets : Bool → Bool → Bool → Bool → Bool → Bool → Marks
 sets b f u k n c = record { bold = b; faint = f; underline = u; blink = k; negative = n; concealed = c }
 
-same_sets : (b f u k n c b' f' u' k' n' c' : Bool) → b ≡ b' → f ≡ f' → u ≡ u' → k ≡ k' → n ≡ n' → c ≡ c' → sets b f u k n c ≡ sets b' f' u' k' n' c'
+pub same_sets : (b f u k n c b' f' u' k' n' c' : Bool) → b ≡ b' → f ≡ f' → u ≡ u' → k ≡ k' → n ≡ n' → c ≡ c' → sets b f u k n c ≡ sets b' f' u' k' n' c'
 same_sets b f u k n c b' f' u' k' n' c' p q r s t v =
     ap (λ (z : Bool). sets z f u k n c) p
     ∙ (ap (λ (z : Bool). sets b' z u k n c) q

@@ -37,7 +37,7 @@ same_marks a b c d e f a' b' c' d' e' f' x y p q r s t u =
     ∙ ap (λ (z : Bool). marked (record { bold = a'; faint = b'; underline = c'; blink = d'; negative = z; concealed = f }) x y) t
     ∙ ap (λ (z : Bool). marked (record { bold = a'; faint = b'; underline = c'; blink = d'; negative = e'; concealed = z }) x y) u
 
-set_mark : (b x : Bool) → b ≡ switched (switch_of b) x
+pub set_mark : (b x : Bool) → b ≡ switched (switch_of b) x
 set_mark true x = refl
 set_mark false x = refl
 

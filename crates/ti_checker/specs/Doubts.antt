@@ -24,7 +24,8 @@ abbrev pub NeverUnasked : Type 0
 NeverUnasked = (rows cols : ℕ) (string : List ℕ) (row : Row) → SendsAsked rows cols string row
     → IsFaulty rows cols string row NotShown → ⊥
 
--- what the string sends has an effect that is such, where attributes look as the rows of the string before this one teach
+-- what the string sends has an effect that is such, where attributes look as the rows of the string before this one
+-- teach
 pub record SendsSuch (Such : Looks → Effect → Type 0) (rows cols : ℕ) (string : List ℕ) (row : Row) : Type 0 where
   pub bytes : List ℕ
   pub effect : Effect

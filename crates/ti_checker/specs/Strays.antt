@@ -13,7 +13,8 @@ use Rattle.ti_checker.specs.Breakage.{AgreeBefore}
 
 -- From some start of the row, whatever its cells are, the effect leads to an end that is like none of those that are
 -- wanted, however attributes look that agree with what the rows before taught.
-pub record Strays (Alike : Screen → Screen → Type 0) (rows cols : ℕ) (taught : Looks) (row : Row) (e : Effect) : Type 0 where
+pub record Strays (Alike : Screen → Screen → Type 0) (rows cols : ℕ) (taught : Looks) (row : Row) (e : Effect)
+    : Type 0 where
   pub start : Screen
   pub starts : Starts rows cols row start
   pub apart : (looks : Looks) (wanted : Screen) → AgreeBefore row taught looks → Wants looks row start wanted

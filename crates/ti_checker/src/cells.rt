@@ -54,7 +54,8 @@ fn place_differs(first: &Effect, second: &Effect, probe: &Probe, i: usize, j: us
 fn line_differs(first: &Effect, second: &Effect, size: Size, probe: &Probe, i: usize) -> bool
     requires line { i < size.rows }
     requires seen { CanShow size.rows probe.now }
-    ensures apart { IsTrue result → spec.HaveOneGrid first.now second.now (screen_of size.rows size.cols probe.now) → ⊥ }
+    ensures apart { IsTrue result
+        → spec.HaveOneGrid first.now second.now (screen_of size.rows size.cols probe.now) → ⊥ }
     ensures same { result ≡ false → (j : ℕ) → j < size.cols → spec.becomes_blank first.now probe.now i j
         ≡ spec.becomes_blank second.now probe.now i j }
 {
@@ -69,7 +70,8 @@ fn line_differs(first: &Effect, second: &Effect, size: Size, probe: &Probe, i: u
 /// Whether two effects leave different cells.
 pub(crate) fn cells_differ(first: &Effect, second: &Effect, size: Size, probe: &Probe) -> bool
     requires { CanShow size.rows probe.now }
-    ensures apart { IsTrue result → spec.HaveOneGrid first.now second.now (screen_of size.rows size.cols probe.now) → ⊥ }
+    ensures apart { IsTrue result
+        → spec.HaveOneGrid first.now second.now (screen_of size.rows size.cols probe.now) → ⊥ }
     ensures same { result ≡ false → (i j : ℕ) → i < size.rows → j < size.cols
         → spec.becomes_blank first.now probe.now i j ≡ spec.becomes_blank second.now probe.now i j }
 {

@@ -1,4 +1,4 @@
-use Rattle.std.proofs.Common.{◌≡◌, refl, sym, ap, subst, ◌∙◌}
+use Rattle.std.proofs.Common.{◌≡◌, sym, ap, ◌∙◌}
 use Rattle.vt_term.specs.Screen.{Screen}
 use Rattle.vt_effects.specs.declared.effects.Effect.{Effect}
 use Rattle.vt_effects.specs.Effect.{applied}
@@ -6,7 +6,7 @@ use Rattle.ti_rows.specs.declared.rows.Looks.{Looks}
 use Rattle.ti_rows.specs.Asked.{asked}
 use Rattle.ti_checker.specs.Probes.{screen_of}
 use Rattle.ti_checker.specs.Breakage.{wanted_end, with_defaults, without_defaults, looks_for}
-use Rattle.ti_checker.specs.Trials.{EndSo, Only, WithDefaults, WithoutDefaults}
+use Rattle.ti_checker.specs.Trials.{Only, WithDefaults, WithoutDefaults}
 use Rattle.ti_checker.proofs.Wanted.{one_end_missed, two_ends_missed}
 use Rattle.ti_checker.proofs.breakage.breaks.Goals as goal
 
