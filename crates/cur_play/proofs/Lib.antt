@@ -6,4 +6,5 @@ pub mod Plays
 pub mod Failures
 pub mod Logs
 pub mod MarkFacts
+pub mod GridFacts
 pub mod Wires

@@ -13,15 +13,13 @@ use Rattle.cur_wires.specs.Wire.{IsWire}
 use Rattle.cur_wires.specs.Counted.{Counts, counts_joins}
 use Rattle.vt_term.specs.Ends.{Ends}
 use Rattle.cur_wires.proofs.Leads.{ends_then}
-use Rattle.ti_conforms.specs.Certified.{Table, IsChecked, IsLost}
+use Rattle.ti_conforms.specs.Certified.{Table, IsChecked}
 use Rattle.cur_play.proofs.Deliveries.{fits_lost}
-use Rattle.cur_looks.specs.declared.beliefs.Belief.{Belief}
-use Rattle.cur_looks.specs.declared.inks.Ink.{Ink}
 use Rattle.cur_looks.specs.declared.beliefs.Mode.{Mode}
 use Rattle.cur_paint.specs.Modes.{shown_mode}
 use Rattle.cur_paint.specs.Update.{Fits, IsFresh, Shows}
 use Rattle.cur_paint.specs.declared.updates.Status.{Status}
-use Rattle.cur_paint.specs.declared.updates.Status.TheVariants.{Fresh, Known, Lost}
+use Rattle.cur_paint.specs.declared.updates.Status.TheVariants.{Fresh, Known}
 use Rattle.cur_update.specs.Inks.{ink_at}
 use Rattle.cur_update.specs.Painters.{Painted, wanted_of}
 use Rattle.cur_calls.specs.declared.calls.Call.{Call}

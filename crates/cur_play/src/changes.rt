@@ -1,174 +1,20 @@
-//! The calls that change windows, or delete one.
-ghost use Rattle.std.specs.Prelude.{◌≡◌};
-ghost use Rattle.cur_windows.specs.Copies.{common_part};
-ghost use Rattle.cur_windows.specs.Desks as desks;
-ghost use Rattle.cur_play.specs.Groups.{Does};
-ghost use Rattle.cur_play.specs.Windows as spec;
+//! Where what was copied may differ from what it is a copy of.
+use cur_windows::Marks;
+use std::alloc::{AllocError, Global};
 
-use cur_calls::{
-    Attrs, AttrsCall, Call, CellCall, FlagCall, LayCall, LineCall, NumberCall, NumbersCall,
-    PlainCall, Put,
-};
-use cur_windows::{Desk, Refusal};
-
-/// Changes windows; `None` for a call that doesn't, or that does more.
-pub(crate) fn change(desk: &mut Desk, call: &Call<'_>) -> Option<Result<(), Refusal>>
-    ensures { Does desk.old desk.new result (spec.changing desk.old call.now) }
-{
-    match call {
-        Call::Plain { call, window } => Some(plain(desk, *call, *window)),
-        Call::Number {
-            call,
-            window,
-            number,
-        } => Some(number_call(desk, *call, *window, *number)),
-        Call::Numbers {
-            call,
-            window,
-            first,
-            second,
-        } => Some(numbers_call(desk, *call, *window, *first, *second)),
-        Call::Flag { call, window, on } => Some(flag(desk, *call, *window, *on)),
-        Call::Attributes {
-            call,
-            window,
-            attrs,
-        } => Some(attributes(desk, *call, *window, *attrs)),
-        Call::Cell { call, window, put } => Some(cell(desk, *call, *window, *put)),
-        Call::Addstr { window, text } => Some(desk.addstr(*window, text.as_slice())),
-        _ => shape(desk, call),
-    }
+/// Marks at the places where the virtual screen may differ from window 0's grid, and at those where it may differ from
+/// what the painter has shown last.
+#[derive(Drop)]
+pub struct Changes {
+    pub window: Marks,
+    pub screen: Marks,
 }
 
-/// Draws lines, or copies from one window to another; `None` for any other call.
-fn shape(desk: &mut Desk, call: &Call<'_>) -> Option<Result<(), Refusal>>
-    ensures { Does desk.old desk.new result (spec.shaping desk.old call.now) }
-{
-    match call {
-        Call::Line {
-            call,
-            window,
-            put,
-            count,
-        } => Some(line(desk, *call, *window, *put, *count)),
-        Call::DrawBorder { window, border } => Some(desk.border(*window, border)),
-        Call::DrawBox {
-            window,
-            vertical,
-            horizontal,
-        } => Some(desk.draw_box(*window, *vertical, *horizontal)),
-        Call::Lay {
-            call,
-            source,
-            target,
-        } => Some(lay(desk, *call, *source, *target)),
-        Call::Copywin {
-            source,
-            target,
-            from_row,
-            from_col,
-            row,
-            col,
-            last_row,
-            last_col,
-            skip,
-        } => {
-            Some(desk.copywin(
-                *source, *target, *from_row, *from_col, *row, *col, *last_row, *last_col, *skip,
-            ))
-        }
-        _ => None,
-    }
-}
-
-fn plain(desk: &mut Desk, call: PlainCall, window: usize) -> Result<(), Refusal>
-    ensures { desks.step desk.new result ≡ spec.plain_step call desk.old window }
-{
-    match call {
-        PlainCall::Delwin => desk.delwin(window),
-        PlainCall::Delch => desk.delch(window),
-        PlainCall::Insertln => desk.insertln(window),
-        PlainCall::Deleteln => desk.deleteln(window),
-        PlainCall::Clrtoeol => desk.clrtoeol(window),
-        PlainCall::Clrtobot => desk.clrtobot(window),
-        PlainCall::Erase => desk.erase(window),
-        PlainCall::Clear => desk.clear(window),
-        PlainCall::Touchwin => desk.touchwin(window),
-    }
-}
-
-fn number_call(desk: &mut Desk, call: NumberCall, window: usize, number: i32) -> Result<(), Refusal>
-    ensures { desks.step desk.new result ≡ spec.number_step call desk.old window number }
-{
-    match call {
-        NumberCall::Scroll => desk.scroll(window, number),
-        NumberCall::ColorSet => desk.color_set(window, number),
-    }
-}
-
-fn numbers_call(
-    desk: &mut Desk,
-    call: NumbersCall,
-    window: usize,
-    first: i32,
-    second: i32,
-) -> Result<(), Refusal>
-    ensures { desks.step desk.new result ≡ spec.numbers_step call desk.old window first second }
-{
-    match call {
-        NumbersCall::Mvwin => desk.mvwin(window, first, second),
-        NumbersCall::Move => desk.move_to(window, first, second),
-        NumbersCall::Setscrreg => desk.setscrreg(window, first, second),
-        NumbersCall::Touchline => desk.touchline(window, first, second),
-    }
-}
-
-fn flag(desk: &mut Desk, call: FlagCall, window: usize, on: bool) -> Result<(), Refusal>
-    ensures { desks.step desk.new result ≡ spec.flag_step call desk.old window on }
-{
-    match call {
-        FlagCall::Scrollok => desk.scrollok(window, on),
-        FlagCall::Leaveok => desk.leaveok(window, on),
-        FlagCall::Clearok => desk.clearok(window, on),
-        FlagCall::Idlok => desk.idlok(window, on),
-    }
-}
-
-fn attributes(desk: &mut Desk, call: AttrsCall, window: usize, attrs: Attrs) -> Result<(), Refusal>
-    ensures { desks.step desk.new result ≡ spec.attributes_step call desk.old window attrs }
-{
-    match call {
-        AttrsCall::Attron => desk.attron(window, attrs),
-        AttrsCall::Attroff => desk.attroff(window, attrs),
-        AttrsCall::Attrset => desk.attrset(window, attrs),
-    }
-}
-
-fn cell(desk: &mut Desk, call: CellCall, window: usize, put: Put) -> Result<(), Refusal>
-    ensures { desks.step desk.new result ≡ spec.cell_step call desk.old window put }
-{
-    match call {
-        CellCall::Addch => desk.addch(window, put),
-        CellCall::Insch => desk.insch(window, put),
-        CellCall::Bkgdset => desk.bkgdset(window, put),
-        CellCall::Bkgd => desk.bkgd(window, put),
-    }
-}
-
-fn line(desk: &mut Desk, call: LineCall, window: usize, put: Put, count: i32) -> Result<(), Refusal>
-    ensures { desks.step desk.new result ≡ spec.line_step call desk.old window put count }
-{
-    match call {
-        LineCall::Hline => desk.hline(window, put, count),
-        LineCall::Vline => desk.vline(window, put, count),
-    }
-}
-
-fn lay(desk: &mut Desk, call: LayCall, source: usize, target: usize) -> Result<(), Refusal>
-    ensures { desks.step desk.new result ≡ common_part (spec.skips call) desk.old source target }
-{
-    match call {
-        LayCall::Overlay => desk.overlay(source, target),
-        LayCall::Overwrite => desk.overwrite(source, target),
+impl Changes {
+    /// None, for a screen of `rows` lines. An error where a growth was refused.
+    pub(crate) fn new(alloc: Global, rows: u16) -> Result<Changes, AllocError> {
+        let window = Marks::new(alloc, rows)?;
+        let screen = Marks::new(alloc, rows)?;
+        Ok(Changes { window, screen })
     }
 }

@@ -1,28 +1,31 @@
 //! What calls do before anything is sent.
 ghost use Rattle.std.specs.Prelude.{◌≡◌};
-ghost use Rattle.cur_drawing.specs.Marks.{Keeps};
+ghost use Rattle.cur_drawing.specs.Marks.{AreSame, Keeps};
+ghost use Rattle.cur_windows.specs.Desks.{grid_at};
 ghost use Rattle.cur_play.specs.Drawings.{Draws, SameSizes};
 ghost use Rattle.cur_play.specs.Steps.{showing};
 
 use crate::answers::{Answer, answer_of, mode_answer};
-use crate::changes::change;
+use crate::changes::Changes;
 use crate::creations::make;
+use crate::windows::change;
 use cur_calls::Call;
 use cur_pads::pnoutrefresh;
 use cur_update::Painter;
-use cur_windows::{Desk, Marks, Virtual};
+use cur_windows::{Desk, Virtual};
 use ti_conforms::Certificate;
 
-/// Does all of a call but what it sends. Where the virtual screen's cells have changed they are marked as well.
+/// Does all of a call but what it sends.
 pub(crate) fn draw<C: Certificate>(
     desk: &mut Desk,
     screen: &mut Virtual,
-    marks: &mut Marks,
+    changes: &mut Changes,
     painter: &mut Painter<C>,
     call: &Call<'_>,
 ) -> Answer
     requires rows { (screen.old).rows ≡ (desk.old).rows }
     requires cols { (screen.old).cols ≡ (desk.old).cols }
+    requires touched { AreSame changes.old.window (screen.old).grid (grid_at desk.old 0) }
     ensures draws { Draws (C.table painter.old.checked)
         (record {
           desk = desk.old;
@@ -42,27 +45,30 @@ pub(crate) fn draw<C: Certificate>(
     ensures cols { (screen.new).cols ≡ (screen.old).cols }
     ensures certificate { painter.new.checked ≡ painter.old.checked }
     ensures painter { painter.new ≡ record painter.old { mode = painter.new.mode } }
-    ensures marked { Keeps marks.old (screen.old).grid marks.new (screen.new).grid }
+    ensures touched { AreSame changes.new.window (screen.new).grid (grid_at desk.new 0) }
+    ensures marked { Keeps changes.old.screen (screen.old).grid changes.new.screen (screen.new).grid }
 {
     if let Some(outcome) = make(desk, call) {
+        changes.window.mark_all();
         return answer_of(outcome);
     }
-    if let Some(outcome) = change(desk, call) {
+    if let Some(outcome) = change(desk, &mut changes.window, call) {
         return answer_of(outcome);
     }
-    show(desk, screen, marks, painter, call)
+    show(desk, screen, changes, painter, call)
 }
 
 /// A call on more than windows; those that only send do nothing here.
 fn show<C: Certificate>(
     desk: &mut Desk,
     screen: &mut Virtual,
-    marks: &mut Marks,
+    changes: &mut Changes,
     painter: &mut Painter<C>,
     call: &Call<'_>,
 ) -> Answer
     requires rows { (screen.old).rows ≡ (desk.old).rows }
     requires cols { (screen.old).cols ≡ (desk.old).cols }
+    requires touched { AreSame changes.old.window (screen.old).grid (grid_at desk.old 0) }
     ensures step { (
       record { desk = desk.new; screen = screen.new; mode = painter.new.mode; status = painter.old.session.status },
       result,
@@ -71,10 +77,14 @@ fn show<C: Certificate>(
         (record { desk = desk.old; screen = screen.old; mode = painter.old.mode; status = painter.old.session.status })
         call.now }
     ensures painter { painter.new ≡ record painter.old { mode = painter.new.mode } }
-    ensures marked { Keeps marks.old (screen.old).grid marks.new (screen.new).grid }
+    ensures touched { AreSame changes.new.window (screen.new).grid (grid_at desk.new 0) }
+    ensures marked { Keeps changes.old.screen (screen.old).grid changes.new.screen (screen.new).grid }
 {
     match call {
-        Call::Show { window, .. } => answer_of(desk.noutrefresh_marked(*window, screen, marks)),
+        Call::Show { window, .. } => {
+            let (touched, marks) = (&mut changes.window, &mut changes.screen);
+            answer_of(desk.noutrefresh_marked(*window, screen, touched, marks))
+        }
         Call::ShowPad {
             window,
             row,
@@ -85,7 +95,8 @@ fn show<C: Certificate>(
             right,
             ..
         } => {
-            marks.mark_all();
+            changes.window.mark_all();
+            changes.screen.mark_all();
             answer_of(pnoutrefresh(
                 desk, *window, *row, *col, *top, *left, *bottom, *right, screen,
             ))

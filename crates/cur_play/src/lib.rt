@@ -9,6 +9,7 @@ mod paced;
 mod runs;
 mod sends;
 mod sessions;
+mod windows;
 
 pub use answers::Answer;
 pub use cur_calls::{

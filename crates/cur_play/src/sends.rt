@@ -64,6 +64,7 @@ pub(crate) fn send<C: Certificate, W: Wire>(
     ensures certificate { painter.new.checked ≡ painter.old.checked }
     ensures mode { painter.new.mode ≡ painter.old.mode }
     ensures marked { AreSame marks.new painter.new.shown.grid (screen.new).grid }
+    ensures cells { (screen.new).grid ≡ (screen.old).grid }
 {
     match output {
         Emission::Nothing => Answer::Done,
@@ -91,6 +92,7 @@ fn update<C: Certificate, W: Wire>(
     ensures certificate { painter.new.checked ≡ painter.old.checked }
     ensures mode { painter.new.mode ≡ painter.old.mode }
     ensures marked { AreSame marks.new painter.new.shown.grid (screen.new).grid }
+    ensures cells { (screen.new).grid ≡ (screen.old).grid }
 {
     match painter.update_marked(screen, marks, wire) {
         Ok(()) => {

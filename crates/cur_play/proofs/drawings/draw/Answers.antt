@@ -1,6 +1,10 @@
-use Rattle.cur_play.proofs.Performances.{make_draws, change_draws, show_draws, draws_sizes}
+use Rattle.std.proofs.Common.{ap}
+use Rattle.cur_drawing.specs.Marks.{Marking}
+use Rattle.cur_play.proofs.GridFacts.{same_but_all, same_in}
+use Rattle.cur_play.proofs.Performances.{make_draws, change_draws, not_made, show_draws, draws_sizes}
 use Rattle.cur_play.specs.Drawings.{SameSizes}
 use Rattle.cur_play.specs.Scenes.{Scene}
+use Rattle.cur_play.specs.Windows.{making, takes_memory}
 use Rattle.cur_play.proofs.drawings.draw.Goals as goal
 
 pub returns-in-Some-clause-sizes : goal.returns-in-Some-clause-sizes
@@ -13,13 +17,13 @@ pub returns-in-Some-change-clause-sizes : goal.returns-in-Some-change-clause-siz
 returns-in-Some-change-clause-sizes g c =
     let t = g.C.Certificate.table c.args.painter.now.checked in
     let s : Scene = record { desk = c.args.desk.now; screen = c.args.screen.now; mode = c.args.painter.now.mode; status = c.args.painter.now.session.status } in
-    draws_sizes t s c.args.call.now _ _ (change_draws t s c.args.call.now c.make.new.desk c.change.new.desk c.in-Some-change.outcome c.in_default.ensures c.in-Some-change.ensures)
+    draws_sizes t s c.args.call.now _ _ (change_draws t s c.args.call.now c.make.new.desk c.change.new.desk c.in-Some-change.outcome c.in_default.ensures c.in-Some-change.ensures.does)
 
 pub returns-clause-sizes : goal.returns-clause-sizes
 returns-clause-sizes g c =
     let t = g.C.Certificate.table c.args.painter.now.checked in
     let s : Scene = record { desk = c.args.desk.now; screen = c.args.screen.now; mode = c.args.painter.now.mode; status = c.args.painter.now.session.status } in
-    draws_sizes t s c.args.call.now _ _ (show_draws t s c.args.call.now c.make.new.desk c.change.new.desk _ _ c.in_default.ensures c.in_default-change.ensures c.show.ensures.step)
+    draws_sizes t s c.args.call.now _ _ (show_draws t s c.args.call.now c.make.new.desk c.change.new.desk _ _ c.in_default.ensures c.in_default-change.ensures.does c.show.ensures.step)
 
 pub returns-clause-rows : goal.returns-clause-rows
 returns-clause-rows g c =
@@ -28,3 +32,14 @@ returns-clause-rows g c =
 pub returns-clause-cols : goal.returns-clause-cols
 returns-clause-cols g c =
     let sizes : SameSizes c.args.desk.now c.args.screen.now c.show.new.desk c.show.new.screen = returns-clause-sizes g c in sizes.cols
+
+pub returns-in-Some-clause-touched : goal.returns-in-Some-clause-touched
+returns-in-Some-clause-touched g c = same_but_all _ _ _ (ap (λ (m : Marking). m.all) c.mark_all.ensures)
+
+pub returns-in-Some-change-clause-touched : goal.returns-in-Some-change-clause-touched
+returns-in-Some-change-clause-touched g c =
+    c.change.ensures.touched c.args.screen.now.grid (same_in c.args.changes.now.window c.args.screen.now.grid c.args.desk.now c.make.new.desk (not_made c.args.desk.now c.make.new.desk (takes_memory c.args.call.now) (making c.args.desk.now c.args.call.now) c.in_default.ensures).same c.requires.touched)
+
+pub show-requires-clause-touched : goal.show-requires-clause-touched
+show-requires-clause-touched g c =
+    c.change.ensures.touched c.args.screen.now.grid (same_in c.args.changes.now.window c.args.screen.now.grid c.args.desk.now c.make.new.desk (not_made c.args.desk.now c.make.new.desk (takes_memory c.args.call.now) (making c.args.desk.now c.args.call.now) c.in_default.ensures).same c.requires.touched)

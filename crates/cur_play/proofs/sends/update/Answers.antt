@@ -14,3 +14,6 @@ returns-in-Err-clause-puts g c = (c.in-Err.ensures.refreshes.front, record { cut
 
 pub returns-in-Err-clause-marked : goal.returns-in-Err-clause-marked
 returns-in-Err-clause-marked g c = same_cells c.args.marks.now _ c.args.screen.now c.args.painter.now.shown c.args.screen.now c.in-Err.ensures.kept refl c.requires.marked
+
+pub returns-in-Ok-clause-cells : goal.returns-in-Ok-clause-cells
+returns-in-Ok-clause-cells g c = ap (λ (v : Screen). v.grid) c.shown.ensures

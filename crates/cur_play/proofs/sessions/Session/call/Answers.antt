@@ -5,7 +5,7 @@ pub invariant_of-self : goal.invariant_of-self
 invariant_of-self g c = (
   stage_kept g.C.Certificate.table c.self.inside.painter c.play.new.painter c.self.inside.desk c.play.new.desk c.self.inside.screen c.play.new.screen c.self.invariant.0 c.play.ensures.sizes c.play.ensures.certificate,
   checked_kept g.C.Certificate.table c.self.inside.painter c.play.new.painter c.self.invariant.1 c.play.ensures.certificate,
-  c.play.ensures.marked,
+  c.play.ensures.known,
 )
 
 pub returns : goal.returns
