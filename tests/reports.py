@@ -126,12 +126,30 @@ def judge_entries(path, held, names):
     return count
 
 
+def judge_places(path, ones, places):
+    """The objects of `survey --all --json` have the lines of the source that the plain form prints on standard error."""
+    placed = [it for it in ones if it["line"] is not None]
+    if len(placed) != len(places):
+        fail(f"{len(placed)} objects of {path} have a line, and survey --all printed {places}")
+    for one, place in zip(placed, places):
+        front, name = f"{path}:{one['line']}: {one['capability']} of ", shown(one["entry"].encode().decode("latin-1"))
+        if not place.startswith(front) or not place.endswith(f": {name} {said(one)}"):
+            fail(f"the line of {one} is not that of {place}")
+    return len(placed)
+
+
 def judge_survey(path, held):
     """`survey --json` and `survey --all --json` beside the plain forms."""
-    forms = [[], ["--json"], ["--all"], ["--all", "--json"]]
+    forms = [["--all"], ["--all", "--json"], [], ["--json"]]
     told = run_cases(PROGRAM, [Case(["survey", *form, *SIZE, path]) for form in forms], {path: held})
+    lines_of, count = {}, 0
     for form, plain, reported in zip(forms[::2], told[::2], told[1::2]):
         ones = objects(reported)
+        for it in ones:
+            if lines_of.setdefault((it["entry"], it["capability"]), it["line"]) != it["line"]:
+                fail(f"survey --json reported the line of {it}, and with --all {lines_of[it['entry'], it['capability']]}")
+        if form:
+            count += judge_places(path, ones, plain.err.decode().splitlines())
         *lines, counts = plain.out.decode("latin-1").splitlines()
         wanted = [f"{it['entry']} {said(it)}" for it in ones]
         if [shown(line) for line in lines] != [shown(it.encode().decode("latin-1")) for it in wanted]:
@@ -144,6 +162,7 @@ def judge_survey(path, held):
             fail(f"survey --json ended with {reported.status} {reported.err} and survey with {plain.status} {plain.err}")
         if any(it["file"] != path for it in ones):
             fail(f"not the file {path}: {ones}")
+    return count
 
 
 def shown(line):
@@ -163,6 +182,24 @@ def judge_names():
     (one,) = objects(faulty)
     if (one["entry"], one["file"], one["verdict"]) != (None, "faulty", "refused") or faulty.status:
         fail(f"a file without entries: {one} {faulty.status}")
+
+
+# two entries of one name, each with its own line of the fault
+TWINS = rb"""twin|one of two,
+	clear=\E[2J, cup=\E[%i%p1%d;%p2%dH, sgr0=\E[m,
+twin|the other,
+	cup=\E[%i%p1%d;%p2%dH, sgr0=\E[m,
+	clear=\E[2J,
+"""
+
+
+def judge_twins():
+    """An entry of a survey has the lines of its own place, whatever other entries have its name."""
+    forms = [["--json"], ["--all", "--json"]]
+    for told in run_cases(PROGRAM, [Case(["survey", *form, *SIZE, "twins"]) for form in forms], {"twins": TWINS}):
+        ones = [(it["entry"], it["capability"], it["line"]) for it in objects(told)]
+        if ones != [("twin", "clear", 2), ("twin", "clear", 5)]:
+            fail(f"the lines of two entries of one name: {ones}")
 
 
 NO_OUT = b"error: check writes a certificate, or with --json reports on the entry: --out is not for --json\n"
@@ -192,11 +229,13 @@ def main():
     names = [line.split("|")[0].rstrip(",") for line in samples.decode().splitlines() if line and line[0] not in "# \t"]
     count += judge_entries("samples", samples, names)
     count += judge_entries("five.ti", FIVE, ["five", "base"]) + judge_entries("mended.ti", MENDED, ["five", "base"])
+    lines = 0
     for path, held in (("planted", source.text()), ("samples", samples), ("five.ti", FIVE), ("names", NAMES)):
-        judge_survey(path, held)
+        lines += judge_survey(path, held)
     judge_names()
+    judge_twins()
     judge_refused()
-    print(f"reports: {count} objects of check --json say what the plain form says, and so do those of survey --json")
+    print(f"reports: {count} objects of check --json say what the plain form says, and those of survey --json, {lines} with a line")
 
 
 main()

@@ -381,7 +381,7 @@ With --all an entry that has no certificate has a line `NAME no CAP P..: CAUSE` 
 
 With --json the output is a JSON object on a line of its own for each of these lines but the last, with the members of
 `ticurses check --json`. In place of KIND the verdict is `refused`, and cause has the KIND; entry is null where a FILE has a
-fault of its own; line is null.
+fault of its own.
 
 A FILE has at most 16777216 bytes. One that can't be read has no line, and the others are checked all the same.
 

@@ -10,6 +10,7 @@ use Rattle.ti_commands.specs.declared.failure.Reply.{Reply}
 use Rattle.ti_commands.specs.declared.sources.SourceText.{SourceText}
 use Rattle.ti_reports.specs.Faults.{AreFoundLines}
 use Rattle.ti_reports.specs.Findings.{AreFaults}
+use Rattle.ti_reports.specs.Sources.{Whereabouts, by_name}
 use Rattle.ti_requests.specs.declared.request.FaultsWords.{FaultsWords}
 use Rattle.ti_verdicts.specs.Checks.{TellsNotes}
 use Rattle.ti_verdicts.specs.FaultLists.{EndsAsNo}
@@ -25,9 +26,9 @@ EndsAsFirst [] failure = failure ≡ None
 EndsAsFirst (first ∷ others) failure = EndsAsNo first failure
 
 -- the reply reports these faults, and fails as the first does
-pub record TellsFound (entry : Content) (height width : ℕ) (file : List ℕ) (source : Option SourceText) (nos : List No)
+pub record TellsFound (entry : Content) (height width : ℕ) (file : List ℕ) (stands : Whereabouts) (nos : List No)
     (reply : Reply) : Type 0 where
-  pub lines : AreFoundLines entry height width file source nos reply.text.items
+  pub lines : AreFoundLines entry height width file stands nos reply.text.items
   pub ends : EndsAsFirst nos reply.failure
 
 -- The entry that the word gives, at the size that the words give: the reply has its notes, and reports its first fault, or
@@ -44,4 +45,4 @@ pub record ReportsOn (held : Held) (lists_all : Bool) (words : FaultsWords) (rep
   pub notes : TellsNotes entry reply.notes.items
   pub nos : List No
   pub found : AreFaults lists_all entry height width nos
-  pub tells : TellsFound entry height width file source nos reply
+  pub tells : TellsFound entry height width file (by_name source) nos reply

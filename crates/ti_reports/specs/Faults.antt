@@ -4,10 +4,9 @@ use Rattle.std.specs.declared.alloc.Global.{Global}
 use Rattle.ti_caps.specs.Entry.{Content}
 use Rattle.ti_caps.specs.Table.{name_at}
 use Rattle.ti_checker.specs.declared.causes.No.{No}
-use Rattle.ti_commands.specs.declared.sources.SourceText.{SourceText}
 use Rattle.ti_reports.specs.Reports.{report_line}
 use Rattle.ti_reports.specs.Sent.{IsSentText}
-use Rattle.ti_reports.specs.Sources.{IsValueLine}
+use Rattle.ti_reports.specs.Sources.{IsValueLine, Whereabouts}
 use Rattle.ti_reports.specs.Texts.{IsShownAs}
 use Rattle.ti_reports.specs.declared.reports.Report.{Report}
 use Rattle.ti_reports.specs.declared.reports.Verdict.TheVariants as verdicts
@@ -45,7 +44,7 @@ pub record ReportsYes (entry : Content) (height width : ℕ) (file : List ℕ) (
   pub faultless : IsFaultless report
 
 -- it has this fault; what is said of the run that shows it is in free words
-pub record ReportsFault (entry : Content) (height width : ℕ) (file : List ℕ) (source : Option SourceText) (refusal : No)
+pub record ReportsFault (entry : Content) (height width : ℕ) (file : List ℕ) (stands : Whereabouts) (refusal : No)
     (report : Report) : Type 0 where
   pub about : Concerns entry height width file report
   pub verdict : report.verdict ≡ verdicts.No
@@ -53,18 +52,18 @@ pub record ReportsFault (entry : Content) (height width : ℕ) (file : List ℕ)
   pub parameters : report.parameters.items ≡ refusal.params.items
   pub cause : HasWords (cause_name refusal.cause) report.cause
   pub bytes : IsSentText entry refusal report.bytes
-  pub line : IsValueLine source refusal.cap report.line
+  pub line : IsValueLine stands refusal.cap report.line
 
 -- the line of a report of which this holds
 abbrev pub IsReportLine : (Report → Type 0) → List ℕ → Type 0
 IsReportLine P line = (report : Report) × P report × (line ≡ report_line report)
 
-abbrev pub IsFaultLine : Content → ℕ → ℕ → List ℕ → Option SourceText → No → List ℕ → Type 0
-IsFaultLine entry height width file source refusal line =
-    IsReportLine (ReportsFault entry height width file source refusal) line
+abbrev pub IsFaultLine : Content → ℕ → ℕ → List ℕ → Whereabouts → No → List ℕ → Type 0
+IsFaultLine entry height width file stands refusal line =
+    IsReportLine (ReportsFault entry height width file stands refusal) line
 
 -- a line for each fault, in their order, or one that there is none
-abbrev pub AreFoundLines : Content → ℕ → ℕ → List ℕ → Option SourceText → List No → List ℕ → Type 0
-AreFoundLines entry height width file source [] lines = IsReportLine (ReportsYes entry height width file) lines
-AreFoundLines entry height width file source (first ∷ others) lines =
-    HasParts (IsFaultLine entry height width file source) (first ∷ others) lines
+abbrev pub AreFoundLines : Content → ℕ → ℕ → List ℕ → Whereabouts → List No → List ℕ → Type 0
+AreFoundLines entry height width file stands [] lines = IsReportLine (ReportsYes entry height width file) lines
+AreFoundLines entry height width file stands (first ∷ others) lines =
+    HasParts (IsFaultLine entry height width file stands) (first ∷ others) lines

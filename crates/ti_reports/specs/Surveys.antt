@@ -1,5 +1,5 @@
 -- What `survey --json` answers, by what its files hold.
-use Rattle.std.specs.Prelude.{◌≡◌, ◌⊎◌, IsSome, ℕ, Bool, true, false, List, [], ◌∷◌, Option, Some, None, Result, Ok, Err, String, length, slice_get, string_bytes}
+use Rattle.std.specs.Prelude.{◌≡◌, ◌⊎◌, IsSome, ℕ, Bool, true, false, List, [], Option, Some, None, Result, Ok, Err, String, length, slice_get, string_bytes}
 use Rattle.std.specs.List.{range_with_len}
 use Rattle.std.specs.declared.alloc.Global.{Global}
 use Rattle.ti_caps.specs.Entry.{Content}
@@ -15,6 +15,7 @@ use Rattle.ti_compiled.specs.Contents.{read_of}
 use Rattle.ti_compiled.specs.declared.types.PackFault.{PackFault}
 use Rattle.ti_reports.specs.Faults.{AreFoundLines, HasWords, IsFaultless, IsReportLine}
 use Rattle.ti_reports.specs.Findings.{AreFaults}
+use Rattle.ti_reports.specs.Sources.{ByPlace, Nowhere, Whereabouts}
 use Rattle.ti_reports.specs.declared.reports.Report.{Report}
 use Rattle.ti_reports.specs.declared.reports.Verdict.TheVariants as verdicts
 use Rattle.ti_requests.specs.declared.request.SurveyWords.{SurveyWords}
@@ -44,32 +45,33 @@ pub record ReportsRefused (height width : ℕ) (path : List ℕ) (name : Option 
 abbrev pub IsRefusedReport : ℕ → ℕ → List ℕ → Option (List ℕ) → List ℕ → Type 0
 IsRefusedReport height width path name line = IsReportLine (ReportsRefused height width path name) line
 
--- the reports on an entry that is there, without the lines of a source
-pub record AreOfEntry (height width : ℕ) (all : Bool) (path : List ℕ) (entry : Content) (lines : List ℕ) : Type 0 where
+-- the reports on an entry that is there
+pub record AreOfEntry (height width : ℕ) (all : Bool) (path : List ℕ) (stands : Whereabouts) (entry : Content) (lines : List ℕ) : Type 0 where
   pub nos : List No
   pub found : AreFaults all entry height width nos
-  pub tells : AreFoundLines entry height width path None nos lines
+  pub tells : AreFoundLines entry height width path stands nos lines
 
 -- or of one that can't be had under its name
-abbrev pub IsReported : ℕ → ℕ → Bool → List ℕ → List ℕ → Result Content CommandRefusal → List ℕ → Type 0
-IsReported height width all path name (Ok entry) lines = AreOfEntry height width all path entry lines
-IsReported height width all path name (Err refusal) lines = IsRefusedReport height width path (Some name) lines
+abbrev pub IsReported : ℕ → ℕ → Bool → List ℕ → Whereabouts → List ℕ → Result Content CommandRefusal → List ℕ → Type 0
+IsReported height width all path stands name (Ok entry) lines = AreOfEntry height width all path stands entry lines
+IsReported height width all path stands name (Err refusal) lines = IsRefusedReport height width path (Some name) lines
 
 -- ---- the entries of a file
 
 -- the entry at a place of a source text, whatever other entries have its names
-pub record IsSourceReport (height width : ℕ) (all : Bool) (path : List ℕ) (raws : List RawEntry) (place : ℕ) (lines : List ℕ) : Type 0 where
+pub record IsSourceReport (height width : ℕ) (all : Bool) (path text : List ℕ) (raws : List RawEntry) (place : ℕ) (lines : List ℕ) : Type 0 where
   pub raw : RawEntry
   pub there : slice_get raws place ≡ Some raw
   pub entry : Result Content CommandRefusal
   pub resolves : ResolvesAt raws place entry
-  pub told : IsReported height width all path (first_name raw.names) entry lines
+  pub told : IsReported height width all path (ByPlace (record { path = path; text = text; raws = raws; place = place })) (first_name raw.names)
+      entry lines
 
 -- the entry of a compiled file
 pub record IsPackedReport (height width : ℕ) (all : Bool) (path : List ℕ) (packed : Content) (lines : List ℕ) : Type 0 where
   pub entry : Result Content CommandRefusal
   pub fits : FitsTo packed entry
-  pub told : IsReported height width all path (first_name packed.names) entry lines
+  pub told : IsReported height width all path Nowhere (first_name packed.names) entry lines
 
 -- a compiled file has an entry, or a fault
 pub record HasReport (height width : ℕ) (all : Bool) (path bytes lines : List ℕ) : Type 0 where
@@ -86,7 +88,7 @@ pub record IsFaultyReport (height width : ℕ) (all : Bool) (path bytes line : L
 pub record HasReports (height width : ℕ) (all : Bool) (path bytes lines : List ℕ) : Type 0 where
   pub raws : List RawEntry
   pub reads : source_of bytes ≡ Ok raws
-  pub each : HasParts (IsSourceReport height width all path raws) (range_with_len 0 (length raws)) lines
+  pub each : HasParts (IsSourceReport height width all path bytes raws) (range_with_len 0 (length raws)) lines
 
 pub record LacksReports (height width : ℕ) (all : Bool) (path bytes line : List ℕ) : Type 0 where
   pub refusal : CommandRefusal

@@ -2,10 +2,12 @@
 
 ghost use Rattle.std.specs.Prelude.{◌≡◌, IfErr, IfOk};
 ghost use Rattle.ti_reports.specs.Checks as spec;
+ghost use Rattle.ti_reports.specs.Sources.{IsThere, by_name, whereabouts_of};
 ghost use Rattle.ti_verdicts.specs.Checks.{FailsForEntry};
 
 use crate::faults::{Subject, found_lines};
 use crate::findings::found_faults;
+use crate::lines::Standing;
 use std::alloc::{AllocError, Global};
 use ti_caps::Entry;
 use ti_checker::No;
@@ -38,7 +40,7 @@ pub fn check_reports<F: Files>(
         entry: &found.entry,
         size,
         file: file_of(&found.source, words.entry),
-        source: &found.source,
+        stands: standing_of(&found.source),
     };
     let reply = reply_of(alloc, &subject, notes, nos.as_slice())?;
     if !lists_all {
@@ -54,9 +56,11 @@ fn reply_of(
     notes: Vec<u8>,
     nos: &[No],
 ) -> Result<Reply, AllocError>
+    requires { IsThere subject.now.stands }
     ensures noted { IfOk result (λ reply. reply.notes ≡ notes) }
     ensures told { IfOk result (λ reply. spec.TellsFound subject.now.entry.now
-        subject.now.size.rows subject.now.size.cols subject.now.file.now subject.now.source.now nos.now reply) }
+        subject.now.size.rows subject.now.size.cols subject.now.file.now
+        (whereabouts_of subject.now.stands) nos.now reply) }
 {
     Ok(Reply {
         notes,
@@ -82,6 +86,17 @@ fn file_of<'a>(source: &'a Option<SourceText<'a>>, word: &'a str) -> &'a str
     match source {
         Some(source) => source.path,
         None => word,
+    }
+}
+
+/// Where the entry that was found in this `source` stands.
+fn standing_of<'a>(source: &'a Option<SourceText<'a>>) -> Standing<'a>
+    ensures stands { whereabouts_of result ≡ by_name source.now }
+    ensures there { IsThere result }
+{
+    match source {
+        Some(source) => Standing::Named(source),
+        None => Standing::Unsourced,
     }
 }
 

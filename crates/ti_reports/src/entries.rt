@@ -3,11 +3,13 @@
 ghost use Rattle.std.specs.Prelude.{◌≡◌, ◌<◌, IfOk, Some, false, length, slice_get, true};
 ghost use Rattle.std.specs.List.{AllByRecursion, range_with_len};
 ghost use Rattle.ti_source.specs.Raw.{IsRaw};
+ghost use Rattle.ti_reports.specs.Sources.{IsThere, whereabouts_of};
 ghost use Rattle.ti_reports.specs.Surveys as spec;
 ghost use Rattle.ti_verdicts.specs.Lines.{HasParts};
 
 use crate::faults::{Subject, found_lines};
 use crate::findings::found_faults;
+use crate::lines::Standing;
 use crate::refusals::refused_line;
 use crate::surveys::Asked;
 use std::alloc::{AllocError, Global};
@@ -15,7 +17,7 @@ use ti_caps::Entry;
 use ti_commands::{CommandRefusal, entry_at, unpacked_entry};
 use ti_compiled::{Packed, decode};
 use ti_source::{FaultKind, RawEntry, read};
-use ti_verdicts::{Watcher, first_name, is_compiled, refusal_words};
+use ti_verdicts::{SourcePlace, Watcher, first_name, is_compiled, refusal_words};
 
 /// The lines of the file at `path` with these `bytes`: a compiled one, as its first two bytes show, or a source text.
 pub fn file_lines<W: Watcher>(
@@ -66,7 +68,7 @@ fn packed_lines(
 {
     let entry = unpacked_entry(alloc, packed)?;
     let name = first_name(packed.names());
-    entry_lines(alloc, asked, path, name, &entry)
+    entry_lines(alloc, asked, path, Standing::Unsourced, name, &entry)
 }
 
 /// The lines of the source text at `path` with these `bytes`.
@@ -81,7 +83,7 @@ fn text_lines<W: Watcher>(
         path.now bytes.now lines.items) }
 {
     match read(alloc, bytes) {
-        Ok(raws) => source_lines(alloc, asked, path, raws.as_slice(), watcher),
+        Ok(raws) => source_lines(alloc, asked, path, bytes, raws.as_slice(), watcher),
         Err(fault) => match fault.kind {
             FaultKind::NoMemory => Err(AllocError),
             _ => {
@@ -92,46 +94,48 @@ fn text_lines<W: Watcher>(
     }
 }
 
-/// The lines of the entries `raws` of the source text at `path`, in order.
+/// The lines of the entries `raws` of the source `text` at `path`, in order.
 fn source_lines<W: Watcher>(
     alloc: Global,
     asked: Asked,
     path: &str,
+    text: &[u8],
     raws: &[RawEntry],
     watcher: &mut W,
 ) -> Result<Vec<u8>, AllocError>
     requires { AllByRecursion IsRaw raws.now }
     ensures { IfOk result (λ lines. HasParts (spec.IsSourceReport asked.size.rows asked.size.cols asked.lists_all
-        path.now raws.now)
+        path.now text.now raws.now)
         (range_with_len 0 (length raws.now)) lines.items) }
 {
     let mut lines = Vec::new(alloc);
     for place in 0..raws.len() {
         let name = first_name(raw_at(raws, place).names.as_slice());
         watcher.begins(place, raws.len(), name);
-        let own = source_part(alloc, asked, path, raws, place)?;
+        let stands = SourcePlace {
+            path,
+            text,
+            raws,
+            place,
+        };
+        let own = source_part(alloc, asked, stands)?;
         lines.extend_from_slice(own.as_slice())?;
     }
     Ok(lines)
 }
 
-/// The lines of the entry at `place` in `raws`, which are the entries of the source text at `path`.
-fn source_part(
-    alloc: Global,
-    asked: Asked,
-    path: &str,
-    raws: &[RawEntry],
-    place: usize,
-) -> Result<Vec<u8>, AllocError>
-    requires read { AllByRecursion IsRaw raws.now }
-    requires there { place < length raws.now }
+/// The lines of the entry of a source text that `stands` there.
+fn source_part(alloc: Global, asked: Asked, stands: SourcePlace<'_>) -> Result<Vec<u8>, AllocError>
+    requires read { AllByRecursion IsRaw stands.raws.now }
+    requires there { stands.place < length stands.raws.now }
     ensures { IfOk result (λ lines. spec.IsSourceReport asked.size.rows asked.size.cols asked.lists_all
-        path.now raws.now place lines.items) }
+        stands.entry.path.now stands.entry.text.now stands.entry.raws.now stands.entry.place lines.items) }
 {
-    let raw = raw_at(raws, place);
-    let entry = entry_at(alloc, raws, place)?;
+    let path = stands.path;
+    let raw = raw_at(stands.raws, stands.place);
+    let entry = entry_at(alloc, stands.raws, stands.place)?;
     let name = first_name(raw.names.as_slice());
-    entry_lines(alloc, asked, path, name, &entry)
+    entry_lines(alloc, asked, path, Standing::Placed(&stands), name, &entry)
 }
 
 /// The entry at `place` in `raws`, as it was read.
@@ -143,19 +147,22 @@ fn raw_at(raws: &[RawEntry], place: usize) -> &RawEntry
     &raws[place]
 }
 
-/// The lines of the `entry` of the file at `path`, whether it is there or can't be had under its `name`.
+/// The lines of the `entry` of the file at `path`, whether it is there, as it `stands`, or can't be had under its
+/// `name`.
 fn entry_lines(
     alloc: Global,
     asked: Asked,
     path: &str,
+    stands: Standing<'_>,
     name: &[u8],
     entry: &Result<Entry, CommandRefusal>,
 ) -> Result<Vec<u8>, AllocError>
+    requires { IsThere stands }
     ensures { IfOk result (λ lines. spec.IsReported asked.size.rows asked.size.cols asked.lists_all
-        path.now name.now entry.now lines.items) }
+        path.now (whereabouts_of stands.entry) name.now entry.now lines.items) }
 {
     match entry {
-        Ok(entry) => said_lines(alloc, asked, path, entry),
+        Ok(entry) => said_lines(alloc, asked, path, stands, entry),
         Err(refusal) => {
             let why = refusal_words(alloc, refusal)?;
             refused_line(alloc, asked, path, Some(name), why.as_slice())
@@ -163,17 +170,24 @@ fn entry_lines(
     }
 }
 
-/// The lines of what is found out about `entry`, which the file at `path` has.
-fn said_lines(alloc: Global, asked: Asked, path: &str, entry: &Entry) -> Result<Vec<u8>, AllocError>
+/// The lines of what is found out about `entry`, which `stands` there in the file at `path`.
+fn said_lines(
+    alloc: Global,
+    asked: Asked,
+    path: &str,
+    stands: Standing<'_>,
+    entry: &Entry,
+) -> Result<Vec<u8>, AllocError>
+    requires { IsThere stands }
     ensures { IfOk result (λ lines. spec.AreOfEntry asked.size.rows asked.size.cols asked.lists_all
-        path.now entry.now lines.items) }
+        path.now (whereabouts_of stands.entry) entry.now lines.items) }
 {
     let nos = found_faults(alloc, entry, asked.size, asked.lists_all)?;
     let subject = Subject {
         entry,
         size: asked.size,
         file: path,
-        source: &None,
+        stands,
     };
     found_lines(alloc, &subject, nos.as_slice())
 }

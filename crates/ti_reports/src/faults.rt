@@ -3,24 +3,24 @@
 ghost use Rattle.std.specs.Prelude.{IfOk, string_bytes};
 ghost use Rattle.ti_caps.specs.Table.{name_at};
 ghost use Rattle.ti_reports.specs.Faults as spec;
+ghost use Rattle.ti_reports.specs.Sources.{IsThere, whereabouts_of};
 ghost use Rattle.ti_reports.specs.Texts.{IsShownAs};
 ghost use Rattle.ti_verdicts.specs.Lines.{HasParts};
 ghost use Rattle.ti_verdicts.specs.Locations.{first_name};
 ghost use Rattle.ti_verdicts.specs.Refusals.{cause_name};
 
 use crate::explanations::explained;
-use crate::lines::value_line;
+use crate::lines::{Standing, value_line};
 use crate::reports::{Report, Verdict, report_line};
 use crate::sent::sent_text;
 use crate::texts::text_of;
 use std::alloc::{AllocError, Global};
 use ti_caps::{Cap, Entry, name};
 use ti_checker::{Cause, No};
-use ti_commands::SourceText;
 use ti_verdicts::{cause_name, first_name};
 use vt_term::Size;
 
-/// An entry that is reported on, and where it stands.
+/// An entry that is reported on.
 #[derive(Drop)]
 pub struct Subject<'a> {
     /// The entry.
@@ -29,14 +29,16 @@ pub struct Subject<'a> {
     pub size: Size,
     /// The path of the file that has the entry.
     pub file: &'a str,
-    /// Its source, where the lines are to be named.
-    pub source: &'a Option<SourceText<'a>>,
+    /// Where it stands there.
+    pub stands: Standing<'a>,
 }
 
 /// The lines of the faults `nos` of the `subject`; or that it has none.
 pub fn found_lines(alloc: Global, subject: &Subject<'_>, nos: &[No]) -> Result<Vec<u8>, AllocError>
+    requires { IsThere subject.now.stands }
     ensures { IfOk result (λ lines. spec.AreFoundLines subject.now.entry.now
-        subject.now.size.rows subject.now.size.cols subject.now.file.now subject.now.source.now nos.now lines.items) }
+        subject.now.size.rows subject.now.size.cols subject.now.file.now
+        (whereabouts_of subject.now.stands) nos.now lines.items) }
 {
     match nos {
         [] => yes_line(alloc, subject),
@@ -46,8 +48,10 @@ pub fn found_lines(alloc: Global, subject: &Subject<'_>, nos: &[No]) -> Result<V
 
 /// A line for each of the faults `nos` of the `subject`, in their order.
 fn fault_lines(alloc: Global, subject: &Subject<'_>, nos: &[No]) -> Result<Vec<u8>, AllocError>
+    requires { IsThere subject.now.stands }
     ensures { IfOk result (λ lines. HasParts (spec.IsFaultLine subject.now.entry.now
-        subject.now.size.rows subject.now.size.cols subject.now.file.now subject.now.source.now) nos.now lines.items) }
+        subject.now.size.rows subject.now.size.cols subject.now.file.now
+        (whereabouts_of subject.now.stands)) nos.now lines.items) }
 {
     let mut lines = Vec::new(alloc);
     for no in nos {
@@ -59,8 +63,10 @@ fn fault_lines(alloc: Global, subject: &Subject<'_>, nos: &[No]) -> Result<Vec<u
 
 /// The line of the fault `no` of the `subject`.
 fn fault_line(alloc: Global, subject: &Subject<'_>, no: &No) -> Result<Vec<u8>, AllocError>
+    requires { IsThere subject.now.stands }
     ensures { IfOk result (λ line. spec.IsFaultLine subject.now.entry.now
-        subject.now.size.rows subject.now.size.cols subject.now.file.now subject.now.source.now no.now line.items) }
+        subject.now.size.rows subject.now.size.cols subject.now.file.now
+        (whereabouts_of subject.now.stands) no.now line.items) }
 {
     let report = fault_report(alloc, subject, no)?;
     report_line(alloc, &report)
@@ -99,8 +105,10 @@ fn yes_report(alloc: Global, subject: &Subject<'_>) -> Result<Report, AllocError
 
 /// The report of the fault `no` of the `subject`.
 fn fault_report(alloc: Global, subject: &Subject<'_>, no: &No) -> Result<Report, AllocError>
+    requires { IsThere subject.now.stands }
     ensures { IfOk result (λ report. spec.ReportsFault subject.now.entry.now
-        subject.now.size.rows subject.now.size.cols subject.now.file.now subject.now.source.now no.now report) }
+        subject.now.size.rows subject.now.size.cols subject.now.file.now
+        (whereabouts_of subject.now.stands) no.now report) }
 {
     let explanation = explained(alloc, subject.entry, subject.size, no)?;
     Ok(Report {
@@ -116,7 +124,7 @@ fn fault_report(alloc: Global, subject: &Subject<'_>, no: &No) -> Result<Report,
         wanted: explanation.wanted,
         seen: explanation.seen,
         file: String::from_str(alloc, subject.file)?,
-        line: value_line(alloc, subject.source, no.cap)?,
+        line: value_line(alloc, &subject.stands, no.cap)?,
     })
 }
 

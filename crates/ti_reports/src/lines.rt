@@ -1,25 +1,40 @@
 //! The line of a source text on which a value stands.
 
-ghost use Rattle.std.specs.Prelude.{IfOk};
+ghost use Rattle.std.specs.Prelude.{◌<◌, IfOk, length};
 ghost use Rattle.ti_reports.specs.Sources as spec;
+ghost use Rattle.ti_verdicts.specs.Locations.{place_in};
 
 use std::alloc::{AllocError, Global};
 use ti_caps::Cap;
 use ti_commands::SourceText;
-use ti_resolve::origin;
-use ti_verdicts::line_of_field;
+use ti_resolve::{origin, origin_at};
+use ti_verdicts::{SourcePlace, line_of_field};
 
-/// The line on which the value of `cap` stands in `source`; `None` where there is no source or no value.
+/// Where an entry stands.
+#[derive(Drop)]
+pub enum Standing<'a> {
+    /// In no source.
+    Unsourced,
+    /// In a source, as the entry that has a name.
+    Named(&'a SourceText<'a>),
+    /// In a source, at a place.
+    Placed(&'a SourcePlace<'a>),
+}
+
+/// The line on which the value of `cap` stands in the source of the entry that `stands` there; `None` where there is no
+/// source or no value.
 pub fn value_line(
     alloc: Global,
-    source: &Option<SourceText<'_>>,
+    stands: &Standing<'_>,
     cap: Cap,
 ) -> Result<Option<usize>, AllocError>
-    ensures { IfOk result (λ line. spec.IsValueLine source.now cap line) }
+    requires { spec.IsThere stands.now }
+    ensures { IfOk result (λ line. spec.IsValueLine (spec.whereabouts_of stands.now) cap line) }
 {
-    match source {
-        None => Ok(None),
-        Some(source) => line_in(alloc, source, cap),
+    match stands {
+        Standing::Unsourced => Ok(None),
+        Standing::Named(source) => line_in(alloc, source, cap),
+        Standing::Placed(there) => line_at(alloc, there, cap),
     }
 }
 
@@ -31,6 +46,19 @@ fn line_in(alloc: Global, source: &SourceText<'_>, cap: Cap) -> Result<Option<us
     match origin(alloc, source.raws.as_slice(), source.name.as_bytes(), cap) {
         Ok(None) => Ok(None),
         Ok(Some(origin)) => Ok(Some(line_of_field(alloc, source.text.as_slice(), origin)?)),
+        Err(_) => Err(AllocError),
+    }
+}
+
+/// The line on which the value of `cap` stands that the entry at `there` has.
+fn line_at(alloc: Global, there: &SourcePlace<'_>, cap: Cap) -> Result<Option<usize>, AllocError>
+    requires { there.now.place < length there.now.raws.now }
+    ensures { IfOk result (λ line. spec.IsLineAt (place_in there.now) cap line) }
+{
+    // the entry was resolved before, so memory ran out
+    match origin_at(alloc, there.raws, there.place, cap) {
+        Ok(None) => Ok(None),
+        Ok(Some(origin)) => Ok(Some(line_of_field(alloc, there.text, origin)?)),
         Err(_) => Err(AllocError),
     }
 }

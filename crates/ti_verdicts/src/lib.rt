@@ -24,7 +24,7 @@ pub use certifiers::{Certifier, Checker};
 pub use checks::{check_entry, notes_on};
 pub use fault_lists::check_all;
 pub use lines::{is_compiled, refusal_words};
-pub use locations::{first_name, line_of_field};
+pub use locations::{SourcePlace, first_name, line_of_field};
 pub use reasons::explain_no;
 pub use refusals::{cause_name, no_failure, no_words};
 pub use surveys::survey_files;

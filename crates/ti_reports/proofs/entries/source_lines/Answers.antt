@@ -11,6 +11,6 @@ loop-place-init g c = c.new-lines.ensures.items
 -- the line of the next entry follows those so far
 pub loop-place-preserved : goal.loop-place-preserved
 loop-place-preserved g c =
-    parts_step (IsSourceReport c.args.asked.size.rows c.args.asked.size.cols c.args.asked.lists_all c.args.path.now c.args.raws.now) c.loop-place.place
+    parts_step (IsSourceReport c.args.asked.size.rows c.args.asked.size.cols c.args.asked.lists_all c.args.path.now c.args.text.now c.args.raws.now) c.loop-place.place
     c.loop-place.lines.items c.in_ok-own.own.items c.extend_from_slice.new.self.items
     (c.in_ok-extend_from_slice.ensures.items ∙ ap (λ (own : List ℕ). c.loop-place.lines.items ++ own) c.as_slice-in-loop-place.ensures.value) c.loop-place.invariant c.in_ok-own.ensures

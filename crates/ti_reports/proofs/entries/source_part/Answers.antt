@@ -5,6 +5,6 @@ use Rattle.ti_reports.proofs.entries.source_part.Goals as goal
 pub returns : goal.returns
 returns c =
     IfOk-weaker c.entry_lines.result _ _
-    (λ lines told. source_part_of c.args.asked.size.rows c.args.asked.size.cols c.args.asked.lists_all c.args.path.now c.args.raws.now c.args.place c.raw_at-raw.result.now c.in_ok-entry.entry c.as_slice.result.now
+    (λ lines told. source_part_of c.args.asked.size.rows c.args.asked.size.cols c.args.asked.lists_all c.args.stands.path.now c.args.stands.text.now c.args.stands.raws.now c.args.stands.place c.raw_at-raw.result.now c.in_ok-entry.entry c.as_slice.result.now
     c.first_name-name.result.now lines.items c.raw_at-raw.ensures c.as_slice.ensures c.first_name-name.ensures c.in_ok-entry.ensures told)
     c.entry_lines.ensures
