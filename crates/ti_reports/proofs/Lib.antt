@@ -5,3 +5,4 @@ pub mod Members
 pub mod Parts
 pub mod Ranges
 pub mod Sends
+pub mod ShownFacts
