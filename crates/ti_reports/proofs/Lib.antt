@@ -2,6 +2,5 @@ pub mod FirstFacts
 pub mod Floats
 pub mod LineFacts
 pub mod Members
-pub mod Parts
-pub mod Ranges
 pub mod Sends
+pub mod ShownFacts

@@ -18,6 +18,11 @@ abbrev pub by_name : Option SourceText → Whereabouts
 by_name None = Nowhere
 by_name (Some source) = ByName source
 
+-- an entry at its place in a source; that of a compiled file stands in none
+abbrev pub by_place : Option PlaceInSource → Whereabouts
+by_place None = Nowhere
+by_place (Some stands) = ByPlace stands
+
 -- the line of the first field about the capability, of the entry's own or of those that it uses, if there is a value
 pub record IsLineIn (source : SourceText) (cap : ℕ) (line : Option ℕ) : Type 0 where
   pub origin : Option Origin

@@ -1,6 +1,7 @@
 //! What the program reports to other programs: a JSON object a line for each entry, or for each of its faults.
 #![tactic(auto)]
 
+mod asked;
 mod checks;
 mod entries;
 mod explanations;

@@ -1,8 +1,8 @@
 //! The line of a source text on which a value stands.
 
-ghost use Rattle.std.specs.Prelude.{◌<◌, IfOk, length};
+ghost use Rattle.std.specs.Prelude.{◌≡◌, ◌<◌, IfOk, IfSome, length};
 ghost use Rattle.ti_reports.specs.Sources as spec;
-ghost use Rattle.ti_verdicts.specs.Locations.{place_in};
+ghost use Rattle.ti_verdicts.specs.Locations.{place_if, place_in};
 
 use std::alloc::{AllocError, Global};
 use ti_caps::Cap;
@@ -19,6 +19,18 @@ pub enum Standing<'a> {
     Named(&'a SourceText<'a>),
     /// In a source, at a place.
     Placed(&'a SourcePlace<'a>),
+}
+
+/// An entry that `stands` there in a source, or in none.
+pub fn placed<'a>(stands: &'a Option<SourcePlace<'a>>) -> Standing<'a>
+    requires { IfSome stands.now (λ there. there.place < length there.raws.now) }
+    ensures stands { spec.whereabouts_of result ≡ spec.by_place (place_if stands.now) }
+    ensures there { spec.IsThere result }
+{
+    match stands {
+        Some(there) => Standing::Placed(there),
+        None => Standing::Unsourced,
+    }
 }
 
 /// The line on which the value of `cap` stands in the source of the entry that `stands` there; `None` where there is no

@@ -3,8 +3,8 @@
 ghost use Rattle.std.specs.Prelude.{◌≡◌, IfOk, option_map};
 ghost use Rattle.ti_reports.specs.Surveys as spec;
 
+use crate::asked::Asked;
 use crate::reports::{Report, Verdict, report_line};
-use crate::surveys::Asked;
 use crate::texts::text_of;
 use std::alloc::{AllocError, Global};
 

@@ -10,7 +10,7 @@ use Rattle.ti_commands.specs.Contents.{Held}
 use Rattle.ti_commands.specs.Words.{texts_of}
 use Rattle.ti_commands.specs.declared.failure.Failure.{Failure}
 use Rattle.ti_commands.specs.declared.failure.CommandRefusal.{CommandRefusal}
-use Rattle.ti_verdicts.specs.Lines.{HasPairs, HasParts, IsSourcePart, IsTold, Saying}
+use Rattle.ti_verdicts.specs.Lines.{HasPairs, HasParts, IsSourcePart, IsTold, Refusing, Saying}
 use Rattle.ti_verdicts.specs.Locations.{PlaceInSource, first_name}
 use Rattle.ti_verdicts.specs.Surveys.{EndsPath, EndsPaths, HasLines, MayHaveLines, Misses, OfFile, first_failure}
 use denote.Ref.{Bor}
@@ -116,14 +116,14 @@ ends_step Are held now words n d lines own more places beside joined failure tol
 
 -- ---- lines
 
-pub source_part_of : (Says : Saying) (path text : List ℕ) (raws : List RawEntry) (place : ℕ) (raw : RawEntry) (entry : Result Content CommandRefusal) (names name lines places : List ℕ) → slice_get raws place ≡ Some raw → names ≡ raw.names
-    → name ≡ first_name names → ResolvesAt raws place entry → IsTold Says entry (Some (record { path = path; text = text; raws = raws; place = place })) name lines places → IsSourcePart Says path text raws place lines places
-source_part_of Says path text raws place raw entry names name lines places there a b r t = record {
+pub source_part_of : (Says : Saying) (Refuses : Refusing) (path text : List ℕ) (raws : List RawEntry) (place : ℕ) (raw : RawEntry) (entry : Result Content CommandRefusal) (names name lines places : List ℕ) → slice_get raws place ≡ Some raw → names ≡ raw.names
+    → name ≡ first_name names → ResolvesAt raws place entry → IsTold Says Refuses entry path (Some (record { path = path; text = text; raws = raws; place = place })) name lines places → IsSourcePart Says Refuses path text raws place lines places
+source_part_of Says Refuses path text raws place raw entry names name lines places there a b r t = record {
   raw = raw;
   there = there;
   entry = entry;
   resolves = r;
-  told = subst (λ (n : List ℕ). IsTold Says entry (Some (record { path = path; text = text; raws = raws; place = place })) n lines places) (b ∙ ap first_name a) t;
+  told = subst (λ (n : List ℕ). IsTold Says Refuses entry path (Some (record { path = path; text = text; raws = raws; place = place })) n lines places) (b ∙ ap first_name a) t;
 }
 
 -- ---- a text that was written part by part

@@ -54,9 +54,12 @@ abbrev pub count_of : List No → List ℕ → ℕ
 count_of nos name = count_by (λ refusal. bytes_eq (cause_name refusal.cause) name) nos
 
 -- `, NAME N`, where there is one
+abbrev pub part_of : ℕ → List ℕ → List ℕ
+part_of count name = if count == 0 then [] else codes ", " ++ (name ++ (codes " " ++ decimal count))
+
+-- the same of those that have a cause of this name
 abbrev pub count_part : List No → List ℕ → List ℕ
-count_part nos name =
-    if count_of nos name == 0 then [] else codes ", " ++ (name ++ (codes " " ++ decimal (count_of nos name)))
+count_part nos name = part_of (count_of nos name) name
 
 -- `total N`, and how many have which cause
 abbrev pub counts_line : List No → List ℕ

@@ -8,7 +8,8 @@ use Rattle.ti_commands.specs.Sizes.{SizeGiven}
 use Rattle.ti_commands.specs.Words.{texts_of}
 use Rattle.ti_commands.specs.declared.failure.Failure.{Failure}
 use Rattle.ti_commands.specs.declared.failure.Reply.{Reply}
-use Rattle.ti_verdicts.specs.Lines.{AreLines, HasPairs, SaysBy}
+use Rattle.ti_verdicts.specs.Answers.{IsRefused, SaysBy}
+use Rattle.ti_verdicts.specs.Lines.{AreLines, HasPairs}
 use Rattle.ti_requests.specs.declared.request.SurveyWords.{SurveyWords}
 
 -- what the lines of a file are, and what stands beside them, by its path and its bytes
@@ -57,6 +58,6 @@ pub record IsSurveyed (certifies : Content → ℕ → ℕ → List ℕ → Type
   pub width : ℕ
   pub given : SizeGiven words.rows.now words.cols.now height width
   pub lines : List ℕ
-  pub ends : EndsPaths (AreLines (SaysBy words.lists_all certifies refuses height width)) held (texts_of words.paths.items) lines reply.notes.items reply.failure
+  pub ends : EndsPaths (AreLines (SaysBy words.lists_all certifies refuses height width) IsRefused) held (texts_of words.paths.items) lines reply.notes.items reply.failure
   pub counts : List ℕ
   pub says : reply.text.items ≡ lines ++ counts

@@ -10,7 +10,7 @@ use std::alloc::{AllocError, Global};
 use ti_checker::No;
 
 /// The causes in the order in which they are counted.
-const CAUSES: [&str; 18] = [
+pub const CAUSES: [&str; 18] = [
     "FlagOut",
     "Absent",
     "AcsByte",
@@ -69,11 +69,22 @@ fn push_counts(
 fn push_count(alloc: Global, nos: &[No], cause: &str, line: &mut Vec<u8>) -> Result<(), AllocError>
     ensures { OnOk result (line.new.items ≡ line.old.items ++ spec.count_part nos.now cause.now) }
 {
-    let count = count_of(nos, cause);
+    push_part(alloc, count_of(nos, cause), cause, line)
+}
+
+/// Appends that there are so many of this `name`, if there are any.
+pub fn push_part(
+    alloc: Global,
+    count: usize,
+    name: &str,
+    line: &mut Vec<u8>,
+) -> Result<(), AllocError>
+    ensures { OnOk result (line.new.items ≡ line.old.items ++ spec.part_of count name.now) }
+{
     if count == 0 {
         return Ok(());
     }
-    let part = format!(in alloc; ", {cause} {count}")?;
+    let part = format!(in alloc; ", {name} {count}")?;
     line.extend_from_slice(part.as_bytes())
 }
 

@@ -1,28 +1,29 @@
-//! The command `survey`.
+//! The command `survey`, and what all surveys do.
 
 ghost use Rattle.std.specs.Prelude.{◌≡◌, IfErr, IfOk};
 ghost use Rattle.ti_commands.specs.Sizes.{LacksSize};
 ghost use Rattle.ti_commands.specs.Words.{texts_of};
-ghost use Rattle.ti_verdicts.specs.Lines.{AreLines, SaysTo};
+ghost use Rattle.ti_verdicts.specs.Lines.{AreLines};
 ghost use Rattle.ti_verdicts.specs.Surveys as spec;
 
 use crate::asked::Asked;
 use crate::certifiers::Certifier;
-use crate::lines::{Said, file_lines};
-use crate::tallies::Tally;
-use crate::watchers::{Course, Watcher};
+use crate::files::file_lines;
+use crate::said::Said;
+use crate::speakers::Speaker;
+use crate::watchers::Watcher;
 use std::alloc::{AllocError, Global};
 use ti_commands::{Failure, Files, LONGEST_FILE, Reply, read_whole, size_words};
 use ti_requests::SurveyWords;
 use ti_words::Remarks;
 
-/// What a survey of some paths has found so far.
+/// What a survey of some paths has found.
 #[derive(Drop)]
-struct Surveyed {
-    /// The lines of the paths, and where the faults in them stand.
-    said: Said,
+pub struct Surveyed {
+    /// What is said of them.
+    pub said: Said,
     /// The failure of the first path that can't be had.
-    failure: Option<Failure>,
+    pub failure: Option<Failure>,
 }
 
 /// Says for each entry of each file that the `words` name whether the `certifier` writes a certificate, or why not, or
@@ -47,22 +48,26 @@ pub fn survey_files<C: Certifier, F: Files, W: Watcher + Drop>(
     ensures kept { F.holds files.new ≡ F.holds files.old }
 {
     let size = size_words(alloc, words.rows, words.cols, remarks)?;
-    let mut course = Course {
-        tally: Tally::new(),
-        watcher,
-    };
     let asked = Asked {
         certifier,
         size,
         lists_all: words.lists_all,
     };
-    let paths = words.paths.as_slice();
-    let surveyed = survey_paths(alloc, &asked, paths, files, &mut course, remarks);
-    course.watcher.ends();
-    let surveyed = surveyed?;
-    let Said { lines, places } = surveyed.said;
+    let surveyed = survey_paths(
+        alloc,
+        &asked,
+        words.paths.as_slice(),
+        files,
+        watcher,
+        remarks,
+    )?;
+    let Said {
+        lines,
+        places,
+        tally,
+    } = surveyed.said;
     let mut text = lines;
-    let counts = course.tally.line(alloc)?;
+    let counts = tally.line(alloc)?;
     text.extend_from_slice(counts.as_slice())?;
     Ok(Reply {
         notes: places,
@@ -71,16 +76,36 @@ pub fn survey_files<C: Certifier, F: Files, W: Watcher + Drop>(
     })
 }
 
-/// The lines of all `paths`, one after another.
-fn survey_paths<C: Certifier, F: Files, W: Watcher>(
+/// What the `speaker` says of each entry of each file of `paths`, one after another. The failure is that of the first file
+/// that can't be had, and the others are surveyed all the same. The `watcher` sees how far the survey has come.
+pub fn survey_paths<S: Speaker, F: Files, W: Watcher + Drop>(
     alloc: Global,
-    asked: &Asked<'_, C>,
+    speaker: &S,
     paths: &[&str],
     files: &mut F,
-    course: &mut Course<W>,
+    mut watcher: W,
     remarks: &mut Remarks,
 ) -> Result<Surveyed, AllocError>
-    ensures told { IfOk result (λ surveyed. spec.EndsPaths (AreLines (SaysTo C.certifies C.refuses asked.now))
+    ensures told { IfOk result (λ surveyed. spec.EndsPaths (AreLines (S.says speaker.now) (S.refuses speaker.now))
+        (F.holds files.old) (texts_of paths.now) surveyed.said.lines.items surveyed.said.places.items
+        surveyed.failure) }
+    ensures kept { F.holds files.new ≡ F.holds files.old }
+{
+    let surveyed = paths_said(alloc, speaker, paths, files, &mut watcher, remarks);
+    watcher.ends();
+    surveyed
+}
+
+/// What the `speaker` says of all `paths`.
+fn paths_said<S: Speaker, F: Files, W: Watcher>(
+    alloc: Global,
+    speaker: &S,
+    paths: &[&str],
+    files: &mut F,
+    watcher: &mut W,
+    remarks: &mut Remarks,
+) -> Result<Surveyed, AllocError>
+    ensures told { IfOk result (λ surveyed. spec.EndsPaths (AreLines (S.says speaker.now) (S.refuses speaker.now))
         (F.holds files.old) (texts_of paths.now) surveyed.said.lines.items surveyed.said.places.items
         surveyed.failure) }
     ensures kept { F.holds files.new ≡ F.holds files.old }
@@ -88,8 +113,8 @@ fn survey_paths<C: Certifier, F: Files, W: Watcher>(
     let mut said = Said::new(alloc);
     let mut failure = None;
     for (done, path) in paths.iter().enumerate() {
-        course.watcher.begins(done, paths.len(), path.as_bytes());
-        let own = survey_path(alloc, asked, path, files, course, remarks)?;
+        watcher.begins(done, paths.len(), path.as_bytes());
+        let own = path_said(alloc, speaker, path, files, watcher, remarks)?;
         said.add(&own.said)?;
         failure = first_failure(failure, own.failure);
     }
@@ -106,23 +131,23 @@ fn first_failure(failure: Option<Failure>, later: Option<Failure>) -> Option<Fai
     }
 }
 
-/// The lines of `path`; none where it can't be had.
-fn survey_path<C: Certifier, F: Files, W: Watcher>(
+/// What the `speaker` says of `path`; nothing where it can't be had.
+fn path_said<S: Speaker, F: Files, W: Watcher>(
     alloc: Global,
-    asked: &Asked<'_, C>,
+    speaker: &S,
     path: &str,
     files: &mut F,
-    course: &mut Course<W>,
+    watcher: &mut W,
     remarks: &mut Remarks,
 ) -> Result<Surveyed, AllocError>
-    ensures told { IfOk result (λ surveyed. spec.EndsPath (AreLines (SaysTo C.certifies C.refuses asked.now))
+    ensures told { IfOk result (λ surveyed. spec.EndsPath (AreLines (S.says speaker.now) (S.refuses speaker.now))
         (F.holds files.old) path.now surveyed.said.lines.items surveyed.said.places.items
         surveyed.failure) }
     ensures kept { F.holds files.new ≡ F.holds files.old }
 {
     match read_whole(alloc, files, path, LONGEST_FILE, remarks) {
         Ok(bytes) => Ok(Surveyed {
-            said: file_lines(alloc, asked, path, bytes.as_slice(), course)?,
+            said: file_lines(alloc, speaker, path, bytes.as_slice(), watcher)?,
             failure: None,
         }),
         Err(Failure::NoMemory) => Err(AllocError),

@@ -1,129 +1,70 @@
 //! How many entries got which answer.
 
-ghost use Rattle.std.specs.Prelude.{◌<◌};
-
+use crate::counts::{CAUSES, push_part};
+use crate::refusals::cause_name;
 use std::alloc::{AllocError, Global};
 use ti_checker::Cause;
-use ti_parm::ParmFault;
-
-/// The answers in the order in which they are counted: a yes, the causes of a no, and what can't be had.
-const NAMES: [&str; 20] = [
-    "yes",
-    "FlagOut",
-    "Absent",
-    "AcsByte",
-    "Underflow",
-    "BadNest",
-    "BadCode",
-    "Overflow",
-    "BadChar",
-    "WrongKind",
-    "StaticRead",
-    "Unfinished",
-    "Stuck",
-    "NotTame",
-    "BadLook",
-    "WrongEffect",
-    "NotShown",
-    "TooLong",
-    "NoResync",
-    "refused",
-];
 
 /// Counts of answers, each of which stops at the greatest number.
 #[derive(Clone, Copy)]
 pub struct Tally {
-    counts: [u64; 20],
+    yes: usize,
+    /// The noes of each cause, in the order of `CAUSES`.
+    noes: [usize; 18],
+    refused: usize,
 }
 
 impl Tally {
     /// Nothing counted yet.
     pub fn new() -> Tally {
-        Tally { counts: [0; 20] }
+        Tally {
+            yes: 0,
+            noes: [0; 18],
+            refused: 0,
+        }
     }
 
     /// One more yes.
     pub fn add_yes(&mut self) {
-        self.add(0);
+        self.yes = self.yes.saturating_add(1);
     }
 
     /// One more no of the cause `cause`.
     pub fn add_no(&mut self, cause: Cause) {
-        self.add(place_of(cause));
+        for place in 0..18 {
+            if CAUSES[place].as_bytes() == cause_name(cause) {
+                self.noes[place] = self.noes[place].saturating_add(1);
+            }
+        }
     }
 
     /// One more that can't be had.
     pub fn add_refused(&mut self) {
-        self.add(19);
+        self.refused = self.refused.saturating_add(1);
     }
 
-    fn add(&mut self, place: usize)
-        requires { place < 20 }
-    {
-        self.counts[place] = self.counts[place].saturating_add(1);
+    /// Adds what `later` counts.
+    pub fn add(&mut self, later: &Tally) {
+        self.yes = self.yes.saturating_add(later.yes);
+        self.refused = self.refused.saturating_add(later.refused);
+        for place in 0..18 {
+            self.noes[place] = self.noes[place].saturating_add(later.noes[place]);
+        }
     }
 
     /// The counts in one line: of all answers, and of those that came.
     pub fn line(&self, alloc: Global) -> Result<Vec<u8>, AllocError> {
-        let mut total = 0u64;
+        let mut total = self.yes.saturating_add(self.refused);
         let mut parts = Vec::new(alloc);
-        for (count, name) in self.counts.iter().zip(NAMES.iter()) {
+        push_part(alloc, self.yes, "yes", &mut parts)?;
+        for (count, cause) in self.noes.iter().zip(CAUSES.iter()) {
             total = total.saturating_add(*count);
-            if *count > 0 {
-                push_count(alloc, *count, name, &mut parts)?;
-            }
+            push_part(alloc, *count, cause, &mut parts)?;
         }
-        let mut line = Vec::new(alloc);
-        line.extend_from_slice(format!(in alloc; "total {total}")?.as_bytes())?;
+        push_part(alloc, self.refused, "refused", &mut parts)?;
+        let mut line = format!(in alloc; "total {total}")?.into_bytes();
         line.extend_from_slice(parts.as_slice())?;
         line.push(b'\n')?;
         Ok(line)
-    }
-}
-
-/// Appends the `count` of the answer `name` to `parts`.
-fn push_count(
-    alloc: Global,
-    count: u64,
-    name: &str,
-    parts: &mut Vec<u8>,
-) -> Result<(), AllocError> {
-    let part = format!(in alloc; ", {name} {count}")?;
-    parts.extend_from_slice(part.as_bytes())
-}
-
-/// The place of the count of `cause`.
-fn place_of(cause: Cause) -> usize
-    ensures { result < 20 }
-{
-    match cause {
-        Cause::FlagOut => 1,
-        Cause::Absent => 2,
-        Cause::AcsByte => 3,
-        Cause::Parm(fault) => place_of_parm(fault),
-        Cause::StaticRead => 10,
-        Cause::Unfinished => 11,
-        Cause::Stuck => 12,
-        Cause::NotTame => 13,
-        Cause::BadLook => 14,
-        Cause::WrongEffect(_) => 15,
-        Cause::NotShown => 16,
-        Cause::TooLong => 17,
-        Cause::NoResync => 18,
-        Cause::NoMemory => 19,
-    }
-}
-
-fn place_of_parm(fault: ParmFault) -> usize
-    ensures { result < 20 }
-{
-    match fault {
-        ParmFault::Underflow => 4,
-        ParmFault::BadNest => 5,
-        ParmFault::BadCode => 6,
-        ParmFault::Overflow => 7,
-        ParmFault::BadChar => 8,
-        ParmFault::WrongKind => 9,
-        ParmFault::NoMemory => 19,
     }
 }

@@ -1,7 +1,5 @@
 //! Reports of how far a survey has come.
 
-use crate::tallies::Tally;
-
 /// Receives reports of how far a survey has come.
 pub trait Watcher {
     /// `done` of `all` are done, and the one named `name` is next.
@@ -9,13 +7,4 @@ pub trait Watcher {
 
     /// There is no next one.
     fn ends(&mut self);
-}
-
-/// What is kept while a survey goes on.
-#[derive(Drop)]
-pub struct Course<W> {
-    /// The answers so far.
-    pub tally: Tally,
-    /// Who receives the reports.
-    pub watcher: W,
 }

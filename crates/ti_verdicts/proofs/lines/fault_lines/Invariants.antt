@@ -1,5 +1,5 @@
 use Rattle.std.proofs.Common.{◌≡◌, take, flat_map}
-use Rattle.ti_verdicts.specs.Lines.{fault_line}
+use Rattle.ti_verdicts.specs.Answers.{fault_line}
 use Rattle.ti_verdicts.proofs.lines.fault_lines.Given as goal
 
 -- the faults before this one have their lines

@@ -1,11 +1,10 @@
 use Rattle.std.proofs.lemmas.Result.{IfOk-weaker}
-use Rattle.ti_verdicts.specs.Lines.{SaysTo}
 use Rattle.ti_verdicts.proofs.Parts.{source_part_of}
-use Rattle.ti_verdicts.proofs.lines.source_part.Goals as goal
+use Rattle.ti_verdicts.proofs.files.source_part.Goals as goal
 
 pub returns : goal.returns
 returns g c =
     IfOk-weaker c.entry_lines.result _ _
-    (λ said told. source_part_of (SaysTo g.C.Certifier.certifies g.C.Certifier.refuses c.args.asked.now) c.args.stands.path.now c.args.stands.text.now c.args.stands.raws.now c.args.stands.place c.raw_at-raw.result.now c.in_ok-entry.entry
+    (λ said told. source_part_of (g.S.Speaker.says c.args.speaker.now) (g.S.Speaker.refuses c.args.speaker.now) c.args.stands.path.now c.args.stands.text.now c.args.stands.raws.now c.args.stands.place c.raw_at-raw.result.now c.in_ok-entry.entry
     c.as_slice.result.now c.first_name-name.result.now said.lines.items said.places.items c.raw_at-raw.ensures c.as_slice.ensures c.first_name-name.ensures c.in_ok-entry.ensures told)
     c.entry_lines.ensures

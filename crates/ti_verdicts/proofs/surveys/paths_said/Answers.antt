@@ -1,7 +1,7 @@
 use Rattle.std.proofs.Common.{◌<◌, ◌∙◌, length, refl, arith}
-use Rattle.ti_verdicts.specs.Lines.{AreLines, HasPairs, SaysTo}
+use Rattle.ti_verdicts.specs.Lines.{AreLines, HasPairs}
 use Rattle.ti_verdicts.proofs.Parts.{ends_step}
-use Rattle.ti_verdicts.proofs.surveys.survey_paths.Goals as goal
+use Rattle.ti_verdicts.proofs.surveys.paths_said.Goals as goal
 
 pub loop-done-init : goal.loop-done-init
 unfolding HasPairs
@@ -12,9 +12,9 @@ pub loop-done-preserved : goal.loop-done-preserved
 loop-done-preserved g c =
     let here : c.loop-done.done < length c.args.paths.now = omega arith in
     record {
-      told = ends_step (AreLines (SaysTo g.C.Certifier.certifies g.C.Certifier.refuses c.args.asked.now)) (g.F.Files.holds c.args.files.now) (g.F.Files.holds c.loop-done.files)
+      told = ends_step (AreLines (g.S.Speaker.says c.args.speaker.now) (g.S.Speaker.refuses c.args.speaker.now)) (g.F.Files.holds c.args.files.now) (g.F.Files.holds c.loop-done.files)
           c.args.paths.now c.loop-done.done _ c.loop-done.said.lines.items c.in_ok-own.own.said.lines.items c.add.new.self.lines.items c.loop-done.said.places.items c.in_ok-own.own.said.places.items c.add.new.self.places.items
           c.loop-done.failure c.in_ok-own.own.failure c.first_failure-failure.result here c.loop-done.invariant.kept c.in_ok-add.ensures.lines c.in_ok-add.ensures.places c.first_failure-failure.ensures c.loop-done.invariant.told
           c.in_ok-own.ensures.told;
-      kept = c.survey_path.ensures.kept ∙ c.loop-done.invariant.kept;
+      kept = c.path_said.ensures.kept ∙ c.loop-done.invariant.kept;
     }

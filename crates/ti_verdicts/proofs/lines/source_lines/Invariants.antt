@@ -1,8 +1,0 @@
-use Rattle.std.specs.List.{range_with_len}
-use Rattle.ti_verdicts.specs.Lines as spec
-use Rattle.ti_verdicts.proofs.lines.source_lines.Given as goal
-
--- the entries before this one have their lines
-abbrev pub invariant-loop-place : goal.invariant-loop-place
-invariant-loop-place g l =
-    spec.HasPairs (spec.IsSourcePart (spec.SaysTo g.C.Certifier.certifies g.C.Certifier.refuses l.asked) l.path l.text l.raws) (range_with_len 0 l.place) l.said.lines.items l.said.places.items

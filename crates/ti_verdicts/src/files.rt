@@ -1,0 +1,198 @@
+//! What is said of the entries of a file, one after another.
+
+ghost use Rattle.std.specs.Prelude.{◌≡◌, ◌<◌, IfOk, IfSome, Some, false, length, slice_get, true};
+ghost use Rattle.std.specs.List.{AllByRecursion, range_with_len};
+ghost use Rattle.ti_source.specs.Raw.{IsRaw};
+ghost use Rattle.ti_verdicts.specs.Lines as spec;
+ghost use Rattle.ti_verdicts.specs.Locations.{place_if};
+
+use crate::locations::{SourcePlace, first_name};
+use crate::said::Said;
+use crate::speakers::Speaker;
+use crate::watchers::Watcher;
+use std::alloc::{AllocError, Global};
+use ti_caps::Entry;
+use ti_commands::{CommandRefusal, entry_at, unpacked_entry};
+use ti_compiled::{Packed, decode};
+use ti_resolve::ResolveFault;
+use ti_source::{FaultKind, RawEntry, read};
+
+/// What the `speaker` says of the file at `path` with these `bytes`: a compiled one, as its first two bytes show, or a
+/// source.
+pub fn file_lines<S: Speaker, W: Watcher>(
+    alloc: Global,
+    speaker: &S,
+    path: &str,
+    bytes: &[u8],
+    watcher: &mut W,
+) -> Result<Said, AllocError>
+    ensures { IfOk result (λ said. spec.AreLines (S.says speaker.now) (S.refuses speaker.now)
+        path.now bytes.now said.lines.items said.places.items) }
+{
+    if is_compiled(bytes) {
+        compiled_lines(alloc, speaker, path, bytes)
+    } else {
+        text_lines(alloc, speaker, path, bytes, watcher)
+    }
+}
+
+/// Whether `bytes` begin as a compiled file does.
+fn is_compiled(bytes: &[u8]) -> bool
+    ensures { result ≡ spec.is_compiled bytes.now }
+{
+    match bytes {
+        [0x1a, 0x01, ..] | [0x1e, 0x02, ..] => true,
+        _ => false,
+    }
+}
+
+/// What is said of the compiled file at `path` with these `bytes`.
+fn compiled_lines<S: Speaker>(
+    alloc: Global,
+    speaker: &S,
+    path: &str,
+    bytes: &[u8],
+) -> Result<Said, AllocError>
+    ensures { IfOk result (λ said. spec.AreLinesBy true (S.says speaker.now) (S.refuses speaker.now)
+        path.now bytes.now said.lines.items said.places.items) }
+{
+    match decode(bytes) {
+        Ok(packed) => packed_lines(alloc, speaker, path, &packed),
+        Err(fault) => {
+            let why = format!(in alloc; "{fault}")?;
+            speaker.refuse(alloc, path, None, why.as_bytes())
+        }
+    }
+}
+
+/// What is said of the entry of `packed`, the file at `path`.
+fn packed_lines<S: Speaker>(
+    alloc: Global,
+    speaker: &S,
+    path: &str,
+    packed: &Packed<'_>,
+) -> Result<Said, AllocError>
+    ensures { IfOk result (λ said. spec.IsFilePart (S.says speaker.now) (S.refuses speaker.now)
+        path.now packed.now said.lines.items said.places.items) }
+{
+    let entry = unpacked_entry(alloc, packed)?;
+    let name = first_name(packed.names());
+    entry_lines(alloc, speaker, path, &None, name, &entry)
+}
+
+/// What is said of the source text at `path` with these `bytes`.
+fn text_lines<S: Speaker, W: Watcher>(
+    alloc: Global,
+    speaker: &S,
+    path: &str,
+    bytes: &[u8],
+    watcher: &mut W,
+) -> Result<Said, AllocError>
+    ensures { IfOk result (λ said. spec.AreLinesBy false (S.says speaker.now) (S.refuses speaker.now)
+        path.now bytes.now said.lines.items said.places.items) }
+{
+    match read(alloc, bytes) {
+        Ok(raws) => source_lines(alloc, speaker, path, bytes, raws.as_slice(), watcher),
+        Err(fault) => match fault.kind {
+            FaultKind::NoMemory => Err(AllocError),
+            _ => {
+                let why = format!(in alloc; "{fault}")?;
+                speaker.refuse(alloc, path, None, why.as_bytes())
+            }
+        },
+    }
+}
+
+/// What is said of the entries `raws` of the source `text` at `path`, in order.
+fn source_lines<S: Speaker, W: Watcher>(
+    alloc: Global,
+    speaker: &S,
+    path: &str,
+    text: &[u8],
+    raws: &[RawEntry],
+    watcher: &mut W,
+) -> Result<Said, AllocError>
+    requires { AllByRecursion IsRaw raws.now }
+    ensures { IfOk result (λ said. spec.HasPairs
+        (spec.IsSourcePart (S.says speaker.now) (S.refuses speaker.now) path.now text.now raws.now)
+        (range_with_len 0 (length raws.now)) said.lines.items said.places.items) }
+{
+    let mut said = Said::new(alloc);
+    for place in 0..raws.len() {
+        let name = first_name(raw_at(raws, place).names.as_slice());
+        watcher.begins(place, raws.len(), name);
+        let stands = SourcePlace {
+            path,
+            text,
+            raws,
+            place,
+        };
+        let own = source_part(alloc, speaker, stands)?;
+        said.add(&own)?;
+    }
+    Ok(said)
+}
+
+/// What is said of the entry of a source text that `stands` there.
+fn source_part<S: Speaker>(
+    alloc: Global,
+    speaker: &S,
+    stands: SourcePlace<'_>,
+) -> Result<Said, AllocError>
+    requires read { AllByRecursion IsRaw stands.raws.now }
+    requires there { stands.place < length stands.raws.now }
+    ensures { IfOk result (λ said. spec.IsSourcePart (S.says speaker.now) (S.refuses speaker.now)
+        stands.entry.path.now stands.entry.text.now stands.entry.raws.now stands.entry.place
+        said.lines.items said.places.items) }
+{
+    let path = stands.path;
+    let raw = raw_at(stands.raws, stands.place);
+    let entry = entry_at(alloc, stands.raws, stands.place)?;
+    let name = first_name(raw.names.as_slice());
+    entry_lines(alloc, speaker, path, &Some(stands), name, &entry)
+}
+
+/// The entry at `place` in `raws`, as it was read.
+#[tactic(auto, using(std::proofs::lemmas::Option::slice_get_read))]
+fn raw_at(raws: &[RawEntry], place: usize) -> &RawEntry
+    requires { place < length raws.now }
+    ensures { slice_get raws.now place ≡ Some result.now }
+{
+    &raws[place]
+}
+
+/// What is said of the `entry` of the file at `path` under its `name`, whether it is there, as it `stands`, or can't be
+/// had.
+fn entry_lines<S: Speaker>(
+    alloc: Global,
+    speaker: &S,
+    path: &str,
+    stands: &Option<SourcePlace<'_>>,
+    name: &[u8],
+    entry: &Result<Entry, CommandRefusal>,
+) -> Result<Said, AllocError>
+    requires { IfSome stands.now (λ there. there.place < length there.raws.now) }
+    ensures { IfOk result (λ said. spec.IsTold (S.says speaker.now) (S.refuses speaker.now) entry.now path.now
+        (place_if stands.now) name.now said.lines.items said.places.items) }
+{
+    match entry {
+        Ok(entry) => speaker.say(alloc, path, stands, name, entry),
+        Err(refusal) => {
+            let why = refusal_words(alloc, refusal)?;
+            speaker.refuse(alloc, path, Some(name), why.as_slice())
+        }
+    }
+}
+
+/// The kind of `refusal`, and the name that it is about.
+fn refusal_words(alloc: Global, refusal: &CommandRefusal) -> Result<Vec<u8>, AllocError> {
+    let mut words = format!(in alloc; "{refusal}")?.into_bytes();
+    if let CommandRefusal::Resolve(
+        ResolveFault::NoSuchEntry(name) | ResolveFault::Cycle(name) | ResolveFault::TooMany(name),
+    ) = refusal
+    {
+        words.push(b' ')?;
+        words.extend_from_slice(name.as_slice())?;
+    }
+    Ok(words)
+}

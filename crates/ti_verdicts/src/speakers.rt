@@ -1,0 +1,44 @@
+//! Who says what is found out about entries.
+
+ghost use Rattle.std.specs.Prelude.{◌<◌, IfOk, IfSome, length, option_map};
+ghost use Rattle.ti_verdicts.specs.Lines.{Refusing, Saying};
+ghost use Rattle.ti_verdicts.specs.Locations.{place_if};
+
+use crate::locations::SourcePlace;
+use crate::said::Said;
+use std::alloc::{AllocError, Global};
+use ti_caps::Entry;
+
+/// Says what is found out about each entry of a file.
+pub trait Speaker {
+    /// What holds of what it says of an entry.
+    ghost says: { Self → Saying };
+
+    /// What holds of what it says of an entry that can't be had, or of a file that has none.
+    ghost refuses: { Self → Refusing };
+
+    /// What it says of `entry`, which the file at `path` has under this `name`, and which `stands` there.
+    fn say(
+        &self,
+        alloc: Global,
+        path: &str,
+        stands: &Option<SourcePlace<'_>>,
+        name: &[u8],
+        entry: &Entry,
+    ) -> Result<Said, AllocError>
+        requires { IfSome stands.now (λ there. there.place < length there.raws.now) }
+        ensures { IfOk result (λ said. says self.now path.now (place_if stands.now) name.now entry.now
+            said.lines.items said.places.items) };
+
+    /// That the file at `path` has an entry of this `name` that can't be had, or no entries where there is no name, and
+    /// `why`.
+    fn refuse(
+        &self,
+        alloc: Global,
+        path: &str,
+        name: Option<&[u8]>,
+        why: &[u8],
+    ) -> Result<Said, AllocError>
+        ensures { IfOk result (λ said. refuses self.now path.now (option_map (λ n. n.now) name.entry)
+            said.lines.items said.places.items) };
+}
