@@ -76,8 +76,8 @@ pub fn survey_files<C: Certifier, F: Files, W: Watcher + Drop>(
     })
 }
 
-/// What the `speaker` says of each entry of each file of `paths`, one after another. The failure is that of the first file
-/// that can't be had, and the others are surveyed all the same. The `watcher` sees how far the survey has come.
+/// What the `speaker` says of each entry of each file of `paths`, one after another. The failure is that of the first
+/// file that can't be had, and the others are surveyed all the same. The `watcher` sees how far the survey has come.
 pub fn survey_paths<S: Speaker, F: Files, W: Watcher + Drop>(
     alloc: Global,
     speaker: &S,
