@@ -14,69 +14,30 @@ use Rattle.ti_lines.specs.declared.row_lines.RowLine.{RowLine}
 use Rattle.ti_lines.specs.Texts.{line_texts, ended}
 use Rattle.ti_conforms.specs.Sends.{Sends}
 use Rattle.ti_conforms.specs.Entries.{has_string, string_of}
-use Rattle.ti_cert.specs.Order.{Precedes, HasLine}
+use Rattle.ti_cert.specs.Order.{Precedes}
 use Rattle.ti_cert.specs.Certificates.{HasEffect}
 use Rattle.ti_cert.specs.Texts.{StandInOrder, IsCertificate}
 use Rattle.ti_cert.specs.Basic.{basic_bytes, basic_effect, basic_line, basic_rows, basic_text, BasicAlone}
-use Rattle.ti_cert.proofs.Singleness.{never_itself, never_back}
+use Rattle.ti_cert.proofs.Elements.{reversed_has, reversed_only, mapped_has, mapped_only, same_rising}
+use Rattle.ti_cert.proofs.Standing.{stands_after, has_its_effect}
+use Rattle.ti_cert.proofs.Singleness.{never_back}
 use Rattle.ti_cert.proofs.Texts.{that_of_certificate}
-use Rattle.ti_cert.proofs.BasicOrder.{Rises, reversed_has, reversed_only, kind_of, in_range, rows_rise}
+use Rattle.ti_cert.proofs.BasicOrder.{Rises, kind_of, in_range, rows_rise}
 use Rattle.ti_cert.proofs.BasicLines.{HasTokens, tokens_of, has_tokens}
 use Rattle.ti_cert.proofs.BasicAgreement.{checked_kind, among_checked, some_string}
-
--- ---- lists that rise
-
-tails_same : (rows cols : ℕ) (x : Row) (xs ys : List Row) → ((z : Row) → IsAmong xs z → Precedes rows cols x z) → ((z : Row) → IsAmong (x ∷ xs) z → IsAmong (x ∷ ys) z) → (z : Row) → IsAmong xs z → IsAmong ys z
-tails_same rows cols x xs ys above over z a = by_part (over z (inr a))
-  where
-    by_part : IsAmong (x ∷ ys) z → IsAmong ys z
-    by_part (inl e) = absurd (never_itself rows cols x (subst (λ (r : Row). Precedes rows cols x r) e (above z a)))
-    by_part (inr b) = b
-
-first_same : (rows cols : ℕ) (x y : Row) (xs ys : List Row) → Rises rows cols (x ∷ xs) → Rises rows cols (y ∷ ys) → IsAmong (y ∷ ys) x → IsAmong (x ∷ xs) y → x ≡ y
-first_same rows cols x y xs ys p q (inl e) b = e
-first_same rows cols x y xs ys p q (inr a) (inl e) = sym e
-first_same rows cols x y xs ys p q (inr a) (inr b) = absurd (never_back rows cols x y (p.0 y b) (q.0 x a))
-
-same_rows : (rows cols : ℕ) (xs ys : List Row) → Rises rows cols xs → Rises rows cols ys → ((z : Row) → IsAmong xs z → IsAmong ys z) → ((z : Row) → IsAmong ys z → IsAmong xs z) → xs ≡ ys
-same_rows rows cols [] [] p q over back = refl
-same_rows rows cols [] (y ∷ ys) p q over back = absurd (back y (inl refl))
-same_rows rows cols (x ∷ xs) [] p q over back = absurd (over x (inl refl))
-same_rows rows cols (x ∷ xs) (y ∷ ys) p q over back =
-    let e : x ≡ y = first_same rows cols x y xs ys p q (over x (inl refl)) (back y (inl refl)) in
-    let over_x : (z : Row) → IsAmong (x ∷ xs) z → IsAmong (x ∷ ys) z = λ z a. subst (λ (r : Row). IsAmong (r ∷ ys) z) (sym e) (over z a) in
-    let back_x : (z : Row) → IsAmong (x ∷ ys) z → IsAmong (x ∷ xs) z = λ z a. back z (subst (λ (r : Row). IsAmong (r ∷ ys) z) e a) in
-    let above_y : (z : Row) → IsAmong ys z → Precedes rows cols x z = λ z a. subst (λ (r : Row). Precedes rows cols r z) (sym e) (q.0 z a) in
-    ap (λ (r : Row). r ∷ xs) e ∙ ap (λ (l : List Row). y ∷ l) (same_rows rows cols xs ys p.1 q.1 (tails_same rows cols x xs ys p.0 over_x) (tails_same rows cols x ys xs above_y back_x))
 
 -- ---- the rows of lines that stand in order
 
 abbrev rows_in : List RowLine → List Row
 rows_in lines = map (λ line. line.row) lines
 
-among_rows : (lines : List RowLine) (row : Row) → IsAmong (rows_in lines) row → HasLine lines row
-among_rows [] row a = absurd a
-among_rows (line ∷ lines) row (inl e) = record { line = line; among = inl refl; of_row = sym e }
-among_rows (line ∷ lines) row (inr a) = let h = among_rows lines row a in record { line = h.line; among = inr h.among; of_row = h.of_row }
-
-row_among : (lines : List RowLine) (line : RowLine) → IsAmong lines line → IsAmong (rows_in lines) line.row
-row_among [] line a = absurd a
-row_among (first ∷ lines) line (inl e) = inl (ap (λ (l : RowLine). l.row) e)
-row_among (first ∷ lines) line (inr a) = inr (row_among lines line a)
-
-stands_after : (rows cols : ℕ) (before lines : List RowLine) (line : RowLine) → StandInOrder rows cols before lines → IsAmong before line → (row : Row) → IsAmong (rows_in lines) row → Precedes rows cols line.row row
-stands_after rows cols before [] line s a row b = absurd b
-stands_after rows cols before (next ∷ lines) line s a row (inl e) = subst (λ (r : Row). Precedes rows cols line.row r) (sym e) (s.0.place.behind line a)
-stands_after rows cols before (next ∷ lines) line s a row (inr b) = stands_after rows cols (next ∷ before) lines line s.1 (inr a) row b
-
 in_order : (rows cols : ℕ) (before lines : List RowLine) → StandInOrder rows cols before lines → Rises rows cols (rows_in lines)
 in_order rows cols before [] s = tt
-in_order rows cols before (line ∷ lines) s = (λ row a. stands_after rows cols (line ∷ before) lines line s.1 (inl refl) row a, in_order rows cols (line ∷ before) lines s.1)
-
-has_its_effect : (rows cols : ℕ) (before lines : List RowLine) (line : RowLine) → StandInOrder rows cols before lines → IsAmong lines line → HasEffect rows cols line line.effect
-has_its_effect rows cols before [] line s a = absurd a
-has_its_effect rows cols before (first ∷ lines) line s (inl e) = subst (λ (l : RowLine). HasEffect rows cols l l.effect) (sym e) s.0.has
-has_its_effect rows cols before (first ∷ lines) line s (inr a) = has_its_effect rows cols (first ∷ before) lines line s.1 a
+in_order rows cols before (line ∷ lines) s = (
+  λ row a. let m = mapped_only (λ (l : RowLine). l.row) lines row a in
+      subst (λ (r : Row). Precedes rows cols line.row r) (sym m.is) (stands_after rows cols (line ∷ before) lines line s.1 (inl refl) m.from m.among),
+  in_order rows cols (line ∷ before) lines s.1,
+)
 
 -- ---- each line is the basic one
 
@@ -119,15 +80,15 @@ alone entry rows cols text lines size b is sent = sym certificate.spelled.spelle
         line_is line (basic_bytes line.row) (basic_effect line.row) (bytes_are line a) (effect_is rows cols line (bytes_are line a) t (has_its_effect rows cols [] (reverse lines) line certificate.stands (reversed_has lines line a)))
 
     over : (row : Row) → IsAmong (rows_in (reverse lines)) row → IsAmong (basic_rows rows cols (has_string entry Home) (has_string entry El)) row
-    over row a = let h = among_rows (reverse lines) row a in subst (λ (r : Row). IsAmong (basic_rows rows cols (has_string entry Home) (has_string entry El)) r) h.of_row (own h.line (reversed_only lines h.line h.among))
+    over row a = let m = mapped_only (λ (l : RowLine). l.row) (reverse lines) row a in subst (λ (r : Row). IsAmong (basic_rows rows cols (has_string entry Home) (has_string entry El)) r) (sym m.is) (own m.from (reversed_only lines m.from m.among))
 
     back : (row : Row) → IsAmong (basic_rows rows cols (has_string entry Home) (has_string entry El)) row → IsAmong (rows_in (reverse lines)) row
     back row a =
         let k = kind_of rows cols (has_string entry Home) (has_string entry El) row a in
         let h = sent.all row (in_range rows cols (has_string entry Home) (has_string entry El) row k).0 (checked_kind entry rows cols row b k) in
-        subst (λ (r : Row). IsAmong (rows_in (reverse lines)) r) h.of_row (row_among (reverse lines) h.line (reversed_has lines h.line h.among))
+        subst (λ (r : Row). IsAmong (rows_in (reverse lines)) r) h.of_row (mapped_has (λ (l : RowLine). l.row) (reverse lines) h.line (reversed_has lines h.line h.among))
 
     all : reverse lines ≡ map basic_line (basic_rows rows cols (has_string entry Home) (has_string entry El))
     all = all_lines (reverse lines) (λ line a. is_basic_line line (reversed_only lines line a))
-        ∙ ap (λ (rs : List Row). map basic_line rs) (same_rows rows cols (rows_in (reverse lines)) (basic_rows rows cols (has_string entry Home) (has_string entry El)) (in_order rows cols [] (reverse lines) certificate.stands)
+        ∙ ap (λ (rs : List Row). map basic_line rs) (same_rising (Precedes rows cols) (never_back rows cols) (rows_in (reverse lines)) (basic_rows rows cols (has_string entry Home) (has_string entry El)) (in_order rows cols [] (reverse lines) certificate.stands)
         (rows_rise rows cols (has_string entry Home) (has_string entry El)) over back)

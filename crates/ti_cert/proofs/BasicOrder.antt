@@ -1,10 +1,8 @@
 -- The rows of a basic certificate stand in order, and none of them is missing.
-use Rattle.std.proofs.Common.{◌≡◌, ◌⊎◌, ◌<◌, ◌≤◌, ◌+◌, ◌*◌, ◌==◌, ℕ, zero, suc, Bool, true, false, if◌then◌else◌, List, [], ◌∷◌, ◌++◌, map, reverse, Option, Some, None, inl, inr, refl, sym, ap, subst, ◌∙◌, arith}
+use Rattle.std.proofs.Common.{◌≡◌, ◌⊎◌, ◌<◌, ◌≤◌, ◌+◌, ◌*◌, ◌==◌, ℕ, zero, suc, Bool, true, false, if◌then◌else◌, List, [], ◌∷◌, ◌++◌, map, Option, Some, None, inl, inr, refl, sym, ap, subst, ◌∙◌, arith}
 use Rattle.std.specs.List.{flat_map, range_with_len}
 use Rattle.std.proofs.Math.Nat.{mul-le-mul_right}
 use Rattle.std.proofs.lemmas.Bool.{cases_eq}
-use Rattle.std.proofs.lemmas.Grind.{reverse_onto}
-use Rattle.std.proofs.lemmas.List.{reverse-reverse}
 use Rattle.ti_conforms.specs.Charsets.{IsAmong}
 use Rattle.ti_rows.specs.declared.rows.Row.{Row}
 use Rattle.ti_rows.specs.declared.rows.Row.TheVariants.{Clear, Cup, Home, El, Sgr0}
@@ -13,27 +11,13 @@ use Rattle.ti_rows.specs.Lists.{IsInRange}
 use Rattle.ti_lines.specs.declared.row_lines.RowLine.{RowLine}
 use Rattle.ti_cert.specs.Order.{Precedes, HasLine, HasCap, IsRequiredLine, IsOfCap, IsLacking, IsComplete, IsInPlace}
 use Rattle.ti_cert.specs.Basic.{basic_line, is_basic, places, only_if, basic_rows}
-use Rattle.ti_cert.proofs.Preservation.{among_front, among_behind}
+use Rattle.ti_cert.proofs.Elements.{among_front, among_behind, among_either, RisesBy}
 use Rattle.ti_cert.proofs.Singleness.{never_itself, never_back}
 
 -- ---- rows that rise
 
 abbrev pub Rises : ℕ → ℕ → List Row → Type 0
-Rises rows cols [] = Unit {0}
-Rises rows cols (row ∷ rest) = ((other : Row) → IsAmong rest other → Precedes rows cols row other) × Rises rows cols rest
-
-pub among_either : {A : Type 0} (xs ys : List A) (x : A) → IsAmong (xs ++ ys) x → IsAmong xs x ⊎ IsAmong ys x
-among_either [] ys x a = inr a
-among_either (y ∷ xs) ys x (inl e) = inl (inl e)
-among_either (y ∷ xs) ys x (inr a) = elim (among_either xs ys x a) [ inl b ↦ inl (inr b) | inr b ↦ inr b ]
-
-pub reversed_has : (xs : List RowLine) (x : RowLine) → IsAmong xs x → IsAmong (reverse xs) x
-reversed_has [] x a = absurd a
-reversed_has (y ∷ xs) x (inl e) = subst (λ (l : List RowLine). IsAmong l x) (sym (reverse_onto xs y [])) (among_behind (reverse xs) (y ∷ []) x (inl e))
-reversed_has (y ∷ xs) x (inr a) = subst (λ (l : List RowLine). IsAmong l x) (sym (reverse_onto xs y [])) (among_front (reverse xs) (y ∷ []) x (reversed_has xs x a))
-
-pub reversed_only : (xs : List RowLine) (x : RowLine) → IsAmong (reverse xs) x → IsAmong xs x
-reversed_only xs x a = subst (λ (l : List RowLine). IsAmong l x) (reverse-reverse xs) (reversed_has (reverse xs) x a)
+Rises rows cols list = RisesBy (Precedes rows cols) list
 
 rises_both : (rows cols : ℕ) (xs ys : List Row) → Rises rows cols xs → Rises rows cols ys → ((x y : Row) → IsAmong xs x → IsAmong ys y → Precedes rows cols x y) → Rises rows cols (xs ++ ys)
 rises_both rows cols [] ys p q h = q

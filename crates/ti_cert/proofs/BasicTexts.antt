@@ -1,5 +1,5 @@
 -- The text of a basic certificate is accepted.
-use Rattle.std.proofs.Common.{◌≡◌, ◌≤◌, ◌+◌, ◌*◌, ℕ, zero, suc, Bool, true, false, List, [], ◌∷◌, ◌++◌, map, reverse, length, None, Result, Ok, Err, inl, inr, refl, sym, ap, ◌∙◌, arith, length-append}
+use Rattle.std.proofs.Common.{◌≡◌, ◌≤◌, ◌+◌, ◌*◌, ℕ, zero, suc, Bool, true, false, List, [], ◌∷◌, ◌++◌, map, reverse, length, None, Result, Ok, Err, inl, inr, refl, subst, sym, ap, ◌∙◌, arith, length-append}
 use Rattle.std.specs.List.{AllByRecursion, flat_map, range_with_len}
 use Rattle.std.proofs.lemmas.List.FromFn.{length-map-range_with_len}
 use Rattle.vt_term.specs.Size.{IsSize}
@@ -18,7 +18,8 @@ use Rattle.ti_cert.specs.declared.faults.CertFault.{CertFault}
 use Rattle.ti_cert.specs.declared.faults.CertFaultKind.{CertFaultKind}
 use Rattle.ti_cert.specs.declared.faults.CertFaultKind.TheVariants.{NoMemory}
 use Rattle.ti_lines.specs.declared.judgements.LineFault.{LineFault}
-use Rattle.ti_cert.proofs.BasicOrder.{Kind, kind_of, reversed_has, reversed_only, IsReady, ready_first, ready_place, ready_end, ready_next}
+use Rattle.ti_cert.proofs.Elements.{reversed_has, reversed_only, mapped_has, mapped_only}
+use Rattle.ti_cert.proofs.BasicOrder.{Kind, kind_of, IsReady, ready_first, ready_place, ready_end, ready_next}
 use Rattle.ti_cert.proofs.BasicLines.{has_text, has_tokens, has_effect, is_asked_for, size_is, size_short}
 use Rattle.ti_cert.proofs.Texts.{ended_length}
 use Rattle.ti_cert.proofs.Converse.{accepted_certificate}
@@ -31,20 +32,16 @@ basic_lines rows cols home el = map basic_line (basic_rows rows cols home el)
 
 -- ---- which lines these are
 
-mapped_has : (rest : List Row) (row : Row) → IsAmong rest row → IsAmong (map basic_line rest) (basic_line row)
-mapped_has [] row a = absurd a
-mapped_has (first ∷ rest) row (inl e) = inl (ap basic_line e)
-mapped_has (first ∷ rest) row (inr a) = inr (mapped_has rest row a)
-
-mapped_only : (rest : List Row) (line : RowLine) → IsAmong (map basic_line rest) line → IsAmong rest line.row × (line ≡ basic_line line.row)
-mapped_only [] line a = absurd a
-mapped_only (row ∷ rest) line (inl e) = (inl (ap (λ (l : RowLine). l.row) e), e ∙ ap (λ (l : RowLine). basic_line l.row) (sym e))
-mapped_only (row ∷ rest) line (inr a) = let m = mapped_only rest line a in (inr m.0, m.1)
+listed_only : (rest : List Row) (line : RowLine) → IsAmong (map basic_line rest) line → IsAmong rest line.row × (line ≡ basic_line line.row)
+listed_only rest line a =
+    let m = mapped_only basic_line rest line a in
+    let e : m.from ≡ line.row = sym (ap (λ (l : RowLine). l.row) m.is) in
+    (subst (λ (r : Row). IsAmong rest r) e m.among, m.is ∙ ap basic_line e)
 
 pub are_basic : (rows cols : ℕ) (home el : Bool) → AreBasic rows cols home el (reverse (basic_lines rows cols home el))
 are_basic rows cols home el = record {
-  each = λ line a. mapped_only (basic_rows rows cols home el) line (reversed_only (basic_lines rows cols home el) line a);
-  all = λ row a. reversed_has (basic_lines rows cols home el) (basic_line row) (mapped_has (basic_rows rows cols home el) row a);
+  each = λ line a. listed_only (basic_rows rows cols home el) line (reversed_only (basic_lines rows cols home el) line a);
+  all = λ row a. reversed_has (basic_lines rows cols home el) (basic_line row) (mapped_has basic_line (basic_rows rows cols home el) row a);
 }
 
 -- ---- each can be written, is short and stands in its place

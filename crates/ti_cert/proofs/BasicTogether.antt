@@ -20,7 +20,8 @@ use Rattle.ti_cert.specs.Clashes.{GoesTogether, OfLines}
 use Rattle.ti_cert.specs.Basic.{basic_bytes, basic_line, is_basic, basic_rows}
 use Rattle.ti_cert.proofs.Ranges as ranges
 use Rattle.ti_cert.proofs.GroupFacts.{if_some}
-use Rattle.ti_cert.proofs.BasicOrder.{among_either, IsClear, IsSgr0, kind_of, in_range, each_there}
+use Rattle.ti_cert.proofs.Elements.{among_either}
+use Rattle.ti_cert.proofs.BasicOrder.{IsClear, IsSgr0, kind_of, in_range, each_there}
 use Rattle.ti_cert.proofs.BasicLines.{HasTokens, tokens_of, has_tokens}
 
 -- a table of just these strings

@@ -1,3 +1,4 @@
+pub mod Elements
 pub mod Ranges
 pub mod Pieces
 pub mod GroupFacts
@@ -13,6 +14,7 @@ pub mod Relations
 pub mod Singleness
 pub mod Texts
 pub mod Asked
+pub mod Standing
 pub mod LineTexts
 pub mod Converse
 pub mod Accepted

@@ -25,6 +25,7 @@ use Rattle.ti_cert.specs.Strings.{Strings, group_at, row_string, has_group, Adds
 use Rattle.ti_cert.specs.Known.{Known, looks_with, HasRecord, IsKept, IsChange, IsFrom, IsTold, Holds, with_change}
 use Rattle.ti_cert.specs.Certificates.{rival}
 use Rattle.ti_conforms.specs.Looks.{LooksAlone, no_looks}
+use Rattle.ti_cert.proofs.Elements.{among_front, among_behind, among_either}
 use Rattle.ti_cert.proofs.Ranges.{less}
 use Rattle.ti_cert.proofs.Singles.{looks_more}
 use Rattle.ti_cert.proofs.GroupFacts.{there_some, none_at_first}
@@ -133,34 +134,16 @@ either_keeps k row e r f true is there later = refl
 either_keeps k row e r f false is there later = learned_keeps k.strings.rows k.strings.cols k.looks row e r f
     (λ same. true≢false (sym there ∙ (ap (λ (n : ℕ). not (length (group_at k.strings n) == 0)) same ∙ is))) later
 
-pub among_front : {A : Type 0} (xs ys : List A) (x : A) → IsAmong xs x → IsAmong (xs ++ ys) x
-among_front [] ys x a = absurd a
-among_front (y ∷ xs) ys x (inl e) = inl e
-among_front (y ∷ xs) ys x (inr a) = inr (among_front xs ys x a)
-
-pub among_behind : {A : Type 0} (xs ys : List A) (x : A) → IsAmong ys x → IsAmong (xs ++ ys) x
-among_behind [] ys x a = a
-among_behind (y ∷ xs) ys x a = inr (among_behind xs ys x a)
-
-either_list : {A : Type 0} (xs ys : List A) (x : A) → IsAmong (xs ++ ys) x → IsAmong xs x ⊎ IsAmong ys x
-either_list [] ys x a = inr a
-either_list (y ∷ xs) ys x (inl e) = inl (inl e)
-either_list (y ∷ xs) ys x (inr a) = onto (either_list xs ys x a)
-  where
-    onto : IsAmong xs x ⊎ IsAmong ys x → IsAmong (y ∷ xs) x ⊎ IsAmong ys x
-    onto (inl b) = inl (inr b)
-    onto (inr b) = inr b
-
-kept_among : (b : Bool) (changes : List Sets) (change x : Sets) → IsAmong changes x → IsAmong (with_change b changes change) x
+pub kept_among : (b : Bool) (changes : List Sets) (change x : Sets) → IsAmong changes x → IsAmong (with_change b changes change) x
 kept_among true changes change x a = among_front changes (change ∷ []) x a
 kept_among false changes change x a = a
 
-new_among : (b : Bool) (changes : List Sets) (change : Sets) → b ≡ true → IsAmong (with_change b changes change) change
+pub new_among : (b : Bool) (changes : List Sets) (change : Sets) → b ≡ true → IsAmong (with_change b changes change) change
 new_among true changes change h = among_behind changes (change ∷ []) change (inl refl)
 new_among false changes change h = cc
 
 which_among : (b : Bool) (changes : List Sets) (change x : Sets) → IsAmong (with_change b changes change) x → IsAmong changes x ⊎ (x ≡ change)
-which_among true changes change x a = tail_is (either_list changes (change ∷ []) x a)
+which_among true changes change x a = tail_is (among_either changes (change ∷ []) x a)
   where
     tail_is : IsAmong changes x ⊎ IsAmong (change ∷ []) x → IsAmong changes x ⊎ (x ≡ change)
     tail_is (inl b) = inl b
@@ -185,7 +168,7 @@ holds_more k strings row bytes tokens effect looks reach changes h a whole looks
   reach_is = reach_so ∙ (ap (λ (r : Reach). joined r (reach_of tokens)) h.reach_is ∙ sym (reach_of-append h.all tokens));
   lines = λ r b there. line r b (a.only r b there);
   changes = λ x among. change x (which_among (settles row) k.changes effect.charset x (subst (λ (xs : List Sets). IsAmong xs x) changes_so among));
-  from_lines = λ token among. from_either token (either_list h.all tokens token among);
+  from_lines = λ token among. from_either token (among_either h.all tokens token among);
   told = λ x among. told_either x (which_told (settles row) k.changes effect.charset x (subst (λ (xs : List Sets). IsAmong xs x) changes_so among));
   looks = subst (λ (l : Looks). LooksAlone (λ r. has_group strings r) l) (sym looks_are) (looks_more k strings row bytes effect a h.looks);
 }

@@ -1,7 +1,6 @@
 -- The lines of a basic entry are its basic text, and no row of it is refused unless memory runs out.
 use Rattle.std.proofs.Common.{◌≡◌, ℕ, true, List, [], ◌∷◌, map, reverse, Option, None, Some, Ok, inl, inr, refl, sym, ap, subst, ◌∙◌}
 use Rattle.std.proofs.lemmas.Bool.{and_parts}
-use Rattle.std.proofs.lemmas.List.{reverse-reverse}
 use Rattle.std.proofs.lemmas.Option.{same_Some, none-some}
 use Rattle.vt_term.specs.Size.{IsSize}
 use Rattle.vt_term.specs.Text.{Splits}
@@ -26,6 +25,7 @@ use Rattle.ti_conforms.specs.Looks.{no_looks}
 use Rattle.ti_cert.proofs.BasicAgreement.{among_checked, checked_kind, some_string}
 use Rattle.ti_cert.proofs.BasicLines.{HasTokens, tokens_of, has_tokens, has_effect}
 use Rattle.ti_cert.proofs.BasicOrder.{Rises, Kind, IsClear, IsCup, IsEl, IsHome, IsSgr0, kind_of, in_range}
+use Rattle.ti_cert.proofs.Elements.{reversed_has, reversed_only, mapped_has, mapped_only}
 use Rattle.ti_cert.proofs.BasicTexts.{basic_accepted}
 use Rattle.ti_checker.specs.Certificate.{IsCertificateOf}
 use Rattle.ti_checker.specs.First.{SendsRight}
@@ -39,7 +39,6 @@ use Rattle.ti_checker.proofs.Certified.{none_of_all}
 use Rattle.ti_checker.proofs.Exclusions.{none_faulty, not_unfit}
 use Rattle.ti_checker.proofs.Walks.{same_string}
 use Rattle.ti_conforms.proofs.Matches.{same_checked}
-use Rattle.ti_checker.proofs.Order.{reversed_has}
 use Rattle.ti_checker.proofs.Passages.{same_bytes, none_certified}
 
 abbrev rows_of : Content → ℕ → ℕ → List Row
@@ -64,25 +63,10 @@ basic_is entry rows cols row size b range checked =
       has = has_effect rows cols row (its_tokens entry rows cols row size (checked_row entry rows cols row b range checked));
     }
 
-among_lines : (rows : List Row) (row : Row) → IsAmong rows row → IsAmong (map basic_line rows) (basic_line row)
-among_lines [] row a = absurd a
-among_lines (first ∷ rows) row (inl e) = inl (ap basic_line e)
-among_lines (first ∷ rows) row (inr a) = inr (among_lines rows row a)
-
-record IsBasicLine (rows : List Row) (line : RowLine) : Type 0 where
-  row : Row
-  among : IsAmong rows row
-  is : line ≡ basic_line row
-
-line_among : (rows : List Row) (line : RowLine) → IsAmong (map basic_line rows) line → IsBasicLine rows line
-line_among [] line a = absurd a
-line_among (first ∷ rows) line (inl e) = record { row = first; among = inl refl; is = e }
-line_among (first ∷ rows) line (inr a) = let h = line_among rows line a in record { row = h.row; among = inr h.among; is = h.is }
-
 in_order_of : (rows cols : ℕ) (list : List Row) → Rises rows cols list → InOrder rows cols (map basic_line list)
 in_order_of rows cols [] h = tt
 in_order_of rows cols (row ∷ list) h = (
-  λ other a. let k = line_among list other a in subst (λ (l : RowLine). Precedes rows cols row l.row) (sym k.is) (h.0 k.row k.among),
+  λ other a. let m = mapped_only basic_line list other a in subst (λ (l : RowLine). Precedes rows cols row l.row) (sym m.is) (h.0 m.from m.among),
   in_order_of rows cols list h.1,
 )
 
@@ -94,14 +78,11 @@ record IsOwn (entry : Content) (rows cols : ℕ) (line : RowLine) : Type 0 where
 
 own_line : (entry : Content) (rows cols : ℕ) (line : RowLine) → IsBasic entry rows cols → IsAmong (map basic_line (rows_of entry rows cols)) line → IsOwn entry rows cols line
 own_line entry rows cols line b a =
-    let h = line_among (rows_of entry rows cols) line a in
-    let k = kind_of rows cols (has_string entry Home) (has_string entry El) h.row h.among in
-    record { row = h.row; range = (in_range rows cols (has_string entry Home) (has_string entry El) h.row k).0; checked = checked_kind entry rows cols h.row b k; is = h.is }
+    let m = mapped_only basic_line (rows_of entry rows cols) line a in
+    let k = kind_of rows cols (has_string entry Home) (has_string entry El) m.from m.among in
+    record { row = m.from; range = (in_range rows cols (has_string entry Home) (has_string entry El) m.from k).0; checked = checked_kind entry rows cols m.from b k; is = m.is }
 
 -- ---- the basic text is its certificate
-
-reversed_only : (xs : List RowLine) (x : RowLine) → IsAmong (reverse xs) x → IsAmong xs x
-reversed_only xs x a = subst (λ (l : List RowLine). IsAmong l x) (reverse-reverse xs) (reversed_has (reverse xs) x a)
 
 pub is_certificate : (entry : Content) (rows cols : ℕ) → IsSize rows cols → IsBasic entry rows cols → IsCertificateOf entry rows cols (basic_text_of entry rows cols)
 is_certificate entry rows cols size b = record {
@@ -113,7 +94,7 @@ is_certificate entry rows cols size b = record {
       (subst (λ (l : RowLine). IsLineOf entry rows cols l) (sym o.is) (basic_is entry rows cols o.row size b o.range o.checked)).sent;
   complete = λ row range checked. record {
     line = basic_line row;
-    among = reversed_has (map basic_line (rows_of entry rows cols)) (basic_line row) (among_lines (rows_of entry rows cols) row (among_checked entry rows cols row b range checked));
+    among = reversed_has (map basic_line (rows_of entry rows cols)) (basic_line row) (mapped_has basic_line (rows_of entry rows cols) row (among_checked entry rows cols row b range checked));
     of_row = refl;
   };
 }

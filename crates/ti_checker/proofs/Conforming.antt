@@ -22,7 +22,7 @@ use Rattle.ti_cert.specs.Certificates.{looks_of}
 use Rattle.ti_cert.specs.Seen.{IsFound, AreSettled}
 use Rattle.ti_cert.specs.declared.clashes.Resync.{Resync}
 use Rattle.ti_cert.proofs.Asked.{AreAsked, asked_in_order}
-use Rattle.ti_cert.proofs.BasicOrder.{reversed_has}
+use Rattle.ti_cert.proofs.Elements.{reversed_has}
 use Rattle.ti_cert.proofs.Decided.{IsAsked, Closed, judged_closed}
 use Rattle.ti_cert.proofs.Together.{sets_are}
 use Rattle.ti_checker.specs.First.{EachWritten}

@@ -18,8 +18,7 @@ use Rattle.ti_lines.specs.RowLines.{line_text}
 use Rattle.ti_conforms.specs.Entries.{is_checked, string_of}
 use Rattle.ti_conforms.proofs.Walks.{same_count}
 use Rattle.ti_cert.specs.Order.{Precedes, HasLine}
-use Rattle.ti_cert.proofs.BasicOrder.{among_either}
-use Rattle.ti_cert.proofs.Preservation.{among_front, among_behind}
+use Rattle.ti_cert.proofs.Elements.{among_front, among_behind, among_either}
 use Rattle.ti_checker.specs.No.{IsRowRefused, IsRowFault, IsOfRow}
 use Rattle.ti_checker.specs.First.{SendsAsked, RowStands, IsDrafted}
 use Rattle.ti_checker.specs.Limit.{IsLineOf, AreLines, IsUpTo, PassesLimit, StaysWithin, IsLineFor, AddsLine, Overflows, front_with, most}

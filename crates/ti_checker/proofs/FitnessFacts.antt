@@ -15,7 +15,8 @@ use Rattle.ti_checker.specs.First.{EachWritten, IsDrafted}
 use Rattle.ti_cert.specs.Certificates.{limit}
 use Rattle.ti_checker.specs.Limit.{InOrder, StaysWithin, FitsLimit, IsFullText, text_with}
 use Rattle.ti_checker.proofs.Earliest.{drafted_as}
-use Rattle.ti_checker.proofs.Order.{IsWithin, no_longer}
+use Rattle.ti_cert.proofs.Elements.{IsWithin}
+use Rattle.ti_checker.proofs.Order.{no_longer}
 use Rattle.ti_checker.proofs.Passages.{length_by_lines, last, text_is}
 
 -- ---- those before a row

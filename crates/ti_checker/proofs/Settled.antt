@@ -25,6 +25,8 @@ use Rattle.ti_conforms.specs.Sets.{Occurs}
 use Rattle.ti_cert.specs.Known.{with_change}
 use Rattle.ti_cert.proofs.Decided.{record_sets}
 use Rattle.ti_checker.specs.Limit.{IsLineFor}
+use Rattle.ti_cert.proofs.Elements.{among_front, among_behind}
+use Rattle.ti_cert.proofs.Preservation.{kept_among, new_among}
 use Rattle.ti_cert.specs.Seen.{IsOfLine, IsLineSeen, AreSeen, NoLine, ByLine}
 use Rattle.ti_checker.specs.Switches.{HasSent, OfAllSent, IsChangeOf, IsBefore, IsCounted, IsSeen, IsSeenToo, RowChanges}
 
@@ -56,30 +58,13 @@ one_change : (P : Sets → Type 0) (b : Bool) (cs : List Sets) (c x : Sets) → 
 one_change P true cs c x f p a = last_change P cs c x f (p refl) a
 one_change P false cs c x f p a = f x a
 
-among_front : {A : Type 0} (xs ys : List A) (x : A) → IsAmong xs x → IsAmong (xs ++ ys) x
-among_front [] ys x a = absurd a
-among_front (y ∷ xs) ys x (inl e) = inl e
-among_front (y ∷ xs) ys x (inr a) = inr (among_front xs ys x a)
-
-among_back : {A : Type 0} (xs ys : List A) (x : A) → IsAmong ys x → IsAmong (xs ++ ys) x
-among_back [] ys x a = a
-among_back (y ∷ xs) ys x a = inr (among_back xs ys x a)
-
-change_kept : (b : Bool) (cs : List Sets) (c x : Sets) → IsAmong cs x → IsAmong (with_change b cs c) x
-change_kept true cs c x a = among_front cs (c ∷ []) x a
-change_kept false cs c x a = a
-
-change_added : (b : Bool) (cs : List Sets) (c : Sets) → b ≡ true → IsAmong (with_change b cs c) c
-change_added true cs c e = among_back cs (c ∷ []) c (inl refl)
-change_added false cs c e = absurd (false≢true e)
-
 counted_more : (entry : Content) (ts more : List (List ℕ)) (b : Bool) (cs : List Sets) (c : Sets) (row : Row) → IsCounted entry ts cs row → IsCounted entry (ts ++ more) (with_change b cs c) row
 counted_more entry ts more b cs c row k = record {
   tokens = k.tokens;
   change = k.change;
   of_row = k.of_row;
   reached = λ token a. among_front ts more token (k.reached token a);
-  settled = λ keeps. change_kept b cs c k.change (k.settled keeps);
+  settled = λ keeps. kept_among b cs c k.change (k.settled keeps);
 }
 
 -- a row before the next place is before this one, or stands here
@@ -100,8 +85,8 @@ now_counted entry rows cols row tokens change ts cs k other before (inr e) = sub
   tokens = tokens;
   change = change;
   of_row = k;
-  reached = λ token a. among_back ts tokens token a;
-  settled = λ keeps. change_added (settles row) cs change keeps;
+  reached = λ token a. among_behind ts tokens token a;
+  settled = λ keeps. new_among (settles row) cs change keeps;
 })
 
 pub seen_more : (entry : Content) (rows cols : ℕ) (row : Row) (tokens : List (List ℕ)) (change : Sets) (old new : Reach) (before after : List Sets) → IsInRange rows cols row → IsChangeOf entry row tokens change

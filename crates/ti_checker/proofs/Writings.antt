@@ -26,14 +26,13 @@ use Rattle.ti_cert.specs.Texts.{IsCertificate}
 use Rattle.ti_conforms.specs.Looks.{no_looks}
 use Rattle.ti_conforms.specs.Table.{Table}
 use Rattle.ti_cert.proofs.BasicLines.{is_bytes, size_is}
-use Rattle.ti_cert.proofs.BasicOrder.{reversed_only}
 use Rattle.ti_cert.proofs.Converse.{accepted_certificate}
 use Rattle.ti_checker.specs.Certificate.{IsCertificateOf}
 use Rattle.ti_checker.specs.First.{EachStands}
 use Rattle.ti_checker.specs.Limit.{IsLineOf, AreLines, IsFullText}
 use Rattle.ti_checker.specs.No.{GoTogether}
 use Rattle.ti_checker.specs.Switches.{HasSent}
-use Rattle.ti_checker.proofs.Order.{reversed_has}
+use Rattle.ti_cert.proofs.Elements.{reversed_has, reversed_only}
 use Rattle.ti_checker.proofs.Sent.{table_with, has_sent, its_line}
 use Rattle.ti_checker.proofs.Settled.{sent_line}
 use Rattle.ti_checker.proofs.Standings.{all_stand}
