@@ -15,6 +15,7 @@ import select
 import shutil
 import struct
 import sys
+import tempfile
 import termios
 import time
 
@@ -30,6 +31,8 @@ PAGE = (
     "</th></tr><tr><td>VT52</td><td>1975</td></tr><tr><td>VT100</td><td>1978</td></tr><tr><td>VT220</td><td>1983</td></tr>"
     "</table><hr><ul><li>one<li>two<li>three</ul></body></html>"
 )
+# the folder in which the programs run, and its name in the recordings, which is as long
+HOME, SHOWN = os.path.join(tempfile.gettempdir(), "demo"), "/srv/demo"
 CONFIG = "syntax off\nset nomodeline ruler hlsearch t_u7= t_RV=\n"
 
 # each program with its command and its keys
@@ -72,16 +75,15 @@ def settle(master, taken, quiet, most):
 
 def record(name):
     command, keys = SESSIONS[name]
-    home = "/tmp/demo"
-    shutil.rmtree(home, ignore_errors=True)
-    os.mkdir(home)
-    prepare(home)
+    shutil.rmtree(HOME, ignore_errors=True)
+    os.mkdir(HOME)
+    prepare(HOME)
     pid, master = pty.fork()
     if pid == 0:
         fcntl.ioctl(0, termios.TIOCSWINSZ, struct.pack("HHHH", ROWS, COLS, 0, 0))
-        os.chdir(home)
+        os.chdir(HOME)
         os.execvpe("sh", ["sh", "-c", f"exec {command}"], {
-            "TERM": "vt100", "LC_ALL": "C", "HOME": home, "PATH": os.environ["PATH"], "SHELL": "/bin/sh", "USER": "demo", "NCURSES_NO_UTF8_ACS": "1"})
+            "TERM": "vt100", "LC_ALL": "C", "HOME": HOME, "PATH": os.environ["PATH"], "SHELL": "/bin/sh", "USER": "demo", "NCURSES_NO_UTF8_ACS": "1"})
     taken = bytearray()
     settle(master, taken, 2.5, 9)
     for key in keys:
@@ -90,11 +92,13 @@ def record(name):
     os.kill(pid, 9)
     os.close(master)
     os.waitpid(pid, 0)
-    return bytes(taken)
+    return bytes(taken).replace(HOME.encode(), SHOWN.encode())
 
 
 def main():
     here = os.path.dirname(os.path.abspath(__file__))
+    if len(HOME) != len(SHOWN):
+        sys.exit(f"record: {HOME} is not as long as {SHOWN}, which stands for it: set TMPDIR")
     for name in sys.argv[1:] or SESSIONS:
         taken = record(name)
         with open(os.path.join(here, f"{name}.bytes"), "wb") as file:
