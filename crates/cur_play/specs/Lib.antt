@@ -3,7 +3,7 @@ pub mod Scenes
 pub mod Windows
 pub mod Steps
 pub mod Groups
-pub mod Changes
+pub mod StaleMarks
 pub mod Outputs
 pub mod Drawings
 pub mod Sends

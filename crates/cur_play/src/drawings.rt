@@ -6,8 +6,8 @@ ghost use Rattle.cur_play.specs.Drawings.{Draws, SameSizes};
 ghost use Rattle.cur_play.specs.Steps.{showing};
 
 use crate::answers::{Answer, answer_of, mode_answer};
-use crate::changes::Changes;
 use crate::creations::make;
+use crate::stale_marks::StaleMarks;
 use crate::windows::change;
 use cur_calls::Call;
 use cur_pads::pnoutrefresh;
@@ -19,13 +19,13 @@ use ti_conforms::Certificate;
 pub(crate) fn draw<C: Certificate>(
     desk: &mut Desk,
     screen: &mut Virtual,
-    changes: &mut Changes,
+    stale: &mut StaleMarks,
     painter: &mut Painter<C>,
     call: &Call<'_>,
 ) -> Answer
     requires rows { (screen.old).rows ≡ (desk.old).rows }
     requires cols { (screen.old).cols ≡ (desk.old).cols }
-    requires touched { AreSame changes.old.window (screen.old).grid (grid_at desk.old 0) }
+    requires touched { AreSame stale.old.window (screen.old).grid (grid_at desk.old 0) }
     ensures draws { Draws (C.table painter.old.checked)
         (record {
           desk = desk.old;
@@ -45,30 +45,30 @@ pub(crate) fn draw<C: Certificate>(
     ensures cols { (screen.new).cols ≡ (screen.old).cols }
     ensures certificate { painter.new.checked ≡ painter.old.checked }
     ensures painter { painter.new ≡ record painter.old { mode = painter.new.mode } }
-    ensures touched { AreSame changes.new.window (screen.new).grid (grid_at desk.new 0) }
-    ensures marked { Keeps changes.old.screen (screen.old).grid changes.new.screen (screen.new).grid }
+    ensures touched { AreSame stale.new.window (screen.new).grid (grid_at desk.new 0) }
+    ensures marked { Keeps stale.old.screen (screen.old).grid stale.new.screen (screen.new).grid }
 {
     if let Some(outcome) = make(desk, call) {
-        changes.window.mark_all();
+        stale.window.mark_all();
         return answer_of(outcome);
     }
-    if let Some(outcome) = change(desk, &mut changes.window, call) {
+    if let Some(outcome) = change(desk, &mut stale.window, call) {
         return answer_of(outcome);
     }
-    show(desk, screen, changes, painter, call)
+    show(desk, screen, stale, painter, call)
 }
 
 /// A call on more than windows; those that only send do nothing here.
 fn show<C: Certificate>(
     desk: &mut Desk,
     screen: &mut Virtual,
-    changes: &mut Changes,
+    stale: &mut StaleMarks,
     painter: &mut Painter<C>,
     call: &Call<'_>,
 ) -> Answer
     requires rows { (screen.old).rows ≡ (desk.old).rows }
     requires cols { (screen.old).cols ≡ (desk.old).cols }
-    requires touched { AreSame changes.old.window (screen.old).grid (grid_at desk.old 0) }
+    requires touched { AreSame stale.old.window (screen.old).grid (grid_at desk.old 0) }
     ensures step { (
       record { desk = desk.new; screen = screen.new; mode = painter.new.mode; status = painter.old.session.status },
       result,
@@ -77,12 +77,12 @@ fn show<C: Certificate>(
         (record { desk = desk.old; screen = screen.old; mode = painter.old.mode; status = painter.old.session.status })
         call.now }
     ensures painter { painter.new ≡ record painter.old { mode = painter.new.mode } }
-    ensures touched { AreSame changes.new.window (screen.new).grid (grid_at desk.new 0) }
-    ensures marked { Keeps changes.old.screen (screen.old).grid changes.new.screen (screen.new).grid }
+    ensures touched { AreSame stale.new.window (screen.new).grid (grid_at desk.new 0) }
+    ensures marked { Keeps stale.old.screen (screen.old).grid stale.new.screen (screen.new).grid }
 {
     match call {
         Call::Show { window, .. } => {
-            let (touched, marks) = (&mut changes.window, &mut changes.screen);
+            let (touched, marks) = (&mut stale.window, &mut stale.screen);
             answer_of(desk.noutrefresh_marked(*window, screen, touched, marks))
         }
         Call::ShowPad {
@@ -95,8 +95,8 @@ fn show<C: Certificate>(
             right,
             ..
         } => {
-            changes.window.mark_all();
-            changes.screen.mark_all();
+            stale.window.mark_all();
+            stale.screen.mark_all();
             answer_of(pnoutrefresh(
                 desk, *window, *row, *col, *top, *left, *bottom, *right, screen,
             ))

@@ -2,13 +2,13 @@
 #![tactic(auto)]
 
 mod answers;
-mod changes;
 mod creations;
 mod drawings;
 mod paced;
 mod runs;
 mod sends;
 mod sessions;
+mod stale_marks;
 mod windows;
 
 pub use answers::Answer;

@@ -1,7 +1,7 @@
 //! A session: windows, the virtual screen, and a painter for the terminal.
 ghost use Rattle.std.specs.Prelude.{◌≡◌, IfOk};
 ghost use Rattle.ti_conforms.specs.Certified.{IsChecked};
-ghost use Rattle.cur_play.specs.Changes.{IsKnown};
+ghost use Rattle.cur_play.specs.StaleMarks.{IsKnown};
 ghost use Rattle.cur_play.specs.Deliveries.{Carries};
 ghost use Rattle.cur_play.specs.Drawings.{SameSizes};
 ghost use Rattle.cur_play.specs.Outputs.{poised};
@@ -9,9 +9,9 @@ ghost use Rattle.cur_play.specs.Scenes.{IsStage, first, lost_stage, scene_of, st
 ghost use Rattle.cur_play.specs.Steps.{CallStep, drawn, output_of};
 
 use crate::answers::Answer;
-use crate::changes::Changes;
 use crate::drawings::draw;
 use crate::sends::{output_of, send};
+use crate::stale_marks::StaleMarks;
 use cur_calls::Call;
 use cur_update::{Painter, Wire, cells_bounded};
 use cur_windows::{Desk, Size, Virtual};
@@ -24,13 +24,13 @@ use ti_conforms::Certificate;
 pub struct Session<C: Certificate> {
     desk: Desk,
     screen: Virtual,
-    changes: Changes,
+    stale: StaleMarks,
     painter: Painter<C>,
 }
 
 impl<C: Certificate> Model for Session<C> {
     ghost use Rattle.ti_conforms.specs.Certified.{IsChecked};
-    ghost use Rattle.cur_play.specs.Changes.{IsKnown};
+    ghost use Rattle.cur_play.specs.StaleMarks.{IsKnown};
     ghost use Rattle.cur_play.specs.Scenes.{Stage, IsStage};
 
     ghost Value = { Stage C };
@@ -38,7 +38,7 @@ impl<C: Certificate> Model for Session<C> {
     ghost view = { λ s. record { desk = s.desk; screen = s.screen; painter = s.painter } };
 
     ghost invariant = { λ s. IsStage (C.table s.painter.checked) s.desk s.screen × IsChecked (C.table s.painter.checked)
-        × IsKnown s.changes s.desk s.screen s.painter.shown.grid };
+        × IsKnown s.stale s.desk s.screen s.painter.shown.grid };
 }
 
 impl<C: Certificate> Session<C> {
@@ -52,12 +52,12 @@ impl<C: Certificate> Session<C> {
         let size = Size::new(checked.rows(), checked.cols()).unwrap();
         let desk = Desk::new(alloc, size)?;
         let screen = Virtual::new(alloc, size)?;
-        let changes = Changes::new(alloc, screen.size().0)?;
+        let stale = StaleMarks::new(alloc, screen.size().0)?;
         let painter = Painter::start(alloc, checked)?;
         Ok(Session {
             desk,
             screen,
-            changes,
+            stale,
             painter,
         })
     }
@@ -94,7 +94,7 @@ impl<C: Certificate> Session<C> {
         play(
             &mut self.desk,
             &mut self.screen,
-            &mut self.changes,
+            &mut self.stale,
             &mut self.painter,
             call,
             wire,
@@ -106,7 +106,7 @@ impl<C: Certificate> Session<C> {
 fn play<C: Certificate, W: Wire>(
     desk: &mut Desk,
     screen: &mut Virtual,
-    changes: &mut Changes,
+    stale: &mut StaleMarks,
     painter: &mut Painter<C>,
     call: &Call<'_>,
     wire: &mut W,
@@ -116,7 +116,7 @@ fn play<C: Certificate, W: Wire>(
     requires cols { (screen.old).cols ≡ (C.table painter.old.checked).cols }
     requires desk_rows { (desk.old).rows ≡ (C.table painter.old.checked).rows }
     requires desk_cols { (desk.old).cols ≡ (C.table painter.old.checked).cols }
-    requires known { IsKnown changes.old desk.old screen.old painter.old.shown.grid }
+    requires known { IsKnown stale.old desk.old screen.old painter.old.shown.grid }
     ensures step { CallStep (C.table painter.old.checked) (scene_of (stage_of desk.old screen.old painter.old))
         call.now result (scene_of (stage_of desk.new screen.new painter.new)) }
     ensures carries { Carries W.went W.failures wire.old wire.new (C.table painter.old.checked)
@@ -126,11 +126,11 @@ fn play<C: Certificate, W: Wire>(
         call.now) painter.new }
     ensures sizes { SameSizes desk.old screen.old desk.new screen.new }
     ensures certificate { painter.new.checked ≡ painter.old.checked }
-    ensures known { IsKnown changes.new desk.new screen.new painter.new.shown.grid }
+    ensures known { IsKnown stale.new desk.new screen.new painter.new.shown.grid }
 {
     cells_bounded();
-    match draw(desk, screen, changes, painter, call) {
-        Answer::Done => send(screen, &mut changes.screen, painter, output_of(call), wire),
+    match draw(desk, screen, stale, painter, call) {
+        Answer::Done => send(screen, &mut stale.screen, painter, output_of(call), wire),
         answer => answer,
     }
 }

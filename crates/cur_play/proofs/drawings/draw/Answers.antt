@@ -38,8 +38,8 @@ returns-in-Some-clause-touched g c = same_but_all _ _ _ (ap (λ (m : Marking). m
 
 pub returns-in-Some-change-clause-touched : goal.returns-in-Some-change-clause-touched
 returns-in-Some-change-clause-touched g c =
-    c.change.ensures.touched c.args.screen.now.grid (same_in c.args.changes.now.window c.args.screen.now.grid c.args.desk.now c.make.new.desk (not_made c.args.desk.now c.make.new.desk (takes_memory c.args.call.now) (making c.args.desk.now c.args.call.now) c.in_default.ensures).same c.requires.touched)
+    c.change.ensures.touched c.args.screen.now.grid (same_in c.args.stale.now.window c.args.screen.now.grid c.args.desk.now c.make.new.desk (not_made c.args.desk.now c.make.new.desk (takes_memory c.args.call.now) (making c.args.desk.now c.args.call.now) c.in_default.ensures).same c.requires.touched)
 
 pub show-requires-clause-touched : goal.show-requires-clause-touched
 show-requires-clause-touched g c =
-    c.change.ensures.touched c.args.screen.now.grid (same_in c.args.changes.now.window c.args.screen.now.grid c.args.desk.now c.make.new.desk (not_made c.args.desk.now c.make.new.desk (takes_memory c.args.call.now) (making c.args.desk.now c.args.call.now) c.in_default.ensures).same c.requires.touched)
+    c.change.ensures.touched c.args.screen.now.grid (same_in c.args.stale.now.window c.args.screen.now.grid c.args.desk.now c.make.new.desk (not_made c.args.desk.now c.make.new.desk (takes_memory c.args.call.now) (making c.args.desk.now c.args.call.now) c.in_default.ensures).same c.requires.touched)

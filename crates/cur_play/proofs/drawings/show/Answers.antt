@@ -13,12 +13,12 @@ returns-in-ShowPad-clause-marked g c = keeps_all _ _ _ _ (ap (λ (m : Marking). 
 
 pub returns-in-InitPair-clause-touched : goal.returns-in-InitPair-clause-touched
 returns-in-InitPair-clause-touched g c =
-    same_screen c.args.changes.now.window c.args.screen.now.grid c.init_pair.new.self.grid (grid_at c.args.desk.now 0)
+    same_screen c.args.stale.now.window c.args.screen.now.grid c.init_pair.new.self.grid (grid_at c.args.desk.now 0)
     (init_pair_grid (to_z w32 (of_z w32 c.in-InitPair.pair)) (to_z w32 (of_z w32 c.in-InitPair.foreground)) (to_z w32 (of_z w32 c.in-InitPair.background))
     c.args.screen.now c.init_pair.new.self c.init_pair.result c.init_pair.ensures) c.requires.touched
 
 pub returns-in-InitPair-clause-marked : goal.returns-in-InitPair-clause-marked
 returns-in-InitPair-clause-marked g c =
-    keeps_same c.args.changes.now.screen c.args.screen.now.grid c.init_pair.new.self.grid
+    keeps_same c.args.stale.now.screen c.args.screen.now.grid c.init_pair.new.self.grid
     (init_pair_grid (to_z w32 (of_z w32 c.in-InitPair.pair)) (to_z w32 (of_z w32 c.in-InitPair.foreground)) (to_z w32 (of_z w32 c.in-InitPair.background))
     c.args.screen.now c.init_pair.new.self c.init_pair.result c.init_pair.ensures)

@@ -8,7 +8,7 @@ use Rattle.cur_play.proofs.sessions.play.Goals as goal
 
 pub send-requires-clause-marked : goal.send-requires-clause-marked
 send-requires-clause-marked g c =
-    same_cells c.draw.new.changes.screen c.draw.new.painter.shown c.draw.new.screen c.args.painter.now.shown c.draw.new.screen (ap (λ (p : Painted _). p.shown) c.draw.ensures.painter) refl
+    same_cells c.draw.new.stale.screen c.draw.new.painter.shown c.draw.new.screen c.args.painter.now.shown c.draw.new.screen (ap (λ (p : Painted _). p.shown) c.draw.ensures.painter) refl
     (c.draw.ensures.marked c.args.painter.now.shown.grid c.requires.known.screen)
 
 pub returns-in-Done : goal.returns-in-Done
@@ -22,7 +22,7 @@ returns-in-Done g c =
       carries = all.carries;
       sizes = all.sizes;
       certificate = all.certificate;
-      known = record { window = same_screen c.draw.new.changes.window c.draw.new.screen.grid c.send.new.screen.grid (grid_at c.draw.new.desk 0) c.send.ensures.cells c.draw.ensures.touched; screen = c.send.ensures.marked };
+      known = record { window = same_screen c.draw.new.stale.window c.draw.new.screen.grid c.send.new.screen.grid (grid_at c.draw.new.desk 0) c.send.ensures.cells c.draw.ensures.touched; screen = c.send.ensures.marked };
     }
 
 pub returns-in_default : goal.returns-in_default
@@ -38,7 +38,7 @@ returns-in_default g c =
       certificate = all.certificate;
       known = record {
         window = c.draw.ensures.touched;
-        screen = same_cells c.draw.new.changes.screen c.draw.new.painter.shown c.draw.new.screen c.args.painter.now.shown c.draw.new.screen (ap (λ (p : Painted _). p.shown) c.draw.ensures.painter) refl
+        screen = same_cells c.draw.new.stale.screen c.draw.new.painter.shown c.draw.new.screen c.args.painter.now.shown c.draw.new.screen (ap (λ (p : Painted _). p.shown) c.draw.ensures.painter) refl
             (c.draw.ensures.marked c.args.painter.now.shown.grid c.requires.known.screen);
       };
     }
