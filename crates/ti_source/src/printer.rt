@@ -38,7 +38,8 @@ fn is_plain(byte: u8) -> bool
     33 <= byte && byte <= 126
 }
 
-fn octal(byte: u8) -> [u8; 4]
+/// A backslash and the three octal digits of `byte`.
+pub fn octal(byte: u8) -> [u8; 4]
     ensures { result ≡ octal byte }
 {
     [

@@ -1,12 +1,12 @@
 //! Further lines for standard error.
 
 ghost use Rattle.std.specs.Prelude.{◌≡◌, ◌++◌, ◌&&◌, nat_le, OnOk};
-ghost use Rattle.ti_source.specs.Prints.{octal};
 ghost use Rattle.ti_words.specs.Shown.{shown, shown_byte};
 
 use std::alloc::{AllocError, Global};
 use std::io;
 use std::io::Write;
+use ti_source::octal;
 
 /// Lines that explain a failure. One for which there is no memory is left out.
 #[derive(Debug, Drop)]
@@ -94,16 +94,4 @@ fn is_printable(byte: u8) -> bool
     ensures { result ≡ (nat_le 32 byte && nat_le byte 126) }
 {
     32 <= byte && byte <= 126
-}
-
-/// The escape of `byte`.
-fn octal(byte: u8) -> [u8; 4]
-    ensures { result ≡ octal byte }
-{
-    [
-        b'\\',
-        b'0' + byte / 64,
-        b'0' + byte / 8 % 8,
-        b'0' + byte % 8,
-    ]
 }
