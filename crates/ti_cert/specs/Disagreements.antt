@@ -55,7 +55,15 @@ abbrev pub IsAgreeRefused : ℕ → ℕ → List ℕ → caps.Content → Verify
 IsAgreeRefused rows cols text entry (Cert fault) = Unit {0}
 IsAgreeRefused rows cols text entry (Agree fault) = TextDisagrees rows cols text entry fault
 
--- (Serves the code alone.) A disagreement about a capability as a whole, and at a row.
+-- Where a disagreement is so, the certificate isn't that of the entry.
+abbrev pub DisagreementExcludesYes : Type 0
+DisagreementExcludesYes =
+    (table : CheckedTable) (entry : caps.Content) (cap : ℕ) (numbers : List ℕ) → IsDisagreement table entry cap numbers
+    → IsFit entry → table.acsc ≡ string_at entry acsc
+    → EntryAgrees table.known.strings.rows table.known.strings.cols entry (λ row. row_string table.known.strings row)
+    → ⊥
+
+-- ---- (Serves the code alone.) A disagreement about a capability as a whole, and at a row.
 abbrev pub IsAtCap : ℕ → AgreeFault → Type 0
 IsAtCap named (Disagree cap numbers) = (cap ≡ named) × (numbers.items ≡ [])
 IsAtCap named NoMemory = ⊥
@@ -63,11 +71,3 @@ IsAtCap named NoMemory = ⊥
 abbrev pub IsAtRow : Row → AgreeFault → Type 0
 IsAtRow row (Disagree cap numbers) = (cap ≡ cap_of row) × (numbers.items ≡ params row)
 IsAtRow row NoMemory = ⊥
-
--- Where one is so, the certificate isn't that of the entry.
-abbrev pub DisagreementExcludesYes : Type 0
-DisagreementExcludesYes =
-    (table : CheckedTable) (entry : caps.Content) (cap : ℕ) (numbers : List ℕ) → IsDisagreement table entry cap numbers
-    → IsFit entry → table.acsc ≡ string_at entry acsc
-    → EntryAgrees table.known.strings.rows table.known.strings.cols entry (λ row. row_string table.known.strings row)
-    → ⊥

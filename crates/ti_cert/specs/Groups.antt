@@ -1,4 +1,4 @@
--- Strings that are kept one after another.
+-- (Serves the code alone.) Strings that are kept one after another.
 use Rattle.std.specs.Prelude.{ℕ, ◌-◌, ◌≤◌, List, take, drop}
 
 -- the bytes from one place up to another

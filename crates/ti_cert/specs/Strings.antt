@@ -34,7 +34,7 @@ abbrev pub row_string : Strings → Row → Option (List ℕ)
 row_string s row =
     if allows s.rows s.cols row then slice_get (group_at s (order row)) (rank s.rows s.cols row) else None
 
--- whether the row's capability has strings
+-- (Serves the code alone.) whether the row's capability has strings
 abbrev pub has_group : Strings → Row → Bool
 has_group s row = not (length (group_at s (order row)) == 0)
 
@@ -42,7 +42,7 @@ has_group s row = not (length (group_at s (order row)) == 0)
 abbrev pub total : Strings → ℕ
 total s = sum_by (λ group. sum_by (λ bytes. length bytes) group) s.groups
 
--- one more string, and all others stay
+-- (Serves the code alone.) one more string, and all others stay
 pub record Adds (old new : Strings) (row : Row) (bytes : List ℕ) : Type 0 where
   pub rows_kept : new.rows ≡ old.rows
   pub cols_kept : new.cols ≡ old.cols

@@ -42,6 +42,8 @@ table_of c = checked_of c.known c.settled
 abbrev pub certified : CheckedTable → Table
 certified c = sendable (table_of c)
 
+-- ---- (Serves the code alone.) What strings do together.
+
 -- the first of some bytes
 abbrev pub head_of : List ℕ → Option ℕ
 head_of [] = None
