@@ -34,8 +34,31 @@ pub record Breaks (rows cols : ℕ) (string : List ℕ) (row : Row) (bytes : Lis
   pub unwanted : (looks : Looks) → StandBefore rows cols looks string row
       → Wants looks row (screen_of rows cols p) after → ⊥
 
--- (Serves the code alone.) The rows of which two ends are wanted: both colours stay or become default, the cursor
--- becomes visible or all stays.
+-- the looks agree on what the parameter lists of `sgr` before this one show
+abbrev pub AgreeBefore : Row → Looks → Looks → Type 0
+AgreeBefore (Sgr a) l m = (b : Attributes) → number_of b < number_of a → shown l b ≡ shown m b
+AgreeBefore _ l m = Unit {0}
+
+-- the end of the effect isn't wanted, whatever attributes look like that agree with what the rows before taught
+abbrev pub NotWanted : ℕ → ℕ → Looks → Row → Effect → Probe → Type 0
+NotWanted rows cols taught row e p = (looks : Looks) → AgreeBefore row taught looks
+    → Wants looks row (screen_of rows cols p) (applied e (screen_of rows cols p)) → ⊥
+
+-- the probe is a start of the row, and from it the end of the effect isn't wanted
+pub record IsShown (rows cols : ℕ) (taught : Looks) (row : Row) (e : Effect) (p : Probe) : Type 0 where
+  pub starts : Starts rows cols row (screen_of rows cols p)
+  pub unwanted : NotWanted rows cols taught row e p
+
+-- so that the run of bytes of such an effect breaks what is wanted
+abbrev pub ShownBreaks : Type 0
+ShownBreaks = (rows cols : ℕ) (string : List ℕ) (taught : Looks) (row : Row) (bytes : List ℕ)
+    → (tokens : List (List ℕ)) (e : Effect) (p : Probe) → IsTaught rows cols string row taught → Splits bytes tokens []
+    → record_of rows cols (start_of rows cols row) tokens ≡ Some e → IsShown rows cols taught row e p
+    → Breaks rows cols string row bytes p
+
+-- ---- (Serves the code alone.) The ends that are wanted of an effect.
+
+-- the rows of which two are wanted: both colours stay or become default, the cursor becomes visible or all stays
 abbrev pub has_choice : Row → Bool
 has_choice (Sgr a) = true
 has_choice Cvvis = true
@@ -99,25 +122,3 @@ looks_for taught row e p = if is_several row then taught else looks_of (marks_af
 -- two effects have one end
 abbrev pub EndAlike : Effect → Effect → Screen → Type 0
 EndAlike e f s = applied e s ≡ applied f s
-
--- the looks agree on what the parameter lists of `sgr` before this one show
-abbrev pub AgreeBefore : Row → Looks → Looks → Type 0
-AgreeBefore (Sgr a) l m = (b : Attributes) → number_of b < number_of a → shown l b ≡ shown m b
-AgreeBefore _ l m = Unit {0}
-
--- the end of the effect isn't wanted, whatever attributes look like that agree with what the rows before taught
-abbrev pub NotWanted : ℕ → ℕ → Looks → Row → Effect → Probe → Type 0
-NotWanted rows cols taught row e p = (looks : Looks) → AgreeBefore row taught looks
-    → Wants looks row (screen_of rows cols p) (applied e (screen_of rows cols p)) → ⊥
-
--- the probe is a start of the row, and from it the end of the effect isn't wanted
-pub record IsShown (rows cols : ℕ) (taught : Looks) (row : Row) (e : Effect) (p : Probe) : Type 0 where
-  pub starts : Starts rows cols row (screen_of rows cols p)
-  pub unwanted : NotWanted rows cols taught row e p
-
--- so that the run of bytes of such an effect breaks what is wanted
-abbrev pub ShownBreaks : Type 0
-ShownBreaks = (rows cols : ℕ) (string : List ℕ) (taught : Looks) (row : Row) (bytes : List ℕ)
-    → (tokens : List (List ℕ)) (e : Effect) (p : Probe) → IsTaught rows cols string row taught → Splits bytes tokens []
-    → record_of rows cols (start_of rows cols row) tokens ≡ Some e → IsShown rows cols taught row e p
-    → Breaks rows cols string row bytes p

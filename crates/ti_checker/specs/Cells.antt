@@ -1,4 +1,4 @@
--- Which places of a screen become blank where all places were alike and not blank.
+-- (Serves the code alone.) Which places of a screen become blank where all places were alike and not blank.
 use Rattle.std.specs.Prelude.{ℕ, ◌+◌, ◌-◌, ◌≡◌, ◌==◌, ◌&&◌, ◌||◌, nat_le, nat_lt, Bool, true, false, if◌then◌else◌}
 use Rattle.vt_effects.specs.declared.effects.Effect.{Effect}
 use Rattle.vt_effects.specs.declared.effects.Erasure.{Erasure}

@@ -59,13 +59,6 @@ pub record FitsLimit (entry : Content) (rows cols : ℕ) : Type 0 where
   pub are : AreLines entry rows cols (λ row. Unit {0}) lines
   pub short : length (text_with entry rows cols lines) ≤ limit
 
--- the text of all these lines, no longer than a certificate may be
-pub record IsFullText (entry : Content) (rows cols : ℕ) (text : List ℕ) : Type 0 where
-  pub lines : List RowLine
-  pub are : AreLines entry rows cols (λ row. Unit {0}) lines
-  pub text_is : text ≡ text_with entry rows cols lines
-  pub short : length text ≤ limit
-
 -- ---- (Serves the code alone.) The text that is written so far.
 
 -- the most bytes before `end`
@@ -101,3 +94,10 @@ pub record IsWritten (entry : Content) (rows cols : ℕ) (Holds : Row → Type 0
   pub are : AreLines entry rows cols Holds lines
   pub text_is : text ≡ front_with entry rows cols lines
   pub short : length text ≤ most
+
+-- those of all checked rows with `end`, no longer than a certificate may be
+pub record IsFullText (entry : Content) (rows cols : ℕ) (text : List ℕ) : Type 0 where
+  pub lines : List RowLine
+  pub are : AreLines entry rows cols (λ row. Unit {0}) lines
+  pub text_is : text ≡ text_with entry rows cols lines
+  pub short : length text ≤ limit

@@ -95,7 +95,8 @@ IsFaulty rows cols string row NotShown = SendsSome string row (λ bytes. HasUnas
 IsFaulty rows cols string row NoMemory = Unit {0}
 IsFaulty rows cols string row _ = ⊥
 
--- (Serves the code alone.) The same by the step that finds it: sending, cutting into tokens, and judging the effect.
+-- ---- (Serves the code alone.) The same by the step that finds it: sending, cutting into tokens, and judging the effect.
+
 abbrev pub IsUnsendable : List ℕ → Row → Cause → Type 0
 IsUnsendable string row (Parm fault) = meaning string (values row) zeros ≡ Err fault
 IsUnsendable string row StaticRead = ReadsStatic string row
@@ -130,7 +131,9 @@ abbrev pub IsMisjudged : ℕ → ℕ → Looks → Row → List (List ℕ) → C
 IsMisjudged rows cols looks row tokens NotTame = record_of rows cols (start_of rows cols row) tokens ≡ None
 IsMisjudged rows cols looks row tokens cause = Misfits rows cols looks row tokens cause
 
--- the entry's string for a checked row is so
+-- ---- what is wrong with an entry's string
+
+-- its string for a checked row is so
 pub record HasFaulty (entry : Content) (rows cols : ℕ) (refusal : No) : Type 0 where
   pub row : Row
   pub cap_is : refusal.cap ≡ cap_of row
@@ -185,10 +188,11 @@ pub record IsOfRow (entry : Content) (rows cols : ℕ) (refusal : No) : Type 0 w
       → RowStands entry rows cols other
   pub within : StaysWithin entry rows cols row
 
--- what is wrong with all strings together, or that nothing is, is so of what the entry sends
+-- what is wrong with all strings together is so of what the entry sends
 abbrev pub HasClash : Content → ℕ → ℕ → Clash → Type 0
 HasClash entry rows cols clash = OfSent entry rows cols (λ t. IsClash (is_some (string_at entry acsc)) t clash)
 
+-- (Serves the code alone.) Nothing is wrong with them together, whatever stands in a table of what the entry sends.
 abbrev pub GoTogether : Content → ℕ → ℕ → Type 0
 GoTogether entry rows cols = OfAllSent entry rows cols (λ t. GoesTogether (is_some (string_at entry acsc)) t)
 

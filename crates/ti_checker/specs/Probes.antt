@@ -27,7 +27,7 @@ screen_of rows cols p = record {
   visible = p.visible;
 }
 
--- the probe's character isn't a space, and its margins lie in so many rows
+-- (Serves the code alone.) the probe's character isn't a space, and its margins lie in so many rows
 pub record CanShow (rows : ℕ) (p : Probe) : Type 0 where
   pub fill : 33 ≤ p.fill
   pub bottom : p.bottom < rows

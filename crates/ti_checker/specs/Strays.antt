@@ -52,7 +52,7 @@ LeavesOtherCells rows cols taught row e = Strays HaveSameCells rows cols taught 
 abbrev pub LeavesOtherModes : ℕ → ℕ → Looks → Row → Effect → Type 0
 LeavesOtherModes rows cols taught row e = Strays HaveSameModes rows cols taught row e
 
--- the effect is what some text does from every start of the row
+-- (Serves the code alone.) the effect is what some text does from every start of the row
 abbrev pub IsRecorded : ℕ → ℕ → Row → Effect → Type 0
 IsRecorded rows cols row e = (tokens : List (List ℕ)) × (record_of rows cols (start_of rows cols row) tokens ≡ Some e)
 

@@ -36,7 +36,7 @@ pub record OfSent (entry : Content) (rows cols : ℕ) (Is : Table → Type 0) : 
   pub has : HasSent entry rows cols table
   pub is : Is table
 
--- it is so of each such table
+-- (Serves the code alone.) it is so of each such table
 abbrev pub OfAllSent : Content → ℕ → ℕ → (Table → Type 0) → Type 0
 OfAllSent entry rows cols Is = (t : Table) → HasSent entry rows cols t → Is t
 
