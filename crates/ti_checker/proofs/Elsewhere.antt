@@ -19,12 +19,13 @@ use Rattle.ti_rows.specs.declared.rows.Row.{Row}
 use Rattle.ti_rows.specs.declared.rows.Row.TheVariants.{Clear, Sgr, Cvvis, Ind, Ri}
 use Rattle.ti_rows.specs.Starts.{Starts}
 use Rattle.ti_rows.specs.Wants.{Wants}
-use Rattle.ti_rows.proofs.StartFacts.{never, starts_allowed}
+use Rattle.ti_rows.proofs.StartFacts.{starts_allowed}
 use Rattle.ti_rows.proofs.WantFacts.{asked_is_wanted}
-use Rattle.ti_checker.specs.Breakage.{AgreeBefore, has_choice, wanted_end, with_defaults, without_defaults}
+use Rattle.ti_checker.specs.Breakage.{AgreeBefore}
 use Rattle.ti_checker.specs.Strays.{HaveOnePlace}
-use Rattle.ti_checker.specs.Trials.{choices_of, top_by, bottom_by, probe_by, IsEnd, Only, WithDefaults, WithoutDefaults, EndsAsWanted, EndsBelow}
+use Rattle.ti_checker.specs.Trials.{choices_of, top_by, bottom_by, probe_by, EndsAsWanted, EndsBelow}
 use Rattle.ti_checker.specs.declared.probes.Probe.{Probe}
+use Rattle.ti_checker.proofs.Ends.{ends_as}
 
 -- ---- moves that lead to one place from the ends of a range do so from all of it
 
@@ -119,31 +120,6 @@ bound_by margins.OnTop rows least greatest a d s two size region on has lo hi sp
 
 -- ---- where an end that is wanted is
 
-record IsPlacedAs (f g : Effect) : Type 0 where
-  row : f.row ≡ g.row
-  col : f.col ≡ g.col
-  ends_pending : f.ends_pending ≡ g.ends_pending
-  margins_are : f.margins ≡ g.margins
-
-only_placed : (l m : Looks) (row : Row) (e : Effect) → IsPlacedAs (wanted_end l row e) (asked m row e)
-only_placed l m Clear e = record { row = refl; col = refl; ends_pending = refl; margins_are = refl }
-only_placed l m _ e = record { row = refl; col = refl; ends_pending = refl; margins_are = refl }
-
-first_placed : (l m : Looks) (row : Row) (e : Effect) → has_choice row ≡ true → IsPlacedAs (asked l row (with_defaults e)) (asked m row e)
-first_placed l m (Sgr a) e choice = record { row = refl; col = refl; ends_pending = refl; margins_are = refl }
-first_placed l m Cvvis e choice = record { row = refl; col = refl; ends_pending = refl; margins_are = refl }
-first_placed l m _ e choice = never (sym choice)
-
-second_placed : (l m : Looks) (row : Row) (e : Effect) → has_choice row ≡ true → IsPlacedAs (asked l row (without_defaults e)) (asked m row e)
-second_placed l m (Sgr a) e choice = record { row = refl; col = refl; ends_pending = refl; margins_are = refl }
-second_placed l m Cvvis e choice = record { row = refl; col = refl; ends_pending = refl; margins_are = refl }
-second_placed l m _ e choice = never (sym choice)
-
-placed : (l m : Looks) (row : Row) (e f : Effect) → IsEnd l row e f → IsPlacedAs f (asked m row e)
-placed l m row e f (Only one is) = subst (λ (g : Effect). IsPlacedAs g (asked m row e)) (sym is) (only_placed l m row e)
-placed l m row e f (WithDefaults choice is) = subst (λ (g : Effect). IsPlacedAs g (asked m row e)) (sym is) (first_placed l m row e choice)
-placed l m row e f (WithoutDefaults choice is) = subst (λ (g : Effect). IsPlacedAs g (asked m row e)) (sym is) (second_placed l m row e choice)
-
 -- from a probe the effect ends where the one that is asked for does
 record EndsThere (e w : Effect) (p : Probe) : Type 0 where
   row : moved e.row p.row ≡ moved w.row p.row
@@ -153,7 +129,7 @@ record EndsThere (e w : Effect) (p : Probe) : Type 0 where
 
 ends_there : {rows cols : ℕ} → (taught : Looks) (row : Row) (e : Effect) (p : Probe) → EndsAsWanted rows cols taught row e p → EndsThere e (asked taught row e) p
 ends_there taught row e p h =
-    let is = placed _ taught row e h.wanted h.is in
+    let is = ends_as _ taught row e h.wanted h.is in
     record {
       row = h.so.row ∙ ap (λ (m : Move). moved m p.row) is.row;
       col = h.so.col ∙ ap (λ (m : Move). moved m p.col) is.col;

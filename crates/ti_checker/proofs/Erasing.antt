@@ -1,5 +1,5 @@
 -- What is wanted of the cells, row by row, and that an effect which no probe shows wrong leaves them so.
-use Rattle.std.proofs.Common.{◌≡◌, inl, inr, ℕ, ◌-◌, ◌<◌, ◌≤◌, true, false, length, refl, sym, ap, subst, ◌∙◌, arith}
+use Rattle.std.proofs.Common.{◌≡◌, inl, inr, ℕ, ◌-◌, ◌<◌, ◌≤◌, Bool, true, false, length, refl, sym, ap, subst, ◌∙◌, arith}
 use Rattle.std.proofs.lemmas.Bool.{lt-leb, ne_eqb, true≢false}
 use Rattle.vt_term.specs.Grid.{line_at}
 use Rattle.vt_term.specs.Look.{blank}
@@ -9,50 +9,27 @@ use Rattle.vt_effects.specs.declared.effects.Effect.{Effect}
 use Rattle.vt_effects.specs.declared.effects.Erasure.{Erasure}
 use Rattle.vt_effects.specs.declared.effects.Scroll.{Scroll}
 use Rattle.vt_effects.specs.declared.effects.Scroll.TheVariants as scrolls
+use Rattle.vt_effects.specs.declared.starts.Start.{Start}
+use Rattle.vt_effects.specs.declared.starts.Margins.TheVariants as margins
 use Rattle.vt_effects.specs.Effect.{applied}
 use Rattle.vt_effects.specs.Start.{Allows}
-use Rattle.ti_rows.specs.Asked.{start_of, asked}
+use Rattle.ti_rows.specs.Asked.{start_of, starting, asked}
 use Rattle.ti_rows.specs.Lists.{IsInRange}
 use Rattle.ti_rows.specs.declared.rows.Looks.{Looks}
 use Rattle.ti_rows.specs.declared.rows.Row.{Row}
 use Rattle.ti_rows.specs.declared.rows.Row.TheVariants.{Clear, El, El1, Ed, Ech, Sgr, Ind, Ri, Cvvis, Smcup, Rmcup}
 use Rattle.ti_rows.specs.Starts.{Starts}
-use Rattle.ti_rows.proofs.StartFacts.{never, starts_allowed}
-use Rattle.ti_checker.specs.Breakage.{has_choice, is_free, wanted_end, with_defaults, without_defaults}
+use Rattle.ti_rows.proofs.StartFacts.{starts_allowed}
+use Rattle.ti_checker.specs.Breakage.{is_free}
 use Rattle.ti_checker.specs.Cells.{is_blank_after, is_erased}
 use Rattle.ti_checker.specs.Probes.{screen_of}
 use Rattle.ti_checker.specs.Strays.{IsRecorded}
-use Rattle.ti_checker.specs.Trials.{choices_of, probe_by, IsEnd, Only, WithDefaults, WithoutDefaults, EndsAsWanted, EndsBelow}
+use Rattle.ti_checker.specs.Trials.{choices_of, probe_by, EndsAsWanted, EndsBelow}
 use Rattle.ti_checker.specs.declared.probes.Probe.{Probe}
+use Rattle.ti_checker.proofs.Ends.{ends_as}
 use Rattle.ti_checker.proofs.OneChange.{IsAtMargin, IsOneChange, one_change}
-use Rattle.ti_checker.proofs.OneGrid.{Agree, IsOne, SameCells, same_grid, none_cells, screen_cells, tail_cells, head_cells, rest_cells, next_cells, up_cells, down_cells}
+use Rattle.ti_checker.proofs.OneGrid.{Agree, Corners, IsOne, SameCells, same_grid, none_cells, screen_cells, tail_cells, head_cells, rest_cells, next_cells, up_cells, down_cells}
 use Rattle.ti_checker.proofs.ProbeStarts.{probe_starts}
-
--- ---- what a wanted end changes of the cells
-
-record ChangesAs (f g : Effect) : Type 0 where
-  erasure : f.erasure ≡ g.erasure
-  scroll : f.scroll ≡ g.scroll
-
-only_changes : (l m : Looks) (row : Row) (e : Effect) → is_free row ≡ false → ChangesAs (wanted_end l row e) (asked m row e)
-only_changes l m Smcup e bound = never bound
-only_changes l m Rmcup e bound = never bound
-only_changes l m _ e bound = record { erasure = refl; scroll = refl }
-
-first_changes : (l m : Looks) (row : Row) (e : Effect) → has_choice row ≡ true → ChangesAs (asked l row (with_defaults e)) (asked m row e)
-first_changes l m (Sgr a) e choice = record { erasure = refl; scroll = refl }
-first_changes l m Cvvis e choice = record { erasure = refl; scroll = refl }
-first_changes l m _ e choice = never (sym choice)
-
-second_changes : (l m : Looks) (row : Row) (e : Effect) → has_choice row ≡ true → ChangesAs (asked l row (without_defaults e)) (asked m row e)
-second_changes l m (Sgr a) e choice = record { erasure = refl; scroll = refl }
-second_changes l m Cvvis e choice = record { erasure = refl; scroll = refl }
-second_changes l m _ e choice = never (sym choice)
-
-changes : (l m : Looks) (row : Row) (e f : Effect) → is_free row ≡ false → IsEnd l row e f → ChangesAs f (asked m row e)
-changes l m row e f bound (Only one is) = subst (λ (g : Effect). ChangesAs g (asked m row e)) (sym is) (only_changes l m row e bound)
-changes l m row e f bound (WithDefaults choice is) = subst (λ (g : Effect). ChangesAs g (asked m row e)) (sym is) (first_changes l m row e choice)
-changes l m row e f bound (WithoutDefaults choice is) = subst (λ (g : Effect). ChangesAs g (asked m row e)) (sym is) (second_changes l m row e choice)
 
 -- ---- what a probe that shows nothing says of the cells
 
@@ -61,10 +38,10 @@ AgreesAt rows cols taught row e p = Agree rows cols e.erasure e.scroll (asked ta
 
 agrees : (rows cols : ℕ) (taught : Looks) (row : Row) (e : Effect) (p : Probe) → is_free row ≡ false → EndsAsWanted rows cols taught row e p → AgreesAt rows cols taught row e p
 agrees rows cols taught row e p bound h = λ i j lt near.
-    let is = changes _ taught row e h.wanted bound h.is in
+    let is = ends_as _ taught row e h.wanted h.is in
     h.so.cells i j lt near
     ∙ (ap (λ (x : Erasure). is_blank_after h.wanted.scroll p.top p.bottom (λ k. is_erased x p.row p.col k j) i) is.erasure
-    ∙ ap (λ (z : Scroll). is_blank_after z p.top p.bottom (λ k. is_erased (asked taught row e).erasure p.row p.col k j) i) is.scroll)
+    ∙ ap (λ (z : Scroll). is_blank_after z p.top p.bottom (λ k. is_erased (asked taught row e).erasure p.row p.col k j) i) (is.scroll bound))
 
 agrees_by : (rows cols : ℕ) (taught : Looks) (row : Row) (e : Effect) (k : ℕ) → k < 32 → is_free row ≡ false → EndsBelow rows cols taught row e 32 → AgreesAt rows cols taught row e (probe_by (choices_of k) (start_of rows cols row) rows)
 agrees_by rows cols taught row e k lt bound ends = agrees rows cols taught row e (probe_by (choices_of k) (start_of rows cols row) rows) bound (ends k lt)
@@ -98,42 +75,28 @@ nothing rows cols taught row e size range h ends bound none still =
     (subst (λ (z : Scroll). SameCells cols e.erasure e.scroll (asked taught Cvvis e).erasure z) (sym still)
     (none_cells rows cols p.top p.bottom p.row p.col allowed.screen.row allowed.screen.col allowed.screen.region allowed.screen.bottom e.erasure e.scroll (one rows cols row e h) seen))
 
+-- what is known of an erasure: what the probes at the first place, in the last line and in the last column show
+corners : (rows cols : ℕ) (taught : Looks) (row : Row) (e : Effect) (pending : Bool) → IsSize rows cols → is_free row ≡ false → start_of rows cols row ≡ starting rows cols pending margins.Whole → (asked taught row e).scroll ≡ scrolls.Still
+    → EndsBelow rows cols taught row e 32 → Corners rows cols e.erasure e.scroll (asked taught row e).erasure
+corners rows cols taught row e pending size bound whole still ends =
+    let at : (k : ℕ) → Probe = λ k. probe_by (choices_of k) (starting rows cols pending margins.Whole) rows in
+    let seen : (k : ℕ) → k < 32 → Agree rows cols e.erasure e.scroll (asked taught row e).erasure scrolls.Still (at k).top (at k).bottom (at k).row (at k).col = λ k lt.
+    subst (λ (z : Scroll). Agree rows cols e.erasure e.scroll (asked taught row e).erasure z (at k).top (at k).bottom (at k).row (at k).col) still
+    (subst (λ (s : Start). AgreesAt rows cols taught row e (probe_by (choices_of k) s rows)) whole (agrees_by rows cols taught row e k lt bound ends)) in
+    record {
+      tall = size.0;
+      wide = size.2;
+      home = seen 0 (omega arith);
+      low = seen 1 (omega arith);
+      right = seen 2 (omega arith);
+    }
+
 same_as_asked : (rows cols : ℕ) (taught : Looks) (row : Row) (e : Effect) → IsSize rows cols → IsInRange rows cols row → IsOneChange rows (start_of rows cols row) e → EndsBelow rows cols taught row e 32 → SameAsAsked cols taught row e
-same_as_asked rows cols taught Clear e size range h ends = screen_cells rows cols e.erasure e.scroll (one rows cols Clear e h) (record {
-  tall = size.0;
-  wide = size.2;
-  home = agrees_by rows cols taught Clear e 0 (omega arith) refl ends;
-  low = agrees_by rows cols taught Clear e 1 (omega arith) refl ends;
-  right = agrees_by rows cols taught Clear e 2 (omega arith) refl ends;
-})
-same_as_asked rows cols taught El e size range h ends = tail_cells rows cols e.erasure e.scroll (one rows cols El e h) (record {
-  tall = size.0;
-  wide = size.2;
-  home = agrees_by rows cols taught El e 0 (omega arith) refl ends;
-  low = agrees_by rows cols taught El e 1 (omega arith) refl ends;
-  right = agrees_by rows cols taught El e 2 (omega arith) refl ends;
-})
-same_as_asked rows cols taught El1 e size range h ends = head_cells rows cols e.erasure e.scroll (one rows cols El1 e h) (record {
-  tall = size.0;
-  wide = size.2;
-  home = agrees_by rows cols taught El1 e 0 (omega arith) refl ends;
-  low = agrees_by rows cols taught El1 e 1 (omega arith) refl ends;
-  right = agrees_by rows cols taught El1 e 2 (omega arith) refl ends;
-})
-same_as_asked rows cols taught Ed e size range h ends = rest_cells rows cols e.erasure e.scroll (one rows cols Ed e h) (record {
-  tall = size.0;
-  wide = size.2;
-  home = agrees_by rows cols taught Ed e 0 (omega arith) refl ends;
-  low = agrees_by rows cols taught Ed e 1 (omega arith) refl ends;
-  right = agrees_by rows cols taught Ed e 2 (omega arith) refl ends;
-})
-same_as_asked rows cols taught (Ech n) e size range h ends = next_cells rows cols n range.0 e.erasure e.scroll (one rows cols (Ech n) e h) (record {
-  tall = size.0;
-  wide = size.2;
-  home = agrees_by rows cols taught (Ech n) e 0 (omega arith) refl ends;
-  low = agrees_by rows cols taught (Ech n) e 1 (omega arith) refl ends;
-  right = agrees_by rows cols taught (Ech n) e 2 (omega arith) refl ends;
-})
+same_as_asked rows cols taught Clear e size range h ends = screen_cells rows cols e.erasure e.scroll (one rows cols Clear e h) (corners rows cols taught Clear e true size refl refl refl ends)
+same_as_asked rows cols taught El e size range h ends = tail_cells rows cols e.erasure e.scroll (one rows cols El e h) (corners rows cols taught El e false size refl refl refl ends)
+same_as_asked rows cols taught El1 e size range h ends = head_cells rows cols e.erasure e.scroll (one rows cols El1 e h) (corners rows cols taught El1 e false size refl refl refl ends)
+same_as_asked rows cols taught Ed e size range h ends = rest_cells rows cols e.erasure e.scroll (one rows cols Ed e h) (corners rows cols taught Ed e false size refl refl refl ends)
+same_as_asked rows cols taught (Ech n) e size range h ends = next_cells rows cols n range.0 e.erasure e.scroll (one rows cols (Ech n) e h) (corners rows cols taught (Ech n) e false size refl refl refl ends)
 same_as_asked rows cols taught Ind e size range h ends = up_cells rows cols e.erasure e.scroll (one rows cols Ind e h) (record {
   tall = size.0;
   wide = size.2;

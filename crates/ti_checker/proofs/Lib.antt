@@ -32,6 +32,7 @@ pub mod Elsewhere
 pub mod OneRendition
 pub mod OneChange
 pub mod OneGrid
+pub mod Ends
 pub mod Erasing
 pub mod Modes
 pub mod Complete

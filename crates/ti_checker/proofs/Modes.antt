@@ -8,36 +8,17 @@ use Rattle.vt_effects.specs.Effect.{designated, switched}
 use Rattle.ti_rows.specs.Asked.{start_of, asked, on_or_kept}
 use Rattle.ti_rows.specs.declared.rows.Looks.{Looks}
 use Rattle.ti_rows.specs.declared.rows.Row.{Row}
-use Rattle.ti_rows.specs.declared.rows.Row.TheVariants.{Clear, Sgr, Cvvis}
+use Rattle.ti_rows.specs.declared.rows.Row.TheVariants.{Cvvis}
 use Rattle.ti_rows.proofs.StartFacts.{never}
-use Rattle.ti_checker.specs.Breakage.{has_choice, wanted_end, with_defaults, without_defaults}
 use Rattle.ti_checker.specs.Trials.{choices_of, probe_by, IsEnd, Only, WithDefaults, WithoutDefaults, EndsAsWanted, EndsBelow}
 use Rattle.ti_checker.specs.declared.probes.Probe.{Probe}
+use Rattle.ti_checker.proofs.Ends.{ends_as, is_told}
 use Rattle.ti_checker.proofs.OneRendition.{by_both}
 
 -- ---- sets
 
-only_sets : (l m : Looks) (row : Row) (e : Effect) → (wanted_end l row e).charset ≡ (asked m row e).charset
-only_sets l m Clear e = refl
-only_sets l m _ e = refl
-
-first_sets : (l m : Looks) (row : Row) (e : Effect) → has_choice row ≡ true → (asked l row (with_defaults e)).charset ≡ (asked m row e).charset
-first_sets l m (Sgr a) e choice = refl
-first_sets l m Cvvis e choice = refl
-first_sets l m _ e choice = never (sym choice)
-
-second_sets : (l m : Looks) (row : Row) (e : Effect) → has_choice row ≡ true → (asked l row (without_defaults e)).charset ≡ (asked m row e).charset
-second_sets l m (Sgr a) e choice = refl
-second_sets l m Cvvis e choice = refl
-second_sets l m _ e choice = never (sym choice)
-
-sets_as : (l m : Looks) (row : Row) (e f : Effect) → IsEnd l row e f → f.charset ≡ (asked m row e).charset
-sets_as l m row e f (Only one is) = ap (λ (g : Effect). g.charset) is ∙ only_sets l m row e
-sets_as l m row e f (WithDefaults choice is) = ap (λ (g : Effect). g.charset) is ∙ first_sets l m row e choice
-sets_as l m row e f (WithoutDefaults choice is) = ap (λ (g : Effect). g.charset) is ∙ second_sets l m row e choice
-
 sets_at : {rows cols : ℕ} → (taught : Looks) (row : Row) (e : Effect) (p : Probe) → EndsAsWanted rows cols taught row e p → designated e.charset p.charset ≡ designated (asked taught row e).charset p.charset
-sets_at taught row e p h = h.so.charset ∙ ap (λ (x : Sets). designated x p.charset) (sets_as _ taught row e h.wanted h.is)
+sets_at taught row e p h = h.so.charset ∙ ap (λ (x : Sets). designated x p.charset) (ends_as _ taught row e h.wanted h.is).charset
 
 abbrev all_sets : Bool → Charset
 all_sets on = record { g0_graphic = on; g1_graphic = on; shifted_out = on }
@@ -59,32 +40,8 @@ same_sets rows cols taught row e c ends =
 
 -- ---- the cursor
 
--- all rows but the one that may show it or not
-abbrev pub is_told : Row → Bool
-is_told Cvvis = false
-is_told _ = true
-
-only_seen : (l m : Looks) (row : Row) (e : Effect) → is_told row ≡ true → (wanted_end l row e).visible ≡ (asked m row e).visible
-only_seen l m Cvvis e told = never (sym told)
-only_seen l m _ e told = refl
-
-first_seen : (l m : Looks) (row : Row) (e : Effect) → is_told row ≡ true → has_choice row ≡ true → (asked l row (with_defaults e)).visible ≡ (asked m row e).visible
-first_seen l m (Sgr a) e told choice = refl
-first_seen l m Cvvis e told choice = never (sym told)
-first_seen l m _ e told choice = never (sym choice)
-
-second_seen : (l m : Looks) (row : Row) (e : Effect) → is_told row ≡ true → has_choice row ≡ true → (asked l row (without_defaults e)).visible ≡ (asked m row e).visible
-second_seen l m (Sgr a) e told choice = refl
-second_seen l m Cvvis e told choice = never (sym told)
-second_seen l m _ e told choice = never (sym choice)
-
-seen_as : (l m : Looks) (row : Row) (e f : Effect) → is_told row ≡ true → IsEnd l row e f → f.visible ≡ (asked m row e).visible
-seen_as l m row e f told (Only one is) = ap (λ (g : Effect). g.visible) is ∙ only_seen l m row e told
-seen_as l m row e f told (WithDefaults choice is) = ap (λ (g : Effect). g.visible) is ∙ first_seen l m row e told choice
-seen_as l m row e f told (WithoutDefaults choice is) = ap (λ (g : Effect). g.visible) is ∙ second_seen l m row e told choice
-
 seen_at : {rows cols : ℕ} → (taught : Looks) (row : Row) (e : Effect) (p : Probe) → is_told row ≡ true → EndsAsWanted rows cols taught row e p → switched e.visible p.visible ≡ switched (asked taught row e).visible p.visible
-seen_at taught row e p told h = h.so.visible ∙ ap (λ (x : Switch). switched x p.visible) (seen_as _ taught row e h.wanted told h.is)
+seen_at taught row e p told h = h.so.visible ∙ ap (λ (x : Switch). switched x p.visible) ((ends_as _ taught row e h.wanted h.is).visible told)
 
 pub told_seen : (rows cols : ℕ) (taught : Looks) (row : Row) (e : Effect) (v : Bool) → is_told row ≡ true → EndsBelow rows cols taught row e 32 → switched e.visible v ≡ switched (asked taught row e).visible v
 told_seen rows cols taught row e v told ends =

@@ -19,13 +19,14 @@ use Rattle.ti_rows.specs.declared.rows.Attributes.{Attributes}
 use Rattle.ti_rows.specs.declared.rows.Looks.{Looks}
 use Rattle.ti_rows.specs.declared.rows.Marks.{Marks}
 use Rattle.ti_rows.specs.declared.rows.Row.{Row}
-use Rattle.ti_rows.specs.declared.rows.Row.TheVariants.{Sgr, Smso, Cvvis}
+use Rattle.ti_rows.specs.declared.rows.Row.TheVariants.{Sgr, Smso}
 use Rattle.ti_rows.proofs.Answers.{earlier_kept}
 use Rattle.ti_rows.proofs.StartFacts.{never}
-use Rattle.ti_checker.specs.Breakage.{AgreeBefore, has_choice, is_several, looks_for, looks_of, marks_after, wanted_end, with_defaults, without_defaults}
+use Rattle.ti_checker.specs.Breakage.{AgreeBefore, is_several, looks_for, looks_of, marks_after}
 use Rattle.ti_checker.specs.Mislooks.{marks_of}
 use Rattle.ti_checker.specs.Trials.{all_marks, choices_of, probe_by, IsEnd, Only, WithDefaults, WithoutDefaults, EndsAsWanted, EndsBelow}
 use Rattle.ti_checker.specs.declared.probes.Probe.{Probe}
+use Rattle.ti_checker.proofs.Ends.{ends_as, is_fixed}
 use Rattle.ti_checker.proofs.Elsewhere.{agree_with_itself}
 use Rattle.ti_checker.proofs.Teaching.{sets, same_sets}
 use Rattle.ti_checker.proofs.Wanted.{set_mark}
@@ -91,33 +92,8 @@ so_by e f r taught row p h is = record {
 
 -- ---- rows whose rendition no look decides
 
-abbrev pub is_fixed : Row → Bool
-is_fixed (Sgr a) = false
-is_fixed Smso = false
-is_fixed _ = true
-
-only_fixed : (l m : Looks) (row : Row) (e : Effect) → is_fixed row ≡ true → (wanted_end l row e).rendition ≡ (asked m row e).rendition
-only_fixed l m (Sgr a) e fixed = never (sym fixed)
-only_fixed l m Smso e fixed = never (sym fixed)
-only_fixed l m _ e fixed = refl
-
-first_fixed : (l m : Looks) (row : Row) (e : Effect) → is_fixed row ≡ true → has_choice row ≡ true → (asked l row (with_defaults e)).rendition ≡ (asked m row e).rendition
-first_fixed l m (Sgr a) e fixed choice = never (sym fixed)
-first_fixed l m Cvvis e fixed choice = refl
-first_fixed l m _ e fixed choice = never (sym choice)
-
-second_fixed : (l m : Looks) (row : Row) (e : Effect) → is_fixed row ≡ true → has_choice row ≡ true → (asked l row (without_defaults e)).rendition ≡ (asked m row e).rendition
-second_fixed l m (Sgr a) e fixed choice = never (sym fixed)
-second_fixed l m Cvvis e fixed choice = refl
-second_fixed l m _ e fixed choice = never (sym choice)
-
-fixed_as : (l m : Looks) (row : Row) (e f : Effect) → is_fixed row ≡ true → IsEnd l row e f → f.rendition ≡ (asked m row e).rendition
-fixed_as l m row e f fixed (Only one is) = ap (λ (g : Effect). g.rendition) is ∙ only_fixed l m row e fixed
-fixed_as l m row e f fixed (WithDefaults choice is) = ap (λ (g : Effect). g.rendition) is ∙ first_fixed l m row e fixed choice
-fixed_as l m row e f fixed (WithoutDefaults choice is) = ap (λ (g : Effect). g.rendition) is ∙ second_fixed l m row e fixed choice
-
 fixed_so : {rows cols : ℕ} → (taught : Looks) (row : Row) (e : Effect) (p : Probe) → is_fixed row ≡ true → EndsAsWanted rows cols taught row e p → RendersSo e.rendition (asked taught row e).rendition p
-fixed_so taught row e p fixed h = so_by e h.wanted (asked taught row e).rendition taught row p h (fixed_as (looks_for taught row e p) taught row e h.wanted fixed h.is)
+fixed_so taught row e p fixed h = so_by e h.wanted (asked taught row e).rendition taught row p h ((ends_as (looks_for taught row e p) taught row e h.wanted h.is).rendition fixed)
 
 pub fixed_rendered : (rows cols : ℕ) (taught : Looks) (row : Row) (e : Effect) (s : Rendition) → is_fixed row ≡ true → EndsBelow rows cols taught row e 32 → rendered e.rendition s ≡ rendered (asked taught row e).rendition s
 fixed_rendered rows cols taught row e s fixed ends =
