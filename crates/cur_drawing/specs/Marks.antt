@@ -29,6 +29,13 @@ widened from end m = if nat_lt m.from m.end then record { from = min m.from from
 abbrev pub marked_between : ℕ → ℕ → ℕ → Marking → Marking
 marked_between i from end m = record m { lines = slice_set m.lines i (widened from end (marked_at m i)) }
 
+-- no line is marked but from one on and before another; they are no more than can be numbered
+pub record AreLines (rows : Marked) (lines : List Marked) : Type 0 where
+  pub few : length lines < 65536
+  pub order : rows.from ≤ rows.end
+  pub within : rows.end ≤ length lines
+  pub others : (i : ℕ) → (i < rows.from) ⊎ (rows.end ≤ i) → slice_index_or lines i nothing ≡ nothing
+
 pub record IsUnmarked (m : Marking) (i j : ℕ) : Type 0 where
   pub some : m.all ≡ false
   pub line : i < length m.lines

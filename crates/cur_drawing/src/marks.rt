@@ -1,19 +1,19 @@
 //! Marks at the places of a screen that may differ from another one.
-ghost use Rattle.std.specs.Prelude.{ℕ, ◌≡◌, ◌<◌, ◌≤◌, ◌+◌, ◌⊎◌, IfOk, length, true, []};
-ghost use Rattle.cur_drawing.specs.Marks.{IsUnmarked, marked_between, none_marked, widened};
+ghost use Rattle.std.specs.Prelude.{ℕ, ◌≡◌, ◌<◌, ◌≤◌, ◌+◌, ◌⊎◌, IfOk, length, replicate, true, []};
+ghost use Rattle.cur_drawing.specs.Marks.{AreLines, IsUnmarked, marked_between, none_marked, nothing, widened};
 
 use crate::spans::Span;
 use std::alloc::{AllocError, Global};
 use std::marker::Model;
 
-/// The marked columns of a line: from one on, and before another.
+/// The marked columns of a line, or lines of a screen: from one on, and before another.
 #[derive(Clone, Copy)]
 pub struct Marked {
     pub from: u16,
     pub end: u16,
 }
 
-// No column.
+// No column, or no line.
 const NONE: Marked = Marked { from: 0, end: 0 };
 
 impl Marked {
@@ -36,14 +36,18 @@ impl Marked {
 pub struct Marks {
     all: bool,
     lines: Vec<Marked>,
+    // no other line has a mark
+    rows: Marked,
 }
 
 impl Model for Marks {
-    ghost use Rattle.cur_drawing.specs.Marks.{Marking};
+    ghost use Rattle.cur_drawing.specs.Marks.{AreLines, Marking};
 
     ghost Value = { Marking };
 
     ghost view = { λ m. record { all = m.all; lines = m.lines.items } };
+
+    ghost invariant = { λ m. AreLines m.rows m.lines.items };
 }
 
 impl Marks {
@@ -52,7 +56,11 @@ impl Marks {
         ensures { IfOk result (λ m. m ≡ none_marked rows) }
     {
         let lines = vec![in alloc; NONE; rows as usize]?;
-        Ok(Marks { all: false, lines })
+        Ok(Marks {
+            all: false,
+            lines,
+            rows: NONE,
+        })
     }
 
     /// Marks at all places, however many there are. Takes no memory.
@@ -62,6 +70,7 @@ impl Marks {
         Marks {
             all: true,
             lines: Vec::new(alloc),
+            rows: NONE,
         }
     }
 
@@ -77,9 +86,10 @@ impl Marks {
     pub fn mark(&mut self, row: u16, from: u16, end: u16)
         ensures { self.new ≡ marked_between row from end self.old }
     {
-        let row = row as usize;
-        if row < self.lines.len() {
-            self.lines[row] = self.lines[row].widened(from, end);
+        let place = row as usize;
+        if place < self.lines.len() {
+            self.lines[place] = self.lines[place].widened(from, end);
+            self.rows = self.rows.widened(row, row + 1);
         }
     }
 
@@ -87,8 +97,33 @@ impl Marks {
     pub fn clear(&mut self)
         ensures { self.new ≡ none_marked (length self.old.lines) }
     {
-        self.lines.fill(NONE);
+        clear_lines(&mut self.lines, self.rows);
+        self.rows = NONE;
         self.all = false;
+    }
+
+    /// The lines that may have a mark, of the first `rows`.
+    pub fn rows(&self, rows: u16) -> Span
+        ensures within { result.at + result.size ≤ rows }
+        ensures others { (i j : ℕ) → i < rows → (i < result.at) ⊎ (result.at + result.size ≤ i)
+            → IsUnmarked self.now i j }
+    {
+        if self.all || self.lines.len() < rows as usize {
+            return Span { at: 0, size: rows };
+        }
+        let end = self.rows.end.min(rows);
+        let at = self.rows.from.min(end);
+        Span { at, size: end - at }
+    }
+
+    /// The lines that may have a mark, of the `rows` lines from `top` on, counted from there.
+    pub(crate) fn rows_from(&self, top: u16, rows: u16) -> Span
+        requires { top + rows < 65536 }
+        ensures within { result.at + result.size ≤ rows }
+        ensures others { (i j : ℕ) → i < rows → (i < result.at) ⊎ (result.at + result.size ≤ i)
+            → IsUnmarked self.now (top + i) j }
+    {
+        self.rows(top + rows).counted_from(top)
     }
 
     /// The marked columns of the line `row`, of `cols` columns.
@@ -120,12 +155,16 @@ impl Marks {
         ensures others { (j : ℕ) → j < cols → (j < result.at) ⊎ (result.at + result.size ≤ j)
             → IsUnmarked self.now row (left + j) }
     {
-        let span = self.columns(row, left + cols);
-        let at = span.at.max(left);
-        let end = (span.at + span.size).max(at);
-        Span {
-            at: at - left,
-            size: end - at,
-        }
+        self.columns(row, left + cols).counted_from(left)
+    }
+}
+
+// Takes the marks off the lines `rows`, which are all that have any.
+fn clear_lines(lines: &mut [Marked], rows: Marked)
+    requires { AreLines rows lines.old }
+    ensures { lines.new ≡ replicate (length lines.old) nothing }
+{
+    for k in rows.from..rows.end {
+        lines[k as usize] = NONE;
     }
 }
