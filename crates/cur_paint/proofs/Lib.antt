@@ -1,6 +1,7 @@
 pub mod Mixtures
 pub mod SpanFacts
 pub mod Ranges
+pub mod LineRanges
 pub mod Bounds
 pub mod ModeFacts
 pub mod Reaches

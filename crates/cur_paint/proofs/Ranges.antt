@@ -32,7 +32,7 @@ none_differs old new i j e =
     ap (λ (x : Bool). if x then 0 else 1) f
 
 -- cells that are the same don't count
-span_none : (old new : ℕ → ℕ → Ink) (i from n : ℕ) → ((j : ℕ) → from ≤ j → j < from + n → old i j ≡ new i j) → span old new i from n ≡ 0
+pub span_none : (old new : ℕ → ℕ → Ink) (i from n : ℕ) → ((j : ℕ) → from ≤ j → j < from + n → old i j ≡ new i j) → span old new i from n ≡ 0
 span_none old new i from zero h = refl
 span_none old new i from (suc n) h =
     omega (arith, span_none old new i from n (λ j a b. h j a (omega (arith, b))), none_differs old new i (from + n) (h (from + n) (omega arith) (omega arith)))

@@ -24,6 +24,11 @@ pub record IsSameOutside (old new : ℕ → ℕ → Ink) (i from end cols : ℕ)
   pub before : (j : ℕ) → j < from → old i j ≡ new i j
   pub after : (j : ℕ) → end ≤ j → j < cols → old i j ≡ new i j
 
+-- in the first so many lines and columns the screens are the same above a line, and from another one on
+pub record AreSameOutside (old new : ℕ → ℕ → Ink) (from end rows cols : ℕ) : Type 0 where
+  pub above : (i j : ℕ) → i < from → j < cols → old i j ≡ new i j
+  pub below : (i j : ℕ) → end ≤ i → i < rows → j < cols → old i j ≡ new i j
+
 -- (Serves the code alone.) one screen was scrolled before it is compared with the other
 pub record IsMoved (between : (ℕ → ℕ → Ink) → (ℕ → ℕ → Ink) → Type 0) (x : Scroll) (g new : ℕ → ℕ → Ink) : Type 0 where
   pub old : ℕ → ℕ → Ink

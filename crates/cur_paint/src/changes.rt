@@ -1,4 +1,4 @@
-//! Which columns of a line may differ.
+//! Which lines and columns may differ.
 ghost use Rattle.std.specs.Prelude.{◌≡◌, ◌≤◌, ℕ};
 
 use cur_scrolls::Scroll;
@@ -10,14 +10,31 @@ pub struct Columns {
     pub end: usize,
 }
 
+/// Lines of a screen: from one on, and before another.
+#[derive(Clone, Copy)]
+pub struct Lines {
+    pub from: usize,
+    pub end: usize,
+}
+
 /// Where one screen may differ from another.
 pub trait Changes {
     ghost use Rattle.std.specs.Prelude.{◌≤◌, ℕ};
     ghost use Rattle.cur_looks.specs.declared.inks.Ink.{Ink};
     ghost use Rattle.cur_scrolls.specs.Scrolls.{shifted};
-    ghost use Rattle.cur_paint.specs.Differ.{IsSameOutside};
+    ghost use Rattle.cur_paint.specs.Differ.{AreSameOutside, IsSameOutside};
 
     ghost between: { Self → (ℕ → ℕ → Ink) → (ℕ → ℕ → Ink) → Type 0 };
+
+    /// The lines that may differ, on screens of `rows` lines and `cols` columns.
+    fn lines(&self, rows: usize, _cols: usize) -> Lines
+        ensures order { result.from ≤ result.end }
+        ensures within { result.end ≤ rows }
+        ensures same { (old new : ℕ → ℕ → Ink) → between self.now old new
+            → AreSameOutside old new result.from result.end rows _cols }
+    {
+        Lines { from: 0, end: rows }
+    }
 
     /// The columns of the line `row` that may differ, on screens of `cols` columns.
     fn columns(&self, row: usize, cols: usize) -> Columns

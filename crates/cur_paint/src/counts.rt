@@ -62,8 +62,10 @@ pub(crate) fn count_cells<C: Certificate, O: Picture, N: Picture, D: Changes>(
     ensures few { result ≤ 1000000 }
 {
     let cols = screens.checked.cols();
+    let rows = screens.checked.rows();
+    let lines = changes.lines(rows, cols);
     let mut count = 0;
-    for row in 0..screens.checked.rows() {
+    for row in lines.from..lines.end {
         count += count_line(screens.old, screens.new, changes, row, cols);
     }
     count
@@ -80,8 +82,10 @@ pub(crate) fn differ_in_more<C: Certificate, O: Picture, N: Picture, D: Changes>
     ensures { result ≡ true → least < all_changed (scene C.table O.cells N.cells screens.now) }
 {
     let cols = screens.checked.cols();
+    let rows = screens.checked.rows();
+    let lines = changes.lines(rows, cols);
     let mut count = 0;
-    for row in 0..screens.checked.rows() {
+    for row in lines.from..lines.end {
         count += count_line(screens.old, screens.new, changes, row, cols);
         if count > least {
             return true;

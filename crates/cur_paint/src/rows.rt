@@ -321,7 +321,7 @@ pub(crate) fn may_differ<D: Changes>(changes: &D, row: usize, rows: usize, cols:
     columns.from < columns.end
 }
 
-/// Mends all lines, in the columns that may differ by `changes`.
+/// Mends all lines, where they may differ by `changes`.
 pub(crate) fn mend_screen<C: Certificate, O: Picture, N: Picture, D: Changes, W: Wire>(
     screens: &Screens<'_, C, O, N>,
     belief: &mut Belief,
@@ -338,8 +338,9 @@ pub(crate) fn mend_screen<C: Certificate, O: Picture, N: Picture, D: Changes, W:
     let rest = erasing_line(screens.checked, ErasedPart::Rest);
     let rows = screens.checked.rows();
     let cols = screens.checked.cols();
+    let lines = changes.lines(rows, cols);
     let mut solid = if rest.is_some() { 0 } else { rows };
-    for row in 0..rows {
+    for row in lines.from..lines.end {
         let columns = changes.columns(row, cols);
         let tail = tail_from(screens.new, row, columns, cols);
         let bottom = bottom_from(screens, changes, row, columns, tail, solid);

@@ -9,5 +9,5 @@ returns-then-count-least g c e =
     let new = g.N.Picture.cells c.args.screens.now.new.now in
     let row = c.loop-row.row in
     let here = rw (c.cols-cols.ensures.value) at c.count_line-count.ensures.value in
-    let grows = all_grows old new t.cols (row + 1) t.rows (omega (arith, c.loop-row-test.true, c.loop-row.auto.row-end, c.rows-row-end.ensures.value)) in
+    let grows = all_grows old new t.cols (row + 1) t.rows (omega (arith, c.loop-row-test.true, c.lines-lines.ensures.within, c.rows-rows.ensures.value)) in
     omega (arith, c.if-count-least.true, c.loop-row.invariant.count, here, all_more old new t.cols row, grows)

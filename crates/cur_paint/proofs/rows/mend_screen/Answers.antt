@@ -1,16 +1,15 @@
-use Rattle.std.proofs.Common.{◌≡◌, ◌+◌, ◌*◌, ◌<◌, ℕ, Result, Ok, Err, OnOk, refl, subst, ◌∙◌, arith}
+use Rattle.std.proofs.Common.{◌≡◌, ◌+◌, ◌*◌, ◌<◌, Result, Ok, Err, OnOk, refl, ◌∙◌, arith}
 use Rattle.ti_rows.specs.declared.rows.Row.TheVariants.{Ed}
 use Rattle.cur_looks.proofs.Answers.{line_is}
 use Rattle.std.proofs.lemmas.Result.{err_from_is_err_and}
-use Rattle.cur_wires.specs.declared.wires.WireFault.{WireFault}
 use Rattle.cur_looks.specs.Inks.{mixed}
 use Rattle.cur_paint.specs.Differ.{span, all_differ}
 use Rattle.ti_conforms.specs.Certified.{IsPiece, IsLost, cell_limit}
 use Rattle.cur_looks.specs.Beliefs.{Agrees}
-use Rattle.cur_wires.specs.Steps.{Steps}
 use Rattle.cur_wires.proofs.Stops.{steps_nothing, steps_next, steps_fail, steps_wider}
 use Rattle.cur_looks.proofs.Actions.{agrees_lost}
-use Rattle.cur_paint.proofs.Mixtures.{span_parts, all_more, all_grows, times_grows, sum_limit, none_done, all_done}
+use Rattle.cur_paint.proofs.Mixtures.{span_parts, all_more, all_grows, times_grows, sum_limit}
+use Rattle.cur_paint.proofs.LineRanges.{above_shown, below_shown, sized_as}
 use Rattle.cur_paint.proofs.rows.mend_screen.Goals as goal
 
 pub loop-row-init : goal.loop-row-init
@@ -19,11 +18,13 @@ loop-row-init g c =
     let b = c.args.belief.now in
     let old = g.O.Picture.cells c.args.screens.now.old.now in
     let new = g.N.Picture.cells c.args.screens.now.new.now in
+    let x = c.lines-lines.result in
+    let same = sized_as old new x.from x.end c.rows-rows.result c.cols-cols.result t.rows t.cols (c.lines-lines.ensures.same old new c.requires.changes) c.rows-rows.ensures.value c.cols-cols.ensures.value in
     record {
       rest = c.erasing_line-rest.ensures.value;
       idle = λ e. refl;
-      step = steps_nothing g.W.Wire.went g.W.Wire.failures g.met.W.Wire.lawful c.args.wire.now tt (IsPiece t) (0 * cell_limit t) (IsLost t) (Agrees t old b) (Agrees t (mixed old new 0 0) b)
-          (λ s x. x.ready.rest) (none_done t old new b) (agrees_lost t c.requires.scene.checked old b);
+      step = steps_nothing g.W.Wire.went g.W.Wire.failures g.met.W.Wire.lawful c.args.wire.now tt (IsPiece t) (all_differ old new t.cols x.from * cell_limit t) (IsLost t) (Agrees t old b) (Agrees t (mixed old new x.from 0) b)
+          (λ s x. x.ready.rest) (above_shown t old new x.from b same.above) (agrees_lost t c.requires.scene.checked old b);
       mode = refl;
     }
 
@@ -55,11 +56,19 @@ returns-in_err-mend_line-in_default-clause-step g c =
     let row = c.loop-row.row in
     rw e.1 (steps_fail g.W.Wire.went g.W.Wire.failures c.args.wire.now c.mend_line.new.wire _ _ (IsPiece t) (all_differ old new t.cols (row + 1) * cell_limit t) (all_differ old new t.cols t.rows * cell_limit t) (IsLost t)
     (Agrees t old b) (Agrees t (mixed old new (row + 1) 0) c.mend_line.new.belief) (Agrees t new c.mend_line.new.belief)
-    (times_grows _ _ (cell_limit t) (all_grows old new t.cols (row + 1) t.rows (omega (arith, c.loop-row-test.true, c.rows-rows.ensures.value))))
+    (times_grows _ _ (cell_limit t) (all_grows old new t.cols (row + 1) t.rows (omega (arith, c.loop-row-test.true, c.lines-lines.ensures.within, c.rows-rows.ensures.value))))
     (steps_next g.W.Wire.went g.W.Wire.failures g.met.W.Wire.lawful c.args.wire.now c.loop-row.wire c.mend_line.new.wire _ _ (IsPiece t)
     (all_differ old new t.cols row * cell_limit t) (span old new row 0 t.cols * cell_limit t) (all_differ old new t.cols (row + 1) * cell_limit t) (IsLost t)
     (Agrees t old b) (Agrees t (mixed old new row 0) c.loop-row.belief) (Agrees t (mixed old new (row + 1) 0) c.mend_line.new.belief)
     (sum_limit _ _ _ (cell_limit t) (all_more old new t.cols row)) c.loop-row.invariant.step c.in_err-mend_line-in_default.ensures.step))
+
+pub returns-clause-idle : goal.returns-clause-idle
+returns-clause-idle g c =
+    let t = g.C.Certificate.table c.args.screens.now.checked.now in
+    let old = g.O.Picture.cells c.args.screens.now.old.now in
+    let new = g.N.Picture.cells c.args.screens.now.new.now in
+    let grows = all_grows old new t.cols c.loop-row.row t.rows (omega (arith, c.lines-lines.ensures.within, c.rows-rows.ensures.value)) in
+    λ e. c.loop-row.invariant.idle (omega (arith, e, grows))
 
 pub returns-clause-step : goal.returns-clause-step
 returns-clause-step g c =
@@ -67,11 +76,14 @@ returns-clause-step g c =
     let b = c.args.belief.now in
     let old = g.O.Picture.cells c.args.screens.now.old.now in
     let new = g.N.Picture.cells c.args.screens.now.new.now in
-    let all : c.loop-row.row ≡ t.rows = omega (arith, c.rows-rows.ensures.value) in
-    let P : ℕ → Type 0 = λ n. Steps {T = Unit {0}} {E = WireFault} g.W.Wire.went g.W.Wire.failures c.args.wire.now c.loop-row.wire (Ok tt) (IsPiece t) (all_differ old new t.cols n * cell_limit t) (IsLost t) (Agrees t old b) (Agrees t (mixed old new n 0) c.loop-row.belief) in
-    let limit = all_differ old new t.cols t.rows * cell_limit t in
-    steps_wider g.W.Wire.went g.W.Wire.failures c.args.wire.now c.loop-row.wire _ (IsPiece t) limit limit (IsLost t) (Agrees t old b) (Agrees t (mixed old new t.rows 0) c.loop-row.belief) (Agrees t old b) (Agrees t new c.loop-row.belief)
-    (omega arith) (λ s x. x) (all_done t old new c.loop-row.belief) (subst P all c.loop-row.invariant.step)
+    let x = c.lines-lines.result in
+    let same = sized_as old new x.from x.end c.rows-rows.result c.cols-cols.result t.rows t.cols (c.lines-lines.ensures.same old new c.requires.changes) c.rows-rows.ensures.value c.cols-cols.ensures.value in
+    let row = c.loop-row.row in
+    let all : row ≡ x.end = omega (arith, c.lines-lines.ensures.order) in
+    let grows = all_grows old new t.cols row t.rows (omega (arith, all, c.lines-lines.ensures.within, c.rows-rows.ensures.value)) in
+    steps_wider g.W.Wire.went g.W.Wire.failures c.args.wire.now c.loop-row.wire _ (IsPiece t) (all_differ old new t.cols row * cell_limit t) (all_differ old new t.cols t.rows * cell_limit t) (IsLost t)
+    (Agrees t old b) (Agrees t (mixed old new row 0) c.loop-row.belief) (Agrees t old b) (Agrees t new c.loop-row.belief)
+    (times_grows _ _ (cell_limit t) grows) (λ s x. x) (below_shown t old new row c.loop-row.belief (λ i j le li lj. same.below i j (omega (arith, all, le)) li lj)) c.loop-row.invariant.step
 
 pub mend_bottom-requires-clause-line : goal.mend_bottom-requires-clause-line
 mend_bottom-requires-clause-line g c = line_is (g.C.Certificate.table c.args.screens.now.checked.now) Ed _ c.in-Some.line c.in-Some.is c.loop-row.invariant.rest
@@ -91,7 +103,7 @@ returns-in-Some-clause-idle g c =
     let some = c.bottom_from-bottom.ensures.differs lt in
     let parts = span_parts old new row col t.cols (omega (arith, lt)) in
     let more = all_more old new t.cols row in
-    let grows = all_grows old new t.cols (row + 1) t.rows (omega (arith, c.loop-row-test.true, c.rows-rows.ensures.value)) in
+    let grows = all_grows old new t.cols (row + 1) t.rows (omega (arith, c.loop-row-test.true, c.lines-lines.ensures.within, c.rows-rows.ensures.value)) in
     always c.mend_bottom.result _ (λ e. absurd (omega (arith, e, some, parts, more, grows)))
 
 pub returns-in-Some-clause-step : goal.returns-in-Some-clause-step
@@ -102,7 +114,7 @@ returns-in-Some-clause-step g c =
     let new = g.N.Picture.cells c.args.screens.now.new.now in
     let row = c.loop-row.row in
     let sum = sum_limit (all_differ old new t.cols row) (span old new row 0 t.cols) (all_differ old new t.cols (row + 1)) (cell_limit t) (all_more old new t.cols row) in
-    let grows = times_grows (all_differ old new t.cols (row + 1)) (all_differ old new t.cols t.rows) (cell_limit t) (all_grows old new t.cols (row + 1) t.rows (omega (arith, c.loop-row-test.true, c.rows-rows.ensures.value))) in
+    let grows = times_grows (all_differ old new t.cols (row + 1)) (all_differ old new t.cols t.rows) (cell_limit t) (all_grows old new t.cols (row + 1) t.rows (omega (arith, c.loop-row-test.true, c.lines-lines.ensures.within, c.rows-rows.ensures.value))) in
     steps_next g.W.Wire.went g.W.Wire.failures g.met.W.Wire.lawful c.args.wire.now c.loop-row.wire c.mend_bottom.new.wire _ c.mend_bottom.result (IsPiece t)
     (all_differ old new t.cols row * cell_limit t) (span old new row 0 t.cols * cell_limit t) (all_differ old new t.cols t.rows * cell_limit t) (IsLost t)
     (Agrees t old b) (Agrees t (mixed old new row 0) c.loop-row.belief) (Agrees t new c.mend_bottom.new.belief)

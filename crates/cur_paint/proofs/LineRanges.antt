@@ -1,0 +1,48 @@
+-- Screens that differ only within some of their lines.
+use Rattle.std.proofs.Common.{◌≡◌, ℕ, ◌<◌, ◌≤◌, inl, inr, zero, suc, refl, ap, arith}
+use Rattle.std.proofs.lemmas.Bool.Decides.{nat_tests}
+use Rattle.std.proofs.lemmas.Bool.{cases_lt}
+use Rattle.vt_term.specs.Screen.{State}
+use Rattle.ti_conforms.specs.Certified.{Table}
+use Rattle.cur_looks.specs.Inks.{mixed}
+use Rattle.cur_looks.specs.Beliefs.{Agrees}
+use Rattle.cur_looks.specs.declared.beliefs.Belief.{Belief}
+use Rattle.cur_looks.specs.declared.inks.Ink.{Ink}
+use Rattle.cur_paint.specs.Differ.{AreSameOutside, all_differ}
+use Rattle.cur_paint.proofs.Mixtures.{agrees_as}
+use Rattle.cur_paint.proofs.Ranges.{span_none}
+
+-- the same screen, its size in other words
+pub sized_as : (old new : ℕ → ℕ → Ink) (from end rows cols n m : ℕ) → AreSameOutside old new from end rows cols → rows ≡ n → cols ≡ m → AreSameOutside old new from end n m
+sized_as old new from end rows cols n m h e f = record {
+  above = λ i j a b. h.above i j a (omega (arith, f, b));
+  below = λ i j a b d. h.below i j a (omega (arith, e, b)) (omega (arith, f, d));
+}
+
+-- lines above that are the same don't count
+pub all_above : (old new : ℕ → ℕ → Ink) (cols n : ℕ) → ((i j : ℕ) → i < n → j < cols → old i j ≡ new i j) → all_differ old new cols n ≡ 0
+all_above old new cols zero h = refl
+all_above old new cols (suc n) h =
+    omega (arith, all_above old new cols n (λ i j a b. h i j (omega (arith, a)) b), span_none old new n 0 cols (λ j a b. h n j (omega arith) (omega (arith, b))))
+
+-- nor do those below
+pub all_below : (old new : ℕ → ℕ → Ink) (cols end n : ℕ) → end ≤ n → ((i j : ℕ) → end ≤ i → i < n → j < cols → old i j ≡ new i j) → all_differ old new cols n ≡ all_differ old new cols end
+all_below old new cols end zero le h = let same : 0 ≡ end = omega (arith, le) in ap (λ (k : ℕ). all_differ old new cols k) same
+all_below old new cols end (suc n) le h = elim (cases_lt n end) [
+  | inl lt ↦ (let same : suc n ≡ end = omega (arith, le, lt) in ap (λ (k : ℕ). all_differ old new cols k) same)
+  | inr ge ↦ omega (arith, all_below old new cols end n ge (λ i j a b d. h i j a (omega (arith, b)) d), span_none old new n 0 cols (λ j a b. h n j ge (omega arith) (omega (arith, b))))
+]
+
+mixed_above : (old new : ℕ → ℕ → Ink) (r i j : ℕ) → (i < r → old i j ≡ new i j) → old i j ≡ mixed old new r 0 i j
+mixed_above old new r i j h = grind (arith, nat_tests, h)
+
+mixed_below : (old new : ℕ → ℕ → Ink) (r i j : ℕ) → (r ≤ i → old i j ≡ new i j) → mixed old new r 0 i j ≡ new i j
+mixed_below old new r i j h = grind (arith, nat_tests, h)
+
+-- the lines above are shown already
+pub above_shown : (t : Table) (old new : ℕ → ℕ → Ink) (r : ℕ) (b : Belief) → ((i j : ℕ) → i < r → j < t.cols → old i j ≡ new i j) → (s : State) → Agrees t old b s → Agrees t (mixed old new r 0) b s
+above_shown t old new r b e s h = agrees_as t old (mixed old new r 0) b (λ i j li lj. mixed_above old new r i j (λ lt. e i j lt lj)) s h
+
+-- and those below
+pub below_shown : (t : Table) (old new : ℕ → ℕ → Ink) (r : ℕ) (b : Belief) → ((i j : ℕ) → r ≤ i → i < t.rows → j < t.cols → old i j ≡ new i j) → (s : State) → Agrees t (mixed old new r 0) b s → Agrees t new b s
+below_shown t old new r b e s h = agrees_as t (mixed old new r 0) new b (λ i j li lj. mixed_below old new r i j (λ le. e i j le li lj)) s h
