@@ -126,7 +126,8 @@ rows_v =
 
 abbrev pub table : List Row
 table =
-    rows_a ++ (rows_b ++ (rows_c ++ (rows_d ++ (rows_e ++ (rows_h ++ (rows_i ++ (rows_l ++ (rows_m ++ (rows_n ++ (rows_o ++ (rows_p ++ (rows_r ++ (rows_s ++ (rows_t ++ (rows_v)))))))))))))))
+    rows_a ++ (rows_b ++ (rows_c ++ (rows_d ++ (rows_e ++ (rows_h ++ (rows_i ++ (rows_l ++
+    (rows_m ++ (rows_n ++ (rows_o ++ (rows_p ++ (rows_r ++ (rows_s ++ (rows_t ++ rows_v))))))))))))))
 
 abbrev pub call_with : List ℕ → List (List ℕ) → Option Call
 call_with name words = call_in table name words
