@@ -11,6 +11,7 @@ import time
 
 from linked import (
     SANITIZED,
+    STRICT,
     WRONG,
     Multiplexer,
     Terminal,
@@ -46,6 +47,14 @@ def names_of_codes():
     return {int(number): name.title().replace("_", "") for name, number in found}
 
 
+def check_formats(work):
+    """What ticurses_callf makes of formats is what printf does. The library isn't needed for it."""
+    words = ["cc", "-O1", "-std=c99", *STRICT, *SANITIZED, f"-I{TOP}/include", f"{TOP}/tests/c/formats.c"]
+    if subprocess.run([*words, "-o", f"{work}/formats"]).returncode or subprocess.run([f"{work}/formats"]).returncode:
+        sys.exit("ticurses_callf makes something else of a format than printf")
+    print("c: ticurses_callf makes of formats what printf does, by itself or by it, at every length up to 1,200")
+
+
 def check_header(prefix, work):
     """Both compilers take the headers, in each of these standards; the library exports what the header declares."""
     text = "#include <ticurses.h>\n#include <ticurses_terminal.h>\nint main(void) { return ticurses_text(0) == 0; }\n"
@@ -74,7 +83,7 @@ def check_manual(prefix, work):
     declared = [it for header in headers for it in re.findall(found, header, re.M)]
     declared = {name: (kind.strip(), re.sub(r"\s+", " ", words)) for kind, name, words in declared}
     # what the others are made of
-    for name in ("ticurses_bytes", "ticurses_is_bad", "ticurses_entry_in"):
+    for name in ("ticurses_bytes", "ticurses_is_bad", "ticurses_digits", "ticurses_format", "ticurses_entry_in"):
         del declared[name]
     written = {}
     for kind, first, rest in re.findall(r"^\.Ft (.*)\n\.F[no] (\w+)(.*(?:\n\.Fa .*)*)", page, re.M):
@@ -321,6 +330,7 @@ def main():
     if missing("c", "cc"):
         return
     with rooms() as work:
+        check_formats(work)
         prefix = installed(work)
         check_header(prefix, work)
         check_manual(prefix, work)

@@ -1,13 +1,14 @@
 -- A script is read line by line.
-use Rattle.std.proofs.Common.{◌≡◌, ℕ, ◌+◌, List, [], ◌++◌, Option, None, Some, Result, Ok, Err, refl, sym, ap, ◌∙◌, append_assoc, append-nil}
-use Rattle.std.specs.Prelude.{option_map}
+use Rattle.std.proofs.Common.{◌≡◌, ℕ, ◌+◌, Bool, true, false, if◌then◌else◌, List, [], ◌∷◌, ◌++◌, length, Option, None, Some, Result, Ok, Err, refl, sym, subst, ap, ◌∙◌, append_assoc, append-nil}
+use Rattle.std.specs.Prelude.{IfSome, nat_lt, option_map}
 use Rattle.std.proofs.lemmas.Option.{same_Some, none-some}
 use Rattle.cur_calls.specs.declared.calls.Call.{Call}
 use Rattle.cur_calls.specs.declared.faults.ScriptFaultKind.{ScriptFaultKind}
 use Rattle.cur_calls.specs.declared.faults.ScriptFaultKind.TheVariants.{BadLine, TooLong, NoMemory}
 use Rattle.cur_calls.specs.declared.faults.ScriptFault.{ScriptFault}
-use Rattle.cur_calls.specs.Cuts.{cut_at, lines_of}
-use Rattle.cur_calls.specs.Texts.{line_calls, fault_at, behind, joined, calls_of, FailsBy, LineFails}
+use Rattle.cur_calls.specs.Cuts.{cut_at, lines_of, ◌>>=◌}
+use Rattle.cur_calls.specs.Table.{call_of}
+use Rattle.cur_calls.specs.Texts.{is_skipped, line_calls, fault_at, behind, joined, calls_of, only_call, only_line, script_of, FailsBy, LineFails}
 use Rattle.cur_calls.proofs.CutFacts.{part_alone, part_first}
 
 abbrev Read : Type 0
@@ -49,3 +50,29 @@ pub fails_last : (fault : ScriptFault) (text : List ℕ) (calls : List Call) (wh
     → behind calls (calls_of fault.line (lines_of text)) ≡ whole → FailsBy fault.kind fault whole
 fails_last fault text calls whole cut e h =
     line_fails fault.kind fault.line calls (line_calls text) (Ok []) whole e (sym (ap (λ ls. behind calls (calls_of fault.line ls)) (part_alone 10 text cut)) ∙ h)
+
+-- a line that is a call, before lines without calls
+one_read : (line : List ℕ) (lines : List (List ℕ)) (skipped : Bool) (o : Option Call) → is_skipped line ≡ skipped → call_of line ≡ o → calls_of 2 lines ≡ Ok [] → IfSome (if skipped then None else o) (λ call. calls_of 1 (line ∷ lines) ≡ Ok (call ∷ []))
+one_read line lines true o e f h = tt
+one_read line lines false None e f h = tt
+one_read line lines false (Some call) e f h =
+    ap (λ b. joined 1 (if b then Some [] else option_map (λ call. call ∷ []) (call_of line)) (calls_of 2 lines)) e
+    ∙ (ap (λ o. joined 1 (option_map (λ call. call ∷ []) o) (calls_of 2 lines)) f ∙ ap (behind (call ∷ [])) h)
+
+abbrev Reads : Option (List ℕ) → List (List ℕ) → Type 0
+Reads o lines = IfSome (o >>= λ line. if is_skipped line then None else call_of line) (λ call. calls_of 1 lines ≡ Ok (call ∷ []))
+
+only_reads : (text : List ℕ) (o : Option (List ℕ × List ℕ)) → cut_at 10 text ≡ o → Reads (only_line text o) (lines_of text)
+only_reads text None e = subst (Reads (Some text)) (sym (part_alone 10 text e)) (one_read text [] (is_skipped text) (call_of text) refl refl refl)
+only_reads text (Some (line, [])) e = subst (Reads (Some line)) (sym (part_first 10 text line [] e)) (one_read line ([] ∷ []) (is_skipped line) (call_of line) refl refl refl)
+only_reads text (Some (line, b ∷ rest)) e = tt
+
+in_time : (long : Bool) (o : Option Call) (fault : ScriptFault) (read : Read) → IfSome o (λ call. read ≡ Ok (call ∷ [])) → IfSome (if long then None else o) (λ call. (if long then Err fault else read) ≡ Ok (call ∷ []))
+in_time true o fault read h = tt
+in_time false o fault read h = h
+
+-- a text that is just one call
+pub only_script : (text : List ℕ) → IfSome (only_call text) (λ call. script_of text ≡ Ok (call ∷ []))
+unfolding script_of
+only_script text =
+    in_time (nat_lt 1048576 (length text)) (only_line text (cut_at 10 text) >>= λ line. if is_skipped line then None else call_of line) (fault_at 0 TooLong) (calls_of 1 (lines_of text)) (only_reads text (cut_at 10 text) refl)

@@ -1,6 +1,6 @@
--- The table of calls: a row for each, with its name (X/Open Curses Issue 7) and its arguments. The last part of the
--- table stands first here, and each other part goes on with the one above it.
-use Rattle.std.specs.Prelude.{ℕ, bytes_eq, codes, List, [], ◌∷◌, Option, None, if◌then◌else◌}
+-- The table of calls: a row for each, with its name (X/Open Curses Issue 7) and its arguments, in the order of the
+-- alphabet; a part of it has the names that begin with one letter.
+use Rattle.std.specs.Prelude.{ℕ, bytes_eq, codes, List, [], ◌∷◌, ◌++◌, Option, None, if◌then◌else◌}
 use Rattle.cur_calls.specs.declared.calls.Call.{Call}
 use Rattle.cur_calls.specs.declared.groups.AttrsCall.TheVariants.{Attron, Attroff, Attrset}
 use Rattle.cur_calls.specs.declared.groups.CellCall.TheVariants.{Addch, Insch, Bkgdset, Bkgd}
@@ -27,114 +27,110 @@ abbrev pub call_in : List Row → List ℕ → List (List ℕ) → Option Call
 call_in [] name words = None
 call_in (row ∷ rows) name words = if bytes_eq name row.0 then row.1 words else call_in rows name words
 
--- lines
-abbrev pub drawing : List Row
-drawing =
-    (codes "hline", line Hline) ∷
-    (codes "vline", line Vline) ∷
+abbrev pub rows_a : List Row
+rows_a =
+    (codes "addch", cell Addch) ∷
+    (codes "addstr", addstr) ∷
+    (codes "attroff", attributes Attroff) ∷
+    (codes "attron", attributes Attron) ∷
+    (codes "attrset", attributes Attrset) ∷ []
+
+abbrev pub rows_b : List Row
+rows_b =
+    (codes "beep", beep) ∷
+    (codes "bkgd", cell Bkgd) ∷
+    (codes "bkgdset", cell Bkgdset) ∷
     (codes "border", draw_border) ∷
     (codes "box", draw_box) ∷ []
 
--- two windows
-abbrev pub laying : List Row
-laying =
-    (codes "overlay", lay Overlay) ∷
-    (codes "overwrite", lay Overwrite) ∷
-    (codes "copywin", copywin) ∷ drawing
-
--- parts of windows
-abbrev pub parting : List Row
-parting =
-    (codes "subwin", part Subwin) ∷
-    (codes "derwin", part Derwin) ∷
-    (codes "subpad", part Subpad) ∷ laying
-
--- whole windows
-abbrev pub making : List Row
-making =
-    (codes "newwin", newwin) ∷
-    (codes "newpad", newpad) ∷
-    (codes "dupwin", dupwin) ∷
-    (codes "delwin", plain Delwin) ∷ parting
-
--- the terminal
-abbrev pub sending : List Row
-sending =
-    (codes "doupdate", bare Doupdate) ∷
-    (codes "endwin", bare Endwin) ∷
-    (codes "beep", beep) ∷ making
-
--- windows and parts of pads that are shown
-abbrev pub showing : List Row
-showing =
-    (codes "noutrefresh", show Noutrefresh) ∷
-    (codes "refresh", show Refresh) ∷
-    (codes "pnoutrefresh", show_pad Pnoutrefresh) ∷
-    (codes "prefresh", show_pad Prefresh) ∷ sending
-
--- what is to be copied, and the cursor
-abbrev pub touching : List Row
-touching =
-    (codes "touchwin", plain Touchwin) ∷
-    (codes "touchline", numbers Touchline) ∷
-    (codes "curs_set", curs_set) ∷ showing
-
--- options
-abbrev pub optioning : List Row
-optioning =
-    (codes "scrollok", flag Scrollok) ∷
-    (codes "leaveok", flag Leaveok) ∷
+abbrev pub rows_c : List Row
+rows_c =
+    (codes "clear", plain Clear) ∷
     (codes "clearok", flag Clearok) ∷
-    (codes "idlok", flag Idlok) ∷ touching
-
--- the background, and colours
-abbrev pub setting : List Row
-setting =
-    (codes "bkgdset", cell Bkgdset) ∷
-    (codes "bkgd", cell Bkgd) ∷
-    (codes "color_set", number ColorSet) ∷
-    (codes "init_pair", init_pair) ∷ optioning
-
--- attributes
-abbrev pub attributing : List Row
-attributing =
-    (codes "attron", attributes Attron) ∷
-    (codes "attroff", attributes Attroff) ∷
-    (codes "attrset", attributes Attrset) ∷ setting
-
--- erasing
-abbrev pub erasing : List Row
-erasing =
-    (codes "clrtoeol", plain Clrtoeol) ∷
     (codes "clrtobot", plain Clrtobot) ∷
-    (codes "erase", plain Erase) ∷
-    (codes "clear", plain Clear) ∷ attributing
+    (codes "clrtoeol", plain Clrtoeol) ∷
+    (codes "color_set", number ColorSet) ∷
+    (codes "copywin", copywin) ∷
+    (codes "curs_set", curs_set) ∷ []
 
--- shifting
-abbrev pub deleting : List Row
-deleting =
+abbrev pub rows_d : List Row
+rows_d =
     (codes "delch", plain Delch) ∷
-    (codes "insertln", plain Insertln) ∷
-    (codes "deleteln", plain Deleteln) ∷ erasing
+    (codes "deleteln", plain Deleteln) ∷
+    (codes "delwin", plain Delwin) ∷
+    (codes "derwin", part Derwin) ∷
+    (codes "doupdate", bare Doupdate) ∷
+    (codes "dupwin", dupwin) ∷ []
 
--- places
-abbrev pub placing : List Row
-placing =
+abbrev pub rows_e : List Row
+rows_e =
+    (codes "endwin", bare Endwin) ∷
+    (codes "erase", plain Erase) ∷ []
+
+abbrev pub rows_h : List Row
+rows_h =
+    (codes "hline", line Hline) ∷ []
+
+abbrev pub rows_i : List Row
+rows_i =
+    (codes "idlok", flag Idlok) ∷
+    (codes "init_pair", init_pair) ∷
+    (codes "insch", cell Insch) ∷
+    (codes "insertln", plain Insertln) ∷ []
+
+abbrev pub rows_l : List Row
+rows_l =
+    (codes "leaveok", flag Leaveok) ∷ []
+
+abbrev pub rows_m : List Row
+rows_m =
     (codes "move", numbers Move) ∷
+    (codes "mvwin", numbers Mvwin) ∷ []
+
+abbrev pub rows_n : List Row
+rows_n =
+    (codes "newpad", newpad) ∷
+    (codes "newwin", newwin) ∷
+    (codes "noutrefresh", show Noutrefresh) ∷ []
+
+abbrev pub rows_o : List Row
+rows_o =
+    (codes "overlay", lay Overlay) ∷
+    (codes "overwrite", lay Overwrite) ∷ []
+
+abbrev pub rows_p : List Row
+rows_p =
+    (codes "pnoutrefresh", show_pad Pnoutrefresh) ∷
+    (codes "prefresh", show_pad Prefresh) ∷ []
+
+abbrev pub rows_r : List Row
+rows_r =
+    (codes "refresh", show Refresh) ∷ []
+
+abbrev pub rows_s : List Row
+rows_s =
     (codes "scroll", number Scroll) ∷
-    (codes "mvwin", numbers Mvwin) ∷
-    (codes "setscrreg", numbers Setscrreg) ∷ deleting
+    (codes "scrollok", flag Scrollok) ∷
+    (codes "setscrreg", numbers Setscrreg) ∷
+    (codes "subpad", part Subpad) ∷
+    (codes "subwin", part Subwin) ∷ []
 
--- characters
-abbrev pub writing : List Row
-writing =
-    (codes "addch", cell Addch) ∷
-    (codes "addstr", addstr) ∷
-    (codes "insch", cell Insch) ∷ placing
+abbrev pub rows_t : List Row
+rows_t =
+    (codes "touchline", numbers Touchline) ∷
+    (codes "touchwin", plain Touchwin) ∷ []
 
--- the whole table
+abbrev pub rows_v : List Row
+rows_v =
+    (codes "vline", line Vline) ∷ []
+
+abbrev pub table : List Row
+table =
+    rows_a ++ (rows_b ++ (rows_c ++ (rows_d ++ (rows_e ++ (rows_h ++ (rows_i ++ (rows_l ++
+    (rows_m ++ (rows_n ++ (rows_o ++ (rows_p ++ (rows_r ++ (rows_s ++ (rows_t ++ rows_v))))))))))))))
+
 abbrev pub call_with : List ℕ → List (List ℕ) → Option Call
-call_with name words = call_in writing name words
+call_with name words = call_in table name words
 
 -- the call that a line is
 abbrev pub call_of : List ℕ → Option Call

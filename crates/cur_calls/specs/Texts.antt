@@ -4,7 +4,7 @@ use Rattle.cur_calls.specs.declared.calls.Call.{Call}
 use Rattle.cur_calls.specs.declared.faults.ScriptFaultKind.{ScriptFaultKind}
 use Rattle.cur_calls.specs.declared.faults.ScriptFaultKind.TheVariants.{BadLine, TooLong, NoMemory}
 use Rattle.cur_calls.specs.declared.faults.ScriptFault.{ScriptFault}
-use Rattle.cur_calls.specs.Cuts.{lines_of}
+use Rattle.cur_calls.specs.Cuts.{cut_at, lines_of, ◌>>=◌}
 use Rattle.cur_calls.specs.Table.{call_of}
 
 -- an empty line, and one that begins with #
@@ -36,6 +36,17 @@ calls_of number (line ∷ lines) = joined number (line_calls line) (calls_of (nu
 -- a script has at most 1048576 bytes
 unfoldable pub script_of : List ℕ → Result (List Call) ScriptFault
 script_of text = if nat_lt 1048576 (length text) then Err (fault_at 0 TooLong) else calls_of 1 (lines_of text)
+
+-- the line of a text that has one, perhaps with its line feed; the text is cut at its first line feed
+abbrev pub only_line : List ℕ → Option (List ℕ × List ℕ) → Option (List ℕ)
+only_line text None = Some text
+only_line text (Some (line, [])) = Some line
+only_line text (Some (line, b ∷ rest)) = None
+
+-- the call of a script that is just one
+abbrev pub only_call : List ℕ → Option Call
+only_call text =
+    if nat_lt 1048576 (length text) then None else (only_line text (cut_at 10 text) >>= λ line. if is_skipped line then None else call_of line)
 
 -- the fault that was answered is the one that reading gives, unless memory ran out
 abbrev pub FailsBy : ScriptFaultKind → ScriptFault → Result (List Call) ScriptFault → Type 0

@@ -21,5 +21,5 @@ pub use groups::{
     AttrsCall, CellCall, FlagCall, LayCall, LineCall, NumberCall, NumbersCall, PadCall, PartCall,
     PlainCall, ScreenCall, ShowCall,
 };
-pub use scripts::{LONGEST, read_script};
+pub use scripts::{LONGEST, read_call, read_script};
 pub use texts::Text;

@@ -37,7 +37,8 @@ pub(crate) fn read_line<'a>(
     }
 }
 
-fn is_skipped(line: &[u8]) -> bool
+/// Whether the line is empty or begins with `#`.
+pub(crate) fn is_skipped(line: &[u8]) -> bool
     ensures { result ≡ is_skipped line.now }
 {
     match line {
@@ -46,7 +47,8 @@ fn is_skipped(line: &[u8]) -> bool
     }
 }
 
-fn call_of<'a>(line: &'a [u8]) -> Option<Call<'a>>
+/// The call that a line is.
+pub(crate) fn call_of<'a>(line: &'a [u8]) -> Option<Call<'a>>
     ensures { result ≡ call_of line.now }
 {
     let (name, words) = Words::of(line).next()?;

@@ -1,11 +1,12 @@
 //! Reading a whole script.
-ghost use Rattle.std.specs.Prelude.{◌≡◌, IfOk, IfErr, Ok};
-ghost use Rattle.cur_calls.specs.Texts.{script_of, FailsBy};
+ghost use Rattle.std.specs.Prelude.{◌≡◌, ◌∷◌, [], IfOk, IfErr, IfSome, Ok, option_map};
+ghost use Rattle.cur_calls.specs.Cuts.{cut_at};
+ghost use Rattle.cur_calls.specs.Texts.{FailsBy, only_call, only_line, script_of};
 
 use crate::calls::Call;
 use crate::cuts::cut;
 use crate::faults::{ScriptFault, ScriptFaultKind};
-use crate::lines::read_line;
+use crate::lines::{call_of, is_skipped, read_line};
 use std::alloc::Global;
 
 /// The most bytes that a script has.
@@ -35,4 +36,37 @@ pub fn read_script<'a>(alloc: Global, text: &'a [u8]) -> Result<Vec<Call<'a>>, S
     }
     read_line(number, rest, &mut calls)?;
     Ok(calls)
+}
+
+/// The call of a script that has one line, if it is a call. It takes no memory.
+pub fn read_call<'a>(text: &'a [u8]) -> Option<Call<'a>>
+    ensures value { result ≡ only_call text.now }
+    ensures script { IfSome result (λ call. script_of text.now ≡ Ok (call ∷ [])) }
+{
+    only_call(text)
+}
+
+// The same, without what its call means for the script.
+fn only_call<'a>(text: &'a [u8]) -> Option<Call<'a>>
+    ensures { result ≡ only_call text.now }
+{
+    if text.len() > LONGEST {
+        return None;
+    }
+    let line = only_line(text)?;
+    if is_skipped(line) {
+        return None;
+    }
+    call_of(line)
+}
+
+/// The line of a text that has one, perhaps with its line feed.
+fn only_line(text: &[u8]) -> Option<&[u8]>
+    ensures { option_map (λ line. line.now) result ≡ only_line text.now (cut_at 10 text.now) }
+{
+    match cut(b'\n', text) {
+        None => Some(text),
+        Some((line, [])) => Some(line),
+        Some(_) => None,
+    }
 }
