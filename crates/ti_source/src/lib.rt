@@ -15,7 +15,7 @@ mod types;
 pub use escapes::{EscapeFault, unescape};
 pub use hints::{Hint, percent_carets};
 pub use lines::{FieldLine, field_lines, field_lines_are_of_fields};
-pub use printer::{escape, octal, print, printing_reads_back};
+pub use printer::{escape, letter_for, octal, print, printing_reads_back};
 pub use source::{read, reading_is_the_relation};
 pub use std::alloc::AllocError as NoMemory;
 pub use types::{FaultKind, Field, Fields, Items, Note, NoteKind, Notes, RawEntry, SourceFault};

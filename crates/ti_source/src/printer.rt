@@ -15,8 +15,8 @@ use itoa::Buffer;
 use std::alloc::{AllocError, Global};
 use ti_caps::{CAPABILITIES, Cap, Entry, Kind, Value, at_rank, is_kind, name};
 
-/// What a backslash stands before in place of a byte.
-fn letter_for(byte: u8) -> Option<u8>
+/// What a backslash stands before in place of `byte`, where it has such a letter.
+pub fn letter_for(byte: u8) -> Option<u8>
     ensures { result ≡ letter_for byte }
 {
     match byte {

@@ -1,6 +1,7 @@
 //! Bytes in the escapes of terminfo source.
 
 use std::alloc::AllocError;
+use ti_source::letter_for;
 
 /// The most bytes of a string that are shown.
 const SHOWN: usize = 300;
@@ -17,23 +18,10 @@ pub fn push_spelled(text: &mut Vec<u8>, bytes: &[u8]) -> Result<(), AllocError> 
     Ok(())
 }
 
+/// Appends `byte`. A space and a colon are legible as they are.
 fn push_byte(text: &mut Vec<u8>, byte: u8) -> Result<(), AllocError> {
     match letter_for(byte) {
-        Some(letter) => text.extend_from_slice(&[b'\\', letter]),
-        None => text.extend_from_slice(&[byte]),
-    }
-}
-
-/// What stands after a backslash in place of `byte`.
-fn letter_for(byte: u8) -> Option<u8> {
-    match byte {
-        27 => Some(b'E'),
-        b'\n' => Some(b'n'),
-        b'\r' => Some(b'r'),
-        b'\t' => Some(b't'),
-        8 => Some(b'b'),
-        12 => Some(b'f'),
-        b',' | b'\\' | b'^' => Some(byte),
-        _ => None,
+        Some(letter) if byte != b' ' && byte != b':' => text.extend_from_slice(&[b'\\', letter]),
+        _ => text.extend_from_slice(&[byte]),
     }
 }
