@@ -11,7 +11,7 @@ ghost use Rattle.cur_update.specs.Painters.{IsPainter, mode_number, mode_of, set
 ghost use Rattle.cur_update.specs.Beep.{Rings};
 
 use crate::bells::{Unsent, ring};
-use crate::changes::{Found, Shift, same_pairs};
+use crate::changes::{Findings, Found, Shift, same_pairs};
 use crate::inks::{has_line, means_of};
 use crate::screens::{PrintedScreen, all_cells};
 use cur_drawing::{Marks, Refusal, place_below};
@@ -243,11 +243,15 @@ fn refresh<C: Certificate, W: Wire>(
         same_pairs,
     };
     let cols = checked.cols();
-    shift.find(frame.marks, &mut shown.columns, cols);
+    let lines = shift.find(frame.marks, &mut shown.columns, cols);
+    let findings = Findings {
+        lines,
+        columns: &shown.columns,
+    };
     let found = Found {
         shift,
         cols,
-        columns: &shown.columns,
+        findings,
     };
     let means = means_of(checked);
     let old = PrintedScreen {

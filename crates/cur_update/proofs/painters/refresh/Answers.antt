@@ -29,12 +29,12 @@ update-requires-clause-changes g c =
     } in
     let old : ℕ → ℕ → Ink = ink_at_with means partners c.args.shown.now.screen in
     let new : ℕ → ℕ → Ink = ink_at_with means partners c.args.frame.now.screen.now in
-    let P : List Columns → Type 0 = λ x. AreFound x (length x) c.cols-cols.result old new in
-    let found : List Columns = c.find.new.columns in
+    let P : List Columns → Type 0 = λ x. AreFound c.find-lines.result x (length x) c.cols-cols.result old new in
+    let found : List Columns = c.find-lines.new.columns in
     let rest : List Columns = drop (length found) c.args.shown.now.columns.items in
     let Q : ℕ → Type 0 = λ n. take n (found ++ rest) ≡ found in
-    let same : c.deref.result.now ≡ found = c.deref.ensures.value ∙ subst Q (c.find.ensures.long ∙ c.deref_mut.ensures.len) (take-append_seam found rest) in
-    (shift, subst P (sym same) (c.find.ensures.found old new shift))
+    let same : c.deref.result.now ≡ found = c.deref.ensures.value ∙ subst Q (c.find-lines.ensures.long ∙ c.deref_mut.ensures.len) (take-append_seam found rest) in
+    (shift, subst P (sym same) (c.find-lines.ensures.found old new shift))
 
 pub returns-clause-refreshes : goal.returns-clause-refreshes
 returns-clause-refreshes g c =
