@@ -173,3 +173,69 @@ line_equal a from source g one fits there equal = row_equal a from 0 source g (o
 -- ---- the part of a row
 pub part_fits : (a : Area) (k : ℕ) (s : Span) (g : Grid) → k < a.rows → s.at + s.size ≤ a.cols → Fits a g → Fits (part_of a k s) g
 part_fits a k s g lt le fits = record { rows = omega (arith, fits.rows); cols = λ i near. omega (arith, fits.cols i near) }
+
+-- ---- some rows of a rectangle, where the others are equal
+
+-- these rows of it
+abbrev rows_in : Area → Span → Area
+rows_in a s = record { top = a.top + s.at; left = a.left; rows = s.size; cols = a.cols }
+
+abbrev pub AreEqualOff : Area → Place → Span → Grid → Grid → Type 0
+AreEqualOff a from s source g = (i x : ℕ) → i < a.rows → x < a.cols → (i < s.at) ⊎ (s.at + s.size ≤ i) → cell_at g (a.top + i) (a.left + x) ≡ cell_at source (from.row + i) (from.col + x)
+
+rows_within : (a : Area) (s : Span) (i j : ℕ) → s.at + s.size ≤ a.rows → is_in (rows_in a s) i j ≡ true → is_in a i j ≡ true
+rows_within a s i j le h = grind (arith, nat_tests)
+
+rows_after : (a : Area) (s : Span) (i j : ℕ) → is_in (rows_in a s) i j ≡ true → a.top + s.at ≤ i
+rows_after a s i j h = grind (arith, nat_tests)
+
+area_top : (a : Area) (i j : ℕ) → is_in a i j ≡ true → a.top ≤ i
+area_top a i j h = grind (arith, nat_tests)
+
+area_bottom : (a : Area) (i j : ℕ) → is_in a i j ≡ true → i < a.top + a.rows
+area_bottom a i j h = grind (arith, nat_tests)
+
+area_left : (a : Area) (i j : ℕ) → is_in a i j ≡ true → a.left ≤ j
+area_left a i j h = grind (arith, nat_tests)
+
+area_right : (a : Area) (i j : ℕ) → is_in a i j ≡ true → j < a.left + a.cols
+area_right a i j h = grind (arith, nat_tests)
+
+off_rows : (a : Area) (s : Span) (i j : ℕ) → is_in (rows_in a s) i j ≡ false → is_in a i j ≡ true → (i - a.top < s.at) ⊎ (s.at + s.size ≤ i - a.top)
+off_rows a s i j off on = elim (cases_lt (i - a.top) s.at) [
+  | inl low ↦ inl low
+  | inr high ↦ inr (past high)
+]
+  where
+    past : s.at ≤ i - a.top → s.at + s.size ≤ i - a.top
+    past high = let top = area_top a i j on in grind (arith, nat_tests)
+
+rows_taken : (a : Area) (from : Place) (s : Span) (source : Grid) (i j : ℕ) (old : Content) → is_in (rows_in a s) i j ≡ true →
+    taken (rows_in a s) (place (from.row + s.at) from.col) source i j old ≡ taken a from source i j old
+rows_taken a from s source i j old on =
+    let after : a.top + s.at ≤ i = rows_after a s i j on in
+    let rows : from.row + s.at + (i - (a.top + s.at)) ≡ from.row + (i - a.top) = omega (arith, after) in
+    ap (λ (n : ℕ). base.cell_at old source n (from.col + (j - a.left))) rows
+
+others_equal : (a : Area) (from : Place) (s : Span) (source g : Grid) (i j : ℕ) (d : Content) → Fits a g → Fits (moved_to a from) source → AreEqualOff a from s source g →
+    is_in (rows_in a s) i j ≡ false → is_in a i j ≡ true → base.cell_at d g i j ≡ taken a from source i j (base.cell_at d g i j)
+others_equal a from s source g i j d fits there equal off on =
+    let top : a.top ≤ i = area_top a i j on in
+    let bottom : i < a.top + a.rows = area_bottom a i j on in
+    let left : a.left ≤ j = area_left a i j on in
+    let right : j < a.left + a.cols = area_right a i j on in
+    let row : i ≡ a.top + (i - a.top) = omega arith in
+    let col : j ≡ a.left + (j - a.left) = omega arith in
+    let near : j < length (line_at g i) = omega (arith, fits.rows, fits.cols i (omega (arith, fits.rows))) in
+    let near2 : from.col + (j - a.left) < length (line_at source (from.row + (i - a.top))) = omega (arith, there.rows, there.cols (from.row + (i - a.top)) (omega (arith, there.rows))) in
+    same_there g source i j (from.row + (i - a.top)) (from.col + (j - a.left)) d near near2
+    (ap (λ (n : ℕ). cell_at g n j) row ∙ ap (λ (n : ℕ). cell_at g (a.top + (i - a.top)) n) col ∙ equal (i - a.top) (j - a.left) (omega arith) (omega arith) (off_rows a s i j off on))
+
+-- these rows are copied, and so the rectangle is
+pub rows_copied : (a : Area) (from : Place) (s : Span) (source g : Grid) → Fits a g → Fits (moved_to a from) source → s.at + s.size ≤ a.rows → AreEqualOff a from s source g →
+    copied (rows_in a s) (place (from.row + s.at) from.col) source g ≡ copied a from source g
+rows_copied a from s source g fits there le equal =
+    drawn_same (λ i j old. if is_in (rows_in a s) i j then taken (rows_in a s) (place (from.row + s.at) from.col) source i j old else old)
+    (λ i j old. if is_in a i j then taken a from source i j old else old) g
+    (λ i j d. chosen (is_in (rows_in a s) i j) (is_in a i j) _ _ (base.cell_at d g i j) (rows_within a s i j le)
+    (rows_taken a from s source i j (base.cell_at d g i j)) (others_equal a from s source g i j d fits there equal))

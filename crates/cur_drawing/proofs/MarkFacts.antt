@@ -1,5 +1,5 @@
 -- Columns that are marked, and copies of what is marked.
-use Rattle.std.proofs.Common.{◌≡◌, ◌≢◌, ℕ, ◌+◌, ◌-◌, ◌<◌, ◌≤◌, ◌⊎◌, max, false, length, refl, sym, ap, ◌∙◌, inl, inr, arith, subst}
+use Rattle.std.proofs.Common.{◌≡◌, ◌≢◌, ℕ, ◌+◌, ◌-◌, ◌<◌, ◌≤◌, ◌⊎◌, false, length, refl, sym, ap, ◌∙◌, inl, inr, arith, subst}
 use Rattle.std.proofs.lemmas.Bool.{cases_eq, cases_lt}
 use Rattle.std.proofs.lemmas.Bool.Decides.{nat_tests}
 use Rattle.std.proofs.lemmas.Grind.{get_or-set_at}
@@ -13,8 +13,8 @@ use Rattle.cur_drawing.specs.declared.spans.Span.{Span}
 use Rattle.cur_drawing.specs.Cells.{Content, space}
 use Rattle.cur_drawing.specs.Calls.{place}
 use Rattle.cur_drawing.specs.Grids.{Grid, cell_at, copied, drawn_in, is_in, row_of, taken}
-use Rattle.cur_drawing.specs.Marks.{IsCopiedBut, IsSameIn, IsUnmarked, IsUntouched, Keeps, Marking, MarksOnly, marked_at, marked_between, nothing, widened}
-use Rattle.cur_drawing.proofs.ChangedRows.{AreEqualBeside}
+use Rattle.cur_drawing.specs.Marks.{AreSame, IsCopiedBut, IsSameIn, IsUnmarked, IsUntouched, Keeps, Marking, MarksOnly, marked_at, marked_between, nothing, widened}
+use Rattle.cur_drawing.proofs.ChangedRows.{AreEqualBeside, AreEqualOff}
 
 -- ---- columns of a line that are marked as well
 
@@ -95,13 +95,6 @@ unmarked_still m row from end i j u off = record {
     | inr apart ↦ subst (λ (x : Marked). IsOff x j) (sym (line_beside m row i from end apart)) u.column
   ];
 }
-
--- ---- the marked columns of a part of a line
-pub before_part : (from left at j : ℕ) → at ≡ max from left → j < at - left → left + j < from
-before_part from left at j e low = grind (arith, nat_tests)
-
-pub after_part : (from size left at end j : ℕ) → at ≡ max from left → end ≡ max (from + size) at → at - left + (end - at) ≤ j → from + size ≤ left + j
-after_part from size left at end j e f high = grind (arith, nat_tests)
 
 -- ---- no more is marked than differs
 
@@ -204,3 +197,24 @@ row_by_row a k f e g h x rows row i = elim (cases_eq i (a.top + k)) [
   | inl same ↦ inl (λ j. sym (ap (λ (y : Grid). cell_at y i j) rows ∙ cell_at-drawn_in_off (top_rows a k) f space g i j (subst (λ (r : ℕ). is_in (top_rows a k) r j ≡ false) (sym same) (below_top a k j))))
   | inr apart ↦ inr (λ j. sym (ap (λ (y : Grid). cell_at y i j) row ∙ cell_at-drawn_in_off (row_of a k) e space h i j (off_this_row a k i j apart)))
 ]
+
+-- ---- lines that have no mark
+
+-- the cells of such lines of a rectangle are the same
+pub unmarked_lines : (a : Area) (from : Place) (s : Span) (source g : Grid) (m : Marking) → IsCopiedBut m a from source g →
+    ((i j : ℕ) → i < a.rows → (i < s.at) ⊎ (s.at + s.size ≤ i) → IsUnmarked m (a.top + i) j) → AreEqualOff a from s source g
+unmarked_lines a from s source g m same others i x lt near side = same i x lt near (others i (a.left + x) lt side)
+
+-- what isn't marked in the other ones is the same
+pub copied_but_lines : (a : Area) (from : Place) (s : Span) (source g : Grid) (m : Marking) → s.at + s.size ≤ a.rows → IsCopiedBut m a from source g →
+    (i j : ℕ) → i < s.size → j < a.cols → IsUnmarked m (a.top + s.at + i) (a.left + j) → cell_at g (a.top + s.at + i) (a.left + j) ≡ cell_at source (from.row + s.at + i) (from.col + j)
+copied_but_lines a from s source g m le same i j lt near u =
+    let row : a.top + s.at + i ≡ a.top + (s.at + i) = omega arith in
+    let there : from.row + (s.at + i) ≡ from.row + s.at + i = omega arith in
+    ap (λ (n : ℕ). cell_at g n (a.left + j)) row
+    ∙ same (s.at + i) j (omega (arith, lt)) near (subst (λ (n : ℕ). IsUnmarked m n (a.left + j)) row u)
+    ∙ ap (λ (n : ℕ). cell_at source n (from.col + j)) there
+
+-- a rectangle at one place of both grids
+pub same_is_copied : (a : Area) (source g : Grid) (m : Marking) → AreSame m g source → IsCopiedBut m a (place a.top a.left) source g
+same_is_copied a source g m same i j lt near u = same (a.top + i) (a.left + j) u

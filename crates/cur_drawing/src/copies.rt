@@ -68,6 +68,38 @@ pub fn copy_changed(
     ensures marked { Keeps marks.old grid.old marks.new grid.new }
     ensures only { MarksOnly marks.old grid.old marks.new grid.new }
 {
+    let rows = touched.rows_from(area.top, area.rows);
+    let part = Area {
+        top: area.top + rows.at,
+        left: area.left,
+        rows: rows.size,
+        cols: area.cols,
+    };
+    let place = Place {
+        row: from.row + rows.at,
+        col: from.col,
+    };
+    copy_changed_lines(grid, part, source, place, touched, marks);
+}
+
+// The same, line by line.
+fn copy_changed_lines(
+    grid: &mut Grid<Cell>,
+    area: Area,
+    source: &Grid<Cell>,
+    from: Place,
+    touched: &Marks,
+    marks: &mut Marks,
+)
+    requires target { Fits area grid.old }
+    requires source { Fits (moved_to area from) source.now }
+    requires places { ArePlaces area from }
+    requires touched { IsCopiedBut touched.now area from source.now grid.old }
+    ensures value { grid.new ≡ copied area from source.now grid.old }
+    ensures shape { shape_of grid.new ≡ shape_of grid.old }
+    ensures marked { Keeps marks.old grid.old marks.new grid.new }
+    ensures only { MarksOnly marks.old grid.old marks.new grid.new }
+{
     for k in 0..area.rows {
         let row = area.top + k;
         let span = touched.columns_from(row, area.left, area.cols);
@@ -124,6 +156,26 @@ fn copy_changed_line(
 /// The rectangle, from the first column on, gets the cells of the same places of another grid, which has the same cells
 /// outside the marks: only what is marked is written.
 pub fn copy_marked(grid: &mut Grid<Cell>, area: Area, source: &Grid<Cell>, marks: &Marks)
+    requires left { area.left ≡ 0 }
+    requires short { area.top + area.rows < 65536 }
+    requires target { Fits area grid.old }
+    requires source { Fits area source.now }
+    requires marked { AreSame marks.now grid.old source.now }
+    ensures value { grid.new ≡ copied area (place area.top area.left) source.now grid.old }
+    ensures shape { shape_of grid.new ≡ shape_of grid.old }
+{
+    let rows = marks.rows_from(area.top, area.rows);
+    let part = Area {
+        top: area.top + rows.at,
+        left: area.left,
+        rows: rows.size,
+        cols: area.cols,
+    };
+    copy_marked_rows(grid, part, source, marks);
+}
+
+// The same, row by row.
+fn copy_marked_rows(grid: &mut Grid<Cell>, area: Area, source: &Grid<Cell>, marks: &Marks)
     requires left { area.left ≡ 0 }
     requires short { area.top + area.rows < 65536 }
     requires target { Fits area grid.old }

@@ -116,6 +116,16 @@ impl Marks {
         Span { at, size: end - at }
     }
 
+    /// The lines that may have a mark, of the `rows` lines from `top` on, counted from there.
+    pub(crate) fn rows_from(&self, top: u16, rows: u16) -> Span
+        requires { top + rows < 65536 }
+        ensures within { result.at + result.size ≤ rows }
+        ensures others { (i j : ℕ) → i < rows → (i < result.at) ⊎ (result.at + result.size ≤ i)
+            → IsUnmarked self.now (top + i) j }
+    {
+        self.rows(top + rows).counted_from(top)
+    }
+
     /// The marked columns of the line `row`, of `cols` columns.
     pub fn columns(&self, row: u16, cols: u16) -> Span
         ensures within { result.at + result.size ≤ cols }
@@ -145,13 +155,7 @@ impl Marks {
         ensures others { (j : ℕ) → j < cols → (j < result.at) ⊎ (result.at + result.size ≤ j)
             → IsUnmarked self.now row (left + j) }
     {
-        let span = self.columns(row, left + cols);
-        let at = span.at.max(left);
-        let end = (span.at + span.size).max(at);
-        Span {
-            at: at - left,
-            size: end - at,
-        }
+        self.columns(row, left + cols).counted_from(left)
     }
 }
 

@@ -1,5 +1,5 @@
 //! Runs of lines or columns, and the rectangles that they make.
-ghost use Rattle.std.specs.Prelude.{◌≡◌, ◌<◌, ◌≤◌, ◌≤ℤ◌, ◌+◌, IfOk, IfSome, pos};
+ghost use Rattle.std.specs.Prelude.{ℕ, ◌≡◌, ◌<◌, ◌≤◌, ◌≤ℤ◌, ◌+◌, ◌⊎◌, IfOk, IfSome, pos};
 ghost use Rattle.cur_drawing.specs.Spans.{IsAreaWithin, IsWithin, start_within, span_within, area_within, rectangle, common, matched};
 
 use crate::refusals::Refusal;
@@ -10,6 +10,23 @@ use grids::Area;
 pub struct Span {
     pub at: u16,
     pub size: u16,
+}
+
+impl Span {
+    // What of it isn't before `first`, counted from there.
+    pub(crate) fn counted_from(self, first: u16) -> Span
+        requires { self.at + self.size < 65536 }
+        ensures within { (limit : ℕ) → self.at + self.size ≤ first + limit → result.at + result.size ≤ limit }
+        ensures others { (i : ℕ) → (i < result.at) ⊎ (result.at + result.size ≤ i)
+            → (first + i < self.at) ⊎ (self.at + self.size ≤ first + i) }
+    {
+        let at = self.at.max(first);
+        let end = (self.at + self.size).max(at);
+        Span {
+            at: at - first,
+            size: end - at,
+        }
+    }
 }
 
 /// The `size` lines or columns from `at` on, or all below `limit` if `size` is 0. `None` if they aren't all below it.

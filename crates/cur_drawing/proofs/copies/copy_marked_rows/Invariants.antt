@@ -3,7 +3,7 @@ use Rattle.std.proofs.Common.{◌≡◌}
 use Rattle.cur_drawing.specs.Calls.{place}
 use Rattle.cur_drawing.specs.Grids.{drawn_in, taken, shape_of}
 use Rattle.grids.proofs.Rectangles.{top_rows}
-use Rattle.cur_drawing.proofs.copies.copy_marked.Given as goal
+use Rattle.cur_drawing.proofs.copies.copy_marked_rows.Given as goal
 
 abbrev pub invariant-loop-k : goal.invariant-loop-k
 invariant-loop-k l = record {
