@@ -3,14 +3,13 @@ ghost use Rattle.std.specs.Prelude.{◌≡◌, ◌<◌, ◌≤◌, ◌+◌, ℕ,
 ghost use Rattle.cur_drawing.specs.Differences.{AreEqualIn};
 ghost use Rattle.cur_drawing.specs.Marks.{AreSame};
 ghost use Rattle.cur_looks.specs.declared.inks.Ink.{Ink};
-ghost use Rattle.cur_windows.specs.VirtualScreen.{colors_at};
 ghost use Rattle.cur_drawing.specs.Cells.{IsCell};
 ghost use Rattle.cur_paint.specs.Differ.{AreSameOutside};
 ghost use Rattle.cur_update.specs.Inks.{content_at};
 ghost use Rattle.cur_update.specs.Shift.{AreAlikeOutside, AreFound, IsShift, found_at};
 
 use crate::scrolls::{found_scroll, scroll_of};
-use cur_drawing::{Cell, Marks, PAIRS, Span, first_diff, last_diff};
+use cur_drawing::{Cell, Marks, Span, first_diff, last_diff};
 use cur_paint::{Changes, Columns, Lines};
 use cur_scrolls::{Scroll, line_before};
 use cur_windows::Virtual;
@@ -75,8 +74,8 @@ impl<'a, C: Certificate> Shift<'a, C> {
         )
     }
 
-    /// The lines of `rows` that may be printed otherwise than those of the screen that was shown last: from the first to
-    /// the last one that is marked.
+    /// The lines of `rows` that may be printed otherwise than those of the screen that was shown last: those from the
+    /// first to the last one that is marked.
     fn lines_marked(&self, marks: &Marks, rows: usize, cols: usize) -> Lines
         requires cells { (i j : ℕ) → i < (self.now.screen.now).rows → j < (self.now.screen.now).cols
             → IsCell (content_at self.now.screen.now i j) }
@@ -254,16 +253,4 @@ fn changed_within(old: &[Cell], new: &[Cell], span: Span) -> Columns
         from: from + columns.from,
         end: from + columns.end,
     }
-}
-
-/// Whether each pair has the same colours on both screens.
-pub(crate) fn same_pairs(a: &Virtual, b: &Virtual) -> bool
-    ensures { result ≡ true → (p : ℕ) → p < 64 → colors_at a.now p ≡ colors_at b.now p }
-{
-    for pair in 0..PAIRS {
-        if !(a.pair(pair).0 == b.pair(pair).0 && a.pair(pair).1 == b.pair(pair).1) {
-            return false;
-        }
-    }
-    true
 }

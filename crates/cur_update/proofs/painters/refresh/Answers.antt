@@ -1,8 +1,10 @@
-use Rattle.std.proofs.Common.{◌≡◌, ◌∙◌, ℕ, List, ◌++◌, length, subst, sym}
+use Rattle.std.proofs.Common.{◌≡◌, ◌∙◌, ℕ, List, ◌++◌, ap, length, slice_index_or, subst, sym}
 use Rattle.std.proofs.Math.ListN.{drop, take}
 use Rattle.std.proofs.Math.Seq.{take-append_seam}
 use Rattle.cur_looks.specs.Inks.{CanShow}
 use Rattle.cur_looks.specs.declared.inks.Ink.{Ink}
+use Rattle.cur_windows.specs.VirtualScreen.{default_colors}
+use Rattle.cur_windows.specs.declared.virtual_screen.Colors.{Colors}
 use Rattle.cur_paint.specs.Update.{Refreshed}
 use Rattle.cur_update.specs.Inks.{ink_at, ink_at_with}
 use Rattle.cur_paint.specs.declared.changes.Columns.{Columns}
@@ -25,7 +27,7 @@ update-requires-clause-changes g c =
     (ink_at_with means partners c.args.shown.now.screen) (ink_at_with means partners c.args.frame.now.screen.now) = record {
       before = as_table c.means_of-means.result t partners c.args.shown.now.screen c.means_of-means.ensures;
       after = as_table c.means_of-means.result t partners c.args.frame.now.screen.now c.means_of-means.ensures;
-      pairs = c.same_pairs-same_pairs.ensures;
+      pairs = λ e p lt. ap (λ (l : List Colors). slice_index_or l p default_colors) (c.same_pairs-same_pairs.ensures.same e);
     } in
     let old : ℕ → ℕ → Ink = ink_at_with means partners c.args.shown.now.screen in
     let new : ℕ → ℕ → Ink = ink_at_with means partners c.args.frame.now.screen.now in
