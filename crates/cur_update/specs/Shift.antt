@@ -4,7 +4,9 @@ use Rattle.cur_drawing.specs.Cells.{pair_count}
 use Rattle.cur_windows.specs.VirtualScreen.{Screen, colors_at}
 use Rattle.ti_conforms.specs.Certified.{Table}
 use Rattle.cur_looks.specs.declared.inks.Ink.{Ink}
+use Rattle.cur_paint.specs.Differ.{AreSameOutside}
 use Rattle.cur_paint.specs.declared.changes.Columns.{Columns}
+use Rattle.cur_paint.specs.declared.changes.Lines.{Lines}
 use Rattle.cur_update.specs.Inks.{ink_at}
 
 pub record IsShift (t : Table) (partners : ℕ → Option ℕ) (v w : Screen) (same_pairs : Bool)
@@ -25,7 +27,12 @@ no_columns = record { from = 0; end = 0 }
 abbrev pub found_at : List Columns → ℕ → Columns
 found_at columns i = slice_index_or columns i no_columns
 
--- of the first n lines these columns were found: outside of them a line is what it was
-abbrev pub AreFound : List Columns → ℕ → ℕ → (ℕ → ℕ → Ink) → (ℕ → ℕ → Ink) → Type 0
-AreFound columns n cols old new =
-    (i : ℕ) → i < n → AreAlikeOutside old new i i (found_at columns i).from (found_at columns i).end cols
+-- of these lines their columns were found: outside of them a line is what it was
+abbrev pub AreFoundIn : List Columns → ℕ → ℕ → ℕ → (ℕ → ℕ → Ink) → (ℕ → ℕ → Ink) → Type 0
+AreFoundIn columns from end cols old new =
+    (i : ℕ) → from ≤ i → i < end → AreAlikeOutside old new i i (found_at columns i).from (found_at columns i).end cols
+
+-- of the first n lines those were found that may differ
+pub record AreFound (lines : Lines) (columns : List Columns) (n cols : ℕ) (old new : ℕ → ℕ → Ink) : Type 0 where
+  pub found : AreFoundIn columns lines.from lines.end cols old new
+  pub others : AreSameOutside old new lines.from lines.end n cols

@@ -3,12 +3,14 @@ ghost use Rattle.std.specs.Prelude.{◌≡◌, ◌<◌, ◌≤◌, ◌+◌, ℕ,
 ghost use Rattle.cur_drawing.specs.Differences.{AreEqualIn};
 ghost use Rattle.cur_drawing.specs.Marks.{AreSame};
 ghost use Rattle.cur_looks.specs.declared.inks.Ink.{Ink};
-ghost use Rattle.cur_windows.specs.VirtualScreen.{colors_at};
+ghost use Rattle.cur_drawing.specs.Cells.{IsCell};
+ghost use Rattle.cur_paint.specs.Differ.{AreSameOutside};
+ghost use Rattle.cur_update.specs.Inks.{content_at};
 ghost use Rattle.cur_update.specs.Shift.{AreAlikeOutside, AreFound, IsShift, found_at};
 
 use crate::scrolls::{found_scroll, scroll_of};
-use cur_drawing::{Cell, Marks, PAIRS, Span, first_diff, last_diff};
-use cur_paint::{Changes, Columns};
+use cur_drawing::{Cell, Marks, Span, first_diff, last_diff};
+use cur_paint::{Changes, Columns, Lines};
 use cur_scrolls::{Scroll, line_before};
 use cur_windows::Virtual;
 use ti_conforms::Certificate;
@@ -72,28 +74,69 @@ impl<'a, C: Certificate> Shift<'a, C> {
         )
     }
 
-    /// Finds for each line the columns in which it may be printed otherwise, among those that are marked.
-    pub(crate) fn find(&self, marks: &Marks, columns: &mut [Columns], cols: usize)
+    /// The lines of `rows` that may be printed otherwise than those of the screen that was shown last: those from the
+    /// first to the last one that is marked.
+    fn lines_marked(&self, marks: &Marks, rows: usize, cols: usize) -> Lines
+        requires cells { (i j : ℕ) → i < (self.now.screen.now).rows → j < (self.now.screen.now).cols
+            → IsCell (content_at self.now.screen.now i j) }
+        requires marked { AreSame marks.now (self.now.shown.now).grid (self.now.screen.now).grid }
+        ensures order { result.from ≤ result.end }
+        ensures within { result.end ≤ rows }
+        ensures same { (old new : ℕ → ℕ → Ink) → IsShift (C.table self.now.checked.now) (C.partners self.now.checked.now)
+            self.now.shown.now self.now.screen.now self.now.same_pairs old new
+            → AreSameOutside old new result.from result.end rows cols }
+    {
+        let (old_rows, old_cols) = self.shown.size();
+        let (new_rows, new_cols) = self.screen.size();
+        if !self.same_pairs || old_rows != new_rows || old_cols != new_cols {
+            return Lines { from: 0, end: rows };
+        }
+        if rows != new_rows as usize || cols != new_cols as usize {
+            return Lines { from: 0, end: rows };
+        }
+        let span = marks.rows(new_rows);
+        Lines {
+            from: span.at as usize,
+            end: span.at as usize + span.size as usize,
+        }
+    }
+
+    /// Finds the lines in which it may be printed otherwise, and for each of them the columns, among those that are
+    /// marked. What is kept of other lines stays.
+    pub(crate) fn find(&self, marks: &Marks, columns: &mut [Columns], cols: usize) -> Lines
+        requires cells { (i j : ℕ) → i < (self.now.screen.now).rows → j < (self.now.screen.now).cols
+            → IsCell (content_at self.now.screen.now i j) }
         requires marked { AreSame marks.now (self.now.shown.now).grid (self.now.screen.now).grid }
         ensures long { length columns.new ≡ length columns.old }
+        ensures order { result.from ≤ result.end }
+        ensures within { result.end ≤ length columns.old }
         ensures found { (old new : ℕ → ℕ → Ink)
             → IsShift (C.table self.now.checked.now) (C.partners self.now.checked.now)
             self.now.shown.now self.now.screen.now self.now.same_pairs old new
-            → AreFound columns.new (length columns.new) cols old new }
+            → AreFound result columns.new (length columns.new) cols old new }
     {
-        for row in 0..columns.len() {
+        let lines = self.lines_marked(marks, columns.len(), cols);
+        for row in lines.from..lines.end {
             columns[row] = self.columns_marked(marks, row, cols);
         }
+        lines
     }
 }
 
-/// Where the virtual screen differs from what was shown last: for each line the columns, which were found once.
+/// The lines that may differ, and of each of them the columns. What is kept of other lines is of an earlier refresh.
+#[derive(Clone, Copy)]
+pub(crate) struct Findings<'a> {
+    pub lines: Lines,
+    pub columns: &'a [Columns],
+}
+
+/// Where the virtual screen differs from what was shown last, which was found once.
 #[derive(Drop)]
 pub(crate) struct Found<'a, C> {
     pub shift: Shift<'a, C>,
     /// As many as a line has.
     pub cols: usize,
-    pub columns: &'a [Columns],
+    pub findings: Findings<'a>,
 }
 
 impl<'a, C: Certificate> Changes for Found<'a, C> {
@@ -104,13 +147,27 @@ impl<'a, C: Certificate> Changes for Found<'a, C> {
 
     ghost between = { λ f old new. IsShift (C.table f.shift.checked.now) (C.partners f.shift.checked.now)
         f.shift.shown.now f.shift.screen.now f.shift.same_pairs old new
-        × AreFound f.columns.now (length f.columns.now) f.cols old new };
+        × AreFound f.findings.lines f.findings.columns.now (length f.findings.columns.now) f.cols old new };
+
+    fn lines(&self, rows: usize, cols: usize) -> Lines {
+        let lines = self.findings.lines;
+        let is_found = cols == self.cols && rows == self.findings.columns.len();
+        if is_found && lines.from <= lines.end && lines.end <= rows {
+            lines
+        } else {
+            Lines { from: 0, end: rows }
+        }
+    }
 
     fn columns(&self, row: usize, cols: usize) -> Columns {
-        if cols != self.cols {
+        let Findings { lines, columns } = self.findings;
+        if cols != self.cols || row >= columns.len() {
             return Columns { from: 0, end: cols };
         }
-        match kept(self.columns, row, cols) {
+        if row < lines.from || row >= lines.end {
+            return Columns { from: 0, end: 0 };
+        }
+        match kept(columns, row, cols) {
             Some(columns) => columns,
             None => Columns { from: 0, end: cols },
         }
@@ -119,7 +176,7 @@ impl<'a, C: Certificate> Changes for Found<'a, C> {
     fn scroll(&self) -> Option<Scroll> {
         match self.shift.screen.hint() {
             Some(hint) => scroll_of(hint),
-            None => found_scroll(self.shift.shown, self.shift.screen, self.columns),
+            None => found_scroll(self.shift.shown, self.shift.screen, &self.findings),
         }
     }
 
@@ -150,9 +207,12 @@ fn kept(columns: &[Columns], row: usize, cols: usize) -> Option<Columns>
 }
 
 /// Whether the line `row` may differ.
-pub(crate) fn may_differ(columns: &[Columns], row: u16) -> bool {
+pub(crate) fn may_differ(found: &Findings<'_>, row: u16) -> bool {
     let row = usize::from(row);
-    row < columns.len() && columns[row].from < columns[row].end
+    if row < found.lines.from || row >= found.lines.end {
+        return false;
+    }
+    row < found.columns.len() && found.columns[row].from < found.columns[row].end
 }
 
 /// The columns in which two lines of one length may differ: none where they are equal.
@@ -193,16 +253,4 @@ fn changed_within(old: &[Cell], new: &[Cell], span: Span) -> Columns
         from: from + columns.from,
         end: from + columns.end,
     }
-}
-
-/// Whether each pair has the same colours on both screens.
-pub(crate) fn same_pairs(a: &Virtual, b: &Virtual) -> bool
-    ensures { result ≡ true → (p : ℕ) → p < 64 → colors_at a.now p ≡ colors_at b.now p }
-{
-    for pair in 0..PAIRS {
-        if !(a.pair(pair).0 == b.pair(pair).0 && a.pair(pair).1 == b.pair(pair).1) {
-            return false;
-        }
-    }
-    true
 }

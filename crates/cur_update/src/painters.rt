@@ -11,7 +11,7 @@ ghost use Rattle.cur_update.specs.Painters.{IsPainter, mode_number, mode_of, set
 ghost use Rattle.cur_update.specs.Beep.{Rings};
 
 use crate::bells::{Unsent, ring};
-use crate::changes::{Found, Shift, same_pairs};
+use crate::changes::{Findings, Found, Shift};
 use crate::inks::{has_line, means_of};
 use crate::screens::{PrintedScreen, all_cells};
 use cur_drawing::{Marks, Refusal, place_below};
@@ -235,7 +235,7 @@ fn refresh<C: Certificate, W: Wire>(
     let screen = frame.screen;
     all_cells(screen);
     let _ = screen.row(0);
-    let same_pairs = same_pairs(&shown.screen, screen);
+    let same_pairs = shown.screen.same_pairs(screen);
     let shift = Shift {
         shown: &shown.screen,
         screen,
@@ -243,11 +243,15 @@ fn refresh<C: Certificate, W: Wire>(
         same_pairs,
     };
     let cols = checked.cols();
-    shift.find(frame.marks, &mut shown.columns, cols);
+    let lines = shift.find(frame.marks, &mut shown.columns, cols);
+    let findings = Findings {
+        lines,
+        columns: &shown.columns,
+    };
     let found = Found {
         shift,
         cols,
-        columns: &shown.columns,
+        findings,
     };
     let means = means_of(checked);
     let old = PrintedScreen {

@@ -1,9 +1,8 @@
 //! Lines that have moved, found by a look at few of them.
 ghost use Rattle.std.specs.Prelude.{◌≡◌, ◌+◌, ◌-◌, ◌<◌, ◌≤◌, IfSome};
 
-use crate::changes::may_differ;
+use crate::changes::{Findings, may_differ};
 use cur_drawing::first_diff;
-use cur_paint::Columns;
 use cur_scrolls::Scroll;
 use cur_windows::{Hint, Virtual};
 
@@ -32,11 +31,11 @@ fn differs(old: &Virtual, new: &Virtual, from: u16, to: u16) -> bool
 }
 
 /// The first line before line `end` that may differ by what was found of the lines.
-fn first_changed(columns: &[Columns], end: u16) -> Option<u16>
+fn first_changed(found: &Findings<'_>, end: u16) -> Option<u16>
     ensures { IfSome result (λ y. y < end) }
 {
     for y in 0..end {
-        if may_differ(columns, y) {
+        if may_differ(found, y) {
             return Some(y);
         }
     }
@@ -44,12 +43,12 @@ fn first_changed(columns: &[Columns], end: u16) -> Option<u16>
 }
 
 /// The last line before line `end` that may differ by what was found of the lines.
-fn last_changed(columns: &[Columns], end: u16) -> Option<u16>
+fn last_changed(found: &Findings<'_>, end: u16) -> Option<u16>
     ensures { IfSome result (λ y. y < end) }
 {
     for k in 0..end {
         let y = end - 1 - k;
-        if may_differ(columns, y) {
+        if may_differ(found, y) {
             return Some(y);
         }
     }
@@ -85,30 +84,30 @@ fn moved_between(old: &Virtual, new: &Virtual, top: u16, bottom: u16) -> Option<
 
 /// Whether of three lines, in the upper part, the middle and the lower part, two may differ, so that it is worth a look
 /// at the others.
-fn differ_much(columns: &[Columns], rows: u16) -> bool
+fn differ_much(found: &Findings<'_>, rows: u16) -> bool
     requires { 0 < rows }
 {
-    let middle = may_differ(columns, rows / 2);
-    let upper = may_differ(columns, rows / 4);
+    let middle = may_differ(found, rows / 2);
+    let upper = may_differ(found, rows / 4);
     match (middle, upper) {
         (true, true) => true,
         (false, false) => false,
-        _ => may_differ(columns, rows - 1 - rows / 4),
+        _ => may_differ(found, rows - 1 - rows / 4),
     }
 }
 
 /// A scroll by which much of the screen `old` may have become the screen `new`, as far as few of their lines show; by
-/// `columns` it is found which lines differ.
-pub(crate) fn found_scroll(old: &Virtual, new: &Virtual, columns: &[Columns]) -> Option<Scroll> {
+/// `found` it is known which lines differ.
+pub(crate) fn found_scroll(old: &Virtual, new: &Virtual, found: &Findings<'_>) -> Option<Scroll> {
     let (rows, cols) = old.size();
     let (new_rows, new_cols) = new.size();
     if rows != new_rows || cols != new_cols || rows == 0 {
         return None;
     }
-    if !differ_much(columns, rows) {
+    if !differ_much(found, rows) {
         return None;
     }
-    let bottom = last_changed(columns, rows)?;
-    let top = first_changed(columns, bottom)?;
+    let bottom = last_changed(found, rows)?;
+    let top = first_changed(found, bottom)?;
     moved_between(old, new, top, bottom)
 }

@@ -1,7 +1,8 @@
 -- A grid that gets all cells of another one of its shape is that one, and so is a screen.
-use Rattle.std.proofs.Common.{◌≡◌, ℕ, ◌<◌, List, length, get_or, sym, ap, ◌∙◌, arith, if◌then◌else◌}
+use Rattle.std.proofs.Common.{◌≡◌, ℕ, ◌<◌, ◌++◌, List, length, take, drop, get_or, sym, ap, ◌∙◌, arith, if◌then◌else◌}
 use Rattle.std.proofs.lemmas.Bool.Decides.{nat_tests}
 use Rattle.std.proofs.lemmas.List.{get_or_default}
+use Rattle.std.proofs.Math.Seq.{take-append_seam}
 use Rattle.grids.specs.declared.areas.Area.{Area}
 use Rattle.grids.proofs.Drawings.{grid_is_drawn, line_is_drawn}
 use Rattle.cur_drawing.specs.Cells.{Content}
@@ -35,3 +36,7 @@ taken_over v w g pairs is there rows cols copied_is same =
 
 pub same_size : (v w now other : Screen) (size : Screen → ℕ) → v ≡ now → w ≡ other → size now ≡ size other → size v ≡ size w
 same_size v w now other size e f h = ap size e ∙ h ∙ sym (ap size f)
+
+-- a vector whose slice became this has just that
+pub written_back : (n : ℕ) (new old : List Colors) → length new ≡ n → take n (new ++ drop (length new) old) ≡ new
+written_back n new old e = ap (λ (k : ℕ). take k (new ++ drop (length new) old)) (sym e) ∙ take-append_seam new (drop (length new) old)

@@ -1,8 +1,8 @@
 -- Grids that are the same where they aren't marked, after writing and after copying.
-use Rattle.std.proofs.Common.{◌≡◌, ◌≢◌, ℕ, ◌+◌, ◌-◌, ◌<◌, ◌≤◌, ◌⊎◌, Bool, true, false, List, [], Result, length, get_or, set, refl, sym, ap, ◌∙◌, inl, inr, arith, subst}
-use Rattle.std.proofs.lemmas.Bool.{cases_eq}
+use Rattle.std.proofs.Common.{◌≡◌, ◌≢◌, ℕ, ◌+◌, ◌-◌, ◌<◌, ◌≤◌, ◌⊎◌, Bool, true, false, List, [], Option, Some, None, Result, Ok, Err, nat_lt, if◌then◌else◌, length, get_or, set, refl, sym, ap, ◌∙◌, inl, inr, arith, subst}
+use Rattle.std.proofs.lemmas.Bool.{cases_eq, cases_lt}
 use Rattle.std.proofs.lemmas.Bool.Decides.{nat_tests}
-use Rattle.std.proofs.lemmas.List.{get_or-set_same, get_or-set_other, get_or_default}
+use Rattle.std.proofs.lemmas.List.{get_or-set_same, get_or-set_other, get_or_default, length-set}
 use Rattle.grids.specs.declared.areas.Area.{Area}
 use Rattle.grids.specs.declared.areas.Place.{Place}
 use Rattle.grids.specs.Grids as base
@@ -14,13 +14,15 @@ use Rattle.cur_drawing.specs.Calls.{Canvas, CanvasStep, IsCanvas, canvas, place,
 use Rattle.cur_drawing.specs.Grids.{Grid, Fits, cell_at, copied, is_in, line_at, taken}
 use Rattle.cur_drawing.specs.Laws.{IsLocal, Stays}
 use Rattle.cur_drawing.specs.Windows.{lines_of}
-use Rattle.cur_drawing.specs.Marks.{AreSame, IsCopiedBut, IsUnmarked, Keeps, Marking}
+use Rattle.cur_drawing.specs.declared.marks.Marked.{Marked}
+use Rattle.cur_drawing.specs.Marks.{AreSame, IsCopiedBut, IsUnmarked, Keeps, Marking, marked_at, marked_between, nothing, widened}
+use Rattle.cur_drawing.specs.declared.refusals.Refusal.TheVariants.{Full}
 use Rattle.cur_windows.proofs.Slices.{all_copied, whole}
 use Rattle.cur_windows.proofs.WrittenLines.{Writes, Writing}
 use Rattle.cur_windows.specs.declared.slots.Slot.{Slot}
-use Rattle.cur_windows.specs.Desks.{IsDesk, IsFramed, IsPlaced, State, grid_at}
+use Rattle.cur_windows.specs.Desks.{IsDesk, IsFramed, IsPlaced, State, grid_at, slot_of, some_slot, window_at}
 use Rattle.cur_windows.specs.VirtualScreen.{IsScreen, Screen, area_on_screen}
-use Rattle.cur_windows.specs.Touched.{IsTouched}
+use Rattle.cur_windows.specs.Touched.{IsGoneThrough, IsTouched, MarksWritten, WritesLine}
 
 -- ---- writing
 
@@ -87,6 +89,46 @@ next_marked w first k i j off beside = elim (cases_eq i (w.area.top + first + k)
   | inl same ↦ elim (beside same) [ inl low ↦ beside_left w first k i j low | inr high ↦ beside_right w first k i j high ]
   | inr apart ↦ in_next w first k i j off apart
 ]
+
+-- what isn't marked in another line stays so
+pub unmarked_other : (m : Marking) (row from end i j : ℕ) → i ≢ row → IsUnmarked m i j → IsUnmarked (marked_between row from end m) i j
+unmarked_other m row from end i j apart u = record {
+  some = u.some;
+  line = omega (arith, u.line, length-set m.lines row (widened from end (marked_at m row)));
+  column = subst (λ (x : Marked). (j < x.from) ⊎ (x.end ≤ j)) (sym (get_or-set_other m.lines row i (widened from end (marked_at m row)) nothing apart)) u.column;
+}
+
+pub not_there : (w : Window) (first k i : ℕ) → i ≡ w.area.top + first + k → (i < w.area.top + first) ⊎ (w.area.top + first + (k + 1) ≤ i) → ⊥
+not_there w first k i e (inl low) = absurd (omega (arith, e, low))
+not_there w first k i e (inr high) = absurd (omega (arith, e, high))
+
+pub sooner : (w : Window) (first k i : ℕ) → (i < w.area.top + first) ⊎ (w.area.top + first + (k + 1) ≤ i) → (i < w.area.top + first) ⊎ (w.area.top + first + k ≤ i)
+sooner w first k i (inl low) = inl low
+sooner w first k i (inr high) = inr (omega (arith, high))
+
+-- a line through which the cursor didn't go
+pub not_gone : (w : Window) (first i : ℕ) → (IsGoneThrough w first i → ⊥) → (i < w.area.top + first) ⊎ (w.area.top + first + (w.row + 1 - first) ≤ i)
+not_gone w first i off = elim (cases_lt i (w.area.top + first)) [
+  | inl low ↦ inl low
+  | inr past ↦ elim (cases_lt (w.area.top + w.row) i) [
+    | inl high ↦ inr (omega (arith, past, high))
+    | inr near ↦ absurd (off (record { after = past; before = near }))
+  ]
+]
+
+-- ---- no more is marked than a call may have written
+slot_there : (e : State) (ws : List (Option Slot)) (n : ℕ) (t : Slot) → n < 64 → n < length ws → e.windows ≡ set ws n (Some t) → slot_of e n ≡ Ok t
+slot_there e ws n t small lt at =
+    let off : nat_lt 63 n ≡ false = grind (arith, nat_tests) in
+    ap (λ (b : Bool). if b then Err Full else some_slot (window_at e n)) off
+    ∙ ap (λ (x : List (Option Slot)). some_slot (get_or x n None)) at ∙ ap some_slot (get_or-set_same ws n (Some t) None lt)
+
+pub written_by : (d now e : State) (n : ℕ) (s : Slot) (w : Window) (a b : Marking) → d ≡ now → IsDesk d → (n < 64) × (window_at now n ≡ Some s) → Ok s ≡ slot_of now n →
+    e.windows ≡ set d.windows n (Some (record s { window = w })) → IsTouched a b (record s { window = w }) s.window.row → MarksWritten a b now e n
+written_by d now e n s w a b is desk there before at touched = record {
+  only = λ i j u off. touched.only i j u (λ line. off (subst (λ (r : Result Slot Refusal). WritesLine r (slot_of e n) i) before
+      (subst (λ (r : Result Slot Refusal). WritesLine (Ok s) r i) (sym (slot_there e d.windows n (record s { window = w }) there.0 (omega (arith, there.0, desk.windows)) at)) line)));
+}
 
 -- ---- copying
 

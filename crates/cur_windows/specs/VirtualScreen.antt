@@ -1,6 +1,6 @@
 -- The virtual screen: what the terminal is to show (X/Open Curses Issue 7, noutrefresh, doupdate; "Color
 -- Manipulation").
-use Rattle.std.specs.Prelude.{◌≡◌, ℕ, ◌+◌, ◌<◌, ◌||◌, ◌==◌, List, length, slice_index_or, slice_set, replicate, Bool, false, Option, Some, None, IfSome, Result, Ok, Err, if◌then◌else◌, ℤ}
+use Rattle.std.specs.Prelude.{◌≡◌, ℕ, ◌+◌, ◌<◌, ◌≤◌, ◌||◌, ◌==◌, List, length, slice_index_or, slice_set, replicate, Bool, false, Option, Some, None, IfSome, Result, Ok, Err, if◌then◌else◌, ℤ}
 use Rattle.grids.specs.declared.areas.Area.{Area}
 use Rattle.grids.specs.declared.areas.Place.{Place}
 use Rattle.cur_drawing.specs.declared.refusals.Refusal.{Refusal}
@@ -37,6 +37,11 @@ pub record IsScreen (v : Screen) : Type 0 where
   pub columns : (i : ℕ) → i < length v.grid → length (line_at v.grid i) ≡ v.cols
   pub cursor : IfSome v.cursor (λ p. (p.row < v.rows) × (p.col < v.cols))
   pub pairs : length v.pairs ≡ pair_count
+
+-- the pairs from one on are default on default; it is one of them, or the first that there isn't
+pub record AreDefault (first : ℕ) (pairs : List Colors) : Type 0 where
+  pub within : first ≤ pair_count
+  pub colors : (p : ℕ) → first ≤ p → slice_index_or pairs p default_colors ≡ default_colors
 
 -- at first: spaces without attributes, the cursor at the corner, all pairs default on default
 abbrev pub new_screen : ℕ → ℕ → Screen

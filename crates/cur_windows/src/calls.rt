@@ -4,6 +4,7 @@ ghost use Rattle.cur_windows.specs.Desks as spec;
 ghost use Rattle.cur_drawing.specs.Calls as call;
 ghost use Rattle.cur_drawing.specs.Marks.{Keeps};
 ghost use Rattle.cur_drawing.specs.Windows as window;
+ghost use Rattle.cur_windows.specs.Touched.{MarksWritten};
 
 use crate::desks::Desk;
 use crate::hints::{after_writing, joined};
@@ -127,10 +128,12 @@ impl Desk {
         self.addch_marked(id, put, &mut touched)
     }
 
-    /// As `addch`; where window 0's grid has changed it is marked as well.
+    /// As `addch`; where window 0's grid has changed it is marked as well. Of that grid nothing is marked but the
+    /// lines through which the cursor went, or all if the region may have gone up.
     pub fn addch_marked(&mut self, id: usize, put: Put, touched: &mut Marks) -> Result<(), Refusal>
         ensures step { spec.step self.new result ≡ spec.on_window self.old id (call.added put) }
         ensures touched { Keeps touched.old (spec.grid_at self.old 0) touched.new (spec.grid_at self.new 0) }
+        ensures only { MarksWritten touched.old touched.new self.old self.new id }
     {
         let mut slot = self.find(id)?;
         let region = self.region_of(&slot);
@@ -156,7 +159,8 @@ impl Desk {
         self.addstr_marked(id, text, &mut touched)
     }
 
-    /// As `addstr`; where window 0's grid has changed it is marked as well.
+    /// As `addstr`; where window 0's grid has changed it is marked as well. Of that grid nothing is marked but the
+    /// lines through which the cursor went, or all if the region may have gone up.
     pub fn addstr_marked(
         &mut self,
         id: usize,
@@ -165,6 +169,7 @@ impl Desk {
     ) -> Result<(), Refusal>
         ensures step { spec.step self.new result ≡ spec.on_window self.old id (call.added_all text.now) }
         ensures touched { Keeps touched.old (spec.grid_at self.old 0) touched.new (spec.grid_at self.new 0) }
+        ensures only { MarksWritten touched.old touched.new self.old self.new id }
     {
         let mut slot = self.find(id)?;
         let region = self.region_of(&slot);

@@ -98,9 +98,13 @@ pub(crate) fn after_writing(
     }
 }
 
-/// Which grid was last copied over the whole of each line of the screen, by its number.
+/// Which grid was last copied over the whole of each line of the screen, by its number: that of the last copy for the
+/// lines from `top` on and before `end`, and what is noted for the other ones.
 #[derive(Clone, Copy)]
 pub(crate) struct Owners {
+    top: u16,
+    end: u16,
+    root: u8,
     roots: [u8; MAX_ROWS],
 }
 
@@ -111,21 +115,44 @@ impl Owners {
     // Nothing was copied yet.
     pub(crate) fn none() -> Owners {
         Owners {
+            top: 0,
+            end: 0,
+            root: NONE,
             roots: [NONE; MAX_ROWS],
         }
     }
 
+    // No line is known to be a grid's.
+    pub(crate) fn forget(&mut self) {
+        self.top = 0;
+        self.end = u16::MAX;
+        self.root = NONE;
+    }
+
     // Whether the grid was copied last over the whole of the line.
     pub(crate) fn has(&self, row: u16, root: u8) -> bool {
+        if self.top <= row && row < self.end {
+            return self.root == root;
+        }
         (row as usize) < MAX_ROWS && self.roots[row as usize] == root
     }
 
     // The grid is copied over the whole of the area's lines.
     fn cover(&mut self, area: Area, root: u8) {
-        let top = (area.top as usize).min(MAX_ROWS);
-        let end = (top + area.rows as usize).min(MAX_ROWS);
-        for row in top..end {
-            self.roots[row] = root;
+        let end = area.top.saturating_add(area.rows);
+        if self.top < area.top || end < self.end {
+            self.note_last();
+        }
+        self.top = area.top;
+        self.end = end;
+        self.root = root;
+    }
+
+    // Notes whose the lines of the last copy are.
+    fn note_last(&mut self) {
+        let end = (self.end as usize).min(MAX_ROWS);
+        for row in self.top as usize..end {
+            self.roots[row] = self.root;
         }
     }
 

@@ -1,10 +1,12 @@
 //! Copying a window to the virtual screen.
-ghost use Rattle.std.specs.Prelude.{◌≡◌, ◌<◌, ◌≤◌, ◌+◌, IfSome, Some, None, if◌then◌else◌, false};
+ghost use Rattle.std.specs.Prelude.{◌≡◌, ◌<◌, ◌≤◌, ◌+◌, IfErr, IfOk, IfSome, Ok, Some, None, if◌then◌else◌, false};
 ghost use Rattle.cur_drawing.specs.Calls.{IsCanvas, place};
 ghost use Rattle.cur_drawing.specs.Marks.{AreSame, Keeps, MarksOnly};
 ghost use Rattle.cur_drawing.specs.Windows.{IsWindow};
 ghost use Rattle.cur_windows.specs.Desks as spec;
 ghost use Rattle.cur_windows.specs.Creations as make;
+ghost use Rattle.cur_windows.specs.Touched.{MarksCopied};
+ghost use Rattle.cur_windows.specs.declared.slots.Slot.{Slot};
 ghost use Rattle.cur_windows.specs.VirtualScreen.{refresh, noutrefresh, shown, area_on_screen, cursor_on_screen};
 
 use crate::desks::Desk;
@@ -27,9 +29,9 @@ impl Desk {
         self.noutrefresh_marked(id, screen, &mut touched, &mut marks)
     }
 
-    /// As `noutrefresh`. Outside the marks `touched` the screen has the cells of window 0's grid, and it has them outside
-    /// these marks afterwards; what isn't marked of that grid isn't looked at. Where the screen's cells have changed,
-    /// `marks` are added.
+    /// As `noutrefresh`. Outside the marks `touched` the screen has the cells of window 0's grid, and it has them
+    /// outside these marks afterwards; what isn't marked of that grid isn't looked at. A window of that grid adds none
+    /// to them, and one as large as the screen takes all off. Where the screen's cells have changed, `marks` are added.
     pub fn noutrefresh_marked(
         &mut self,
         id: usize,
@@ -42,6 +44,9 @@ impl Desk {
         requires touched { AreSame touched.old (screen.old).grid (spec.grid_at self.old 0) }
         ensures step { refresh self.new screen.new result ≡ noutrefresh self.old screen.old id }
         ensures touched { AreSame touched.new (screen.new).grid (spec.grid_at self.new 0) }
+        ensures copied { IfOk result (λ _. (s : Slot) → spec.slot_of self.old id ≡ Ok s
+            → MarksCopied touched.old touched.new self.old s) }
+        ensures refused { IfErr result (λ _. touched.new ≡ touched.old) }
         ensures marked { Keeps marks.old (screen.old).grid marks.new (screen.new).grid }
         ensures only { MarksOnly marks.old (screen.old).grid marks.new (screen.new).grid }
     {
@@ -66,6 +71,7 @@ impl Desk {
             (place (slot.now).window.area.top (slot.now).window.area.left) (cursor_on_screen self.now slot.now)
             (slot.now).window.clears screen.old }
         ensures touched { AreSame touched.new (screen.new).grid (spec.grid_at self.now 0) }
+        ensures copied { MarksCopied touched.old touched.new self.now slot.now }
         ensures marked { Keeps marks.old (screen.old).grid marks.new (screen.new).grid }
         ensures only { MarksOnly marks.old (screen.old).grid marks.new (screen.new).grid }
     {

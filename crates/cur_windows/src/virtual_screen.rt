@@ -1,5 +1,5 @@
 //! The virtual screen and its colour pairs.
-ghost use Rattle.std.specs.Prelude.{ℕ, length, slice_index_or, ◌≡◌, ◌<◌, ◌≤◌, ◌+◌, IfOk, IfSome, replicate};
+ghost use Rattle.std.specs.Prelude.{ℕ, length, slice_index_or, ◌≡◌, ◌<◌, ◌≤◌, ◌+◌, IfOk, IfSome, replicate, true};
 ghost use Rattle.cur_drawing.specs.Cells.{IsCell, space};
 ghost use Rattle.cur_drawing.specs.Grids.{Fits, line_at, moved_to};
 ghost use Rattle.cur_drawing.specs.Marks.{AreSame, IsCopiedBut, Keeps, MarksOnly};
@@ -18,7 +18,7 @@ use vt_term::Size;
 const COLORS: u16 = 8;
 
 /// The colours of a pair, 0 to 7 in the order of ECMA-48's SGR. None is the terminal's own.
-#[derive(Clone, Copy)]
+#[derive(Clone, Copy, PartialEq, Eq)]
 pub struct Colors {
     pub foreground: Option<u8>,
     pub background: Option<u8>,
@@ -44,12 +44,14 @@ pub struct Virtual {
     cursor: Option<Place>,
     clearok: bool,
     pairs: Vec<Colors>,
+    // the pairs from this one on are default on default
+    colored: u16,
     scrolled: Option<Scroll>,
     owners: Owners,
 }
 
 impl Model for Virtual {
-    ghost use Rattle.cur_windows.specs.VirtualScreen.{Screen, IsScreen};
+    ghost use Rattle.cur_windows.specs.VirtualScreen.{AreDefault, Screen, IsScreen};
 
     ghost Value = { Screen };
 
@@ -69,7 +71,7 @@ impl Model for Virtual {
       cursor = v.cursor;
       clearok = v.clearok;
       pairs = v.pairs.items;
-    }) };
+    }) × AreDefault v.colored v.pairs.items };
 }
 
 impl Virtual {
@@ -87,6 +89,7 @@ impl Virtual {
             cursor: Some(Place { row: 0, col: 0 }),
             clearok: false,
             pairs,
+            colored: 0,
             scrolled: None,
             owners: Owners::none(),
         })
@@ -169,6 +172,7 @@ impl Virtual {
             foreground: Some(foreground as u8),
             background: Some(background as u8),
         };
+        self.colored = self.colored.max(pair + 1);
         Ok(())
     }
 
@@ -181,8 +185,16 @@ impl Virtual {
         (colors.foreground, colors.background)
     }
 
-    /// Becomes what another virtual screen of its size is, whose cells are the same outside the marks. Only what is marked
-    /// is copied. Takes no memory.
+    /// Whether all pairs have the same colours on another virtual screen. Pairs that were never set aren't compared.
+    pub fn same_pairs(&self, other: &Virtual) -> bool
+        ensures same { result ≡ true → (self.now).pairs ≡ (other.now).pairs }
+        ensures found { (self.now).pairs ≡ (other.now).pairs → result ≡ true }
+    {
+        same_colors(&self.pairs, &other.pairs, self.colored.max(other.colored))
+    }
+
+    /// Becomes what another virtual screen of its size is, whose cells are the same outside the marks. Only what is
+    /// marked is copied, and no hint is left. Takes no memory.
     pub fn copy_marked(&mut self, other: &Virtual, marks: &Marks)
         requires rows { (self.old).rows ≡ (other.now).rows }
         requires cols { (self.old).cols ≡ (other.now).cols }
@@ -196,11 +208,16 @@ impl Virtual {
             cols: self.cols,
         };
         copy_marked(&mut self.grid, area, &other.grid, marks);
-        self.pairs.copy_from_slice(&other.pairs);
+        copy_colors(
+            &mut self.pairs,
+            &other.pairs,
+            self.colored.max(other.colored),
+        );
+        self.colored = other.colored;
         self.cursor = other.cursor;
         self.clearok = other.clearok;
-        self.scrolled = other.scrolled;
-        self.owners = other.owners;
+        self.scrolled = None;
+        self.owners.forget();
     }
 
     // A rectangle, which outside the marks `touched` has the cells of a grid from a place on, gets all of them, and where
@@ -244,4 +261,34 @@ fn default_pairs(alloc: Global) -> Result<Vec<Colors>, AllocError>
         pairs.push(colors)?;
     }
     Ok(pairs)
+}
+
+// Whether the pairs before `end` have the same colours, all others being default on default.
+fn same_colors(a: &[Colors], b: &[Colors], end: u16) -> bool
+    requires long { length a.now ≡ 64 }
+    requires long_too { length b.now ≡ 64 }
+    requires others { spec.AreDefault end a.now }
+    requires others_too { spec.AreDefault end b.now }
+    ensures same { result ≡ true → a.now ≡ b.now }
+    ensures found { a.now ≡ b.now → result ≡ true }
+{
+    for pair in 0..end {
+        if a[pair as usize] != b[pair as usize] {
+            return false;
+        }
+    }
+    true
+}
+
+// Copies the pairs before `end`, all others being default on default.
+fn copy_colors(pairs: &mut [Colors], source: &[Colors], end: u16)
+    requires long { length pairs.old ≡ 64 }
+    requires long_too { length source.now ≡ 64 }
+    requires others { spec.AreDefault end pairs.old }
+    requires others_too { spec.AreDefault end source.now }
+    ensures { pairs.new ≡ source.now }
+{
+    for pair in 0..end {
+        pairs[pair as usize] = source[pair as usize];
+    }
 }

@@ -1,8 +1,10 @@
-use Rattle.std.proofs.Common.{◌≡◌, ◌∙◌, ℕ, List, ◌++◌, length, subst, sym}
+use Rattle.std.proofs.Common.{◌≡◌, ◌∙◌, ℕ, List, ◌++◌, ap, length, slice_index_or, subst, sym}
 use Rattle.std.proofs.Math.ListN.{drop, take}
 use Rattle.std.proofs.Math.Seq.{take-append_seam}
 use Rattle.cur_looks.specs.Inks.{CanShow}
 use Rattle.cur_looks.specs.declared.inks.Ink.{Ink}
+use Rattle.cur_windows.specs.VirtualScreen.{default_colors}
+use Rattle.cur_windows.specs.declared.virtual_screen.Colors.{Colors}
 use Rattle.cur_paint.specs.Update.{Refreshed}
 use Rattle.cur_update.specs.Inks.{ink_at, ink_at_with}
 use Rattle.cur_paint.specs.declared.changes.Columns.{Columns}
@@ -25,16 +27,16 @@ update-requires-clause-changes g c =
     (ink_at_with means partners c.args.shown.now.screen) (ink_at_with means partners c.args.frame.now.screen.now) = record {
       before = as_table c.means_of-means.result t partners c.args.shown.now.screen c.means_of-means.ensures;
       after = as_table c.means_of-means.result t partners c.args.frame.now.screen.now c.means_of-means.ensures;
-      pairs = c.same_pairs-same_pairs.ensures;
+      pairs = λ e p lt. ap (λ (l : List Colors). slice_index_or l p default_colors) (c.same_pairs-same_pairs.ensures.same e);
     } in
     let old : ℕ → ℕ → Ink = ink_at_with means partners c.args.shown.now.screen in
     let new : ℕ → ℕ → Ink = ink_at_with means partners c.args.frame.now.screen.now in
-    let P : List Columns → Type 0 = λ x. AreFound x (length x) c.cols-cols.result old new in
-    let found : List Columns = c.find.new.columns in
+    let P : List Columns → Type 0 = λ x. AreFound c.find-lines.result x (length x) c.cols-cols.result old new in
+    let found : List Columns = c.find-lines.new.columns in
     let rest : List Columns = drop (length found) c.args.shown.now.columns.items in
     let Q : ℕ → Type 0 = λ n. take n (found ++ rest) ≡ found in
-    let same : c.deref.result.now ≡ found = c.deref.ensures.value ∙ subst Q (c.find.ensures.long ∙ c.deref_mut.ensures.len) (take-append_seam found rest) in
-    (shift, subst P (sym same) (c.find.ensures.found old new shift))
+    let same : c.deref.result.now ≡ found = c.deref.ensures.value ∙ subst Q (c.find-lines.ensures.long ∙ c.deref_mut.ensures.len) (take-append_seam found rest) in
+    (shift, subst P (sym same) (c.find-lines.ensures.found old new shift))
 
 pub returns-clause-refreshes : goal.returns-clause-refreshes
 returns-clause-refreshes g c =

@@ -1,5 +1,5 @@
--- The lines that were gone through are marked as well.
-use Rattle.std.proofs.Common.{◌≡◌, ℕ, false}
+-- The lines that were gone through are marked as well, and no others.
+use Rattle.std.proofs.Common.{◌≡◌, ℕ, ◌+◌, ◌<◌, ◌≤◌, ◌⊎◌, false}
 use Rattle.cur_drawing.specs.Grids.{is_in}
 use Rattle.cur_drawing.specs.Marks.{IsUnmarked}
 use Rattle.cur_drawing.specs.Windows.{lines_of}
@@ -9,4 +9,5 @@ abbrev pub invariant-loop-k : goal.invariant-loop-k
 invariant-loop-k l = record {
   kept : (i j : ℕ) → IsUnmarked l.touched i j → IsUnmarked l.fn.touched i j;
   lines : (i j : ℕ) → IsUnmarked l.touched i j → is_in (lines_of l.window l.first l.k) i j ≡ false;
+  only : (i j : ℕ) → IsUnmarked l.fn.touched i j → (i < l.window.area.top + l.first) ⊎ (l.window.area.top + l.first + l.k ≤ i) → IsUnmarked l.touched i j;
 }
