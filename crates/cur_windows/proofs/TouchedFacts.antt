@@ -1,8 +1,8 @@
 -- Grids that are the same where they aren't marked, after writing and after copying.
-use Rattle.std.proofs.Common.{◌≡◌, ◌≢◌, ℕ, ◌+◌, ◌-◌, ◌<◌, ◌≤◌, ◌⊎◌, Bool, true, false, List, [], Option, Some, None, Result, Ok, Err, nat_lt, if◌then◌else◌, length, get_or, set, refl, sym, ap, ◌∙◌, inl, inr, arith, subst}
+use Rattle.std.proofs.Common.{◌≡◌, ◌≢◌, ℕ, ◌+◌, ◌-◌, ◌<◌, ◌≤◌, ◌⊎◌, Bool, true, false, List, [], Option, Some, None, Result, Ok, Err, IfErr, OnOk, nat_lt, if◌then◌else◌, length, get_or, set, refl, sym, ap, ◌∙◌, inl, inr, arith, subst}
 use Rattle.std.proofs.lemmas.Bool.{cases_eq, cases_lt}
 use Rattle.std.proofs.lemmas.Bool.Decides.{nat_tests}
-use Rattle.std.proofs.lemmas.List.{get_or-set_same, get_or-set_other, get_or_default, length-set}
+use Rattle.std.proofs.lemmas.List.{get_or-set_same, get_or-set_other, get_or_default, length-set, set-get_or}
 use Rattle.grids.specs.declared.areas.Area.{Area}
 use Rattle.grids.specs.declared.areas.Place.{Place}
 use Rattle.grids.specs.Grids as base
@@ -12,7 +12,7 @@ use Rattle.cur_drawing.specs.Cells.{space}
 use Rattle.cur_drawing.specs.declared.refusals.Refusal.{Refusal}
 use Rattle.cur_drawing.specs.Calls.{Canvas, CanvasStep, IsCanvas, canvas, place, step}
 use Rattle.cur_drawing.specs.Grids.{Grid, Fits, cell_at, copied, is_in, line_at, taken}
-use Rattle.cur_drawing.specs.Laws.{IsLocal, Stays}
+use Rattle.cur_drawing.specs.Laws.{ChangesNothingIfRefusedButNoScroll, IsLocal, Stays}
 use Rattle.cur_drawing.specs.Windows.{lines_of}
 use Rattle.cur_drawing.specs.declared.marks.Marked.{Marked}
 use Rattle.cur_drawing.specs.Marks.{AreSame, IsCopiedBut, IsUnmarked, Keeps, Marking, marked_at, marked_between, nothing, widened}
@@ -22,7 +22,8 @@ use Rattle.cur_windows.proofs.WrittenLines.{Writes, Writing}
 use Rattle.cur_windows.specs.declared.slots.Slot.{Slot}
 use Rattle.cur_windows.specs.Desks.{IsDesk, IsFramed, IsPlaced, State, grid_at, slot_of, some_slot, window_at}
 use Rattle.cur_windows.specs.VirtualScreen.{IsScreen, Screen, area_on_screen}
-use Rattle.cur_windows.specs.Touched.{IsGoneThrough, IsTouched, MarksWritten, WritesLine}
+use Rattle.cur_drawing.specs.declared.refusals.Refusal.TheVariants.{NoScroll}
+use Rattle.cur_windows.specs.Touched.{IsGoneThrough, IsLeft, IsTouched, MarksWritten, WritesLine}
 
 -- ---- writing
 
@@ -70,6 +71,19 @@ touched_by d now n s w g h a b act r writing local e is placed at value touched 
     (local (canvas g s.window) (subst (λ (x : Grid). IsCanvas x s.window) (sym read) legal)) in
     slot_written d.grids s.window (record s { window = w }) h a b lt (subst (λ (x : Grid). Writes (canvas x s.window) (canvas h w)) read writes)
     (subst (λ (x : Grid). Stays (canvas x s.window) (canvas h w)) read stays) touched v (subst (λ (x : State). AreSame a v (grid_at x 0)) (sym e) same)
+
+-- one that is refused, and has changed nothing
+grid_kept : (act : Canvas → CanvasStep) (s : Canvas) (t : Canvas) (r : Result (Unit {0}) Refusal) → ChangesNothingIfRefusedButNoScroll act → (t, r) ≡ act s → OnOk r ⊥ → IfErr r (λ e. e ≢ NoScroll) → t.grid ≡ s.grid
+grid_kept act s t (Ok u) back value refused other = absurd refused
+grid_kept act s t (Err e) back value refused other = ap (λ (x : CanvasStep). x.0.grid) value ∙ ap (λ (x : Canvas). x.grid) (back s e other (ap (λ (x : CanvasStep). x.1) (sym value)))
+
+pub left_by : (d now : State) (n : ℕ) (s : Slot) (w : Window) (g h : Grid) (a b : Marking) (act : Canvas → CanvasStep) (r : Result (Unit {0}) Refusal) → ChangesNothingIfRefusedButNoScroll act → d ≡ now → IsDesk d → IsPlaced now n s →
+    g ≡ get_or d.grids s.root g → step h w r ≡ act (canvas g s.window) → IsLeft a b r → Keeps a (grid_at now 0) b (get_or (set d.grids s.root h) 0 [])
+left_by d now n s w g h a b act r back e is placed at value left v same i j u =
+    let lt : s.root < length d.grids = omega (arith, is.grids, placed.root) in
+    let read : h ≡ get_or d.grids s.root [] = grid_kept act (canvas g s.window) (canvas h w) r back value left.refused left.other ∙ at ∙ get_or_default d.grids s.root g [] lt in
+    let grids : set d.grids s.root h ≡ d.grids = ap (λ (x : Grid). set d.grids s.root x) read ∙ set-get_or d.grids s.root [] in
+    same i j (subst (λ (m : Marking). IsUnmarked m i j) left.same u) ∙ ap (λ (x : State). cell_at (grid_at x 0) i j) (sym e) ∙ sym (ap (λ (gs : List Grid). cell_at (get_or gs 0 []) i j) grids)
 
 -- no line, and one more
 pub none_marked : (w : Window) (first i j : ℕ) → is_in (lines_of w first 0) i j ≡ false
@@ -129,6 +143,9 @@ written_by d now e n s w a b is desk there before at touched = record {
   only = λ i j u off. touched.only i j u (λ line. off (subst (λ (r : Result Slot Refusal). WritesLine r (slot_of e n) i) before
       (subst (λ (r : Result Slot Refusal). WritesLine (Ok s) r i) (sym (slot_there e d.windows n (record s { window = w }) there.0 (omega (arith, there.0, desk.windows)) at)) line)));
 }
+
+pub left_unmarked : (d e : State) (n : ℕ) (a b : Marking) (r : Result (Unit {0}) Refusal) → IsLeft a b r → MarksWritten a b d e n
+left_unmarked d e n a b r left = record { only = λ i j u off. subst (λ (m : Marking). IsUnmarked m i j) (sym left.same) u }
 
 -- ---- copying
 

@@ -1,6 +1,7 @@
 -- Where window 0's grid may have changed since it was copied to the virtual screen.
-use Rattle.std.specs.Prelude.{ℕ, ◌≡◌, ◌+◌, ◌-◌, ◌≤◌, ◌⊎◌, length, true, false, Result, Ok, Err}
+use Rattle.std.specs.Prelude.{ℕ, ◌≡◌, ◌+◌, ◌-◌, ◌≤◌, ◌⊎◌, ◌≢◌, length, true, false, Result, Ok, Err, IfErr, OnOk}
 use Rattle.cur_drawing.specs.declared.refusals.Refusal.{Refusal}
+use Rattle.cur_drawing.specs.declared.refusals.Refusal.TheVariants.{NoScroll}
 use Rattle.cur_drawing.specs.declared.windows.Window.{Window}
 use Rattle.cur_drawing.specs.Grids.{is_in}
 use Rattle.cur_drawing.specs.Marks.{IsUnmarked, Marking, none_marked}
@@ -36,6 +37,12 @@ pub record IsTouched (m n : Marking) (s : Slot) (first : ℕ) : Type 0 where
   pub lines : s.root ≡ 0 → (i j : ℕ) → IsUnmarked n i j → is_in (lines_of s.window first (s.window.row + 1 - first)) i j ≡ false
   pub all : s.root ≡ 0 → MayScroll s.window → (i j : ℕ) → IsUnmarked n i j → ⊥
   pub only : (i j : ℕ) → IsUnmarked m i j → (IsWrittenLine s first i → ⊥) → IsUnmarked n i j
+
+-- a call was refused, and not by NoScroll, which it may answer after it has written; the marks are as they were
+pub record IsLeft (m n : Marking) (r : Result (Unit {0}) Refusal) : Type 0 where
+  pub refused : OnOk r ⊥
+  pub other : IfErr r (λ e. e ≢ NoScroll)
+  pub same : n ≡ m
 
 -- ---- no more is marked
 

@@ -1,5 +1,5 @@
 //! The calls on one window.
-ghost use Rattle.std.specs.Prelude.{◌≡◌, bit_and, bit_or, ◌-◌};
+ghost use Rattle.std.specs.Prelude.{◌≡◌, ◌≢◌, bit_and, bit_or, ◌-◌, IfErr};
 ghost use Rattle.cur_windows.specs.Desks as spec;
 ghost use Rattle.cur_drawing.specs.Calls as call;
 ghost use Rattle.cur_drawing.specs.Marks.{Keeps};
@@ -8,7 +8,7 @@ ghost use Rattle.cur_windows.specs.Touched.{MarksWritten};
 
 use crate::desks::Desk;
 use crate::hints::{after_writing, joined};
-use crate::touched::touch;
+use crate::touched::{touch, touch_unless_refused};
 use cur_drawing::{Attrs, Border, Marks, Put, Refusal};
 
 // The calls on one window. Each refuses with `Full` a number above 63, and else with `NoWindow` one that names no
@@ -129,11 +129,13 @@ impl Desk {
     }
 
     /// As `addch`; where window 0's grid has changed it is marked as well. Of that grid nothing is marked but the
-    /// lines through which the cursor went, or all if the region may have gone up.
+    /// lines through which the cursor went, or all if the region may have gone up; nothing where the call is refused
+    /// with another answer than `NoScroll`.
     pub fn addch_marked(&mut self, id: usize, put: Put, touched: &mut Marks) -> Result<(), Refusal>
         ensures step { spec.step self.new result ≡ spec.on_window self.old id (call.added put) }
         ensures touched { Keeps touched.old (spec.grid_at self.old 0) touched.new (spec.grid_at self.new 0) }
         ensures only { MarksWritten touched.old touched.new self.old self.new id }
+        ensures refused { IfErr result (λ e. e ≢ Refusal.NoScroll → touched.new ≡ touched.old) }
     {
         let mut slot = self.find(id)?;
         let region = self.region_of(&slot);
@@ -142,7 +144,7 @@ impl Desk {
         let grid = &mut self.grids[slot.root as usize];
         let answer = slot.window.add(grid, put, &mut lines);
         self.scrolled = after_writing(self.scrolled, region, lines);
-        touch(touched, &slot, first);
+        touch_unless_refused(touched, &slot, first, &answer);
         self.windows[id] = Some(slot);
         answer
     }

@@ -1,9 +1,10 @@
 //! Where window 0's grid may have changed since it was copied to the virtual screen.
+ghost use Rattle.std.specs.Prelude.{◌≡◌, ◌≢◌, ◌⊎◌, IfErr};
 ghost use Rattle.cur_drawing.specs.Windows.{IsWindow};
-ghost use Rattle.cur_windows.specs.Touched.{IsTouched, MarksLines};
+ghost use Rattle.cur_windows.specs.Touched.{IsLeft, IsTouched, MarksLines};
 
 use crate::slots::Slot;
-use cur_drawing::{Marks, Window};
+use cur_drawing::{Marks, Refusal, Window};
 
 /// Marks what was written on a window of window 0's grid since its cursor was in the line `first`: all, if its region
 /// may have gone up.
@@ -20,6 +21,27 @@ pub(crate) fn touch(touched: &mut Marks, slot: &Slot, first: u16)
     } else {
         mark_lines(touched, window, first);
     }
+}
+
+/// As `touch`, after a call that has answered so; nothing is marked where it was refused and so has written nothing.
+/// `NoScroll` it may answer after it has written.
+pub(crate) fn touch_unless_refused(
+    touched: &mut Marks,
+    slot: &Slot,
+    first: u16,
+    answer: &Result<(), Refusal>,
+)
+    requires { IsWindow (slot.now).window }
+    ensures touched { IsTouched touched.old touched.new slot.now first
+        ⊎ IsLeft touched.old touched.new answer.now }
+    ensures refused { IfErr answer.now (λ e. e ≢ Refusal.NoScroll → touched.new ≡ touched.old) }
+{
+    if let Err(refusal) = answer {
+        if *refusal != Refusal::NoScroll {
+            return;
+        }
+    }
+    touch(touched, slot, first);
 }
 
 // Marks the window's lines from the line `first` to the cursor's.
