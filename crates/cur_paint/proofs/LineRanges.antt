@@ -1,5 +1,5 @@
 -- Screens that differ only within some of their lines.
-use Rattle.std.proofs.Common.{◌≡◌, ℕ, ◌<◌, ◌≤◌, inl, inr, zero, suc, refl, ap, arith}
+use Rattle.std.proofs.Common.{◌≡◌, ℕ, ◌<◌, ◌≤◌, inl, inr, zero, suc, refl, ap, ◌∙◌, arith}
 use Rattle.std.proofs.lemmas.Bool.Decides.{nat_tests}
 use Rattle.std.proofs.lemmas.Bool.{cases_lt}
 use Rattle.vt_term.specs.Screen.{State}
@@ -8,7 +8,9 @@ use Rattle.cur_looks.specs.Inks.{mixed}
 use Rattle.cur_looks.specs.Beliefs.{Agrees}
 use Rattle.cur_looks.specs.declared.beliefs.Belief.{Belief}
 use Rattle.cur_looks.specs.declared.inks.Ink.{Ink}
-use Rattle.cur_paint.specs.Differ.{AreSameOutside, all_differ}
+use Rattle.cur_scrolls.specs.declared.scrolls.Scroll.{Scroll}
+use Rattle.cur_scrolls.specs.Scrolls.{shifted}
+use Rattle.cur_paint.specs.Differ.{AreSameOutside, IsMoved, all_differ}
 use Rattle.cur_paint.proofs.Mixtures.{agrees_as}
 use Rattle.cur_paint.proofs.Ranges.{span_none}
 
@@ -46,3 +48,17 @@ above_shown t old new r b e s h = agrees_as t old (mixed old new r 0) b (λ i j 
 -- and those below
 pub below_shown : (t : Table) (old new : ℕ → ℕ → Ink) (r : ℕ) (b : Belief) → ((i j : ℕ) → r ≤ i → i < t.rows → j < t.cols → old i j ≡ new i j) → (s : State) → Agrees t (mixed old new r 0) b s → Agrees t new b s
 below_shown t old new r b e s h = agrees_as t (mixed old new r 0) new b (λ i j li lj. mixed_below old new r i j (λ le. e i j le li lj)) s h
+
+shifted_above : (x : Scroll) (g : ℕ → ℕ → Ink) (i j : ℕ) → i < x.top → shifted x g i j ≡ g i j
+shifted_above x g i j lt = grind (arith, nat_tests)
+
+shifted_below : (x : Scroll) (g : ℕ → ℕ → Ink) (i j : ℕ) → x.bottom < i → shifted x g i j ≡ g i j
+shifted_below x g i j lt = grind (arith, nat_tests)
+
+-- a screen that was scrolled, outside the region and the lines that differed before
+pub moved_outside : (between : (ℕ → ℕ → Ink) → (ℕ → ℕ → Ink) → Type 0) (x : Scroll) (g new : ℕ → ℕ → Ink) (from end first last rows cols : ℕ) → (m : IsMoved between x g new)
+    → AreSameOutside m.old new from end rows cols → first ≤ from → first ≤ x.top → end ≤ last → ((i : ℕ) → last ≤ i → i < rows → x.bottom < i) → AreSameOutside g new first last rows cols
+moved_outside between x g new from end first last rows cols m h a b d past = record {
+  above = λ i j lt lj. ap (λ (f : ℕ → ℕ → Ink). f i j) m.is ∙ shifted_above x m.old i j (omega (arith, lt, b)) ∙ h.above i j (omega (arith, lt, a)) lj;
+  below = λ i j le li lj. ap (λ (f : ℕ → ℕ → Ink). f i j) m.is ∙ shifted_below x m.old i j (past i le li) ∙ h.below i j (omega (arith, d, le)) li lj;
+}

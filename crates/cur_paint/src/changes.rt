@@ -1,5 +1,5 @@
 //! Which lines and columns may differ.
-ghost use Rattle.std.specs.Prelude.{◌≡◌, ◌≤◌, ℕ};
+ghost use Rattle.std.specs.Prelude.{◌≡◌, ◌<◌, ◌≤◌, ℕ};
 
 use cur_scrolls::Scroll;
 
@@ -59,6 +59,32 @@ pub trait Changes {
     }
 }
 
+/// From the first line of either to the last one.
+fn joined(a: Lines, b: Lines) -> Lines
+    ensures from { result.from ≤ a.from }
+    ensures also_from { result.from ≤ b.from }
+    ensures end { a.end ≤ result.end }
+    ensures also_end { b.end ≤ result.end }
+    ensures within { (n : ℕ) → a.end ≤ n → b.end ≤ n → result.end ≤ n }
+{
+    Lines {
+        from: a.from.min(b.from),
+        end: a.end.max(b.end),
+    }
+}
+
+/// The lines of the region of `scroll` on a screen of `rows` lines.
+fn region(scroll: Scroll, rows: usize) -> Lines
+    ensures from { result.from ≡ scroll.top }
+    ensures within { result.end ≤ rows }
+    ensures below { (i : ℕ) → result.end ≤ i → i < rows → scroll.bottom < i }
+{
+    Lines {
+        from: usize::from(scroll.top),
+        end: (usize::from(scroll.bottom) + 1).min(rows),
+    }
+}
+
 /// Where the screens differ after a scroll.
 #[derive(Drop)]
 pub(crate) struct Moved<'a, D> {
@@ -69,9 +95,19 @@ pub(crate) struct Moved<'a, D> {
 impl<'a, D: Changes> Changes for Moved<'a, D> {
     ghost use Rattle.std.specs.Prelude.{◌≤◌, ℕ};
     ghost use Rattle.cur_looks.specs.declared.inks.Ink.{Ink};
-    ghost use Rattle.cur_paint.specs.Differ.{IsMoved, IsSameOutside};
+    ghost use Rattle.cur_paint.specs.Differ.{AreSameOutside, IsMoved, IsSameOutside};
 
     ghost between = { λ m g new. IsMoved (D.between m.changes.now) m.scroll g new };
+
+    fn lines(&self, rows: usize, cols: usize) -> Lines
+        ensures order { result.from ≤ result.end }
+        ensures within { result.end ≤ rows }
+        ensures same { (g new : ℕ → ℕ → Ink) → IsMoved (D.between self.now.changes.now) self.now.scroll g new
+            → AreSameOutside g new result.from result.end rows cols }
+    {
+        let lines = self.changes.lines(rows, cols);
+        joined(lines, region(self.scroll, rows))
+    }
 
     fn columns(&self, row: usize, cols: usize) -> Columns
         ensures order { result.from ≤ result.end }

@@ -26,6 +26,19 @@ pub(crate) struct Shift<'a, C> {
 }
 
 impl<'a, C: Certificate> Shift<'a, C> {
+    /// Whether places with equal cells are printed alike: both screens have one size, with `cols` columns, and each pair
+    /// has the same colours in both.
+    fn is_told_by_cells(&self, cols: usize) -> bool
+        ensures pairs { result ≡ true → self.now.same_pairs ≡ true }
+        ensures rows { result ≡ true → (self.now.shown.now).rows ≡ (self.now.screen.now).rows }
+        ensures cols { result ≡ true → (self.now.shown.now).cols ≡ (self.now.screen.now).cols }
+        ensures columns { result ≡ true → cols ≡ (self.now.screen.now).cols }
+    {
+        let (old_rows, old_cols) = self.shown.size();
+        let (new_rows, new_cols) = self.screen.size();
+        self.same_pairs && old_rows == new_rows && old_cols == new_cols && cols == new_cols as usize
+    }
+
     /// The columns in which the line `to` of the screen may be printed otherwise than the line `from` of the one that
     /// was shown last.
     fn columns_between(&self, from: usize, to: usize, cols: usize) -> Columns
@@ -36,13 +49,8 @@ impl<'a, C: Certificate> Shift<'a, C> {
             self.now.shown.now self.now.screen.now self.now.same_pairs old new
             → AreAlikeOutside old new from to result.from result.end cols }
     {
-        let (old_rows, old_cols) = self.shown.size();
-        let (new_rows, new_cols) = self.screen.size();
-        let is_same_size = old_rows == new_rows
-            && old_cols == new_cols
-            && cols == new_cols as usize;
-        let rows = new_rows as usize;
-        if !(self.same_pairs && is_same_size && from < rows && to < rows) {
+        let rows = self.screen.size().0 as usize;
+        if !(self.is_told_by_cells(cols) && from < rows && to < rows) {
             return Columns { from: 0, end: cols };
         }
         changed_columns(self.shown.row(from as u16), self.screen.row(to as u16))
@@ -58,12 +66,8 @@ impl<'a, C: Certificate> Shift<'a, C> {
             self.now.shown.now self.now.screen.now self.now.same_pairs old new
             → AreAlikeOutside old new row row result.from result.end cols }
     {
-        let (old_rows, old_cols) = self.shown.size();
-        let (new_rows, new_cols) = self.screen.size();
-        let is_same_size = old_rows == new_rows
-            && old_cols == new_cols
-            && cols == new_cols as usize;
-        if !(self.same_pairs && is_same_size && row < new_rows as usize) {
+        let (rows, new_cols) = self.screen.size();
+        if !(self.is_told_by_cells(cols) && row < rows as usize) {
             return Columns { from: 0, end: cols };
         }
         let row = row as u16;
@@ -86,12 +90,8 @@ impl<'a, C: Certificate> Shift<'a, C> {
             self.now.shown.now self.now.screen.now self.now.same_pairs old new
             → AreSameOutside old new result.from result.end rows cols }
     {
-        let (old_rows, old_cols) = self.shown.size();
-        let (new_rows, new_cols) = self.screen.size();
-        if !self.same_pairs || old_rows != new_rows || old_cols != new_cols {
-            return Lines { from: 0, end: rows };
-        }
-        if rows != new_rows as usize || cols != new_cols as usize {
+        let new_rows = self.screen.size().0;
+        if rows != new_rows as usize || !self.is_told_by_cells(cols) {
             return Lines { from: 0, end: rows };
         }
         let span = marks.rows(new_rows);
