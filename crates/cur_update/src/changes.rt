@@ -123,7 +123,7 @@ impl<'a, C: Certificate> Shift<'a, C> {
     }
 }
 
-/// The lines that may differ, and of each of them the columns. What is kept of other lines is of an earlier refresh.
+/// The lines that may differ, and of each of them the columns, with what an earlier refresh left of other lines.
 #[derive(Clone, Copy)]
 pub(crate) struct Findings<'a> {
     pub lines: Lines,
@@ -136,7 +136,10 @@ pub(crate) struct Found<'a, C> {
     pub shift: Shift<'a, C>,
     /// As many as a line has.
     pub cols: usize,
-    pub findings: Findings<'a>,
+    /// The lines that may differ.
+    pub lines: Lines,
+    /// The columns of these lines; what is kept of others isn't read.
+    pub columns: &'a [Columns],
 }
 
 impl<'a, C: Certificate> Changes for Found<'a, C> {
@@ -147,11 +150,11 @@ impl<'a, C: Certificate> Changes for Found<'a, C> {
 
     ghost between = { λ f old new. IsShift (C.table f.shift.checked.now) (C.partners f.shift.checked.now)
         f.shift.shown.now f.shift.screen.now f.shift.same_pairs old new
-        × AreFound f.findings.lines f.findings.columns.now (length f.findings.columns.now) f.cols old new };
+        × AreFound f.lines f.columns.now (length f.columns.now) f.cols old new };
 
     fn lines(&self, rows: usize, cols: usize) -> Lines {
-        let lines = self.findings.lines;
-        let is_found = cols == self.cols && rows == self.findings.columns.len();
+        let lines = self.lines;
+        let is_found = cols == self.cols && rows == self.columns.len();
         if is_found && lines.from <= lines.end && lines.end <= rows {
             lines
         } else {
@@ -160,24 +163,27 @@ impl<'a, C: Certificate> Changes for Found<'a, C> {
     }
 
     fn columns(&self, row: usize, cols: usize) -> Columns {
-        let Findings { lines, columns } = self.findings;
-        if cols != self.cols || row >= columns.len() {
+        if cols != self.cols || row >= self.columns.len() {
             return Columns { from: 0, end: cols };
         }
-        if row < lines.from || row >= lines.end {
+        if row < self.lines.from || row >= self.lines.end {
             return Columns { from: 0, end: 0 };
         }
-        match kept(columns, row, cols) {
+        match kept(self.columns, row, cols) {
             Some(columns) => columns,
             None => Columns { from: 0, end: cols },
         }
     }
 
     fn scroll(&self) -> Option<Scroll> {
-        match self.shift.screen.hint() {
-            Some(hint) => scroll_of(hint),
-            None => found_scroll(self.shift.shown, self.shift.screen, &self.findings),
+        if let Some(hint) = self.shift.screen.hint() {
+            return scroll_of(hint);
         }
+        let found = Findings {
+            lines: self.lines,
+            columns: self.columns,
+        };
+        found_scroll(self.shift.shown, self.shift.screen, &found)
     }
 
     fn columns_after(&self, scroll: Scroll, row: usize, cols: usize) -> Columns {

@@ -11,7 +11,7 @@ ghost use Rattle.cur_update.specs.Painters.{IsPainter, mode_number, mode_of, set
 ghost use Rattle.cur_update.specs.Beep.{Rings};
 
 use crate::bells::{Unsent, ring};
-use crate::changes::{Findings, Found, Shift};
+use crate::changes::{Found, Shift};
 use crate::inks::{has_line, means_of};
 use crate::screens::{PrintedScreen, all_cells};
 use cur_drawing::{Marks, Refusal, place_below};
@@ -235,23 +235,19 @@ fn refresh<C: Certificate, W: Wire>(
     let screen = frame.screen;
     all_cells(screen);
     let _ = screen.row(0);
-    let same_pairs = shown.screen.same_pairs(screen);
     let shift = Shift {
         shown: &shown.screen,
         screen,
         checked,
-        same_pairs,
+        same_pairs: shown.screen.same_pairs(screen),
     };
     let cols = checked.cols();
     let lines = shift.find(frame.marks, &mut shown.columns, cols);
-    let findings = Findings {
-        lines,
-        columns: &shown.columns,
-    };
     let found = Found {
         shift,
         cols,
-        findings,
+        lines,
+        columns: &shown.columns,
     };
     let means = means_of(checked);
     let old = PrintedScreen {

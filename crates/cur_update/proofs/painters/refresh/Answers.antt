@@ -23,11 +23,11 @@ update-requires-clause-changes g c =
     let t = g.C.Certificate.table c.args.checked.now in
     let partners = g.C.Certificate.partners c.args.checked.now in
     let means = c.means_of-means.result in
-    let shift : IsShift t partners c.args.shown.now.screen c.args.frame.now.screen.now c.same_pairs-same_pairs.result
+    let shift : IsShift t partners c.args.shown.now.screen c.args.frame.now.screen.now c.same_pairs.result
     (ink_at_with means partners c.args.shown.now.screen) (ink_at_with means partners c.args.frame.now.screen.now) = record {
       before = as_table c.means_of-means.result t partners c.args.shown.now.screen c.means_of-means.ensures;
       after = as_table c.means_of-means.result t partners c.args.frame.now.screen.now c.means_of-means.ensures;
-      pairs = λ e p lt. ap (λ (l : List Colors). slice_index_or l p default_colors) (c.same_pairs-same_pairs.ensures.same e);
+      pairs = λ e p lt. ap (λ (l : List Colors). slice_index_or l p default_colors) (c.same_pairs.ensures.same e);
     } in
     let old : ℕ → ℕ → Ink = ink_at_with means partners c.args.shown.now.screen in
     let new : ℕ → ℕ → Ink = ink_at_with means partners c.args.frame.now.screen.now in
