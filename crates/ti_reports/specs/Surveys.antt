@@ -1,5 +1,5 @@
 -- What `survey --json` answers, by what its files hold.
-use Rattle.std.specs.Prelude.{◌≡◌, IsSome, ℕ, Bool, List, [], Option, Some, None, String, string_bytes}
+use Rattle.std.specs.Prelude.{◌≡◌, ℕ, Bool, List, [], Option, Some, None, String, string_bytes}
 use Rattle.std.specs.declared.alloc.Global.{Global}
 use Rattle.ti_caps.specs.Entry.{Content}
 use Rattle.ti_checker.specs.declared.causes.No.{No}
@@ -23,18 +23,19 @@ abbrev pub IsTextIf : Option (List ℕ) → Option (String Global) → Type 0
 IsTextIf (Some bytes) text = HasWords bytes text
 IsTextIf None text = text ≡ None
 
--- nothing is had under this name, or of the whole file; the cause is in free words
-pub record ReportsRefused (height width : ℕ) (path : List ℕ) (name : Option (List ℕ)) (report : Report) : Type 0 where
+-- nothing is had under this name, or of the whole file, and why
+pub record ReportsRefused (height width : ℕ) (path : List ℕ) (name : Option (List ℕ)) (why : List ℕ) (report : Report)
+    : Type 0 where
   pub entry : IsTextIf name report.entry
   pub rows : report.rows ≡ height
   pub cols : report.cols ≡ width
   pub file : string_bytes report.file ≡ path
   pub verdict : report.verdict ≡ verdicts.Refused
-  pub cause : IsSome report.cause
+  pub cause : HasWords why report.cause
   pub faultless : IsFaultless report
 
-abbrev pub IsRefusedReport : ℕ → ℕ → List ℕ → Option (List ℕ) → List ℕ → Type 0
-IsRefusedReport height width path name line = IsReportLine (ReportsRefused height width path name) line
+abbrev pub IsRefusedReport : ℕ → ℕ → List ℕ → Option (List ℕ) → List ℕ → List ℕ → Type 0
+IsRefusedReport height width path name why line = IsReportLine (ReportsRefused height width path name why) line
 
 -- the reports on an entry that is there
 pub record AreOfEntry (height width : ℕ) (all : Bool) (path : List ℕ) (stands : Whereabouts) (entry : Content) (lines : List ℕ) : Type 0 where
@@ -47,9 +48,9 @@ abbrev pub Reports : ℕ → ℕ → Bool → Saying
 Reports height width all path stands name entry lines beside =
     AreOfEntry height width all path (by_place stands) entry lines × (beside ≡ [])
 
--- or of one that can't be had under its name, or of a whole file
+-- or of one that can't be had under its name, or of a whole file, and why
 abbrev pub ReportsLack : ℕ → ℕ → Refusing
-ReportsLack height width path name line beside = IsRefusedReport height width path name line × (beside ≡ [])
+ReportsLack height width path name why line beside = IsRefusedReport height width path name why line × (beside ≡ [])
 
 -- ---- the reply
 

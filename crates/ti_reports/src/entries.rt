@@ -12,23 +12,15 @@ use crate::lines::{Standing, placed};
 use crate::refusals::refused_line;
 use std::alloc::{AllocError, Global};
 use ti_caps::Entry;
-use ti_verdicts::{Said, SourcePlace, Speaker, Tally};
+use ti_verdicts::{FileEntry, Said, Speaker, Tally};
 
 impl Speaker for Asked {
     ghost says = { λ asked. spec.Reports asked.size.rows asked.size.cols asked.lists_all };
 
     ghost refuses = { λ asked. spec.ReportsLack asked.size.rows asked.size.cols };
 
-    fn say(
-        &self,
-        alloc: Global,
-        path: &str,
-        stands: &Option<SourcePlace<'_>>,
-        name: &[u8],
-        entry: &Entry,
-    ) -> Result<Said, AllocError> {
-        let _ = name;
-        let lines = entry_lines(alloc, *self, path, placed(stands), entry)?;
+    fn say(&self, alloc: Global, found: &FileEntry<'_>) -> Result<Said, AllocError> {
+        let lines = entry_lines(alloc, *self, found.path, placed(found.stands), found.entry)?;
         Ok(Said::of_lines(alloc, lines, Tally::new()))
     }
 

@@ -18,7 +18,7 @@ pub fn refused_line(
     why: &[u8],
 ) -> Result<Vec<u8>, AllocError>
     ensures { IfOk result (λ line. spec.IsRefusedReport asked.size.rows asked.size.cols
-        path.now (option_map (λ n. n.now) name.entry) line.items) }
+        path.now (option_map (λ n. n.now) name.entry) why.now line.items) }
 {
     report_line(alloc, &refused_report(alloc, asked, path, name, why)?)
 }
@@ -32,7 +32,7 @@ fn refused_report(
     why: &[u8],
 ) -> Result<Report, AllocError>
     ensures { IfOk result (λ report. spec.ReportsRefused asked.size.rows asked.size.cols
-        path.now (option_map (λ n. n.now) name.entry) report) }
+        path.now (option_map (λ n. n.now) name.entry) why.now report) }
 {
     Ok(Report {
         entry: text_if(alloc, name)?,

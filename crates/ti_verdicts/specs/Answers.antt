@@ -32,7 +32,7 @@ abbrev pub Answers : (Content → ℕ → ℕ → List ℕ → Type 0) → (Cont
 Answers certifies refuses height width entry words =
     HasYes (certifies entry height width) words ⊎ HasNo (refuses entry height width) words
 
--- what it says of an entry, as it is asked
+-- (Serves the code alone.) what it says of an entry, as it is asked
 abbrev pub AnswersTo : {C : Type 0} → (C → Content → ℕ → ℕ → List ℕ → Type 0) → (C → Content → ℕ → ℕ → No → Type 0)
     → Asked C → Content → List ℕ → Type 0
 AnswersTo certifies refuses asked =
@@ -65,23 +65,19 @@ abbrev pub SaysBy : Bool → (Content → ℕ → ℕ → List ℕ → Type 0) �
 SaysBy true certifies refuses height width path stands name entry lines places = HasAllFaults height width stands name entry lines places
 SaysBy false certifies refuses height width path stands name entry lines places = HasAnswer certifies refuses height width name entry lines × (places ≡ [])
 
--- what is said of it, as it is asked
+-- (Serves the code alone.) what is said of it, as it is asked
 abbrev pub SaysTo : {C : Type 0} → (C → Content → ℕ → ℕ → List ℕ → Type 0) → (C → Content → ℕ → ℕ → No → Type 0) → Asked C → Saying
 SaysTo certifies refuses asked = SaysBy asked.lists_all (certifies asked.certifier.now) (refuses asked.certifier.now) asked.size.rows asked.size.cols
 
--- what can't be had is refused, in free words
-abbrev pub IsRefusalText : List ℕ → Type 0
-IsRefusalText words = (told : List ℕ) × (words ≡ codes " refused: " ++ told)
-
--- the line of a name, that what it names can't be had
-abbrev pub IsRefusedLine : List ℕ → List ℕ → Type 0
-IsRefusedLine name line = (words : List ℕ) × IsRefusalText words × (line ≡ line_of name words)
+-- what can't be had is refused, with the reason
+abbrev pub refusal_text : List ℕ → List ℕ
+refusal_text why = codes " refused: " ++ why
 
 -- the name, or the path of a file that has no entries
 abbrev pub name_or : List ℕ → Option (List ℕ) → List ℕ
 name_or path (Some name) = name
 name_or path None = path
 
--- this line, and nothing beside it
+-- the line of a name, that what it names can't be had and why, and nothing beside it
 abbrev pub IsRefused : Refusing
-IsRefused path name lines places = IsRefusedLine (name_or path name) lines × (places ≡ [])
+IsRefused path name why lines places = (lines ≡ line_of (name_or path name) (refusal_text why)) × (places ≡ [])

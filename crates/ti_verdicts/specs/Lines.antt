@@ -28,9 +28,13 @@ HasPairs P (x ∷ xs) text other =
 abbrev pub Saying : Type 1
 Saying = List ℕ → Option PlaceInSource → List ℕ → Content → List ℕ → List ℕ → Type 0
 
--- what may be said by the path of a file of an entry of this name that can't be had, or of a file that has none
+-- what may be said by the path of a file of an entry of this name that can't be had, or of a file that has none, and why
 abbrev pub Refusing : Type 1
-Refusing = List ℕ → Option (List ℕ) → List ℕ → List ℕ → Type 0
+Refusing = List ℕ → Option (List ℕ) → List ℕ → List ℕ → List ℕ → Type 0
+
+-- the same, with the reason in free words
+abbrev pub IsLack : Refusing → List ℕ → Option (List ℕ) → List ℕ → List ℕ → Type 0
+IsLack Refuses path name lines places = (why : List ℕ) × Refuses path name why lines places
 
 -- ---- the lines of an entry
 
@@ -38,7 +42,7 @@ Refusing = List ℕ → Option (List ℕ) → List ℕ → List ℕ → Type 0
 abbrev pub IsTold : Saying → Refusing → Result Content CommandRefusal → List ℕ → Option PlaceInSource → List ℕ → List ℕ
     → List ℕ → Type 0
 IsTold Says Refuses (Ok entry) path stands name lines places = Says path stands name entry lines places
-IsTold Says Refuses (Err refusal) path stands name lines places = Refuses path (Some name) lines places
+IsTold Says Refuses (Err refusal) path stands name lines places = IsLack Refuses path (Some name) lines places
 
 -- of an entry of a source text by its place, whatever other entries have its names
 pub record IsSourcePart (Says : Saying) (Refuses : Refusing) (path text : List ℕ) (raws : List RawEntry) (place : ℕ)
@@ -74,7 +78,7 @@ pub record HasEntry (Says : Saying) (Refuses : Refusing) (path bytes lines place
 pub record IsFaultyFile (Refuses : Refusing) (path bytes lines places : List ℕ) : Type 0 where
   pub fault : PackFault
   pub faulty : read_of bytes ≡ Err fault
-  pub told : Refuses path None lines places
+  pub told : IsLack Refuses path None lines places
 
 -- the entries of a source text
 pub record HasEntries (Says : Saying) (Refuses : Refusing) (path bytes lines places : List ℕ) : Type 0 where
@@ -86,7 +90,7 @@ pub record HasEntries (Says : Saying) (Refuses : Refusing) (path bytes lines pla
 pub record LacksEntries (Refuses : Refusing) (path bytes lines places : List ℕ) : Type 0 where
   pub refusal : CommandRefusal
   pub faulty : IsSourceFailure bytes (Refused refusal)
-  pub told : Refuses path None lines places
+  pub told : IsLack Refuses path None lines places
 
 abbrev pub AreLinesBy : Bool → Saying → Refusing → List ℕ → List ℕ → List ℕ → List ℕ → Type 0
 AreLinesBy true Says Refuses path bytes lines places =

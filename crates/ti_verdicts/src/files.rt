@@ -1,6 +1,6 @@
 //! What is said of the entries of a file, one after another.
 
-ghost use Rattle.std.specs.Prelude.{◌≡◌, ◌<◌, IfOk, IfSome, Some, false, length, slice_get, true};
+ghost use Rattle.std.specs.Prelude.{◌≡◌, ◌<◌, IfOk, IfSome, Some, false, length, option_map, slice_get, true};
 ghost use Rattle.std.specs.List.{AllByRecursion, range_with_len};
 ghost use Rattle.ti_source.specs.Raw.{IsRaw};
 ghost use Rattle.ti_verdicts.specs.Lines as spec;
@@ -8,7 +8,7 @@ ghost use Rattle.ti_verdicts.specs.Locations.{place_if};
 
 use crate::locations::{SourcePlace, first_name};
 use crate::said::Said;
-use crate::speakers::Speaker;
+use crate::speakers::{FileEntry, Speaker};
 use crate::watchers::Watcher;
 use std::alloc::{AllocError, Global};
 use ti_caps::Entry;
@@ -60,7 +60,7 @@ fn compiled_lines<S: Speaker>(
         Ok(packed) => packed_lines(alloc, speaker, path, &packed),
         Err(fault) => {
             let why = format!(in alloc; "{fault}")?;
-            speaker.refuse(alloc, path, None, why.as_bytes())
+            lack(alloc, speaker, path, None, why.as_bytes())
         }
     }
 }
@@ -97,7 +97,7 @@ fn text_lines<S: Speaker, W: Watcher>(
             FaultKind::NoMemory => Err(AllocError),
             _ => {
                 let why = format!(in alloc; "{fault}")?;
-                speaker.refuse(alloc, path, None, why.as_bytes())
+                lack(alloc, speaker, path, None, why.as_bytes())
             }
         },
     }
@@ -176,12 +176,35 @@ fn entry_lines<S: Speaker>(
         (place_if stands.now) name.now said.lines.items said.places.items) }
 {
     match entry {
-        Ok(entry) => speaker.say(alloc, path, stands, name, entry),
+        Ok(entry) => {
+            let found = FileEntry {
+                path,
+                stands,
+                name,
+                entry,
+            };
+            speaker.say(alloc, &found)
+        }
         Err(refusal) => {
             let why = refusal_words(alloc, refusal)?;
-            speaker.refuse(alloc, path, Some(name), why.as_slice())
+            lack(alloc, speaker, path, Some(name), why.as_slice())
         }
     }
+}
+
+/// That the file at `path` has an entry of this `name` that can't be had, or no entries where there is no name, and
+/// `why`.
+fn lack<S: Speaker>(
+    alloc: Global,
+    speaker: &S,
+    path: &str,
+    name: Option<&[u8]>,
+    why: &[u8],
+) -> Result<Said, AllocError>
+    ensures { IfOk result (λ said. spec.IsLack (S.refuses speaker.now) path.now (option_map (λ n. n.now) name.entry)
+        said.lines.items said.places.items) }
+{
+    speaker.refuse(alloc, path, name, why)
 }
 
 /// The kind of `refusal`, and the name that it is about.

@@ -30,7 +30,7 @@ pub use locations::{SourcePlace, first_name, line_of_field};
 pub use reasons::explain_no;
 pub use refusals::{cause_name, no_failure, no_words};
 pub use said::Said;
-pub use speakers::Speaker;
+pub use speakers::{FileEntry, Speaker};
 pub use surveys::{Surveyed, survey_files, survey_paths};
 pub use tallies::Tally;
 pub use verifications::{checked_at, verify_certificate};

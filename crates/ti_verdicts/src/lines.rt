@@ -12,7 +12,7 @@ use crate::certifiers::Certifier;
 use crate::locations::{SourcePlace, placed};
 use crate::refusals::no_words;
 use crate::said::Said;
-use crate::speakers::Speaker;
+use crate::speakers::{FileEntry, Speaker};
 use crate::tallies::Tally;
 use std::alloc::{AllocError, Global};
 use ti_caps::Entry;
@@ -23,21 +23,13 @@ use vt_term::Size;
 impl<'a, C: Certifier> Speaker for Asked<'a, C> {
     ghost says = { λ asked path. spec.SaysTo C.certifies C.refuses asked path };
 
-    ghost refuses = { λ _ path. spec.IsRefused path };
+    ghost refuses = { λ _. spec.IsRefused };
 
-    fn say(
-        &self,
-        alloc: Global,
-        path: &str,
-        stands: &Option<SourcePlace<'_>>,
-        name: &[u8],
-        entry: &Entry,
-    ) -> Result<Said, AllocError> {
-        let _ = path;
+    fn say(&self, alloc: Global, found: &FileEntry<'_>) -> Result<Said, AllocError> {
         if self.lists_all {
-            all_faults(alloc, self.size, stands, name, entry)
+            all_faults(alloc, self.size, found.stands, found.name, found.entry)
         } else {
-            answer_line(alloc, self, name, entry)
+            answer_line(alloc, self, found.name, found.entry)
         }
     }
 
@@ -110,7 +102,7 @@ fn words_of(alloc: Global, no: &No) -> Result<Vec<u8>, AllocError>
 
 /// That something can't be had, and `why`, which `tally` counts.
 fn refused(alloc: Global, why: &[u8], tally: &mut Tally) -> Result<Vec<u8>, AllocError>
-    ensures { IfOk result (λ words. spec.IsRefusalText words.items) }
+    ensures { IfOk result (λ words. words.items ≡ spec.refusal_text why.now) }
 {
     tally.add_refused();
     let mut words = Vec::from_slice(alloc, b" refused: ")?;
@@ -218,7 +210,7 @@ fn answer_line<C: Certifier>(
 
 /// The line of `name`, that what it names can't be had, and `why`.
 fn refused_line(alloc: Global, name: &[u8], why: &[u8]) -> Result<Said, AllocError>
-    ensures line { IfOk result (λ said. spec.IsRefusedLine name.now said.lines.items) }
+    ensures line { IfOk result (λ said. said.lines.items ≡ spec.line_of name.now (spec.refusal_text why.now)) }
     ensures alone { IfOk result (λ said. said.places.items ≡ []) }
 {
     let mut tally = Tally::new();

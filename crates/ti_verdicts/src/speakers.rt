@@ -9,6 +9,19 @@ use crate::said::Said;
 use std::alloc::{AllocError, Global};
 use ti_caps::Entry;
 
+/// An entry that a file has.
+#[derive(Drop)]
+pub struct FileEntry<'a> {
+    /// The file's path.
+    pub path: &'a str,
+    /// Where the entry stands in the file; `None` where that is no source.
+    pub stands: &'a Option<SourcePlace<'a>>,
+    /// The first of the names that it has there.
+    pub name: &'a [u8],
+    /// What it has.
+    pub entry: &'a Entry,
+}
+
 /// Says what is found out about each entry of a file.
 pub trait Speaker {
     /// What holds of what it says of an entry.
@@ -17,18 +30,11 @@ pub trait Speaker {
     /// What holds of what it says of an entry that can't be had, or of a file that has none.
     ghost refuses: { Self → Refusing };
 
-    /// What it says of `entry`, which the file at `path` has under this `name`, and which `stands` there.
-    fn say(
-        &self,
-        alloc: Global,
-        path: &str,
-        stands: &Option<SourcePlace<'_>>,
-        name: &[u8],
-        entry: &Entry,
-    ) -> Result<Said, AllocError>
-        requires { IfSome stands.now (λ there. there.place < length there.raws.now) }
-        ensures { IfOk result (λ said. says self.now path.now (place_if stands.now) name.now entry.now
-            said.lines.items said.places.items) };
+    /// What it says of the entry that was `found`.
+    fn say(&self, alloc: Global, found: &FileEntry<'_>) -> Result<Said, AllocError>
+        requires { IfSome found.now.stands.now (λ there. there.place < length there.raws.now) }
+        ensures { IfOk result (λ said. says self.now found.now.path.now (place_if found.now.stands.now)
+            found.now.name.now found.now.entry.now said.lines.items said.places.items) };
 
     /// That the file at `path` has an entry of this `name` that can't be had, or no entries where there is no name, and
     /// `why`.
@@ -39,6 +45,6 @@ pub trait Speaker {
         name: Option<&[u8]>,
         why: &[u8],
     ) -> Result<Said, AllocError>
-        ensures { IfOk result (λ said. refuses self.now path.now (option_map (λ n. n.now) name.entry)
+        ensures { IfOk result (λ said. refuses self.now path.now (option_map (λ n. n.now) name.entry) why.now
             said.lines.items said.places.items) };
 }

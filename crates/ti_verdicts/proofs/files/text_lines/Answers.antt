@@ -5,4 +5,4 @@ use Rattle.ti_verdicts.proofs.files.text_lines.Goals as goal
 
 pub returns-in_ok-why-in_default : goal.returns-in_ok-why-in_default
 returns-in_ok-why-in_default g c =
-    IfOk-weaker c.refuse.result _ _ (λ lines told. inr (record { refusal = Source c.in-Err.fault; faulty = (c.in-Err.ensures.fault, c.in_default.not-NoMemory); told = told })) c.refuse.ensures
+    IfOk-weaker c.lack.result _ _ (λ lines told. inr (record { refusal = Source c.in-Err.fault; faulty = (c.in-Err.ensures.fault, c.in_default.not-NoMemory); told = told })) c.lack.ensures

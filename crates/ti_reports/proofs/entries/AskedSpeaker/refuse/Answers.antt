@@ -7,7 +7,7 @@ use Rattle.ti_reports.proofs.entries.AskedSpeaker.refuse.Goals as goal
 pub returns : goal.returns
 returns c = (
   subst
-      (λ (line : List ℕ). IsRefusedReport c.args.self.now.size.rows c.args.self.now.size.cols c.args.path.now (option_map (λ n. n.now) c.args.name) line)
+      (λ (line : List ℕ). IsRefusedReport c.args.self.now.size.rows c.args.self.now.size.cols c.args.path.now (option_map (λ n. n.now) c.args.name) c.args.why.now line)
       (sym (ap (λ lines. lines.items) c.of_lines.ensures.lines)) c.in_ok-line.ensures,
   c.of_lines.ensures.places,
 )
