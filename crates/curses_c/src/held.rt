@@ -9,9 +9,10 @@ ghost use Rattle.curses_c.specs.Held.{Hands, Loses, Makes, MakesUpTo, Says, is_d
 
 use crate::codes::{answer_code, script_code};
 use crate::outbox::Outbox;
-use cur_calls::{Call, Text, read_script};
+use cur_calls::{Call, Text, read_call, read_script};
 use cur_play::{Answer, Session};
 use std::alloc::{AllocError, Global};
+use std::slice;
 use ti_cert::Checked;
 use ti_conforms::Certificate;
 
@@ -73,6 +74,10 @@ impl Held {
     pub fn script(&mut self, alloc: Global, text: &[u8]) -> i32
         ensures { Says (script_of text.now) self.old result self.new }
     {
+        // most scripts of a program are one call, for which no memory is taken
+        if let Some(call) = read_call(text) {
+            return answer_code(self.calls(slice::from_ref(&call)));
+        }
         match read_script(alloc, text) {
             Ok(calls) => answer_code(self.calls(calls.as_slice())),
             Err(fault) => script_code(fault.kind),
