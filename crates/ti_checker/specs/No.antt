@@ -95,7 +95,8 @@ IsFaulty rows cols string row NotShown = SendsSome string row (λ bytes. HasUnas
 IsFaulty rows cols string row NoMemory = Unit {0}
 IsFaulty rows cols string row _ = ⊥
 
--- ---- (Serves the code alone.) The same by the step that finds it: sending, cutting into tokens, and judging the effect.
+-- ---- (Serves the code alone.) The same by the step that finds it: sending, cutting into tokens, and judging the
+-- effect.
 
 abbrev pub IsUnsendable : List ℕ → Row → Cause → Type 0
 IsUnsendable string row (Parm fault) = meaning string (values row) zeros ≡ Err fault

@@ -4,6 +4,7 @@ use Rattle.std.specs.declared.alloc.Global.{Global}
 use Rattle.ti_caps.specs.Entry.{Content}
 use Rattle.ti_caps.specs.Table.{name_at}
 use Rattle.ti_checker.specs.declared.causes.No.{No}
+use Rattle.ti_reports.specs.Explanations.{IsExplained}
 use Rattle.ti_reports.specs.Reports.{report_line}
 use Rattle.ti_reports.specs.Sent.{IsSentText}
 use Rattle.ti_reports.specs.Sources.{IsValueLine, Whereabouts}
@@ -43,7 +44,7 @@ pub record ReportsYes (entry : Content) (height width : ℕ) (file : List ℕ) (
   pub cause : report.cause ≡ None
   pub faultless : IsFaultless report
 
--- it has this fault; what is said of the run that shows it is in free words
+-- it has this fault
 pub record ReportsFault (entry : Content) (height width : ℕ) (file : List ℕ) (stands : Whereabouts) (refusal : No)
     (report : Report) : Type 0 where
   pub about : Concerns entry height width file report
@@ -52,6 +53,7 @@ pub record ReportsFault (entry : Content) (height width : ℕ) (file : List ℕ)
   pub parameters : report.parameters.items ≡ refusal.params.items
   pub cause : HasWords (cause_name refusal.cause) report.cause
   pub bytes : IsSentText entry refusal report.bytes
+  pub run : IsExplained report.start report.wanted report.seen
   pub line : IsValueLine stands refusal.cap report.line
 
 -- the line of a report of which this holds

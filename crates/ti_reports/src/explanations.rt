@@ -1,5 +1,8 @@
 //! What the lines for people say of a run.
 
+ghost use Rattle.std.specs.Prelude.{IfOk};
+ghost use Rattle.ti_reports.specs.Explanations as spec;
+
 use crate::texts::text_of;
 use std::alloc::{AllocError, Global};
 use ti_caps::Entry;
@@ -25,19 +28,30 @@ pub fn explained(
     entry: &Entry,
     size: Size,
     no: &No,
-) -> Result<Explanation, AllocError> {
+) -> Result<Explanation, AllocError>
+    ensures { IfOk result (λ it. spec.IsExplained it.start it.wanted it.seen) }
+{
     let mut remarks = Remarks::new(alloc);
     explain_no(alloc, entry, size, no, &mut remarks);
     let text = text_of(alloc, remarks.as_slice())?;
+    explanation_in(alloc, text.as_str())
+}
+
+/// What the lines of `text` say of a run.
+fn explanation_in(alloc: Global, text: &str) -> Result<Explanation, AllocError>
+    ensures { IfOk result (λ it. spec.Explains text.now it.start it.wanted it.seen) }
+{
     Ok(Explanation {
-        start: line_after(alloc, text.as_str(), "start: ")?,
-        wanted: line_after(alloc, text.as_str(), "wanted: ")?,
-        seen: line_after(alloc, text.as_str(), "seen: ")?,
+        start: line_after(alloc, text, "start: ")?,
+        wanted: line_after(alloc, text, "wanted: ")?,
+        seen: line_after(alloc, text, "seen: ")?,
     })
 }
 
 /// What follows `front` in the first line of `text` that begins with it.
-fn line_after(alloc: Global, text: &str, front: &str) -> Result<Option<String>, AllocError> {
+fn line_after(alloc: Global, text: &str, front: &str) -> Result<Option<String>, AllocError>
+    ensures { IfOk result (λ found. spec.IsBehind front.now text.now found) }
+{
     for line in text.lines() {
         if let Some(words) = line.strip_prefix(front) {
             return Ok(Some(String::from_str(alloc, words)?));

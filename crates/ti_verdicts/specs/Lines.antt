@@ -28,7 +28,8 @@ HasPairs P (x ∷ xs) text other =
 abbrev pub Saying : Type 1
 Saying = List ℕ → Option PlaceInSource → List ℕ → Content → List ℕ → List ℕ → Type 0
 
--- what may be said by the path of a file of an entry of this name that can't be had, or of a file that has none, and why
+-- what may be said by the path of a file of an entry of this name that can't be had, or of a file that has none, and the
+-- reason
 abbrev pub Refusing : Type 1
 Refusing = List ℕ → Option (List ℕ) → List ℕ → List ℕ → List ℕ → Type 0
 

@@ -28,7 +28,7 @@ HasNone lines places = (lines ≡ []) × (places ≡ [])
 abbrev pub MayHaveLines : OfFile → Held → List ℕ → List ℕ → List ℕ → Type 0
 MayHaveLines Are held path lines places = HasLines Are held path lines places ⊎ HasNone lines places
 
--- a path has its lines, or it has none and can't be had, as the failure says
+-- (Serves the code alone.) a path has its lines, or it has none and can't be had, as the failure says
 abbrev pub EndsPath : OfFile → Held → List ℕ → List ℕ → List ℕ → Option Failure → Type 0
 EndsPath Are held path lines places None = HasLines Are held path lines places
 EndsPath Are held path lines places (Some failure) = HasNone lines places × IsFileFailure path failure
@@ -46,7 +46,7 @@ abbrev pub EndsPaths : OfFile → Held → List (List ℕ) → List ℕ → List
 EndsPaths Are held paths lines places None = HasPairs (HasLines Are held) paths lines places
 EndsPaths Are held paths lines places (Some failure) = HasPairs (MayHaveLines Are held) paths lines places × Misses paths failure
 
--- the first of two failures
+-- (Serves the code alone.) the first of two failures
 abbrev pub first_failure : Option Failure → Option Failure → Option Failure
 first_failure (Some failure) later = Some failure
 first_failure None later = later
