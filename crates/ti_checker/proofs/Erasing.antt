@@ -17,7 +17,7 @@ use Rattle.ti_rows.specs.Asked.{start_of, starting, asked}
 use Rattle.ti_rows.specs.Lists.{IsInRange}
 use Rattle.ti_rows.specs.declared.rows.Looks.{Looks}
 use Rattle.ti_rows.specs.declared.rows.Row.{Row}
-use Rattle.ti_rows.specs.declared.rows.Row.TheVariants.{Clear, El, El1, Ed, Ech, Sgr, Ind, Ri, Cvvis, Smcup, Rmcup}
+use Rattle.ti_rows.specs.declared.rows.Row.TheVariants.{Clear, El, El1, Ed, Ech, Ind, Ri, Cvvis, Smcup, Rmcup}
 use Rattle.ti_rows.specs.Starts.{Starts}
 use Rattle.ti_rows.proofs.StartFacts.{starts_allowed}
 use Rattle.ti_checker.specs.Breakage.{is_free}
