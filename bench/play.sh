@@ -41,7 +41,9 @@ measure() {
     for program in ours theirs; do
         "$ours" feed "$3" "$4" "$work/$program" >"$work/$program.screen" 2>&1 || :
     done
-    cmp -s "$work/ours.screen" "$work/theirs.screen" || echo "play: $1: the screens of $2 differ at $3 by $4" >&2
+    # `feed` takes no more than 16 MiB
+    [ "$(wc -c <"$work/ours")" -gt 16777216 ] || cmp -s "$work/ours.screen" "$work/theirs.screen" ||
+        echo "play: $1: the screens of $2 differ at $3 by $4" >&2
     awk -v name="$1 $2 $3x$4" -v calls="$(wc -l <"$work/script")" -v sent="$(wc -c <"$work/ours")" -v theirs="$(wc -c <"$work/theirs")" '
         $4 != 0 { print "play: " name ": the run `" $1 "` ended with status " $4; wrong = 1; exit }
         !($1 in best) || $2 < best[$1] { best[$1] = $2 }
