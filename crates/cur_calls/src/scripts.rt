@@ -46,7 +46,7 @@ pub fn read_call<'a>(text: &'a [u8]) -> Option<Call<'a>>
     only_call(text)
 }
 
-// The same, without what its call means for the script.
+// The call of a script that has one line, without a clause on the script.
 fn only_call<'a>(text: &'a [u8]) -> Option<Call<'a>>
     ensures { result ≡ only_call text.now }
 {

@@ -82,7 +82,7 @@ pub fn copy_changed(
     copy_changed_lines(grid, part, source, place, touched, marks);
 }
 
-// The same, line by line.
+// Copies and marks as `copy_changed` does, line by line.
 fn copy_changed_lines(
     grid: &mut Grid<Cell>,
     area: Area,
@@ -117,7 +117,7 @@ fn copy_changed_lines(
     }
 }
 
-// The same of a rectangle of one line, in which each cell may differ.
+// Copies and marks as `copy_changed` does, in a rectangle of one line, in which each cell may differ.
 fn copy_changed_line(
     grid: &mut Grid<Cell>,
     area: Area,
@@ -174,7 +174,7 @@ pub fn copy_marked(grid: &mut Grid<Cell>, area: Area, source: &Grid<Cell>, marks
     copy_marked_rows(grid, part, source, marks);
 }
 
-// The same, row by row.
+// Copies as `copy_marked` does, row by row.
 fn copy_marked_rows(grid: &mut Grid<Cell>, area: Area, source: &Grid<Cell>, marks: &Marks)
     requires left { area.left ≡ 0 }
     requires short { area.top + area.rows < 65536 }

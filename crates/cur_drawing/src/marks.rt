@@ -81,8 +81,8 @@ impl Marks {
         self.all = true;
     }
 
-    /// Marks the columns from `from` on and before `end` of the line `row` as well, with all between them and those that
-    /// are marked there. A line that isn't among the lines is marked as a whole already.
+    /// Marks the columns from `from` on and before `end` of the line `row` as well, with all between them and those
+    /// that are marked there. A line that isn't among the lines is marked as a whole already.
     pub fn mark(&mut self, row: u16, from: u16, end: u16)
         ensures { self.new ≡ marked_between row from end self.old }
     {

@@ -16,7 +16,7 @@ use crate::targets::Target;
 use ti_conforms::Certificate;
 use ti_rows::Row;
 
-/// So many columns to the right, no sequence of ECMA-48 moves the cursor in fewer bytes.
+/// No sequence of ECMA-48 moves the cursor this many columns to the right in fewer bytes than there are columns.
 const FEW: usize = 3;
 
 /// The last part of a way.

@@ -46,7 +46,7 @@ pub fn subpad(
     Ok(())
 }
 
-// So many lines or columns, if a pad may have them.
+// A pad's lines or columns, if it may have `n`.
 fn side(n: i32) -> Option<u16>
     ensures value { result ≡ spec.side n }
     ensures within { IfSome result (λ size. (0 < size) × (size ≤ 1000)) }

@@ -61,8 +61,8 @@ fn run_direct<C: Certificate + Drop, W: Wire>(
     run_paced(alloc, checked, calls, direct)
 }
 
-/// The same as `run`, on a wire that may hold back what it took: what a call has sent is passed on before the next
-/// call, and after the last one.
+/// Plays calls as `run` does, on a wire that may hold back what it took: what a call has sent is passed on before the
+/// next call, and after the last one.
 pub fn run_paced<C: Certificate + Drop, W: Paced>(
     alloc: Global,
     checked: C,

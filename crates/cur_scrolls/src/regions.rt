@@ -52,7 +52,8 @@ fn scroll_and_widen<C: Certificate, W: Wire>(
     set_frame(checked, wire, 0, (checked.rows() - 1) as u16, row)
 }
 
-/// The same from any margins.
+/// Moves the lines of the region of `scroll` from any margins, and leaves the margins at the whole screen and the
+/// cursor at the start of the line `row`.
 fn scroll_region<C: Certificate, W: Wire>(
     checked: &C,
     wire: &mut W,

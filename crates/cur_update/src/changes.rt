@@ -26,8 +26,8 @@ pub(crate) struct Shift<'a, C> {
 }
 
 impl<'a, C: Certificate> Shift<'a, C> {
-    /// Whether places with equal cells are printed alike: both screens have one size, with `cols` columns, and each pair
-    /// has the same colours in both.
+    /// Whether places with equal cells are printed alike: both screens have one size, with `cols` columns, and each
+    /// pair has the same colours in both.
     fn is_told_by_cells(&self, cols: usize) -> bool
         ensures pairs { result ≡ true → self.now.same_pairs ≡ true }
         ensures rows { result ≡ true → (self.now.shown.now).rows ≡ (self.now.screen.now).rows }
@@ -56,8 +56,8 @@ impl<'a, C: Certificate> Shift<'a, C> {
         changed_columns(self.shown.row(from as u16), self.screen.row(to as u16))
     }
 
-    /// The columns in which the line `row` of the screen may be printed otherwise than that of the screen that was shown
-    /// last. Only what is marked is compared.
+    /// The columns in which the line `row` of the screen may be printed otherwise than that of the screen that was
+    /// shown last. Only what is marked is compared.
     fn columns_marked(&self, marks: &Marks, row: usize, cols: usize) -> Columns
         requires marked { AreSame marks.now (self.now.shown.now).grid (self.now.screen.now).grid }
         ensures order { result.from ≤ result.end }
@@ -241,7 +241,8 @@ fn changed_columns(old: &[Cell], new: &[Cell]) -> Columns
     }
 }
 
-/// The same of two lines that are equal outside the columns of `span`: only these are compared.
+/// The columns in which two lines of one length may differ that are equal outside the columns of `span`: only these are
+/// compared.
 fn changed_within(old: &[Cell], new: &[Cell], span: Span) -> Columns
     requires same_length { length old.now ≡ length new.now }
     requires within { span.at + span.size ≤ length new.now }

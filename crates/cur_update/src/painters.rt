@@ -100,8 +100,8 @@ impl<C: Certificate> Painter<C> {
         self.update_marked(screen, &marks, wire)
     }
 
-    /// As `update`, where the screen's cells outside the marks are those of the screen that was shown last: only what is
-    /// marked is compared and copied.
+    /// As `update`, where the screen's cells outside the marks are those of the screen that was shown last: only what
+    /// is marked is compared and copied.
     pub fn update_marked<W: Wire>(
         &mut self,
         screen: &Virtual,

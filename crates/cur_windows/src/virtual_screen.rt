@@ -220,8 +220,8 @@ impl Virtual {
         self.owners.forget();
     }
 
-    // A rectangle, which outside the marks `touched` has the cells of a grid from a place on, gets all of them, and where
-    // they differ they are marked. A scroll replaces the one that is remembered.
+    // A rectangle, which outside the marks `touched` has the cells of a grid from a place on, gets all of them, and
+    // where they differ they are marked. A scroll replaces the one that is remembered.
     pub(crate) fn show(
         &mut self,
         copy: Copy,

@@ -113,7 +113,8 @@ impl Checked {
         }
     }
 
-    /// The same for a row.
+    /// What the entry sends for a row, `None` where the certificate has no such line. From every start of the row its
+    /// run ends as is wanted, and cut off anywhere it leaves a lost state.
     pub fn row_bytes(&self, row: Row) -> Option<&[u8]>
         ensures line { option_copied result ≡ (table_of self.now).line_of row }
         ensures right { IfSome result (λ bytes. LineHolds (table_of self.now) row bytes.now) }

@@ -37,7 +37,7 @@ pub(crate) fn standard(row: Row) -> Option<&'static [u8]>
     }
 }
 
-/// The same for the names from `dim` on.
+/// The standard's string for a row whose name is `dim` or comes after it in the alphabet.
 fn standard_from_dim(row: Row) -> Option<&'static [u8]>
     requires { 17 < order row }
     ensures value { option_copied result ≡ spec.standard row }

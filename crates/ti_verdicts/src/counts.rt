@@ -72,7 +72,7 @@ fn push_count(alloc: Global, nos: &[No], cause: &str, line: &mut Vec<u8>) -> Res
     push_part(alloc, count_of(nos, cause), cause, line)
 }
 
-/// Appends that there are so many of this `name`, if there are any.
+/// Appends `count` with this `name`, if it isn't 0.
 pub fn push_part(
     alloc: Global,
     count: usize,

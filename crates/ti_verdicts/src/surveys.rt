@@ -27,10 +27,10 @@ pub struct Surveyed {
 }
 
 /// Says for each entry of each file that the `words` name whether the `certifier` writes a certificate, or why not, or
-/// lists all faults of each, as the `words` ask for; and counts the answers. What can't be read as an entry has its line
-/// too. The reply's notes say of each fault that is listed of a source's entry where its value stands. The reply fails as
-/// the first file does that can't be had, and the others are surveyed all the same. The `watcher` sees how far the survey
-/// has come.
+/// lists all faults of each, as the `words` ask for; and counts the answers. What can't be read as an entry has its
+/// line too. The reply's notes say of each fault that is listed of a source's entry where its value stands. The reply
+/// fails as the first file does that can't be had, and the others are surveyed all the same. The `watcher` sees how far
+/// the survey has come.
 ///
 /// # Errors
 /// Why the words give no size; out of memory.
