@@ -63,6 +63,7 @@ fn print_each<C: Certificate, O: Picture, N: Picture, W: Wire>(
 
 /// The character in line `row` and column `col`, if it is printed in the set and the brush of `ink`, which is what
 /// the line has in the column `like`.
+#[inline(always)]
 fn like_byte<N: Picture>(new: &N, row: usize, col: usize, like: usize, ink: Ink) -> Option<u8>
     requires ink { ink ≡ N.cells new.now row like }
     ensures value { IfSome result (λ b. N.cells new.now row col ≡ record ink { byte = b }) }
