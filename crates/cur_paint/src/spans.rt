@@ -61,16 +61,6 @@ fn print_each<C: Certificate, O: Picture, N: Picture, W: Wire>(
     Ok(())
 }
 
-/// The character in line `row` and column `col`, if it is printed in the set and the brush of `ink`, which is what
-/// the line has in the column `like`.
-#[inline(always)]
-fn like_byte<N: Picture>(new: &N, row: usize, col: usize, like: usize, ink: Ink) -> Option<u8>
-    requires ink { ink ≡ N.cells new.now row like }
-    ensures value { IfSome result (λ b. N.cells new.now row col ≡ record ink { byte = b }) }
-{
-    new.byte_like(row, col, like)
-}
-
 /// How many of the first `cells` differ and are printed in the set and the brush of `ink`, which is what their line
 /// has in the column `like`; no more than there is room for in `text`. It gets their characters.
 fn like_cells<O: Picture, N: Picture>(
@@ -91,7 +81,7 @@ fn like_cells<O: Picture, N: Picture>(
     let mut n = 0;
     while n < cells.count && n < text.len() {
         let col = cells.from + n;
-        let Some(byte) = like_byte(new, cells.row, col, like, ink) else {
+        let Some(byte) = new.byte_like(cells.row, col, like) else {
             return n;
         };
         if old.shows(cells.row, col, Ink { byte, ..ink }) {
