@@ -30,7 +30,7 @@ abbrev pub marked_between : ℕ → ℕ → ℕ → Marking → Marking
 marked_between i from end m = record m { lines = slice_set m.lines i (widened from end (marked_at m i)) }
 
 -- no line is marked but from one on and before another; they are no more than can be numbered
-pub record AreLines (rows : Marked) (lines : List Marked) : Type 0 where
+pub record AreMarkedWithin (rows : Marked) (lines : List Marked) : Type 0 where
   pub few : length lines < 65536
   pub order : rows.from ≤ rows.end
   pub within : rows.end ≤ length lines

@@ -1,6 +1,6 @@
 //! Marks at the places of a screen that may differ from another one.
 ghost use Rattle.std.specs.Prelude.{ℕ, ◌≡◌, ◌<◌, ◌≤◌, ◌+◌, ◌⊎◌, IfOk, length, replicate, true, []};
-ghost use Rattle.cur_drawing.specs.Marks.{AreLines, IsUnmarked, marked_between, none_marked, nothing, widened};
+ghost use Rattle.cur_drawing.specs.Marks.{AreMarkedWithin, IsUnmarked, marked_between, none_marked, nothing, widened};
 
 use crate::spans::Span;
 use std::alloc::{AllocError, Global};
@@ -41,13 +41,13 @@ pub struct Marks {
 }
 
 impl Model for Marks {
-    ghost use Rattle.cur_drawing.specs.Marks.{AreLines, Marking};
+    ghost use Rattle.cur_drawing.specs.Marks.{AreMarkedWithin, Marking};
 
     ghost Value = { Marking };
 
     ghost view = { λ m. record { all = m.all; lines = m.lines.items } };
 
-    ghost invariant = { λ m. AreLines m.rows m.lines.items };
+    ghost invariant = { λ m. AreMarkedWithin m.rows m.lines.items };
 }
 
 impl Marks {
@@ -161,7 +161,7 @@ impl Marks {
 
 // Takes the marks off the lines `rows`, which are all that have any.
 fn clear_lines(lines: &mut [Marked], rows: Marked)
-    requires { AreLines rows lines.old }
+    requires { AreMarkedWithin rows lines.old }
     ensures { lines.new ≡ replicate (length lines.old) nothing }
 {
     for k in rows.from..rows.end {

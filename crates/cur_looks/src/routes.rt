@@ -16,7 +16,7 @@ use crate::targets::Target;
 use ti_conforms::Certificate;
 use ti_rows::Row;
 
-/// No sequence of ECMA-48 moves the cursor this many columns to the right in fewer bytes than there are columns.
+/// So few columns ahead, no move by a count or to a column has fewer bytes: each has three at least.
 const FEW: usize = 3;
 
 /// The last part of a way.

@@ -12,7 +12,7 @@ pub struct Columns {
 
 /// Lines of a screen: from one on, and before another.
 #[derive(Clone, Copy)]
-pub struct Lines {
+pub struct LineRange {
     pub from: usize,
     pub end: usize,
 }
@@ -27,13 +27,13 @@ pub trait Changes {
     ghost between: { Self → (ℕ → ℕ → Ink) → (ℕ → ℕ → Ink) → Type 0 };
 
     /// The lines that may differ, on screens of `rows` lines and `cols` columns.
-    fn lines(&self, rows: usize, _cols: usize) -> Lines
+    fn lines(&self, rows: usize, _cols: usize) -> LineRange
         ensures order { result.from ≤ result.end }
         ensures within { result.end ≤ rows }
         ensures same { (old new : ℕ → ℕ → Ink) → between self.now old new
             → AreSameOutside old new result.from result.end rows _cols }
     {
-        Lines { from: 0, end: rows }
+        LineRange { from: 0, end: rows }
     }
 
     /// The columns of the line `row` that may differ, on screens of `cols` columns.
@@ -60,26 +60,26 @@ pub trait Changes {
 }
 
 /// From the first line of either to the last one.
-fn joined(a: Lines, b: Lines) -> Lines
+fn joined(a: LineRange, b: LineRange) -> LineRange
     ensures from { result.from ≤ a.from }
     ensures also_from { result.from ≤ b.from }
     ensures end { a.end ≤ result.end }
     ensures also_end { b.end ≤ result.end }
     ensures within { (n : ℕ) → a.end ≤ n → b.end ≤ n → result.end ≤ n }
 {
-    Lines {
+    LineRange {
         from: a.from.min(b.from),
         end: a.end.max(b.end),
     }
 }
 
 /// The lines of the region of `scroll` on a screen of `rows` lines.
-fn region(scroll: Scroll, rows: usize) -> Lines
+fn region(scroll: Scroll, rows: usize) -> LineRange
     ensures from { result.from ≡ scroll.top }
     ensures within { result.end ≤ rows }
     ensures below { (i : ℕ) → result.end ≤ i → i < rows → scroll.bottom < i }
 {
-    Lines {
+    LineRange {
         from: usize::from(scroll.top),
         end: (usize::from(scroll.bottom) + 1).min(rows),
     }
@@ -99,7 +99,7 @@ impl<'a, D: Changes> Changes for Moved<'a, D> {
 
     ghost between = { λ m g new. IsMoved (D.between m.changes.now) m.scroll g new };
 
-    fn lines(&self, rows: usize, cols: usize) -> Lines
+    fn lines(&self, rows: usize, cols: usize) -> LineRange
         ensures order { result.from ≤ result.end }
         ensures within { result.end ≤ rows }
         ensures same { (g new : ℕ → ℕ → Ink) → IsMoved (D.between self.now.changes.now) self.now.scroll g new

@@ -16,7 +16,7 @@ mod spans;
 mod updates;
 
 pub use bells::{BellFault, beep};
-pub use changes::{Changes, Columns, Lines};
+pub use changes::{Changes, Columns, LineRange};
 pub use endings::finish;
 pub use laws::{bounded, reset_is_fresh};
 pub use screens::Screens;

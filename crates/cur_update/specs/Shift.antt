@@ -6,7 +6,7 @@ use Rattle.ti_conforms.specs.Certified.{Table}
 use Rattle.cur_looks.specs.declared.inks.Ink.{Ink}
 use Rattle.cur_paint.specs.Differ.{AreSameOutside}
 use Rattle.cur_paint.specs.declared.changes.Columns.{Columns}
-use Rattle.cur_paint.specs.declared.changes.Lines.{Lines}
+use Rattle.cur_paint.specs.declared.changes.LineRange.{LineRange}
 use Rattle.cur_update.specs.Inks.{ink_at}
 
 pub record IsShift (t : Table) (partners : ℕ → Option ℕ) (v w : Screen) (same_pairs : Bool)
@@ -33,6 +33,6 @@ AreFoundIn columns from end cols old new =
     (i : ℕ) → from ≤ i → i < end → AreAlikeOutside old new i i (found_at columns i).from (found_at columns i).end cols
 
 -- of the first n lines those were found that may differ
-pub record AreFound (lines : Lines) (columns : List Columns) (n cols : ℕ) (old new : ℕ → ℕ → Ink) : Type 0 where
+pub record AreFound (lines : LineRange) (columns : List Columns) (n cols : ℕ) (old new : ℕ → ℕ → Ink) : Type 0 where
   pub found : AreFoundIn columns lines.from lines.end cols old new
   pub others : AreSameOutside old new lines.from lines.end n cols

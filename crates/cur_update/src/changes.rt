@@ -10,7 +10,7 @@ ghost use Rattle.cur_update.specs.Shift.{AreAlikeOutside, AreFound, IsShift, fou
 
 use crate::scrolls::{found_scroll, scroll_of};
 use cur_drawing::{Cell, Marks, Span, first_diff, last_diff};
-use cur_paint::{Changes, Columns, Lines};
+use cur_paint::{Changes, Columns, LineRange};
 use cur_scrolls::{Scroll, line_before};
 use cur_windows::Virtual;
 use ti_conforms::Certificate;
@@ -80,7 +80,7 @@ impl<'a, C: Certificate> Shift<'a, C> {
 
     /// The lines of `rows` that may be printed otherwise than those of the screen that was shown last: those from the
     /// first to the last one that is marked.
-    fn lines_marked(&self, marks: &Marks, rows: usize, cols: usize) -> Lines
+    fn lines_marked(&self, marks: &Marks, rows: usize, cols: usize) -> LineRange
         requires cells { (i j : ℕ) → i < (self.now.screen.now).rows → j < (self.now.screen.now).cols
             → IsCell (content_at self.now.screen.now i j) }
         requires marked { AreSame marks.now (self.now.shown.now).grid (self.now.screen.now).grid }
@@ -92,10 +92,10 @@ impl<'a, C: Certificate> Shift<'a, C> {
     {
         let new_rows = self.screen.size().0;
         if rows != new_rows as usize || !self.is_told_by_cells(cols) {
-            return Lines { from: 0, end: rows };
+            return LineRange { from: 0, end: rows };
         }
         let span = marks.rows(new_rows);
-        Lines {
+        LineRange {
             from: span.at as usize,
             end: span.at as usize + span.size as usize,
         }
@@ -103,7 +103,7 @@ impl<'a, C: Certificate> Shift<'a, C> {
 
     /// Finds the lines in which it may be printed otherwise, and for each of them the columns, among those that are
     /// marked. What is kept of other lines stays.
-    pub(crate) fn find(&self, marks: &Marks, columns: &mut [Columns], cols: usize) -> Lines
+    pub(crate) fn find(&self, marks: &Marks, columns: &mut [Columns], cols: usize) -> LineRange
         requires cells { (i j : ℕ) → i < (self.now.screen.now).rows → j < (self.now.screen.now).cols
             → IsCell (content_at self.now.screen.now i j) }
         requires marked { AreSame marks.now (self.now.shown.now).grid (self.now.screen.now).grid }
@@ -126,7 +126,7 @@ impl<'a, C: Certificate> Shift<'a, C> {
 /// The lines that may differ, and of each of them the columns, with what an earlier refresh left of other lines.
 #[derive(Clone, Copy)]
 pub(crate) struct Findings<'a> {
-    pub lines: Lines,
+    pub lines: LineRange,
     pub columns: &'a [Columns],
 }
 
@@ -137,7 +137,7 @@ pub(crate) struct Found<'a, C> {
     /// As many as a line has.
     pub cols: usize,
     /// The lines that may differ.
-    pub lines: Lines,
+    pub lines: LineRange,
     /// The columns of these lines; what is kept of others isn't read.
     pub columns: &'a [Columns],
 }
@@ -152,13 +152,13 @@ impl<'a, C: Certificate> Changes for Found<'a, C> {
         f.shift.shown.now f.shift.screen.now f.shift.same_pairs old new
         × AreFound f.lines f.columns.now (length f.columns.now) f.cols old new };
 
-    fn lines(&self, rows: usize, cols: usize) -> Lines {
+    fn lines(&self, rows: usize, cols: usize) -> LineRange {
         let lines = self.lines;
         let is_found = cols == self.cols && rows == self.columns.len();
         if is_found && lines.from <= lines.end && lines.end <= rows {
             lines
         } else {
-            Lines { from: 0, end: rows }
+            LineRange { from: 0, end: rows }
         }
     }
 

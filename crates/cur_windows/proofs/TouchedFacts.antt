@@ -23,7 +23,7 @@ use Rattle.cur_windows.specs.declared.slots.Slot.{Slot}
 use Rattle.cur_windows.specs.Desks.{IsDesk, IsFramed, IsPlaced, State, grid_at, slot_of, some_slot, window_at}
 use Rattle.cur_windows.specs.VirtualScreen.{IsScreen, Screen, area_on_screen}
 use Rattle.cur_drawing.specs.declared.refusals.Refusal.TheVariants.{NoScroll}
-use Rattle.cur_windows.specs.Touched.{IsGoneThrough, IsLeft, IsTouched, MarksWritten, WritesLine}
+use Rattle.cur_windows.specs.Touched.{IsGoneThrough, LeavesMarks, IsTouched, MarksWritten, WritesLine}
 
 -- ---- writing
 
@@ -78,7 +78,7 @@ grid_kept act s t (Ok u) back value refused other = absurd refused
 grid_kept act s t (Err e) back value refused other = ap (λ (x : CanvasStep). x.0.grid) value ∙ ap (λ (x : Canvas). x.grid) (back s e other (ap (λ (x : CanvasStep). x.1) (sym value)))
 
 pub left_by : (d now : State) (n : ℕ) (s : Slot) (w : Window) (g h : Grid) (a b : Marking) (act : Canvas → CanvasStep) (r : Result (Unit {0}) Refusal) → ChangesNothingIfRefusedButNoScroll act → d ≡ now → IsDesk d → IsPlaced now n s →
-    g ≡ get_or d.grids s.root g → step h w r ≡ act (canvas g s.window) → IsLeft a b r → Keeps a (grid_at now 0) b (get_or (set d.grids s.root h) 0 [])
+    g ≡ get_or d.grids s.root g → step h w r ≡ act (canvas g s.window) → LeavesMarks a b r → Keeps a (grid_at now 0) b (get_or (set d.grids s.root h) 0 [])
 left_by d now n s w g h a b act r back e is placed at value left v same i j u =
     let lt : s.root < length d.grids = omega (arith, is.grids, placed.root) in
     let read : h ≡ get_or d.grids s.root [] = grid_kept act (canvas g s.window) (canvas h w) r back value left.refused left.other ∙ at ∙ get_or_default d.grids s.root g [] lt in
@@ -144,7 +144,7 @@ written_by d now e n s w a b is desk there before at touched = record {
       (subst (λ (r : Result Slot Refusal). WritesLine (Ok s) r i) (sym (slot_there e d.windows n (record s { window = w }) there.0 (omega (arith, there.0, desk.windows)) at)) line)));
 }
 
-pub left_unmarked : (d e : State) (n : ℕ) (a b : Marking) (r : Result (Unit {0}) Refusal) → IsLeft a b r → MarksWritten a b d e n
+pub left_unmarked : (d e : State) (n : ℕ) (a b : Marking) (r : Result (Unit {0}) Refusal) → LeavesMarks a b r → MarksWritten a b d e n
 left_unmarked d e n a b r left = record { only = λ i j u off. subst (λ (m : Marking). IsUnmarked m i j) (sym left.same) u }
 
 -- ---- copying

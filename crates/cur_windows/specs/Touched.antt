@@ -39,7 +39,7 @@ pub record IsTouched (m n : Marking) (s : Slot) (first : ℕ) : Type 0 where
   pub only : (i j : ℕ) → IsUnmarked m i j → (IsWrittenLine s first i → ⊥) → IsUnmarked n i j
 
 -- a call was refused, and not by NoScroll, which it may answer after it has written; the marks are as they were
-pub record IsLeft (m n : Marking) (r : Result (Unit {0}) Refusal) : Type 0 where
+pub record LeavesMarks (m n : Marking) (r : Result (Unit {0}) Refusal) : Type 0 where
   pub refused : OnOk r ⊥
   pub other : IfErr r (λ e. e ≢ NoScroll)
   pub same : n ≡ m
@@ -57,7 +57,7 @@ pub record MarksWritten (m n : Marking) (d e : State) (id : ℕ) : Type 0 where
   pub only : (i j : ℕ) → IsUnmarked m i j → (WritesLine (slot_of d id) (slot_of e id) i → ⊥) → IsUnmarked n i j
 
 -- a window of window 0's grid, which is shown at the place where it lies in that
-pub record IsInPlace (d : State) (s : Slot) : Type 0 where
+pub record IsShownInPlace (d : State) (s : Slot) : Type 0 where
   pub root : s.root ≡ 0
   pub top : (area_on_screen d s).top ≡ s.window.area.top
   pub left : (area_on_screen d s).left ≡ s.window.area.left
@@ -69,5 +69,5 @@ pub record IsScreenful (d : State) (s : Slot) : Type 0 where
 
 -- the marks after such a window was copied: none if it is as large as the screen, and else those that there were
 pub record MarksCopied (m n : Marking) (d : State) (s : Slot) : Type 0 where
-  pub whole : IsInPlace d s → IsScreenful d s → n ≡ none_marked (length m.lines)
-  pub part : IsInPlace d s → (IsScreenful d s → ⊥) → n ≡ m
+  pub whole : IsShownInPlace d s → IsScreenful d s → n ≡ none_marked (length m.lines)
+  pub part : IsShownInPlace d s → (IsScreenful d s → ⊥) → n ≡ m

@@ -1,7 +1,7 @@
 //! Where window 0's grid may have changed since it was copied to the virtual screen.
 ghost use Rattle.std.specs.Prelude.{◌≡◌, ◌≢◌, ◌⊎◌, IfErr};
 ghost use Rattle.cur_drawing.specs.Windows.{IsWindow};
-ghost use Rattle.cur_windows.specs.Touched.{IsLeft, IsTouched, MarksLines};
+ghost use Rattle.cur_windows.specs.Touched.{LeavesMarks, IsTouched, MarksLines};
 
 use crate::slots::Slot;
 use cur_drawing::{Marks, Refusal, Window};
@@ -33,7 +33,7 @@ pub(crate) fn touch_unless_refused(
 )
     requires { IsWindow (slot.now).window }
     ensures touched { IsTouched touched.old touched.new slot.now first
-        ⊎ IsLeft touched.old touched.new answer.now }
+        ⊎ LeavesMarks touched.old touched.new answer.now }
     ensures refused { IfErr answer.now (λ e. e ≢ Refusal.NoScroll → touched.new ≡ touched.old) }
 {
     if let Err(refusal) = answer {

@@ -146,6 +146,8 @@ pub fn first_clash(
     ensures together { IfOk result (λ settled. (t : Table) → spec.IsFound t reach changes.now resync smacs escapes
         → clashes.GoesTogether has_acsc t) }
     ensures settled { IfOk result (spec.AreSettled reach changes.now resync) }
+    ensures none { IfOk result (λ settled. spec.NoneClashes settled smacs resync.rmacs
+        (has_acsc && (is_some smacs && is_some resync.rmacs)) escapes) }
 {
     let settled = settled_of(reach, changes, resync);
     let sent = all_there(has_acsc, smacs, resync.rmacs);

@@ -21,7 +21,7 @@ is_told Cvvis = false
 is_told _ = true
 
 -- two effects do the same but for what the row leaves open
-pub record EndsAs (open_in : Row) (f g : Effect) : Type 0 where
+pub record EndsLike (open_in : Row) (f g : Effect) : Type 0 where
   pub row : f.row ≡ g.row
   pub col : f.col ≡ g.col
   pub ends_pending : f.ends_pending ≡ g.ends_pending
@@ -33,7 +33,7 @@ pub record EndsAs (open_in : Row) (f g : Effect) : Type 0 where
   pub visible : is_told open_in ≡ true → f.visible ≡ g.visible
 
 -- a row of which one end is wanted
-only : (l m : Looks) (row : Row) (e : Effect) → has_choice row ≡ false → EndsAs row (wanted_end l row e) (asked m row e)
+only : (l m : Looks) (row : Row) (e : Effect) → has_choice row ≡ false → EndsLike row (wanted_end l row e) (asked m row e)
 only l m (Sgr a) e one = never one
 only l m Cvvis e one = never one
 only l m Smso e one = record { row = refl; col = refl; ends_pending = refl; margins_are = refl; charset = refl; erasure = refl; scroll = λ bound. refl; rendition = λ fixed. never (sym fixed); visible = λ told. refl }
@@ -42,12 +42,12 @@ only l m Rmcup e one = record { row = refl; col = refl; ends_pending = refl; mar
 only l m _ e one = record { row = refl; col = refl; ends_pending = refl; margins_are = refl; charset = refl; erasure = refl; scroll = λ bound. refl; rendition = λ fixed. refl; visible = λ told. refl }
 
 -- one of which two are, each that which is asked for by an effect with these sets
-chosen : (l m : Looks) (row : Row) (e d : Effect) → d.charset ≡ e.charset → has_choice row ≡ true → EndsAs row (asked l row d) (asked m row e)
+chosen : (l m : Looks) (row : Row) (e d : Effect) → d.charset ≡ e.charset → has_choice row ≡ true → EndsLike row (asked l row d) (asked m row e)
 chosen l m (Sgr a) e d sets choice = record { row = refl; col = refl; ends_pending = refl; margins_are = refl; charset = sets; erasure = refl; scroll = λ bound. refl; rendition = λ fixed. never (sym fixed); visible = λ told. refl }
 chosen l m Cvvis e d sets choice = record { row = refl; col = refl; ends_pending = refl; margins_are = refl; charset = refl; erasure = refl; scroll = λ bound. refl; rendition = λ fixed. refl; visible = λ told. never (sym told) }
 chosen l m _ e d sets choice = never (sym choice)
 
-pub ends_as : (l m : Looks) (row : Row) (e f : Effect) → IsEnd l row e f → EndsAs row f (asked m row e)
-ends_as l m row e f (Only one is) = subst (λ (g : Effect). EndsAs row g (asked m row e)) (sym is) (only l m row e one)
-ends_as l m row e f (WithDefaults choice is) = subst (λ (g : Effect). EndsAs row g (asked m row e)) (sym is) (chosen l m row e (with_defaults e) refl choice)
-ends_as l m row e f (WithoutDefaults choice is) = subst (λ (g : Effect). EndsAs row g (asked m row e)) (sym is) (chosen l m row e (without_defaults e) refl choice)
+pub ends_as : (l m : Looks) (row : Row) (e f : Effect) → IsEnd l row e f → EndsLike row f (asked m row e)
+ends_as l m row e f (Only one is) = subst (λ (g : Effect). EndsLike row g (asked m row e)) (sym is) (only l m row e one)
+ends_as l m row e f (WithDefaults choice is) = subst (λ (g : Effect). EndsLike row g (asked m row e)) (sym is) (chosen l m row e (with_defaults e) refl choice)
+ends_as l m row e f (WithoutDefaults choice is) = subst (λ (g : Effect). EndsLike row g (asked m row e)) (sym is) (chosen l m row e (without_defaults e) refl choice)

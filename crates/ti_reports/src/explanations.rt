@@ -50,7 +50,7 @@ fn explanation_in(alloc: Global, text: &str) -> Result<Explanation, AllocError>
 
 /// What follows `front` in the first line of `text` that begins with it.
 fn line_after(alloc: Global, text: &str, front: &str) -> Result<Option<String>, AllocError>
-    ensures { IfOk result (λ found. spec.IsBehind front.now text.now found) }
+    ensures { IfOk result (λ found. spec.StandsBehind front.now text.now found) }
 {
     for line in text.lines() {
         if let Some(words) = line.strip_prefix(front) {
