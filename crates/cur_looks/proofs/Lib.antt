@@ -9,3 +9,4 @@ pub mod Gaps
 pub mod Blanks
 pub mod Fewest
 pub mod Types
+pub mod StretchFacts

@@ -75,17 +75,10 @@ when_byte true x y b f e =
     ap (λ (n : ℕ). record x { byte = n }) byte ∙ ap (λ (g : Bool). record x { byte = b; graphic = g }) (f refl).0 ∙ ap (λ (h : Brush). record y { byte = b; brush = h }) (f refl).1
 when_byte false x y b f e = absurd (cc)
 
-byte_as_is : (x y : Ink) (b : ℕ) → byte_as x y ≡ Some b → x ≡ record y { byte = b }
+pub byte_as_is : (x y : Ink) (b : ℕ) → byte_as x y ≡ Some b → x ≡ record y { byte = b }
 byte_as_is x y b e =
     when_byte (alike x.graphic y.graphic && same_brush x.brush y.brush) x y b
     (λ t. (let p = both (alike x.graphic y.graphic) (same_brush x.brush y.brush) t in (alike_equal x.graphic y.graphic p.0, brush_equal x.brush y.brush p.1))) e
-
-pub byte_as_some : (x y : Ink) → IfSome (byte_as x y) (λ b. x ≡ record y { byte = b })
-byte_as_some x y = one (byte_as x y) refl
-  where
-    one : (o : Option ℕ) → byte_as x y ≡ o → IfSome o (λ b. x ≡ record y { byte = b })
-    one None e = tt
-    one (Some b) e = byte_as_is x y b e
 
 alike_self : (b : Bool) → alike b b ≡ true
 alike_self true = refl

@@ -6,3 +6,4 @@ pub mod Gaps
 pub mod Erasures
 pub mod Routes
 pub mod Steps
+pub mod Stretches

@@ -1,7 +1,8 @@
 //! What is put into a place of the screen.
-ghost use Rattle.std.specs.Prelude.{◌≡◌, ℕ, IfSome};
+ghost use Rattle.std.specs.Prelude.{◌≡◌, ◌+◌, ◌≤◌, ℕ, IfSome, length};
 ghost use Rattle.cur_looks.specs.Inks as spec;
 
+use crate::stretches::blank_shown;
 use ti_rows::Attributes;
 use vt_term::Color;
 
@@ -21,9 +22,19 @@ pub struct Ink {
     pub brush: Brush,
 }
 
+/// The `count` cells of the line `row` from the column `from` on.
+#[derive(Clone, Copy)]
+pub struct Cells {
+    pub row: usize,
+    pub from: usize,
+    pub count: usize,
+}
+
 /// A screen by its places.
 pub trait Picture {
+    ghost use Rattle.std.specs.Prelude.{◌+◌, ◌≤◌, length};
     ghost use Rattle.cur_looks.specs.Inks.{byte_as, same, blank_ink};
+    ghost use Rattle.cur_looks.specs.Stretches.{AreShown, IsTextLike};
     ghost use Rattle.cur_looks.specs.declared.inks.Ink.{Ink};
 
     ghost cells: { Self → ℕ → ℕ → Ink };
@@ -53,6 +64,39 @@ pub trait Picture {
     {
         byte_as(self.at(row, col), self.at(row, like))
     }
+
+    /// How many of the cells of `stretch` come before the first one that isn't printed in the set and the brush of the
+    /// column `like` of their line; no more than there is room for in `text`, which gets their characters.
+    fn text_like(&self, stretch: Cells, like: usize, text: &mut [u8]) -> usize
+        requires within { stretch.from + stretch.count ≤ 1000 }
+        ensures room { length text.new ≡ length text.old }
+        ensures found { IsTextLike (cells self.now) stretch like result text.new }
+    {
+        let mut n = 0;
+        while n < stretch.count && n < text.len() {
+            match self.byte_like(stretch.row, stretch.from + n, like) {
+                Some(byte) => text[n] = byte,
+                None => return n,
+            }
+            n += 1;
+        }
+        n
+    }
+
+    /// Notes in `shown`, for each cell of `stretch`, whether it is printed like `ink` with the character that `text` has
+    /// for it.
+    fn shows_text(&self, stretch: Cells, ink: Ink, text: &[u8], shown: &mut [bool])
+        requires within { stretch.from + stretch.count ≤ 1000 }
+        requires text { stretch.count ≤ length text.now }
+        requires room { stretch.count ≤ length shown.old }
+        ensures room { length shown.new ≡ length shown.old }
+        ensures found { AreShown (cells self.now) stretch ink text.now shown.new }
+    {
+        for n in 0..stretch.count {
+            let byte = text[n];
+            shown[n] = self.shows(stretch.row, stretch.from + n, Ink { byte, ..ink });
+        }
+    }
 }
 
 /// A blank screen.
@@ -67,6 +111,10 @@ impl Picture for Blank {
         ensures value { result ≡ blank_ink }
     {
         Ink::blank()
+    }
+
+    fn shows_text(&self, stretch: Cells, ink: Ink, text: &[u8], shown: &mut [bool]) {
+        blank_shown(stretch.count, ink, text, shown);
     }
 }
 

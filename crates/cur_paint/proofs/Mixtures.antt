@@ -8,7 +8,7 @@ use Rattle.cur_looks.specs.Erasures.{erased}
 use Rattle.cur_looks.specs.declared.erasures.ErasedPart.TheVariants.{Head, Part, Rest}
 use Rattle.cur_paint.specs.Differ.{differs, span, all_differ}
 use Rattle.cur_paint.specs.Blanks.{IsBlankFrom}
-use Rattle.ti_conforms.specs.Certified.{Table, cell_limit}
+use Rattle.ti_conforms.specs.Certified.{Table}
 use Rattle.cur_looks.specs.Beliefs.{Agrees}
 use Rattle.cur_looks.specs.declared.beliefs.Belief.{Belief}
 use Rattle.vt_term.specs.Screen.{State}
@@ -182,18 +182,6 @@ span_first old new i from n =
     let place : from + 0 ≡ from = omega arith in
     let here : differs old new i (from + 0) ≡ differs old new i from = ap (λ (j : ℕ). differs old new i j) place in
     omega (arith, more, none, here, span_join old new i from 1 n)
-
--- cells that all differ
-pub span_full : (old new : ℕ → ℕ → Ink) (i from n : ℕ) → ((k : ℕ) → k < n → differs old new i (from + k) ≡ 1) → span old new i from n ≡ n
-span_full old new i from zero h = refl
-span_full old new i from (suc n) h = omega (arith, span_full old new i from n (λ k lt. h k (omega (arith, lt))), h n (omega arith))
-
--- a cell takes a byte at least
-pub some_each : (t : Table) (a n : ℕ) → a ≡ n → n ≤ a * cell_limit t
-some_each t a n e = let P : ℕ → Type 0 = λ m. n ≤ m * cell_limit t in subst P (sym e) (grows n (cell_limit t) (omega arith))
-  where
-    grows : (n l : ℕ) → 1 ≤ l → n ≤ n * l
-    grows n l le = grind arith
 
 -- as an ink, but for the character
 pub like_alike : (b : Belief) (x y : Ink) (n : ℕ) → IsAlike b y → x ≡ record y { byte = n } → IsAlike b x

@@ -1,15 +1,19 @@
--- A cell and those after it, one step after the other.
-use Rattle.std.proofs.Common.{◌+◌, ◌*◌, ℕ, List, Result, Ok, sym, arith}
+-- A cell and those after it, one step after the other; and cells that go out in one piece.
+use Rattle.std.proofs.Common.{◌≡◌, ◌+◌, ◌*◌, ◌<◌, ◌≤◌, ℕ, Bool, false, List, length-take, slice_index_or, take, Result, Ok, sym, ap, subst, ◌∙◌, arith}
+use Rattle.std.proofs.lemmas.List.{get_or-take}
 use Rattle.cur_wires.specs.Wire.{IsWire}
 use Rattle.cur_wires.proofs.Stops.{steps_next, steps_wider}
 use Rattle.ti_conforms.specs.Certified.{Table, IsPiece, IsLost, cell_limit}
-use Rattle.cur_looks.specs.Inks.{mixed}
+use Rattle.cur_looks.specs.Inks.{mixed, same}
+use Rattle.cur_looks.specs.Stretches.{AreLike, AreShown}
+use Rattle.cur_looks.specs.declared.inks.Cells.{Cells}
 use Rattle.cur_looks.specs.Beliefs.{Agrees}
 use Rattle.cur_looks.specs.declared.beliefs.Belief.{Belief}
 use Rattle.cur_looks.specs.declared.inks.Ink.{Ink}
-use Rattle.cur_paint.specs.Differ.{differs, span}
-use Rattle.cur_paint.specs.Scenes.{Mends}
-use Rattle.cur_paint.proofs.Mixtures.{span_first, sum_limit, agrees_at}
+use Rattle.cur_looks.proofs.Sameness.{byte_as_is}
+use Rattle.cur_paint.specs.Differ.{differs, span, IsSameBy}
+use Rattle.cur_paint.specs.Scenes.{AreOf, Mends}
+use Rattle.cur_paint.proofs.Mixtures.{span_first, span_grows, span_more, sum_limit, times_grows, agrees_at}
 
 pub first_then : {W T E U F : Type 0} (went : W → W → List ℕ → Type 0) (failures : W → ℕ) → IsWire went failures → (a b c : W) (v : U) (answer : Result T E) (t : Table) (old new : ℕ → ℕ → Ink) (row from n : ℕ) (x y z : Belief)
     → Mends {T = U} {E = F} went failures a b (Ok v) t (differs old new row from) (mixed old new row from) (mixed old new row (from + 1)) x y
@@ -25,3 +29,34 @@ first_then went failures laws a b c v answer t old new row from n x y z first mo
     (Agrees t (mixed old new row (from + 1)) y) (Agrees t (mixed old new row (from + 1 + n)) z)
     (Agrees t (mixed old new row (from + 1)) y) (Agrees t (mixed old new row (from + (1 + n))) z)
     (omega arith) (λ s h. h) (agrees_at t old new row (from + 1 + n) (from + (1 + n)) z (omega arith)) more)
+
+grows_each : (d few : ℕ) → (d + 1) * (few + 1) ≡ d * (few + 1) + (few + 1)
+grows_each d few = grind arith
+
+-- a piece becomes longer by a place that differs, after few that don't
+pub piece_longer : (old new : ℕ → ℕ → Ink) (i from end k few : ℕ) → end ≤ k → k ≤ end + few → end ≤ span old new i from end * (few + 1) → differs old new i (from + k) ≡ 1
+    → k + 1 ≤ span old new i from (k + 1) * (few + 1)
+piece_longer old new i from end k few le gap short one =
+    let more = span_more old new i from k in
+    let grown : span old new i from end + 1 ≤ span old new i from (k + 1) = omega (arith, more, one, span_grows old new i from end k le) in
+    omega (arith, times_grows (span old new i from end + 1) (span old new i from (k + 1)) (few + 1) grown, grows_each (span old new i from end) few, short, gap)
+
+times_more : (d few n : ℕ) → few + 1 ≤ n → d * (few + 1) ≤ d * n
+times_more d few n le = grind arith
+
+-- it has no more places than bytes may go out for those that differ
+pub piece_short : (t : Table) (d few n : ℕ) → n ≤ d * (few + 1) → few ≤ t.longest.cup → n ≤ d * cell_limit t
+piece_short t d few n short le =
+    let room : few + 1 ≤ cell_limit t = omega (arith, le) in
+    omega (arith, short, times_more d few (cell_limit t) room)
+
+pub are_of : (new : ℕ → ℕ → Ink) (cells : Cells) (like n : ℕ) (ink : Ink) (text : List ℕ) → ink ≡ new cells.row like → AreLike new cells like n text → AreOf new cells ink n text
+are_of new cells like n ink text e h k lt =
+    subst (λ (z : Ink). new cells.row (cells.from + k) ≡ record z { byte = slice_index_or text k 0 }) (sym e)
+    (byte_as_is (new cells.row (cells.from + k)) (new cells.row like) (slice_index_or text k 0) (h k lt))
+
+pub same_by : (old new : ℕ → ℕ → Ink) (cells : Cells) (ink : Ink) (n : ℕ) (text : List ℕ) (marks : List Bool) → AreOf new cells ink n text → AreShown old (record cells { count = n }) ink text marks
+    → IsSameBy old new cells.row cells.from (take n marks)
+same_by old new cells ink n text marks are shown k lt =
+    let within : k < n = omega (arith, lt, length-take n marks) in
+    get_or-take n marks k false within ∙ shown k within ∙ ap (λ (x : Ink). same (old cells.row (cells.from + k)) x) (sym (are k within))

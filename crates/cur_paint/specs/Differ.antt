@@ -1,5 +1,5 @@
 -- In how many places two screens differ.
-use Rattle.std.specs.Prelude.{ℕ, ◌+◌, ◌<◌, ◌≤◌, ◌≡◌, if◌then◌else◌, zero, suc}
+use Rattle.std.specs.Prelude.{ℕ, ◌+◌, ◌<◌, ◌≤◌, ◌≡◌, Bool, false, if◌then◌else◌, zero, suc, List, length, slice_index_or}
 use Rattle.cur_looks.specs.Inks.{same}
 use Rattle.cur_looks.specs.declared.inks.Ink.{Ink}
 use Rattle.cur_scrolls.specs.declared.scrolls.Scroll.{Scroll}
@@ -35,7 +35,7 @@ pub record IsMoved (between : (ℕ → ℕ → Ink) → (ℕ → ℕ → Ink) �
   pub known : between old new
   pub is : g ≡ shifted x old
 
--- (Serves the code alone.) a place that differs, and is to have that character in the set and the brush of an ink
-pub record IsLike (old new : ℕ → ℕ → Ink) (i j : ℕ) (ink : Ink) (byte : ℕ) : Type 0 where
-  pub cell : new i j ≡ record ink { byte = byte }
-  pub changed : differs old new i j ≡ 1
+-- (Serves the code alone.) of each place of a line from a column on, whether it is the same in both
+abbrev pub IsSameBy : (ℕ → ℕ → Ink) → (ℕ → ℕ → Ink) → ℕ → ℕ → List Bool → Type 0
+IsSameBy old new i from marks = (k : ℕ) → k < length marks
+    → slice_index_or marks k false ≡ same (old i (from + k)) (new i (from + k))

@@ -1,5 +1,5 @@
 -- (Serves the code alone.) What the painter's steps work on, and what they promise.
-use Rattle.std.specs.Prelude.{ℕ, ◌+◌, ◌-◌, ◌*◌, ◌<◌, ◌≤◌, ◌≡◌, List, Option, Result, OnOk}
+use Rattle.std.specs.Prelude.{ℕ, ◌+◌, ◌-◌, ◌*◌, ◌<◌, ◌≤◌, ◌≡◌, List, Option, Result, OnOk, slice_index_or}
 use Rattle.vt_term.specs.Screen.{State}
 use Rattle.cur_wires.specs.Steps.{Steps}
 use Rattle.ti_conforms.specs.Certified.{Table, IsChecked, IsLost, IsPiece, cell_limit}
@@ -9,11 +9,11 @@ use Rattle.cur_looks.specs.Steps.{Acts}
 use Rattle.cur_looks.specs.declared.beliefs.Belief.{Belief}
 use Rattle.cur_looks.specs.declared.beliefs.Mode.{Mode}
 use Rattle.cur_looks.specs.declared.beliefs.Place.{Place}
+use Rattle.cur_looks.specs.declared.inks.Cells.{Cells}
 use Rattle.cur_looks.specs.declared.inks.Ink.{Ink}
 use Rattle.cur_paint.specs.Differ.{differs, span, all_differ}
 use Rattle.cur_paint.specs.Limits.{paint_limit}
 use Rattle.cur_paint.specs.Modes.{SetsMode}
-use Rattle.cur_paint.specs.declared.screens.Cells.{Cells}
 use Rattle.cur_paint.specs.declared.screens.Screens.{Screens}
 
 -- a certificate's table, the cells that its terminal shows, and those that it is to show
@@ -38,6 +38,15 @@ pub record IsOn (t : Table) (cells : Cells) : Type 0 where
 -- how many of the cells differ
 abbrev pub changed : Scene → Cells → ℕ
 changed s cells = span s.old s.new cells.row cells.from cells.count
+
+-- the first n of the cells are to have these characters in the set and the brush of an ink
+abbrev pub AreOf : (ℕ → ℕ → Ink) → Cells → Ink → ℕ → List ℕ → Type 0
+AreOf new cells ink n text = (k : ℕ) → k < n
+    → new cells.row (cells.from + k) ≡ record ink { byte = slice_index_or text k 0 }
+
+-- there are no more of the cells than bytes may go out for those that differ
+abbrev pub IsShort : Scene → Cells → Type 0
+IsShort s cells = cells.count ≤ changed s cells * cell_limit s.table
 
 -- how many of a line's cells differ from a column on
 abbrev pub changed_from : Scene → ℕ → ℕ → ℕ

@@ -5,10 +5,11 @@ ghost use Rattle.cur_looks.specs.Inks.{blank_ink};
 ghost use Rattle.cur_paint.specs.Differ.{span};
 ghost use Rattle.cur_paint.specs.Scenes.{IsIdle, IsOn, IsPaintable, MendsCells, changed, scene};
 
-use crate::screens::{Cells, Screens};
+use crate::screens::Screens;
 use crate::spans::{differs_in, mend_span};
 use cur_looks::{
-    Belief, ErasedPart, Picture, Place, Target, erase_at, erase_from, erasing_line, line_bytes,
+    Belief, Cells, ErasedPart, Picture, Place, Target, erase_at, erase_from, erasing_line,
+    line_bytes,
 };
 use cur_wires::{Wire, WireFault};
 use ti_conforms::Certificate;

@@ -9,10 +9,10 @@ ghost use Rattle.cur_paint.specs.Scenes.{IsBlankPast, IsIdle, IsPaintable, IsSam
 
 use crate::changes::{Changes, Columns};
 use crate::parts::{are_blank, mend_parts};
-use crate::screens::{Cells, Screens};
+use crate::screens::Screens;
 use crate::spans::{differs_in, mend_span};
 use cur_looks::{
-    Belief, ErasedPart, Picture, Place, Row, Target, blank_tail, erase_from, erasing_line,
+    Belief, Cells, ErasedPart, Picture, Place, Row, Target, blank_tail, erase_from, erasing_line,
 };
 use cur_wires::{Wire, WireFault};
 use ti_conforms::Certificate;

@@ -1,16 +1,22 @@
 //! Cells of a line that differ: printed one by one, or several in one piece.
-ghost use Rattle.std.specs.Prelude.{◌≡◌, ◌+◌, ◌<◌, ◌≤◌, ℕ, true, Some, OnOk, IfSome, length, slice_index_or};
+ghost use Rattle.std.specs.Prelude.{◌≡◌, ◌+◌, ◌*◌, ◌<◌, ◌≤◌, ℕ, true, OnOk, length};
 ghost use Rattle.cur_looks.specs.Gaps.{IsAlike};
-ghost use Rattle.cur_paint.specs.Differ.{differs, span, IsLike};
-ghost use Rattle.cur_paint.specs.Scenes.{IsIdle, IsOn, IsPaintable, MendsCell, MendsCells, changed, scene};
+ghost use Rattle.cur_looks.specs.declared.inks.Ink.{Ink};
+ghost use Rattle.cur_paint.specs.Differ.{differs, span, IsSameBy};
+ghost use Rattle.cur_paint.specs.Scenes.{AreOf, IsIdle, IsOn, IsPaintable, IsShort, MendsCell, MendsCells, changed, scene};
 
-use crate::screens::{Cells, Screens};
-use cur_looks::{Belief, Ink, Picture, Place, Target, goes_on, print_text, put_cell};
+use crate::screens::Screens;
+use cur_looks::{
+    Belief, Cells, Ink, Picture, Place, Target, goes_on, line_bytes, print_text, put_cell,
+};
 use cur_wires::{Wire, WireFault};
 use ti_conforms::Certificate;
 
 /// How many characters at most go out in one piece after the first one.
-const TEXT: usize = 64;
+const TEXT: usize = 128;
+
+/// A move by a count or to a column has so many bytes at least.
+const FEW: usize = 3;
 
 /// Prints the cell in line `row` and column `col`, which differs, as `ink`.
 fn print_cell<C: Certificate, O: Picture, N: Picture, W: Wire>(
@@ -37,7 +43,7 @@ fn print_cell<C: Certificate, O: Picture, N: Picture, W: Wire>(
     put_cell(&target, belief, wire, Place { row, col }, ink)
 }
 
-/// Prints the `cells`, which all differ, one by one.
+/// Prints those of the `cells` that differ, one by one.
 fn print_each<C: Certificate, O: Picture, N: Picture, W: Wire>(
     screens: &Screens<'_, C, O, N>,
     belief: &mut Belief,
@@ -46,8 +52,6 @@ fn print_each<C: Certificate, O: Picture, N: Picture, W: Wire>(
 ) -> Result<(), WireFault>
     requires scene { IsPaintable (scene C.table O.cells N.cells screens.now) }
     requires cells { IsOn (C.table screens.now.checked.now) cells }
-    requires changed { (k : ℕ) → k < cells.count
-        → differs (O.cells screens.now.old.now) (N.cells screens.now.new.now) cells.row (cells.from + k) ≡ 1 }
     ensures idle { IsIdle result (changed (scene C.table O.cells N.cells screens.now) cells) belief.old belief.new }
     ensures step { MendsCells W.went W.failures wire.old wire.new result (scene C.table O.cells N.cells screens.now)
         cells belief.old belief.new }
@@ -56,41 +60,69 @@ fn print_each<C: Certificate, O: Picture, N: Picture, W: Wire>(
     for n in 0..cells.count {
         let col = cells.from + n;
         let ink = screens.new.at(cells.row, col);
+        if screens.old.shows(cells.row, col, ink) {
+            continue;
+        }
         print_cell(screens, belief, wire, cells.row, col, ink)?;
     }
     Ok(())
 }
 
-/// How many of the first `cells` differ and are printed in the set and the brush of `ink`, which is what their line
-/// has in the column `like`; no more than there is room for in `text`. It gets their characters.
-fn like_cells<O: Picture, N: Picture>(
-    old: &O,
-    new: &N,
+/// How many cells go out in one piece, by which of them are the `same` as before: it ends with one that differs, and no
+/// more than `few` that are the same come between two that differ.
+fn piece_end(same: &[bool], few: usize) -> usize
+    requires few { few ≤ 3 }
+    requires short { length same.now ≤ 128 }
+    ensures within { result ≤ length same.now }
+    ensures few { (old new : ℕ → ℕ → Ink) (row from : ℕ) → IsSameBy old new row from same.now
+        → result ≤ span old new row from result * (few + 1) }
+{
+    let mut end = 0;
+    for k in 0..same.len() {
+        if !same[k] {
+            end = k + 1;
+            continue;
+        }
+        if k >= end + few {
+            return end;
+        }
+    }
+    end
+}
+
+/// How many of the first `cells` go out in one piece: they are printed in the set and the brush of `ink`, which is what
+/// their line has in the column `like`; those that stay as they are between two that differ are no more than a move
+/// over them has bytes. `text` gets their characters.
+fn piece_of<C: Certificate, O: Picture, N: Picture>(
+    screens: &Screens<'_, C, O, N>,
     cells: Cells,
     like: usize,
     ink: Ink,
     text: &mut [u8],
 ) -> usize
-    requires within { cells.from + cells.count ≤ 1000 }
-    requires ink { ink ≡ N.cells new.now cells.row like }
+    requires scene { IsPaintable (scene C.table O.cells N.cells screens.now) }
+    requires cells { IsOn (C.table screens.now.checked.now) cells }
+    requires ink { ink ≡ N.cells screens.now.new.now cells.row like }
+    requires room { length text.old ≤ 128 }
     ensures within { result ≤ cells.count }
     ensures room { result ≤ length text.new }
-    ensures cells { (k : ℕ) → k < result
-        → IsLike (O.cells old.now) (N.cells new.now) cells.row (cells.from + k) ink (slice_index_or text.new k 0) }
+    ensures cells { AreOf (N.cells screens.now.new.now) cells ink result text.new }
+    ensures bytes { IsShort (scene C.table O.cells N.cells screens.now) (record cells { count = result }) }
 {
-    let mut n = 0;
-    while n < cells.count && n < text.len() {
-        let col = cells.from + n;
-        let Some(byte) = new.byte_like(cells.row, col, like) else {
-            return n;
-        };
-        if old.shows(cells.row, col, Ink { byte, ..ink }) {
-            return n;
-        }
-        text[n] = byte;
-        n += 1;
+    if cells.count == 0 {
+        return 0;
     }
-    n
+    let count = screens.new.text_like(cells, like, text);
+    let mut same = [false; TEXT];
+    screens
+        .old
+        .shows_text(Cells { count, ..cells }, ink, text, &mut same);
+    let at = Place {
+        row: cells.row,
+        col: cells.from,
+    };
+    let few = line_bytes(screens.checked, None, at).min(FEW);
+    piece_end(&same[..count], few)
 }
 
 /// Whether `count` is not 0, and the next character is known to go to line `row` and column `col` and to be printed
@@ -103,8 +135,8 @@ fn is_led_on(belief: &Belief, row: usize, col: usize, ink: Ink, count: usize) ->
     count > 0 && goes_on(belief, Place { row, col }, ink)
 }
 
-/// Prints the `cells`, which all differ and have the characters of `text` in the set and the brush of `ink`: in one
-/// piece where the terminal is known to print them so, else one by one.
+/// Prints the `cells`, which have the characters of `text` in the set and the brush of `ink`: in one piece where the
+/// terminal is known to print them so, else one by one those that differ.
 fn print_alike<C: Certificate, O: Picture, N: Picture, W: Wire>(
     screens: &Screens<'_, C, O, N>,
     belief: &mut Belief,
@@ -116,8 +148,8 @@ fn print_alike<C: Certificate, O: Picture, N: Picture, W: Wire>(
     requires scene { IsPaintable (scene C.table O.cells N.cells screens.now) }
     requires cells { IsOn (C.table screens.now.checked.now) cells }
     requires long { cells.count ≤ length text.now }
-    requires alike { (k : ℕ) → k < cells.count → IsLike (O.cells screens.now.old.now) (N.cells screens.now.new.now)
-        cells.row (cells.from + k) ink (slice_index_or text.now k 0) }
+    requires alike { AreOf (N.cells screens.now.new.now) cells ink cells.count text.now }
+    requires bytes { IsShort (scene C.table O.cells N.cells screens.now) cells }
     ensures idle { IsIdle result (changed (scene C.table O.cells N.cells screens.now) cells) belief.old belief.new }
     ensures step { MendsCells W.went W.failures wire.old wire.new result (scene C.table O.cells N.cells screens.now)
         cells belief.old belief.new }
@@ -137,7 +169,7 @@ fn print_alike<C: Certificate, O: Picture, N: Picture, W: Wire>(
     print_each(screens, belief, wire, cells)
 }
 
-/// Prints those of the `cells` that differ: in one piece those that follow one another and are printed alike.
+/// Prints those of the `cells` that differ: in one piece those that are printed alike, with the few between them.
 pub(crate) fn mend_span<C: Certificate, O: Picture, N: Picture, W: Wire>(
     screens: &Screens<'_, C, O, N>,
     belief: &mut Belief,
@@ -165,7 +197,7 @@ pub(crate) fn mend_span<C: Certificate, O: Picture, N: Picture, W: Wire>(
             from: first + 1,
             count: cells.count - done - 1,
         };
-        let more = like_cells(screens.old, screens.new, rest, first, ink, &mut text);
+        let more = piece_of(screens, rest, first, ink, &mut text);
         print_cell(screens, belief, wire, cells.row, first, ink)?;
         let alike = Cells {
             count: more,

@@ -2,7 +2,7 @@
 ghost use Rattle.std.specs.Prelude.{◌≡◌};
 
 use crate::scrolls::{Scroll, line_before};
-use cur_looks::{Ink, Picture};
+use cur_looks::{Cells, Ink, Picture, blank_shown};
 
 /// The screen `old` after `scroll`.
 #[derive(Drop)]
@@ -22,6 +22,15 @@ impl<'a, O: Picture> Picture for Shifted<'a, O> {
         match line_before(self.scroll, row) {
             Some(line) => self.old.at(line, col),
             None => Ink::blank(),
+        }
+    }
+
+    fn shows_text(&self, stretch: Cells, ink: Ink, text: &[u8], shown: &mut [bool]) {
+        match line_before(self.scroll, stretch.row) {
+            Some(row) => self
+                .old
+                .shows_text(Cells { row, ..stretch }, ink, text, shown),
+            None => blank_shown(stretch.count, ink, text, shown),
         }
     }
 }

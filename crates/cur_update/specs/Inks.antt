@@ -1,6 +1,6 @@
 -- How a cell of the virtual screen is printed on a terminal (X/Open Curses Issue 7, "Attributes", "Color Manipulation";
 -- terminfo(5), "Line Graphics").
-use Rattle.std.specs.Prelude.{ℕ, ◌≡◌, ◌==◌, ◌&&◌, nat_lt, not, Bool, false, Option, Some, None, if◌then◌else◌, bit_and, slice_index_or}
+use Rattle.std.specs.Prelude.{ℕ, ◌≡◌, ◌==◌, ◌&&◌, ◌+◌, ◌<◌, nat_lt, not, Bool, false, Option, Some, None, if◌then◌else◌, bit_and, List, slice_index_or}
 use Rattle.vt_term.specs.Color.{Color, color}
 use Rattle.ti_rows.specs.declared.rows.Attributes.{Attributes}
 use Rattle.ti_rows.specs.declared.rows.Row.TheVariants.{Op, Smacs}
@@ -73,12 +73,14 @@ plain_ink byte = record blank_ink { byte = byte }
 abbrev pub content_at : Screen → ℕ → ℕ → Content
 content_at v i j = slice_index_or (line_at v.grid i) j space
 
+-- a cell of the virtual screen as it is printed, in the colours that its pair has there
+abbrev pub printed_cell : Means → (ℕ → Option ℕ) → Screen → Content → Ink
+printed_cell m partners v c = ink_with m partners (colors_at v c.pair) c
+
 -- the virtual screen as it is printed, and blanks around it
 abbrev pub ink_at_with : Means → (ℕ → Option ℕ) → Screen → ℕ → ℕ → Ink
 ink_at_with m partners v i j =
-    if nat_lt i v.rows && nat_lt j v.cols
-    then ink_with m partners (colors_at v (content_at v i j).pair) (content_at v i j)
-    else blank_ink
+    if nat_lt i v.rows && nat_lt j v.cols then printed_cell m partners v (content_at v i j) else blank_ink
 
 abbrev pub ink_at : Table → (ℕ → Option ℕ) → Screen → ℕ → ℕ → Ink
 ink_at t partners v i j = ink_at_with (means_of t) partners v i j
@@ -93,3 +95,8 @@ pub record IsPlainLike (c d : Content) (byte : ℕ) : Type 0 where
   pub attrs : c.attrs ≡ d.attrs
   pub pair : c.pair ≡ d.pair
   pub plain : has_bit c.attrs 128 ≡ false
+
+-- (Serves the code alone.) the first n of a line's cells from a column on are like another one, and have these characters
+abbrev pub ArePlainLike : List Content → ℕ → ℕ → ℕ → List ℕ → Type 0
+ArePlainLike line from like n text = (k : ℕ) → k < n
+    → IsPlainLike (slice_index_or line (from + k) space) (slice_index_or line like space) (slice_index_or text k 0)

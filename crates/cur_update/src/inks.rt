@@ -1,5 +1,5 @@
 //! How cells of the virtual screen are printed.
-ghost use Rattle.std.specs.Prelude.{◌≡◌, ◌<◌, ℕ, Option, IfSome, length, slice_index_or, true};
+ghost use Rattle.std.specs.Prelude.{◌≡◌, ◌+◌, ◌<◌, ◌≤◌, ℕ, Option, IfSome, length, slice_index_or, true};
 ghost use Rattle.cur_drawing.specs.Cells.{space};
 ghost use Rattle.ti_rows.specs.declared.rows.Row.TheVariants.{Smacs, Op};
 ghost use Rattle.ti_conforms.specs.Certified.{has};
@@ -8,7 +8,7 @@ ghost use Rattle.cur_update.specs.Inks as spec;
 ghost use Rattle.cur_update.specs.declared.inks.Means.{Means};
 
 use cur_drawing::{Attrs, Cell};
-use cur_looks::{Attributes, Brush, Ink, Row, is_same};
+use cur_looks::{Attributes, Brush, Cells, Ink, Row, is_same};
 use ti_conforms::{Certificate, Character, shown};
 use vt_term::{Color, color_of as color};
 
@@ -210,4 +210,25 @@ pub(crate) fn plain_byte(cells: &[Cell], at: usize, like: usize) -> Option<u8>
     } else {
         None
     }
+}
+
+/// How many of the cells of `stretch` of a line come before the first one that isn't of the plain set with the attributes
+/// and the pair of the cell in the column `like`; no more than there is room for in `text`, which gets their characters.
+pub(crate) fn plain_text(line: &[Cell], stretch: Cells, like: usize, text: &mut [u8]) -> usize
+    requires like { like < length line.now }
+    requires within { stretch.from + stretch.count ≤ length line.now }
+    ensures within { result ≤ stretch.count }
+    ensures room { result ≤ length text.new }
+    ensures length { length text.new ≡ length text.old }
+    ensures text { spec.ArePlainLike line.now stretch.from like result text.new }
+{
+    let mut n = 0;
+    while n < stretch.count && n < text.len() {
+        match plain_byte(line, stretch.from + n, like) {
+            Some(byte) => text[n] = byte,
+            None => return n,
+        }
+        n += 1;
+    }
+    n
 }

@@ -1,10 +1,13 @@
 //! The virtual screen as a painter sees it.
-ghost use Rattle.std.specs.Prelude.{◌≡◌, ◌<◌, ℕ};
-ghost use Rattle.cur_drawing.specs.Cells.{IsCell};
-ghost use Rattle.cur_update.specs.Inks.{content_at, ink_at_with};
+ghost use Rattle.std.specs.Prelude.{◌≡◌, ◌+◌, ◌<◌, ◌≤◌, ℕ, false, length, slice_index_or};
+ghost use Rattle.cur_drawing.specs.Cells.{IsCell, space};
+ghost use Rattle.cur_looks.specs.Inks.{same};
+ghost use Rattle.cur_looks.specs.Stretches.{AreLike};
+ghost use Rattle.cur_update.specs.Inks.{content_at, ink_at_with, printed_cell};
 
-use crate::inks::{Means, ink_of, is_blank_ink, is_other, plain_byte, shows_ink};
-use cur_looks::{Ink, Picture, byte_as, is_same};
+use crate::inks::{Means, ink_of, is_blank_ink, is_other, plain_byte, plain_text, shows_ink};
+use cur_drawing::Cell;
+use cur_looks::{Cells, Ink, Picture, byte_as, is_same};
 use cur_windows::Virtual;
 use ti_conforms::Certificate;
 
@@ -44,17 +47,7 @@ impl<'a, C: Certificate> Picture for PrintedScreen<'a, C> {
         if row >= rows as usize || col >= cols as usize {
             return is_same(Ink::blank(), ink);
         }
-        let cell = self.screen.row(row as u16)[col];
-        if is_other(cell, ink.byte) {
-            return false;
-        }
-        shows_ink(
-            self.checked,
-            self.means,
-            self.screen.pair(cell.pair()),
-            cell,
-            ink,
-        )
+        self.shows_cell(self.screen.row(row as u16)[col], ink)
     }
 
     fn is_blank(&self, row: usize, col: usize) -> bool {
@@ -84,6 +77,84 @@ impl<'a, C: Certificate> Picture for PrintedScreen<'a, C> {
             }
         }
         byte_as(self.at(row, col), self.at(row, like))
+    }
+
+    fn text_like(&self, stretch: Cells, like: usize, text: &mut [u8]) -> usize {
+        let mut n = self.plain_start(stretch, like, text);
+        while n < stretch.count && n < text.len() {
+            match self.byte_like(stretch.row, stretch.from + n, like) {
+                Some(byte) => text[n] = byte,
+                None => return n,
+            }
+            n += 1;
+        }
+        n
+    }
+
+    fn shows_text(&self, stretch: Cells, ink: Ink, text: &[u8], shown: &mut [bool]) {
+        let (rows, cols) = self.screen.size();
+        let end = stretch.from + stretch.count;
+        if stretch.row < rows as usize && end <= cols as usize {
+            let line = self.screen.row(stretch.row as u16);
+            self.line_shows(&line[stretch.from..end], ink, text, shown);
+            return;
+        }
+        for n in 0..stretch.count {
+            let byte = text[n];
+            shown[n] = self.shows(stretch.row, stretch.from + n, Ink { byte, ..ink });
+        }
+    }
+}
+
+impl<'a, C: Certificate> PrintedScreen<'a, C> {
+    /// How many cells of `stretch` are known by their numbers to come before the first one that isn't printed in the set
+    /// and the brush of the column `like`. `text` gets their characters.
+    fn plain_start(&self, stretch: Cells, like: usize, text: &mut [u8]) -> usize
+        requires within { stretch.from + stretch.count ≤ 1000 }
+        ensures within { result ≤ stretch.count }
+        ensures room { result ≤ length text.new }
+        ensures length { length text.new ≡ length text.old }
+        ensures known { AreLike (ink_at_with self.now.means (C.partners self.now.checked.now) self.now.screen.now)
+            stretch like result text.new }
+    {
+        let (rows, cols) = self.screen.size();
+        let end = stretch.from + stretch.count;
+        if stretch.row >= rows as usize || end > cols as usize || like >= cols as usize {
+            return 0;
+        }
+        plain_text(self.screen.row(stretch.row as u16), stretch, like, text)
+    }
+
+    /// Whether a cell of the screen is printed like `ink`.
+    #[inline(always)]
+    fn shows_cell(&self, cell: Cell, ink: Ink) -> bool
+        ensures { result ≡ same (printed_cell self.now.means (C.partners self.now.checked.now) self.now.screen.now cell)
+            ink }
+    {
+        !is_other(cell, ink.byte)
+            && shows_ink(
+                self.checked,
+                self.means,
+                self.screen.pair(cell.pair()),
+                cell,
+                ink,
+            )
+    }
+
+    /// Notes in `shown`, for each of the cells of the screen in `line`, whether it is printed like `ink` with the
+    /// character that `text` has for it.
+    fn line_shows(&self, line: &[Cell], ink: Ink, text: &[u8], shown: &mut [bool])
+        requires text { length line.now ≤ length text.now }
+        requires room { length line.now ≤ length shown.old }
+        ensures room { length shown.new ≡ length shown.old }
+        ensures found { (k : ℕ) → k < length line.now → slice_index_or shown.new k false
+            ≡ same (printed_cell self.now.means (C.partners self.now.checked.now) self.now.screen.now
+            (slice_index_or line.now k space)) (record ink { byte = slice_index_or text.now k 0 }) }
+    {
+        for n in 0..line.len() {
+            let byte = text[n];
+            shown[n] = self.shows_cell(line[n], Ink { byte, ..ink });
+        }
     }
 }
 

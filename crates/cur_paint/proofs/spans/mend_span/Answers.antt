@@ -33,14 +33,14 @@ loop-done-preserved g c =
     let row = c.args.cells.row in
     let from = c.args.cells.from in
     let done = c.loop-done.done in
-    let n = 1 + c.like_cells-more.result in
+    let n = 1 + c.piece_of-more.result in
     let more : span old new row from done + span old new row (from + done) n ≡ span old new row from (done + n) = span_join old new row from done n in
-    let then = first_then g.W.Wire.went g.W.Wire.failures g.met.W.Wire.lawful c.loop-done.wire c.print_cell.new.wire c.print_alike.new.wire _ (Ok tt) t old new row (from + done) c.like_cells-more.result
+    let then = first_then g.W.Wire.went g.W.Wire.failures g.met.W.Wire.lawful c.loop-done.wire c.print_cell.new.wire c.print_alike.new.wire _ (Ok tt) t old new row (from + done) c.piece_of-more.result
     c.loop-done.belief c.print_cell.new.belief c.print_alike.new.belief c.in_ok-print_cell.ensures.step c.in_ok-print_alike.ensures.step in
     let changed : differs old new row (from + done) ≡ 1 = found_different old new row (from + done) (old row (from + done)) c.at-ink.result refl c.at-ink.ensures.value c.if-shows.ensures.value in
     record {
-      within = omega (arith, c.like_cells-more.ensures.within, c.loop-done-test.true, c.loop-done.invariant.within);
-      idle = λ e. absurd (omega (arith, e, more, changed, span_first old new row (from + done) c.like_cells-more.result));
+      within = omega (arith, c.piece_of-more.ensures.within, c.loop-done-test.true, c.loop-done.invariant.within);
+      idle = λ e. absurd (omega (arith, e, more, changed, span_first old new row (from + done) c.piece_of-more.result));
       step = steps_wider g.W.Wire.went g.W.Wire.failures c.args.wire.now c.print_alike.new.wire _ (IsPiece t) (span old new row from (done + n) * cell_limit t) (span old new row from (done + n) * cell_limit t) (IsLost t)
           (Agrees t (mixed old new row from) b) (Agrees t (mixed old new row (from + done + n)) c.print_alike.new.belief)
           (Agrees t (mixed old new row from) b) (Agrees t (mixed old new row (from + (done + n))) c.print_alike.new.belief) (omega arith) (λ s x. x) (agrees_at t old new row (from + done + n) (from + (done + n)) c.print_alike.new.belief (omega arith))
@@ -111,12 +111,12 @@ returns-in_err-print_alike-clause-step g c =
     let from = c.args.cells.from in
     let done = c.loop-done.done in
     let count = c.args.cells.count in
-    let n = 1 + c.like_cells-more.result in
-    let then = first_then g.W.Wire.went g.W.Wire.failures g.met.W.Wire.lawful c.loop-done.wire c.print_cell.new.wire c.print_alike.new.wire _ _ t old new row (from + done) c.like_cells-more.result
+    let n = 1 + c.piece_of-more.result in
+    let then = first_then g.W.Wire.went g.W.Wire.failures g.met.W.Wire.lawful c.loop-done.wire c.print_cell.new.wire c.print_alike.new.wire _ _ t old new row (from + done) c.piece_of-more.result
     c.loop-done.belief c.print_cell.new.belief c.print_alike.new.belief c.in_ok-print_cell.ensures.step c.in_err-print_alike.ensures.step in
     rw e.1 (steps_fail g.W.Wire.went g.W.Wire.failures c.args.wire.now c.print_alike.new.wire _ _ (IsPiece t) (span old new row from (done + n) * cell_limit t) (span old new row from count * cell_limit t) (IsLost t)
     (Agrees t (mixed old new row from) b) (Agrees t (mixed old new row (from + done + n)) c.print_alike.new.belief) (Agrees t (mixed old new row (from + count)) c.print_alike.new.belief)
-    (times_grows _ _ (cell_limit t) (span_grows old new row from (done + n) count (omega (arith, c.like_cells-more.ensures.within, c.loop-done-test.true, c.loop-done.invariant.within))))
+    (times_grows _ _ (cell_limit t) (span_grows old new row from (done + n) count (omega (arith, c.piece_of-more.ensures.within, c.loop-done-test.true, c.loop-done.invariant.within))))
     (steps_next g.W.Wire.went g.W.Wire.failures g.met.W.Wire.lawful c.args.wire.now c.loop-done.wire c.print_alike.new.wire _ _ (IsPiece t)
     (span old new row from done * cell_limit t) (span old new row (from + done) n * cell_limit t) (span old new row from (done + n) * cell_limit t) (IsLost t)
     (Agrees t (mixed old new row from) b) (Agrees t (mixed old new row (from + done)) c.loop-done.belief) (Agrees t (mixed old new row (from + done + n)) c.print_alike.new.belief)

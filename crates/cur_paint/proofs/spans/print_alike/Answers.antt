@@ -1,38 +1,34 @@
-use Rattle.std.proofs.Common.{◌≡◌, ◌+◌, ◌*◌, ◌<◌, ℕ, List, slice_index_or, Result, Ok, Err, OnOk, ap, refl, arith}
+use Rattle.std.proofs.Common.{◌≡◌, ◌+◌, ◌*◌, ◌≤◌, ℕ, Result, Ok, Err, OnOk, ap, refl, arith}
 use Rattle.cur_looks.specs.Inks.{mixed}
 use Rattle.cur_looks.specs.declared.inks.Ink.{Ink}
-use Rattle.cur_paint.specs.Differ.{span, IsLike}
+use Rattle.cur_paint.specs.Differ.{span}
 use Rattle.ti_conforms.specs.Certified.{IsPiece, IsLost, cell_limit}
 use Rattle.cur_looks.specs.Beliefs.{Agrees}
 use Rattle.cur_wires.proofs.Stops.{steps_wider}
-use Rattle.cur_paint.proofs.Mixtures.{like_alike, span_full, some_each}
+use Rattle.cur_paint.proofs.Mixtures.{like_alike}
 use Rattle.cur_paint.proofs.spans.print_alike.Goals as goal
 
 always : {T E : Type 0} (r : Result T E) (A : Type 0) → A → OnOk r A
 always (Ok x) A a = a
 always (Err e) A a = tt
 
-full : (old new : ℕ → ℕ → Ink) (row from n : ℕ) (ink : Ink) (text : List ℕ)
-    → ((k : ℕ) → k < n → IsLike old new row (from + k) ink (slice_index_or text k 0)) → span old new row from n ≡ n
-full old new row from n ink text h = span_full old new row from n (λ k lt. (h k lt).changed)
+none_short : (d l n : ℕ) → d ≡ 0 → n ≤ d * l → n ≡ 0
+none_short d l n e le = grind arith
 
 pub print_text-requires-clause-alike : goal.print_text-requires-clause-alike
 print_text-requires-clause-alike g c k lt =
     let new = g.N.Picture.cells c.args.screens.now.new.now in
-    like_alike c.args.belief.now (new c.args.cells.row (c.args.cells.from + k)) c.args.ink _ (c.if-is_led_on.ensures.alike refl) (c.requires.alike k lt).cell
+    like_alike c.args.belief.now (new c.args.cells.row (c.args.cells.from + k)) c.args.ink _ (c.if-is_led_on.ensures.alike refl) (c.requires.alike k lt)
 
 pub print_text-requires-clause-bytes : goal.print_text-requires-clause-bytes
-print_text-requires-clause-bytes g c k lt = ap (λ (x : Ink). x.byte) (c.requires.alike k lt).cell
-
-pub print_each-requires-clause-changed : goal.print_each-requires-clause-changed
-print_each-requires-clause-changed g c k lt = (c.requires.alike k lt).changed
+print_text-requires-clause-bytes g c k lt = ap (λ (x : Ink). x.byte) (c.requires.alike k lt)
 
 pub returns-then-is_led_on-clause-idle : goal.returns-then-is_led_on-clause-idle
 returns-then-is_led_on-clause-idle g c =
     let old = g.O.Picture.cells c.args.screens.now.old.now in
     let new = g.N.Picture.cells c.args.screens.now.new.now in
-    let all = full old new c.args.cells.row c.args.cells.from c.args.cells.count c.args.ink c.args.text.now c.requires.alike in
-    always c.print_text.result _ (λ e. absurd (omega (arith, e, all, c.if-is_led_on.ensures.some refl)))
+    let t = g.C.Certificate.table c.args.screens.now.checked.now in
+    always c.print_text.result _ (λ e. absurd (omega (arith, none_short (span old new c.args.cells.row c.args.cells.from c.args.cells.count) (cell_limit t) c.args.cells.count e c.requires.bytes, c.if-is_led_on.ensures.some refl)))
 
 pub returns-then-is_led_on-clause-step : goal.returns-then-is_led_on-clause-step
 returns-then-is_led_on-clause-step g c =
@@ -46,4 +42,4 @@ returns-then-is_led_on-clause-step g c =
     let A = Agrees t (mixed old new row from) b in
     let B = Agrees t (mixed old new row (from + count)) c.print_text.new.belief in
     steps_wider g.W.Wire.went g.W.Wire.failures c.args.wire.now c.print_text.new.wire c.print_text.result (IsPiece t) count (span old new row from count * cell_limit t) (IsLost t) A B A B
-    (some_each t (span old new row from count) count (full old new row from count c.args.ink c.args.text.now c.requires.alike)) (λ s x. x) (λ s x. x) (c.print_text.ensures.step old)
+    c.requires.bytes (λ s x. x) (λ s x. x) (c.print_text.ensures.step old)

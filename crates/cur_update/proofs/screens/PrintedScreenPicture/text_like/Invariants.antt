@@ -1,0 +1,15 @@
+use Rattle.std.proofs.Common.{◌≡◌, ◌≤◌, ◌-◌, length}
+use Rattle.cur_looks.specs.Stretches.{AreLike}
+use Rattle.cur_update.specs.Inks.{ink_at_with}
+use Rattle.cur_update.proofs.screens.PrintedScreenPicture.text_like.Given as goal
+
+abbrev pub invariant-loop-n : goal.invariant-loop-n
+invariant-loop-n g l = record {
+  within : l.n ≤ l.stretch.count;
+  room : l.n ≤ length l.text;
+  length : length l.text ≡ length l.fn.text;
+  known : AreLike (ink_at_with l.self.means (g.C.Certificate.partners l.self.checked.now) l.self.screen.now) l.stretch l.like l.n l.text;
+}
+
+abbrev pub decreases-loop-n : goal.decreases-loop-n
+decreases-loop-n g l = l.stretch.count - l.n
