@@ -297,6 +297,12 @@ fn bottom_from<C: Certificate, O: Picture, N: Picture, D: Changes>(
     if tail >= columns.end || row < solid || !may_differ(changes, row + 1, rows, cols) {
         return Bottom { col: cols, solid };
     }
+    if erasing_line(screens.checked, ErasedPart::Rest).is_none() {
+        return Bottom {
+            col: cols,
+            solid: rows,
+        };
+    }
     let solid = first_solid(screens.new, row + 1, rows, cols);
     let end = Cells {
         row,
@@ -310,6 +316,18 @@ fn bottom_from<C: Certificate, O: Picture, N: Picture, D: Changes>(
         return Bottom { col: cols, solid };
     }
     Bottom { col: tail, solid }
+}
+
+/// The string that erases the rest of the screen, if there is one and the column `col` is one of `cols`.
+fn rest_line<C: Certificate>(checked: &C, col: usize, cols: usize) -> Option<&[u8]>
+    ensures line { IfSome result (λ b. (C.table checked.now).line_of Ed ≡ Some b.now) }
+    ensures col { IfSome result (λ b. col < cols) }
+{
+    if col < cols {
+        erasing_line(checked, ErasedPart::Rest)
+    } else {
+        None
+    }
 }
 
 /// Whether the line `row` is one of the screen's `rows` and may differ.
@@ -335,25 +353,24 @@ pub(crate) fn mend_screen<C: Certificate, O: Picture, N: Picture, D: Changes, W:
         belief.old belief.new }
     ensures mode { OnOk result (belief.new.mode ≡ belief.old.mode) }
 {
-    let rest = erasing_line(screens.checked, ErasedPart::Rest);
     let rows = screens.checked.rows();
     let cols = screens.checked.cols();
     let lines = changes.lines(rows, cols);
-    let mut solid = if rest.is_some() { 0 } else { rows };
+    let mut solid = 0;
     for row in lines.from..lines.end {
         let columns = changes.columns(row, cols);
         let tail = tail_from(screens.new, row, columns, cols);
         let bottom = bottom_from(screens, changes, row, columns, tail, solid);
         solid = bottom.solid;
-        match rest {
-            Some(line) if bottom.col < cols => {
+        match rest_line(screens.checked, bottom.col, cols) {
+            Some(line) => {
                 let before = Columns {
                     from: lesser(tail, columns.from),
                     end: bottom.col,
                 };
                 return mend_bottom(screens, belief, wire, row, before, line);
             }
-            _ => mend_line(screens, belief, wire, row, columns, tail)?,
+            None => mend_line(screens, belief, wire, row, columns, tail)?,
         }
     }
     Ok(())

@@ -6,13 +6,13 @@ ghost use Rattle.cur_paint.specs.declared.updates.Status.TheVariants.{Fresh, Los
 ghost use Rattle.cur_paint.specs.Finish.{Finishes};
 ghost use Rattle.cur_paint.specs.Update.{Refreshes};
 ghost use Rattle.cur_windows.specs.VirtualScreen.{new_screen};
-ghost use Rattle.cur_update.specs.Inks.{ink_at};
+ghost use Rattle.cur_update.specs.Inks.{ink_at, means_of};
 ghost use Rattle.cur_update.specs.Painters.{IsPainter, mode_number, mode_of, set_mode, wanted_of};
 ghost use Rattle.cur_update.specs.Beep.{Rings};
 
 use crate::bells::{Unsent, ring};
 use crate::changes::{Found, Shift};
-use crate::inks::{has_line, means_of};
+use crate::inks::{Means, has_line, means_of};
 use crate::screens::{PrintedScreen, all_cells};
 use cur_drawing::{Marks, Refusal, place_below};
 use cur_looks::{Mode, Place, Row};
@@ -31,6 +31,7 @@ pub struct Painter<C: Certificate> {
     shown: Shown,
     session: Knowledge,
     mode: Mode,
+    means: Means,
 }
 
 /// The screen that was shown last, and room for the columns in which a line may differ from that.
@@ -40,21 +41,26 @@ struct Shown {
     columns: Vec<Columns>,
 }
 
-/// The screen to be shown, and marks outside of which its cells are those of the screen that was shown last.
+/// The screen to be shown, marks outside of which its cells are those of the screen that was shown last, and what the
+/// entry has for printing cells.
 #[derive(Drop)]
 struct Frame<'a> {
     screen: &'a Virtual,
     marks: &'a Marks,
+    means: Means,
 }
 
 impl<C: Certificate> Model for Painter<C> {
+    ghost use Rattle.std.specs.Prelude.{◌≡◌};
+    ghost use Rattle.cur_update.specs.Inks.{means_of};
     ghost use Rattle.cur_update.specs.Painters.{Painted, IsPainter};
 
     ghost Value = { Painted C };
 
     ghost view = { λ p. record { checked = p.checked; shown = p.shown.screen; session = p.session; mode = p.mode } };
 
-    ghost invariant = { λ p. IsPainter (C.table p.checked) p.shown.screen p.mode };
+    ghost invariant = { λ p. IsPainter (C.table p.checked) p.shown.screen p.mode
+        × (p.means ≡ means_of (C.table p.checked)) };
 }
 
 impl<C: Certificate> Painter<C> {
@@ -72,12 +78,14 @@ impl<C: Certificate> Painter<C> {
         let size = Size::new(checked.rows(), checked.cols()).unwrap();
         let screen = Virtual::new(alloc, size)?;
         let columns = no_columns(alloc, checked.rows())?;
+        let means = means_of(&checked);
         Ok(Painter {
             alloc,
             checked,
             shown: Shown { screen, columns },
             session: Knowledge::new(),
             mode: Mode::Normal,
+            means,
         })
     }
 
@@ -121,7 +129,11 @@ impl<C: Certificate> Painter<C> {
         ensures mode { self.new.mode ≡ self.old.mode }
     {
         let wanted = wanted_of(screen, self.mode);
-        let frame = Frame { screen, marks };
+        let frame = Frame {
+            screen,
+            marks,
+            means: self.means,
+        };
         refresh(
             &self.checked,
             &mut self.shown,
@@ -222,6 +234,7 @@ fn refresh<C: Certificate, W: Wire>(
     requires cols { (frame.now.screen.now).cols ≡ (C.table checked.now).cols }
     requires shown { IsPainter (C.table checked.now) shown.old.screen wanted.mode }
     requires wanted { wanted ≡ wanted_of frame.now.screen.now wanted.mode }
+    requires means { frame.now.means ≡ means_of (C.table checked.now) }
     requires marked { AreSame frame.now.marks.now (shown.old.screen).grid (frame.now.screen.now).grid }
     ensures refreshes { Refreshes W.went W.failures wire.old wire.new result (C.table checked.now)
         (ink_at (C.table checked.now) (C.partners checked.now) shown.old.screen)
@@ -249,7 +262,7 @@ fn refresh<C: Certificate, W: Wire>(
         lines,
         columns: &shown.columns,
     };
-    let means = means_of(checked);
+    let means = frame.means;
     let old = PrintedScreen {
         screen: &shown.screen,
         checked,

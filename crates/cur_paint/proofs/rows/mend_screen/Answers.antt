@@ -21,7 +21,6 @@ loop-row-init g c =
     let x = c.lines-lines.result in
     let same = sized_as old new x.from x.end c.rows-rows.result c.cols-cols.result t.rows t.cols (c.lines-lines.ensures.same old new c.requires.changes) c.rows-rows.ensures.value c.cols-cols.ensures.value in
     record {
-      rest = c.erasing_line-rest.ensures.value;
       idle = λ e. refl;
       step = steps_nothing g.W.Wire.went g.W.Wire.failures g.met.W.Wire.lawful c.args.wire.now tt (IsPiece t) (all_differ old new t.cols x.from * cell_limit t) (IsLost t) (Agrees t old b) (Agrees t (mixed old new x.from 0) b)
           (λ s x. x.ready.rest) (above_shown t old new x.from b same.above) (agrees_lost t c.requires.scene.checked old b);
@@ -37,17 +36,16 @@ loop-row-preserved g c =
     let row = c.loop-row.row in
     let more = all_more old new t.cols row in
     record {
-      rest = c.loop-row.invariant.rest;
-      idle = λ e. c.in_ok-mend_line-in_default.ensures.idle (omega (arith, e, more)) ∙ c.loop-row.invariant.idle (omega (arith, e, more));
+      idle = λ e. c.in_ok-mend_line-in-None.ensures.idle (omega (arith, e, more)) ∙ c.loop-row.invariant.idle (omega (arith, e, more));
       step = steps_next g.W.Wire.went g.W.Wire.failures g.met.W.Wire.lawful c.args.wire.now c.loop-row.wire c.mend_line.new.wire _ (Ok tt) (IsPiece t)
           (all_differ old new t.cols row * cell_limit t) (span old new row 0 t.cols * cell_limit t) (all_differ old new t.cols (row + 1) * cell_limit t) (IsLost t)
           (Agrees t old b) (Agrees t (mixed old new row 0) c.loop-row.belief) (Agrees t (mixed old new (row + 1) 0) c.mend_line.new.belief)
-          (sum_limit _ _ _ (cell_limit t) more) c.loop-row.invariant.step c.in_ok-mend_line-in_default.ensures.step;
-      mode = c.in_ok-mend_line-in_default.ensures.mode ∙ c.loop-row.invariant.mode;
+          (sum_limit _ _ _ (cell_limit t) more) c.loop-row.invariant.step c.in_ok-mend_line-in-None.ensures.step;
+      mode = c.in_ok-mend_line-in-None.ensures.mode ∙ c.loop-row.invariant.mode;
     }
 
-pub returns-in_err-mend_line-in_default-clause-step : goal.returns-in_err-mend_line-in_default-clause-step
-returns-in_err-mend_line-in_default-clause-step g c =
+pub returns-in_err-mend_line-in-None-clause-step : goal.returns-in_err-mend_line-in-None-clause-step
+returns-in_err-mend_line-in-None-clause-step g c =
     let e = err_from_is_err_and c.from_residual.result c.from_residual.ensures.1 in
     let t = g.C.Certificate.table c.args.screens.now.checked.now in
     let b = c.args.belief.now in
@@ -60,7 +58,7 @@ returns-in_err-mend_line-in_default-clause-step g c =
     (steps_next g.W.Wire.went g.W.Wire.failures g.met.W.Wire.lawful c.args.wire.now c.loop-row.wire c.mend_line.new.wire _ _ (IsPiece t)
     (all_differ old new t.cols row * cell_limit t) (span old new row 0 t.cols * cell_limit t) (all_differ old new t.cols (row + 1) * cell_limit t) (IsLost t)
     (Agrees t old b) (Agrees t (mixed old new row 0) c.loop-row.belief) (Agrees t (mixed old new (row + 1) 0) c.mend_line.new.belief)
-    (sum_limit _ _ _ (cell_limit t) (all_more old new t.cols row)) c.loop-row.invariant.step c.in_err-mend_line-in_default.ensures.step))
+    (sum_limit _ _ _ (cell_limit t) (all_more old new t.cols row)) c.loop-row.invariant.step c.in_err-mend_line-in-None.ensures.step))
 
 pub returns-clause-idle : goal.returns-clause-idle
 returns-clause-idle g c =
@@ -86,7 +84,7 @@ returns-clause-step g c =
     (times_grows _ _ (cell_limit t) grows) (λ s x. x) (below_shown t old new row c.loop-row.belief (λ i j le li lj. same.below i j (omega (arith, all, le)) li lj)) c.loop-row.invariant.step
 
 pub mend_bottom-requires-clause-line : goal.mend_bottom-requires-clause-line
-mend_bottom-requires-clause-line g c = line_is (g.C.Certificate.table c.args.screens.now.checked.now) Ed _ c.in-Some.line c.in-Some.is c.loop-row.invariant.rest
+mend_bottom-requires-clause-line g c = line_is (g.C.Certificate.table c.args.screens.now.checked.now) Ed _ c.in-Some.line c.in-Some.is c.rest_line.ensures.line
 
 always : {T E : Type 0} (r : Result T E) (A : Type 0) → A → OnOk r A
 always (Ok x) A a = a
@@ -99,7 +97,7 @@ returns-in-Some-clause-idle g c =
     let new = g.N.Picture.cells c.args.screens.now.new.now in
     let row = c.loop-row.row in
     let col = c.bottom_from-bottom.result.col in
-    let lt : col < t.cols = omega (arith, c.if-bottom-cols.true, c.cols-cols.ensures.value) in
+    let lt : col < t.cols = omega (arith, c.in-Some.ensures.col, c.cols-cols.ensures.value) in
     let some = c.bottom_from-bottom.ensures.differs lt in
     let parts = span_parts old new row col t.cols (omega (arith, lt)) in
     let more = all_more old new t.cols row in

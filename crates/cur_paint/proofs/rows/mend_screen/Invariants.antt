@@ -1,5 +1,4 @@
-use Rattle.std.proofs.Common.{◌≡◌, Ok, Some, IfSome}
-use Rattle.ti_rows.specs.declared.rows.Row.TheVariants.{Ed}
+use Rattle.std.proofs.Common.{◌≡◌, Ok}
 use Rattle.cur_wires.specs.declared.wires.WireFault.{WireFault}
 use Rattle.cur_paint.specs.Differ.{all_differ}
 use Rattle.cur_paint.specs.Scenes.{Mends, Scene, mended, scene}
@@ -9,7 +8,6 @@ abbrev pub invariant-loop-row : goal.invariant-loop-row
 invariant-loop-row g l =
     let s : Scene = scene g.C.Certificate.table g.O.Picture.cells g.N.Picture.cells l.screens in
     record {
-      rest : IfSome l.rest (λ b. s.table.line_of Ed ≡ Some b.now);
       idle : all_differ s.old s.new s.table.cols l.row ≡ 0 → l.belief ≡ l.fn.belief;
       step : Mends {T = Unit {0}} {E = WireFault} g.W.Wire.went g.W.Wire.failures l.fn.wire l.wire (Ok tt) s.table
           (all_differ s.old s.new s.table.cols l.row) s.old (mended s l.row 0) l.fn.belief l.belief;

@@ -16,17 +16,17 @@ pub update-requires-clause-drawable : goal.update-requires-clause-drawable
 update-requires-clause-drawable g c =
     let t = g.C.Certificate.table c.args.checked.now in
     let partners = g.C.Certificate.partners c.args.checked.now in
-    subst (CanShow t) (sym (as_table c.means_of-means.result t partners c.args.frame.now.screen.now c.means_of-means.ensures)) (can_show t partners c.args.frame.now.screen.now c.all_cells.ensures)
+    subst (CanShow t) (sym (as_table c.args.frame.now.means t partners c.args.frame.now.screen.now c.requires.means)) (can_show t partners c.args.frame.now.screen.now c.all_cells.ensures)
 
 pub update-requires-clause-changes : goal.update-requires-clause-changes
 update-requires-clause-changes g c =
     let t = g.C.Certificate.table c.args.checked.now in
     let partners = g.C.Certificate.partners c.args.checked.now in
-    let means = c.means_of-means.result in
+    let means = c.args.frame.now.means in
     let shift : IsShift t partners c.args.shown.now.screen c.args.frame.now.screen.now c.same_pairs.result
     (ink_at_with means partners c.args.shown.now.screen) (ink_at_with means partners c.args.frame.now.screen.now) = record {
-      before = as_table c.means_of-means.result t partners c.args.shown.now.screen c.means_of-means.ensures;
-      after = as_table c.means_of-means.result t partners c.args.frame.now.screen.now c.means_of-means.ensures;
+      before = as_table c.args.frame.now.means t partners c.args.shown.now.screen c.requires.means;
+      after = as_table c.args.frame.now.means t partners c.args.frame.now.screen.now c.requires.means;
       pairs = λ e p lt. ap (λ (l : List Colors). slice_index_or l p default_colors) (c.same_pairs.ensures.same e);
     } in
     let old : ℕ → ℕ → Ink = ink_at_with means partners c.args.shown.now.screen in
@@ -42,8 +42,8 @@ pub returns-clause-refreshes : goal.returns-clause-refreshes
 returns-clause-refreshes g c =
     let t = g.C.Certificate.table c.args.checked.now in
     let partners = g.C.Certificate.partners c.args.checked.now in
-    let means = c.means_of-means.result in
+    let means = c.args.frame.now.means in
     let R : (ℕ → ℕ → Ink) → (ℕ → ℕ → Ink) → Type 0 =
     λ old new. Refreshed {W = g.row.W.Denot} g.W.Wire.went c.args.wire.now c.update.new.wire t old new c.args.wanted c.args.session.now c.update.new.session in
-    subst (λ (old : ℕ → ℕ → Ink). R old (ink_at t partners c.args.frame.now.screen.now)) (as_table means t partners c.args.shown.now.screen c.means_of-means.ensures)
-    (subst (R (ink_at_with means partners c.args.shown.now.screen)) (as_table means t partners c.args.frame.now.screen.now c.means_of-means.ensures) c.in_ok-update.ensures.refreshes)
+    subst (λ (old : ℕ → ℕ → Ink). R old (ink_at t partners c.args.frame.now.screen.now)) (as_table means t partners c.args.shown.now.screen c.requires.means)
+    (subst (R (ink_at_with means partners c.args.shown.now.screen)) (as_table means t partners c.args.frame.now.screen.now c.requires.means) c.in_ok-update.ensures.refreshes)
