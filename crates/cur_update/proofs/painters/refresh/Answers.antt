@@ -1,11 +1,12 @@
 use Rattle.std.proofs.Common.{◌≡◌, ◌∙◌, ℕ, List, ◌++◌, ap, length, slice_index_or, subst, sym}
 use Rattle.std.proofs.Math.ListN.{drop, take}
 use Rattle.std.proofs.Math.Seq.{take-append_seam}
+use Rattle.std.proofs.lemmas.Result.{err_from_is_err_and}
 use Rattle.cur_looks.specs.Inks.{CanShow}
 use Rattle.cur_looks.specs.declared.inks.Ink.{Ink}
 use Rattle.cur_windows.specs.VirtualScreen.{default_colors}
 use Rattle.cur_windows.specs.declared.virtual_screen.Colors.{Colors}
-use Rattle.cur_paint.specs.Update.{Refreshed}
+use Rattle.cur_paint.specs.Update.{CutShort, Refreshed}
 use Rattle.cur_update.specs.Inks.{ink_at, ink_at_with}
 use Rattle.cur_paint.specs.declared.changes.Columns.{Columns}
 use Rattle.cur_update.specs.Shift.{AreFound, IsShift}
@@ -47,3 +48,14 @@ returns-clause-refreshes g c =
     λ old new. Refreshed {W = g.row.W.Denot} g.W.Wire.went c.args.wire.now c.update.new.wire t old new c.args.wanted c.args.session.now c.update.new.session in
     subst (λ (old : ℕ → ℕ → Ink). R old (ink_at t partners c.args.frame.now.screen.now)) (as_table means t partners c.args.shown.now.screen c.requires.means)
     (subst (R (ink_at_with means partners c.args.shown.now.screen)) (as_table means t partners c.args.frame.now.screen.now c.requires.means) c.in_ok-update.ensures.refreshes)
+
+pub returns-in_err-update-clause-refreshes : goal.returns-in_err-update-clause-refreshes
+returns-in_err-update-clause-refreshes g c =
+    let e = err_from_is_err_and c.from_residual.result c.from_residual.ensures.1 in
+    let t = g.C.Certificate.table c.args.checked.now in
+    let partners = g.C.Certificate.partners c.args.checked.now in
+    let means = c.args.frame.now.means in
+    let R : (ℕ → ℕ → Ink) → (ℕ → ℕ → Ink) → Type 0 =
+    λ old new. CutShort {W = g.row.W.Denot} g.W.Wire.went g.W.Wire.failures c.args.wire.now c.update.new.wire t old new c.args.wanted c.args.session.now c.update.new.session in
+    rw e.1 (subst (λ (old : ℕ → ℕ → Ink). R old (ink_at t partners c.args.frame.now.screen.now)) (as_table means t partners c.args.shown.now.screen c.requires.means)
+    (subst (R (ink_at_with means partners c.args.shown.now.screen)) (as_table means t partners c.args.frame.now.screen.now c.requires.means) c.in_err-update.ensures.refreshes))
