@@ -10,14 +10,14 @@ ghost use Rattle.cur_looks.specs.Steps.{IsGoal};
 
 use crate::beliefs::{Belief, Place};
 use crate::inks::{Ink, Picture, same_brush};
-use crate::moves::{shortest, straight};
+use crate::moves::shortest;
 use crate::steps::is_active;
 use crate::targets::Target;
 use ti_conforms::Certificate;
 use ti_rows::Row;
 
-/// So few columns ahead, no move by a count or to a column has fewer bytes: each has three at least.
-const FEW: usize = 3;
+/// A way with a stop has so many bytes at least.
+const LEAST: usize = 2;
 
 /// The last part of a way.
 #[derive(Clone, Copy)]
@@ -221,30 +221,6 @@ fn same_column<C: Certificate>(checked: &C, from: Place, row: usize) -> Stop
     }
 }
 
-/// The way over the cells between the cursor and `at`, if these are so few that no line leads there in fewer bytes, and
-/// are printed like this now.
-fn over_few<C: Certificate, N: Picture>(
-    target: &Target<'_, C, N>,
-    belief: &Belief,
-    at: Place,
-) -> Option<Route>
-    requires goal { IsGoal (C.table target.now.checked.now) at }
-    ensures route { IfSome result (IsRoute (C.table target.now.checked.now) belief.now
-        (N.cells target.now.shown.now) at.row at.col) }
-{
-    let from = belief.place;
-    if from.row != at.row || at.col <= from.col || at.col - from.col > FEW {
-        return None;
-    }
-    let cup = straight(target.checked, at.row as u16, at.col as u16);
-    let start = gap_start(target, belief, at, cup.bytes)?;
-    Some(Route {
-        stop: None,
-        leg: Leg::Over(start),
-        bytes: at.col.saturating_sub(start),
-    })
-}
-
 /// A way of few bytes to `at`: without a stop, or with one in the corner, at the start of the cursor's line, or in the
 /// line of `at`. A stop from which `cup` alone leads on is left out.
 pub(crate) fn route_to<C: Certificate, N: Picture>(
@@ -256,12 +232,9 @@ pub(crate) fn route_to<C: Certificate, N: Picture>(
     ensures route { IsRoute (C.table target.now.checked.now) belief.now (N.cells target.now.shown.now)
         at.row at.col result }
 {
-    if let Some(route) = over_few(target, belief, at) {
-        return route;
-    }
     let best = direct(target, belief, at);
-    let best = by_corner(target, belief, at, best);
     let best = by_line_start(target, belief, at, best);
+    let best = by_corner(target, belief, at, best);
     by_column(target, belief, at, best)
 }
 
@@ -278,7 +251,7 @@ fn by_corner<C: Certificate, N: Picture>(
     ensures route { IsRoute (C.table target.now.checked.now) belief.now (N.cells target.now.shown.now)
         at.row at.col result }
 {
-    if at.row > 0 && at.col > 0 {
+    if at.row > 0 && at.col > 0 || best.bytes <= LEAST {
         return best;
     }
     with_stop(target, belief, at, best, corner())
@@ -299,7 +272,7 @@ fn by_line_start<C: Certificate, N: Picture>(
         at.row at.col result }
 {
     let from = belief.place;
-    if from.col == 0 || from.row != at.row && at.col > 0 {
+    if from.col == 0 || from.row != at.row && at.col > 0 || best.bytes <= LEAST {
         return best;
     }
     with_stop(target, belief, at, best, line_start(from))
@@ -319,7 +292,7 @@ fn by_column<C: Certificate, N: Picture>(
         at.row at.col result }
 {
     let from = belief.place;
-    if from.row == at.row || from.col >= target.checked.cols() {
+    if from.row == at.row || from.col >= target.checked.cols() || best.bytes <= LEAST {
         return best;
     }
     let stop = same_column(target.checked, from, at.row);

@@ -193,6 +193,16 @@ pub(crate) fn is_other(cell: Cell, byte: u8) -> bool
     !cell.attrs().has(Attrs::ALTCHARSET) && cell.byte() != byte
 }
 
+/// Whether a cell of the plain set has the attributes and the pair of another one.
+#[inline(always)]
+fn is_plain_like(cell: Cell, other: Cell) -> bool
+    ensures { result ≡ true → spec.IsPlainLike cell other cell.byte }
+{
+    cell.attrs() == other.attrs()
+        && cell.pair() == other.pair()
+        && !other.attrs().has(Attrs::ALTCHARSET)
+}
+
 /// The character of a cell of the plain set, if another cell has its attributes and its pair.
 pub(crate) fn plain_byte(cells: &[Cell], at: usize, like: usize) -> Option<u8>
     requires at { at < length cells.now }
@@ -201,15 +211,7 @@ pub(crate) fn plain_byte(cells: &[Cell], at: usize, like: usize) -> Option<u8>
         (spec.IsPlainLike (slice_index_or cells.now at space) (slice_index_or cells.now like space)) }
 {
     let cell = cells[at];
-    let other = cells[like];
-    if cell.attrs().has(Attrs::ALTCHARSET) || cell.pair() != other.pair() {
-        return None;
-    }
-    if cell.attrs() == other.attrs() {
-        Some(cell.byte())
-    } else {
-        None
-    }
+    is_plain_like(cell, cells[like]).then_some(cell.byte())
 }
 
 /// How many of the cells of `stretch` of a line come before the first one that isn't of the plain set with the attributes
@@ -222,12 +224,14 @@ pub(crate) fn plain_text(line: &[Cell], stretch: Cells, like: usize, text: &mut 
     ensures length { length text.new ≡ length text.old }
     ensures text { spec.ArePlainLike line.now stretch.from like result text.new }
 {
+    let other = line[like];
     let mut n = 0;
     while n < stretch.count && n < text.len() {
-        match plain_byte(line, stretch.from + n, like) {
-            Some(byte) => text[n] = byte,
-            None => return n,
+        let cell = line[stretch.from + n];
+        if !is_plain_like(cell, other) {
+            return n;
         }
+        text[n] = cell.byte();
         n += 1;
     }
     n

@@ -47,7 +47,7 @@ impl<'a, C: Certificate> Picture for PrintedScreen<'a, C> {
         if row >= rows as usize || col >= cols as usize {
             return is_same(Ink::blank(), ink);
         }
-        self.shows_cell(self.screen.row(row as u16)[col], ink)
+        self.shows_cell(self.screen.row(row as u16)[col], ink.byte, ink)
     }
 
     fn is_blank(&self, row: usize, col: usize) -> bool {
@@ -125,19 +125,20 @@ impl<'a, C: Certificate> PrintedScreen<'a, C> {
         plain_text(self.screen.row(stretch.row as u16), stretch, like, text)
     }
 
-    /// Whether a cell of the screen is printed like `ink`.
+    /// Whether a cell of the screen is printed like `ink` with the character `byte`.
     #[inline(always)]
-    fn shows_cell(&self, cell: Cell, ink: Ink) -> bool
+    fn shows_cell(&self, cell: Cell, byte: u8, ink: Ink) -> bool
         ensures { result ≡ same (printed_cell self.now.means (C.partners self.now.checked.now) self.now.screen.now cell)
-            ink }
+            (record ink { byte = byte }) }
     {
-        !is_other(cell, ink.byte)
+        // no ink is made for a cell with another character
+        !is_other(cell, byte)
             && shows_ink(
                 self.checked,
                 self.means,
                 self.screen.pair(cell.pair()),
                 cell,
-                ink,
+                Ink { byte, ..ink },
             )
     }
 
@@ -152,8 +153,7 @@ impl<'a, C: Certificate> PrintedScreen<'a, C> {
             (slice_index_or line.now k space)) (record ink { byte = slice_index_or text.now k 0 }) }
     {
         for n in 0..line.len() {
-            let byte = text[n];
-            shown[n] = self.shows_cell(line[n], Ink { byte, ..ink });
+            shown[n] = self.shows_cell(line[n], text[n], ink);
         }
     }
 }
