@@ -1,8 +1,8 @@
 //! The calls that change windows, or delete one.
 ghost use Rattle.std.specs.Prelude.{◌≡◌};
-ghost use Rattle.cur_drawing.specs.Marks.{Keeps};
 ghost use Rattle.cur_windows.specs.Copies.{common_part};
 ghost use Rattle.cur_windows.specs.Desks as desks;
+ghost use Rattle.cur_windows.specs.Touched.{KeepsShown};
 ghost use Rattle.cur_play.specs.Groups.{Does};
 ghost use Rattle.cur_play.specs.Windows as spec;
 
@@ -10,17 +10,17 @@ use cur_calls::{
     Attrs, AttrsCall, Call, CellCall, FlagCall, LayCall, LineCall, NumberCall, NumbersCall,
     PlainCall, Put,
 };
-use cur_windows::{Desk, Marks, Refusal};
+use cur_windows::{Desk, Refusal, Touched};
 
-/// Changes windows; `None` for a call that doesn't, or that does more. Where window 0's grid may have changed it is
-/// marked as well.
+/// Changes windows; `None` for a call that doesn't, or that does more. Where the grid that is remembered may have
+/// changed, or where it lies, it is marked as well.
 pub(crate) fn change(
     desk: &mut Desk,
-    touched: &mut Marks,
+    touched: &mut Touched,
     call: &Call<'_>,
 ) -> Option<Result<(), Refusal>>
     ensures does { Does desk.old desk.new result (spec.changing desk.old call.now) }
-    ensures touched { Keeps touched.old (desks.grid_at desk.old 0) touched.new (desks.grid_at desk.new 0) }
+    ensures touched { KeepsShown touched.old desk.old touched.new desk.new }
 {
     match call {
         Call::Plain { call, window } => {
@@ -37,7 +37,7 @@ pub(crate) fn change(
             window,
             first,
             second,
-        } => Some(numbers_call(desk, *call, *window, *first, *second)),
+        } => Some(numbers_call(desk, touched, *call, *window, *first, *second)),
         Call::Flag { call, window, on } => Some(flag(desk, *call, *window, *on)),
         Call::Attributes {
             call,
@@ -117,13 +117,13 @@ fn plain(desk: &mut Desk, call: PlainCall, window: usize) -> Result<(), Refusal>
 
 fn number_call(
     desk: &mut Desk,
-    touched: &mut Marks,
+    touched: &mut Touched,
     call: NumberCall,
     window: usize,
     number: i32,
 ) -> Result<(), Refusal>
     ensures step { desks.step desk.new result ≡ spec.number_step call desk.old window number }
-    ensures touched { Keeps touched.old (desks.grid_at desk.old 0) touched.new (desks.grid_at desk.new 0) }
+    ensures touched { KeepsShown touched.old desk.old touched.new desk.new }
 {
     match call {
         NumberCall::Scroll => {
@@ -136,15 +136,20 @@ fn number_call(
 
 fn numbers_call(
     desk: &mut Desk,
+    touched: &mut Touched,
     call: NumbersCall,
     window: usize,
     first: i32,
     second: i32,
 ) -> Result<(), Refusal>
-    ensures { desks.step desk.new result ≡ spec.numbers_step call desk.old window first second }
+    ensures step { desks.step desk.new result ≡ spec.numbers_step call desk.old window first second }
+    ensures touched { KeepsShown touched.old desk.old touched.new desk.new }
 {
     match call {
-        NumbersCall::Mvwin => desk.mvwin(window, first, second),
+        NumbersCall::Mvwin => {
+            touched.mark_all();
+            desk.mvwin(window, first, second)
+        }
         NumbersCall::Move => desk.move_to(window, first, second),
         NumbersCall::Setscrreg => desk.setscrreg(window, first, second),
         NumbersCall::Touchline => desk.touchline(window, first, second),
@@ -174,13 +179,13 @@ fn attributes(desk: &mut Desk, call: AttrsCall, window: usize, attrs: Attrs) -> 
 
 fn cell(
     desk: &mut Desk,
-    touched: &mut Marks,
+    touched: &mut Touched,
     call: CellCall,
     window: usize,
     put: Put,
 ) -> Result<(), Refusal>
     ensures step { desks.step desk.new result ≡ spec.cell_step call desk.old window put }
-    ensures touched { Keeps touched.old (desks.grid_at desk.old 0) touched.new (desks.grid_at desk.new 0) }
+    ensures touched { KeepsShown touched.old desk.old touched.new desk.new }
 {
     match call {
         CellCall::Addch => desk.addch_marked(window, put, touched),

@@ -1,16 +1,17 @@
 //! Copying a window to the virtual screen.
 ghost use Rattle.std.specs.Prelude.{◌≡◌, ◌<◌, ◌≤◌, ◌+◌, IfErr, IfOk, IfSome, Ok, Some, None, if◌then◌else◌, false};
 ghost use Rattle.cur_drawing.specs.Calls.{IsCanvas, place};
-ghost use Rattle.cur_drawing.specs.Marks.{AreSame, Keeps, MarksOnly};
+ghost use Rattle.cur_drawing.specs.Marks.{Keeps, MarksOnly};
 ghost use Rattle.cur_drawing.specs.Windows.{IsWindow};
 ghost use Rattle.cur_windows.specs.Desks as spec;
 ghost use Rattle.cur_windows.specs.Creations as make;
-ghost use Rattle.cur_windows.specs.Touched.{MarksCopied};
+ghost use Rattle.cur_windows.specs.Touched.{LiesWithin, MarksCopied, ShowsBut};
 ghost use Rattle.cur_windows.specs.declared.slots.Slot.{Slot};
 ghost use Rattle.cur_windows.specs.VirtualScreen.{refresh, noutrefresh, shown, area_on_screen, cursor_on_screen};
 
 use crate::desks::Desk;
-use crate::slots::Slot;
+use crate::slots::{Origin, Slot};
+use crate::touched::Touched;
 use crate::virtual_screen::{Copy, Virtual};
 use cur_drawing::{Cell, Marks, Refusal};
 use grids::{Area, Grid, Place};
@@ -24,26 +25,27 @@ impl Desk {
         requires cols { (screen.old).cols ≡ (self.old).cols }
         ensures { refresh self.new screen.new result ≡ noutrefresh self.old screen.old id }
     {
-        let mut touched = Marks::unknown(self.alloc);
+        let mut touched = Touched::unknown(self.alloc);
         let mut marks = Marks::unknown(self.alloc);
         self.noutrefresh_marked(id, screen, &mut touched, &mut marks)
     }
 
-    /// As `noutrefresh`. Outside the marks `touched` the screen has the cells of window 0's grid, and it has them
-    /// outside these marks afterwards; what isn't marked of that grid isn't looked at. A window of that grid adds none
-    /// to them, and one as large as the screen takes all off. Where the screen's cells have changed, `marks` are added.
+    /// As `noutrefresh`. Outside the marks `touched` the screen has the cells of one grid, and what isn't marked of that
+    /// grid isn't looked at; afterwards it has those of the window's grid, which is remembered instead. A window of the
+    /// same grid adds no mark, one of another grid marks all, and a window that is all of its grid takes all marks off.
+    /// Where the screen's cells have changed, `marks` are added.
     pub fn noutrefresh_marked(
         &mut self,
         id: usize,
         screen: &mut Virtual,
-        touched: &mut Marks,
+        touched: &mut Touched,
         marks: &mut Marks,
     ) -> Result<(), Refusal>
         requires rows { (screen.old).rows ≡ (self.old).rows }
         requires cols { (screen.old).cols ≡ (self.old).cols }
-        requires touched { AreSame touched.old (screen.old).grid (spec.grid_at self.old 0) }
+        requires touched { ShowsBut touched.old self.old (screen.old).grid }
         ensures step { refresh self.new screen.new result ≡ noutrefresh self.old screen.old id }
-        ensures touched { AreSame touched.new (screen.new).grid (spec.grid_at self.new 0) }
+        ensures touched { ShowsBut touched.new self.new (screen.new).grid }
         ensures copied { IfOk result (λ _. (s : Slot) → spec.slot_of self.old id ≡ Ok s
             → MarksCopied touched.old touched.new self.old s) }
         ensures refused { IfErr result (λ _. touched.new ≡ touched.old) }
@@ -60,17 +62,19 @@ impl Desk {
     }
 
     // Copies the whole window to the screen, with its cursor and its `clearok`, and the desk's hint.
-    fn copy_slot(&self, slot: &Slot, screen: &mut Virtual, touched: &mut Marks, marks: &mut Marks)
+    fn copy_slot(&self, slot: &Slot, screen: &mut Virtual, touched: &mut Touched, marks: &mut Marks)
         requires canvas { IsCanvas (spec.grid_at self.now (slot.now).root) (slot.now).window }
         requires root { (slot.now).root < 64 }
+        requires whole { (slot.now).parent ≡ None
+            → spec.IsWhole (slot.now).window.area (spec.grid_at self.now (slot.now).root) }
         requires window { (spec.origin_at self.now (slot.now).root).pad ≡ false }
         requires rows { (screen.old).rows ≡ (self.now).rows }
         requires cols { (screen.old).cols ≡ (self.now).cols }
-        requires touched { AreSame touched.old (screen.old).grid (spec.grid_at self.now 0) }
+        requires touched { ShowsBut touched.old self.now (screen.old).grid }
         ensures value { screen.new ≡ shown (area_on_screen self.now slot.now) (spec.grid_at self.now (slot.now).root)
             (place (slot.now).window.area.top (slot.now).window.area.left) (cursor_on_screen self.now slot.now)
             (slot.now).window.clears screen.old }
-        ensures touched { AreSame touched.new (screen.new).grid (spec.grid_at self.now 0) }
+        ensures touched { ShowsBut touched.new self.now (screen.new).grid }
         ensures copied { MarksCopied touched.old touched.new self.now slot.now }
         ensures marked { Keeps marks.old (screen.old).grid marks.new (screen.new).grid }
         ensures only { MarksOnly marks.old (screen.old).grid marks.new (screen.new).grid }
@@ -88,16 +92,11 @@ impl Desk {
             clears: slot.window.clears,
             root: slot.root,
         };
+        touched.turn_to(slot.root);
         let grid = self.grid_of(slot);
-        if slot.root != 0 || area.top != from.row || area.left != from.col {
-            let unknown = Marks::unknown(self.alloc);
-            screen.show(copy, grid, self.scrolled, &unknown, marks);
-            touched.mark_all();
-            return;
-        }
-        screen.show(copy, grid, self.scrolled, touched, marks);
-        if area.rows == rows && area.cols == cols {
-            touched.clear();
+        screen.show(copy, grid, self.scrolled, &touched.marks, marks);
+        if slot.parent.is_none() || (area.rows == rows && area.cols == cols) {
+            touched.marks.clear();
         }
     }
 
@@ -107,6 +106,16 @@ impl Desk {
         ensures { result.now ≡ spec.grid_at self.now (slot.now).root }
     {
         &self.grids[slot.root as usize]
+    }
+
+    // Where the grid lies that a window lies in.
+    pub(crate) fn origin_of(&self, slot: &Slot) -> Origin
+        requires canvas { IsCanvas (spec.grid_at self.now (slot.now).root) (slot.now).window }
+        requires root { (slot.now).root < 64 }
+        ensures value { result ≡ spec.origin_at self.now (slot.now).root }
+        ensures within { result.pad ≡ false → LiesWithin result (slot.now).window.area }
+    {
+        self.origins[slot.root as usize]
     }
 
     // The window's rectangle on the screen.

@@ -1,11 +1,12 @@
-use Rattle.std.proofs.Common.{arith, inr}
+use Rattle.std.proofs.Common.{arith, inr, refl}
 use Rattle.cur_windows.proofs.touched.touch.Goals as goal
 use Rattle.cur_windows.proofs.touched.touch.Goals.{else-window-via-then-window+else-window-2, else-window-via-else-window}
 
 pub returns-else-window : goal.returns-else-window
 returns-else-window c = record {
+  root = refl;
   kept = c.mark_lines.ensures.kept;
-  lines = λ root. c.mark_lines.ensures.lines;
-  all = λ root may i j u. elim c.else-window.branch [ else-window-via-then-window+else-window-2 w ↦ w.if-window-2.false may.1 | else-window-via-else-window w ↦ absurd (let off = w.if-window.false in let on = may.0 in cc) ];
-  only = λ i j u off. c.mark_lines.ensures.only i j u (λ gone. off (record { root = omega arith; line = inr gone }));
+  lines = λ root lies. c.mark_lines.ensures.lines;
+  all = λ root lies may i j u. elim c.else-window.branch [ else-window-via-then-window+else-window-2 w ↦ w.if-window-2.false may.1 | else-window-via-else-window w ↦ absurd (let off = w.if-window.false in let on = may.0 in cc) ];
+  only = λ i j u off. c.mark_lines.ensures.only i j u (λ gone. off (record { root = omega arith; lies = search; line = inr gone }));
 }

@@ -1,4 +1,4 @@
-use Rattle.std.proofs.Common.{inl, inr, refl}
+use Rattle.std.proofs.Common.{[], inl, inr, refl}
 use Rattle.cur_drawing.specs.Calls as calls
 use Rattle.cur_drawing.proofs.RefusalFacts as refusing
 use Rattle.cur_drawing.proofs.Stability as staying
@@ -12,12 +12,12 @@ invariant_of-self c = closes_canvas _ _ c.args.id _ _ _ _ c.self.view_is c.self.
 
 pub returns-clause-touched : goal.returns-clause-touched
 returns-clause-touched c = elim c.touch_unless_refused.ensures.touched [
-  | inl is ↦ touched_by _ _ c.args.id _ _ _ _ _ _ (calls.added c.args.put) c.add-answer.result (writing.added c.args.put) (staying.added c.args.put) c.self.view_is c.self.invariant c.in_ok-slot.ensures.placed c.index_mut-grid.ensures.value c.add-answer.ensures.value is
-  | inr left ↦ left_by _ _ c.args.id _ _ _ _ _ _ (calls.added c.args.put) c.add-answer.result (refusing.added c.args.put) c.self.view_is c.self.invariant c.in_ok-slot.ensures.placed c.index_mut-grid.ensures.value c.add-answer.ensures.value left
+  | inl is ↦ touched_by _ _ [] c.args.id _ _ _ _ _ _ _ (calls.added c.args.put) c.add-answer.result (writing.added c.args.put) (staying.added c.args.put) c.self.view_is c.self.invariant c.in_ok-slot.ensures.placed c.index_mut-grid.ensures.value c.add-answer.ensures.value c.add-answer.ensures.kept c.origin_of-origin.ensures.value is
+  | inr left ↦ left_by _ _ [] c.args.id _ _ _ _ _ _ (calls.added c.args.put) c.add-answer.result (refusing.added c.args.put) c.self.view_is c.self.invariant c.in_ok-slot.ensures.placed c.index_mut-grid.ensures.value c.add-answer.ensures.value left
 ]
 
 pub returns-clause-only : goal.returns-clause-only
 returns-clause-only c = elim c.touch_unless_refused.ensures.touched [
-  | inl is ↦ written_by _ _ _ c.args.id _ _ _ _ c.self.view_is c.self.invariant c.in_ok-slot.ensures.there c.in_ok-slot.ensures.value refl is
+  | inl is ↦ written_by _ _ _ c.args.id _ _ _ _ _ c.self.view_is c.self.invariant c.in_ok-slot.ensures.there c.in_ok-slot.ensures.value refl c.origin_of-origin.ensures.value is
   | inr left ↦ left_unmarked _ _ c.args.id _ _ c.add-answer.result left
 ]
