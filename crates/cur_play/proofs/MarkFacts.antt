@@ -1,40 +1,26 @@
 -- The marks of a session, call by call.
-use Rattle.std.proofs.Common.{◌≡◌, ◌==◌, ℕ, Bool, true, false, Option, Some, None, Result, ℤ, if◌then◌else◌, refl, sym, ap, ◌∙◌, ◌+◌, arith, subst}
+use Rattle.std.proofs.Common.{◌≡◌, ◌==◌, ℕ, Bool, true, false, Option, Some, None, Result, ℤ, if◌then◌else◌, refl, sym, ap, ◌∙◌, subst}
 use Rattle.cur_drawing.specs.declared.refusals.Refusal.{Refusal}
 use Rattle.cur_drawing.specs.Cells.{pair_count}
-use Rattle.cur_drawing.specs.Grids.{Grid, blank, cell_at}
+use Rattle.cur_drawing.specs.Grids.{Grid, cell_at}
 use Rattle.cur_drawing.specs.Marks.{AreSame, Keeps, Marking}
 use Rattle.cur_drawing.specs.Windows.{place_below}
-use Rattle.cur_windows.specs.declared.touched.Touched.{Touched}
-use Rattle.cur_windows.specs.Desks.{State, grid_at, new_desk, on_screen, origin_at}
-use Rattle.cur_windows.specs.Touched.{IsShownBut, KeepsShown, ShowsBut}
-use Rattle.cur_windows.specs.VirtualScreen.{Screen, init_pair, initialized, new_screen}
-use Rattle.cur_windows.proofs.TouchedFacts.{shows_but_all}
+use Rattle.cur_windows.specs.Desks.{State}
+use Rattle.cur_windows.specs.Touched.{AreFull, KeepsShown, Markings, ShowsBut}
+use Rattle.cur_windows.specs.VirtualScreen.{Screen, init_pair, initialized}
+use Rattle.cur_windows.proofs.TouchedFacts.{shows_full}
 
 -- screens of equal cells
 pub same_cells : (m : Marking) (v w x y : Screen) → v ≡ x → y ≡ w → AreSame m x.grid w.grid → AreSame m v.grid y.grid
 same_cells m v w x y e f same i j u =
     ap (λ (s : Screen). cell_at s.grid i j) e ∙ same i j u ∙ sym (ap (λ (s : Screen). cell_at s.grid i j) f)
 
-pub shown_on : (t : Touched) (d : State) (v w : Grid) → w ≡ v → ShowsBut t d v → ShowsBut t d w
+pub shown_on : (t : Markings) (d : State) (v w : Grid) → w ≡ v → ShowsBut t d v → ShowsBut t d w
 shown_on t d v w e shown = subst (λ (x : Grid). ShowsBut t d x) (sym e) shown
 
--- the first screen shows window 0's grid
-pub first_shown : (t : Touched) (d : State) (v : Screen) (rows cols : ℕ) → t.root ≡ 0 → d ≡ new_desk rows cols → v ≡ new_screen rows cols → ShowsBut t d v.grid
-first_shown t d v rows cols root desk screen =
-    let cells : Grid = blank rows cols in
-    let shown : (lies : false ≡ false) → IsShownBut t.marks (on_screen 0 0 false) cells cells = λ lies i j row col off.
-    ap (λ (n : ℕ). cell_at cells n (0 + j)) (let e : 0 + i ≡ i = omega arith in e) ∙ ap (λ (n : ℕ). cell_at cells i n) (let e : 0 + j ≡ j = omega arith in e) in
-    subst (λ (x : State). ShowsBut t x v.grid) (sym desk)
-    (subst (λ (x : Screen). ShowsBut t (new_desk rows cols) x.grid) (sym screen)
-    (subst (λ (k : ℕ). (origin_at (new_desk rows cols) k).pad ≡ false → IsShownBut t.marks (origin_at (new_desk rows cols) k) (grid_at (new_desk rows cols) k) cells) (sym root) shown))
-
--- a grid of which all is marked
-pub all_marked : (t u : Touched) (d : State) (v : Grid) → u ≡ record t { marks = record t.marks { all = true } } → ShowsBut u d v
-all_marked t u d v e = shows_but_all u d v (ap (λ (x : Touched). x.marks.all) e)
-
-pub keeps_all_marked : (t u : Touched) (d e : State) → u ≡ record t { marks = record t.marks { all = true } } → KeepsShown t d u e
-keeps_all_marked t u d e is v shown = all_marked t u e v is
+-- all of each grid is marked
+pub keeps_full : (t u : Markings) (d e : State) → AreFull u → KeepsShown t d u e
+keeps_full t u d e full v shown = shows_full u e v full
 
 -- a screen that was shown
 pub same_shown : (m : Marking) (v w x : Screen) → v ≡ x → w.grid ≡ x.grid → AreSame m v.grid w.grid

@@ -12,21 +12,18 @@ use cur_calls::{
 };
 use cur_windows::{Desk, Refusal, Touched};
 
-/// Changes windows; `None` for a call that doesn't, or that does more. Where the grid that is remembered may have
-/// changed, or where it lies, it is marked as well.
+/// Changes windows; `None` for a call that doesn't, or that does more. Where a grid may have changed, or where it lies, it
+/// is marked as well.
 pub(crate) fn change(
     desk: &mut Desk,
     touched: &mut Touched,
     call: &Call<'_>,
 ) -> Option<Result<(), Refusal>>
     ensures does { Does desk.old desk.new result (spec.changing desk.old call.now) }
-    ensures touched { KeepsShown touched.old desk.old touched.new desk.new }
+    ensures touched { KeepsShown touched.old.grids.items desk.old touched.new.grids.items desk.new }
 {
     match call {
-        Call::Plain { call, window } => {
-            touched.mark_all();
-            Some(plain(desk, *call, *window))
-        }
+        Call::Plain { call, window } => Some(plain_marked(desk, touched, *call, *window)),
         Call::Number {
             call,
             window,
@@ -50,6 +47,32 @@ pub(crate) fn change(
             text.as_slice(),
             touched,
         )),
+        _ => shape_marked(desk, touched, call),
+    }
+}
+
+/// As `shape`; what a call may change is marked.
+fn shape_marked(
+    desk: &mut Desk,
+    touched: &mut Touched,
+    call: &Call<'_>,
+) -> Option<Result<(), Refusal>>
+    ensures does { Does desk.old desk.new result (spec.shaping desk.old call.now) }
+    ensures touched { KeepsShown touched.old.grids.items desk.old touched.new.grids.items desk.new }
+{
+    match call {
+        Call::Line { window, .. } => {
+            desk.mark_window(*window, touched);
+            shape(desk, call)
+        }
+        Call::DrawBorder { window, .. } => {
+            desk.mark_window(*window, touched);
+            shape(desk, call)
+        }
+        Call::DrawBox { window, .. } => {
+            desk.mark_window(*window, touched);
+            shape(desk, call)
+        }
         _ => {
             let outcome = shape(desk, call)?;
             touched.mark_all();
@@ -99,6 +122,24 @@ fn shape(desk: &mut Desk, call: &Call<'_>) -> Option<Result<(), Refusal>>
     }
 }
 
+/// As `plain`; what a call may change is marked.
+fn plain_marked(
+    desk: &mut Desk,
+    touched: &mut Touched,
+    call: PlainCall,
+    window: usize,
+) -> Result<(), Refusal>
+    ensures step { desks.step desk.new result ≡ spec.plain_step call desk.old window }
+    ensures touched { KeepsShown touched.old.grids.items desk.old touched.new.grids.items desk.new }
+{
+    if let PlainCall::Delwin = call {
+        touched.mark_all();
+        return plain(desk, call, window);
+    }
+    desk.mark_window(window, touched);
+    plain(desk, call, window)
+}
+
 fn plain(desk: &mut Desk, call: PlainCall, window: usize) -> Result<(), Refusal>
     ensures { desks.step desk.new result ≡ spec.plain_step call desk.old window }
 {
@@ -123,11 +164,11 @@ fn number_call(
     number: i32,
 ) -> Result<(), Refusal>
     ensures step { desks.step desk.new result ≡ spec.number_step call desk.old window number }
-    ensures touched { KeepsShown touched.old desk.old touched.new desk.new }
+    ensures touched { KeepsShown touched.old.grids.items desk.old touched.new.grids.items desk.new }
 {
     match call {
         NumberCall::Scroll => {
-            touched.mark_all();
+            desk.mark_window(window, touched);
             desk.scroll(window, number)
         }
         NumberCall::ColorSet => desk.color_set(window, number),
@@ -143,7 +184,7 @@ fn numbers_call(
     second: i32,
 ) -> Result<(), Refusal>
     ensures step { desks.step desk.new result ≡ spec.numbers_step call desk.old window first second }
-    ensures touched { KeepsShown touched.old desk.old touched.new desk.new }
+    ensures touched { KeepsShown touched.old.grids.items desk.old touched.new.grids.items desk.new }
 {
     match call {
         NumbersCall::Mvwin => {
@@ -185,17 +226,17 @@ fn cell(
     put: Put,
 ) -> Result<(), Refusal>
     ensures step { desks.step desk.new result ≡ spec.cell_step call desk.old window put }
-    ensures touched { KeepsShown touched.old desk.old touched.new desk.new }
+    ensures touched { KeepsShown touched.old.grids.items desk.old touched.new.grids.items desk.new }
 {
     match call {
         CellCall::Addch => desk.addch_marked(window, put, touched),
         CellCall::Insch => {
-            touched.mark_all();
+            desk.mark_window(window, touched);
             desk.insch(window, put)
         }
         CellCall::Bkgdset => desk.bkgdset(window, put),
         CellCall::Bkgd => {
-            touched.mark_all();
+            desk.mark_window(window, touched);
             desk.bkgd(window, put)
         }
     }

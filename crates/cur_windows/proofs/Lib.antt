@@ -13,3 +13,4 @@ pub mod ViewFacts
 pub mod Within
 pub mod WrittenLines
 pub mod TouchedFacts
+pub mod Spreading

@@ -3,7 +3,7 @@ use Rattle.std.proofs.Common.{◌≡◌, ◌≢◌, ℕ, ◌+◌, ◌-◌, ◌<�
 use Rattle.std.specs.Option.{is_some}
 use Rattle.std.proofs.lemmas.Bool.{cases_eq, cases_lt}
 use Rattle.std.proofs.lemmas.Bool.Decides.{nat_tests}
-use Rattle.std.proofs.lemmas.List.{get_or-set_same, get_or-set_other, get_or_default, length-set, set-get_or}
+use Rattle.std.proofs.lemmas.List.{get_or-set_same, get_or-set_other, get_or_default, get_or_past, length-set, set-get_or}
 use Rattle.grids.specs.declared.areas.Area.{Area}
 use Rattle.grids.specs.declared.areas.Place.{Place}
 use Rattle.grids.specs.Grids as base
@@ -15,17 +15,17 @@ use Rattle.cur_drawing.specs.Calls.{Canvas, CanvasStep, IsCanvas, IsKept, canvas
 use Rattle.cur_drawing.specs.Grids.{Grid, Fits, cell_at, copied, is_in, line_at, shape_of, taken}
 use Rattle.cur_drawing.specs.Laws.{ChangesNothingIfRefusedButNoScroll, IsLocal, Stays}
 use Rattle.cur_drawing.specs.declared.marks.Marked.{Marked}
-use Rattle.cur_drawing.specs.Marks.{IsCopiedBut, IsUnmarked, Marking, marked_at, marked_between, nothing, widened}
+use Rattle.cur_drawing.specs.Marks.{AreSame, IsCopiedBut, IsUnmarked, Joins, Marking, marked_at, marked_between, none_marked, nothing, widened}
 use Rattle.cur_drawing.specs.declared.refusals.Refusal.TheVariants.{Full}
 use Rattle.cur_drawing.proofs.DrawingFacts.{shape_of-line, shape_of-length}
 use Rattle.cur_windows.proofs.WrittenLines.{Writes, Writing}
 use Rattle.cur_windows.specs.declared.slots.Origin.{Origin}
 use Rattle.cur_windows.specs.declared.slots.Slot.{Slot}
-use Rattle.cur_windows.specs.declared.touched.Touched.{Touched}
-use Rattle.cur_windows.specs.Desks.{IsDesk, IsFramed, IsPlaced, IsWhole, State, grid_at, origin_at, slot_of, some_slot, window_at}
+use Rattle.cur_windows.specs.Desks as desks
+use Rattle.cur_windows.specs.Desks.{DeskStep, IsDesk, IsFramed, IsPlaced, IsWhole, State, after, grid_at, on_grid, on_screen, on_window, origin_at, slot_of, some_slot, window_at}
 use Rattle.cur_windows.specs.VirtualScreen.{IsScreen, Screen, area_on_screen}
 use Rattle.cur_drawing.specs.declared.refusals.Refusal.TheVariants.{NoScroll}
-use Rattle.cur_windows.specs.Touched.{HasAll, IsGoneThrough, IsShownBut, KeepsShown, LeavesMarks, IsTouched, IsWrittenLine, MarksWritten, ShowsBut, WritesLine, lines_shown}
+use Rattle.cur_windows.specs.Touched.{AreFull, FillsGrid, HasAll, IsCleared, IsGoneThrough, IsShownBut, KeepsShown, LeavesMarks, IsTouched, IsWrittenLine, Markings, MarksCopied, MarksWindow, MarksWritten, ShowsBut, Spreads, TouchesGrid, WritesLine, lines_shown, marks_of}
 
 -- ---- writing
 
@@ -38,51 +38,62 @@ other_line : (o : Origin) (a : Area) (first last i j : ℕ) → first ≤ last �
 other_line o a first last i j le on off = grind (arith, nat_tests)
 
 -- what isn't marked after writing is as it was
-unchanged : (s : Canvas) (h : Grid) (t u : Touched) (slot : Slot) (o : Origin) → Writes s (canvas h slot.window) → Stays s (canvas h slot.window) → IsTouched t u slot o s.window.row → slot.root ≡ t.root → o.pad ≡ false →
-    (i j : ℕ) → IsUnmarked u.marks (o.top + i) (o.left + j) → cell_at h i j ≡ cell_at s.grid i j
-unchanged s h t u slot o writes stays is root lies i j off = at (is_in s.window.area i j) refl
+unchanged : (s : Canvas) (h : Grid) (m n : Marking) (w : Window) (o : Origin) → Writes s (canvas h w) → Stays s (canvas h w) → TouchesGrid m n w o s.window.row →
+    (i j : ℕ) → IsUnmarked n (o.top + i) (o.left + j) → cell_at h i j ≡ cell_at s.grid i j
+unchanged s h m n w o writes stays is i j off = at (is_in s.window.area i j) refl
   where
-    lines : is_in (lines_at o s.window.area s.window.row (slot.window.row + 1 - s.window.row)) (o.top + i) (o.left + j) ≡ false
-    lines = subst (λ (a : Area). is_in (lines_at o a s.window.row (slot.window.row + 1 - s.window.row)) (o.top + i) (o.left + j) ≡ false) writes.area (is.lines root lies (o.top + i) (o.left + j) off)
+    lines : is_in (lines_at o s.window.area s.window.row (w.row + 1 - s.window.row)) (o.top + i) (o.left + j) ≡ false
+    lines = subst (λ (a : Area). is_in (lines_at o a s.window.row (w.row + 1 - s.window.row)) (o.top + i) (o.left + j) ≡ false) writes.area (is.lines (o.top + i) (o.left + j) off)
 
     at : (b : Bool) → is_in s.window.area i j ≡ b → cell_at h i j ≡ cell_at s.grid i j
-    at true on = writes.cells (λ may. is.all root lies may (o.top + i) (o.left + j) off) i j (other_line o s.window.area s.window.row slot.window.row i j writes.down on lines)
+    at true on = writes.cells (λ may. is.all may (o.top + i) (o.left + j) off) i j (other_line o s.window.area s.window.row w.row i j writes.down on lines)
     at false beside = stays.outside i j beside
 
 -- the desk after a window of some grid was written
 abbrev with_grid : State → Slot → Grid → List (Option Slot) → State
 with_grid d slot h ws = record d { grids = set d.grids slot.root h; windows = ws }
 
--- the grid that is remembered is that one
-same_written : (d : State) (ws : List (Option Slot)) (w : Window) (slot : Slot) (h : Grid) (t u : Touched) (v : Grid) → slot.root < length d.grids → Writes (canvas (grid_at d slot.root) w) (canvas h slot.window) →
-    Stays (canvas (grid_at d slot.root) w) (canvas h slot.window) → shape_of h ≡ shape_of (grid_at d slot.root) → IsTouched t u slot (origin_at d slot.root) w.row → slot.root ≡ t.root → (origin_at d slot.root).pad ≡ false →
-    IsShownBut t.marks (origin_at d slot.root) (grid_at d slot.root) v → IsShownBut u.marks (origin_at d slot.root) (grid_at (with_grid d slot h ws) slot.root) v
-same_written d ws w slot h t u v lt writes stays shape is root lies shown =
-    subst (λ (x : Grid). IsShownBut u.marks (origin_at d slot.root) x v) (sym (get_or-set_same d.grids slot.root h [] lt))
+-- all of a grid may differ
+pub shown_full : (m : Marking) (o : Origin) (g v : Grid) → m.all ≡ true → IsShownBut m o g v
+shown_full m o g v all i j row col off = absurd (let some = off.some in cc)
+
+pub shows_full : (t : Markings) (d : State) (v : Grid) → AreFull t → ShowsBut t d v
+shows_full t d v full k lies = shown_full (marks_of t k) (origin_at d k) (grid_at d k) v (full k)
+
+-- a grid without marks
+pub past_full : (t : Markings) (k : ℕ) → length t ≤ k → (marks_of t k).all ≡ true
+past_full t k past = ap (λ (m : Marking). m.all) (get_or_past t k (record { all = true; lines = [] }) past)
+
+-- the grid that is written
+same_written : (d : State) (ws : List (Option Slot)) (w : Window) (slot : Slot) (h : Grid) (m n : Marking) (v : Grid) → slot.root < length d.grids → Writes (canvas (grid_at d slot.root) w) (canvas h slot.window) →
+    Stays (canvas (grid_at d slot.root) w) (canvas h slot.window) → shape_of h ≡ shape_of (grid_at d slot.root) → TouchesGrid m n slot.window (origin_at d slot.root) w.row →
+    IsShownBut m (origin_at d slot.root) (grid_at d slot.root) v → IsShownBut n (origin_at d slot.root) (grid_at (with_grid d slot h ws) slot.root) v
+same_written d ws w slot h m n v lt writes stays shape is shown =
+    subst (λ (x : Grid). IsShownBut n (origin_at d slot.root) x v) (sym (get_or-set_same d.grids slot.root h [] lt))
     (λ i j row col off.
     shown i j (omega (arith, row, shape_of-length (grid_at d slot.root) h shape)) (omega (arith, col, shape_of-line (grid_at d slot.root) h i shape)) (is.kept _ _ off)
-    ∙ sym (unchanged (canvas (grid_at d slot.root) w) h t u slot (origin_at d slot.root) writes stays is root lies i j off))
+    ∙ sym (unchanged (canvas (grid_at d slot.root) w) h m n slot.window (origin_at d slot.root) writes stays is i j off))
 
--- it is another one
-other_written : (d : State) (ws : List (Option Slot)) (slot : Slot) (h : Grid) (t u : Touched) (v : Grid) (o : Origin) (first : ℕ) → IsTouched t u slot o first → t.root ≢ slot.root →
-    IsShownBut t.marks (origin_at d t.root) (grid_at d t.root) v → IsShownBut u.marks (origin_at d t.root) (grid_at (with_grid d slot h ws) t.root) v
-other_written d ws slot h t u v o first is apart shown =
-    subst (λ (x : Grid). IsShownBut u.marks (origin_at d t.root) x v) (sym (get_or-set_other d.grids slot.root t.root h [] apart))
-    (λ i j row col off. shown i j row col (is.kept _ _ off))
+-- another one
+other_written : (d : State) (ws : List (Option Slot)) (slot : Slot) (h : Grid) (m : Marking) (v : Grid) (k : ℕ) → k ≢ slot.root → IsShownBut m (origin_at d k) (grid_at d k) v → IsShownBut m (origin_at d k) (grid_at (with_grid d slot h ws) k) v
+other_written d ws slot h m v k apart shown = subst (λ (x : Grid). IsShownBut m (origin_at d k) x v) (sym (get_or-set_other d.grids slot.root k h [] apart)) shown
 
-slot_written : (d : State) (ws : List (Option Slot)) (w : Window) (slot : Slot) (h : Grid) (t u : Touched) → slot.root < length d.grids → Writes (canvas (grid_at d slot.root) w) (canvas h slot.window) →
+slot_written : (d : State) (ws : List (Option Slot)) (w : Window) (slot : Slot) (h : Grid) (t u : Markings) → slot.root < length d.grids → Writes (canvas (grid_at d slot.root) w) (canvas h slot.window) →
     Stays (canvas (grid_at d slot.root) w) (canvas h slot.window) → shape_of h ≡ shape_of (grid_at d slot.root) → IsTouched t u slot (origin_at d slot.root) w.row → KeepsShown t d u (with_grid d slot h ws)
-slot_written d ws w slot h t u lt writes stays shape is v shown =
-    subst (λ (k : ℕ). (origin_at d k).pad ≡ false → IsShownBut u.marks (origin_at d k) (grid_at (with_grid d slot h ws) k) v) (sym is.root)
-    (elim (cases_eq slot.root t.root) [
-      | inl same ↦ subst (λ (k : ℕ). (origin_at d k).pad ≡ false → IsShownBut u.marks (origin_at d k) (grid_at (with_grid d slot h ws) k) v) same
-          (λ lies. same_written d ws w slot h t u v lt writes stays shape is same lies
-          (subst (λ (k : ℕ). (origin_at d k).pad ≡ false → IsShownBut t.marks (origin_at d k) (grid_at d k) v) (sym same) shown lies))
-      | inr apart ↦ λ lies. other_written d ws slot h t u v (origin_at d slot.root) w.row is (λ (e : t.root ≡ slot.root). apart (sym e)) (shown lies)
-    ])
+slot_written d ws w slot h t u lt writes stays shape is v shown k = elim (cases_eq k slot.root) [
+  | inl same ↦ subst (λ (n : ℕ). (origin_at d n).pad ≡ false → IsShownBut (marks_of u n) (origin_at d n) (grid_at (with_grid d slot h ws) n) v) (sym same) there
+  | inr apart ↦ λ lies. subst (λ (m : Marking). IsShownBut m (origin_at d k) (grid_at (with_grid d slot h ws) k) v) (sym (is.others k apart)) (other_written d ws slot h (marks_of t k) v k apart (shown k lies))
+]
+  where
+    there : (origin_at d slot.root).pad ≡ false → IsShownBut (marks_of u slot.root) (origin_at d slot.root) (grid_at (with_grid d slot h ws) slot.root) v
+    there lies = elim (cases_lt slot.root (length t)) [
+      | inl some ↦ same_written d ws w slot h (marks_of t slot.root) (marks_of u slot.root) v lt writes stays shape (is.grid lies some) (shown slot.root lies)
+      | inr past ↦ shown_full (marks_of u slot.root) (origin_at d slot.root) (grid_at (with_grid d slot h ws) slot.root) v
+          (ap (λ (x : Markings). (marks_of x slot.root).all) (is.none past) ∙ past_full t slot.root past)
+    ]
 
 -- a call that writes on the window of a number
-pub touched_by : (d now : State) (ws : List (Option Slot)) (n : ℕ) (s : Slot) (w : Window) (g h : Grid) (t u : Touched) (o : Origin) (act : Canvas → CanvasStep) (r : Result (Unit {0}) Refusal) → Writing act → IsLocal act → d ≡ now → IsDesk d →
+pub touched_by : (d now : State) (ws : List (Option Slot)) (n : ℕ) (s : Slot) (w : Window) (g h : Grid) (t u : Markings) (o : Origin) (act : Canvas → CanvasStep) (r : Result (Unit {0}) Refusal) → Writing act → IsLocal act → d ≡ now → IsDesk d →
     IsPlaced now n s → g ≡ get_or d.grids s.root g → step h w r ≡ act (canvas g s.window) → IsKept g s.window h w → o ≡ origin_at now s.root → IsTouched t u (record s { window = w }) o s.window.row → KeepsShown t now u (with_grid d s h ws)
 touched_by d now ws n s w g h t u o act r writing local e is placed at value kept there touched v shown =
     let lt : s.root < length d.grids = omega (arith, is.grids, placed.root) in
@@ -101,19 +112,46 @@ grid_kept : (act : Canvas → CanvasStep) (s : Canvas) (t : Canvas) (r : Result 
 grid_kept act s t (Ok u) back value refused other = absurd refused
 grid_kept act s t (Err e) back value refused other = ap (λ (x : CanvasStep). x.0.grid) value ∙ ap (λ (x : Canvas). x.grid) (back s e other (ap (λ (x : CanvasStep). x.1) (sym value)))
 
-pub left_by : (d now : State) (ws : List (Option Slot)) (n : ℕ) (s : Slot) (w : Window) (g h : Grid) (t u : Touched) (act : Canvas → CanvasStep) (r : Result (Unit {0}) Refusal) → ChangesNothingIfRefusedButNoScroll act → d ≡ now → IsDesk d →
+pub left_by : (d now : State) (ws : List (Option Slot)) (n : ℕ) (s : Slot) (w : Window) (g h : Grid) (t u : Markings) (act : Canvas → CanvasStep) (r : Result (Unit {0}) Refusal) → ChangesNothingIfRefusedButNoScroll act → d ≡ now → IsDesk d →
     IsPlaced now n s → g ≡ get_or d.grids s.root g → step h w r ≡ act (canvas g s.window) → LeavesMarks t u r → KeepsShown t now u (with_grid d s h ws)
 left_by d now ws n s w g h t u act r back e is placed at value left v shown =
     let lt : s.root < length d.grids = omega (arith, is.grids, placed.root) in
     let read : h ≡ get_or d.grids s.root [] = grid_kept act (canvas g s.window) (canvas h w) r back value left.refused left.other ∙ at ∙ get_or_default d.grids s.root g [] lt in
     let grids : set d.grids s.root h ≡ d.grids = ap (λ (x : Grid). set d.grids s.root x) read ∙ set-get_or d.grids s.root [] in
     let here : ShowsBut t d v = subst (λ (x : State). ShowsBut t x v) (sym e) shown in
-    subst (λ (x : Touched). ShowsBut x (with_grid d s h ws) v) (sym left.same)
+    subst (λ (x : Markings). ShowsBut x (with_grid d s h ws) v) (sym left.same)
     (subst (λ (gs : List Grid). ShowsBut t (record d { grids = gs; windows = ws }) v) (sym grids) here)
 
+-- ---- all of a grid is marked
+
+-- where a grid was changed
+grid_filled : (d e : State) (s : Slot) (h : Grid) (t u : Markings) → e.grids ≡ set d.grids s.root h → e.origins ≡ d.origins → FillsGrid t u s.root → KeepsShown t d u e
+grid_filled d e s h t u grids origins fills v shown k =
+    subst (λ (os : List Origin). (get_or os k (on_screen 0 0 false)).pad ≡ false → IsShownBut (marks_of u k) (get_or os k (on_screen 0 0 false)) (grid_at e k) v) (sym origins)
+    (subst (λ (gs : List Grid). (origin_at d k).pad ≡ false → IsShownBut (marks_of u k) (origin_at d k) (get_or gs k []) v) (sym grids) (λ lies. elim (cases_eq k s.root) [
+      | inl same ↦ shown_full (marks_of u k) (origin_at d k) (get_or (set d.grids s.root h) k []) v (ap (λ (n : ℕ). (marks_of u n).all) same ∙ fills.full)
+      | inr apart ↦ subst (λ (m : Marking). IsShownBut m (origin_at d k) (get_or (set d.grids s.root h) k []) v) (sym (fills.others k apart)) (other_written d d.windows s h (marks_of t k) v k apart (shown k lies))
+    ]))
+
+after_filled : (x : Result Slot Refusal) (t u : Markings) (d e : State) (r : Result (Unit {0}) Refusal) (next : Slot → DeskStep) (drawn : Slot → Grid) → ((s : Slot) → (next s).0.grids ≡ set d.grids s.root (drawn s)) → ((s : Slot) → (next s).0.origins ≡ d.origins) →
+    (e, r) ≡ after x d next → MarksWindow t u x → KeepsShown t d u e
+after_filled (Ok s) t u d e r next drawn grids origins is marks = grid_filled d e s (drawn s) t u (ap (λ (y : DeskStep). y.0.grids) is ∙ grids s) (ap (λ (y : DeskStep). y.0.origins) is ∙ origins s) marks
+after_filled (Err x) t u d e r next drawn grids origins is marks = λ v shown.
+    subst (λ (y : State). ShowsBut u y v) (sym (ap (λ (y : DeskStep). y.0) is)) (subst (λ (y : Markings). ShowsBut y d v) (sym marks) shown)
+
+-- by a call on the window of a number
+pub keeps_on_grid : (t u : Markings) (d e : State) (n : ℕ) (act : Canvas → CanvasStep) (r : Result (Unit {0}) Refusal) → (e, r) ≡ on_grid d n act → MarksWindow t u (slot_of d n) → KeepsShown t d u e
+keeps_on_grid t u d e n act r is marks = after_filled (slot_of d n) t u d e r _ (λ s. (act (canvas (grid_at d s.root) s.window)).0.grid) (λ s. refl) (λ s. refl) is marks
+
+pub keeps_on_window : (t u : Markings) (d e : State) (n : ℕ) (act : Canvas → CanvasStep) (r : Result (Unit {0}) Refusal) → (e, r) ≡ on_window d n act → MarksWindow t u (slot_of d n) → KeepsShown t d u e
+keeps_on_window t u d e n act r is marks = after_filled (slot_of d n) t u d e r _ (λ s. (act (canvas (grid_at d s.root) s.window)).0.grid) (λ s. refl) (λ s. refl) is marks
+
+pub keeps_untouched : (t u : Markings) (d e : State) (n : ℕ) (r : Result (Unit {0}) Refusal) → (e, r) ≡ desks.unchanged d n → MarksWindow t u (slot_of d n) → KeepsShown t d u e
+keeps_untouched t u d e n r is marks = after_filled (slot_of d n) t u d e r _ (λ s. grid_at d s.root) (λ s. sym (set-get_or d.grids s.root [])) (λ s. refl) is marks
+
 -- no line, and one more
-pub none_marked : (o : Origin) (w : Window) (first i j : ℕ) → is_in (lines_shown o w first 0) i j ≡ false
-none_marked o w first i j = grind (arith, nat_tests)
+pub no_line : (o : Origin) (w : Window) (first i j : ℕ) → is_in (lines_shown o w first 0) i j ≡ false
+no_line o w first i j = grind (arith, nat_tests)
 
 in_next : (o : Origin) (w : Window) (first k i j : ℕ) → is_in (lines_shown o w first k) i j ≡ false → i ≢ o.top + w.area.top + first + k → is_in (lines_shown o w first (k + 1)) i j ≡ false
 in_next o w first k i j off apart = grind (arith, nat_tests)
@@ -163,41 +201,37 @@ slot_there e ws n t small lt at =
     ap (λ (b : Bool). if b then Err Full else some_slot (window_at e n)) off
     ∙ ap (λ (x : List (Option Slot)). some_slot (get_or x n None)) at ∙ ap some_slot (get_or-set_same ws n (Some t) None lt)
 
-pub written_by : (d now e : State) (n : ℕ) (s : Slot) (w : Window) (t u : Touched) (o : Origin) → d ≡ now → IsDesk d → (n < 64) × (window_at now n ≡ Some s) → Ok s ≡ slot_of now n →
+pub written_by : (d now e : State) (n : ℕ) (s : Slot) (w : Window) (t u : Markings) (o : Origin) → d ≡ now → IsDesk d → (n < 64) × (window_at now n ≡ Some s) → Ok s ≡ slot_of now n →
     e.windows ≡ set d.windows n (Some (record s { window = w })) → o ≡ origin_at now s.root → IsTouched t u (record s { window = w }) o s.window.row → MarksWritten t u now e n
-written_by d now e n s w t u o is desk there before at lies touched =
-    let new : Slot = record s { window = w } in record {
-      root = touched.root;
-      only = λ i j off not. touched.only i j off (λ line. not (subst (λ (r : Result Slot Refusal). WritesLine t.root now r (slot_of e n) i) before
-          (subst (λ (r : Result Slot Refusal). WritesLine t.root now (Ok s) r i) (sym (slot_there e d.windows n new there.0 (omega (arith, there.0, desk.windows)) at))
-          (subst (λ (x : Origin). IsWrittenLine t.root new x s.window.row i) lies line))));
-    }
-
-pub left_unmarked : (d e : State) (n : ℕ) (t u : Touched) (r : Result (Unit {0}) Refusal) → LeavesMarks t u r → MarksWritten t u d e n
-left_unmarked d e n t u r left = record {
-  root = ap (λ (x : Touched). x.root) left.same;
-  only = λ i j off not. subst (λ (x : Touched). IsUnmarked x.marks i j) (sym left.same) off;
+written_by d now e n s w t u o is desk there before at lies touched = record {
+  only = λ k i j off not. elim (cases_eq k s.root) [
+    | inl same ↦ by_pad k i j off not o.pad refl same
+    | inr apart ↦ subst (λ (m : Marking). IsUnmarked m i j) (sym (touched.others k apart)) off
+  ];
 }
+  where
+    new : Slot
+    new = record s { window = w }
+
+    writes : (k i : ℕ) → s.root ≡ k → o.pad ≡ false → IsWrittenLine w o s.window.row i → WritesLine k now (slot_of now n) (slot_of e n) i
+    writes k i root lie line = subst (λ (r : Result Slot Refusal). WritesLine k now r (slot_of e n) i) before
+        (subst (λ (r : Result Slot Refusal). WritesLine k now (Ok s) r i) (sym (slot_there e d.windows n new there.0 (omega (arith, there.0, desk.windows)) at))
+        (record { root = root; lies = subst (λ (x : Origin). x.pad ≡ false) lies lie; line = subst (λ (x : Origin). IsWrittenLine w x s.window.row i) lies line }))
+
+    left : (k i j : ℕ) → IsUnmarked (marks_of t k) i j → u ≡ t → IsUnmarked (marks_of u k) i j
+    left k i j off same = subst (λ (x : Markings). IsUnmarked (marks_of x k) i j) (sym same) off
+
+    by_pad : (k i j : ℕ) → IsUnmarked (marks_of t k) i j → (WritesLine k now (slot_of now n) (slot_of e n) i → ⊥) → (b : Bool) → o.pad ≡ b → k ≡ s.root → IsUnmarked (marks_of u k) i j
+    by_pad k i j off not true pad same = left k i j off (touched.pad pad)
+    by_pad k i j off not false lie same = elim (cases_lt s.root (length t)) [
+      | inl some ↦ subst (λ (x : ℕ). IsUnmarked (marks_of u x) i j) (sym same) ((touched.grid lie some).only i j (subst (λ (x : ℕ). IsUnmarked (marks_of t x) i j) same off) (λ line. not (writes k i (sym same) lie line)))
+      | inr past ↦ left k i j off (touched.none past)
+    ]
+
+pub left_unmarked : (d e : State) (n : ℕ) (t u : Markings) (r : Result (Unit {0}) Refusal) → LeavesMarks t u r → MarksWritten t u d e n
+left_unmarked d e n t u r left = record { only = λ k i j off not. subst (λ (x : Markings). IsUnmarked (marks_of x k) i j) (sym left.same) off }
 
 -- ---- copying
-
--- all may differ
-pub shows_but_all : (t : Touched) (d : State) (v : Grid) → t.marks.all ≡ true → ShowsBut t d v
-shows_but_all t d v all lies i j row col off = absurd (let some = off.some in cc)
-
--- another grid is remembered from now on, or still the same
-pub turned : (t u : Touched) (d : State) (v : Grid) (k : ℕ) → (t.root ≡ k → u ≡ t) → (t.root ≢ k → u.marks.all ≡ true) → ShowsBut t d v → ShowsBut u d v
-turned t u d v k same other shown = elim (cases_eq t.root k) [
-  | inl is ↦ subst (λ (x : Touched). ShowsBut x d v) (sym (same is)) shown
-  | inr apart ↦ shows_but_all u d v (other apart)
-]
-
--- of a window on the grid k
-pub shown_there : (t : Touched) (d : State) (v : Grid) (k : ℕ) → t.root ≡ k → IsShownBut t.marks (origin_at d k) (grid_at d k) v → ShowsBut t d v
-shown_there t d v k is shown = subst (λ (n : ℕ). (origin_at d n).pad ≡ false → IsShownBut t.marks (origin_at d n) (grid_at d n) v) (sym is) (λ lies. shown)
-
-pub known_there : (t : Touched) (d : State) (v : Grid) (k : ℕ) → t.root ≡ k → ShowsBut t d v → (origin_at d k).pad ≡ false → IsShownBut t.marks (origin_at d k) (grid_at d k) v
-known_there t d v k is shown = subst (λ (n : ℕ). (origin_at d n).pad ≡ false → IsShownBut t.marks (origin_at d n) (grid_at d n) v) is shown
 
 pub no_parent : (o : Option ℕ) → is_some o ≡ false → o ≡ None
 no_parent (Some k) e = absurd (let some = e in cc)
@@ -264,3 +298,65 @@ all_copied m d s a v h at low right framed whole all legal rows cols is =
     covered i j row col beside (inr full) =
         in_screenful (origin_at d s.root) a d.rows d.cols (length (grid_at d s.root)) (length (line_at (grid_at d s.root) i)) i j (ap (λ (x : Area). x.rows) at ∙ full.rows) (ap (λ (x : Area). x.cols) at ∙ full.cols)
         low right row col framed.rows (framed.cols i row) beside
+
+-- the grid of another window, for which the screen's marks are marked as well
+pub other_copied : (m n o : Marking) (rows cols : ℕ) (p : Origin) (g v h : Grid) → Joins m o rows cols n → AreSame o v h → p.top + length g ≤ rows → ((i : ℕ) → i < length g → p.left + length (line_at g i) ≤ cols) → IsShownBut m p g v → IsShownBut n p g h
+other_copied m n o rows cols p g v h is same high wide shown i j row col off =
+    sym (same (p.top + i) (p.left + j) (is.joined (p.top + i) (p.left + j) (omega (arith, high, row)) (omega (arith, wide i row, col)) off)) ∙ shown i j row col (is.kept (p.top + i) (p.left + j) off)
+
+-- the marks of a grid that a window was copied of
+marks_part : (t x u : Markings) (root : ℕ) (o : Marking) (rows cols : ℕ) (whole : Bool) → Spreads t x root o rows cols → IsCleared x u root whole → (whole ≡ false) ⊎ (length t ≤ root) → marks_of u root ≡ marks_of t root
+marks_part t x u root o rows cols whole spread cleared side =
+    ap (λ (y : Markings). marks_of y root) (elim side [ inl part ↦ cleared.part part | inr past ↦ cleared.past (omega (arith, past, spread.size)) ]) ∙ spread.same
+
+marks_whole : (t x u : Markings) (root : ℕ) (o : Marking) (rows cols : ℕ) (whole : Bool) → Spreads t x root o rows cols → IsCleared x u root whole → whole ≡ true → root < length t → marks_of u root ≡ none_marked (length (marks_of t root).lines)
+marks_whole t x u root o rows cols whole spread cleared is lt =
+    ap (λ (y : Markings). marks_of y root) (cleared.there is (omega (arith, lt, spread.size)))
+    ∙ get_or-set_same x root (none_marked (length (marks_of x root).lines)) (record { all = true; lines = [] }) (omega (arith, lt, spread.size))
+    ∙ ap (λ (m : Marking). none_marked (length m.lines)) spread.same
+
+-- those of another one
+marks_other : (x u : Markings) (root k : ℕ) (whole : Bool) → IsCleared x u root whole → k ≢ root → marks_of u k ≡ marks_of x k
+marks_other x u root k whole cleared apart = elim (cases_lt root (length x)) [
+  | inl lt ↦ at whole refl lt
+  | inr past ↦ ap (λ (y : Markings). marks_of y k) (cleared.past past)
+]
+  where
+    at : (b : Bool) → whole ≡ b → root < length x → marks_of u k ≡ marks_of x k
+    at true is lt = ap (λ (y : Markings). marks_of y k) (cleared.there is lt) ∙ get_or-set_other x root k (none_marked (length (marks_of x root).lines)) (record { all = true; lines = [] }) apart
+    at false is lt = ap (λ (y : Markings). marks_of y k) (cleared.part is)
+
+pub marks_copied : (t x u : Markings) (o : Marking) (d : State) (s : Slot) (whole : Bool) → Spreads t x s.root o d.rows d.cols → IsCleared x u s.root whole → (whole ≡ true → HasAll d s) → (whole ≡ false → HasAll d s → ⊥) → MarksCopied t u o d s
+marks_copied t x u o d s whole spread cleared there part = record {
+  whole = λ lt all. at whole refl lt all;
+  part = λ not. none whole refl not;
+  others = λ k i j apart side. subst (λ (m : Marking). IsUnmarked m i j) (sym (marks_other x u s.root k whole cleared apart)) ((spread.others k apart).only i j side);
+}
+  where
+    at : (b : Bool) → whole ≡ b → s.root < length t → HasAll d s → marks_of u s.root ≡ none_marked (length (marks_of t s.root).lines)
+    at true is lt all = marks_whole t x u s.root o d.rows d.cols whole spread cleared is lt
+    at false is lt all = absurd (part is all)
+
+    none : (b : Bool) → whole ≡ b → (HasAll d s → ⊥) → marks_of u s.root ≡ marks_of t s.root
+    none true is not = absurd (not (there is))
+    none false is not = marks_part t x u s.root o d.rows d.cols whole spread cleared (inl is)
+
+pub slot_copied : (t x u : Markings) (o : Marking) (d : State) (s : Slot) (v : Screen) (h : Grid) (whole : Bool) → IsDesk d → (s.parent ≡ None → IsWhole s.window.area (grid_at d s.root)) → Spreads t x s.root o d.rows d.cols → IsCleared x u s.root whole →
+    (whole ≡ true → HasAll d s) → AreSame o v.grid h → (area_on_screen d s).top + (area_on_screen d s).rows ≤ d.rows → (area_on_screen d s).left + (area_on_screen d s).cols ≤ d.cols → IsScreen v → v.rows ≡ d.rows → v.cols ≡ d.cols →
+    h ≡ copied (area_on_screen d s) (place s.window.area.top s.window.area.left) (grid_at d s.root) v.grid → (origin_at d s.root).pad ≡ false → ShowsBut t d v.grid → ShowsBut u d h
+slot_copied t x u o d s v h whole desk own spread cleared there same low right legal rows cols is window shown k = elim (cases_eq k s.root) [
+  | inl same ↦ subst (λ (n : ℕ). (origin_at d n).pad ≡ false → IsShownBut (marks_of u n) (origin_at d n) (grid_at d n) h) (sym same) (λ lies. here)
+  | inr apart ↦ λ lies. subst (λ (m : Marking). IsShownBut m (origin_at d k) (grid_at d k) h) (sym (marks_other x u s.root k whole cleared apart))
+      (other_copied (marks_of t k) (marks_of x k) o d.rows d.cols (origin_at d k) (grid_at d k) v.grid h (spread.others k apart) same (desk.framed k lies).rows (desk.framed k lies).cols (shown k lies))
+]
+  where
+    still : marks_of u s.root ≡ marks_of t s.root → IsShownBut (marks_of u s.root) (origin_at d s.root) (grid_at d s.root) h
+    still e = subst (λ (m : Marking). IsShownBut m (origin_at d s.root) (grid_at d s.root) h) (sym e)
+        (part_copied (marks_of t s.root) d s (area_on_screen d s) v h refl low right legal rows cols is (shown s.root window))
+
+    at : (b : Bool) → whole ≡ b → IsShownBut (marks_of u s.root) (origin_at d s.root) (grid_at d s.root) h
+    at true e = all_copied (marks_of u s.root) d s (area_on_screen d s) v h refl low right (desk.framed s.root window) own (there e) legal rows cols is
+    at false e = still (marks_part t x u s.root o d.rows d.cols whole spread cleared (inl e))
+
+    here : IsShownBut (marks_of u s.root) (origin_at d s.root) (grid_at d s.root) h
+    here = at whole refl

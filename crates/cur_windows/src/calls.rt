@@ -127,9 +127,9 @@ impl Desk {
         self.addch_marked(id, put, &mut touched)
     }
 
-    /// As `addch`; where the grid that is remembered has changed it is marked as well. Of that grid nothing is marked
-    /// but the lines through which the cursor went, or all if the region may have gone up; nothing where the call is
-    /// refused with another answer than `NoScroll`.
+    /// As `addch`; where the window's grid has changed it is marked as well. Nothing is marked but the lines of that grid
+    /// through which the cursor went, or all of it if the region may have gone up; nothing where the call is refused with
+    /// another answer than `NoScroll`.
     pub fn addch_marked(
         &mut self,
         id: usize,
@@ -137,8 +137,8 @@ impl Desk {
         touched: &mut Touched,
     ) -> Result<(), Refusal>
         ensures step { spec.step self.new result ≡ spec.on_window self.old id (call.added put) }
-        ensures touched { KeepsShown touched.old self.old touched.new self.new }
-        ensures only { MarksWritten touched.old touched.new self.old self.new id }
+        ensures touched { KeepsShown touched.old.grids.items self.old touched.new.grids.items self.new }
+        ensures only { MarksWritten touched.old.grids.items touched.new.grids.items self.old self.new id }
         ensures refused { IfErr result (λ e. e ≢ Refusal.NoScroll → touched.new ≡ touched.old) }
     {
         let mut slot = self.find(id)?;
@@ -165,8 +165,8 @@ impl Desk {
         self.addstr_marked(id, text, &mut touched)
     }
 
-    /// As `addstr`; where the grid that is remembered has changed it is marked as well. Of that grid nothing is marked
-    /// but the lines through which the cursor went, or all if the region may have gone up.
+    /// As `addstr`; where the window's grid has changed it is marked as well. Nothing is marked but the lines of that
+    /// grid through which the cursor went, or all of it if the region may have gone up.
     pub fn addstr_marked(
         &mut self,
         id: usize,
@@ -174,8 +174,8 @@ impl Desk {
         touched: &mut Touched,
     ) -> Result<(), Refusal>
         ensures step { spec.step self.new result ≡ spec.on_window self.old id (call.added_all text.now) }
-        ensures touched { KeepsShown touched.old self.old touched.new self.new }
-        ensures only { MarksWritten touched.old touched.new self.old self.new id }
+        ensures touched { KeepsShown touched.old.grids.items self.old touched.new.grids.items self.new }
+        ensures only { MarksWritten touched.old.grids.items touched.new.grids.items self.old self.new id }
     {
         let mut slot = self.find(id)?;
         let (region, origin) = (self.region_of(&slot), self.origin_of(&slot));

@@ -1,17 +1,17 @@
 //! Copying a window to the virtual screen.
-ghost use Rattle.std.specs.Prelude.{◌≡◌, ◌<◌, ◌≤◌, ◌+◌, IfErr, IfOk, IfSome, Ok, Some, None, if◌then◌else◌, false};
+ghost use Rattle.std.specs.Prelude.{◌≡◌, ◌<◌, ◌≤◌, ◌+◌, IfErr, IfOk, IfSome, Ok, Some, None, if◌then◌else◌, false, true};
 ghost use Rattle.cur_drawing.specs.Calls.{IsCanvas, place};
 ghost use Rattle.cur_drawing.specs.Marks.{Keeps, MarksOnly};
 ghost use Rattle.cur_drawing.specs.Windows.{IsWindow};
 ghost use Rattle.cur_windows.specs.Desks as spec;
 ghost use Rattle.cur_windows.specs.Creations as make;
-ghost use Rattle.cur_windows.specs.Touched.{LiesWithin, MarksCopied, ShowsBut};
+ghost use Rattle.cur_windows.specs.Touched.{HasAll, IsShownBut, LiesWithin, MarksCopied, ShowsBut, marks_of};
 ghost use Rattle.cur_windows.specs.declared.slots.Slot.{Slot};
-ghost use Rattle.cur_windows.specs.VirtualScreen.{refresh, noutrefresh, shown, area_on_screen, cursor_on_screen};
+ghost use Rattle.cur_windows.specs.VirtualScreen.{IsScreen, refresh, noutrefresh, shown, area_on_screen, cursor_on_screen};
 
 use crate::desks::Desk;
 use crate::slots::{Origin, Slot};
-use crate::touched::Touched;
+use crate::touched::{Touched, spread, unmark};
 use crate::virtual_screen::{Copy, Virtual};
 use cur_drawing::{Cell, Marks, Refusal};
 use grids::{Area, Grid, Place};
@@ -30,10 +30,10 @@ impl Desk {
         self.noutrefresh_marked(id, screen, &mut touched, &mut marks)
     }
 
-    /// As `noutrefresh`. Outside the marks `touched` the screen has the cells of one grid, and what isn't marked of that
-    /// grid isn't looked at; afterwards it has those of the window's grid, which is remembered instead. A window of the
-    /// same grid adds no mark, one of another grid marks all, and a window that is all of its grid takes all marks off.
-    /// Where the screen's cells have changed, `marks` are added.
+    /// As `noutrefresh`. Outside the marks `touched` the screen has the cells of each grid, and it has them outside these
+    /// marks afterwards; what isn't marked of the window's grid isn't looked at. A window that is all of its grid takes
+    /// that grid's marks off, and any other adds none to them. Where the screen's cells have changed, `marks` are added,
+    /// and all that is marked there is marked for each other grid.
     pub fn noutrefresh_marked(
         &mut self,
         id: usize,
@@ -43,11 +43,11 @@ impl Desk {
     ) -> Result<(), Refusal>
         requires rows { (screen.old).rows ≡ (self.old).rows }
         requires cols { (screen.old).cols ≡ (self.old).cols }
-        requires touched { ShowsBut touched.old self.old (screen.old).grid }
+        requires touched { ShowsBut touched.old.grids.items self.old (screen.old).grid }
         ensures step { refresh self.new screen.new result ≡ noutrefresh self.old screen.old id }
-        ensures touched { ShowsBut touched.new self.new (screen.new).grid }
+        ensures touched { ShowsBut touched.new.grids.items self.new (screen.new).grid }
         ensures copied { IfOk result (λ _. (s : Slot) → spec.slot_of self.old id ≡ Ok s
-            → MarksCopied touched.old touched.new self.old s) }
+            → MarksCopied touched.old.grids.items touched.new.grids.items marks.new self.old s) }
         ensures refused { IfErr result (λ _. touched.new ≡ touched.old) }
         ensures marked { Keeps marks.old (screen.old).grid marks.new (screen.new).grid }
         ensures only { MarksOnly marks.old (screen.old).grid marks.new (screen.new).grid }
@@ -70,16 +70,40 @@ impl Desk {
         requires window { (spec.origin_at self.now (slot.now).root).pad ≡ false }
         requires rows { (screen.old).rows ≡ (self.now).rows }
         requires cols { (screen.old).cols ≡ (self.now).cols }
-        requires touched { ShowsBut touched.old self.now (screen.old).grid }
+        requires touched { ShowsBut touched.old.grids.items self.now (screen.old).grid }
         ensures value { screen.new ≡ shown (area_on_screen self.now slot.now) (spec.grid_at self.now (slot.now).root)
             (place (slot.now).window.area.top (slot.now).window.area.left) (cursor_on_screen self.now slot.now)
             (slot.now).window.clears screen.old }
-        ensures touched { ShowsBut touched.new self.now (screen.new).grid }
-        ensures copied { MarksCopied touched.old touched.new self.now slot.now }
+        ensures touched { ShowsBut touched.new.grids.items self.now (screen.new).grid }
+        ensures copied { MarksCopied touched.old.grids.items touched.new.grids.items marks.new self.now slot.now }
         ensures marked { Keeps marks.old (screen.old).grid marks.new (screen.new).grid }
         ensures only { MarksOnly marks.old (screen.old).grid marks.new (screen.new).grid }
     {
-        let (rows, cols) = (self.rows, self.cols);
+        self.show_slot(slot, screen, touched, marks);
+        let root = slot.root as usize;
+        spread(touched, root, marks, self.rows, self.cols);
+        unmark(touched, root, self.has_all(slot));
+    }
+
+    // Copies as `copy_slot` does what is marked of the window's grid.
+    fn show_slot(&self, slot: &Slot, screen: &mut Virtual, touched: &Touched, marks: &mut Marks)
+        requires canvas { IsCanvas (spec.grid_at self.now (slot.now).root) (slot.now).window }
+        requires root { (slot.now).root < 64 }
+        requires window { (spec.origin_at self.now (slot.now).root).pad ≡ false }
+        requires rows { (screen.old).rows ≡ (self.now).rows }
+        requires cols { (screen.old).cols ≡ (self.now).cols }
+        requires touched { IsShownBut (marks_of touched.now.grids.items (slot.now).root)
+            (spec.origin_at self.now (slot.now).root) (spec.grid_at self.now (slot.now).root) (screen.old).grid }
+        ensures value { screen.new ≡ shown (area_on_screen self.now slot.now) (spec.grid_at self.now (slot.now).root)
+            (place (slot.now).window.area.top (slot.now).window.area.left) (cursor_on_screen self.now slot.now)
+            (slot.now).window.clears screen.old }
+        ensures marked { Keeps marks.old (screen.old).grid marks.new (screen.new).grid }
+        ensures only { MarksOnly marks.old (screen.old).grid marks.new (screen.new).grid }
+        ensures rows { (area_on_screen self.now slot.now).top + (area_on_screen self.now slot.now).rows ≤ (self.now).rows }
+        ensures cols { (area_on_screen self.now slot.now).left + (area_on_screen self.now slot.now).cols ≤ (self.now).cols }
+        ensures legal { IsScreen screen.old }
+    {
+        let (scrolled, root) = (self.scrolled, slot.root as usize);
         let area = self.place_on_screen(slot);
         let from = Place {
             row: slot.window.area.top,
@@ -92,12 +116,22 @@ impl Desk {
             clears: slot.window.clears,
             root: slot.root,
         };
-        touched.turn_to(slot.root);
         let grid = self.grid_of(slot);
-        screen.show(copy, grid, self.scrolled, &touched.marks, marks);
-        if slot.parent.is_none() || (area.rows == rows && area.cols == cols) {
-            touched.marks.clear();
+        if root < touched.grids.len() {
+            screen.show(copy, grid, scrolled, &touched.grids[root], marks);
+        } else {
+            let unknown = Marks::unknown(self.alloc);
+            screen.show(copy, grid, scrolled, &unknown, marks);
         }
+    }
+
+    // Whether the window is all of its grid.
+    fn has_all(&self, slot: &Slot) -> bool
+        ensures there { result ≡ true → HasAll self.now slot.now }
+        ensures part { result ≡ false → HasAll self.now slot.now → ⊥ }
+    {
+        let area = slot.window.area;
+        slot.parent.is_none() || (area.rows == self.rows && area.cols == self.cols)
     }
 
     // The grid that a window lies in.

@@ -1,77 +1,95 @@
-//! Where the grid that was copied last to the virtual screen may have changed since.
-ghost use Rattle.std.specs.Prelude.{◌≡◌, ◌≢◌, ◌⊎◌, IfErr, IfOk, false, true, length};
-ghost use Rattle.cur_drawing.specs.Marks.{none_marked};
+//! Where each grid may have changed since it was copied to the virtual screen.
+ghost use Rattle.std.specs.Prelude.{◌≡◌, ◌≢◌, ◌⊎◌, ◌<◌, ℕ, IfErr, IfOk, false, true, length};
+ghost use Rattle.cur_drawing.specs.Marks.{Joins, none_marked};
 ghost use Rattle.cur_drawing.specs.Windows.{IsWindow};
-ghost use Rattle.cur_windows.specs.Touched.{LeavesMarks, IsTouched, LiesWithin, MarksLines};
+ghost use Rattle.cur_windows.specs.Desks as spec;
+ghost use Rattle.cur_windows.specs.Touched.{AreFull, FillsGrid, IsCleared, LeavesMarks, IsTouched, LiesWithin, MarksLines, MarksWindow, Spreads, TouchesGrid, marks_of};
 
+use crate::desks::{Desk, WINDOWS};
 use crate::slots::{Origin, Slot};
 use cur_drawing::{Marks, Refusal, Window};
 use std::alloc::{AllocError, Global};
 
-/// The grid of one window, and marks at the places of the screen where it may differ from the virtual screen.
+/// For each grid, by the number of the window that made it, marks at the places of the screen where it may differ from
+/// the virtual screen. A grid without marks may differ in all of them.
 #[derive(Drop)]
 pub struct Touched {
-    /// The number of the window whose grid it is.
-    pub root: u8,
-    pub marks: Marks,
+    pub grids: Vec<Marks>,
 }
 
 impl Touched {
-    /// Window 0's grid on a screen of `rows` lines, without a mark. An error where a growth was refused.
+    /// The marks of 64 grids on a screen of `rows` lines, all of which are marked. An error where a growth was refused.
     pub fn new(alloc: Global, rows: u16) -> Result<Touched, AllocError>
-        ensures { IfOk result (λ t. t ≡ record { root = 0; marks = none_marked rows }) }
+        ensures { IfOk result (λ touched. AreFull touched.grids.items) }
     {
-        let marks = Marks::new(alloc, rows)?;
-        Ok(Touched { root: 0, marks })
+        let mut grids = Vec::with_capacity(alloc, WINDOWS)?;
+        for _k in 0..WINDOWS {
+            grids.push(Marks::new(alloc, rows)?)?;
+        }
+        let mut touched = Touched { grids };
+        touched.mark_all();
+        Ok(touched)
     }
 
-    /// Window 0's grid, all of which is marked. Takes no memory.
+    /// The marks of no grid. Takes no memory.
     pub fn unknown(alloc: Global) -> Touched
-        ensures { result.marks.all ≡ true }
+        ensures { AreFull result.grids.items }
     {
         Touched {
-            root: 0,
-            marks: Marks::unknown(alloc),
+            grids: Vec::new(alloc),
         }
     }
 
-    /// Marks all places.
+    /// Marks all places of all grids.
     pub fn mark_all(&mut self)
-        ensures { self.new ≡ record self.old { marks = record self.old.marks { all = true } } }
+        ensures { AreFull self.new.grids.items }
     {
-        self.marks.mark_all();
+        fill(&mut self.grids);
     }
+}
 
-    // This grid is the one that is remembered. All places are marked if it wasn't before.
-    pub(crate) fn turn_to(&mut self, root: u8)
-        ensures root { self.new.root ≡ root }
-        ensures lines { self.new.marks.lines ≡ self.old.marks.lines }
-        ensures same { self.old.root ≡ root → self.new ≡ self.old }
-        ensures other { self.old.root ≢ root → self.new.marks.all ≡ true }
+// Marks all places of all of them.
+fn fill(grids: &mut Vec<Marks>)
+    ensures { AreFull grids.new.items }
+{
+    for k in 0..grids.len() {
+        grids[k].mark_all();
+    }
+}
+
+impl Desk {
+    /// Marks all of the window's grid, for a call that changes it and has no marks itself; nothing if there is no such
+    /// window.
+    pub fn mark_window(&self, id: usize, touched: &mut Touched)
+        ensures { MarksWindow touched.old.grids.items touched.new.grids.items (spec.slot_of self.now id) }
     {
-        if self.root != root {
-            self.root = root;
-            self.mark_all();
+        if let Ok(slot) = self.find(id) {
+            mark_grid(touched, slot.root as usize);
         }
     }
 }
 
-/// Marks what was written on a window of the grid that is remembered, since its cursor was in the line `first`: all, if
-/// its region may have gone up. The grid lies at `origin`.
+// Marks all places of one grid.
+fn mark_grid(touched: &mut Touched, root: usize)
+    ensures { FillsGrid touched.old.grids.items touched.new.grids.items root }
+{
+    if root < touched.grids.len() {
+        touched.grids[root].mark_all();
+    }
+}
+
+/// Marks what was written on a window since its cursor was in the line `first`: all of its grid, if its region may have
+/// gone up. The grid lies at `origin`, unless it is a pad's.
 pub(crate) fn touch(touched: &mut Touched, slot: &Slot, origin: Origin, first: u16)
     requires window { IsWindow (slot.now).window }
     requires within { origin.pad ≡ false → LiesWithin origin (slot.now).window.area }
-    ensures { IsTouched touched.old touched.new slot.now origin first }
+    ensures { IsTouched touched.old.grids.items touched.new.grids.items slot.now origin first }
 {
-    if slot.root != touched.root || origin.pad {
+    let root = slot.root as usize;
+    if origin.pad || root >= touched.grids.len() {
         return;
     }
-    let window = &slot.window;
-    if window.scrolls && window.row == window.region_bottom {
-        touched.mark_all();
-    } else {
-        mark_lines(&mut touched.marks, window, origin, first);
-    }
+    touch_grid(&mut touched.grids[root], &slot.window, origin, first);
 }
 
 /// As `touch`, after a call that has answered so; nothing is marked where it was refused and so has written nothing.
@@ -85,8 +103,8 @@ pub(crate) fn touch_unless_refused(
 )
     requires window { IsWindow (slot.now).window }
     requires within { origin.pad ≡ false → LiesWithin origin (slot.now).window.area }
-    ensures touched { IsTouched touched.old touched.new slot.now origin first
-        ⊎ LeavesMarks touched.old touched.new answer.now }
+    ensures touched { IsTouched touched.old.grids.items touched.new.grids.items slot.now origin first
+        ⊎ LeavesMarks touched.old.grids.items touched.new.grids.items answer.now }
     ensures refused { IfErr answer.now (λ e. e ≢ Refusal.NoScroll → touched.new ≡ touched.old) }
 {
     if let Err(refusal) = answer {
@@ -95,6 +113,19 @@ pub(crate) fn touch_unless_refused(
         }
     }
     touch(touched, slot, origin, first);
+}
+
+// As `touch`, in the marks of the window's grid.
+fn touch_grid(marks: &mut Marks, window: &Window, origin: Origin, first: u16)
+    requires window { IsWindow window.now }
+    requires within { LiesWithin origin (window.now).area }
+    ensures { TouchesGrid marks.old marks.new window.now origin first }
+{
+    if window.scrolls && window.row == window.region_bottom {
+        marks.mark_all();
+    } else {
+        mark_lines(marks, window, origin, first);
+    }
 }
 
 // Marks the window's lines from the line `first` to the cursor's.
@@ -109,5 +140,34 @@ fn mark_lines(marks: &mut Marks, window: &Window, origin: Origin, first: u16)
     for k in 0..count {
         let row = origin.top + area.top + first + k;
         marks.mark(row, left, left + area.cols);
+    }
+}
+
+/// Takes all marks off a grid, of which a window is `whole`.
+pub(crate) fn unmark(touched: &mut Touched, root: usize, whole: bool)
+    ensures { IsCleared touched.old.grids.items touched.new.grids.items root whole }
+{
+    if whole && root < touched.grids.len() {
+        touched.grids[root].clear();
+    }
+}
+
+/// Marks what the screen's marks have for each grid but one, on a screen of `rows` lines and `cols` columns.
+pub(crate) fn spread(touched: &mut Touched, but: usize, marks: &Marks, rows: u16, cols: u16)
+    ensures { Spreads touched.old.grids.items touched.new.grids.items but marks.now rows cols }
+{
+    for k in 0..touched.grids.len() {
+        if k != but {
+            join_grid(&mut touched.grids[k], marks, rows, cols);
+        }
+    }
+}
+
+// Marks what the screen's marks have for one grid, unless all of it is marked.
+fn join_grid(grid: &mut Marks, marks: &Marks, rows: u16, cols: u16)
+    ensures { Joins grid.old marks.now rows cols grid.new }
+{
+    if !grid.is_full() {
+        grid.join(marks, rows, cols);
     }
 }

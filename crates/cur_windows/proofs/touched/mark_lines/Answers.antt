@@ -3,13 +3,13 @@ use Rattle.cur_drawing.specs.Marks.{IsUnmarked, Marking, marked_between}
 use Rattle.cur_drawing.specs.Grids.{is_in}
 use Rattle.cur_drawing.proofs.MarkFacts.{unmarked_before, unmarked_beside}
 use Rattle.cur_windows.specs.Touched.{lines_shown}
-use Rattle.cur_windows.proofs.TouchedFacts.{next_marked, not_gone, none_marked, not_there, sooner, unmarked_other}
+use Rattle.cur_windows.proofs.TouchedFacts.{next_marked, not_gone, no_line, not_there, sooner, unmarked_other}
 use Rattle.cur_windows.proofs.touched.mark_lines.Goals as goal
 
 pub loop-k-init : goal.loop-k-init
 loop-k-init c = record {
   kept = λ i j u. u;
-  lines = λ i j u. none_marked c.args.origin c.args.window.now c.args.first i j;
+  lines = λ i j u. no_line c.args.origin c.args.window.now c.args.first i j;
   only = λ i j u side. u;
 }
 

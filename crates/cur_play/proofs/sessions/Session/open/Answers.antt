@@ -2,7 +2,8 @@ use Rattle.std.proofs.Common.{◌≡◌, ◌∙◌, ℕ, ap, subst, sym}
 use Rattle.cur_windows.specs.Desks.{State}
 use Rattle.cur_windows.specs.VirtualScreen.{Screen, new_screen}
 use Rattle.ti_conforms.specs.Certified.{IsChecked, Table}
-use Rattle.cur_play.proofs.MarkFacts.{first_shown, same_shown}
+use Rattle.cur_windows.proofs.TouchedFacts.{shows_full}
+use Rattle.cur_play.proofs.MarkFacts.{same_shown}
 use Rattle.cur_play.proofs.sessions.Session.open.Goals as goal
 
 pub invariant_of-result : goal.invariant_of-result
@@ -22,7 +23,7 @@ invariant_of-result g c =
       },
       subst IsChecked (sym table) c.rows.ensures.checked,
       record {
-        window = first_shown c.in_ok-stale.stale.window c.in_ok-desk.desk c.in_ok-screen.screen s.rows s.cols c.in_ok-stale.ensures c.in_ok-desk.ensures c.in_ok-screen.ensures;
+        window = shows_full c.in_ok-stale.stale.window.grids.items c.in_ok-desk.desk c.in_ok-screen.screen.grid c.in_ok-stale.ensures;
         screen = same_shown c.in_ok-stale.stale.screen c.in_ok-painter.painter.shown c.in_ok-screen.screen (new_screen t.rows t.cols) c.in_ok-painter.ensures.shown (ap (λ (v : Screen). v.grid) screen);
       },
     )
