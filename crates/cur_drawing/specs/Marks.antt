@@ -80,7 +80,8 @@ pub record AreUnmarked (m o : Marking) (cols i j : ℕ) : Type 0 where
 
 -- nothing is marked before a place, or after it
 abbrev pub AreUnmarkedBeside : Marking → Marking → ℕ → ℕ → ℕ → Type 0
-AreUnmarkedBeside m o cols i j = ((k : ℕ) → k ≤ j → AreUnmarked m o cols i k) ⊎ ((k : ℕ) → j ≤ k → AreUnmarked m o cols i k)
+AreUnmarkedBeside m o cols i j =
+    ((k : ℕ) → k ≤ j → AreUnmarked m o cols i k) ⊎ ((k : ℕ) → j ≤ k → AreUnmarked m o cols i k)
 
 -- in one line
 pub record JoinsLine (m o : Marking) (row cols : ℕ) (n : Marking) : Type 0 where

@@ -5,8 +5,8 @@ ghost use Rattle.cur_windows.specs.Touched.{AreFull};
 use cur_windows::{Marks, Touched};
 use std::alloc::{AllocError, Global};
 
-/// Marks at the places where the virtual screen may differ from each grid, and at those where it may differ from what the
-/// painter has shown last.
+/// Marks at the places where the virtual screen may differ from each grid, and at those where it may differ from what
+/// the painter has shown last.
 #[derive(Drop)]
 pub struct StaleMarks {
     pub window: Touched,

@@ -12,8 +12,8 @@ use cur_calls::{
 };
 use cur_windows::{Desk, Refusal, Touched};
 
-/// Changes windows; `None` for a call that doesn't, or that does more. Where a grid may have changed, or where it lies, it
-/// is marked as well.
+/// Changes windows; `None` for a call that doesn't, or that does more. Where a grid may have changed, or where it lies,
+/// it is marked as well.
 pub(crate) fn change(
     desk: &mut Desk,
     touched: &mut Touched,

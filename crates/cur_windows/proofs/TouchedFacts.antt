@@ -15,7 +15,7 @@ use Rattle.cur_drawing.specs.Calls.{Canvas, CanvasStep, IsCanvas, IsKept, canvas
 use Rattle.cur_drawing.specs.Grids.{Grid, Fits, cell_at, copied, is_in, line_at, shape_of, taken}
 use Rattle.cur_drawing.specs.Laws.{ChangesNothingIfRefusedButNoScroll, IsLocal, Stays}
 use Rattle.cur_drawing.specs.declared.marks.Marked.{Marked}
-use Rattle.cur_drawing.specs.Marks.{AreSame, IsCopiedBut, IsUnmarked, Joins, Marking, marked_at, marked_between, none_marked, nothing, widened}
+use Rattle.cur_drawing.specs.Marks.{AreSame, IsUnmarked, Joins, Marking, marked_at, marked_between, none_marked, nothing, widened}
 use Rattle.cur_drawing.specs.declared.refusals.Refusal.TheVariants.{Full}
 use Rattle.cur_drawing.proofs.DrawingFacts.{shape_of-line, shape_of-length}
 use Rattle.cur_windows.proofs.WrittenLines.{Writes, Writing}
@@ -236,17 +236,6 @@ left_unmarked d e n t u r left = record { only = λ k i j off not. subst (λ (x 
 pub no_parent : (o : Option ℕ) → is_some o ≡ false → o ≡ None
 no_parent (Some k) e = absurd (let some = e in cc)
 no_parent None e = refl
-
--- a window's rectangle shows its part of the grid, but for what is marked
-pub area_shown : (m : Marking) (o : Origin) (a : Area) (from : Place) (g v : Grid) → a.top ≡ o.top + from.row → a.left ≡ o.left + from.col → from.row + a.rows ≤ length g →
-    ((i : ℕ) → i < length g → from.col + a.cols ≤ length (line_at g i)) → IsShownBut m o g v → IsCopiedBut m a from g v
-area_shown m o a from g v top left rows cols shown i j lt near off =
-    let row : a.top + i ≡ o.top + (from.row + i) = omega (arith, top) in
-    let col : a.left + j ≡ o.left + (from.col + j) = omega (arith, left) in
-    let within : from.row + i < length g = omega (arith, rows, lt) in
-    ap (λ (n : ℕ). cell_at v n (a.left + j)) row ∙ ap (λ (n : ℕ). cell_at v (o.top + (from.row + i)) n) col
-    ∙ shown (from.row + i) (from.col + j) within (omega (arith, cols (from.row + i) within, near))
-    (subst (λ (n : ℕ). IsUnmarked m n (o.left + (from.col + j))) row (subst (λ (n : ℕ). IsUnmarked m (a.top + i) n) col off))
 
 inside_area : (a : Area) (i j : ℕ) → is_in a i j ≡ true → (a.top ≤ i) × (i < a.top + a.rows) × (a.left ≤ j) × (j < a.left + a.cols)
 inside_area a i j on = grind (arith, nat_tests)

@@ -65,8 +65,8 @@ pub record MarksLines (m n : Marking) (o : Origin) (w : Window) (first : ℕ) : 
   pub lines : (i j : ℕ) → IsUnmarked n i j → is_in (lines_shown o w first (w.row + 1 - first)) i j ≡ false
   pub only : (i j : ℕ) → IsUnmarked m i j → (IsGoneThrough o w first i → ⊥) → IsUnmarked n i j
 
--- a line of the screen in which a window may have written: one through which its cursor went from the line `first` on, or
--- any where its region may have gone up
+-- a line of the screen in which a window may have written: one through which its cursor went from the line `first` on,
+-- or any where its region may have gone up
 abbrev pub IsWrittenLine : Window → Origin → ℕ → ℕ → Type 0
 IsWrittenLine w o first i = MayScroll w ⊎ IsGoneThrough o w first i
 
@@ -117,7 +117,8 @@ WritesLine k d (Err e) t i = ⊥
 -- what wasn't marked of a grid stays unmarked, but for the lines in which the call may have written on the window of a
 -- number
 pub record MarksWritten (t u : Markings) (d e : State) (id : ℕ) : Type 0 where
-  pub only : (k i j : ℕ) → IsUnmarked (marks_of t k) i j → (WritesLine k d (slot_of d id) (slot_of e id) i → ⊥) → IsUnmarked (marks_of u k) i j
+  pub only : (k i j : ℕ) → IsUnmarked (marks_of t k) i j → (WritesLine k d (slot_of d id) (slot_of e id) i → ⊥)
+      → IsUnmarked (marks_of u k) i j
 
 -- a window as large as the screen
 pub record IsScreenful (d : State) (s : Slot) : Type 0 where
@@ -128,8 +129,8 @@ pub record IsScreenful (d : State) (s : Slot) : Type 0 where
 abbrev pub HasAll : State → Slot → Type 0
 HasAll d s = (s.parent ≡ None) ⊎ IsScreenful d s
 
--- The marks after a window was copied, the screen being marked so: none of a grid that it is all of, and else those that
--- there were; of each other grid also what the screen has.
+-- The marks after a window was copied, the screen being marked so: none of a grid that it is all of, and else those
+-- that there were; of each other grid also what the screen has.
 pub record MarksCopied (t u : Markings) (o : Marking) (d : State) (s : Slot) : Type 0 where
   pub whole : s.root < length t → HasAll d s → marks_of u s.root ≡ none_marked (length (marks_of t s.root).lines)
   pub part : (HasAll d s → ⊥) → marks_of u s.root ≡ marks_of t s.root

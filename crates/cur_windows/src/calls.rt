@@ -127,9 +127,9 @@ impl Desk {
         self.addch_marked(id, put, &mut touched)
     }
 
-    /// As `addch`; where the window's grid has changed it is marked as well. Nothing is marked but the lines of that grid
-    /// through which the cursor went, or all of it if the region may have gone up; nothing where the call is refused with
-    /// another answer than `NoScroll`.
+    /// As `addch`; where the window's grid has changed it is marked as well. Nothing is marked but the lines of that
+    /// grid through which the cursor went, or all of it if the region may have gone up; nothing where the call is
+    /// refused with another answer than `NoScroll`.
     pub fn addch_marked(
         &mut self,
         id: usize,

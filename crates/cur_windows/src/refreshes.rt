@@ -30,10 +30,10 @@ impl Desk {
         self.noutrefresh_marked(id, screen, &mut touched, &mut marks)
     }
 
-    /// As `noutrefresh`. Outside the marks `touched` the screen has the cells of each grid, and it has them outside these
-    /// marks afterwards; what isn't marked of the window's grid isn't looked at. A window that is all of its grid takes
-    /// that grid's marks off, and any other adds none to them. Where the screen's cells have changed, `marks` are added,
-    /// and all that is marked there is marked for each other grid.
+    /// As `noutrefresh`. Outside the marks `touched` the screen has the cells of each grid, and it has them outside
+    /// these marks afterwards; what isn't marked of the window's grid isn't looked at. A window that is all of its grid
+    /// takes that grid's marks off, and any other adds none to them. Where the screen's cells have changed, `marks` are
+    /// added, and all that is marked there is marked for each other grid.
     pub fn noutrefresh_marked(
         &mut self,
         id: usize,
@@ -99,8 +99,10 @@ impl Desk {
             (slot.now).window.clears screen.old }
         ensures marked { Keeps marks.old (screen.old).grid marks.new (screen.new).grid }
         ensures only { MarksOnly marks.old (screen.old).grid marks.new (screen.new).grid }
-        ensures rows { (area_on_screen self.now slot.now).top + (area_on_screen self.now slot.now).rows ≤ (self.now).rows }
-        ensures cols { (area_on_screen self.now slot.now).left + (area_on_screen self.now slot.now).cols ≤ (self.now).cols }
+        ensures rows { (area_on_screen self.now slot.now).top + (area_on_screen self.now slot.now).rows
+            ≤ (self.now).rows }
+        ensures cols { (area_on_screen self.now slot.now).left + (area_on_screen self.now slot.now).cols
+            ≤ (self.now).cols }
         ensures legal { IsScreen screen.old }
     {
         let (scrolled, root) = (self.scrolled, slot.root as usize);
