@@ -50,7 +50,7 @@ unchanged s h m n w o writes stays is i j off = at (is_in s.window.area i j) ref
     at false beside = stays.outside i j beside
 
 -- the desk after a window of some grid was written
-abbrev with_grid : State → Slot → Grid → List (Option Slot) → State
+abbrev pub with_grid : State → Slot → Grid → List (Option Slot) → State
 with_grid d slot h ws = record d { grids = set d.grids slot.root h; windows = ws }
 
 -- all of a grid may differ
@@ -64,32 +64,41 @@ shows_full t d v full k lies = shown_full (marks_of t k) (origin_at d k) (grid_a
 pub past_full : (t : Markings) (k : ℕ) → length t ≤ k → (marks_of t k).all ≡ true
 past_full t k past = ap (λ (m : Marking). m.all) (get_or_past t k (record { all = true; lines = [] }) past)
 
+-- what isn't marked after a call wasn't before, and is as it was on the grid
+pub record Spares (m n : Marking) (o : Origin) (g h : Grid) : Type 0 where
+  pub kept : (i j : ℕ) → IsUnmarked n i j → IsUnmarked m i j
+  pub same : (i j : ℕ) → IsUnmarked n (o.top + i) (o.left + j) → cell_at h i j ≡ cell_at g i j
+
+-- the same of the grid of a window, unless it is a pad's, and nothing of any other has changed
+pub record SparesGrid (t u : Markings) (d : State) (slot : Slot) (h : Grid) : Type 0 where
+  pub grid : (origin_at d slot.root).pad ≡ false → slot.root < length t → Spares (marks_of t slot.root) (marks_of u slot.root) (origin_at d slot.root) (grid_at d slot.root) h
+  pub none : length t ≤ slot.root → u ≡ t
+  pub others : (k : ℕ) → k ≢ slot.root → marks_of u k ≡ marks_of t k
+
 -- the grid that is written
-same_written : (d : State) (ws : List (Option Slot)) (w : Window) (slot : Slot) (h : Grid) (m n : Marking) (v : Grid) → slot.root < length d.grids → Writes (canvas (grid_at d slot.root) w) (canvas h slot.window) →
-    Stays (canvas (grid_at d slot.root) w) (canvas h slot.window) → shape_of h ≡ shape_of (grid_at d slot.root) → TouchesGrid m n slot.window (origin_at d slot.root) w.row →
+same_written : (d : State) (ws : List (Option Slot)) (slot : Slot) (h : Grid) (m n : Marking) (v : Grid) → slot.root < length d.grids → shape_of h ≡ shape_of (grid_at d slot.root) → Spares m n (origin_at d slot.root) (grid_at d slot.root) h →
     IsShownBut m (origin_at d slot.root) (grid_at d slot.root) v → IsShownBut n (origin_at d slot.root) (grid_at (with_grid d slot h ws) slot.root) v
-same_written d ws w slot h m n v lt writes stays shape is shown =
+same_written d ws slot h m n v lt shape spares shown =
     subst (λ (x : Grid). IsShownBut n (origin_at d slot.root) x v) (sym (get_or-set_same d.grids slot.root h [] lt))
     (λ i j row col off.
-    shown i j (omega (arith, row, shape_of-length (grid_at d slot.root) h shape)) (omega (arith, col, shape_of-line (grid_at d slot.root) h i shape)) (is.kept _ _ off)
-    ∙ sym (unchanged (canvas (grid_at d slot.root) w) h m n slot.window (origin_at d slot.root) writes stays is i j off))
+    shown i j (omega (arith, row, shape_of-length (grid_at d slot.root) h shape)) (omega (arith, col, shape_of-line (grid_at d slot.root) h i shape)) (spares.kept _ _ off)
+    ∙ sym (spares.same i j off))
 
 -- another one
 other_written : (d : State) (ws : List (Option Slot)) (slot : Slot) (h : Grid) (m : Marking) (v : Grid) (k : ℕ) → k ≢ slot.root → IsShownBut m (origin_at d k) (grid_at d k) v → IsShownBut m (origin_at d k) (grid_at (with_grid d slot h ws) k) v
 other_written d ws slot h m v k apart shown = subst (λ (x : Grid). IsShownBut m (origin_at d k) x v) (sym (get_or-set_other d.grids slot.root k h [] apart)) shown
 
-slot_written : (d : State) (ws : List (Option Slot)) (w : Window) (slot : Slot) (h : Grid) (t u : Markings) → slot.root < length d.grids → Writes (canvas (grid_at d slot.root) w) (canvas h slot.window) →
-    Stays (canvas (grid_at d slot.root) w) (canvas h slot.window) → shape_of h ≡ shape_of (grid_at d slot.root) → IsTouched t u slot (origin_at d slot.root) w.row → KeepsShown t d u (with_grid d slot h ws)
-slot_written d ws w slot h t u lt writes stays shape is v shown k = elim (cases_eq k slot.root) [
+pub slot_spared : (d : State) (ws : List (Option Slot)) (slot : Slot) (h : Grid) (t u : Markings) → slot.root < length d.grids → shape_of h ≡ shape_of (grid_at d slot.root) → SparesGrid t u d slot h → KeepsShown t d u (with_grid d slot h ws)
+slot_spared d ws slot h t u lt shape spares v shown k = elim (cases_eq k slot.root) [
   | inl same ↦ subst (λ (n : ℕ). (origin_at d n).pad ≡ false → IsShownBut (marks_of u n) (origin_at d n) (grid_at (with_grid d slot h ws) n) v) (sym same) there
-  | inr apart ↦ λ lies. subst (λ (m : Marking). IsShownBut m (origin_at d k) (grid_at (with_grid d slot h ws) k) v) (sym (is.others k apart)) (other_written d ws slot h (marks_of t k) v k apart (shown k lies))
+  | inr apart ↦ λ lies. subst (λ (m : Marking). IsShownBut m (origin_at d k) (grid_at (with_grid d slot h ws) k) v) (sym (spares.others k apart)) (other_written d ws slot h (marks_of t k) v k apart (shown k lies))
 ]
   where
     there : (origin_at d slot.root).pad ≡ false → IsShownBut (marks_of u slot.root) (origin_at d slot.root) (grid_at (with_grid d slot h ws) slot.root) v
     there lies = elim (cases_lt slot.root (length t)) [
-      | inl some ↦ same_written d ws w slot h (marks_of t slot.root) (marks_of u slot.root) v lt writes stays shape (is.grid lies some) (shown slot.root lies)
+      | inl some ↦ same_written d ws slot h (marks_of t slot.root) (marks_of u slot.root) v lt shape (spares.grid lies some) (shown slot.root lies)
       | inr past ↦ shown_full (marks_of u slot.root) (origin_at d slot.root) (grid_at (with_grid d slot h ws) slot.root) v
-          (ap (λ (x : Markings). (marks_of x slot.root).all) (is.none past) ∙ past_full t slot.root past)
+          (ap (λ (x : Markings). (marks_of x slot.root).all) (spares.none past) ∙ past_full t slot.root past)
     ]
 
 -- a call that writes on the window of a number
@@ -103,9 +112,17 @@ touched_by d now ws n s w g h t u o act r writing local e is placed at value kep
     let stays : Stays (canvas g s.window) (canvas h w) = subst (λ (x : CanvasStep). Stays (canvas g s.window) x.0) (sym value)
     (local (canvas g s.window) (subst (λ (x : Grid). IsCanvas x s.window) (sym read) legal)) in
     let here : o ≡ origin_at d s.root = there ∙ sym (ap (λ (x : State). origin_at x s.root) e) in
-    slot_written d ws s.window (record s { window = w }) h t u lt (subst (λ (x : Grid). Writes (canvas x s.window) (canvas h w)) read writes)
-    (subst (λ (x : Grid). Stays (canvas x s.window) (canvas h w)) read stays) (kept.shape ∙ ap shape_of read)
-    (subst (λ (x : Origin). IsTouched t u (record s { window = w }) x s.window.row) here touched) v (subst (λ (x : State). ShowsBut t x v) (sym e) shown)
+    let touches : IsTouched t u (record s { window = w }) (origin_at d s.root) s.window.row = subst (λ (x : Origin). IsTouched t u (record s { window = w }) x s.window.row) here touched in
+    let spares : SparesGrid t u d (record s { window = w }) h = record {
+      grid = λ lies some. record {
+        kept = (touches.grid lies some).kept;
+        same = unchanged (canvas (grid_at d s.root) s.window) h (marks_of t s.root) (marks_of u s.root) w (origin_at d s.root) (subst (λ (x : Grid). Writes (canvas x s.window) (canvas h w)) read writes)
+            (subst (λ (x : Grid). Stays (canvas x s.window) (canvas h w)) read stays) (touches.grid lies some);
+      };
+      none = touches.none;
+      others = touches.others;
+    } in
+    slot_spared d ws (record s { window = w }) h t u lt (kept.shape ∙ ap shape_of read) spares v (subst (λ (x : State). ShowsBut t x v) (sym e) shown)
 
 -- one that is refused, and has changed nothing
 grid_kept : (act : Canvas → CanvasStep) (s : Canvas) (t : Canvas) (r : Result (Unit {0}) Refusal) → ChangesNothingIfRefusedButNoScroll act → (t, r) ≡ act s → OnOk r ⊥ → IfErr r (λ e. e ≢ NoScroll) → t.grid ≡ s.grid
@@ -201,9 +218,16 @@ slot_there e ws n t small lt at =
     ap (λ (b : Bool). if b then Err Full else some_slot (window_at e n)) off
     ∙ ap (λ (x : List (Option Slot)). some_slot (get_or x n None)) at ∙ ap some_slot (get_or-set_same ws n (Some t) None lt)
 
-pub written_by : (d now e : State) (n : ℕ) (s : Slot) (w : Window) (t u : Markings) (o : Origin) → d ≡ now → IsDesk d → (n < 64) × (window_at now n ≡ Some s) → Ok s ≡ slot_of now n →
-    e.windows ≡ set d.windows n (Some (record s { window = w })) → o ≡ origin_at now s.root → IsTouched t u (record s { window = w }) o s.window.row → MarksWritten t u now e n
-written_by d now e n s w t u o is desk there before at lies touched = record {
+-- no other line of a window's grid is marked as well than one in which the window may have been written from a line on
+pub record MarksLess (t u : Markings) (s : Slot) (o : Origin) (first : ℕ) : Type 0 where
+  pub only : o.pad ≡ false → s.root < length t → (i j : ℕ) → IsUnmarked (marks_of t s.root) i j → (IsWrittenLine s.window o first i → ⊥) → IsUnmarked (marks_of u s.root) i j
+  pub pad : o.pad ≡ true → u ≡ t
+  pub none : length t ≤ s.root → u ≡ t
+  pub others : (k : ℕ) → k ≢ s.root → marks_of u k ≡ marks_of t k
+
+pub written_within : (d now e : State) (n : ℕ) (s : Slot) (w : Window) (t u : Markings) (o : Origin) → d ≡ now → IsDesk d → (n < 64) × (window_at now n ≡ Some s) → Ok s ≡ slot_of now n →
+    e.windows ≡ set d.windows n (Some (record s { window = w })) → o ≡ origin_at now s.root → MarksLess t u (record s { window = w }) o s.window.row → MarksWritten t u now e n
+written_within d now e n s w t u o is desk there before at lies touched = record {
   only = λ k i j off not. elim (cases_eq k s.root) [
     | inl same ↦ by_pad k i j off not o.pad refl same
     | inr apart ↦ subst (λ (m : Marking). IsUnmarked m i j) (sym (touched.others k apart)) off
@@ -224,9 +248,14 @@ written_by d now e n s w t u o is desk there before at lies touched = record {
     by_pad : (k i j : ℕ) → IsUnmarked (marks_of t k) i j → (WritesLine k now (slot_of now n) (slot_of e n) i → ⊥) → (b : Bool) → o.pad ≡ b → k ≡ s.root → IsUnmarked (marks_of u k) i j
     by_pad k i j off not true pad same = left k i j off (touched.pad pad)
     by_pad k i j off not false lie same = elim (cases_lt s.root (length t)) [
-      | inl some ↦ subst (λ (x : ℕ). IsUnmarked (marks_of u x) i j) (sym same) ((touched.grid lie some).only i j (subst (λ (x : ℕ). IsUnmarked (marks_of t x) i j) same off) (λ line. not (writes k i (sym same) lie line)))
+      | inl some ↦ subst (λ (x : ℕ). IsUnmarked (marks_of u x) i j) (sym same) (touched.only lie some i j (subst (λ (x : ℕ). IsUnmarked (marks_of t x) i j) same off) (λ line. not (writes k i (sym same) lie line)))
       | inr past ↦ left k i j off (touched.none past)
     ]
+
+pub written_by : (d now e : State) (n : ℕ) (s : Slot) (w : Window) (t u : Markings) (o : Origin) → d ≡ now → IsDesk d → (n < 64) × (window_at now n ≡ Some s) → Ok s ≡ slot_of now n →
+    e.windows ≡ set d.windows n (Some (record s { window = w })) → o ≡ origin_at now s.root → IsTouched t u (record s { window = w }) o s.window.row → MarksWritten t u now e n
+written_by d now e n s w t u o is desk there before at lies touched = written_within d now e n s w t u o is desk there before at lies
+    (record { only = λ lie some. (touched.grid lie some).only; pad = touched.pad; none = touched.none; others = touched.others })
 
 pub left_unmarked : (d e : State) (n : ℕ) (t u : Markings) (r : Result (Unit {0}) Refusal) → LeavesMarks t u r → MarksWritten t u d e n
 left_unmarked d e n t u r left = record { only = λ k i j off not. subst (λ (x : Markings). IsUnmarked (marks_of x k) i j) (sym left.same) off }

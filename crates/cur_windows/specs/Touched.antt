@@ -1,10 +1,12 @@
 -- Where each grid may have changed since it was copied to the virtual screen.
 use Rattle.std.specs.Prelude.{ℕ, ◌≡◌, ◌≢◌, ◌+◌, ◌-◌, ◌<◌, ◌≤◌, ◌⊎◌, List, [], length, slice_index_or, slice_set, Bool, true, false, None, Result, Ok, Err, IfErr, OnOk}
 use Rattle.grids.specs.declared.areas.Area.{Area}
+use Rattle.cur_drawing.specs.declared.puts.Put.{Put}
 use Rattle.cur_drawing.specs.declared.refusals.Refusal.{Refusal}
 use Rattle.cur_drawing.specs.declared.refusals.Refusal.TheVariants.{NoScroll}
 use Rattle.cur_drawing.specs.declared.windows.Window.{Window}
 use Rattle.cur_drawing.specs.Grids.{Grid, cell_at, is_in, line_at}
+use Rattle.cur_drawing.specs.Windows.{is_pair, is_printed}
 use Rattle.cur_drawing.specs.Marks.{AreUnmarkedBeside, IsUnmarked, Joins, Marking, none_marked}
 use Rattle.cur_windows.specs.declared.slots.Origin.{Origin}
 use Rattle.cur_windows.specs.declared.slots.Slot.{Slot}
@@ -80,6 +82,30 @@ pub record TouchesGrid (m n : Marking) (w : Window) (o : Origin) (first : ℕ) :
 -- those of the window's grid, unless it is a pad's, and no others
 pub record IsTouched (t u : Markings) (s : Slot) (o : Origin) (first : ℕ) : Type 0 where
   pub grid : o.pad ≡ false → s.root < length t → TouchesGrid (marks_of t s.root) (marks_of u s.root) s.window o first
+  pub pad : o.pad ≡ true → u ≡ t
+  pub none : length t ≤ s.root → u ≡ t
+  pub others : (k : ℕ) → k ≢ s.root → marks_of u k ≡ marks_of t k
+
+-- a character becomes one cell of the cursor's line, and isn't in its last column
+pub record IsOneCell (w : Window) (p : Put) : Type 0 where
+  pub printed : is_printed p.byte ≡ true
+  pub pair : is_pair p.pair ≡ true
+  pub before : w.col + 1 < w.area.cols
+
+-- cells of the cursor's line, on the screen
+abbrev pub cells_shown : Origin → Window → ℕ → ℕ → Area
+cells_shown o w col n =
+    record { top = o.top + w.area.top + w.row; left = o.left + w.area.left + col; rows = 1; cols = n }
+
+-- they are marked as well, and no other line
+pub record MarksCells (m n : Marking) (o : Origin) (w : Window) (col count : ℕ) : Type 0 where
+  pub kept : (i j : ℕ) → IsUnmarked n i j → IsUnmarked m i j
+  pub cells : (i j : ℕ) → IsUnmarked n i j → is_in (cells_shown o w col count) i j ≡ false
+  pub only : (i j : ℕ) → IsUnmarked m i j → i ≢ o.top + w.area.top + w.row → IsUnmarked n i j
+
+-- the same of the window's grid, unless it is a pad's, and of no other
+pub record AreTouched (t u : Markings) (s : Slot) (o : Origin) (col count : ℕ) : Type 0 where
+  pub grid : o.pad ≡ false → s.root < length t → MarksCells (marks_of t s.root) (marks_of u s.root) o s.window col count
   pub pad : o.pad ≡ true → u ≡ t
   pub none : length t ≤ s.root → u ≡ t
   pub others : (k : ℕ) → k ≢ s.root → marks_of u k ≡ marks_of t k

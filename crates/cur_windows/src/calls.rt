@@ -7,7 +7,7 @@ ghost use Rattle.cur_windows.specs.Touched.{KeepsShown, MarksWritten};
 
 use crate::desks::Desk;
 use crate::hints::{after_writing, joined};
-use crate::touched::{Touched, touch, touch_unless_refused};
+use crate::touched::{Touched, start_of, touch, touch_written};
 use cur_drawing::{Attrs, Border, Put, Refusal};
 
 // The calls on one window. Each refuses with `Full` a number above 63, and else with `NoWindow` one that names no
@@ -143,12 +143,12 @@ impl Desk {
     {
         let mut slot = self.find(id)?;
         let (region, origin) = (self.region_of(&slot), self.origin_of(&slot));
-        let first = slot.window.row;
+        let start = start_of(&slot.window, put);
         let mut lines = 0;
         let grid = &mut self.grids[slot.root as usize];
         let answer = slot.window.add(grid, put, &mut lines);
         self.scrolled = after_writing(self.scrolled, region, lines);
-        touch_unless_refused(touched, &slot, origin, first, &answer);
+        touch_written(touched, &slot, origin, start, &answer);
         self.windows[id] = Some(slot);
         answer
     }

@@ -1,13 +1,13 @@
 //! Where each grid may have changed since it was copied to the virtual screen.
-ghost use Rattle.std.specs.Prelude.{◌≡◌, ◌≢◌, ◌⊎◌, ◌<◌, ℕ, IfErr, IfOk, false, true, length};
+ghost use Rattle.std.specs.Prelude.{◌≡◌, ◌≢◌, ◌⊎◌, ◌<◌, ◌≤◌, ◌+◌, ℕ, IfErr, IfOk, false, true, length};
 ghost use Rattle.cur_drawing.specs.Marks.{Joins, none_marked};
 ghost use Rattle.cur_drawing.specs.Windows.{IsWindow};
 ghost use Rattle.cur_windows.specs.Desks as spec;
-ghost use Rattle.cur_windows.specs.Touched.{AreFull, FillsGrid, IsCleared, LeavesMarks, IsTouched, LiesWithin, MarksLines, MarksWindow, Spreads, TouchesGrid, marks_of};
+ghost use Rattle.cur_windows.specs.Touched.{AreFull, AreTouched, FillsGrid, IsCleared, IsOneCell, LeavesMarks, IsTouched, LiesWithin, MarksCells, MarksLines, MarksWindow, Spreads, TouchesGrid, marks_of};
 
 use crate::desks::{Desk, WINDOWS};
 use crate::slots::{Origin, Slot};
-use cur_drawing::{Marks, Refusal, Window};
+use cur_drawing::{Marks, Put, Refusal, Window};
 use std::alloc::{AllocError, Global};
 
 /// For each grid, by the number of the window that made it, marks at the places of the screen where it may differ from
@@ -94,7 +94,7 @@ pub(crate) fn touch(touched: &mut Touched, slot: &Slot, origin: Origin, first: u
 
 /// As `touch`, after a call that has answered so; nothing is marked where it was refused and so has written nothing.
 /// `NoScroll` it may answer after it has written.
-pub(crate) fn touch_unless_refused(
+fn touch_unless_refused(
     touched: &mut Touched,
     slot: &Slot,
     origin: Origin,
@@ -126,6 +126,80 @@ fn touch_grid(marks: &mut Marks, window: &Window, origin: Origin, first: u16)
     } else {
         mark_lines(marks, window, origin, first);
     }
+}
+
+/// Where a window's cursor was before a character was written, and whether that becomes one cell, after which the cursor
+/// is in the same line.
+#[derive(Clone, Copy)]
+pub(crate) struct Start {
+    pub row: u16,
+    pub col: u16,
+    pub one: bool,
+}
+
+/// What is to be remembered before a character is written.
+pub(crate) fn start_of(window: &Window, put: Put) -> Start
+    requires { IsWindow window.now }
+    ensures row { result.row ≡ (window.now).row }
+    ensures col { result.col ≡ (window.now).col }
+    ensures one { result.one ≡ true → IsOneCell window.now put }
+{
+    Start {
+        row: window.row,
+        col: window.col,
+        one: put.is_cell() && window.col + 1 < window.area.cols,
+    }
+}
+
+/// Marks what was written by a call that wrote a character from `start` on, and has answered so: one cell, or what
+/// `touch_unless_refused` does.
+pub(crate) fn touch_written(
+    touched: &mut Touched,
+    slot: &Slot,
+    origin: Origin,
+    start: Start,
+    answer: &Result<(), Refusal>,
+)
+    requires window { IsWindow (slot.now).window }
+    requires within { origin.pad ≡ false → LiesWithin origin (slot.now).window.area }
+    requires cell { start.one ≡ true → start.col + 1 ≤ (slot.now).window.area.cols }
+    ensures touched { ((start.one ≡ true) × AreTouched touched.old.grids.items touched.new.grids.items slot.now origin start.col 1)
+        ⊎ (IsTouched touched.old.grids.items touched.new.grids.items slot.now origin start.row
+        ⊎ LeavesMarks touched.old.grids.items touched.new.grids.items answer.now) }
+    ensures refused { IfErr answer.now (λ e. e ≢ Refusal.NoScroll → touched.new ≡ touched.old) }
+{
+    if start.one && answer.is_ok() {
+        touch_cells(touched, slot, origin, start.col, 1);
+        return;
+    }
+    touch_unless_refused(touched, slot, origin, start.row, answer);
+}
+
+/// Marks `count` cells from the column `col` on of the window's line in which its cursor is. The grid lies at `origin`,
+/// unless it is a pad's.
+fn touch_cells(touched: &mut Touched, slot: &Slot, origin: Origin, col: u16, count: u16)
+    requires window { IsWindow (slot.now).window }
+    requires within { origin.pad ≡ false → LiesWithin origin (slot.now).window.area }
+    requires cells { col + count ≤ (slot.now).window.area.cols }
+    ensures { AreTouched touched.old.grids.items touched.new.grids.items slot.now origin col count }
+{
+    let root = slot.root as usize;
+    if origin.pad || root >= touched.grids.len() {
+        return;
+    }
+    mark_cells(&mut touched.grids[root], &slot.window, origin, col, count);
+}
+
+// Marks cells of the line in which the window's cursor is.
+fn mark_cells(marks: &mut Marks, window: &Window, origin: Origin, col: u16, count: u16)
+    requires window { IsWindow window.now }
+    requires within { LiesWithin origin (window.now).area }
+    requires cells { col + count ≤ (window.now).area.cols }
+    ensures { MarksCells marks.old marks.new origin window.now col count }
+{
+    let row = origin.top + window.area.top + window.row;
+    let left = origin.left + window.area.left + col;
+    marks.mark(row, left, left + count);
 }
 
 // Marks the window's lines from the line `first` to the cursor's.
