@@ -1,13 +1,20 @@
 -- Marks of many grids, changed one after another.
-use Rattle.std.proofs.Common.{◌≡◌, ◌≢◌, ℕ, ◌+◌, ◌<◌, ◌≤◌, ◌⊎◌, [], true, length, set, refl, sym, ◌∙◌, inl, inr, arith, subst}
+use Rattle.std.proofs.Common.{ap, ◌≡◌, ◌≢◌, ℕ, ◌+◌, ◌<◌, ◌≤◌, ◌⊎◌, [], true, length, set, refl, sym, ◌∙◌, inl, inr, arith, subst, replicate}
 use Rattle.std.proofs.lemmas.Bool.{cases_eq, cases_lt}
-use Rattle.std.proofs.lemmas.List.{get_or-set_same, get_or-set_other}
+use Rattle.std.proofs.lemmas.List.{get_or-set_same, get_or-set_other, get_or-replicate, length-replicate}
 use Rattle.cur_drawing.specs.Marks.{Joins, Marking}
-use Rattle.cur_windows.specs.Touched.{Markings, Spreads, marks_of}
+use Rattle.cur_windows.specs.Touched.{AreFull, all_marked, Markings, Spreads, marks_of}
 use Rattle.cur_windows.proofs.TouchedFacts.{past_full}
 
 abbrev pub unknown : Marking
 unknown = record { all = true; lines = [] }
+
+-- as many grids, of which all is marked
+pub full_replicate : (t : Markings) (n rows : ℕ) → t ≡ replicate n (all_marked rows) → AreFull t
+full_replicate t n rows is k = ap (λ (x : Markings). (marks_of x k).all) is ∙ elim (cases_lt k n) [
+  | inl near ↦ ap (λ (m : Marking). m.all) (get_or-replicate n k (all_marked rows) unknown near)
+  | inr past ↦ past_full (replicate n (all_marked rows)) k (omega (arith, past, length-replicate n (all_marked rows)))
+]
 
 -- nothing is to be marked where all is
 pub joins_full : (m o : Marking) (rows cols : ℕ) → m.all ≡ true → Joins m o rows cols m

@@ -40,6 +40,16 @@ KeepsShown t d u e = (v : Grid) → ShowsBut t d v → ShowsBut u e v
 abbrev pub AreFull : Markings → Type 0
 AreFull t = (k : ℕ) → (marks_of t k).all ≡ true
 
+-- they are marked as well
+pub record FillsAll (t u : Markings) : Type 0 where
+  pub size : length u ≡ length t
+  pub full : AreFull u
+  pub lines : (k : ℕ) → (marks_of u k).lines ≡ (marks_of t k).lines
+
+-- a grid of which all is marked, on a screen of so many lines
+abbrev pub all_marked : ℕ → Marking
+all_marked rows = record (none_marked rows) { all = true }
+
 -- ---- writing
 
 -- the next line that is begun lets the region go up

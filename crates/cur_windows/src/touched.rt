@@ -1,34 +1,33 @@
 //! Where each grid may have changed since it was copied to the virtual screen.
-ghost use Rattle.std.specs.Prelude.{◌≡◌, ◌≢◌, ◌⊎◌, ◌<◌, ◌≤◌, ◌+◌, ℕ, IfErr, IfOk, false, true, length};
+ghost use Rattle.std.specs.Prelude.{◌≡◌, ◌≢◌, ◌⊎◌, ◌<◌, ◌≤◌, ◌+◌, ℕ, IfErr, IfOk, false, true, length, replicate};
 ghost use Rattle.cur_drawing.specs.Marks.{Joins, none_marked};
 ghost use Rattle.cur_drawing.specs.Windows.{IsWindow};
 ghost use Rattle.cur_windows.specs.Desks as spec;
-ghost use Rattle.cur_windows.specs.Touched.{AreFull, AreTouched, FillsGrid, IsCleared, IsOneCell, LeavesMarks, IsTouched, LiesWithin, MarksCells, MarksLines, MarksWindow, Spreads, TouchesGrid, marks_of};
+ghost use Rattle.cur_windows.specs.Touched.{AreFull, AreTouched, FillsAll, FillsGrid, IsCleared, IsOneCell, LeavesMarks, IsTouched, LiesWithin, MarksCells, MarksLines, MarksWindow, Spreads, TouchesGrid, all_marked, marks_of};
 
-use crate::desks::{Desk, WINDOWS};
+use crate::desks::Desk;
 use crate::slots::{Origin, Slot};
 use cur_drawing::{Marks, Put, Refusal, Window};
 use std::alloc::{AllocError, Global};
 
+/// How many grids have marks: those of windows with numbers below this one.
+const MARKED: usize = 16;
+
 /// For each grid, by the number of the window that made it, marks at the places of the screen where it may differ from
-/// the virtual screen. A grid without marks may differ in all of them.
+/// the virtual screen. A grid without marks may differ in all of them: one that a window with a number above 15 made.
 #[derive(Drop)]
 pub struct Touched {
     pub grids: Vec<Marks>,
 }
 
 impl Touched {
-    /// The marks of 64 grids on a screen of `rows` lines, all of which are marked. An error where a growth was refused.
+    /// The marks of 16 grids on a screen of `rows` lines, all of which are marked. An error where a growth was refused.
     pub fn new(alloc: Global, rows: u16) -> Result<Touched, AllocError>
-        ensures { IfOk result (λ touched. AreFull touched.grids.items) }
+        ensures value { IfOk result (λ touched. touched.grids.items ≡ replicate 16 (all_marked rows)) }
+        ensures full { IfOk result (λ touched. AreFull touched.grids.items) }
     {
-        let mut grids = Vec::with_capacity(alloc, WINDOWS)?;
-        for _k in 0..WINDOWS {
-            grids.push(Marks::new(alloc, rows)?)?;
-        }
-        let mut touched = Touched { grids };
-        touched.mark_all();
-        Ok(touched)
+        let grids = full_grids(alloc, rows)?;
+        Ok(Touched { grids })
     }
 
     /// The marks of no grid. Takes no memory.
@@ -42,15 +41,28 @@ impl Touched {
 
     /// Marks all places of all grids.
     pub fn mark_all(&mut self)
-        ensures { AreFull self.new.grids.items }
+        ensures { FillsAll self.old.grids.items self.new.grids.items }
     {
         fill(&mut self.grids);
     }
 }
 
+// Marks for 16 grids, on a screen of `rows` lines. An error where a growth was refused.
+fn full_grids(alloc: Global, rows: u16) -> Result<Vec<Marks>, AllocError>
+    ensures { IfOk result (λ grids. grids.items ≡ replicate 16 (all_marked rows)) }
+{
+    let mut grids = Vec::with_capacity(alloc, MARKED)?;
+    for _k in 0..MARKED {
+        let mut marks = Marks::new(alloc, rows)?;
+        marks.mark_all();
+        grids.push(marks)?;
+    }
+    Ok(grids)
+}
+
 // Marks all places of all of them.
 fn fill(grids: &mut Vec<Marks>)
-    ensures { AreFull grids.new.items }
+    ensures { FillsAll grids.old.items grids.new.items }
 {
     for k in 0..grids.len() {
         grids[k].mark_all();

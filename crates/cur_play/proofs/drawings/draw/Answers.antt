@@ -33,7 +33,7 @@ returns-clause-cols g c =
     let sizes : SameSizes c.args.desk.now c.args.screen.now c.show.new.desk c.show.new.screen = returns-clause-sizes g c in sizes.cols
 
 pub returns-in-Some-clause-touched : goal.returns-in-Some-clause-touched
-returns-in-Some-clause-touched g c = shows_full c.mark_all.new.self.grids.items c.make.new.desk c.args.screen.now.grid c.mark_all.ensures
+returns-in-Some-clause-touched g c = shows_full c.mark_all.new.self.grids.items c.make.new.desk c.args.screen.now.grid c.mark_all.ensures.full
 
 pub returns-in-Some-change-clause-touched : goal.returns-in-Some-change-clause-touched
 returns-in-Some-change-clause-touched g c =

@@ -5,7 +5,7 @@ use Rattle.cur_play.proofs.MarkFacts.{init_pair_grid, keeps_all, keeps_same, sho
 use Rattle.cur_play.proofs.drawings.show.Goals as goal
 
 pub returns-in-ShowPad-clause-touched : goal.returns-in-ShowPad-clause-touched
-returns-in-ShowPad-clause-touched g c = shows_full c.mark_all.new.self.grids.items c.pnoutrefresh.new.desk c.pnoutrefresh.new.screen.grid c.mark_all.ensures
+returns-in-ShowPad-clause-touched g c = shows_full c.mark_all.new.self.grids.items c.pnoutrefresh.new.desk c.pnoutrefresh.new.screen.grid c.mark_all.ensures.full
 
 pub returns-in-ShowPad-clause-marked : goal.returns-in-ShowPad-clause-marked
 returns-in-ShowPad-clause-marked g c = keeps_all _ _ _ _ (ap (λ (m : Marking). m.all) c.mark_all-in-ShowPad.ensures)

@@ -5,7 +5,7 @@ use Rattle.cur_play.proofs.MarkFacts.{keeps_full}
 use Rattle.cur_play.proofs.windows.numbers_call.Goals as goal
 
 pub returns-in-Mvwin-clause-touched : goal.returns-in-Mvwin-clause-touched
-returns-in-Mvwin-clause-touched c = keeps_full c.args.touched.now.grids.items c.mark_all.new.self.grids.items c.args.desk.now c.mvwin.new.self c.mark_all.ensures
+returns-in-Mvwin-clause-touched c = keeps_full c.args.touched.now.grids.items c.mark_all.new.self.grids.items c.args.desk.now c.mvwin.new.self c.mark_all.ensures.full
 
 pub returns-in-Move-clause-touched : goal.returns-in-Move-clause-touched
 returns-in-Move-clause-touched c =
