@@ -13,7 +13,7 @@ use Rattle.cur_drawing.specs.declared.spans.Span.{Span}
 use Rattle.cur_drawing.specs.Cells.{Content, space}
 use Rattle.cur_drawing.specs.Calls.{place}
 use Rattle.cur_drawing.specs.Grids.{Grid, cell_at, copied, drawn_in, is_in, row_of, taken}
-use Rattle.cur_drawing.specs.Marks.{AreSame, IsCopiedBut, IsSameIn, IsUnmarked, IsUntouched, Keeps, Marking, MarksOnly, marked_at, marked_between, nothing, widened}
+use Rattle.cur_drawing.specs.Marks.{AreSame, AreUnmarked, AreUnmarkedBeside, IsCopiedBut, JoinsLine, JoinsLines, Joins, IsSameIn, IsUnmarked, IsUntouched, Keeps, Marking, MarksOnly, marked_at, marked_between, nothing, widened}
 use Rattle.cur_drawing.proofs.ChangedRows.{AreEqualBeside, AreEqualOff}
 
 -- ---- columns of a line that are marked as well
@@ -218,3 +218,88 @@ copied_but_lines a from s source g m le same i j lt near u =
 -- a rectangle at one place of both grids
 pub same_is_copied : (a : Area) (source g : Grid) (m : Marking) → AreSame m g source → IsCopiedBut m a (place a.top a.left) source g
 same_is_copied a source g m same i j lt near u = same (a.top + i) (a.left + j) u
+
+-- ---- what other marks have is marked as well
+
+-- no line yet
+pub none_joined : (m o : Marking) (lines : Span) (cols : ℕ) → JoinsLines m o lines 0 cols m
+none_joined m o lines cols = record {
+  kept = λ i j u. u;
+  joined = λ i j from to lt u. absurd (omega (arith, from, to));
+  others = λ i j side u. u;
+  only = λ i j side. elim side [ inl all ↦ (all j (omega arith)).one | inr all ↦ (all j (omega arith)).one ];
+}
+
+-- one line more
+pub next_joined : (m o n x : Marking) (lines : Span) (k cols : ℕ) → JoinsLines m o lines k cols n → JoinsLine n o (lines.at + k) cols x → JoinsLines m o lines (k + 1) cols x
+next_joined m o n x lines k cols before next = record {
+  kept = λ i j u. before.kept i j (next.kept i j u);
+  joined = λ i j from to lt u. elim (cases_eq i (lines.at + k)) [
+    | inl same ↦ subst (λ (r : ℕ). IsUnmarked o r j) (sym same) (next.joined j lt (subst (λ (r : ℕ). IsUnmarked x r j) same u))
+    | inr apart ↦ before.joined i j from (omega (arith, to, apart)) lt (next.kept i j u)
+  ];
+  others = λ i j side u. next.others i j (λ same. this_line i same side) (before.others i j (sooner i side) u);
+  only = λ i j side. elim (cases_eq i (lines.at + k)) [
+    | inl same ↦ subst (λ (r : ℕ). IsUnmarked x r j) (sym same) (next.only j (subst (λ (r : ℕ). AreUnmarkedBeside n o cols r j) same (still i j same side)))
+    | inr apart ↦ next.others i j apart (before.only i j side)
+  ];
+}
+  where
+    this_line : (i : ℕ) → i ≡ lines.at + k → (i < lines.at) ⊎ (lines.at + (k + 1) ≤ i) → ⊥
+    this_line i same (inl low) = absurd (omega (arith, same, low))
+    this_line i same (inr high) = absurd (omega (arith, same, high))
+
+    sooner : (i : ℕ) → (i < lines.at) ⊎ (lines.at + (k + 1) ≤ i) → (i < lines.at) ⊎ (lines.at + k ≤ i)
+    sooner i (inl low) = inl low
+    sooner i (inr high) = inr (omega (arith, high))
+
+    stays : (i j : ℕ) → i ≡ lines.at + k → AreUnmarked m o cols i j → AreUnmarked n o cols i j
+    stays i j same u = record { one = before.others i j (inr (omega (arith, same))) u.one; other = u.other }
+
+    still : (i j : ℕ) → i ≡ lines.at + k → AreUnmarkedBeside m o cols i j → AreUnmarkedBeside n o cols i j
+    still i j same (inl all) = inl (λ l le. stays i l same (all l le))
+    still i j same (inr all) = inr (λ l le. stays i l same (all l le))
+
+-- a line of which nothing is marked
+pub line_left : (m o : Marking) (row cols : ℕ) → ((j : ℕ) → j < cols → IsUnmarked o row j) → JoinsLine m o row cols m
+line_left m o row cols none = record {
+  kept = λ i j u. u;
+  joined = λ j lt u. none j lt;
+  others = λ i j apart u. u;
+  only = λ j side. elim side [ inl all ↦ (all j (omega arith)).one | inr all ↦ (all j (omega arith)).one ];
+}
+
+-- a line of which these columns are marked
+pub line_joined : (m o n : Marking) (row cols : ℕ) (s : Span) → n ≡ marked_between row s.at (s.at + s.size) m → 0 < s.size → s.at + s.size ≤ cols →
+    ((j : ℕ) → s.at ≤ j → j < s.at + s.size → IsUnmarked o row j → ⊥) → ((j : ℕ) → j < cols → (j < s.at) ⊎ (s.at + s.size ≤ j) → IsUnmarked o row j) → JoinsLine m o row cols n
+line_joined m o n row cols s e some le marked others = record {
+  kept = λ i j u. unmarked_before m row s.at (s.at + s.size) i j (subst (λ (x : Marking). IsUnmarked x i j) e u);
+  joined = λ j lt u. others j lt (unmarked_beside m row s.at (s.at + s.size) j (subst (λ (x : Marking). IsUnmarked x row j) e u));
+  others = λ i j apart u. subst (λ (x : Marking). IsUnmarked x i j) (sym e) (unmarked_still m row s.at (s.at + s.size) i j u (λ same. absurd (apart same)));
+  only = λ j side. subst (λ (x : Marking). IsUnmarked x row j) (sym e) (elim side [
+    | inl all ↦ unmarked_still m row s.at (s.at + s.size) row j (all j (omega arith)).one (λ same. off_left s.at (s.at + s.size) j (marked_at m row) (λ k le. (all k le).one.column) (before j all))
+    | inr all ↦ unmarked_still m row s.at (s.at + s.size) row j (all j (omega arith)).one (λ same. off_right s.at (s.at + s.size) j (marked_at m row) (λ k le. (all k le).one.column) (after j all))
+  ]);
+}
+  where
+    before : (j : ℕ) → ((k : ℕ) → k ≤ j → AreUnmarked m o cols row k) → j < s.at
+    before j all = elim (cases_lt j s.at) [
+      | inl near ↦ near
+      | inr past ↦ absurd (marked s.at (omega arith) (omega (arith, some)) ((all s.at past).other (omega (arith, some, le))))
+    ]
+
+    after : (j : ℕ) → ((k : ℕ) → j ≤ k → AreUnmarked m o cols row k) → s.at + s.size ≤ j
+    after j all = elim (cases_lt j (s.at + s.size)) [
+      | inl near ↦ absurd (marked (s.at + s.size - 1) (omega (arith, some)) (omega (arith, some)) ((all (s.at + s.size - 1) (omega (arith, near))).other (omega (arith, some, le))))
+      | inr past ↦ past
+    ]
+
+pub all_joined : (m o n : Marking) (lines : Span) (rows cols : ℕ) → JoinsLines m o lines lines.size cols n → ((i j : ℕ) → i < rows → (i < lines.at) ⊎ (lines.at + lines.size ≤ i) → IsUnmarked o i j) → Joins m o rows cols n
+all_joined m o n lines rows cols is others = record {
+  kept = is.kept;
+  joined = λ i j row col u. elim (cases_lt i lines.at) [
+    | inl low ↦ others i j row (inl low)
+    | inr from ↦ elim (cases_lt i (lines.at + lines.size)) [ inl to ↦ is.joined i j from to col u | inr high ↦ others i j row (inr high) ]
+  ];
+  only = is.only;
+}

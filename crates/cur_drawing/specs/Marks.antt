@@ -1,9 +1,10 @@
 -- Marks at the places of a grid that may differ from another one: of each line, the columns from one on and before another.
-use Rattle.std.specs.Prelude.{ℕ, ◌+◌, ◌<◌, ◌≤◌, ◌≡◌, ◌⊎◌, Bool, false, List, length, replicate, slice_index_or, slice_set, nat_lt, min, max, if◌then◌else◌}
+use Rattle.std.specs.Prelude.{ℕ, ◌+◌, ◌<◌, ◌≤◌, ◌≡◌, ◌≢◌, ◌⊎◌, Bool, false, List, length, replicate, slice_index_or, slice_set, nat_lt, min, max, if◌then◌else◌}
 use Rattle.grids.specs.declared.areas.Area.{Area}
 use Rattle.grids.specs.declared.areas.Place.{Place}
 use Rattle.cur_drawing.specs.Grids.{Grid, cell_at}
 use Rattle.cur_drawing.specs.declared.marks.Marked.{Marked}
+use Rattle.cur_drawing.specs.declared.spans.Span.{Span}
 
 pub record Marking : Type 0 where
   -- all places are marked
@@ -69,3 +70,36 @@ pub record IsUntouched (m : Marking) (g h : Grid) (i j : ℕ) : Type 0 where
 -- differ: a place before these, or after them, is unmarked.
 abbrev pub MarksOnly : Marking → Grid → Marking → Grid → Type 0
 MarksOnly m g n h = (i j : ℕ) → ((k : ℕ) → k ≤ j → IsUntouched m g h i k) ⊎ ((k : ℕ) → j ≤ k → IsUntouched m g h i k) → IsUnmarked n i j
+
+-- ---- what other marks have is marked as well
+
+-- neither of two markings has a mark at a place, of which the other one counts so many columns
+pub record AreUnmarked (m o : Marking) (cols i j : ℕ) : Type 0 where
+  pub one : IsUnmarked m i j
+  pub other : j < cols → IsUnmarked o i j
+
+-- nothing is marked before a place, or after it
+abbrev pub AreUnmarkedBeside : Marking → Marking → ℕ → ℕ → ℕ → Type 0
+AreUnmarkedBeside m o cols i j =
+    ((k : ℕ) → k ≤ j → AreUnmarked m o cols i k) ⊎ ((k : ℕ) → j ≤ k → AreUnmarked m o cols i k)
+
+-- in one line
+pub record JoinsLine (m o : Marking) (row cols : ℕ) (n : Marking) : Type 0 where
+  pub kept : (i j : ℕ) → IsUnmarked n i j → IsUnmarked m i j
+  pub joined : (j : ℕ) → j < cols → IsUnmarked n row j → IsUnmarked o row j
+  pub others : (i j : ℕ) → i ≢ row → IsUnmarked m i j → IsUnmarked n i j
+  pub only : (j : ℕ) → AreUnmarkedBeside m o cols row j → IsUnmarked n row j
+
+-- in the first k of some lines
+pub record JoinsLines (m o : Marking) (lines : Span) (k cols : ℕ) (n : Marking) : Type 0 where
+  pub kept : (i j : ℕ) → IsUnmarked n i j → IsUnmarked m i j
+  pub joined : (i j : ℕ) → lines.at ≤ i → i < lines.at + k → j < cols → IsUnmarked n i j → IsUnmarked o i j
+  pub others : (i j : ℕ) → (i < lines.at) ⊎ (lines.at + k ≤ i) → IsUnmarked m i j → IsUnmarked n i j
+  pub only : (i j : ℕ) → AreUnmarkedBeside m o cols i j → IsUnmarked n i j
+
+-- in all lines and columns of a screen: what was marked stays, and no more is marked than from the first to the last
+-- place of a line that was marked in one of them
+pub record Joins (m o : Marking) (rows cols : ℕ) (n : Marking) : Type 0 where
+  pub kept : (i j : ℕ) → IsUnmarked n i j → IsUnmarked m i j
+  pub joined : (i j : ℕ) → i < rows → j < cols → IsUnmarked n i j → IsUnmarked o i j
+  pub only : (i j : ℕ) → AreUnmarkedBeside m o cols i j → IsUnmarked n i j

@@ -1,6 +1,6 @@
 //! Marks at the places of a screen that may differ from another one.
 ghost use Rattle.std.specs.Prelude.{ℕ, ◌≡◌, ◌<◌, ◌≤◌, ◌+◌, ◌⊎◌, IfOk, length, replicate, true, []};
-ghost use Rattle.cur_drawing.specs.Marks.{AreMarkedWithin, IsUnmarked, marked_between, none_marked, nothing, widened};
+ghost use Rattle.cur_drawing.specs.Marks.{AreMarkedWithin, IsUnmarked, Joins, JoinsLine, JoinsLines, marked_between, none_marked, nothing, widened};
 
 use crate::spans::Span;
 use std::alloc::{AllocError, Global};
@@ -102,6 +102,21 @@ impl Marks {
         self.all = false;
     }
 
+    /// Whether all places are marked, however many there are.
+    pub fn is_full(&self) -> bool
+        ensures { result ≡ (self.now).all }
+    {
+        self.all
+    }
+
+    /// Marks what other marks have in the first `rows` lines and `cols` columns as well, of each line from its first
+    /// mark to its last one.
+    pub fn join(&mut self, other: &Marks, rows: u16, cols: u16)
+        ensures { Joins self.old other.now rows cols self.new }
+    {
+        join_lines(self, other, other.rows(rows), cols);
+    }
+
     /// The lines that may have a mark, of the first `rows`.
     pub fn rows(&self, rows: u16) -> Span
         ensures within { result.at + result.size ≤ rows }
@@ -166,5 +181,25 @@ fn clear_lines(lines: &mut [Marked], rows: Marked)
 {
     for k in rows.from..rows.end {
         lines[k as usize] = NONE;
+    }
+}
+
+// Marks what other marks have in these lines as well.
+fn join_lines(marks: &mut Marks, other: &Marks, lines: Span, cols: u16)
+    requires { lines.at + lines.size < 65536 }
+    ensures { JoinsLines marks.old other.now lines lines.size cols marks.new }
+{
+    for k in 0..lines.size {
+        join_line(marks, other, lines.at + k, cols);
+    }
+}
+
+// Marks what other marks have in a line as well.
+fn join_line(marks: &mut Marks, other: &Marks, row: u16, cols: u16)
+    ensures { JoinsLine marks.old other.now row cols marks.new }
+{
+    let line = other.columns(row, cols);
+    if line.size > 0 {
+        marks.mark(row, line.at, line.at + line.size);
     }
 }

@@ -1,5 +1,5 @@
 //! The characters and borders that calls are given.
-ghost use Rattle.std.specs.Prelude.{◌≡◌, nat_lt, OnOk};
+ghost use Rattle.std.specs.Prelude.{◌&&◌, ◌≡◌, nat_lt, OnOk};
 ghost use Rattle.cur_drawing.specs.Windows.{is_printed, is_pair, checked};
 ghost use Rattle.cur_drawing.specs.Calls.{plain, of_cell, to_cell, drawn_line, default_border, box_of, IsBorder, checked_cell, checked_border};
 
@@ -81,6 +81,13 @@ impl Put {
         ensures { result ≡ is_pair self.pair }
     {
         self.pair < PAIRS
+    }
+
+    /// Whether a cell may hold it as it is.
+    pub fn is_cell(self) -> bool
+        ensures { result ≡ (is_printed self.byte && is_pair self.pair) }
+    {
+        self.is_printed() && self.has_pair()
     }
 
     // Whether a cell may hold it as it is.

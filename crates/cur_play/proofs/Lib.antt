@@ -8,3 +8,4 @@ pub mod Logs
 pub mod MarkFacts
 pub mod GridFacts
 pub mod Wires
+pub mod WindowMarks

@@ -1,19 +1,26 @@
 -- The marks of a session, call by call.
-use Rattle.std.proofs.Common.{◌≡◌, ◌==◌, ℕ, Bool, true, false, Option, Some, None, Result, ℤ, if◌then◌else◌, refl, sym, ap, ◌∙◌}
+use Rattle.std.proofs.Common.{◌≡◌, ◌==◌, ℕ, Bool, true, false, Option, Some, None, Result, ℤ, if◌then◌else◌, refl, sym, ap, ◌∙◌, subst}
 use Rattle.cur_drawing.specs.declared.refusals.Refusal.{Refusal}
 use Rattle.cur_drawing.specs.Cells.{pair_count}
 use Rattle.cur_drawing.specs.Grids.{Grid, cell_at}
 use Rattle.cur_drawing.specs.Marks.{AreSame, Keeps, Marking}
 use Rattle.cur_drawing.specs.Windows.{place_below}
+use Rattle.cur_windows.specs.Desks.{State}
+use Rattle.cur_windows.specs.Touched.{AreFull, KeepsShown, Markings, ShowsBut}
 use Rattle.cur_windows.specs.VirtualScreen.{Screen, init_pair, initialized}
+use Rattle.cur_windows.proofs.TouchedFacts.{shows_full}
 
 -- screens of equal cells
 pub same_cells : (m : Marking) (v w x y : Screen) → v ≡ x → y ≡ w → AreSame m x.grid w.grid → AreSame m v.grid y.grid
 same_cells m v w x y e f same i j u =
     ap (λ (s : Screen). cell_at s.grid i j) e ∙ same i j u ∙ sym (ap (λ (s : Screen). cell_at s.grid i j) f)
 
-pub same_screen : (m : Marking) (v w g : Grid) → w ≡ v → AreSame m v g → AreSame m w g
-same_screen m v w g e same i j u = ap (λ (x : Grid). cell_at x i j) e ∙ same i j u
+pub shown_on : (t : Markings) (d : State) (v w : Grid) → w ≡ v → ShowsBut t d v → ShowsBut t d w
+shown_on t d v w e shown = subst (λ (x : Grid). ShowsBut t d x) (sym e) shown
+
+-- all of each grid is marked
+pub keeps_full : (t u : Markings) (d e : State) → AreFull u → KeepsShown t d u e
+keeps_full t u d e full v shown = shows_full u e v full
 
 -- a screen that was shown
 pub same_shown : (m : Marking) (v w x : Screen) → v ≡ x → w.grid ≡ x.grid → AreSame m v.grid w.grid

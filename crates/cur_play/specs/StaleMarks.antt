@@ -1,11 +1,12 @@
 -- (Serves the code alone.) Where what was copied may differ from what it is a copy of.
 use Rattle.cur_drawing.specs.Grids.{Grid}
 use Rattle.cur_drawing.specs.Marks.{AreSame}
-use Rattle.cur_windows.specs.Desks.{State, grid_at}
+use Rattle.cur_windows.specs.Desks.{State}
+use Rattle.cur_windows.specs.Touched.{ShowsBut}
 use Rattle.cur_windows.specs.VirtualScreen.{Screen}
 use Rattle.cur_play.specs.declared.stale_marks.StaleMarks.{StaleMarks}
 
--- outside the marks the virtual screen has the cells of window 0's grid, and what was shown last those of the screen
+-- outside the marks the virtual screen has the cells of each grid, and what was shown last those of the screen
 pub record IsKnown (c : StaleMarks) (d : State) (v : Screen) (shown : Grid) : Type 0 where
-  pub window : AreSame c.window v.grid (grid_at d 0)
+  pub window : ShowsBut c.window.grids.items d v.grid
   pub screen : AreSame c.screen shown v.grid

@@ -1,7 +1,7 @@
 //! What calls do before anything is sent.
 ghost use Rattle.std.specs.Prelude.{◌≡◌};
-ghost use Rattle.cur_drawing.specs.Marks.{AreSame, Keeps};
-ghost use Rattle.cur_windows.specs.Desks.{grid_at};
+ghost use Rattle.cur_drawing.specs.Marks.{Keeps};
+ghost use Rattle.cur_windows.specs.Touched.{ShowsBut};
 ghost use Rattle.cur_play.specs.Drawings.{Draws, SameSizes};
 ghost use Rattle.cur_play.specs.Steps.{showing};
 
@@ -25,7 +25,7 @@ pub(crate) fn draw<C: Certificate>(
 ) -> Answer
     requires rows { (screen.old).rows ≡ (desk.old).rows }
     requires cols { (screen.old).cols ≡ (desk.old).cols }
-    requires touched { AreSame stale.old.window (screen.old).grid (grid_at desk.old 0) }
+    requires touched { ShowsBut stale.old.window.grids.items desk.old (screen.old).grid }
     ensures draws { Draws (C.table painter.old.checked)
         (record {
           desk = desk.old;
@@ -45,7 +45,7 @@ pub(crate) fn draw<C: Certificate>(
     ensures cols { (screen.new).cols ≡ (screen.old).cols }
     ensures certificate { painter.new.checked ≡ painter.old.checked }
     ensures painter { painter.new ≡ record painter.old { mode = painter.new.mode } }
-    ensures touched { AreSame stale.new.window (screen.new).grid (grid_at desk.new 0) }
+    ensures touched { ShowsBut stale.new.window.grids.items desk.new (screen.new).grid }
     ensures marked { Keeps stale.old.screen (screen.old).grid stale.new.screen (screen.new).grid }
 {
     if let Some(outcome) = make(desk, call) {
@@ -68,7 +68,7 @@ fn show<C: Certificate>(
 ) -> Answer
     requires rows { (screen.old).rows ≡ (desk.old).rows }
     requires cols { (screen.old).cols ≡ (desk.old).cols }
-    requires touched { AreSame stale.old.window (screen.old).grid (grid_at desk.old 0) }
+    requires touched { ShowsBut stale.old.window.grids.items desk.old (screen.old).grid }
     ensures step { (
       record { desk = desk.new; screen = screen.new; mode = painter.new.mode; status = painter.old.session.status },
       result,
@@ -77,7 +77,7 @@ fn show<C: Certificate>(
         (record { desk = desk.old; screen = screen.old; mode = painter.old.mode; status = painter.old.session.status })
         call.now }
     ensures painter { painter.new ≡ record painter.old { mode = painter.new.mode } }
-    ensures touched { AreSame stale.new.window (screen.new).grid (grid_at desk.new 0) }
+    ensures touched { ShowsBut stale.new.window.grids.items desk.new (screen.new).grid }
     ensures marked { Keeps stale.old.screen (screen.old).grid stale.new.screen (screen.new).grid }
 {
     match call {

@@ -1,19 +1,25 @@
 //! Where what was copied may differ from what it is a copy of.
-use cur_windows::Marks;
+ghost use Rattle.std.specs.Prelude.{IfOk};
+ghost use Rattle.cur_windows.specs.Touched.{AreFull};
+
+use cur_windows::{Marks, Touched};
 use std::alloc::{AllocError, Global};
 
-/// Marks at the places where the virtual screen may differ from window 0's grid, and at those where it may differ from
-/// what the painter has shown last.
+/// Marks at the places where the virtual screen may differ from each grid, and at those where it may differ from what
+/// the painter has shown last.
 #[derive(Drop)]
 pub struct StaleMarks {
-    pub window: Marks,
+    pub window: Touched,
     pub screen: Marks,
 }
 
 impl StaleMarks {
-    /// None, for a screen of `rows` lines. An error where a growth was refused.
-    pub(crate) fn new(alloc: Global, rows: u16) -> Result<StaleMarks, AllocError> {
-        let window = Marks::new(alloc, rows)?;
+    /// For a screen of `rows` lines: all is marked of each grid, and nothing of the screen. An error where a growth was
+    /// refused.
+    pub(crate) fn new(alloc: Global, rows: u16) -> Result<StaleMarks, AllocError>
+        ensures { IfOk result (λ stale. AreFull stale.window.grids.items) }
+    {
+        let window = Touched::new(alloc, rows)?;
         let screen = Marks::new(alloc, rows)?;
         Ok(StaleMarks { window, screen })
     }

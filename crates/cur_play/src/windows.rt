@@ -1,8 +1,8 @@
 //! The calls that change windows, or delete one.
 ghost use Rattle.std.specs.Prelude.{◌≡◌};
-ghost use Rattle.cur_drawing.specs.Marks.{Keeps};
 ghost use Rattle.cur_windows.specs.Copies.{common_part};
 ghost use Rattle.cur_windows.specs.Desks as desks;
+ghost use Rattle.cur_windows.specs.Touched.{KeepsShown};
 ghost use Rattle.cur_play.specs.Groups.{Does};
 ghost use Rattle.cur_play.specs.Windows as spec;
 
@@ -10,23 +10,20 @@ use cur_calls::{
     Attrs, AttrsCall, Call, CellCall, FlagCall, LayCall, LineCall, NumberCall, NumbersCall,
     PlainCall, Put,
 };
-use cur_windows::{Desk, Marks, Refusal};
+use cur_windows::{Desk, Refusal, Touched};
 
-/// Changes windows; `None` for a call that doesn't, or that does more. Where window 0's grid may have changed it is
-/// marked as well.
+/// Changes windows; `None` for a call that doesn't, or that does more. Where a grid may have changed, or where it lies,
+/// it is marked as well.
 pub(crate) fn change(
     desk: &mut Desk,
-    touched: &mut Marks,
+    touched: &mut Touched,
     call: &Call<'_>,
 ) -> Option<Result<(), Refusal>>
     ensures does { Does desk.old desk.new result (spec.changing desk.old call.now) }
-    ensures touched { Keeps touched.old (desks.grid_at desk.old 0) touched.new (desks.grid_at desk.new 0) }
+    ensures touched { KeepsShown touched.old.grids.items desk.old touched.new.grids.items desk.new }
 {
     match call {
-        Call::Plain { call, window } => {
-            touched.mark_all();
-            Some(plain(desk, *call, *window))
-        }
+        Call::Plain { call, window } => Some(plain_marked(desk, touched, *call, *window)),
         Call::Number {
             call,
             window,
@@ -37,7 +34,7 @@ pub(crate) fn change(
             window,
             first,
             second,
-        } => Some(numbers_call(desk, *call, *window, *first, *second)),
+        } => Some(numbers_call(desk, touched, *call, *window, *first, *second)),
         Call::Flag { call, window, on } => Some(flag(desk, *call, *window, *on)),
         Call::Attributes {
             call,
@@ -50,6 +47,32 @@ pub(crate) fn change(
             text.as_slice(),
             touched,
         )),
+        _ => shape_marked(desk, touched, call),
+    }
+}
+
+/// As `shape`; what a call may change is marked.
+fn shape_marked(
+    desk: &mut Desk,
+    touched: &mut Touched,
+    call: &Call<'_>,
+) -> Option<Result<(), Refusal>>
+    ensures does { Does desk.old desk.new result (spec.shaping desk.old call.now) }
+    ensures touched { KeepsShown touched.old.grids.items desk.old touched.new.grids.items desk.new }
+{
+    match call {
+        Call::Line { window, .. } => {
+            desk.mark_window(*window, touched);
+            shape(desk, call)
+        }
+        Call::DrawBorder { window, .. } => {
+            desk.mark_window(*window, touched);
+            shape(desk, call)
+        }
+        Call::DrawBox { window, .. } => {
+            desk.mark_window(*window, touched);
+            shape(desk, call)
+        }
         _ => {
             let outcome = shape(desk, call)?;
             touched.mark_all();
@@ -99,6 +122,24 @@ fn shape(desk: &mut Desk, call: &Call<'_>) -> Option<Result<(), Refusal>>
     }
 }
 
+/// As `plain`; what a call may change is marked.
+fn plain_marked(
+    desk: &mut Desk,
+    touched: &mut Touched,
+    call: PlainCall,
+    window: usize,
+) -> Result<(), Refusal>
+    ensures step { desks.step desk.new result ≡ spec.plain_step call desk.old window }
+    ensures touched { KeepsShown touched.old.grids.items desk.old touched.new.grids.items desk.new }
+{
+    if let PlainCall::Delwin = call {
+        touched.mark_all();
+        return plain(desk, call, window);
+    }
+    desk.mark_window(window, touched);
+    plain(desk, call, window)
+}
+
 fn plain(desk: &mut Desk, call: PlainCall, window: usize) -> Result<(), Refusal>
     ensures { desks.step desk.new result ≡ spec.plain_step call desk.old window }
 {
@@ -117,17 +158,17 @@ fn plain(desk: &mut Desk, call: PlainCall, window: usize) -> Result<(), Refusal>
 
 fn number_call(
     desk: &mut Desk,
-    touched: &mut Marks,
+    touched: &mut Touched,
     call: NumberCall,
     window: usize,
     number: i32,
 ) -> Result<(), Refusal>
     ensures step { desks.step desk.new result ≡ spec.number_step call desk.old window number }
-    ensures touched { Keeps touched.old (desks.grid_at desk.old 0) touched.new (desks.grid_at desk.new 0) }
+    ensures touched { KeepsShown touched.old.grids.items desk.old touched.new.grids.items desk.new }
 {
     match call {
         NumberCall::Scroll => {
-            touched.mark_all();
+            desk.mark_window(window, touched);
             desk.scroll(window, number)
         }
         NumberCall::ColorSet => desk.color_set(window, number),
@@ -136,15 +177,20 @@ fn number_call(
 
 fn numbers_call(
     desk: &mut Desk,
+    touched: &mut Touched,
     call: NumbersCall,
     window: usize,
     first: i32,
     second: i32,
 ) -> Result<(), Refusal>
-    ensures { desks.step desk.new result ≡ spec.numbers_step call desk.old window first second }
+    ensures step { desks.step desk.new result ≡ spec.numbers_step call desk.old window first second }
+    ensures touched { KeepsShown touched.old.grids.items desk.old touched.new.grids.items desk.new }
 {
     match call {
-        NumbersCall::Mvwin => desk.mvwin(window, first, second),
+        NumbersCall::Mvwin => {
+            touched.mark_all();
+            desk.mvwin(window, first, second)
+        }
         NumbersCall::Move => desk.move_to(window, first, second),
         NumbersCall::Setscrreg => desk.setscrreg(window, first, second),
         NumbersCall::Touchline => desk.touchline(window, first, second),
@@ -174,23 +220,23 @@ fn attributes(desk: &mut Desk, call: AttrsCall, window: usize, attrs: Attrs) -> 
 
 fn cell(
     desk: &mut Desk,
-    touched: &mut Marks,
+    touched: &mut Touched,
     call: CellCall,
     window: usize,
     put: Put,
 ) -> Result<(), Refusal>
     ensures step { desks.step desk.new result ≡ spec.cell_step call desk.old window put }
-    ensures touched { Keeps touched.old (desks.grid_at desk.old 0) touched.new (desks.grid_at desk.new 0) }
+    ensures touched { KeepsShown touched.old.grids.items desk.old touched.new.grids.items desk.new }
 {
     match call {
         CellCall::Addch => desk.addch_marked(window, put, touched),
         CellCall::Insch => {
-            touched.mark_all();
+            desk.mark_window(window, touched);
             desk.insch(window, put)
         }
         CellCall::Bkgdset => desk.bkgdset(window, put),
         CellCall::Bkgd => {
-            touched.mark_all();
+            desk.mark_window(window, touched);
             desk.bkgd(window, put)
         }
     }

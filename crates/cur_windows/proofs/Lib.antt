@@ -13,3 +13,5 @@ pub mod ViewFacts
 pub mod Within
 pub mod WrittenLines
 pub mod TouchedFacts
+pub mod CellFacts
+pub mod Spreading

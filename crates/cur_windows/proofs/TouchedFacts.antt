@@ -1,8 +1,9 @@
--- Grids that are the same where they aren't marked, after writing and after copying.
+-- A screen that shows a grid where it isn't marked, after writing and after copying.
 use Rattle.std.proofs.Common.{◌≡◌, ◌≢◌, ℕ, ◌+◌, ◌-◌, ◌<◌, ◌≤◌, ◌⊎◌, Bool, true, false, List, [], Option, Some, None, Result, Ok, Err, IfErr, OnOk, nat_lt, if◌then◌else◌, length, get_or, set, refl, sym, ap, ◌∙◌, inl, inr, arith, subst}
+use Rattle.std.specs.Option.{is_some}
 use Rattle.std.proofs.lemmas.Bool.{cases_eq, cases_lt}
 use Rattle.std.proofs.lemmas.Bool.Decides.{nat_tests}
-use Rattle.std.proofs.lemmas.List.{get_or-set_same, get_or-set_other, get_or_default, length-set, set-get_or}
+use Rattle.std.proofs.lemmas.List.{get_or-set_same, get_or-set_other, get_or_default, get_or_past, length-set, set-get_or}
 use Rattle.grids.specs.declared.areas.Area.{Area}
 use Rattle.grids.specs.declared.areas.Place.{Place}
 use Rattle.grids.specs.Grids as base
@@ -10,98 +11,178 @@ use Rattle.grids.proofs.Drawings.{cell_at-drawn_in, cell_at-drawn_in_off}
 use Rattle.cur_drawing.specs.declared.windows.Window.{Window}
 use Rattle.cur_drawing.specs.Cells.{space}
 use Rattle.cur_drawing.specs.declared.refusals.Refusal.{Refusal}
-use Rattle.cur_drawing.specs.Calls.{Canvas, CanvasStep, IsCanvas, canvas, place, step}
-use Rattle.cur_drawing.specs.Grids.{Grid, Fits, cell_at, copied, is_in, line_at, taken}
+use Rattle.cur_drawing.specs.Calls.{Canvas, CanvasStep, IsCanvas, IsKept, canvas, place, step}
+use Rattle.cur_drawing.specs.Grids.{Grid, Fits, cell_at, copied, is_in, line_at, shape_of, taken}
 use Rattle.cur_drawing.specs.Laws.{ChangesNothingIfRefusedButNoScroll, IsLocal, Stays}
-use Rattle.cur_drawing.specs.Windows.{lines_of}
 use Rattle.cur_drawing.specs.declared.marks.Marked.{Marked}
-use Rattle.cur_drawing.specs.Marks.{AreSame, IsCopiedBut, IsUnmarked, Keeps, Marking, marked_at, marked_between, nothing, widened}
+use Rattle.cur_drawing.specs.Marks.{AreSame, IsUnmarked, Joins, Marking, marked_at, marked_between, none_marked, nothing, widened}
 use Rattle.cur_drawing.specs.declared.refusals.Refusal.TheVariants.{Full}
-use Rattle.cur_windows.proofs.Slices.{all_copied, whole}
+use Rattle.cur_drawing.proofs.DrawingFacts.{shape_of-line, shape_of-length}
 use Rattle.cur_windows.proofs.WrittenLines.{Writes, Writing}
+use Rattle.cur_windows.specs.declared.slots.Origin.{Origin}
 use Rattle.cur_windows.specs.declared.slots.Slot.{Slot}
-use Rattle.cur_windows.specs.Desks.{IsDesk, IsFramed, IsPlaced, State, grid_at, slot_of, some_slot, window_at}
+use Rattle.cur_windows.specs.Desks as desks
+use Rattle.cur_windows.specs.Desks.{DeskStep, IsDesk, IsFramed, IsPlaced, IsWhole, State, after, grid_at, on_grid, on_screen, on_window, origin_at, slot_of, some_slot, window_at}
 use Rattle.cur_windows.specs.VirtualScreen.{IsScreen, Screen, area_on_screen}
 use Rattle.cur_drawing.specs.declared.refusals.Refusal.TheVariants.{NoScroll}
-use Rattle.cur_windows.specs.Touched.{IsGoneThrough, LeavesMarks, IsTouched, MarksWritten, WritesLine}
+use Rattle.cur_windows.specs.Touched.{AreFull, FillsGrid, HasAll, IsCleared, IsGoneThrough, IsShownBut, KeepsShown, LeavesMarks, IsTouched, IsWrittenLine, Markings, MarksCopied, MarksWindow, MarksWritten, ShowsBut, Spreads, TouchesGrid, WritesLine, lines_shown, marks_of}
 
 -- ---- writing
 
--- some lines of a rectangle
-abbrev lines_in : Area → ℕ → ℕ → Area
-lines_in a first n = record { top = a.top + first; left = a.left; rows = n; cols = a.cols }
+-- lines of a rectangle of a grid, on the screen
+abbrev lines_at : Origin → Area → ℕ → ℕ → Area
+lines_at o a first n = record { top = o.top + a.top + first; left = o.left + a.left; rows = n; cols = a.cols }
 
 -- a place of the rectangle in another line than these
-other_line : (a : Area) (first last i j : ℕ) → first ≤ last → is_in a i j ≡ true → is_in (lines_in a first (last + 1 - first)) i j ≡ false → (i < a.top + first) ⊎ (a.top + last < i)
-other_line a first last i j le on off = grind (arith, nat_tests)
+other_line : (o : Origin) (a : Area) (first last i j : ℕ) → first ≤ last → is_in a i j ≡ true → is_in (lines_at o a first (last + 1 - first)) (o.top + i) (o.left + j) ≡ false → (i < a.top + first) ⊎ (a.top + last < i)
+other_line o a first last i j le on off = grind (arith, nat_tests)
 
 -- what isn't marked after writing is as it was
-unchanged : (s : Canvas) (h : Grid) (m n : Marking) (slot : Slot) → Writes s (canvas h slot.window) → Stays s (canvas h slot.window) → IsTouched m n slot s.window.row → slot.root ≡ 0 →
-    (i j : ℕ) → IsUnmarked n i j → cell_at h i j ≡ cell_at s.grid i j
-unchanged s h m n slot writes stays is root i j u = at (is_in s.window.area i j) refl
+unchanged : (s : Canvas) (h : Grid) (m n : Marking) (w : Window) (o : Origin) → Writes s (canvas h w) → Stays s (canvas h w) → TouchesGrid m n w o s.window.row →
+    (i j : ℕ) → IsUnmarked n (o.top + i) (o.left + j) → cell_at h i j ≡ cell_at s.grid i j
+unchanged s h m n w o writes stays is i j off = at (is_in s.window.area i j) refl
   where
-    lines : is_in (lines_in s.window.area s.window.row (slot.window.row + 1 - s.window.row)) i j ≡ false
-    lines = subst (λ (a : Area). is_in (lines_in a s.window.row (slot.window.row + 1 - s.window.row)) i j ≡ false) writes.area (is.lines root i j u)
+    lines : is_in (lines_at o s.window.area s.window.row (w.row + 1 - s.window.row)) (o.top + i) (o.left + j) ≡ false
+    lines = subst (λ (a : Area). is_in (lines_at o a s.window.row (w.row + 1 - s.window.row)) (o.top + i) (o.left + j) ≡ false) writes.area (is.lines (o.top + i) (o.left + j) off)
 
     at : (b : Bool) → is_in s.window.area i j ≡ b → cell_at h i j ≡ cell_at s.grid i j
-    at true on = writes.cells (λ may. is.all root may i j u) i j (other_line s.window.area s.window.row slot.window.row i j writes.down on lines)
-    at false off = stays.outside i j off
+    at true on = writes.cells (λ may. is.all may (o.top + i) (o.left + j) off) i j (other_line o s.window.area s.window.row w.row i j writes.down on lines)
+    at false beside = stays.outside i j beside
 
--- a window of some grid is written
-pub slot_written : (gs : List Grid) (w : Window) (slot : Slot) (h : Grid) (m n : Marking) → slot.root < length gs → Writes (canvas (get_or gs slot.root []) w) (canvas h slot.window) →
-    Stays (canvas (get_or gs slot.root []) w) (canvas h slot.window) → IsTouched m n slot w.row → Keeps m (get_or gs 0 []) n (get_or (set gs slot.root h) 0 [])
-slot_written gs w slot h m n lt writes stays is v same i j u =
-    elim (cases_eq slot.root 0) [
-      | inl root ↦ same i j (is.kept i j u) ∙ ap (λ (k : ℕ). cell_at (get_or gs k []) i j) (sym root)
-          ∙ sym (unchanged (canvas (get_or gs slot.root []) w) h m n slot writes stays is root i j u)
-          ∙ sym (ap (λ (g : Grid). cell_at g i j) (ap (λ (k : ℕ). get_or (set gs slot.root h) k []) (sym root) ∙ get_or-set_same gs slot.root h [] lt))
-      | inr other ↦ same i j (is.kept i j u)
-          ∙ sym (ap (λ (g : Grid). cell_at g i j) (get_or-set_other gs slot.root 0 h [] (λ (e : 0 ≡ slot.root). other (sym e))))
+-- the desk after a window of some grid was written
+abbrev pub with_grid : State → Slot → Grid → List (Option Slot) → State
+with_grid d slot h ws = record d { grids = set d.grids slot.root h; windows = ws }
+
+-- all of a grid may differ
+pub shown_full : (m : Marking) (o : Origin) (g v : Grid) → m.all ≡ true → IsShownBut m o g v
+shown_full m o g v all i j row col off = absurd (let some = off.some in cc)
+
+pub shows_full : (t : Markings) (d : State) (v : Grid) → AreFull t → ShowsBut t d v
+shows_full t d v full k lies = shown_full (marks_of t k) (origin_at d k) (grid_at d k) v (full k)
+
+-- a grid without marks
+pub past_full : (t : Markings) (k : ℕ) → length t ≤ k → (marks_of t k).all ≡ true
+past_full t k past = ap (λ (m : Marking). m.all) (get_or_past t k (record { all = true; lines = [] }) past)
+
+-- what isn't marked after a call wasn't before, and is as it was on the grid
+pub record Spares (m n : Marking) (o : Origin) (g h : Grid) : Type 0 where
+  pub kept : (i j : ℕ) → IsUnmarked n i j → IsUnmarked m i j
+  pub same : (i j : ℕ) → IsUnmarked n (o.top + i) (o.left + j) → cell_at h i j ≡ cell_at g i j
+
+-- the same of the grid of a window, unless it is a pad's, and nothing of any other has changed
+pub record SparesGrid (t u : Markings) (d : State) (slot : Slot) (h : Grid) : Type 0 where
+  pub grid : (origin_at d slot.root).pad ≡ false → slot.root < length t → Spares (marks_of t slot.root) (marks_of u slot.root) (origin_at d slot.root) (grid_at d slot.root) h
+  pub none : length t ≤ slot.root → u ≡ t
+  pub others : (k : ℕ) → k ≢ slot.root → marks_of u k ≡ marks_of t k
+
+-- the grid that is written
+same_written : (d : State) (ws : List (Option Slot)) (slot : Slot) (h : Grid) (m n : Marking) (v : Grid) → slot.root < length d.grids → shape_of h ≡ shape_of (grid_at d slot.root) → Spares m n (origin_at d slot.root) (grid_at d slot.root) h →
+    IsShownBut m (origin_at d slot.root) (grid_at d slot.root) v → IsShownBut n (origin_at d slot.root) (grid_at (with_grid d slot h ws) slot.root) v
+same_written d ws slot h m n v lt shape spares shown =
+    subst (λ (x : Grid). IsShownBut n (origin_at d slot.root) x v) (sym (get_or-set_same d.grids slot.root h [] lt))
+    (λ i j row col off.
+    shown i j (omega (arith, row, shape_of-length (grid_at d slot.root) h shape)) (omega (arith, col, shape_of-line (grid_at d slot.root) h i shape)) (spares.kept _ _ off)
+    ∙ sym (spares.same i j off))
+
+-- another one
+other_written : (d : State) (ws : List (Option Slot)) (slot : Slot) (h : Grid) (m : Marking) (v : Grid) (k : ℕ) → k ≢ slot.root → IsShownBut m (origin_at d k) (grid_at d k) v → IsShownBut m (origin_at d k) (grid_at (with_grid d slot h ws) k) v
+other_written d ws slot h m v k apart shown = subst (λ (x : Grid). IsShownBut m (origin_at d k) x v) (sym (get_or-set_other d.grids slot.root k h [] apart)) shown
+
+pub slot_spared : (d : State) (ws : List (Option Slot)) (slot : Slot) (h : Grid) (t u : Markings) → slot.root < length d.grids → shape_of h ≡ shape_of (grid_at d slot.root) → SparesGrid t u d slot h → KeepsShown t d u (with_grid d slot h ws)
+slot_spared d ws slot h t u lt shape spares v shown k = elim (cases_eq k slot.root) [
+  | inl same ↦ subst (λ (n : ℕ). (origin_at d n).pad ≡ false → IsShownBut (marks_of u n) (origin_at d n) (grid_at (with_grid d slot h ws) n) v) (sym same) there
+  | inr apart ↦ λ lies. subst (λ (m : Marking). IsShownBut m (origin_at d k) (grid_at (with_grid d slot h ws) k) v) (sym (spares.others k apart)) (other_written d ws slot h (marks_of t k) v k apart (shown k lies))
+]
+  where
+    there : (origin_at d slot.root).pad ≡ false → IsShownBut (marks_of u slot.root) (origin_at d slot.root) (grid_at (with_grid d slot h ws) slot.root) v
+    there lies = elim (cases_lt slot.root (length t)) [
+      | inl some ↦ same_written d ws slot h (marks_of t slot.root) (marks_of u slot.root) v lt shape (spares.grid lies some) (shown slot.root lies)
+      | inr past ↦ shown_full (marks_of u slot.root) (origin_at d slot.root) (grid_at (with_grid d slot h ws) slot.root) v
+          (ap (λ (x : Markings). (marks_of x slot.root).all) (spares.none past) ∙ past_full t slot.root past)
     ]
 
 -- a call that writes on the window of a number
-pub touched_by : (d now : State) (n : ℕ) (s : Slot) (w : Window) (g h : Grid) (a b : Marking) (act : Canvas → CanvasStep) (r : Result (Unit {0}) Refusal) → Writing act → IsLocal act → d ≡ now → IsDesk d → IsPlaced now n s →
-    g ≡ get_or d.grids s.root g → step h w r ≡ act (canvas g s.window) → IsTouched a b (record s { window = w }) s.window.row → Keeps a (grid_at now 0) b (get_or (set d.grids s.root h) 0 [])
-touched_by d now n s w g h a b act r writing local e is placed at value touched v same =
+pub touched_by : (d now : State) (ws : List (Option Slot)) (n : ℕ) (s : Slot) (w : Window) (g h : Grid) (t u : Markings) (o : Origin) (act : Canvas → CanvasStep) (r : Result (Unit {0}) Refusal) → Writing act → IsLocal act → d ≡ now → IsDesk d →
+    IsPlaced now n s → g ≡ get_or d.grids s.root g → step h w r ≡ act (canvas g s.window) → IsKept g s.window h w → o ≡ origin_at now s.root → IsTouched t u (record s { window = w }) o s.window.row → KeepsShown t now u (with_grid d s h ws)
+touched_by d now ws n s w g h t u o act r writing local e is placed at value kept there touched v shown =
     let lt : s.root < length d.grids = omega (arith, is.grids, placed.root) in
-    let read : g ≡ get_or d.grids s.root [] = at ∙ get_or_default d.grids s.root g [] lt in
-    let legal : IsCanvas (get_or d.grids s.root []) s.window = subst (λ (x : State). IsCanvas (grid_at x s.root) s.window) (sym e) placed.canvas in
+    let read : g ≡ grid_at d s.root = at ∙ get_or_default d.grids s.root g [] lt in
+    let legal : IsCanvas (grid_at d s.root) s.window = subst (λ (x : State). IsCanvas (grid_at x s.root) s.window) (sym e) placed.canvas in
     let writes : Writes (canvas g s.window) (canvas h w) = subst (λ (x : CanvasStep). Writes (canvas g s.window) x.0) (sym value) (writing (canvas g s.window)) in
     let stays : Stays (canvas g s.window) (canvas h w) = subst (λ (x : CanvasStep). Stays (canvas g s.window) x.0) (sym value)
     (local (canvas g s.window) (subst (λ (x : Grid). IsCanvas x s.window) (sym read) legal)) in
-    slot_written d.grids s.window (record s { window = w }) h a b lt (subst (λ (x : Grid). Writes (canvas x s.window) (canvas h w)) read writes)
-    (subst (λ (x : Grid). Stays (canvas x s.window) (canvas h w)) read stays) touched v (subst (λ (x : State). AreSame a v (grid_at x 0)) (sym e) same)
+    let here : o ≡ origin_at d s.root = there ∙ sym (ap (λ (x : State). origin_at x s.root) e) in
+    let touches : IsTouched t u (record s { window = w }) (origin_at d s.root) s.window.row = subst (λ (x : Origin). IsTouched t u (record s { window = w }) x s.window.row) here touched in
+    let spares : SparesGrid t u d (record s { window = w }) h = record {
+      grid = λ lies some. record {
+        kept = (touches.grid lies some).kept;
+        same = unchanged (canvas (grid_at d s.root) s.window) h (marks_of t s.root) (marks_of u s.root) w (origin_at d s.root) (subst (λ (x : Grid). Writes (canvas x s.window) (canvas h w)) read writes)
+            (subst (λ (x : Grid). Stays (canvas x s.window) (canvas h w)) read stays) (touches.grid lies some);
+      };
+      none = touches.none;
+      others = touches.others;
+    } in
+    slot_spared d ws (record s { window = w }) h t u lt (kept.shape ∙ ap shape_of read) spares v (subst (λ (x : State). ShowsBut t x v) (sym e) shown)
 
 -- one that is refused, and has changed nothing
 grid_kept : (act : Canvas → CanvasStep) (s : Canvas) (t : Canvas) (r : Result (Unit {0}) Refusal) → ChangesNothingIfRefusedButNoScroll act → (t, r) ≡ act s → OnOk r ⊥ → IfErr r (λ e. e ≢ NoScroll) → t.grid ≡ s.grid
 grid_kept act s t (Ok u) back value refused other = absurd refused
 grid_kept act s t (Err e) back value refused other = ap (λ (x : CanvasStep). x.0.grid) value ∙ ap (λ (x : Canvas). x.grid) (back s e other (ap (λ (x : CanvasStep). x.1) (sym value)))
 
-pub left_by : (d now : State) (n : ℕ) (s : Slot) (w : Window) (g h : Grid) (a b : Marking) (act : Canvas → CanvasStep) (r : Result (Unit {0}) Refusal) → ChangesNothingIfRefusedButNoScroll act → d ≡ now → IsDesk d → IsPlaced now n s →
-    g ≡ get_or d.grids s.root g → step h w r ≡ act (canvas g s.window) → LeavesMarks a b r → Keeps a (grid_at now 0) b (get_or (set d.grids s.root h) 0 [])
-left_by d now n s w g h a b act r back e is placed at value left v same i j u =
+pub left_by : (d now : State) (ws : List (Option Slot)) (n : ℕ) (s : Slot) (w : Window) (g h : Grid) (t u : Markings) (act : Canvas → CanvasStep) (r : Result (Unit {0}) Refusal) → ChangesNothingIfRefusedButNoScroll act → d ≡ now → IsDesk d →
+    IsPlaced now n s → g ≡ get_or d.grids s.root g → step h w r ≡ act (canvas g s.window) → LeavesMarks t u r → KeepsShown t now u (with_grid d s h ws)
+left_by d now ws n s w g h t u act r back e is placed at value left v shown =
     let lt : s.root < length d.grids = omega (arith, is.grids, placed.root) in
     let read : h ≡ get_or d.grids s.root [] = grid_kept act (canvas g s.window) (canvas h w) r back value left.refused left.other ∙ at ∙ get_or_default d.grids s.root g [] lt in
     let grids : set d.grids s.root h ≡ d.grids = ap (λ (x : Grid). set d.grids s.root x) read ∙ set-get_or d.grids s.root [] in
-    same i j (subst (λ (m : Marking). IsUnmarked m i j) left.same u) ∙ ap (λ (x : State). cell_at (grid_at x 0) i j) (sym e) ∙ sym (ap (λ (gs : List Grid). cell_at (get_or gs 0 []) i j) grids)
+    let here : ShowsBut t d v = subst (λ (x : State). ShowsBut t x v) (sym e) shown in
+    subst (λ (x : Markings). ShowsBut x (with_grid d s h ws) v) (sym left.same)
+    (subst (λ (gs : List Grid). ShowsBut t (record d { grids = gs; windows = ws }) v) (sym grids) here)
+
+-- ---- all of a grid is marked
+
+-- where a grid was changed
+grid_filled : (d e : State) (s : Slot) (h : Grid) (t u : Markings) → e.grids ≡ set d.grids s.root h → e.origins ≡ d.origins → FillsGrid t u s.root → KeepsShown t d u e
+grid_filled d e s h t u grids origins fills v shown k =
+    subst (λ (os : List Origin). (get_or os k (on_screen 0 0 false)).pad ≡ false → IsShownBut (marks_of u k) (get_or os k (on_screen 0 0 false)) (grid_at e k) v) (sym origins)
+    (subst (λ (gs : List Grid). (origin_at d k).pad ≡ false → IsShownBut (marks_of u k) (origin_at d k) (get_or gs k []) v) (sym grids) (λ lies. elim (cases_eq k s.root) [
+      | inl same ↦ shown_full (marks_of u k) (origin_at d k) (get_or (set d.grids s.root h) k []) v (ap (λ (n : ℕ). (marks_of u n).all) same ∙ fills.full)
+      | inr apart ↦ subst (λ (m : Marking). IsShownBut m (origin_at d k) (get_or (set d.grids s.root h) k []) v) (sym (fills.others k apart)) (other_written d d.windows s h (marks_of t k) v k apart (shown k lies))
+    ]))
+
+after_filled : (x : Result Slot Refusal) (t u : Markings) (d e : State) (r : Result (Unit {0}) Refusal) (next : Slot → DeskStep) (drawn : Slot → Grid) → ((s : Slot) → (next s).0.grids ≡ set d.grids s.root (drawn s)) → ((s : Slot) → (next s).0.origins ≡ d.origins) →
+    (e, r) ≡ after x d next → MarksWindow t u x → KeepsShown t d u e
+after_filled (Ok s) t u d e r next drawn grids origins is marks = grid_filled d e s (drawn s) t u (ap (λ (y : DeskStep). y.0.grids) is ∙ grids s) (ap (λ (y : DeskStep). y.0.origins) is ∙ origins s) marks
+after_filled (Err x) t u d e r next drawn grids origins is marks = λ v shown.
+    subst (λ (y : State). ShowsBut u y v) (sym (ap (λ (y : DeskStep). y.0) is)) (subst (λ (y : Markings). ShowsBut y d v) (sym marks) shown)
+
+-- by a call on the window of a number
+pub keeps_on_grid : (t u : Markings) (d e : State) (n : ℕ) (act : Canvas → CanvasStep) (r : Result (Unit {0}) Refusal) → (e, r) ≡ on_grid d n act → MarksWindow t u (slot_of d n) → KeepsShown t d u e
+keeps_on_grid t u d e n act r is marks = after_filled (slot_of d n) t u d e r _ (λ s. (act (canvas (grid_at d s.root) s.window)).0.grid) (λ s. refl) (λ s. refl) is marks
+
+pub keeps_on_window : (t u : Markings) (d e : State) (n : ℕ) (act : Canvas → CanvasStep) (r : Result (Unit {0}) Refusal) → (e, r) ≡ on_window d n act → MarksWindow t u (slot_of d n) → KeepsShown t d u e
+keeps_on_window t u d e n act r is marks = after_filled (slot_of d n) t u d e r _ (λ s. (act (canvas (grid_at d s.root) s.window)).0.grid) (λ s. refl) (λ s. refl) is marks
+
+pub keeps_untouched : (t u : Markings) (d e : State) (n : ℕ) (r : Result (Unit {0}) Refusal) → (e, r) ≡ desks.unchanged d n → MarksWindow t u (slot_of d n) → KeepsShown t d u e
+keeps_untouched t u d e n r is marks = after_filled (slot_of d n) t u d e r _ (λ s. grid_at d s.root) (λ s. sym (set-get_or d.grids s.root [])) (λ s. refl) is marks
 
 -- no line, and one more
-pub none_marked : (w : Window) (first i j : ℕ) → is_in (lines_of w first 0) i j ≡ false
-none_marked w first i j = grind (arith, nat_tests)
+pub no_line : (o : Origin) (w : Window) (first i j : ℕ) → is_in (lines_shown o w first 0) i j ≡ false
+no_line o w first i j = grind (arith, nat_tests)
 
-in_next : (w : Window) (first k i j : ℕ) → is_in (lines_of w first k) i j ≡ false → i ≢ w.area.top + first + k → is_in (lines_of w first (k + 1)) i j ≡ false
-in_next w first k i j off apart = grind (arith, nat_tests)
+in_next : (o : Origin) (w : Window) (first k i j : ℕ) → is_in (lines_shown o w first k) i j ≡ false → i ≢ o.top + w.area.top + first + k → is_in (lines_shown o w first (k + 1)) i j ≡ false
+in_next o w first k i j off apart = grind (arith, nat_tests)
 
-beside_left : (w : Window) (first k i j : ℕ) → j < w.area.left → is_in (lines_of w first (k + 1)) i j ≡ false
-beside_left w first k i j low = grind (arith, nat_tests)
+beside_left : (o : Origin) (w : Window) (first k i j : ℕ) → j < (o.left + w.area.left) → is_in (lines_shown o w first (k + 1)) i j ≡ false
+beside_left o w first k i j low = grind (arith, nat_tests)
 
-beside_right : (w : Window) (first k i j : ℕ) → w.area.left + w.area.cols ≤ j → is_in (lines_of w first (k + 1)) i j ≡ false
-beside_right w first k i j high = grind (arith, nat_tests)
+beside_right : (o : Origin) (w : Window) (first k i j : ℕ) → (o.left + w.area.left) + w.area.cols ≤ j → is_in (lines_shown o w first (k + 1)) i j ≡ false
+beside_right o w first k i j high = grind (arith, nat_tests)
 
-pub next_marked : (w : Window) (first k i j : ℕ) → is_in (lines_of w first k) i j ≡ false → (i ≡ w.area.top + first + k → (j < w.area.left) ⊎ (w.area.left + w.area.cols ≤ j)) → is_in (lines_of w first (k + 1)) i j ≡ false
-next_marked w first k i j off beside = elim (cases_eq i (w.area.top + first + k)) [
-  | inl same ↦ elim (beside same) [ inl low ↦ beside_left w first k i j low | inr high ↦ beside_right w first k i j high ]
-  | inr apart ↦ in_next w first k i j off apart
+pub next_marked : (o : Origin) (w : Window) (first k i j : ℕ) → is_in (lines_shown o w first k) i j ≡ false → (i ≡ o.top + w.area.top + first + k → (j < (o.left + w.area.left)) ⊎ ((o.left + w.area.left) + w.area.cols ≤ j)) → is_in (lines_shown o w first (k + 1)) i j ≡ false
+next_marked o w first k i j off beside = elim (cases_eq i (o.top + w.area.top + first + k)) [
+  | inl same ↦ elim (beside same) [ inl low ↦ beside_left o w first k i j low | inr high ↦ beside_right o w first k i j high ]
+  | inr apart ↦ in_next o w first k i j off apart
 ]
 
 -- what isn't marked in another line stays so
@@ -112,19 +193,19 @@ unmarked_other m row from end i j apart u = record {
   column = subst (λ (x : Marked). (j < x.from) ⊎ (x.end ≤ j)) (sym (get_or-set_other m.lines row i (widened from end (marked_at m row)) nothing apart)) u.column;
 }
 
-pub not_there : (w : Window) (first k i : ℕ) → i ≡ w.area.top + first + k → (i < w.area.top + first) ⊎ (w.area.top + first + (k + 1) ≤ i) → ⊥
-not_there w first k i e (inl low) = absurd (omega (arith, e, low))
-not_there w first k i e (inr high) = absurd (omega (arith, e, high))
+pub not_there : (o : Origin) (w : Window) (first k i : ℕ) → i ≡ o.top + w.area.top + first + k → (i < o.top + w.area.top + first) ⊎ (o.top + w.area.top + first + (k + 1) ≤ i) → ⊥
+not_there o w first k i e (inl low) = absurd (omega (arith, e, low))
+not_there o w first k i e (inr high) = absurd (omega (arith, e, high))
 
-pub sooner : (w : Window) (first k i : ℕ) → (i < w.area.top + first) ⊎ (w.area.top + first + (k + 1) ≤ i) → (i < w.area.top + first) ⊎ (w.area.top + first + k ≤ i)
-sooner w first k i (inl low) = inl low
-sooner w first k i (inr high) = inr (omega (arith, high))
+pub sooner : (o : Origin) (w : Window) (first k i : ℕ) → (i < o.top + w.area.top + first) ⊎ (o.top + w.area.top + first + (k + 1) ≤ i) → (i < o.top + w.area.top + first) ⊎ (o.top + w.area.top + first + k ≤ i)
+sooner o w first k i (inl low) = inl low
+sooner o w first k i (inr high) = inr (omega (arith, high))
 
 -- a line through which the cursor didn't go
-pub not_gone : (w : Window) (first i : ℕ) → (IsGoneThrough w first i → ⊥) → (i < w.area.top + first) ⊎ (w.area.top + first + (w.row + 1 - first) ≤ i)
-not_gone w first i off = elim (cases_lt i (w.area.top + first)) [
+pub not_gone : (o : Origin) (w : Window) (first i : ℕ) → (IsGoneThrough o w first i → ⊥) → (i < o.top + w.area.top + first) ⊎ (o.top + w.area.top + first + (w.row + 1 - first) ≤ i)
+not_gone o w first i off = elim (cases_lt i (o.top + w.area.top + first)) [
   | inl low ↦ inl low
-  | inr past ↦ elim (cases_lt (w.area.top + w.row) i) [
+  | inr past ↦ elim (cases_lt (o.top + w.area.top + w.row) i) [
     | inl high ↦ inr (omega (arith, past, high))
     | inr near ↦ absurd (off (record { after = past; before = near }))
   ]
@@ -137,88 +218,163 @@ slot_there e ws n t small lt at =
     ap (λ (b : Bool). if b then Err Full else some_slot (window_at e n)) off
     ∙ ap (λ (x : List (Option Slot)). some_slot (get_or x n None)) at ∙ ap some_slot (get_or-set_same ws n (Some t) None lt)
 
-pub written_by : (d now e : State) (n : ℕ) (s : Slot) (w : Window) (a b : Marking) → d ≡ now → IsDesk d → (n < 64) × (window_at now n ≡ Some s) → Ok s ≡ slot_of now n →
-    e.windows ≡ set d.windows n (Some (record s { window = w })) → IsTouched a b (record s { window = w }) s.window.row → MarksWritten a b now e n
-written_by d now e n s w a b is desk there before at touched = record {
-  only = λ i j u off. touched.only i j u (λ line. off (subst (λ (r : Result Slot Refusal). WritesLine r (slot_of e n) i) before
-      (subst (λ (r : Result Slot Refusal). WritesLine (Ok s) r i) (sym (slot_there e d.windows n (record s { window = w }) there.0 (omega (arith, there.0, desk.windows)) at)) line)));
-}
+-- no other line of a window's grid is marked as well than one in which the window may have been written from a line on
+pub record MarksLess (t u : Markings) (s : Slot) (o : Origin) (first : ℕ) : Type 0 where
+  pub only : o.pad ≡ false → s.root < length t → (i j : ℕ) → IsUnmarked (marks_of t s.root) i j → (IsWrittenLine s.window o first i → ⊥) → IsUnmarked (marks_of u s.root) i j
+  pub pad : o.pad ≡ true → u ≡ t
+  pub none : length t ≤ s.root → u ≡ t
+  pub others : (k : ℕ) → k ≢ s.root → marks_of u k ≡ marks_of t k
 
-pub left_unmarked : (d e : State) (n : ℕ) (a b : Marking) (r : Result (Unit {0}) Refusal) → LeavesMarks a b r → MarksWritten a b d e n
-left_unmarked d e n a b r left = record { only = λ i j u off. subst (λ (m : Marking). IsUnmarked m i j) (sym left.same) u }
+pub written_within : (d now e : State) (n : ℕ) (s : Slot) (w : Window) (t u : Markings) (o : Origin) → d ≡ now → IsDesk d → (n < 64) × (window_at now n ≡ Some s) → Ok s ≡ slot_of now n →
+    e.windows ≡ set d.windows n (Some (record s { window = w })) → o ≡ origin_at now s.root → MarksLess t u (record s { window = w }) o s.window.row → MarksWritten t u now e n
+written_within d now e n s w t u o is desk there before at lies touched = record {
+  only = λ k i j off not. elim (cases_eq k s.root) [
+    | inl same ↦ by_pad k i j off not o.pad refl same
+    | inr apart ↦ subst (λ (m : Marking). IsUnmarked m i j) (sym (touched.others k apart)) off
+  ];
+}
+  where
+    new : Slot
+    new = record s { window = w }
+
+    writes : (k i : ℕ) → s.root ≡ k → o.pad ≡ false → IsWrittenLine w o s.window.row i → WritesLine k now (slot_of now n) (slot_of e n) i
+    writes k i root lie line = subst (λ (r : Result Slot Refusal). WritesLine k now r (slot_of e n) i) before
+        (subst (λ (r : Result Slot Refusal). WritesLine k now (Ok s) r i) (sym (slot_there e d.windows n new there.0 (omega (arith, there.0, desk.windows)) at))
+        (record { root = root; lies = subst (λ (x : Origin). x.pad ≡ false) lies lie; line = subst (λ (x : Origin). IsWrittenLine w x s.window.row i) lies line }))
+
+    left : (k i j : ℕ) → IsUnmarked (marks_of t k) i j → u ≡ t → IsUnmarked (marks_of u k) i j
+    left k i j off same = subst (λ (x : Markings). IsUnmarked (marks_of x k) i j) (sym same) off
+
+    by_pad : (k i j : ℕ) → IsUnmarked (marks_of t k) i j → (WritesLine k now (slot_of now n) (slot_of e n) i → ⊥) → (b : Bool) → o.pad ≡ b → k ≡ s.root → IsUnmarked (marks_of u k) i j
+    by_pad k i j off not true pad same = left k i j off (touched.pad pad)
+    by_pad k i j off not false lie same = elim (cases_lt s.root (length t)) [
+      | inl some ↦ subst (λ (x : ℕ). IsUnmarked (marks_of u x) i j) (sym same) (touched.only lie some i j (subst (λ (x : ℕ). IsUnmarked (marks_of t x) i j) same off) (λ line. not (writes k i (sym same) lie line)))
+      | inr past ↦ left k i j off (touched.none past)
+    ]
+
+pub written_by : (d now e : State) (n : ℕ) (s : Slot) (w : Window) (t u : Markings) (o : Origin) → d ≡ now → IsDesk d → (n < 64) × (window_at now n ≡ Some s) → Ok s ≡ slot_of now n →
+    e.windows ≡ set d.windows n (Some (record s { window = w })) → o ≡ origin_at now s.root → IsTouched t u (record s { window = w }) o s.window.row → MarksWritten t u now e n
+written_by d now e n s w t u o is desk there before at lies touched = written_within d now e n s w t u o is desk there before at lies
+    (record { only = λ lie some. (touched.grid lie some).only; pad = touched.pad; none = touched.none; others = touched.others })
+
+pub left_unmarked : (d e : State) (n : ℕ) (t u : Markings) (r : Result (Unit {0}) Refusal) → LeavesMarks t u r → MarksWritten t u d e n
+left_unmarked d e n t u r left = record { only = λ k i j off not. subst (λ (x : Markings). IsUnmarked (marks_of x k) i j) (sym left.same) off }
 
 -- ---- copying
 
--- all may differ
-pub copied_but_all : (m : Marking) (a : Area) (from : Place) (source g : Grid) → m.all ≡ true → IsCopiedBut m a from source g
-copied_but_all m a from source g all i j lt lt2 u = absurd (let some = u.some in cc)
+pub no_parent : (o : Option ℕ) → is_some o ≡ false → o ≡ None
+no_parent (Some k) e = absurd (let some = e in cc)
+no_parent None e = refl
 
-pub same_but_all : (m : Marking) (v g : Grid) → m.all ≡ true → AreSame m v g
-same_but_all m v g all i j u = absurd (let some = u.some in cc)
+inside_area : (a : Area) (i j : ℕ) → is_in a i j ≡ true → (a.top ≤ i) × (i < a.top + a.rows) × (a.left ≤ j) × (j < a.left + a.cols)
+inside_area a i j on = grind (arith, nat_tests)
 
--- a rectangle is copied to the place where it is
-pub copied_in_place : (m : Marking) (a : Area) (from : Place) (source g : Grid) → from.row ≡ a.top → from.col ≡ a.left → AreSame m g source → IsCopiedBut m a from source g
-copied_in_place m a from source g row col same i j lt lt2 u =
-    same (a.top + i) (a.left + j) u ∙ ap (λ (n : ℕ). cell_at source (n + i) (a.left + j)) (sym row) ∙ ap (λ (n : ℕ). cell_at source (from.row + i) (n + j)) (sym col)
-
-pub same_after : (m : Marking) (a : Area) (from : Place) (source g h : Grid) → from.row ≡ a.top → from.col ≡ a.left → Fits a g → Fits a source → h ≡ copied a from source g → AreSame m g source → AreSame m h source
-same_after m a from source g h row col fits there is same i j u = ap (λ (x : Grid). cell_at x i j) is ∙ at (is_in a i j) refl
+-- a rectangle is copied: it shows the grid where it didn't and lies in the rectangle
+shown_after : (m : Marking) (o : Origin) (a : Area) (from : Place) (g v h : Grid) → a.top ≡ o.top + from.row → a.left ≡ o.left + from.col → Fits a v → h ≡ copied a from g v →
+    ((i j : ℕ) → i < length g → j < length (line_at g i) → is_in a (o.top + i) (o.left + j) ≡ false → IsUnmarked m (o.top + i) (o.left + j) → cell_at v (o.top + i) (o.left + j) ≡ cell_at g i j) → IsShownBut m o g h
+shown_after m o a from g v h top left fits is others i j row col off = ap (λ (x : Grid). cell_at x (o.top + i) (o.left + j)) is ∙ at (is_in a (o.top + i) (o.left + j)) refl
   where
-    inside : is_in a i j ≡ true → (a.top ≤ i) × (i < a.top + a.rows) × (a.left ≤ j) × (j < a.left + a.cols)
-    inside on = grind (arith, nat_tests)
-
-    at : (b : Bool) → is_in a i j ≡ b → cell_at (copied a from source g) i j ≡ cell_at source i j
+    at : (b : Bool) → is_in a (o.top + i) (o.left + j) ≡ b → cell_at (copied a from g v) (o.top + i) (o.left + j) ≡ cell_at g i j
     at true on =
-        let (top, bottom, left, right) = inside on in
-        let near : j < length (line_at g i) = omega (arith, fits.rows, fits.cols i (omega (arith, fits.rows))) in
-        let near2 : j < length (line_at source i) = omega (arith, there.rows, there.cols i (omega (arith, there.rows))) in
-        let rows : from.row + (i - a.top) ≡ i = omega (arith, row) in
-        let cols : from.col + (j - a.left) ≡ j = omega (arith, col) in
-        cell_at-drawn_in a (taken a from source) space g i j on near
-        ∙ ap (λ (n : ℕ). base.cell_at (cell_at g i j) source n (from.col + (j - a.left))) rows ∙ ap (λ (n : ℕ). base.cell_at (cell_at g i j) source i n) cols
-        ∙ get_or_default (line_at source i) j (cell_at g i j) space near2
-    at false off = cell_at-drawn_in_off a (taken a from source) space g i j off ∙ same i j u
+        let (over, under, before, after) = inside_area a (o.top + i) (o.left + j) on in
+        let near : o.left + j < length (line_at v (o.top + i)) = omega (arith, fits.rows, under, after, fits.cols (o.top + i) (omega (arith, fits.rows, under))) in
+        let rows : from.row + (o.top + i - a.top) ≡ i = omega (arith, top, over) in
+        let cols : from.col + (o.left + j - a.left) ≡ j = omega (arith, left, before) in
+        cell_at-drawn_in a (taken a from g) space v (o.top + i) (o.left + j) on near
+        ∙ ap (λ (n : ℕ). base.cell_at (cell_at v (o.top + i) (o.left + j)) g n (from.col + (o.left + j - a.left))) rows ∙ ap (λ (n : ℕ). base.cell_at (cell_at v (o.top + i) (o.left + j)) g i n) cols
+        ∙ get_or_default (line_at g i) j (cell_at v (o.top + i) (o.left + j)) space col
+    at false beside = cell_at-drawn_in_off a (taken a from g) space v (o.top + i) (o.left + j) beside ∙ others i j row col beside off
 
--- the whole of a screen is copied
-pub screen_copied : (n : Marking) (a : Area) (from : Place) (rows cols : ℕ) (source g h : Grid) → from.row ≡ a.top → from.col ≡ a.left → a.rows ≡ rows → a.cols ≡ cols → a.top + a.rows ≤ rows → a.left + a.cols ≤ cols →
-    length source ≡ rows → length g ≡ rows → ((i : ℕ) → i < length source → length (line_at source i) ≡ cols) → ((i : ℕ) → i < length g → length (line_at g i) ≡ cols) →
-    h ≡ copied a from source g → AreSame n h source
-screen_copied n a from rows cols source g h row col high wide low right e f es fs is i j u =
-    ap (λ (x : Grid). cell_at x i j) (is ∙ ap (λ (b : Area). copied b from source g) area ∙ ap (λ (p : Place). copied (whole rows cols) p source g) corner ∙ all_copied rows cols source g e f es fs)
-  where
-    top : a.top ≡ 0
-    top = omega (arith, high, low)
-
-    left : a.left ≡ 0
-    left = omega (arith, wide, right)
-
-    area : a ≡ whole rows cols
-    area = λ k. record { top = top k; left = left k; rows = high k; cols = wide k }
-
-    corner : from ≡ place 0 0
-    corner = λ k. record { row = (row ∙ top) k; col = (col ∙ left) k }
-
--- a window of window 0's grid is copied to the place where it lies in that
+-- a rectangle of the screen
 fits_screen : (a : Area) (v : Screen) (rows cols : ℕ) → IsScreen v → v.rows ≡ rows → v.cols ≡ cols → a.top + a.rows ≤ rows → a.left + a.cols ≤ cols → Fits a v.grid
 fits_screen a v rows cols legal e f low right = record { rows = omega (arith, legal.lines, e, low); cols = λ i lt. omega (arith, legal.columns i lt, f, right) }
 
-fits_there : (a : Area) (d : State) (s : Slot) → a ≡ area_on_screen d s → a.top ≡ s.window.area.top → a.left ≡ s.window.area.left → Fits s.window.area (grid_at d s.root) → Fits a (grid_at d s.root)
-fits_there a d s at top left fits =
-    let rows : a.rows ≡ s.window.area.rows = ap (λ (x : Area). x.rows) at in
-    let cols : a.cols ≡ s.window.area.cols = ap (λ (x : Area). x.cols) at in
-    record { rows = omega (arith, fits.rows, top, rows); cols = λ i lt. omega (arith, fits.cols i lt, left, cols) }
+-- a place of the screen where the grid lies is in a window that is all of it
+in_whole : (o : Origin) (a w : Area) (g : Grid) (i j : ℕ) → a.top ≡ o.top + w.top → a.left ≡ o.left + w.left → a.rows ≡ w.rows → a.cols ≡ w.cols → IsWhole w g → i < length g → j < length (line_at g i) → is_in a (o.top + i) (o.left + j) ≡ false → ⊥
+in_whole o a w g i j top left rows cols is row col off =
+    let high = is.rows in let wide = is.cols i row in let up = is.top in let first = is.left in grind (arith, nat_tests)
 
-pub copied_to_itself : (m : Marking) (d : State) (s : Slot) (a : Area) (v : Screen) (h : Grid) → s.root ≡ 0 → a ≡ area_on_screen d s → a.top ≡ s.window.area.top → a.left ≡ s.window.area.left → a.top + a.rows ≤ d.rows → a.left + a.cols ≤ d.cols →
-    IsCanvas (grid_at d s.root) s.window → IsScreen v → v.rows ≡ d.rows → v.cols ≡ d.cols → h ≡ copied a (place s.window.area.top s.window.area.left) (grid_at d s.root) v.grid → AreSame m v.grid (grid_at d 0) → AreSame m h (grid_at d 0)
-copied_to_itself m d s a v h root at top left low right canvas legal rows cols is same =
-    subst (λ (k : ℕ). AreSame m v.grid (grid_at d k) → AreSame m h (grid_at d k)) root
-    (same_after m a (place s.window.area.top s.window.area.left) (grid_at d s.root) v.grid h (sym top) (sym left) (fits_screen a v d.rows d.cols legal rows cols low right) (fits_there a d s at top left canvas.fits) is) same
+-- or in one as large as the screen
+in_screenful : (o : Origin) (a : Area) (high wide rows cols i j : ℕ) → a.rows ≡ high → a.cols ≡ wide → a.top + a.rows ≤ high → a.left + a.cols ≤ wide → i < rows → j < cols → o.top + rows ≤ high → o.left + cols ≤ wide → is_in a (o.top + i) (o.left + j) ≡ false → ⊥
+in_screenful o a high wide rows cols i j e f low right row col framed framed2 off = grind (arith, nat_tests)
 
--- it is as large as the screen
-pub copied_whole : (n : Marking) (d : State) (s : Slot) (a : Area) (v : Screen) (h : Grid) → s.root ≡ 0 → a ≡ area_on_screen d s → a.top ≡ s.window.area.top → a.left ≡ s.window.area.left → a.top + a.rows ≤ d.rows → a.left + a.cols ≤ d.cols →
-    a.rows ≡ d.rows → a.cols ≡ d.cols → IsCanvas (grid_at d s.root) s.window → IsFramed d s.root → IsScreen v → v.rows ≡ d.rows → v.cols ≡ d.cols → h ≡ copied a (place s.window.area.top s.window.area.left) (grid_at d s.root) v.grid → AreSame n h (grid_at d 0)
-copied_whole n d s a v h root at top left low right high wide canvas framed legal rows cols is =
-    let there : Fits a (grid_at d s.root) = fits_there a d s at top left canvas.fits in
-    subst (λ (k : ℕ). AreSame n h (grid_at d k)) root
-    (screen_copied n a (place s.window.area.top s.window.area.left) d.rows d.cols (grid_at d s.root) v.grid h (sym top) (sym left) high wide low right
-    (omega (arith, there.rows, framed.rows, high)) (legal.lines ∙ rows) (λ i lt. omega (arith, there.cols i lt, framed.cols i lt, wide)) (λ i lt. legal.columns i lt ∙ cols) is)
+pub part_copied : (m : Marking) (d : State) (s : Slot) (a : Area) (v : Screen) (h : Grid) → a ≡ area_on_screen d s → a.top + a.rows ≤ d.rows → a.left + a.cols ≤ d.cols → IsScreen v → v.rows ≡ d.rows → v.cols ≡ d.cols →
+    h ≡ copied a (place s.window.area.top s.window.area.left) (grid_at d s.root) v.grid → IsShownBut m (origin_at d s.root) (grid_at d s.root) v.grid → IsShownBut m (origin_at d s.root) (grid_at d s.root) h
+part_copied m d s a v h at low right legal rows cols is shown =
+    shown_after m (origin_at d s.root) a (place s.window.area.top s.window.area.left) (grid_at d s.root) v.grid h (ap (λ (x : Area). x.top) at) (ap (λ (x : Area). x.left) at)
+    (fits_screen a v d.rows d.cols legal rows cols low right) is (λ i j row col beside off. shown i j row col off)
+
+pub all_copied : (m : Marking) (d : State) (s : Slot) (a : Area) (v : Screen) (h : Grid) → a ≡ area_on_screen d s → a.top + a.rows ≤ d.rows → a.left + a.cols ≤ d.cols → IsFramed d s.root → (s.parent ≡ None → IsWhole s.window.area (grid_at d s.root)) →
+    HasAll d s → IsScreen v → v.rows ≡ d.rows → v.cols ≡ d.cols → h ≡ copied a (place s.window.area.top s.window.area.left) (grid_at d s.root) v.grid → IsShownBut m (origin_at d s.root) (grid_at d s.root) h
+all_copied m d s a v h at low right framed whole all legal rows cols is =
+    shown_after m (origin_at d s.root) a (place s.window.area.top s.window.area.left) (grid_at d s.root) v.grid h (ap (λ (x : Area). x.top) at) (ap (λ (x : Area). x.left) at)
+    (fits_screen a v d.rows d.cols legal rows cols low right) is (λ i j row col beside off. absurd (covered i j row col beside all))
+  where
+    covered : (i j : ℕ) → i < length (grid_at d s.root) → j < length (line_at (grid_at d s.root) i) → is_in a ((origin_at d s.root).top + i) ((origin_at d s.root).left + j) ≡ false → HasAll d s → ⊥
+    covered i j row col beside (inl own) =
+        in_whole (origin_at d s.root) a s.window.area (grid_at d s.root) i j (ap (λ (x : Area). x.top) at) (ap (λ (x : Area). x.left) at) (ap (λ (x : Area). x.rows) at) (ap (λ (x : Area). x.cols) at) (whole own) row col beside
+    covered i j row col beside (inr full) =
+        in_screenful (origin_at d s.root) a d.rows d.cols (length (grid_at d s.root)) (length (line_at (grid_at d s.root) i)) i j (ap (λ (x : Area). x.rows) at ∙ full.rows) (ap (λ (x : Area). x.cols) at ∙ full.cols)
+        low right row col framed.rows (framed.cols i row) beside
+
+-- the grid of another window, for which the screen's marks are marked as well
+pub other_copied : (m n o : Marking) (rows cols : ℕ) (p : Origin) (g v h : Grid) → Joins m o rows cols n → AreSame o v h → p.top + length g ≤ rows → ((i : ℕ) → i < length g → p.left + length (line_at g i) ≤ cols) → IsShownBut m p g v → IsShownBut n p g h
+other_copied m n o rows cols p g v h is same high wide shown i j row col off =
+    sym (same (p.top + i) (p.left + j) (is.joined (p.top + i) (p.left + j) (omega (arith, high, row)) (omega (arith, wide i row, col)) off)) ∙ shown i j row col (is.kept (p.top + i) (p.left + j) off)
+
+-- the marks of a grid that a window was copied of
+marks_part : (t x u : Markings) (root : ℕ) (o : Marking) (rows cols : ℕ) (whole : Bool) → Spreads t x root o rows cols → IsCleared x u root whole → (whole ≡ false) ⊎ (length t ≤ root) → marks_of u root ≡ marks_of t root
+marks_part t x u root o rows cols whole spread cleared side =
+    ap (λ (y : Markings). marks_of y root) (elim side [ inl part ↦ cleared.part part | inr past ↦ cleared.past (omega (arith, past, spread.size)) ]) ∙ spread.same
+
+marks_whole : (t x u : Markings) (root : ℕ) (o : Marking) (rows cols : ℕ) (whole : Bool) → Spreads t x root o rows cols → IsCleared x u root whole → whole ≡ true → root < length t → marks_of u root ≡ none_marked (length (marks_of t root).lines)
+marks_whole t x u root o rows cols whole spread cleared is lt =
+    ap (λ (y : Markings). marks_of y root) (cleared.there is (omega (arith, lt, spread.size)))
+    ∙ get_or-set_same x root (none_marked (length (marks_of x root).lines)) (record { all = true; lines = [] }) (omega (arith, lt, spread.size))
+    ∙ ap (λ (m : Marking). none_marked (length m.lines)) spread.same
+
+-- those of another one
+marks_other : (x u : Markings) (root k : ℕ) (whole : Bool) → IsCleared x u root whole → k ≢ root → marks_of u k ≡ marks_of x k
+marks_other x u root k whole cleared apart = elim (cases_lt root (length x)) [
+  | inl lt ↦ at whole refl lt
+  | inr past ↦ ap (λ (y : Markings). marks_of y k) (cleared.past past)
+]
+  where
+    at : (b : Bool) → whole ≡ b → root < length x → marks_of u k ≡ marks_of x k
+    at true is lt = ap (λ (y : Markings). marks_of y k) (cleared.there is lt) ∙ get_or-set_other x root k (none_marked (length (marks_of x root).lines)) (record { all = true; lines = [] }) apart
+    at false is lt = ap (λ (y : Markings). marks_of y k) (cleared.part is)
+
+pub marks_copied : (t x u : Markings) (o : Marking) (d : State) (s : Slot) (whole : Bool) → Spreads t x s.root o d.rows d.cols → IsCleared x u s.root whole → (whole ≡ true → HasAll d s) → (whole ≡ false → HasAll d s → ⊥) → MarksCopied t u o d s
+marks_copied t x u o d s whole spread cleared there part = record {
+  whole = λ lt all. at whole refl lt all;
+  part = λ not. none whole refl not;
+  others = λ k i j apart side. subst (λ (m : Marking). IsUnmarked m i j) (sym (marks_other x u s.root k whole cleared apart)) ((spread.others k apart).only i j side);
+}
+  where
+    at : (b : Bool) → whole ≡ b → s.root < length t → HasAll d s → marks_of u s.root ≡ none_marked (length (marks_of t s.root).lines)
+    at true is lt all = marks_whole t x u s.root o d.rows d.cols whole spread cleared is lt
+    at false is lt all = absurd (part is all)
+
+    none : (b : Bool) → whole ≡ b → (HasAll d s → ⊥) → marks_of u s.root ≡ marks_of t s.root
+    none true is not = absurd (not (there is))
+    none false is not = marks_part t x u s.root o d.rows d.cols whole spread cleared (inl is)
+
+pub slot_copied : (t x u : Markings) (o : Marking) (d : State) (s : Slot) (v : Screen) (h : Grid) (whole : Bool) → IsDesk d → (s.parent ≡ None → IsWhole s.window.area (grid_at d s.root)) → Spreads t x s.root o d.rows d.cols → IsCleared x u s.root whole →
+    (whole ≡ true → HasAll d s) → AreSame o v.grid h → (area_on_screen d s).top + (area_on_screen d s).rows ≤ d.rows → (area_on_screen d s).left + (area_on_screen d s).cols ≤ d.cols → IsScreen v → v.rows ≡ d.rows → v.cols ≡ d.cols →
+    h ≡ copied (area_on_screen d s) (place s.window.area.top s.window.area.left) (grid_at d s.root) v.grid → (origin_at d s.root).pad ≡ false → ShowsBut t d v.grid → ShowsBut u d h
+slot_copied t x u o d s v h whole desk own spread cleared there same low right legal rows cols is window shown k = elim (cases_eq k s.root) [
+  | inl same ↦ subst (λ (n : ℕ). (origin_at d n).pad ≡ false → IsShownBut (marks_of u n) (origin_at d n) (grid_at d n) h) (sym same) (λ lies. here)
+  | inr apart ↦ λ lies. subst (λ (m : Marking). IsShownBut m (origin_at d k) (grid_at d k) h) (sym (marks_other x u s.root k whole cleared apart))
+      (other_copied (marks_of t k) (marks_of x k) o d.rows d.cols (origin_at d k) (grid_at d k) v.grid h (spread.others k apart) same (desk.framed k lies).rows (desk.framed k lies).cols (shown k lies))
+]
+  where
+    still : marks_of u s.root ≡ marks_of t s.root → IsShownBut (marks_of u s.root) (origin_at d s.root) (grid_at d s.root) h
+    still e = subst (λ (m : Marking). IsShownBut m (origin_at d s.root) (grid_at d s.root) h) (sym e)
+        (part_copied (marks_of t s.root) d s (area_on_screen d s) v h refl low right legal rows cols is (shown s.root window))
+
+    at : (b : Bool) → whole ≡ b → IsShownBut (marks_of u s.root) (origin_at d s.root) (grid_at d s.root) h
+    at true e = all_copied (marks_of u s.root) d s (area_on_screen d s) v h refl low right (desk.framed s.root window) own (there e) legal rows cols is
+    at false e = still (marks_part t x u s.root o d.rows d.cols whole spread cleared (inl e))
+
+    here : IsShownBut (marks_of u s.root) (origin_at d s.root) (grid_at d s.root) h
+    here = at whole refl

@@ -1,73 +1,185 @@
--- Where window 0's grid may have changed since it was copied to the virtual screen.
-use Rattle.std.specs.Prelude.{ℕ, ◌≡◌, ◌+◌, ◌-◌, ◌≤◌, ◌⊎◌, ◌≢◌, length, true, false, Result, Ok, Err, IfErr, OnOk}
+-- Where each grid may have changed since it was copied to the virtual screen.
+use Rattle.std.specs.Prelude.{ℕ, ◌≡◌, ◌≢◌, ◌+◌, ◌-◌, ◌<◌, ◌≤◌, ◌⊎◌, List, [], length, slice_index_or, slice_set, Bool, true, false, None, Result, Ok, Err, IfErr, OnOk}
+use Rattle.grids.specs.declared.areas.Area.{Area}
+use Rattle.cur_drawing.specs.declared.puts.Put.{Put}
 use Rattle.cur_drawing.specs.declared.refusals.Refusal.{Refusal}
 use Rattle.cur_drawing.specs.declared.refusals.Refusal.TheVariants.{NoScroll}
 use Rattle.cur_drawing.specs.declared.windows.Window.{Window}
-use Rattle.cur_drawing.specs.Grids.{is_in}
-use Rattle.cur_drawing.specs.Marks.{IsUnmarked, Marking, none_marked}
-use Rattle.cur_drawing.specs.Windows.{lines_of}
+use Rattle.cur_drawing.specs.Grids.{Grid, cell_at, is_in, line_at}
+use Rattle.cur_drawing.specs.Windows.{is_pair, is_printed}
+use Rattle.cur_drawing.specs.Marks.{AreUnmarkedBeside, IsUnmarked, Joins, Marking, none_marked}
+use Rattle.cur_windows.specs.declared.slots.Origin.{Origin}
 use Rattle.cur_windows.specs.declared.slots.Slot.{Slot}
-use Rattle.cur_windows.specs.Desks.{State, slot_of}
-use Rattle.cur_windows.specs.VirtualScreen.{area_on_screen}
+use Rattle.cur_windows.specs.Desks.{State, grid_at, origin_at, slot_of}
+
+-- marks for each grid, by its number
+abbrev pub Markings : Type 0
+Markings = List Marking
+
+-- all of a grid is marked that has no marks
+abbrev pub marks_of : Markings → ℕ → Marking
+marks_of t k = slice_index_or t k (record { all = true; lines = [] })
+
+-- a screen has the cells of a grid, where that lies on it, in each place that isn't marked
+abbrev pub IsShownBut : Marking → Origin → Grid → Grid → Type 0
+IsShownBut m o g v =
+    (i j : ℕ) → i < length g → j < length (line_at g i) → IsUnmarked m (o.top + i) (o.left + j)
+    → cell_at v (o.top + i) (o.left + j) ≡ cell_at g i j
+
+-- a screen has the cells of each grid, but for what is marked for it; a pad's lies nowhere
+abbrev pub ShowsBut : Markings → State → Grid → Type 0
+ShowsBut t d v =
+    (k : ℕ) → (origin_at d k).pad ≡ false → IsShownBut (marks_of t k) (origin_at d k) (grid_at d k) v
+
+-- What was shown but for the one's marks on the one desk is shown but for the other's on the other desk. So what was
+-- marked stays marked, and each place in which grids differ is marked.
+abbrev pub KeepsShown : Markings → State → Markings → State → Type 0
+KeepsShown t d u e = (v : Grid) → ShowsBut t d v → ShowsBut u e v
+
+-- all places of all grids are marked
+abbrev pub AreFull : Markings → Type 0
+AreFull t = (k : ℕ) → (marks_of t k).all ≡ true
+
+-- they are marked as well
+pub record FillsAll (t u : Markings) : Type 0 where
+  pub size : length u ≡ length t
+  pub full : AreFull u
+  pub lines : (k : ℕ) → (marks_of u k).lines ≡ (marks_of t k).lines
+
+-- a grid of which all is marked, on a screen of so many lines
+abbrev pub all_marked : ℕ → Marking
+all_marked rows = record (none_marked rows) { all = true }
+
+-- ---- writing
 
 -- the next line that is begun lets the region go up
 abbrev pub MayScroll : Window → Type 0
 MayScroll w = (w.scrolls ≡ true) × (w.row ≡ w.region_bottom)
 
--- a line of the grid that lies between the window's line `first` and the cursor's
-pub record IsGoneThrough (w : Window) (first i : ℕ) : Type 0 where
-  pub after : w.area.top + first ≤ i
-  pub before : i ≤ w.area.top + w.row
+-- the rectangle of a window lies within the lines and columns that can be numbered, its grid lying there
+pub record LiesWithin (o : Origin) (a : Area) : Type 0 where
+  pub rows : o.top + a.top + a.rows ≤ 1000
+  pub cols : o.left + a.left + a.cols ≤ 1000
+
+-- a window's lines from one on, on the screen
+abbrev pub lines_shown : Origin → Window → ℕ → ℕ → Area
+lines_shown o w first n =
+    record { top = o.top + w.area.top + first; left = o.left + w.area.left; rows = n; cols = w.area.cols }
+
+-- a line of the screen that lies between the window's line `first` and the cursor's
+pub record IsGoneThrough (o : Origin) (w : Window) (first i : ℕ) : Type 0 where
+  pub after : o.top + w.area.top + first ≤ i
+  pub before : i ≤ o.top + w.area.top + w.row
 
 -- the window's lines from one to the cursor's are marked as well, and no others
-pub record MarksLines (m n : Marking) (w : Window) (first : ℕ) : Type 0 where
+pub record MarksLines (m n : Marking) (o : Origin) (w : Window) (first : ℕ) : Type 0 where
   pub kept : (i j : ℕ) → IsUnmarked n i j → IsUnmarked m i j
-  pub lines : (i j : ℕ) → IsUnmarked n i j → is_in (lines_of w first (w.row + 1 - first)) i j ≡ false
-  pub only : (i j : ℕ) → IsUnmarked m i j → (IsGoneThrough w first i → ⊥) → IsUnmarked n i j
+  pub lines : (i j : ℕ) → IsUnmarked n i j → is_in (lines_shown o w first (w.row + 1 - first)) i j ≡ false
+  pub only : (i j : ℕ) → IsUnmarked m i j → (IsGoneThrough o w first i → ⊥) → IsUnmarked n i j
 
--- a line of window 0's grid in which a window may have written: one through which its cursor went from the line `first`
--- on, or any where its region may have gone up
-pub record IsWrittenLine (s : Slot) (first i : ℕ) : Type 0 where
-  pub root : s.root ≡ 0
-  pub line : MayScroll s.window ⊎ IsGoneThrough s.window first i
+-- a line of the screen in which a window may have written: one through which its cursor went from the line `first` on,
+-- or any where its region may have gone up
+abbrev pub IsWrittenLine : Window → Origin → ℕ → ℕ → Type 0
+IsWrittenLine w o first i = MayScroll w ⊎ IsGoneThrough o w first i
 
--- if the window lies on window 0's grid, so are these lines, or all where the region may have gone up
-pub record IsTouched (m n : Marking) (s : Slot) (first : ℕ) : Type 0 where
+-- these lines are marked as well, or all where the region may have gone up
+pub record TouchesGrid (m n : Marking) (w : Window) (o : Origin) (first : ℕ) : Type 0 where
   pub kept : (i j : ℕ) → IsUnmarked n i j → IsUnmarked m i j
-  pub lines : s.root ≡ 0 → (i j : ℕ) → IsUnmarked n i j → is_in (lines_of s.window first (s.window.row + 1 - first)) i j ≡ false
-  pub all : s.root ≡ 0 → MayScroll s.window → (i j : ℕ) → IsUnmarked n i j → ⊥
-  pub only : (i j : ℕ) → IsUnmarked m i j → (IsWrittenLine s first i → ⊥) → IsUnmarked n i j
+  pub lines : (i j : ℕ) → IsUnmarked n i j → is_in (lines_shown o w first (w.row + 1 - first)) i j ≡ false
+  pub all : MayScroll w → (i j : ℕ) → IsUnmarked n i j → ⊥
+  pub only : (i j : ℕ) → IsUnmarked m i j → (IsWrittenLine w o first i → ⊥) → IsUnmarked n i j
+
+-- those of the window's grid, unless it is a pad's, and no others
+pub record IsTouched (t u : Markings) (s : Slot) (o : Origin) (first : ℕ) : Type 0 where
+  pub grid : o.pad ≡ false → s.root < length t → TouchesGrid (marks_of t s.root) (marks_of u s.root) s.window o first
+  pub pad : o.pad ≡ true → u ≡ t
+  pub none : length t ≤ s.root → u ≡ t
+  pub others : (k : ℕ) → k ≢ s.root → marks_of u k ≡ marks_of t k
+
+-- a character becomes one cell of the cursor's line, and isn't in its last column
+pub record IsOneCell (w : Window) (p : Put) : Type 0 where
+  pub printed : is_printed p.byte ≡ true
+  pub pair : is_pair p.pair ≡ true
+  pub before : w.col + 1 < w.area.cols
+
+-- cells of the cursor's line, on the screen
+abbrev pub cells_shown : Origin → Window → ℕ → ℕ → Area
+cells_shown o w col n =
+    record { top = o.top + w.area.top + w.row; left = o.left + w.area.left + col; rows = 1; cols = n }
+
+-- they are marked as well, and no other line
+pub record MarksCells (m n : Marking) (o : Origin) (w : Window) (col count : ℕ) : Type 0 where
+  pub kept : (i j : ℕ) → IsUnmarked n i j → IsUnmarked m i j
+  pub cells : (i j : ℕ) → IsUnmarked n i j → is_in (cells_shown o w col count) i j ≡ false
+  pub only : (i j : ℕ) → IsUnmarked m i j → i ≢ o.top + w.area.top + w.row → IsUnmarked n i j
+
+-- the same of the window's grid, unless it is a pad's, and of no other
+pub record AreTouched (t u : Markings) (s : Slot) (o : Origin) (col count : ℕ) : Type 0 where
+  pub grid : o.pad ≡ false → s.root < length t → MarksCells (marks_of t s.root) (marks_of u s.root) o s.window col count
+  pub pad : o.pad ≡ true → u ≡ t
+  pub none : length t ≤ s.root → u ≡ t
+  pub others : (k : ℕ) → k ≢ s.root → marks_of u k ≡ marks_of t k
 
 -- a call was refused, and not by NoScroll, which it may answer after it has written; the marks are as they were
-pub record LeavesMarks (m n : Marking) (r : Result (Unit {0}) Refusal) : Type 0 where
+pub record LeavesMarks (t u : Markings) (r : Result (Unit {0}) Refusal) : Type 0 where
   pub refused : OnOk r ⊥
   pub other : IfErr r (λ e. e ≢ NoScroll)
-  pub same : n ≡ m
+  pub same : u ≡ t
+
+-- all places of a grid are marked as well, and no others
+pub record FillsGrid (t u : Markings) (k : ℕ) : Type 0 where
+  pub full : (marks_of u k).all ≡ true
+  pub others : (l : ℕ) → l ≢ k → marks_of u l ≡ marks_of t l
+
+-- those of a window's grid, if there is such a window
+abbrev pub MarksWindow : Markings → Markings → Result Slot Refusal → Type 0
+MarksWindow t u (Ok s) = FillsGrid t u s.root
+MarksWindow t u (Err e) = u ≡ t
 
 -- ---- no more is marked
 
--- a line of window 0's grid in which a call may have written on a window that was so before it and is so afterwards
-abbrev pub WritesLine : Result Slot Refusal → Result Slot Refusal → ℕ → Type 0
-WritesLine (Ok s) (Ok t) i = IsWrittenLine t s.window.row i
-WritesLine (Ok s) (Err e) i = ⊥
-WritesLine (Err e) t i = ⊥
+-- a line of the screen in which a call may have written on a window of the grid k that was so before it and is so
+-- afterwards
+pub record WritesOn (k : ℕ) (d : State) (s t : Slot) (i : ℕ) : Type 0 where
+  pub root : t.root ≡ k
+  pub lies : (origin_at d t.root).pad ≡ false
+  pub line : IsWrittenLine t.window (origin_at d t.root) s.window.row i
 
--- what wasn't marked stays unmarked, but for the lines in which the call may have written on the window of a number
-pub record MarksWritten (m n : Marking) (d e : State) (id : ℕ) : Type 0 where
-  pub only : (i j : ℕ) → IsUnmarked m i j → (WritesLine (slot_of d id) (slot_of e id) i → ⊥) → IsUnmarked n i j
+abbrev pub WritesLine : ℕ → State → Result Slot Refusal → Result Slot Refusal → ℕ → Type 0
+WritesLine k d (Ok s) (Ok t) i = WritesOn k d s t i
+WritesLine k d (Ok s) (Err e) i = ⊥
+WritesLine k d (Err e) t i = ⊥
 
--- a window of window 0's grid, which is shown at the place where it lies in that
-pub record IsShownInPlace (d : State) (s : Slot) : Type 0 where
-  pub root : s.root ≡ 0
-  pub top : (area_on_screen d s).top ≡ s.window.area.top
-  pub left : (area_on_screen d s).left ≡ s.window.area.left
+-- what wasn't marked of a grid stays unmarked, but for the lines in which the call may have written on the window of a
+-- number
+pub record MarksWritten (t u : Markings) (d e : State) (id : ℕ) : Type 0 where
+  pub only : (k i j : ℕ) → IsUnmarked (marks_of t k) i j → (WritesLine k d (slot_of d id) (slot_of e id) i → ⊥)
+      → IsUnmarked (marks_of u k) i j
 
 -- a window as large as the screen
 pub record IsScreenful (d : State) (s : Slot) : Type 0 where
   pub rows : s.window.area.rows ≡ d.rows
   pub cols : s.window.area.cols ≡ d.cols
 
--- the marks after such a window was copied: none if it is as large as the screen, and else those that there were
-pub record MarksCopied (m n : Marking) (d : State) (s : Slot) : Type 0 where
-  pub whole : IsShownInPlace d s → IsScreenful d s → n ≡ none_marked (length m.lines)
-  pub part : IsShownInPlace d s → (IsScreenful d s → ⊥) → n ≡ m
+-- a window that is all of its grid
+abbrev pub HasAll : State → Slot → Type 0
+HasAll d s = (s.parent ≡ None) ⊎ IsScreenful d s
+
+-- The marks after a window was copied, the screen being marked so: none of a grid that it is all of, and else those
+-- that there were; of each other grid also what the screen has.
+pub record MarksCopied (t u : Markings) (o : Marking) (d : State) (s : Slot) : Type 0 where
+  pub whole : s.root < length t → HasAll d s → marks_of u s.root ≡ none_marked (length (marks_of t s.root).lines)
+  pub part : (HasAll d s → ⊥) → marks_of u s.root ≡ marks_of t s.root
+  pub others : (k i j : ℕ) → k ≢ s.root → AreUnmarkedBeside (marks_of t k) o d.cols i j → IsUnmarked (marks_of u k) i j
+
+-- the marks of all grids but one have those of the screen as well
+pub record Spreads (t u : Markings) (but : ℕ) (o : Marking) (rows cols : ℕ) : Type 0 where
+  pub same : marks_of u but ≡ marks_of t but
+  pub size : length u ≡ length t
+  pub others : (k : ℕ) → k ≢ but → Joins (marks_of t k) o rows cols (marks_of u k)
+
+-- no mark is left of a grid if a window is all of it
+pub record IsCleared (t u : Markings) (root : ℕ) (whole : Bool) : Type 0 where
+  pub there : whole ≡ true → root < length t → u ≡ slice_set t root (none_marked (length (marks_of t root).lines))
+  pub part : whole ≡ false → u ≡ t
+  pub past : length t ≤ root → u ≡ t

@@ -2,14 +2,13 @@
 ghost use Rattle.std.specs.Prelude.{◌≡◌, ◌≢◌, bit_and, bit_or, ◌-◌, IfErr};
 ghost use Rattle.cur_windows.specs.Desks as spec;
 ghost use Rattle.cur_drawing.specs.Calls as call;
-ghost use Rattle.cur_drawing.specs.Marks.{Keeps};
 ghost use Rattle.cur_drawing.specs.Windows as window;
-ghost use Rattle.cur_windows.specs.Touched.{MarksWritten};
+ghost use Rattle.cur_windows.specs.Touched.{KeepsShown, MarksWritten};
 
 use crate::desks::Desk;
 use crate::hints::{after_writing, joined};
-use crate::touched::{touch, touch_unless_refused};
-use cur_drawing::{Attrs, Border, Marks, Put, Refusal};
+use crate::touched::{Touched, start_of, touch, touch_written};
+use cur_drawing::{Attrs, Border, Put, Refusal};
 
 // The calls on one window. Each refuses with `Full` a number above 63, and else with `NoWindow` one that names no
 // window; a refusal changes nothing, but for `NoScroll` and strings.
@@ -124,27 +123,32 @@ impl Desk {
     pub fn addch(&mut self, id: usize, put: Put) -> Result<(), Refusal>
         ensures { spec.step self.new result ≡ spec.on_window self.old id (call.added put) }
     {
-        let mut touched = Marks::unknown(self.alloc);
+        let mut touched = Touched::unknown(self.alloc);
         self.addch_marked(id, put, &mut touched)
     }
 
-    /// As `addch`; where window 0's grid has changed it is marked as well. Of that grid nothing is marked but the
-    /// lines through which the cursor went, or all if the region may have gone up; nothing where the call is refused
-    /// with another answer than `NoScroll`.
-    pub fn addch_marked(&mut self, id: usize, put: Put, touched: &mut Marks) -> Result<(), Refusal>
+    /// As `addch`; where the window's grid has changed it is marked as well. Nothing is marked but the lines of that
+    /// grid through which the cursor went, or all of it if the region may have gone up; nothing where the call is
+    /// refused with another answer than `NoScroll`.
+    pub fn addch_marked(
+        &mut self,
+        id: usize,
+        put: Put,
+        touched: &mut Touched,
+    ) -> Result<(), Refusal>
         ensures step { spec.step self.new result ≡ spec.on_window self.old id (call.added put) }
-        ensures touched { Keeps touched.old (spec.grid_at self.old 0) touched.new (spec.grid_at self.new 0) }
-        ensures only { MarksWritten touched.old touched.new self.old self.new id }
+        ensures touched { KeepsShown touched.old.grids.items self.old touched.new.grids.items self.new }
+        ensures only { MarksWritten touched.old.grids.items touched.new.grids.items self.old self.new id }
         ensures refused { IfErr result (λ e. e ≢ Refusal.NoScroll → touched.new ≡ touched.old) }
     {
         let mut slot = self.find(id)?;
-        let region = self.region_of(&slot);
-        let first = slot.window.row;
+        let (region, origin) = (self.region_of(&slot), self.origin_of(&slot));
+        let start = start_of(&slot.window, put);
         let mut lines = 0;
         let grid = &mut self.grids[slot.root as usize];
         let answer = slot.window.add(grid, put, &mut lines);
         self.scrolled = after_writing(self.scrolled, region, lines);
-        touch_unless_refused(touched, &slot, first, &answer);
+        touch_written(touched, &slot, origin, start, &answer);
         self.windows[id] = Some(slot);
         answer
     }
@@ -157,30 +161,30 @@ impl Desk {
     pub fn addstr(&mut self, id: usize, text: &[u8]) -> Result<(), Refusal>
         ensures { spec.step self.new result ≡ spec.on_window self.old id (call.added_all text.now) }
     {
-        let mut touched = Marks::unknown(self.alloc);
+        let mut touched = Touched::unknown(self.alloc);
         self.addstr_marked(id, text, &mut touched)
     }
 
-    /// As `addstr`; where window 0's grid has changed it is marked as well. Of that grid nothing is marked but the
-    /// lines through which the cursor went, or all if the region may have gone up.
+    /// As `addstr`; where the window's grid has changed it is marked as well. Nothing is marked but the lines of that
+    /// grid through which the cursor went, or all of it if the region may have gone up.
     pub fn addstr_marked(
         &mut self,
         id: usize,
         text: &[u8],
-        touched: &mut Marks,
+        touched: &mut Touched,
     ) -> Result<(), Refusal>
         ensures step { spec.step self.new result ≡ spec.on_window self.old id (call.added_all text.now) }
-        ensures touched { Keeps touched.old (spec.grid_at self.old 0) touched.new (spec.grid_at self.new 0) }
-        ensures only { MarksWritten touched.old touched.new self.old self.new id }
+        ensures touched { KeepsShown touched.old.grids.items self.old touched.new.grids.items self.new }
+        ensures only { MarksWritten touched.old.grids.items touched.new.grids.items self.old self.new id }
     {
         let mut slot = self.find(id)?;
-        let region = self.region_of(&slot);
+        let (region, origin) = (self.region_of(&slot), self.origin_of(&slot));
         let first = slot.window.row;
         let mut lines = 0;
         let grid = &mut self.grids[slot.root as usize];
         let answer = slot.window.add_all(grid, text, &mut lines);
         self.scrolled = after_writing(self.scrolled, region, lines);
-        touch(touched, &slot, first);
+        touch(touched, &slot, origin, first);
         self.windows[id] = Some(slot);
         answer
     }

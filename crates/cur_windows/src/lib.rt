@@ -26,6 +26,7 @@ pub use desks::{Desk, WINDOWS};
 pub use hints::Hint;
 pub use rows::RowMut;
 pub use std::alloc::AllocError as NoMemory;
+pub use touched::Touched;
 pub use views::{Part, View};
 pub use virtual_screen::Virtual;
 pub use vt_term::Size;

@@ -1,16 +1,17 @@
 //! Copying a window to the virtual screen.
-ghost use Rattle.std.specs.Prelude.{◌≡◌, ◌<◌, ◌≤◌, ◌+◌, IfErr, IfOk, IfSome, Ok, Some, None, if◌then◌else◌, false};
+ghost use Rattle.std.specs.Prelude.{◌≡◌, ◌<◌, ◌≤◌, ◌+◌, IfErr, IfOk, IfSome, Ok, Some, None, if◌then◌else◌, false, true};
 ghost use Rattle.cur_drawing.specs.Calls.{IsCanvas, place};
-ghost use Rattle.cur_drawing.specs.Marks.{AreSame, Keeps, MarksOnly};
+ghost use Rattle.cur_drawing.specs.Marks.{Keeps, MarksOnly};
 ghost use Rattle.cur_drawing.specs.Windows.{IsWindow};
 ghost use Rattle.cur_windows.specs.Desks as spec;
 ghost use Rattle.cur_windows.specs.Creations as make;
-ghost use Rattle.cur_windows.specs.Touched.{MarksCopied};
+ghost use Rattle.cur_windows.specs.Touched.{HasAll, IsShownBut, LiesWithin, MarksCopied, ShowsBut, marks_of};
 ghost use Rattle.cur_windows.specs.declared.slots.Slot.{Slot};
-ghost use Rattle.cur_windows.specs.VirtualScreen.{refresh, noutrefresh, shown, area_on_screen, cursor_on_screen};
+ghost use Rattle.cur_windows.specs.VirtualScreen.{IsScreen, refresh, noutrefresh, shown, area_on_screen, cursor_on_screen};
 
 use crate::desks::Desk;
-use crate::slots::Slot;
+use crate::slots::{Origin, Slot};
+use crate::touched::{Touched, spread, unmark};
 use crate::virtual_screen::{Copy, Virtual};
 use cur_drawing::{Cell, Marks, Refusal};
 use grids::{Area, Grid, Place};
@@ -24,28 +25,29 @@ impl Desk {
         requires cols { (screen.old).cols ≡ (self.old).cols }
         ensures { refresh self.new screen.new result ≡ noutrefresh self.old screen.old id }
     {
-        let mut touched = Marks::unknown(self.alloc);
+        let mut touched = Touched::unknown(self.alloc);
         let mut marks = Marks::unknown(self.alloc);
         self.noutrefresh_marked(id, screen, &mut touched, &mut marks)
     }
 
-    /// As `noutrefresh`. Outside the marks `touched` the screen has the cells of window 0's grid, and it has them
-    /// outside these marks afterwards; what isn't marked of that grid isn't looked at. A window of that grid adds none
-    /// to them, and one as large as the screen takes all off. Where the screen's cells have changed, `marks` are added.
+    /// As `noutrefresh`. Outside the marks `touched` the screen has the cells of each grid, and it has them outside
+    /// these marks afterwards; what isn't marked of the window's grid isn't looked at. A window that is all of its grid
+    /// takes that grid's marks off, and any other adds none to them. Where the screen's cells have changed, `marks` are
+    /// added, and all that is marked there is marked for each other grid.
     pub fn noutrefresh_marked(
         &mut self,
         id: usize,
         screen: &mut Virtual,
-        touched: &mut Marks,
+        touched: &mut Touched,
         marks: &mut Marks,
     ) -> Result<(), Refusal>
         requires rows { (screen.old).rows ≡ (self.old).rows }
         requires cols { (screen.old).cols ≡ (self.old).cols }
-        requires touched { AreSame touched.old (screen.old).grid (spec.grid_at self.old 0) }
+        requires touched { ShowsBut touched.old.grids.items self.old (screen.old).grid }
         ensures step { refresh self.new screen.new result ≡ noutrefresh self.old screen.old id }
-        ensures touched { AreSame touched.new (screen.new).grid (spec.grid_at self.new 0) }
+        ensures touched { ShowsBut touched.new.grids.items self.new (screen.new).grid }
         ensures copied { IfOk result (λ _. (s : Slot) → spec.slot_of self.old id ≡ Ok s
-            → MarksCopied touched.old touched.new self.old s) }
+            → MarksCopied touched.old.grids.items touched.new.grids.items marks.new self.old s) }
         ensures refused { IfErr result (λ _. touched.new ≡ touched.old) }
         ensures marked { Keeps marks.old (screen.old).grid marks.new (screen.new).grid }
         ensures only { MarksOnly marks.old (screen.old).grid marks.new (screen.new).grid }
@@ -60,22 +62,50 @@ impl Desk {
     }
 
     // Copies the whole window to the screen, with its cursor and its `clearok`, and the desk's hint.
-    fn copy_slot(&self, slot: &Slot, screen: &mut Virtual, touched: &mut Marks, marks: &mut Marks)
+    fn copy_slot(&self, slot: &Slot, screen: &mut Virtual, touched: &mut Touched, marks: &mut Marks)
+        requires canvas { IsCanvas (spec.grid_at self.now (slot.now).root) (slot.now).window }
+        requires root { (slot.now).root < 64 }
+        requires whole { (slot.now).parent ≡ None
+            → spec.IsWhole (slot.now).window.area (spec.grid_at self.now (slot.now).root) }
+        requires window { (spec.origin_at self.now (slot.now).root).pad ≡ false }
+        requires rows { (screen.old).rows ≡ (self.now).rows }
+        requires cols { (screen.old).cols ≡ (self.now).cols }
+        requires touched { ShowsBut touched.old.grids.items self.now (screen.old).grid }
+        ensures value { screen.new ≡ shown (area_on_screen self.now slot.now) (spec.grid_at self.now (slot.now).root)
+            (place (slot.now).window.area.top (slot.now).window.area.left) (cursor_on_screen self.now slot.now)
+            (slot.now).window.clears screen.old }
+        ensures touched { ShowsBut touched.new.grids.items self.now (screen.new).grid }
+        ensures copied { MarksCopied touched.old.grids.items touched.new.grids.items marks.new self.now slot.now }
+        ensures marked { Keeps marks.old (screen.old).grid marks.new (screen.new).grid }
+        ensures only { MarksOnly marks.old (screen.old).grid marks.new (screen.new).grid }
+    {
+        self.show_slot(slot, screen, touched, marks);
+        let root = slot.root as usize;
+        spread(touched, root, marks, self.rows, self.cols);
+        unmark(touched, root, self.has_all(slot));
+    }
+
+    // Copies as `copy_slot` does what is marked of the window's grid.
+    fn show_slot(&self, slot: &Slot, screen: &mut Virtual, touched: &Touched, marks: &mut Marks)
         requires canvas { IsCanvas (spec.grid_at self.now (slot.now).root) (slot.now).window }
         requires root { (slot.now).root < 64 }
         requires window { (spec.origin_at self.now (slot.now).root).pad ≡ false }
         requires rows { (screen.old).rows ≡ (self.now).rows }
         requires cols { (screen.old).cols ≡ (self.now).cols }
-        requires touched { AreSame touched.old (screen.old).grid (spec.grid_at self.now 0) }
+        requires touched { IsShownBut (marks_of touched.now.grids.items (slot.now).root)
+            (spec.origin_at self.now (slot.now).root) (spec.grid_at self.now (slot.now).root) (screen.old).grid }
         ensures value { screen.new ≡ shown (area_on_screen self.now slot.now) (spec.grid_at self.now (slot.now).root)
             (place (slot.now).window.area.top (slot.now).window.area.left) (cursor_on_screen self.now slot.now)
             (slot.now).window.clears screen.old }
-        ensures touched { AreSame touched.new (screen.new).grid (spec.grid_at self.now 0) }
-        ensures copied { MarksCopied touched.old touched.new self.now slot.now }
         ensures marked { Keeps marks.old (screen.old).grid marks.new (screen.new).grid }
         ensures only { MarksOnly marks.old (screen.old).grid marks.new (screen.new).grid }
+        ensures rows { (area_on_screen self.now slot.now).top + (area_on_screen self.now slot.now).rows
+            ≤ (self.now).rows }
+        ensures cols { (area_on_screen self.now slot.now).left + (area_on_screen self.now slot.now).cols
+            ≤ (self.now).cols }
+        ensures legal { IsScreen screen.old }
     {
-        let (rows, cols) = (self.rows, self.cols);
+        let (scrolled, root) = (self.scrolled, slot.root as usize);
         let area = self.place_on_screen(slot);
         let from = Place {
             row: slot.window.area.top,
@@ -89,16 +119,21 @@ impl Desk {
             root: slot.root,
         };
         let grid = self.grid_of(slot);
-        if slot.root != 0 || area.top != from.row || area.left != from.col {
+        if root < touched.grids.len() {
+            screen.show(copy, grid, scrolled, &touched.grids[root], marks);
+        } else {
             let unknown = Marks::unknown(self.alloc);
-            screen.show(copy, grid, self.scrolled, &unknown, marks);
-            touched.mark_all();
-            return;
+            screen.show(copy, grid, scrolled, &unknown, marks);
         }
-        screen.show(copy, grid, self.scrolled, touched, marks);
-        if area.rows == rows && area.cols == cols {
-            touched.clear();
-        }
+    }
+
+    // Whether the window is all of its grid.
+    fn has_all(&self, slot: &Slot) -> bool
+        ensures there { result ≡ true → HasAll self.now slot.now }
+        ensures part { result ≡ false → HasAll self.now slot.now → ⊥ }
+    {
+        let area = slot.window.area;
+        slot.parent.is_none() || (area.rows == self.rows && area.cols == self.cols)
     }
 
     // The grid that a window lies in.
@@ -107,6 +142,16 @@ impl Desk {
         ensures { result.now ≡ spec.grid_at self.now (slot.now).root }
     {
         &self.grids[slot.root as usize]
+    }
+
+    // Where the grid lies that a window lies in.
+    pub(crate) fn origin_of(&self, slot: &Slot) -> Origin
+        requires canvas { IsCanvas (spec.grid_at self.now (slot.now).root) (slot.now).window }
+        requires root { (slot.now).root < 64 }
+        ensures value { result ≡ spec.origin_at self.now (slot.now).root }
+        ensures within { result.pad ≡ false → LiesWithin result (slot.now).window.area }
+    {
+        self.origins[slot.root as usize]
     }
 
     // The window's rectangle on the screen.

@@ -1,39 +1,122 @@
-//! Where window 0's grid may have changed since it was copied to the virtual screen.
-ghost use Rattle.std.specs.Prelude.{◌≡◌, ◌≢◌, ◌⊎◌, IfErr};
+//! Where each grid may have changed since it was copied to the virtual screen.
+ghost use Rattle.std.specs.Prelude.{◌≡◌, ◌≢◌, ◌⊎◌, ◌<◌, ◌≤◌, ◌+◌, ℕ, IfErr, IfOk, false, true, length, replicate};
+ghost use Rattle.cur_drawing.specs.Marks.{Joins, none_marked};
 ghost use Rattle.cur_drawing.specs.Windows.{IsWindow};
-ghost use Rattle.cur_windows.specs.Touched.{LeavesMarks, IsTouched, MarksLines};
+ghost use Rattle.cur_windows.specs.Desks as spec;
+ghost use Rattle.cur_windows.specs.Touched.{AreFull, AreTouched, FillsAll, FillsGrid, IsCleared, IsOneCell, LeavesMarks, IsTouched, LiesWithin, MarksCells, MarksLines, MarksWindow, Spreads, TouchesGrid, all_marked, marks_of};
 
-use crate::slots::Slot;
-use cur_drawing::{Marks, Refusal, Window};
+use crate::desks::Desk;
+use crate::slots::{Origin, Slot};
+use cur_drawing::{Marks, Put, Refusal, Window};
+use std::alloc::{AllocError, Global};
 
-/// Marks what was written on a window of window 0's grid since its cursor was in the line `first`: all, if its region
-/// may have gone up.
-pub(crate) fn touch(touched: &mut Marks, slot: &Slot, first: u16)
-    requires { IsWindow (slot.now).window }
-    ensures { IsTouched touched.old touched.new slot.now first }
+/// How many grids have marks: those of windows with numbers below this one.
+const MARKED: usize = 16;
+
+/// For each grid, by the number of the window that made it, marks at the places of the screen where it may differ from
+/// the virtual screen. A grid without marks may differ in all of them: one that a window with a number above 15 made.
+#[derive(Drop)]
+pub struct Touched {
+    pub grids: Vec<Marks>,
+}
+
+impl Touched {
+    /// The marks of 16 grids on a screen of `rows` lines, all of which are marked. An error where a growth was refused.
+    pub fn new(alloc: Global, rows: u16) -> Result<Touched, AllocError>
+        ensures value { IfOk result (λ touched. touched.grids.items ≡ replicate 16 (all_marked rows)) }
+        ensures full { IfOk result (λ touched. AreFull touched.grids.items) }
+    {
+        let grids = full_grids(alloc, rows)?;
+        Ok(Touched { grids })
+    }
+
+    /// The marks of no grid. Takes no memory.
+    pub fn unknown(alloc: Global) -> Touched
+        ensures { AreFull result.grids.items }
+    {
+        Touched {
+            grids: Vec::new(alloc),
+        }
+    }
+
+    /// Marks all places of all grids.
+    pub fn mark_all(&mut self)
+        ensures { FillsAll self.old.grids.items self.new.grids.items }
+    {
+        fill(&mut self.grids);
+    }
+}
+
+// Marks for 16 grids, on a screen of `rows` lines. An error where a growth was refused.
+fn full_grids(alloc: Global, rows: u16) -> Result<Vec<Marks>, AllocError>
+    ensures { IfOk result (λ grids. grids.items ≡ replicate 16 (all_marked rows)) }
 {
-    if slot.root != 0 {
+    let mut grids = Vec::with_capacity(alloc, MARKED)?;
+    for _k in 0..MARKED {
+        let mut marks = Marks::new(alloc, rows)?;
+        marks.mark_all();
+        grids.push(marks)?;
+    }
+    Ok(grids)
+}
+
+// Marks all places of all of them.
+fn fill(grids: &mut Vec<Marks>)
+    ensures { FillsAll grids.old.items grids.new.items }
+{
+    for k in 0..grids.len() {
+        grids[k].mark_all();
+    }
+}
+
+impl Desk {
+    /// Marks all of the window's grid, for a call that changes it and has no marks itself; nothing if there is no such
+    /// window.
+    pub fn mark_window(&self, id: usize, touched: &mut Touched)
+        ensures { MarksWindow touched.old.grids.items touched.new.grids.items (spec.slot_of self.now id) }
+    {
+        if let Ok(slot) = self.find(id) {
+            mark_grid(touched, slot.root as usize);
+        }
+    }
+}
+
+// Marks all places of one grid.
+fn mark_grid(touched: &mut Touched, root: usize)
+    ensures { FillsGrid touched.old.grids.items touched.new.grids.items root }
+{
+    if root < touched.grids.len() {
+        touched.grids[root].mark_all();
+    }
+}
+
+/// Marks what was written on a window since its cursor was in the line `first`: all of its grid, if its region may have
+/// gone up. The grid lies at `origin`, unless it is a pad's.
+pub(crate) fn touch(touched: &mut Touched, slot: &Slot, origin: Origin, first: u16)
+    requires window { IsWindow (slot.now).window }
+    requires within { origin.pad ≡ false → LiesWithin origin (slot.now).window.area }
+    ensures { IsTouched touched.old.grids.items touched.new.grids.items slot.now origin first }
+{
+    let root = slot.root as usize;
+    if origin.pad || root >= touched.grids.len() {
         return;
     }
-    let window = &slot.window;
-    if window.scrolls && window.row == window.region_bottom {
-        touched.mark_all();
-    } else {
-        mark_lines(touched, window, first);
-    }
+    touch_grid(&mut touched.grids[root], &slot.window, origin, first);
 }
 
 /// As `touch`, after a call that has answered so; nothing is marked where it was refused and so has written nothing.
 /// `NoScroll` it may answer after it has written.
-pub(crate) fn touch_unless_refused(
-    touched: &mut Marks,
+fn touch_unless_refused(
+    touched: &mut Touched,
     slot: &Slot,
+    origin: Origin,
     first: u16,
     answer: &Result<(), Refusal>,
 )
-    requires { IsWindow (slot.now).window }
-    ensures touched { IsTouched touched.old touched.new slot.now first
-        ⊎ LeavesMarks touched.old touched.new answer.now }
+    requires window { IsWindow (slot.now).window }
+    requires within { origin.pad ≡ false → LiesWithin origin (slot.now).window.area }
+    ensures touched { IsTouched touched.old.grids.items touched.new.grids.items slot.now origin first
+        ⊎ LeavesMarks touched.old.grids.items touched.new.grids.items answer.now }
     ensures refused { IfErr answer.now (λ e. e ≢ Refusal.NoScroll → touched.new ≡ touched.old) }
 {
     if let Err(refusal) = answer {
@@ -41,18 +124,136 @@ pub(crate) fn touch_unless_refused(
             return;
         }
     }
-    touch(touched, slot, first);
+    touch(touched, slot, origin, first);
+}
+
+// As `touch`, in the marks of the window's grid.
+fn touch_grid(marks: &mut Marks, window: &Window, origin: Origin, first: u16)
+    requires window { IsWindow window.now }
+    requires within { LiesWithin origin (window.now).area }
+    ensures { TouchesGrid marks.old marks.new window.now origin first }
+{
+    if window.scrolls && window.row == window.region_bottom {
+        marks.mark_all();
+    } else {
+        mark_lines(marks, window, origin, first);
+    }
+}
+
+/// Where a window's cursor was before a character was written, and whether that becomes one cell, after which the cursor
+/// is in the same line.
+#[derive(Clone, Copy)]
+pub(crate) struct Start {
+    pub row: u16,
+    pub col: u16,
+    pub one: bool,
+}
+
+/// What is to be remembered before a character is written.
+pub(crate) fn start_of(window: &Window, put: Put) -> Start
+    requires { IsWindow window.now }
+    ensures row { result.row ≡ (window.now).row }
+    ensures col { result.col ≡ (window.now).col }
+    ensures one { result.one ≡ true → IsOneCell window.now put }
+{
+    Start {
+        row: window.row,
+        col: window.col,
+        one: put.is_cell() && window.col + 1 < window.area.cols,
+    }
+}
+
+/// Marks what was written by a call that wrote a character from `start` on, and has answered so: one cell, or what
+/// `touch_unless_refused` does.
+pub(crate) fn touch_written(
+    touched: &mut Touched,
+    slot: &Slot,
+    origin: Origin,
+    start: Start,
+    answer: &Result<(), Refusal>,
+)
+    requires window { IsWindow (slot.now).window }
+    requires within { origin.pad ≡ false → LiesWithin origin (slot.now).window.area }
+    requires cell { start.one ≡ true → start.col + 1 ≤ (slot.now).window.area.cols }
+    ensures touched { ((start.one ≡ true) × AreTouched touched.old.grids.items touched.new.grids.items slot.now origin start.col 1)
+        ⊎ (IsTouched touched.old.grids.items touched.new.grids.items slot.now origin start.row
+        ⊎ LeavesMarks touched.old.grids.items touched.new.grids.items answer.now) }
+    ensures refused { IfErr answer.now (λ e. e ≢ Refusal.NoScroll → touched.new ≡ touched.old) }
+{
+    if start.one && answer.is_ok() {
+        touch_cells(touched, slot, origin, start.col, 1);
+        return;
+    }
+    touch_unless_refused(touched, slot, origin, start.row, answer);
+}
+
+/// Marks `count` cells from the column `col` on of the window's line in which its cursor is. The grid lies at `origin`,
+/// unless it is a pad's.
+fn touch_cells(touched: &mut Touched, slot: &Slot, origin: Origin, col: u16, count: u16)
+    requires window { IsWindow (slot.now).window }
+    requires within { origin.pad ≡ false → LiesWithin origin (slot.now).window.area }
+    requires cells { col + count ≤ (slot.now).window.area.cols }
+    ensures { AreTouched touched.old.grids.items touched.new.grids.items slot.now origin col count }
+{
+    let root = slot.root as usize;
+    if origin.pad || root >= touched.grids.len() {
+        return;
+    }
+    mark_cells(&mut touched.grids[root], &slot.window, origin, col, count);
+}
+
+// Marks cells of the line in which the window's cursor is.
+fn mark_cells(marks: &mut Marks, window: &Window, origin: Origin, col: u16, count: u16)
+    requires window { IsWindow window.now }
+    requires within { LiesWithin origin (window.now).area }
+    requires cells { col + count ≤ (window.now).area.cols }
+    ensures { MarksCells marks.old marks.new origin window.now col count }
+{
+    let row = origin.top + window.area.top + window.row;
+    let left = origin.left + window.area.left + col;
+    marks.mark(row, left, left + count);
 }
 
 // Marks the window's lines from the line `first` to the cursor's.
-fn mark_lines(touched: &mut Marks, window: &Window, first: u16)
-    requires { IsWindow window.now }
-    ensures { MarksLines touched.old touched.new window.now first }
+fn mark_lines(marks: &mut Marks, window: &Window, origin: Origin, first: u16)
+    requires window { IsWindow window.now }
+    requires within { LiesWithin origin (window.now).area }
+    ensures { MarksLines marks.old marks.new origin window.now first }
 {
     let area = window.area;
+    let left = origin.left + area.left;
     let count = (window.row + 1).saturating_sub(first);
     for k in 0..count {
-        let row = area.top + first + k;
-        touched.mark(row, area.left, area.left + area.cols);
+        let row = origin.top + area.top + first + k;
+        marks.mark(row, left, left + area.cols);
+    }
+}
+
+/// Takes all marks off a grid, of which a window is `whole`.
+pub(crate) fn unmark(touched: &mut Touched, root: usize, whole: bool)
+    ensures { IsCleared touched.old.grids.items touched.new.grids.items root whole }
+{
+    if whole && root < touched.grids.len() {
+        touched.grids[root].clear();
+    }
+}
+
+/// Marks what the screen's marks have for each grid but one, on a screen of `rows` lines and `cols` columns.
+pub(crate) fn spread(touched: &mut Touched, but: usize, marks: &Marks, rows: u16, cols: u16)
+    ensures { Spreads touched.old.grids.items touched.new.grids.items but marks.now rows cols }
+{
+    for k in 0..touched.grids.len() {
+        if k != but {
+            join_grid(&mut touched.grids[k], marks, rows, cols);
+        }
+    }
+}
+
+// Marks what the screen's marks have for one grid, unless all of it is marked.
+fn join_grid(grid: &mut Marks, marks: &Marks, rows: u16, cols: u16)
+    ensures { Joins grid.old marks.now rows cols grid.new }
+{
+    if !grid.is_full() {
+        grid.join(marks, rows, cols);
     }
 }

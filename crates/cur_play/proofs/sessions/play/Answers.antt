@@ -1,8 +1,7 @@
 use Rattle.std.proofs.Common.{ap, refl}
 use Rattle.cur_update.specs.Painters.{Painted}
 use Rattle.cur_play.proofs.Deliveries.{IsBound}
-use Rattle.cur_windows.specs.Desks.{grid_at}
-use Rattle.cur_play.proofs.MarkFacts.{same_cells, same_screen}
+use Rattle.cur_play.proofs.MarkFacts.{same_cells, shown_on}
 use Rattle.cur_play.proofs.Plays.{played_done, played_refused}
 use Rattle.cur_play.proofs.sessions.play.Goals as goal
 
@@ -22,7 +21,7 @@ returns-in-Done g c =
       carries = all.carries;
       sizes = all.sizes;
       certificate = all.certificate;
-      known = record { window = same_screen c.draw.new.stale.window c.draw.new.screen.grid c.send.new.screen.grid (grid_at c.draw.new.desk 0) c.send.ensures.cells c.draw.ensures.touched; screen = c.send.ensures.marked };
+      known = record { window = shown_on c.draw.new.stale.window.grids.items c.draw.new.desk c.draw.new.screen.grid c.send.new.screen.grid c.send.ensures.cells c.draw.ensures.touched; screen = c.send.ensures.marked };
     }
 
 pub returns-in_default : goal.returns-in_default

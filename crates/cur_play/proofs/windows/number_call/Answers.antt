@@ -1,13 +1,12 @@
-use Rattle.std.proofs.Common.{ap, of_z, to_z, w32}
-use Rattle.cur_drawing.specs.Marks.{Marking}
+use Rattle.std.proofs.Common.{of_z, to_z, w32}
+use Rattle.cur_drawing.specs.Calls as call
 use Rattle.cur_drawing.specs.Windows as window
-use Rattle.cur_windows.specs.Desks.{grid_at}
-use Rattle.cur_play.proofs.GridFacts.{keeps_grids, same_on_cursor}
-use Rattle.cur_play.proofs.MarkFacts.{keeps_all}
+use Rattle.cur_play.proofs.GridFacts.{keeps_on_cursor}
+use Rattle.cur_windows.proofs.TouchedFacts.{keeps_on_grid}
 use Rattle.cur_play.proofs.windows.number_call.Goals as goal
 
 pub returns-in-Scroll-clause-touched : goal.returns-in-Scroll-clause-touched
-returns-in-Scroll-clause-touched c = keeps_all c.args.touched.now c.mark_all.new.self (grid_at c.args.desk.now 0) (grid_at c.scroll.new.self 0) (ap (λ (m : Marking). m.all) c.mark_all.ensures)
+returns-in-Scroll-clause-touched c = keeps_on_grid c.args.touched.now.grids.items c.mark_window.new.touched.grids.items c.args.desk.now c.scroll.new.self c.args.window (call.scroll_by (to_z w32 (of_z w32 c.args.number))) c.scroll.result c.scroll.ensures c.mark_window.ensures
 
 pub returns-in-ColorSet-clause-touched : goal.returns-in-ColorSet-clause-touched
-returns-in-ColorSet-clause-touched c = keeps_grids c.args.touched.now c.args.desk.now c.color_set.new.self (same_on_cursor c.args.desk.now c.color_set.new.self c.args.window (window.set_pair (to_z w32 (of_z w32 c.args.number))) c.color_set.result c.color_set.ensures)
+returns-in-ColorSet-clause-touched c = keeps_on_cursor c.args.touched.now.grids.items c.args.desk.now c.color_set.new.self c.args.window (window.set_pair (to_z w32 (of_z w32 c.args.number))) c.color_set.result c.color_set.ensures

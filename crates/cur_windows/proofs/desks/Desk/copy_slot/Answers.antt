@@ -1,26 +1,23 @@
-use Rattle.std.proofs.Common.{◌≡◌, ◌∙◌, ap, arith, subst}
-use Rattle.cur_drawing.specs.Calls.{place}
-use Rattle.cur_drawing.specs.Grids.{Grid, copied}
+use Rattle.std.proofs.Common.{ap, refl, subst}
 use Rattle.cur_windows.specs.Desks.{IsDesk, State}
+use Rattle.cur_windows.specs.Touched.{Spreads}
 use Rattle.cur_windows.specs.VirtualScreen.{Screen}
-use Rattle.cur_windows.proofs.TouchedFacts.{copied_to_itself, copied_whole}
+use Rattle.cur_windows.proofs.TouchedFacts.{marks_copied, slot_copied}
 use Rattle.cur_windows.proofs.desks.Desk.copy_slot.Goals as goal
 
-pub returns-then-area-cols-clause-touched : goal.returns-then-area-cols-clause-touched
-returns-then-area-cols-clause-touched c =
-    let d : State = c.args.self.now in let s = c.args.slot.now in let v : Screen = c.args.screen.now in
+pub returns-clause-touched : goal.returns-clause-touched
+returns-clause-touched c =
+    let d : State = c.args.self.now in let s = c.args.slot.now in
     let desk : IsDesk d = subst IsDesk c.self.view_is c.self.invariant in
-    let a = c.place_on_screen-area in
-    let root : s.root ≡ 0 = omega arith in
-    let rows : c.self.inside.rows ≡ d.rows = ap (λ (x : State). x.rows) c.self.view_is in
-    let cols : c.self.inside.cols ≡ d.cols = ap (λ (x : State). x.cols) c.self.view_is in
-    copied_whole c.clear.new.self d s a.result v c.show-2.new.self.grid root a.ensures.value (omega arith) (omega arith) a.ensures.rows a.ensures.cols
-    (omega (arith, rows)) (omega (arith, cols)) c.requires.canvas (desk.framed s.root c.requires.window) c.show-2.ensures.legal c.requires.rows c.requires.cols (ap (λ (x : Screen). x.grid) c.show-2.ensures.value ∙ ap (λ (g : Grid). copied a.result (place s.window.area.top s.window.area.left) g v.grid) c.grid_of-grid.ensures)
+    let spread : Spreads c.args.touched.now.grids.items c.spread.new.touched.grids.items s.root c.show_slot.new.marks d.rows d.cols =
+    subst (λ (x : State). Spreads c.args.touched.now.grids.items c.spread.new.touched.grids.items s.root c.show_slot.new.marks x.rows x.cols) c.self.view_is c.spread.ensures in
+    slot_copied c.args.touched.now.grids.items c.spread.new.touched.grids.items c.unmark.new.touched.grids.items c.show_slot.new.marks d s c.args.screen.now c.show_slot.new.screen.grid c.has_all.result
+    desk c.requires.whole spread c.unmark.ensures c.has_all.ensures.there (c.show_slot.ensures.marked c.args.screen.now.grid (λ i j off. refl)) c.show_slot.ensures.rows c.show_slot.ensures.cols
+    c.show_slot.ensures.legal c.requires.rows c.requires.cols (ap (λ (v : Screen). v.grid) c.show_slot.ensures.value) c.requires.window c.requires.touched
 
-pub returns-else-area-rows-clause-touched : goal.returns-else-area-rows-clause-touched
-returns-else-area-rows-clause-touched c =
-    let d : State = c.args.self.now in let s = c.args.slot.now in let v : Screen = c.args.screen.now in
-    let a = c.place_on_screen-area in
-    let root : s.root ≡ 0 = omega arith in
-    copied_to_itself c.args.touched.now d s a.result v c.show-2.new.self.grid root a.ensures.value (omega arith) (omega arith) a.ensures.rows a.ensures.cols
-    c.requires.canvas c.show-2.ensures.legal c.requires.rows c.requires.cols (ap (λ (x : Screen). x.grid) c.show-2.ensures.value ∙ ap (λ (g : Grid). copied a.result (place s.window.area.top s.window.area.left) g v.grid) c.grid_of-grid.ensures) c.requires.touched
+pub returns-clause-copied : goal.returns-clause-copied
+returns-clause-copied c =
+    let d : State = c.args.self.now in let s = c.args.slot.now in
+    let spread : Spreads c.args.touched.now.grids.items c.spread.new.touched.grids.items s.root c.show_slot.new.marks d.rows d.cols =
+    subst (λ (x : State). Spreads c.args.touched.now.grids.items c.spread.new.touched.grids.items s.root c.show_slot.new.marks x.rows x.cols) c.self.view_is c.spread.ensures in
+    marks_copied c.args.touched.now.grids.items c.spread.new.touched.grids.items c.unmark.new.touched.grids.items c.show_slot.new.marks d s c.has_all.result spread c.unmark.ensures c.has_all.ensures.there c.has_all.ensures.part

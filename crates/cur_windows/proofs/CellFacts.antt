@@ -1,0 +1,120 @@
+-- A character that becomes one cell of the cursor's line: nothing else changes, and nothing else is marked.
+use Rattle.std.proofs.Common.{Some, Ok, set, ◌≡◌, ◌≢◌, ◌⊎◌, inl, inr, ℕ, ◌+◌, ◌<◌, ◌≤◌, ◌==◌, ◌||◌, nat_lt, Bool, true, false, List, [], Option, Result, length, get_or, sym, ap, subst, ◌∙◌, arith, if◌then◌else◌}
+use Rattle.std.proofs.lemmas.Bool.{cases_eq}
+use Rattle.std.proofs.lemmas.Bool.Decides.{nat_tests}
+use Rattle.std.proofs.lemmas.List.{get_or_default}
+use Rattle.grids.specs.declared.areas.Area.{Area}
+use Rattle.grids.proofs.Drawings.{cell_at-drawn_in_off}
+use Rattle.cur_drawing.specs.declared.puts.Put.{Put}
+use Rattle.cur_drawing.specs.declared.refusals.Refusal.{Refusal}
+use Rattle.cur_drawing.specs.declared.windows.Window.{Window}
+use Rattle.cur_drawing.specs.Cells.{space}
+use Rattle.cur_drawing.specs.Grids.{Grid, cell_at, filled, is_in, shape_of}
+use Rattle.cur_drawing.specs.Windows.{cells_of, checked, content, is_pair, is_printed}
+use Rattle.cur_drawing.specs.Calls as calls
+use Rattle.cur_drawing.specs.Calls.{Canvas, CanvasStep, IsKept, canvas, done, if_accepted, step}
+use Rattle.cur_windows.specs.declared.slots.Origin.{Origin}
+use Rattle.cur_windows.specs.declared.slots.Slot.{Slot}
+use Rattle.cur_windows.specs.Desks.{IsDesk, IsPlaced, State, grid_at, origin_at, slot_of, window_at}
+use Rattle.cur_windows.specs.Touched.{AreTouched, IsOneCell, KeepsShown, Markings, MarksWritten, ShowsBut, cells_shown}
+use Rattle.cur_windows.proofs.TouchedFacts.{MarksLess, SparesGrid, slot_spared, with_grid, written_within}
+
+other : (b n : ℕ) → is_printed b ≡ true → n < 32 → (b == n) ≡ false
+other b n printed lt = grind (arith, nat_tests, printed, lt)
+
+in_ascii : (b : ℕ) → is_printed b ≡ true → nat_lt b 128 ≡ true
+in_ascii b printed = grind (arith, nat_tests, printed)
+
+no_control : (b : ℕ) → is_printed b ≡ true → (nat_lt b 32 || (b == 127)) ≡ false
+no_control b printed = grind (arith, nat_tests, printed)
+
+below : (m n : ℕ) → m < n → nat_lt m n ≡ true
+below m n lt = grind (arith, nat_tests)
+
+-- the grid with the cell at the cursor
+abbrev one_drawn : Put → Canvas → Grid
+one_drawn p s = filled (cells_of s.window s.window.row s.window.col 1) (content s.window p) s.grid
+
+written_one : (p : Put) (s : Canvas) → s.window.col + 1 < s.window.area.cols → calls.written p s ≡ done (one_drawn p s) (record s.window { col = s.window.col + 1 })
+written_one p s lt = ap (λ (t : Bool). if t then done (one_drawn p s) (record s.window { col = s.window.col + 1 }) else calls.advanced (canvas (one_drawn p s) s.window)) (below (s.window.col + 1) s.window.area.cols lt)
+
+character_one : (p : Put) (s : Canvas) → is_printed p.byte ≡ true → calls.character p s ≡ calls.written p s
+character_one p s printed =
+    let b = p.byte in
+    pick (b == 10) (b == 9) (b == 8) (b == 13) (nat_lt b 32 || (b == 127)) _ _ _ _ _ (calls.written p s) (other b 10 printed (omega arith)) (other b 9 printed (omega arith)) (other b 8 printed (omega arith)) (other b 13 printed (omega arith)) (no_control b printed)
+  where
+    pick : (p q r s t : Bool) (A B C D E W : CanvasStep) → p ≡ false → q ≡ false → r ≡ false → s ≡ false → t ≡ false → (if p then A else if q then B else if r then C else if s then D else if t then E else W) ≡ W
+    pick p q r s t A B C D E W e f g h i =
+        ap (λ (x : Bool). if x then A else if q then B else if r then C else if s then D else if t then E else W) e
+        ∙ ap (λ (x : Bool). if x then B else if r then C else if s then D else if t then E else W) f
+        ∙ ap (λ (x : Bool). if x then C else if s then D else if t then E else W) g
+        ∙ ap (λ (x : Bool). if x then D else if t then E else W) h
+        ∙ ap (λ (x : Bool). if x then E else W) i
+
+pub one_cell : (p : Put) (s : Canvas) → IsOneCell s.window p → calls.added p s ≡ done (one_drawn p s) (record s.window { col = s.window.col + 1 })
+one_cell p s is =
+    ap (λ (t : Bool). if_accepted (checked t (is_pair p.pair)) s (calls.character p s)) (in_ascii p.byte is.printed)
+    ∙ ap (λ (t : Bool). if_accepted (checked true t) s (calls.character p s)) is.pair
+    ∙ character_one p s is.printed ∙ written_one p s is.before
+
+-- a place of the grid that isn't one of the cells on the screen isn't one of the window's
+beside : (o : Origin) (w v : Window) (col i j : ℕ) → w.area ≡ v.area → w.row ≡ v.row → is_in (cells_shown o w col 1) (o.top + i) (o.left + j) ≡ false → is_in (cells_of v v.row col 1) i j ≡ false
+beside o w v col i j area row off = near v.area v.row (subst (λ (a : Area). is_in (shown a v.row) (o.top + i) (o.left + j) ≡ false) area (subst (λ (r : ℕ). is_in (shown w.area r) (o.top + i) (o.left + j) ≡ false) row off))
+  where
+    shown : Area → ℕ → Area
+    shown a r = record { top = o.top + a.top + r; left = o.left + a.left + col; rows = 1; cols = 1 }
+
+    near : (a : Area) (r : ℕ) → is_in (record { top = o.top + a.top + r; left = o.left + a.left + col; rows = 1; cols = 1 }) (o.top + i) (o.left + j) ≡ false
+        → is_in (record { top = a.top + r; left = a.left + col; rows = 1; cols = 1 }) i j ≡ false
+    near a r apart = grind (arith, nat_tests, apart)
+
+pub touched_cell : (d now : State) (ws : List (Option Slot)) (n : ℕ) (s : Slot) (w : Window) (g h : Grid) (t u : Markings) (o : Origin) (p : Put) (r : Result (Unit {0}) Refusal) → IsOneCell s.window p → d ≡ now → IsDesk d →
+    IsPlaced now n s → g ≡ get_or d.grids s.root g → step h w r ≡ calls.added p (canvas g s.window) → IsKept g s.window h w → o ≡ origin_at now s.root → AreTouched t u (record s { window = w }) o s.window.col 1 → KeepsShown t now u (with_grid d s h ws)
+touched_cell d now ws n s w g h t u o p r is e desk placed at value kept there touched v shown =
+    let lt : s.root < length d.grids = omega (arith, desk.grids, placed.root) in
+    let read : g ≡ grid_at d s.root = at ∙ get_or_default d.grids s.root g [] lt in
+    let here : o ≡ origin_at d s.root = there ∙ sym (ap (λ (x : State). origin_at x s.root) e) in
+    let touches : AreTouched t u (record s { window = w }) (origin_at d s.root) s.window.col 1 = subst (λ (x : Origin). AreTouched t u (record s { window = w }) x s.window.col 1) here touched in
+    let all : step h w r ≡ done (one_drawn p (canvas g s.window)) (record s.window { col = s.window.col + 1 }) = value ∙ one_cell p (canvas g s.window) is in
+    let drawn : h ≡ one_drawn p (canvas g s.window) = ap (λ (x : CanvasStep). x.0.grid) all in
+    let row : w.row ≡ s.window.row = ap (λ (x : CanvasStep). x.0.window.row) all in
+    let spares : SparesGrid t u d (record s { window = w }) h = record {
+      grid = λ lies some. record {
+        kept = (touches.grid lies some).kept;
+        same = λ i j off. ap (λ (x : Grid). cell_at x i j) drawn
+            ∙ cell_at-drawn_in_off (cells_of s.window s.window.row s.window.col 1) (λ i j old. content s.window p) space g i j (beside (origin_at d s.root) w s.window s.window.col i j kept.area row ((touches.grid lies some).cells _ _ off))
+            ∙ ap (λ (x : Grid). cell_at x i j) read;
+      };
+      none = touches.none;
+      others = touches.others;
+    } in
+    slot_spared d ws (record s { window = w }) h t u lt (kept.shape ∙ ap shape_of read) spares v (subst (λ (x : State). ShowsBut t x v) (sym e) shown)
+
+-- the line of the cell is the only one that is marked
+pub written_cell : (d now e : State) (n : ℕ) (s : Slot) (w : Window) (g h : Grid) (t u : Markings) (o : Origin) (p : Put) (r : Result (Unit {0}) Refusal) → IsOneCell s.window p → step h w r ≡ calls.added p (canvas g s.window) → d ≡ now → IsDesk d →
+    (n < 64) × (window_at now n ≡ Some s) → Ok s ≡ slot_of now n → e.windows ≡ set d.windows n (Some (record s { window = w })) → o ≡ origin_at now s.root → AreTouched t u (record s { window = w }) o s.window.col 1 → MarksWritten t u now e n
+written_cell d now e n s w g h t u o p r one value is desk there before at lies touched = written_within d now e n s w t u o is desk there before at lies (record {
+  only = λ lie some i j off not. (touched.grid lie some).only i j off (λ same. not (inr (record { after = omega (arith, same, row); before = omega (arith, same) })));
+  pad = touched.pad;
+  none = touched.none;
+  others = touched.others;
+})
+  where
+    row : w.row ≡ s.window.row
+    row = ap (λ (x : CanvasStep). x.0.window.row) (value ∙ one_cell p (canvas g s.window) one)
+
+-- in the cells' own line beside them
+pub cell_beside : (o : Origin) (w : Window) (col n i j : ℕ) → (i ≡ o.top + w.area.top + w.row → (j < o.left + w.area.left + col) ⊎ (o.left + w.area.left + col + n ≤ j)) → is_in (cells_shown o w col n) i j ≡ false
+cell_beside o w col n i j side = elim (cases_eq i (o.top + w.area.top + w.row)) [
+  | inl same ↦ elim (side same) [ inl low ↦ before low | inr high ↦ after high ]
+  | inr apart ↦ off apart
+]
+  where
+    before : j < o.left + w.area.left + col → is_in (cells_shown o w col n) i j ≡ false
+    before low = grind (arith, nat_tests, low)
+
+    after : o.left + w.area.left + col + n ≤ j → is_in (cells_shown o w col n) i j ≡ false
+    after high = grind (arith, nat_tests, high)
+
+    off : i ≢ o.top + w.area.top + w.row → is_in (cells_shown o w col n) i j ≡ false
+    off apart = grind (arith, nat_tests, apart)
