@@ -41,7 +41,7 @@ pub(crate) fn shortest<C: Certificate>(checked: &C, from: Option<Place>, row: u1
 }
 
 /// `cup`.
-pub(crate) fn straight<C: Certificate>(checked: &C, row: u16, col: u16) -> Way
+fn straight<C: Certificate>(checked: &C, row: u16, col: u16) -> Way
     requires checked { IsChecked (C.table checked.now) }
     requires row { row < (C.table checked.now).rows }
     requires col { col < (C.table checked.now).cols }
