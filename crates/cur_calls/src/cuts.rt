@@ -4,6 +4,7 @@ ghost use Rattle.std.specs.Prelude.{◌≡◌, ◌==◌, ◌<◌, ◌+◌, lengt
 ghost use Rattle.cur_calls.specs.Cuts.{cut_at};
 
 /// What stands before and after the first such byte.
+#[inline(always)]
 #[tactic(auto, using(crate::proofs::CutFacts::cut_found))]
 pub(crate) fn cut(byte: u8, text: &[u8]) -> Option<(&[u8], &[u8])>
     ensures value { option_map (λ x. (x.0.now, x.1.now)) result ≡ cut_at byte text.now }
@@ -15,6 +16,7 @@ pub(crate) fn cut(byte: u8, text: &[u8]) -> Option<(&[u8], &[u8])>
     }
 }
 
+#[inline(always)]
 fn place_of(byte: u8, text: &[u8]) -> Option<usize>
     ensures value { result ≡ position (λ b. b == byte) text.now }
     ensures range { IfSome result (λ at. at < length text.now) }
@@ -22,6 +24,7 @@ fn place_of(byte: u8, text: &[u8]) -> Option<usize>
     text.iter().position(|other| *other == byte)
 }
 
+#[inline(always)]
 #[tactic(auto, using(std::proofs::lemmas::List::take_rest))]
 fn before_and_behind(bytes: &[u8], at: usize) -> (&[u8], &[u8])
     requires { at < length bytes.now }

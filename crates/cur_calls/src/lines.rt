@@ -38,6 +38,7 @@ pub(crate) fn read_line<'a>(
 }
 
 /// Whether the line is empty or begins with `#`.
+#[inline(always)]
 pub(crate) fn is_skipped(line: &[u8]) -> bool
     ensures { result ≡ is_skipped line.now }
 {
@@ -48,6 +49,7 @@ pub(crate) fn is_skipped(line: &[u8]) -> bool
 }
 
 /// The call that a line is.
+#[inline(always)]
 pub(crate) fn call_of<'a>(line: &'a [u8]) -> Option<Call<'a>>
     ensures { result ≡ call_of line.now }
 {

@@ -32,6 +32,7 @@ impl<'a> Words<'a> {
     ghost use Rattle.std.specs.Prelude.{◌≡◌, option_map};
 
     /// The words of a line.
+    #[inline(always)]
     pub(crate) fn of(line: &'a [u8]) -> Words<'a>
         ensures { result ≡ words_of line.now }
     {
@@ -39,6 +40,7 @@ impl<'a> Words<'a> {
     }
 
     /// The next word, and those after it.
+    #[inline(always)]
     #[tactic(auto, using(crate::proofs::WordsLeft::last_word, crate::proofs::WordsLeft::next_word))]
     pub(crate) fn next(self) -> Option<(&'a [u8], Words<'a>)>
         ensures { option_map (λ p. (p.0.now, p.1)) result ≡ spec.first_word self.entry }
@@ -51,6 +53,7 @@ impl<'a> Words<'a> {
     }
 
     /// That no word is left.
+    #[inline(always)]
     #[tactic(auto, using(crate::proofs::WordsLeft::not_ended))]
     pub(crate) fn end(self) -> Option<()>
         ensures { result ≡ spec.ended self.entry }
@@ -62,6 +65,7 @@ impl<'a> Words<'a> {
     }
 
     /// What is left, spaces included; it begins after a space.
+    #[inline(always)]
     #[tactic(auto, using(crate::proofs::WordsLeft::rest_is))]
     pub(crate) fn rest(self) -> Option<Text<'a>>
         ensures { result ≡ spec.rest self.entry }
@@ -70,6 +74,7 @@ impl<'a> Words<'a> {
     }
 
     /// A number.
+    #[inline(always)]
     pub(crate) fn number(self) -> Option<(i32, Words<'a>)>
         ensures { result ≡ spec.first number_in self.entry }
     {
@@ -78,6 +83,7 @@ impl<'a> Words<'a> {
     }
 
     /// A window's number.
+    #[inline(always)]
     pub(crate) fn window(self) -> Option<(usize, Words<'a>)>
         ensures { result ≡ spec.first window_in self.entry }
     {
@@ -86,6 +92,7 @@ impl<'a> Words<'a> {
     }
 
     /// 0 or 1.
+    #[inline(always)]
     pub(crate) fn flag(self) -> Option<(bool, Words<'a>)>
         ensures { result ≡ spec.first flag_in self.entry }
     {
@@ -94,6 +101,7 @@ impl<'a> Words<'a> {
     }
 
     /// 0.
+    #[inline(always)]
     pub(crate) fn zero(self) -> Option<((), Words<'a>)>
         ensures { result ≡ spec.first zero_in self.entry }
     {
@@ -102,6 +110,7 @@ impl<'a> Words<'a> {
     }
 
     /// A cell.
+    #[inline(always)]
     pub(crate) fn cell(self) -> Option<(Put, Words<'a>)>
         ensures { result ≡ spec.first cell_in self.entry }
     {
@@ -110,6 +119,7 @@ impl<'a> Words<'a> {
     }
 
     /// A cell, or a dash for this one.
+    #[inline(always)]
     pub(crate) fn cell_or(self, default: Put) -> Option<(Put, Words<'a>)>
         ensures { result ≡ spec.first (λ word. cell_or default word) self.entry }
     {
@@ -118,6 +128,7 @@ impl<'a> Words<'a> {
     }
 
     /// Attributes.
+    #[inline(always)]
     pub(crate) fn attrs(self) -> Option<(Attrs, Words<'a>)>
         ensures { result ≡ spec.first attrs_in self.entry }
     {
@@ -126,6 +137,7 @@ impl<'a> Words<'a> {
     }
 
     /// Two numbers.
+    #[inline(always)]
     pub(crate) fn two_numbers(self) -> Option<((i32, i32), Words<'a>)>
         ensures { result ≡ spec.two_numbers self.entry }
     {
@@ -135,6 +147,7 @@ impl<'a> Words<'a> {
     }
 
     /// Four numbers.
+    #[inline(always)]
     pub(crate) fn four_numbers(self) -> Option<((i32, i32, i32, i32), Words<'a>)>
         ensures { result ≡ spec.four_numbers self.entry }
     {
@@ -144,6 +157,7 @@ impl<'a> Words<'a> {
     }
 
     /// Two windows' numbers.
+    #[inline(always)]
     pub(crate) fn two_windows(self) -> Option<((usize, usize), Words<'a>)>
         ensures { result ≡ spec.two_windows self.entry }
     {
