@@ -1,7 +1,7 @@
 //! Cutting a text at the first byte of a kind.
 ghost use Rattle.std.specs.List.{position};
-ghost use Rattle.std.specs.Prelude.{◌≡◌, ◌==◌, ◌<◌, ◌+◌, length, take, drop, option_map, IfSome};
-ghost use Rattle.cur_calls.specs.Cuts.{cut_at};
+ghost use Rattle.std.specs.Prelude.{◌≡◌, ◌==◌, ◌<◌, ◌≤◌, ◌+◌, ◌∷◌, length, take, drop, option_map, IfSome};
+ghost use Rattle.cur_calls.specs.Cuts.{cut_at, parts_of, parts_left, left_size};
 
 /// What stands before and after the first such byte.
 #[inline(always)]
@@ -13,6 +13,19 @@ pub(crate) fn cut(byte: u8, text: &[u8]) -> Option<(&[u8], &[u8])>
     match place_of(byte, text) {
         None => None,
         Some(at) => Some(before_and_behind(text, at)),
+    }
+}
+
+/// The first of the parts of a text, and what stands after its end.
+#[inline(always)]
+#[tactic(auto, using(crate::proofs::CutFacts::part_alone, crate::proofs::CutFacts::part_first))]
+pub(crate) fn first_part(byte: u8, text: &[u8]) -> (&[u8], Option<&[u8]>)
+    ensures parts { parts_of byte text.now ≡ result.0.now ∷ parts_left byte (option_map (λ rest. rest.now) result.1) }
+    ensures shorter { left_size (option_map (λ rest. rest.now) result.1) ≤ length text.now }
+{
+    match cut(byte, text) {
+        None => (text, None),
+        Some((part, rest)) => (part, Some(rest)),
     }
 }
 

@@ -9,6 +9,7 @@ use crate::table::call_with;
 use crate::words::Words;
 
 /// The calls of a line, one or none, are added. `BadLine` for a line that is no call.
+#[inline(always)]
 pub(crate) fn read_line<'a>(
     number: u32,
     line: &'a [u8],
