@@ -54,6 +54,6 @@ pub(crate) fn is_skipped(line: &[u8]) -> bool
 pub(crate) fn call_of<'a>(line: &'a [u8]) -> Option<Call<'a>>
     ensures { result ≡ call_of line.now }
 {
-    let (name, words) = Words::of(line).next()?;
+    let (name, words) = Words::of(line);
     call_with(name, words)
 }

@@ -1,12 +1,11 @@
 //! The words of a line, one after another.
-ghost use Rattle.std.specs.Prelude.{◌≡◌, option_map};
+ghost use Rattle.std.specs.Prelude.{◌≡◌, ◌∷◌, length, option_map};
 ghost use Rattle.cur_calls.specs.Words as spec;
 ghost use Rattle.cur_calls.specs.Cuts.{words_of};
 ghost use Rattle.cur_calls.specs.Numbers.{number_in, window_in, flag_in, zero_in};
 ghost use Rattle.cur_calls.specs.Cells.{cell_in, cell_or, attrs_in};
 
 use crate::cells::{attrs_in, cell_in, cell_or};
-use crate::cuts::cut;
 use crate::numbers::{flag_in, number_in, window_in, zero_in};
 use crate::texts::Text;
 use cur_drawing::{Attrs, Put};
@@ -15,40 +14,40 @@ use std::marker::Model;
 /// The words of a line that are left.
 #[derive(Drop)]
 pub(crate) struct Words<'a> {
-    // from the next word to the line's end
-    left: Option<&'a [u8]>,
+    // from the space before the next word to the line's end
+    left: &'a [u8],
 }
 
 impl<'a> Model for Words<'a> {
-    ghost use Rattle.std.specs.Prelude.{List, ℕ, option_map};
-    ghost use Rattle.cur_calls.specs.Words.{words_left};
+    ghost use Rattle.std.specs.Prelude.{List, ℕ};
+    ghost use Rattle.cur_calls.specs.Words.{words_behind};
 
     ghost Value = { List (List ℕ) };
 
-    ghost view = { λ w. words_left (option_map (λ text. text.now) w.left) };
+    ghost view = { λ w. words_behind w.left.now };
 }
 
 impl<'a> Words<'a> {
-    ghost use Rattle.std.specs.Prelude.{◌≡◌, option_map};
+    ghost use Rattle.std.specs.Prelude.{◌≡◌, ◌∷◌, option_map};
 
-    /// The words of a line.
+    /// The first word of a line, and those after it.
     #[inline(always)]
-    pub(crate) fn of(line: &'a [u8]) -> Words<'a>
-        ensures { result ≡ words_of line.now }
+    #[tactic(auto, using(crate::proofs::WordsLeft::words_cut))]
+    pub(crate) fn of(line: &'a [u8]) -> (&'a [u8], Words<'a>)
+        ensures { words_of line.now ≡ result.0.now ∷ result.1 }
     {
-        Words { left: Some(line) }
+        let (word, left) = divided(line);
+        (word, Words { left })
     }
 
     /// The next word, and those after it.
     #[inline(always)]
-    #[tactic(auto, using(crate::proofs::WordsLeft::last_word, crate::proofs::WordsLeft::next_word))]
     pub(crate) fn next(self) -> Option<(&'a [u8], Words<'a>)>
         ensures { option_map (λ p. (p.0.now, p.1)) result ≡ spec.first_word self.entry }
     {
-        let text = self.left?;
-        match cut(b' ', text) {
-            None => Some((text, Words { left: None })),
-            Some((word, rest)) => Some((word, Words { left: Some(rest) })),
+        match self.left {
+            [] => None,
+            [_, text @ ..] => Some(Words::of(text)),
         }
     }
 
@@ -59,8 +58,8 @@ impl<'a> Words<'a> {
         ensures { result ≡ spec.ended self.entry }
     {
         match self.left {
-            None => Some(()),
-            Some(_) => None,
+            [] => Some(()),
+            _ => None,
         }
     }
 
@@ -70,7 +69,10 @@ impl<'a> Words<'a> {
     pub(crate) fn rest(self) -> Option<Text<'a>>
         ensures { result ≡ spec.rest self.entry }
     {
-        Some(Text::new(self.left?))
+        match self.left {
+            [] => None,
+            [_, text @ ..] => Some(Text::new(text)),
+        }
     }
 
     /// A number.
@@ -165,4 +167,27 @@ impl<'a> Words<'a> {
         let (second, words) = words.window()?;
         Some(((first, second), words))
     }
+}
+
+// The first word of a text, and what stands behind it, from a space on.
+#[inline(always)]
+#[tactic(auto, using(crate::proofs::WordsLeft::divided, std::proofs::lemmas::List::take_rest))]
+fn divided(text: &[u8]) -> (&[u8], &[u8])
+    ensures word { result.0.now ≡ spec.word_of text.now }
+    ensures behind { result.1.now ≡ spec.behind_word text.now }
+{
+    let at = word_length(text);
+    (&text[..at], &text[at..])
+}
+
+// How many bytes the first word of a text has.
+#[inline(always)]
+fn word_length(text: &[u8]) -> usize
+    ensures { result ≡ length (spec.word_of text.now) }
+{
+    let mut at = 0;
+    while at < text.len() && text[at] != b' ' {
+        at += 1;
+    }
+    at
 }
