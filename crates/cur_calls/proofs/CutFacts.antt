@@ -1,5 +1,5 @@
 -- A text cut at one byte.
-use Rattle.std.proofs.Common.{◌≡◌, ℕ, suc, ◌+◌, ◌==◌, Bool, true, false, not, cond, if◌then◌else◌, List, [], ◌∷◌, Option, None, Some, length, take, drop, refl, ap, subst, ◌∙◌, arith}
+use Rattle.std.proofs.Common.{◌≡◌, ℕ, suc, ◌+◌, ◌<◌, ◌≤◌, ◌==◌, Bool, true, false, not, cond, if◌then◌else◌, List, [], ◌∷◌, Option, None, Some, length, take, drop, refl, sym, ap, subst, ◌∙◌, arith}
 use Rattle.std.specs.Prelude.{nat_lt}
 use Rattle.std.specs.Option.{option_map}
 use Rattle.std.specs.List.{position, position_or_len, onto_first}
@@ -59,3 +59,14 @@ part_alone c text e = subst (λ o. Parts c text o) e (parts_cut c text)
 
 pub part_first : (c : ℕ) (text before behind : List ℕ) → cut_at c text ≡ Some (before, behind) → parts_of c text ≡ before ∷ parts_of c behind
 part_first c text before behind e = subst (λ o. Parts c text o) e (parts_cut c text)
+
+-- from the place of the cut
+pub parts_at : (c : ℕ) (text : List ℕ) (at : ℕ) → at ≡ position_or_len (λ b. b == c) text → at < length text → parts_of c text ≡ take at text ∷ parts_of c (drop (at + 1) text)
+parts_at c text at e h =
+    let inside : nat_lt at (length text) ≡ true = grind (arith, nat_tests) in
+    part_first c text (take at text) (drop (at + 1) text) (sym (cut_found c text) ∙ (ap (λ n. around text (place n (length text))) (sym e) ∙ ap (λ t. around text (if t then Some at else None)) inside))
+
+pub parts_alone : (c : ℕ) (text : List ℕ) (at : ℕ) → at ≡ position_or_len (λ b. b == c) text → length text ≤ at → parts_of c text ≡ text ∷ []
+parts_alone c text at e h =
+    let outside : nat_lt at (length text) ≡ false = grind (arith, nat_tests) in
+    part_alone c text (sym (cut_found c text) ∙ (ap (λ n. around text (place n (length text))) (sym e) ∙ ap (λ t. around text (if t then Some at else None)) outside))

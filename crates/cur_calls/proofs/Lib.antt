@@ -1,4 +1,5 @@
 pub mod Caps
 pub mod CutFacts
+pub mod LaneFacts
 pub mod Readers
 pub mod WordsLeft

@@ -1,5 +1,5 @@
 -- A text cut into parts: a script into lines at line feeds, a line into words at spaces, a cell at its colon.
-use Rattle.std.specs.Prelude.{ℕ, ◌==◌, if◌then◌else◌, List, [], ◌∷◌, Option, None, Some}
+use Rattle.std.specs.Prelude.{◌≡◌, ℕ, ◌+◌, ◌<◌, length, slice_index_or, ◌==◌, false, if◌then◌else◌, List, [], ◌∷◌, Option, None, Some}
 use Rattle.std.specs.List.{slice_split}
 use Rattle.std.specs.Option.{option_map}
 
@@ -8,9 +8,23 @@ abbrev pub cut_at : ℕ → List ℕ → Option (List ℕ × List ℕ)
 cut_at c [] = None
 cut_at c (b ∷ text) = if b == c then Some ([], text) else option_map (λ p. (b ∷ p.0, p.1)) (cut_at c text)
 
+-- no byte of a kind stands before a place
+abbrev pub IsFreeBefore : ℕ → List ℕ → ℕ → Type 0
+IsFreeBefore c text at = (k : ℕ) → k < at → (slice_index_or text k 0 == c) ≡ false
+
 -- what stands between bytes of a kind: one part more than there are such bytes
 abbrev pub parts_of : ℕ → List ℕ → List (List ℕ)
 parts_of c text = slice_split (λ b. b == c) text
+
+-- the parts of what is left, if anything is
+abbrev pub parts_left : ℕ → Option (List ℕ) → List (List ℕ)
+parts_left c None = []
+parts_left c (Some text) = parts_of c text
+
+-- how many bytes are left, counted one more where anything is
+abbrev pub left_size : Option (List ℕ) → ℕ
+left_size None = 0
+left_size (Some text) = length text + 1
 
 -- lines end with a line feed, the last one perhaps with the text: an empty part after it is a line that is skipped
 abbrev pub lines_of : List ℕ → List (List ℕ)

@@ -1,13 +1,27 @@
 -- Reading the words of a line one after another.
-use Rattle.std.specs.Prelude.{ℕ, ℤ, List, [], ◌∷◌, Option, None, Some}
+use Rattle.std.specs.Prelude.{ℕ, ℤ, ◌==◌, if◌then◌else◌, List, [], ◌∷◌, Option, None, Some, option_map}
 use Rattle.std.specs.List.{join_with_byte}
 use Rattle.cur_calls.specs.Cuts.{words_of, ◌>>=◌}
 use Rattle.cur_calls.specs.Numbers.{number_in, window_in}
 
--- a line's words from one of them on, where there is a further one
-abbrev pub words_left : Option (List ℕ) → List (List ℕ)
-words_left None = []
-words_left (Some text) = words_of text
+-- the words of a line behind one of them: each of them follows a space
+abbrev pub words_behind : List ℕ → List (List ℕ)
+words_behind [] = []
+words_behind (b ∷ text) = words_of text
+
+-- the first word of a text
+abbrev pub word_of : List ℕ → List ℕ
+word_of [] = []
+word_of (b ∷ text) = if b == 32 then [] else b ∷ word_of text
+
+-- what stands behind it, from a space on
+abbrev pub behind_word : List ℕ → List ℕ
+behind_word [] = []
+behind_word (b ∷ text) = if b == 32 then b ∷ text else behind_word text
+
+-- what the first word of a text says, and what stands behind it
+abbrev pub ahead : {A : Type 0} → (List ℕ → Option A) → List ℕ → Option (A × List ℕ)
+ahead read text = option_map (λ x. (x, behind_word text)) (read (word_of text))
 
 abbrev pub first_word : List (List ℕ) → Option (List ℕ × List (List ℕ))
 first_word [] = None

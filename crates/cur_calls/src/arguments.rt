@@ -11,6 +11,7 @@ use crate::words::Words;
 use cur_drawing::{Border, Put};
 
 /// `newwin n l c y x`
+#[inline(never)]
 pub(crate) fn newwin<'a>(words: Words<'a>) -> Option<Call<'a>>
     ensures { result ≡ spec.newwin words.entry }
 {
@@ -27,6 +28,7 @@ pub(crate) fn newwin<'a>(words: Words<'a>) -> Option<Call<'a>>
 }
 
 /// `newpad n l c`
+#[inline(never)]
 pub(crate) fn newpad<'a>(words: Words<'a>) -> Option<Call<'a>>
     ensures { result ≡ spec.newpad words.entry }
 {
@@ -41,6 +43,7 @@ pub(crate) fn newpad<'a>(words: Words<'a>) -> Option<Call<'a>>
 }
 
 /// `subwin n w l c y x`
+#[inline(never)]
 pub(crate) fn part<'a>(call: PartCall, words: Words<'a>) -> Option<Call<'a>>
     ensures { result ≡ spec.part call words.entry }
 {
@@ -59,6 +62,7 @@ pub(crate) fn part<'a>(call: PartCall, words: Words<'a>) -> Option<Call<'a>>
 }
 
 /// `dupwin n w`
+#[inline(never)]
 pub(crate) fn dupwin<'a>(words: Words<'a>) -> Option<Call<'a>>
     ensures { result ≡ spec.dupwin words.entry }
 {
@@ -68,6 +72,7 @@ pub(crate) fn dupwin<'a>(words: Words<'a>) -> Option<Call<'a>>
 }
 
 /// `erase w`
+#[inline(never)]
 pub(crate) fn plain<'a>(call: PlainCall, words: Words<'a>) -> Option<Call<'a>>
     ensures { result ≡ spec.plain call words.entry }
 {
@@ -77,6 +82,7 @@ pub(crate) fn plain<'a>(call: PlainCall, words: Words<'a>) -> Option<Call<'a>>
 }
 
 /// `scroll w n`
+#[inline(never)]
 pub(crate) fn number<'a>(call: NumberCall, words: Words<'a>) -> Option<Call<'a>>
     ensures { result ≡ spec.number call words.entry }
 {
@@ -91,6 +97,7 @@ pub(crate) fn number<'a>(call: NumberCall, words: Words<'a>) -> Option<Call<'a>>
 }
 
 /// `move w y x`
+#[inline(never)]
 pub(crate) fn numbers<'a>(call: NumbersCall, words: Words<'a>) -> Option<Call<'a>>
     ensures { result ≡ spec.numbers call words.entry }
 {
@@ -106,6 +113,7 @@ pub(crate) fn numbers<'a>(call: NumbersCall, words: Words<'a>) -> Option<Call<'a
 }
 
 /// `scrollok w f`
+#[inline(never)]
 pub(crate) fn flag<'a>(call: FlagCall, words: Words<'a>) -> Option<Call<'a>>
     ensures { result ≡ spec.flag call words.entry }
 {
@@ -116,6 +124,7 @@ pub(crate) fn flag<'a>(call: FlagCall, words: Words<'a>) -> Option<Call<'a>>
 }
 
 /// `attron w A`
+#[inline(never)]
 pub(crate) fn attributes<'a>(call: AttrsCall, words: Words<'a>) -> Option<Call<'a>>
     ensures { result ≡ spec.attributes call words.entry }
 {
@@ -130,6 +139,7 @@ pub(crate) fn attributes<'a>(call: AttrsCall, words: Words<'a>) -> Option<Call<'
 }
 
 /// `addch w cell`
+#[inline(never)]
 pub(crate) fn cell<'a>(call: CellCall, words: Words<'a>) -> Option<Call<'a>>
     ensures { result ≡ spec.cell call words.entry }
 {
@@ -140,6 +150,7 @@ pub(crate) fn cell<'a>(call: CellCall, words: Words<'a>) -> Option<Call<'a>>
 }
 
 /// `addstr w TEXT`
+#[inline(never)]
 pub(crate) fn addstr<'a>(words: Words<'a>) -> Option<Call<'a>>
     ensures { result ≡ spec.addstr words.entry }
 {
@@ -151,6 +162,7 @@ pub(crate) fn addstr<'a>(words: Words<'a>) -> Option<Call<'a>>
 }
 
 /// `hline w cell n`
+#[inline(never)]
 pub(crate) fn line<'a>(call: LineCall, words: Words<'a>) -> Option<Call<'a>>
     ensures { result ≡ spec.line call words.entry }
 {
@@ -176,6 +188,7 @@ fn default_of(call: LineCall) -> Put
 }
 
 /// `border w ls rs ts bs tl tr bl br`
+#[inline(never)]
 pub(crate) fn draw_border<'a>(words: Words<'a>) -> Option<Call<'a>>
     ensures { result ≡ spec.draw_border words.entry }
 {
@@ -224,6 +237,7 @@ fn corners<'a>(border: Border, words: Words<'a>) -> Option<(Border, Words<'a>)>
 }
 
 /// `box w v h`
+#[inline(never)]
 pub(crate) fn draw_box<'a>(words: Words<'a>) -> Option<Call<'a>>
     ensures { result ≡ spec.draw_box words.entry }
 {
@@ -239,6 +253,7 @@ pub(crate) fn draw_box<'a>(words: Words<'a>) -> Option<Call<'a>>
 }
 
 /// `overlay s d`
+#[inline(never)]
 pub(crate) fn lay<'a>(call: LayCall, words: Words<'a>) -> Option<Call<'a>>
     ensures { result ≡ spec.lay call words.entry }
 {
@@ -252,6 +267,7 @@ pub(crate) fn lay<'a>(call: LayCall, words: Words<'a>) -> Option<Call<'a>>
 }
 
 /// `copywin s d sr sc dr dc er ec f`
+#[inline(never)]
 pub(crate) fn copywin<'a>(words: Words<'a>) -> Option<Call<'a>>
     ensures { result ≡ spec.copywin words.entry }
 {
@@ -274,6 +290,7 @@ pub(crate) fn copywin<'a>(words: Words<'a>) -> Option<Call<'a>>
 }
 
 /// `refresh w`
+#[inline(never)]
 pub(crate) fn show<'a>(call: ShowCall, words: Words<'a>) -> Option<Call<'a>>
     ensures { result ≡ spec.show call words.entry }
 {
@@ -283,6 +300,7 @@ pub(crate) fn show<'a>(call: ShowCall, words: Words<'a>) -> Option<Call<'a>>
 }
 
 /// `prefresh w pr pc sr sc er ec`
+#[inline(never)]
 pub(crate) fn show_pad<'a>(call: PadCall, words: Words<'a>) -> Option<Call<'a>>
     ensures { result ≡ spec.show_pad call words.entry }
 {
@@ -303,6 +321,7 @@ pub(crate) fn show_pad<'a>(call: PadCall, words: Words<'a>) -> Option<Call<'a>>
 }
 
 /// `beep 0`
+#[inline(never)]
 pub(crate) fn beep<'a>(words: Words<'a>) -> Option<Call<'a>>
     ensures { result ≡ spec.beep words.entry }
 {
@@ -312,6 +331,7 @@ pub(crate) fn beep<'a>(words: Words<'a>) -> Option<Call<'a>>
 }
 
 /// `curs_set n`
+#[inline(never)]
 pub(crate) fn curs_set<'a>(words: Words<'a>) -> Option<Call<'a>>
     ensures { result ≡ spec.curs_set words.entry }
 {
@@ -321,6 +341,7 @@ pub(crate) fn curs_set<'a>(words: Words<'a>) -> Option<Call<'a>>
 }
 
 /// `init_pair p f b`
+#[inline(never)]
 pub(crate) fn init_pair<'a>(words: Words<'a>) -> Option<Call<'a>>
     ensures { result ≡ spec.init_pair words.entry }
 {
@@ -335,6 +356,7 @@ pub(crate) fn init_pair<'a>(words: Words<'a>) -> Option<Call<'a>>
 }
 
 /// `doupdate`
+#[inline(never)]
 pub(crate) fn bare<'a>(call: ScreenCall, words: Words<'a>) -> Option<Call<'a>>
     ensures { result ≡ spec.bare call words.entry }
 {

@@ -9,6 +9,7 @@ use crate::table::call_with;
 use crate::words::Words;
 
 /// The calls of a line, one or none, are added. `BadLine` for a line that is no call.
+#[inline(always)]
 pub(crate) fn read_line<'a>(
     number: u32,
     line: &'a [u8],
@@ -38,6 +39,7 @@ pub(crate) fn read_line<'a>(
 }
 
 /// Whether the line is empty or begins with `#`.
+#[inline(always)]
 pub(crate) fn is_skipped(line: &[u8]) -> bool
     ensures { result ≡ is_skipped line.now }
 {
@@ -48,9 +50,10 @@ pub(crate) fn is_skipped(line: &[u8]) -> bool
 }
 
 /// The call that a line is.
+#[inline(always)]
 pub(crate) fn call_of<'a>(line: &'a [u8]) -> Option<Call<'a>>
     ensures { result ≡ call_of line.now }
 {
-    let (name, words) = Words::of(line).next()?;
+    let (name, words) = Words::of(line);
     call_with(name, words)
 }

@@ -4,7 +4,7 @@ ghost use Rattle.cur_calls.specs.Cuts.{cut_at};
 ghost use Rattle.cur_calls.specs.Texts.{FailsBy, only_call, only_line, script_of};
 
 use crate::calls::Call;
-use crate::cuts::cut;
+use crate::cuts::{cut, first_part};
 use crate::faults::{ScriptFault, ScriptFaultKind};
 use crate::lines::{call_of, is_skipped, read_line};
 use std::alloc::Global;
@@ -27,14 +27,14 @@ pub fn read_script<'a>(alloc: Global, text: &'a [u8]) -> Result<Vec<Call<'a>>, S
         });
     }
     let mut calls = Vec::new(alloc);
-    let mut rest = text;
+    let mut left = Some(text);
     let mut number = 1;
-    while let Some((line, behind)) = cut(b'\n', rest) {
+    while let Some(text) = left {
+        let (line, rest) = first_part(b'\n', text);
         read_line(number, line, &mut calls)?;
-        rest = behind;
+        left = rest;
         number += 1;
     }
-    read_line(number, rest, &mut calls)?;
     Ok(calls)
 }
 

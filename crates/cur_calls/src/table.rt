@@ -15,6 +15,7 @@ use crate::groups::{
 use crate::words::Words;
 
 /// The call of this name whose arguments are these words, and no more.
+#[inline(always)]
 pub(crate) fn call_with<'a>(name: &[u8], words: Words<'a>) -> Option<Call<'a>>
     ensures { result ≡ spec.call_with name.now words.entry }
 {
@@ -39,6 +40,7 @@ pub(crate) fn call_with<'a>(name: &[u8], words: Words<'a>) -> Option<Call<'a>>
     }
 }
 
+#[inline(always)]
 fn under_a<'a>(name: &[u8], words: Words<'a>) -> Option<Call<'a>>
     ensures { result ≡ spec.call_in spec.rows_a name.now words.entry }
 {
@@ -57,6 +59,7 @@ fn under_a<'a>(name: &[u8], words: Words<'a>) -> Option<Call<'a>>
     }
 }
 
+#[inline(always)]
 fn under_b<'a>(name: &[u8], words: Words<'a>) -> Option<Call<'a>>
     ensures { result ≡ spec.call_in spec.rows_b name.now words.entry }
 {
@@ -75,6 +78,7 @@ fn under_b<'a>(name: &[u8], words: Words<'a>) -> Option<Call<'a>>
     }
 }
 
+#[inline(always)]
 fn under_c<'a>(name: &[u8], words: Words<'a>) -> Option<Call<'a>>
     ensures { result ≡ spec.call_in spec.rows_c name.now words.entry }
 {
@@ -97,6 +101,7 @@ fn under_c<'a>(name: &[u8], words: Words<'a>) -> Option<Call<'a>>
     }
 }
 
+#[inline(always)]
 fn under_d<'a>(name: &[u8], words: Words<'a>) -> Option<Call<'a>>
     ensures { result ≡ spec.call_in spec.rows_d name.now words.entry }
 {
@@ -117,6 +122,7 @@ fn under_d<'a>(name: &[u8], words: Words<'a>) -> Option<Call<'a>>
     }
 }
 
+#[inline(always)]
 fn under_e<'a>(name: &[u8], words: Words<'a>) -> Option<Call<'a>>
     ensures { result ≡ spec.call_in spec.rows_e name.now words.entry }
 {
@@ -129,6 +135,7 @@ fn under_e<'a>(name: &[u8], words: Words<'a>) -> Option<Call<'a>>
     }
 }
 
+#[inline(always)]
 fn under_h<'a>(name: &[u8], words: Words<'a>) -> Option<Call<'a>>
     ensures { result ≡ spec.call_in spec.rows_h name.now words.entry }
 {
@@ -139,6 +146,7 @@ fn under_h<'a>(name: &[u8], words: Words<'a>) -> Option<Call<'a>>
     }
 }
 
+#[inline(always)]
 fn under_i<'a>(name: &[u8], words: Words<'a>) -> Option<Call<'a>>
     ensures { result ≡ spec.call_in spec.rows_i name.now words.entry }
 {
@@ -155,6 +163,7 @@ fn under_i<'a>(name: &[u8], words: Words<'a>) -> Option<Call<'a>>
     }
 }
 
+#[inline(always)]
 fn under_l<'a>(name: &[u8], words: Words<'a>) -> Option<Call<'a>>
     ensures { result ≡ spec.call_in spec.rows_l name.now words.entry }
 {
@@ -165,6 +174,7 @@ fn under_l<'a>(name: &[u8], words: Words<'a>) -> Option<Call<'a>>
     }
 }
 
+#[inline(always)]
 fn under_m<'a>(name: &[u8], words: Words<'a>) -> Option<Call<'a>>
     ensures { result ≡ spec.call_in spec.rows_m name.now words.entry }
 {
@@ -177,6 +187,7 @@ fn under_m<'a>(name: &[u8], words: Words<'a>) -> Option<Call<'a>>
     }
 }
 
+#[inline(always)]
 fn under_n<'a>(name: &[u8], words: Words<'a>) -> Option<Call<'a>>
     ensures { result ≡ spec.call_in spec.rows_n name.now words.entry }
 {
@@ -191,6 +202,7 @@ fn under_n<'a>(name: &[u8], words: Words<'a>) -> Option<Call<'a>>
     }
 }
 
+#[inline(always)]
 fn under_o<'a>(name: &[u8], words: Words<'a>) -> Option<Call<'a>>
     ensures { result ≡ spec.call_in spec.rows_o name.now words.entry }
 {
@@ -203,6 +215,7 @@ fn under_o<'a>(name: &[u8], words: Words<'a>) -> Option<Call<'a>>
     }
 }
 
+#[inline(always)]
 fn under_p<'a>(name: &[u8], words: Words<'a>) -> Option<Call<'a>>
     ensures { result ≡ spec.call_in spec.rows_p name.now words.entry }
 {
@@ -215,6 +228,7 @@ fn under_p<'a>(name: &[u8], words: Words<'a>) -> Option<Call<'a>>
     }
 }
 
+#[inline(always)]
 fn under_r<'a>(name: &[u8], words: Words<'a>) -> Option<Call<'a>>
     ensures { result ≡ spec.call_in spec.rows_r name.now words.entry }
 {
@@ -225,6 +239,7 @@ fn under_r<'a>(name: &[u8], words: Words<'a>) -> Option<Call<'a>>
     }
 }
 
+#[inline(always)]
 fn under_s<'a>(name: &[u8], words: Words<'a>) -> Option<Call<'a>>
     ensures { result ≡ spec.call_in spec.rows_s name.now words.entry }
 {
@@ -243,6 +258,7 @@ fn under_s<'a>(name: &[u8], words: Words<'a>) -> Option<Call<'a>>
     }
 }
 
+#[inline(always)]
 fn under_t<'a>(name: &[u8], words: Words<'a>) -> Option<Call<'a>>
     ensures { result ≡ spec.call_in spec.rows_t name.now words.entry }
 {
@@ -255,6 +271,7 @@ fn under_t<'a>(name: &[u8], words: Words<'a>) -> Option<Call<'a>>
     }
 }
 
+#[inline(always)]
 fn under_v<'a>(name: &[u8], words: Words<'a>) -> Option<Call<'a>>
     ensures { result ≡ spec.call_in spec.rows_v name.now words.entry }
 {

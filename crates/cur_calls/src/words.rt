@@ -1,12 +1,11 @@
 //! The words of a line, one after another.
-ghost use Rattle.std.specs.Prelude.{◌≡◌, option_map};
+ghost use Rattle.std.specs.Prelude.{◌≡◌, ◌∷◌, length, option_map};
 ghost use Rattle.cur_calls.specs.Words as spec;
 ghost use Rattle.cur_calls.specs.Cuts.{words_of};
 ghost use Rattle.cur_calls.specs.Numbers.{number_in, window_in, flag_in, zero_in};
 ghost use Rattle.cur_calls.specs.Cells.{cell_in, cell_or, attrs_in};
 
 use crate::cells::{attrs_in, cell_in, cell_or};
-use crate::cuts::cut;
 use crate::numbers::{flag_in, number_in, window_in, zero_in};
 use crate::texts::Text;
 use cur_drawing::{Attrs, Put};
@@ -15,61 +14,69 @@ use std::marker::Model;
 /// The words of a line that are left.
 #[derive(Drop)]
 pub(crate) struct Words<'a> {
-    // from the next word to the line's end
-    left: Option<&'a [u8]>,
+    // from the space before the next word to the line's end
+    left: &'a [u8],
 }
 
 impl<'a> Model for Words<'a> {
-    ghost use Rattle.std.specs.Prelude.{List, ℕ, option_map};
-    ghost use Rattle.cur_calls.specs.Words.{words_left};
+    ghost use Rattle.std.specs.Prelude.{List, ℕ};
+    ghost use Rattle.cur_calls.specs.Words.{words_behind};
 
     ghost Value = { List (List ℕ) };
 
-    ghost view = { λ w. words_left (option_map (λ text. text.now) w.left) };
+    ghost view = { λ w. words_behind w.left.now };
 }
 
 impl<'a> Words<'a> {
-    ghost use Rattle.std.specs.Prelude.{◌≡◌, option_map};
+    ghost use Rattle.std.specs.Prelude.{◌≡◌, ◌∷◌, option_map};
 
-    /// The words of a line.
-    pub(crate) fn of(line: &'a [u8]) -> Words<'a>
-        ensures { result ≡ words_of line.now }
+    /// The first word of a line, and those after it.
+    #[inline(always)]
+    #[tactic(auto, using(crate::proofs::WordsLeft::words_cut))]
+    pub(crate) fn of(line: &'a [u8]) -> (&'a [u8], Words<'a>)
+        ensures { words_of line.now ≡ result.0.now ∷ result.1 }
     {
-        Words { left: Some(line) }
+        let (word, left) = divided(line);
+        (word, Words { left })
     }
 
     /// The next word, and those after it.
-    #[tactic(auto, using(crate::proofs::WordsLeft::last_word, crate::proofs::WordsLeft::next_word))]
+    #[inline(always)]
     pub(crate) fn next(self) -> Option<(&'a [u8], Words<'a>)>
         ensures { option_map (λ p. (p.0.now, p.1)) result ≡ spec.first_word self.entry }
     {
-        let text = self.left?;
-        match cut(b' ', text) {
-            None => Some((text, Words { left: None })),
-            Some((word, rest)) => Some((word, Words { left: Some(rest) })),
+        match self.left {
+            [] => None,
+            [_, text @ ..] => Some(Words::of(text)),
         }
     }
 
     /// That no word is left.
+    #[inline(always)]
     #[tactic(auto, using(crate::proofs::WordsLeft::not_ended))]
     pub(crate) fn end(self) -> Option<()>
         ensures { result ≡ spec.ended self.entry }
     {
         match self.left {
-            None => Some(()),
-            Some(_) => None,
+            [] => Some(()),
+            _ => None,
         }
     }
 
     /// What is left, spaces included; it begins after a space.
+    #[inline(always)]
     #[tactic(auto, using(crate::proofs::WordsLeft::rest_is))]
     pub(crate) fn rest(self) -> Option<Text<'a>>
         ensures { result ≡ spec.rest self.entry }
     {
-        Some(Text::new(self.left?))
+        match self.left {
+            [] => None,
+            [_, text @ ..] => Some(Text::new(text)),
+        }
     }
 
     /// A number.
+    #[inline(always)]
     pub(crate) fn number(self) -> Option<(i32, Words<'a>)>
         ensures { result ≡ spec.first number_in self.entry }
     {
@@ -78,6 +85,7 @@ impl<'a> Words<'a> {
     }
 
     /// A window's number.
+    #[inline(always)]
     pub(crate) fn window(self) -> Option<(usize, Words<'a>)>
         ensures { result ≡ spec.first window_in self.entry }
     {
@@ -86,6 +94,7 @@ impl<'a> Words<'a> {
     }
 
     /// 0 or 1.
+    #[inline(always)]
     pub(crate) fn flag(self) -> Option<(bool, Words<'a>)>
         ensures { result ≡ spec.first flag_in self.entry }
     {
@@ -94,6 +103,7 @@ impl<'a> Words<'a> {
     }
 
     /// 0.
+    #[inline(always)]
     pub(crate) fn zero(self) -> Option<((), Words<'a>)>
         ensures { result ≡ spec.first zero_in self.entry }
     {
@@ -102,6 +112,7 @@ impl<'a> Words<'a> {
     }
 
     /// A cell.
+    #[inline(always)]
     pub(crate) fn cell(self) -> Option<(Put, Words<'a>)>
         ensures { result ≡ spec.first cell_in self.entry }
     {
@@ -110,6 +121,7 @@ impl<'a> Words<'a> {
     }
 
     /// A cell, or a dash for this one.
+    #[inline(always)]
     pub(crate) fn cell_or(self, default: Put) -> Option<(Put, Words<'a>)>
         ensures { result ≡ spec.first (λ word. cell_or default word) self.entry }
     {
@@ -118,6 +130,7 @@ impl<'a> Words<'a> {
     }
 
     /// Attributes.
+    #[inline(always)]
     pub(crate) fn attrs(self) -> Option<(Attrs, Words<'a>)>
         ensures { result ≡ spec.first attrs_in self.entry }
     {
@@ -126,6 +139,7 @@ impl<'a> Words<'a> {
     }
 
     /// Two numbers.
+    #[inline(always)]
     pub(crate) fn two_numbers(self) -> Option<((i32, i32), Words<'a>)>
         ensures { result ≡ spec.two_numbers self.entry }
     {
@@ -135,6 +149,7 @@ impl<'a> Words<'a> {
     }
 
     /// Four numbers.
+    #[inline(always)]
     pub(crate) fn four_numbers(self) -> Option<((i32, i32, i32, i32), Words<'a>)>
         ensures { result ≡ spec.four_numbers self.entry }
     {
@@ -144,6 +159,7 @@ impl<'a> Words<'a> {
     }
 
     /// Two windows' numbers.
+    #[inline(always)]
     pub(crate) fn two_windows(self) -> Option<((usize, usize), Words<'a>)>
         ensures { result ≡ spec.two_windows self.entry }
     {
@@ -151,4 +167,27 @@ impl<'a> Words<'a> {
         let (second, words) = words.window()?;
         Some(((first, second), words))
     }
+}
+
+// The first word of a text, and what stands behind it, from a space on.
+#[inline(always)]
+#[tactic(auto, using(crate::proofs::WordsLeft::divided, std::proofs::lemmas::List::take_rest))]
+fn divided(text: &[u8]) -> (&[u8], &[u8])
+    ensures word { result.0.now ≡ spec.word_of text.now }
+    ensures behind { result.1.now ≡ spec.behind_word text.now }
+{
+    let at = word_length(text);
+    (&text[..at], &text[at..])
+}
+
+// How many bytes the first word of a text has.
+#[inline(always)]
+fn word_length(text: &[u8]) -> usize
+    ensures { result ≡ length (spec.word_of text.now) }
+{
+    let mut at = 0;
+    while at < text.len() && text[at] != b' ' {
+        at += 1;
+    }
+    at
 }
