@@ -102,6 +102,15 @@ pub record IsOneCell (w : Window) (p : Put) : Type 0 where
   pub pair : is_pair p.pair ≡ true
   pub before : w.col + 1 < w.area.cols
 
+-- each is a character of 32 to 126
+abbrev pub ArePrinted : List ℕ → Type 0
+ArePrinted text = (k : ℕ) → k < length text → is_printed (slice_index_or text k 0) ≡ true
+
+-- a string becomes cells of the cursor's line, none of them in its last column
+pub record FitsLine (w : Window) (text : List ℕ) : Type 0 where
+  pub printed : ArePrinted text
+  pub before : w.col + length text < w.area.cols
+
 -- cells of the cursor's line, on the screen
 abbrev pub cells_shown : Origin → Window → ℕ → ℕ → Area
 cells_shown o w col n =

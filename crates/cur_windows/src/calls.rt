@@ -7,7 +7,7 @@ ghost use Rattle.cur_windows.specs.Touched.{KeepsShown, MarksWritten};
 
 use crate::desks::Desk;
 use crate::hints::{after_writing, joined};
-use crate::touched::{Touched, start_of, touch, touch_written};
+use crate::touched::{Touched, start_of, start_of_text, touch_text, touch_written};
 use cur_drawing::{Attrs, Border, Put, Refusal};
 
 // The calls on one window. Each refuses with `Full` a number above 63, and else with `NoWindow` one that names no
@@ -179,12 +179,12 @@ impl Desk {
     {
         let mut slot = self.find(id)?;
         let (region, origin) = (self.region_of(&slot), self.origin_of(&slot));
-        let first = slot.window.row;
+        let start = start_of_text(&slot.window, text);
         let mut lines = 0;
         let grid = &mut self.grids[slot.root as usize];
         let answer = slot.window.add_all(grid, text, &mut lines);
         self.scrolled = after_writing(self.scrolled, region, lines);
-        touch(touched, &slot, origin, first);
+        touch_text(touched, &slot, origin, start);
         self.windows[id] = Some(slot);
         answer
     }

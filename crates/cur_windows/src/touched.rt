@@ -3,7 +3,7 @@ ghost use Rattle.std.specs.Prelude.{◌≡◌, ◌≢◌, ◌⊎◌, ◌<◌, �
 ghost use Rattle.cur_drawing.specs.Marks.{Joins, none_marked};
 ghost use Rattle.cur_drawing.specs.Windows.{IsWindow};
 ghost use Rattle.cur_windows.specs.Desks as spec;
-ghost use Rattle.cur_windows.specs.Touched.{AreFull, AreTouched, FillsAll, FillsGrid, IsCleared, IsOneCell, LeavesMarks, IsTouched, LiesWithin, MarksCells, MarksLines, MarksWindow, Spreads, TouchesGrid, all_marked, marks_of};
+ghost use Rattle.cur_windows.specs.Touched.{AreFull, ArePrinted, AreTouched, FillsAll, FillsGrid, FitsLine, IsCleared, IsOneCell, LeavesMarks, IsTouched, LiesWithin, MarksCells, MarksLines, MarksWindow, Spreads, TouchesGrid, all_marked, marks_of};
 
 use crate::desks::Desk;
 use crate::slots::{Origin, Slot};
@@ -92,7 +92,7 @@ fn mark_grid(touched: &mut Touched, root: usize)
 
 /// Marks what was written on a window since its cursor was in the line `first`: all of its grid, if its region may have
 /// gone up. The grid lies at `origin`, unless it is a pad's.
-pub(crate) fn touch(touched: &mut Touched, slot: &Slot, origin: Origin, first: u16)
+fn touch(touched: &mut Touched, slot: &Slot, origin: Origin, first: u16)
     requires window { IsWindow (slot.now).window }
     requires within { origin.pad ≡ false → LiesWithin origin (slot.now).window.area }
     ensures { IsTouched touched.old.grids.items touched.new.grids.items slot.now origin first }
@@ -140,13 +140,13 @@ fn touch_grid(marks: &mut Marks, window: &Window, origin: Origin, first: u16)
     }
 }
 
-/// Where a window's cursor was before a character was written, and whether that becomes one cell, after which the cursor
-/// is in the same line.
+/// Where a window's cursor was before it was written, and how many cells of that line what is written becomes, before the
+/// last column; 0 where that isn't known.
 #[derive(Clone, Copy)]
 pub(crate) struct Start {
     pub row: u16,
     pub col: u16,
-    pub one: bool,
+    pub cells: u16,
 }
 
 /// What is to be remembered before a character is written.
@@ -154,13 +154,51 @@ pub(crate) fn start_of(window: &Window, put: Put) -> Start
     requires { IsWindow window.now }
     ensures row { result.row ≡ (window.now).row }
     ensures col { result.col ≡ (window.now).col }
-    ensures one { result.one ≡ true → IsOneCell window.now put }
+    ensures one { 0 < result.cells → IsOneCell window.now put × (result.cells ≡ 1) }
+{
+    let one = put.is_cell() && window.col + 1 < window.area.cols;
+    Start {
+        row: window.row,
+        col: window.col,
+        cells: if one { 1 } else { 0 },
+    }
+}
+
+/// What is to be remembered before a string is written.
+pub(crate) fn start_of_text(window: &Window, text: &[u8]) -> Start
+    requires { IsWindow window.now }
+    ensures row { result.row ≡ (window.now).row }
+    ensures col { result.col ≡ (window.now).col }
+    ensures cells { 0 < result.cells → FitsLine window.now text.now × (result.cells ≡ length text.now) }
 {
     Start {
         row: window.row,
         col: window.col,
-        one: put.is_cell() && window.col + 1 < window.area.cols,
+        cells: cells_of_text(window, text),
     }
+}
+
+// How many cells of the cursor's line a string becomes, before the last column; 0 where that isn't known.
+fn cells_of_text(window: &Window, text: &[u8]) -> u16
+    requires { IsWindow window.now }
+    ensures { 0 < result → FitsLine window.now text.now × (result ≡ length text.now) }
+{
+    if text.len() >= (window.area.cols - window.col) as usize || !are_printed(text) {
+        return 0;
+    }
+    text.len() as u16
+}
+
+// Whether each of the bytes is a character of 32 to 126.
+fn are_printed(text: &[u8]) -> bool
+    ensures { result ≡ true → ArePrinted text.now }
+{
+    for k in 0..text.len() {
+        if text[k] < 32 || text[k] > 126 {
+            return false;
+        }
+    }
+    true
 }
 
 /// Marks what was written by a call that wrote a character from `start` on, and has answered so: one cell, or what
@@ -174,17 +212,34 @@ pub(crate) fn touch_written(
 )
     requires window { IsWindow (slot.now).window }
     requires within { origin.pad ≡ false → LiesWithin origin (slot.now).window.area }
-    requires cell { start.one ≡ true → start.col + 1 ≤ (slot.now).window.area.cols }
-    ensures touched { ((start.one ≡ true) × AreTouched touched.old.grids.items touched.new.grids.items slot.now origin start.col 1)
+    requires cells { 0 < start.cells → start.col + start.cells ≤ (slot.now).window.area.cols }
+    ensures touched { ((0 < start.cells)
+        × AreTouched touched.old.grids.items touched.new.grids.items slot.now origin start.col start.cells)
         ⊎ (IsTouched touched.old.grids.items touched.new.grids.items slot.now origin start.row
         ⊎ LeavesMarks touched.old.grids.items touched.new.grids.items answer.now) }
     ensures refused { IfErr answer.now (λ e. e ≢ Refusal.NoScroll → touched.new ≡ touched.old) }
 {
-    if start.one && answer.is_ok() {
-        touch_cells(touched, slot, origin, start.col, 1);
+    if start.cells > 0 && answer.is_ok() {
+        touch_cells(touched, slot, origin, start.col, start.cells);
         return;
     }
     touch_unless_refused(touched, slot, origin, start.row, answer);
+}
+
+/// Marks what was written by a call that wrote a string from `start` on: its cells, or what `touch` does.
+pub(crate) fn touch_text(touched: &mut Touched, slot: &Slot, origin: Origin, start: Start)
+    requires window { IsWindow (slot.now).window }
+    requires within { origin.pad ≡ false → LiesWithin origin (slot.now).window.area }
+    requires cells { 0 < start.cells → start.col + start.cells ≤ (slot.now).window.area.cols }
+    ensures { ((0 < start.cells)
+        × AreTouched touched.old.grids.items touched.new.grids.items slot.now origin start.col start.cells)
+        ⊎ IsTouched touched.old.grids.items touched.new.grids.items slot.now origin start.row }
+{
+    if start.cells > 0 {
+        touch_cells(touched, slot, origin, start.col, start.cells);
+        return;
+    }
+    touch(touched, slot, origin, start.row);
 }
 
 /// Marks `count` cells from the column `col` on of the window's line in which its cursor is. The grid lies at `origin`,
