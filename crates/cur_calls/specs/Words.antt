@@ -1,5 +1,5 @@
 -- Reading the words of a line one after another.
-use Rattle.std.specs.Prelude.{ℕ, ℤ, ◌==◌, if◌then◌else◌, List, [], ◌∷◌, Option, None, Some, option_map}
+use Rattle.std.specs.Prelude.{ℕ, ℤ, ◌==◌, if◌then◌else◌, List, [], ◌∷◌, Option, None, Some}
 use Rattle.std.specs.List.{join_with_byte}
 use Rattle.cur_calls.specs.Cuts.{words_of, ◌>>=◌}
 use Rattle.cur_calls.specs.Numbers.{number_in, window_in}
@@ -14,14 +14,10 @@ abbrev pub word_of : List ℕ → List ℕ
 word_of [] = []
 word_of (b ∷ text) = if b == 32 then [] else b ∷ word_of text
 
--- what stands behind it, from a space on
+-- what stands behind the first word, from a space on
 abbrev pub behind_word : List ℕ → List ℕ
 behind_word [] = []
 behind_word (b ∷ text) = if b == 32 then b ∷ text else behind_word text
-
--- what the first word of a text says, and what stands behind it
-abbrev pub ahead : {A : Type 0} → (List ℕ → Option A) → List ℕ → Option (A × List ℕ)
-ahead read text = option_map (λ x. (x, behind_word text)) (read (word_of text))
 
 abbrev pub first_word : List (List ℕ) → Option (List ℕ × List (List ℕ))
 first_word [] = None

@@ -1,4 +1,7 @@
 //! The arguments of each call: a function for each form of them takes a line's words after the name, and no more.
+//!
+//! None is inlined: a `Call` is a large value, and in one function for all names its parts would be merged from each
+//! reader.
 ghost use Rattle.std.specs.Prelude.{◌≡◌};
 ghost use Rattle.cur_calls.specs.Arguments as spec;
 

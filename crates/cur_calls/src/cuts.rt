@@ -6,7 +6,7 @@ ghost use Rattle.cur_calls.specs.Cuts.{cut_at, parts_of, parts_left, left_size, 
 
 use std::simd::prelude::*;
 
-// How many bytes are looked at at a time.
+// How many bytes a vector has.
 const LANES: usize = 16;
 
 /// What stands before and after the first such byte.
@@ -62,7 +62,7 @@ fn run_before(byte: u8, text: &[u8]) -> usize
     run_by_bytes(byte, text, at)
 }
 
-// The same, where there is none before a place.
+// The same where there is none before a place, byte by byte from there on.
 #[inline(always)]
 fn run_by_bytes(byte: u8, text: &[u8], from: usize) -> usize
     requires within { from ≤ length text.now }

@@ -1,6 +1,6 @@
 //! The table of calls: the name of each, and what reads its arguments. A function for each letter has the names that
 //! begin with it.
-ghost use Rattle.std.specs.Prelude.{◌≡◌};
+ghost use Rattle.std.specs.Prelude.{◌≡◌, bytes_eq};
 ghost use Rattle.cur_calls.specs.Table as spec;
 
 use crate::arguments::{
@@ -44,15 +44,15 @@ pub(crate) fn call_with<'a>(name: &[u8], words: Words<'a>) -> Option<Call<'a>>
 fn under_a<'a>(name: &[u8], words: Words<'a>) -> Option<Call<'a>>
     ensures { result ≡ spec.call_in spec.rows_a name.now words.entry }
 {
-    if name == b"addch".as_slice() {
+    if is(name, b"addch") {
         cell(CellCall::Addch, words)
-    } else if name == b"addstr".as_slice() {
+    } else if is(name, b"addstr") {
         addstr(words)
-    } else if name == b"attroff".as_slice() {
+    } else if is(name, b"attroff") {
         attributes(AttrsCall::Attroff, words)
-    } else if name == b"attron".as_slice() {
+    } else if is(name, b"attron") {
         attributes(AttrsCall::Attron, words)
-    } else if name == b"attrset".as_slice() {
+    } else if is(name, b"attrset") {
         attributes(AttrsCall::Attrset, words)
     } else {
         None
@@ -63,15 +63,15 @@ fn under_a<'a>(name: &[u8], words: Words<'a>) -> Option<Call<'a>>
 fn under_b<'a>(name: &[u8], words: Words<'a>) -> Option<Call<'a>>
     ensures { result ≡ spec.call_in spec.rows_b name.now words.entry }
 {
-    if name == b"beep".as_slice() {
+    if is(name, b"beep") {
         beep(words)
-    } else if name == b"bkgd".as_slice() {
+    } else if is(name, b"bkgd") {
         cell(CellCall::Bkgd, words)
-    } else if name == b"bkgdset".as_slice() {
+    } else if is(name, b"bkgdset") {
         cell(CellCall::Bkgdset, words)
-    } else if name == b"border".as_slice() {
+    } else if is(name, b"border") {
         draw_border(words)
-    } else if name == b"box".as_slice() {
+    } else if is(name, b"box") {
         draw_box(words)
     } else {
         None
@@ -82,19 +82,19 @@ fn under_b<'a>(name: &[u8], words: Words<'a>) -> Option<Call<'a>>
 fn under_c<'a>(name: &[u8], words: Words<'a>) -> Option<Call<'a>>
     ensures { result ≡ spec.call_in spec.rows_c name.now words.entry }
 {
-    if name == b"clear".as_slice() {
+    if is(name, b"clear") {
         plain(PlainCall::Clear, words)
-    } else if name == b"clearok".as_slice() {
+    } else if is(name, b"clearok") {
         flag(FlagCall::Clearok, words)
-    } else if name == b"clrtobot".as_slice() {
+    } else if is(name, b"clrtobot") {
         plain(PlainCall::Clrtobot, words)
-    } else if name == b"clrtoeol".as_slice() {
+    } else if is(name, b"clrtoeol") {
         plain(PlainCall::Clrtoeol, words)
-    } else if name == b"color_set".as_slice() {
+    } else if is(name, b"color_set") {
         number(NumberCall::ColorSet, words)
-    } else if name == b"copywin".as_slice() {
+    } else if is(name, b"copywin") {
         copywin(words)
-    } else if name == b"curs_set".as_slice() {
+    } else if is(name, b"curs_set") {
         curs_set(words)
     } else {
         None
@@ -105,17 +105,17 @@ fn under_c<'a>(name: &[u8], words: Words<'a>) -> Option<Call<'a>>
 fn under_d<'a>(name: &[u8], words: Words<'a>) -> Option<Call<'a>>
     ensures { result ≡ spec.call_in spec.rows_d name.now words.entry }
 {
-    if name == b"delch".as_slice() {
+    if is(name, b"delch") {
         plain(PlainCall::Delch, words)
-    } else if name == b"deleteln".as_slice() {
+    } else if is(name, b"deleteln") {
         plain(PlainCall::Deleteln, words)
-    } else if name == b"delwin".as_slice() {
+    } else if is(name, b"delwin") {
         plain(PlainCall::Delwin, words)
-    } else if name == b"derwin".as_slice() {
+    } else if is(name, b"derwin") {
         part(PartCall::Derwin, words)
-    } else if name == b"doupdate".as_slice() {
+    } else if is(name, b"doupdate") {
         bare(ScreenCall::Doupdate, words)
-    } else if name == b"dupwin".as_slice() {
+    } else if is(name, b"dupwin") {
         dupwin(words)
     } else {
         None
@@ -126,9 +126,9 @@ fn under_d<'a>(name: &[u8], words: Words<'a>) -> Option<Call<'a>>
 fn under_e<'a>(name: &[u8], words: Words<'a>) -> Option<Call<'a>>
     ensures { result ≡ spec.call_in spec.rows_e name.now words.entry }
 {
-    if name == b"endwin".as_slice() {
+    if is(name, b"endwin") {
         bare(ScreenCall::Endwin, words)
-    } else if name == b"erase".as_slice() {
+    } else if is(name, b"erase") {
         plain(PlainCall::Erase, words)
     } else {
         None
@@ -139,7 +139,7 @@ fn under_e<'a>(name: &[u8], words: Words<'a>) -> Option<Call<'a>>
 fn under_h<'a>(name: &[u8], words: Words<'a>) -> Option<Call<'a>>
     ensures { result ≡ spec.call_in spec.rows_h name.now words.entry }
 {
-    if name == b"hline".as_slice() {
+    if is(name, b"hline") {
         line(LineCall::Hline, words)
     } else {
         None
@@ -150,13 +150,13 @@ fn under_h<'a>(name: &[u8], words: Words<'a>) -> Option<Call<'a>>
 fn under_i<'a>(name: &[u8], words: Words<'a>) -> Option<Call<'a>>
     ensures { result ≡ spec.call_in spec.rows_i name.now words.entry }
 {
-    if name == b"idlok".as_slice() {
+    if is(name, b"idlok") {
         flag(FlagCall::Idlok, words)
-    } else if name == b"init_pair".as_slice() {
+    } else if is(name, b"init_pair") {
         init_pair(words)
-    } else if name == b"insch".as_slice() {
+    } else if is(name, b"insch") {
         cell(CellCall::Insch, words)
-    } else if name == b"insertln".as_slice() {
+    } else if is(name, b"insertln") {
         plain(PlainCall::Insertln, words)
     } else {
         None
@@ -167,7 +167,7 @@ fn under_i<'a>(name: &[u8], words: Words<'a>) -> Option<Call<'a>>
 fn under_l<'a>(name: &[u8], words: Words<'a>) -> Option<Call<'a>>
     ensures { result ≡ spec.call_in spec.rows_l name.now words.entry }
 {
-    if name == b"leaveok".as_slice() {
+    if is(name, b"leaveok") {
         flag(FlagCall::Leaveok, words)
     } else {
         None
@@ -178,9 +178,9 @@ fn under_l<'a>(name: &[u8], words: Words<'a>) -> Option<Call<'a>>
 fn under_m<'a>(name: &[u8], words: Words<'a>) -> Option<Call<'a>>
     ensures { result ≡ spec.call_in spec.rows_m name.now words.entry }
 {
-    if name == b"move".as_slice() {
+    if is(name, b"move") {
         numbers(NumbersCall::Move, words)
-    } else if name == b"mvwin".as_slice() {
+    } else if is(name, b"mvwin") {
         numbers(NumbersCall::Mvwin, words)
     } else {
         None
@@ -191,11 +191,11 @@ fn under_m<'a>(name: &[u8], words: Words<'a>) -> Option<Call<'a>>
 fn under_n<'a>(name: &[u8], words: Words<'a>) -> Option<Call<'a>>
     ensures { result ≡ spec.call_in spec.rows_n name.now words.entry }
 {
-    if name == b"newpad".as_slice() {
+    if is(name, b"newpad") {
         newpad(words)
-    } else if name == b"newwin".as_slice() {
+    } else if is(name, b"newwin") {
         newwin(words)
-    } else if name == b"noutrefresh".as_slice() {
+    } else if is(name, b"noutrefresh") {
         show(ShowCall::Noutrefresh, words)
     } else {
         None
@@ -206,9 +206,9 @@ fn under_n<'a>(name: &[u8], words: Words<'a>) -> Option<Call<'a>>
 fn under_o<'a>(name: &[u8], words: Words<'a>) -> Option<Call<'a>>
     ensures { result ≡ spec.call_in spec.rows_o name.now words.entry }
 {
-    if name == b"overlay".as_slice() {
+    if is(name, b"overlay") {
         lay(LayCall::Overlay, words)
-    } else if name == b"overwrite".as_slice() {
+    } else if is(name, b"overwrite") {
         lay(LayCall::Overwrite, words)
     } else {
         None
@@ -219,9 +219,9 @@ fn under_o<'a>(name: &[u8], words: Words<'a>) -> Option<Call<'a>>
 fn under_p<'a>(name: &[u8], words: Words<'a>) -> Option<Call<'a>>
     ensures { result ≡ spec.call_in spec.rows_p name.now words.entry }
 {
-    if name == b"pnoutrefresh".as_slice() {
+    if is(name, b"pnoutrefresh") {
         show_pad(PadCall::Pnoutrefresh, words)
-    } else if name == b"prefresh".as_slice() {
+    } else if is(name, b"prefresh") {
         show_pad(PadCall::Prefresh, words)
     } else {
         None
@@ -232,7 +232,7 @@ fn under_p<'a>(name: &[u8], words: Words<'a>) -> Option<Call<'a>>
 fn under_r<'a>(name: &[u8], words: Words<'a>) -> Option<Call<'a>>
     ensures { result ≡ spec.call_in spec.rows_r name.now words.entry }
 {
-    if name == b"refresh".as_slice() {
+    if is(name, b"refresh") {
         show(ShowCall::Refresh, words)
     } else {
         None
@@ -243,15 +243,15 @@ fn under_r<'a>(name: &[u8], words: Words<'a>) -> Option<Call<'a>>
 fn under_s<'a>(name: &[u8], words: Words<'a>) -> Option<Call<'a>>
     ensures { result ≡ spec.call_in spec.rows_s name.now words.entry }
 {
-    if name == b"scroll".as_slice() {
+    if is(name, b"scroll") {
         number(NumberCall::Scroll, words)
-    } else if name == b"scrollok".as_slice() {
+    } else if is(name, b"scrollok") {
         flag(FlagCall::Scrollok, words)
-    } else if name == b"setscrreg".as_slice() {
+    } else if is(name, b"setscrreg") {
         numbers(NumbersCall::Setscrreg, words)
-    } else if name == b"subpad".as_slice() {
+    } else if is(name, b"subpad") {
         part(PartCall::Subpad, words)
-    } else if name == b"subwin".as_slice() {
+    } else if is(name, b"subwin") {
         part(PartCall::Subwin, words)
     } else {
         None
@@ -262,9 +262,9 @@ fn under_s<'a>(name: &[u8], words: Words<'a>) -> Option<Call<'a>>
 fn under_t<'a>(name: &[u8], words: Words<'a>) -> Option<Call<'a>>
     ensures { result ≡ spec.call_in spec.rows_t name.now words.entry }
 {
-    if name == b"touchline".as_slice() {
+    if is(name, b"touchline") {
         numbers(NumbersCall::Touchline, words)
-    } else if name == b"touchwin".as_slice() {
+    } else if is(name, b"touchwin") {
         plain(PlainCall::Touchwin, words)
     } else {
         None
@@ -275,9 +275,24 @@ fn under_t<'a>(name: &[u8], words: Words<'a>) -> Option<Call<'a>>
 fn under_v<'a>(name: &[u8], words: Words<'a>) -> Option<Call<'a>>
     ensures { result ≡ spec.call_in spec.rows_v name.now words.entry }
 {
-    if name == b"vline".as_slice() {
+    if is(name, b"vline") {
         line(LineCall::Vline, words)
     } else {
         None
     }
+}
+
+// Whether the name is this one.
+#[inline(always)]
+fn is(name: &[u8], other: &[u8]) -> bool
+    ensures { result ≡ bytes_eq name.now other.now }
+{
+    if name.len() != other.len() {
+        return false;
+    }
+    let mut at = 0;
+    while at < other.len() && name[at] == other[at] {
+        at += 1;
+    }
+    at == other.len()
 }

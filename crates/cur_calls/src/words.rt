@@ -11,7 +11,7 @@ use crate::texts::Text;
 use cur_drawing::{Attrs, Put};
 use std::marker::Model;
 
-/// The words of a line that are left.
+/// The words of a line that are left. What reads them is inlined, so that the slice stays in registers.
 #[derive(Drop)]
 pub(crate) struct Words<'a> {
     // from the space before the next word to the line's end
@@ -65,7 +65,6 @@ impl<'a> Words<'a> {
 
     /// What is left, spaces included; it begins after a space.
     #[inline(always)]
-    #[tactic(auto, using(crate::proofs::WordsLeft::rest_is))]
     pub(crate) fn rest(self) -> Option<Text<'a>>
         ensures { result ≡ spec.rest self.entry }
     {
