@@ -93,11 +93,19 @@ fn character_of<C: Certificate>(checked: &C, graphic: bool, cell: Cell) -> Chara
 /// Whether a cell has no attributes and default colours.
 #[inline(always)]
 #[tactic(auto, using(crate::proofs::Plainly::plain_is))]
-fn is_plain(cell: Cell, colors: (Option<u8>, Option<u8>)) -> bool
+pub(crate) fn is_plain(cell: Cell, colors: (Option<u8>, Option<u8>)) -> bool
     ensures { result ≡ true → (means : Means) (partners : ℕ → Option ℕ)
         → spec.ink_with means partners (spec.pair_colors colors) cell ≡ spec.plain_ink cell.byte }
 {
     cell.attrs() == Attrs::none() && colors.0.is_none() && colors.1.is_none()
+}
+
+/// Whether an ink is of the plain set, and has no attributes and default colours.
+#[inline(always)]
+pub(crate) fn is_plain_ink(ink: Ink) -> bool
+    ensures { result ≡ same blank_ink (record ink { byte = 32 }) }
+{
+    is_same(Ink::blank(), Ink { byte: b' ', ..ink })
 }
 
 /// A character of no attributes and default colours.

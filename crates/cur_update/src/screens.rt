@@ -1,11 +1,14 @@
 //! The virtual screen as a painter sees it.
 ghost use Rattle.std.specs.Prelude.{◌≡◌, ◌+◌, ◌<◌, ◌≤◌, ℕ, false, length, slice_index_or};
 ghost use Rattle.cur_drawing.specs.Cells.{IsCell, space};
-ghost use Rattle.cur_looks.specs.Inks.{same};
+ghost use Rattle.cur_looks.specs.Inks.{blank_ink, same};
 ghost use Rattle.cur_looks.specs.Stretches.{AreLike};
 ghost use Rattle.cur_update.specs.Inks.{content_at, ink_at_with, printed_cell};
 
-use crate::inks::{Means, ink_of, is_blank_ink, is_other, plain_byte, plain_text, shows_ink};
+use crate::inks::{
+    Means, ink_of, is_blank_ink, is_other, is_plain, is_plain_ink, plain_byte, plain_text,
+    shows_ink,
+};
 use cur_drawing::Cell;
 use cur_looks::{Cells, Ink, Picture, byte_as, is_same};
 use cur_windows::Virtual;
@@ -47,7 +50,12 @@ impl<'a, C: Certificate> Picture for PrintedScreen<'a, C> {
         if row >= rows as usize || col >= cols as usize {
             return is_same(Ink::blank(), ink);
         }
-        self.shows_cell(self.screen.row(row as u16)[col], ink.byte, ink)
+        let cell = self.screen.row(row as u16)[col];
+        if is_other(cell, ink.byte) {
+            return false;
+        }
+        let colors = self.screen.pair(cell.pair());
+        shows_ink(self.checked, self.means, colors, cell, ink)
     }
 
     fn is_blank(&self, row: usize, col: usize) -> bool {
@@ -125,21 +133,22 @@ impl<'a, C: Certificate> PrintedScreen<'a, C> {
         plain_text(self.screen.row(stretch.row as u16), stretch, like, text)
     }
 
-    /// Whether a cell of the screen is printed like `ink` with the character `byte`.
+    /// Whether a cell of the screen is printed like `ink` with the character `byte`. `is_plain_ink` says whether that has
+    /// no attributes and default colours.
     #[inline(always)]
-    fn shows_cell(&self, cell: Cell, byte: u8, ink: Ink) -> bool
+    fn shows_cell(&self, cell: Cell, byte: u8, ink: Ink, is_plain_ink: bool) -> bool
+        requires { is_plain_ink ≡ same blank_ink (record ink { byte = 32 }) }
         ensures { result ≡ same (printed_cell self.now.means (C.partners self.now.checked.now) self.now.screen.now cell)
             (record ink { byte = byte }) }
     {
-        // no ink is made for a cell with another character
-        !is_other(cell, byte)
-            && shows_ink(
-                self.checked,
-                self.means,
-                self.screen.pair(cell.pair()),
-                cell,
-                Ink { byte, ..ink },
-            )
+        if is_other(cell, byte) {
+            return false;
+        }
+        let colors = self.screen.pair(cell.pair());
+        if cell.byte() == byte && is_plain(cell, colors) {
+            return is_plain_ink;
+        }
+        shows_ink(self.checked, self.means, colors, cell, Ink { byte, ..ink })
     }
 
     /// Notes in `shown`, for each of the cells of the screen in `line`, whether it is printed like `ink` with the
@@ -152,8 +161,9 @@ impl<'a, C: Certificate> PrintedScreen<'a, C> {
             ≡ same (printed_cell self.now.means (C.partners self.now.checked.now) self.now.screen.now
             (slice_index_or line.now k space)) (record ink { byte = slice_index_or text.now k 0 }) }
     {
+        let is_plain_ink = is_plain_ink(ink);
         for n in 0..line.len() {
-            shown[n] = self.shows_cell(line[n], text[n], ink);
+            shown[n] = self.shows_cell(line[n], text[n], ink, is_plain_ink);
         }
     }
 }
