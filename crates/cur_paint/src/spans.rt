@@ -13,7 +13,7 @@ use cur_wires::{Wire, WireFault};
 use ti_conforms::Certificate;
 
 /// How many characters at most go out in one piece after the first one.
-const TEXT: usize = 128;
+const TEXT: usize = 512;
 
 /// A move by a count or to a column has so many bytes at least.
 const FEW: usize = 3;
@@ -72,7 +72,7 @@ fn print_each<C: Certificate, O: Picture, N: Picture, W: Wire>(
 /// more than `few` that are the same come between two that differ.
 fn piece_end(same: &[bool], few: usize) -> usize
     requires few { few ≤ 3 }
-    requires short { length same.now ≤ 128 }
+    requires short { length same.now ≤ 512 }
     ensures within { result ≤ length same.now }
     ensures few { (old new : ℕ → ℕ → Ink) (row from : ℕ) → IsSameBy old new row from same.now
         → result ≤ span old new row from result * (few + 1) }
@@ -103,7 +103,7 @@ fn piece_of<C: Certificate, O: Picture, N: Picture>(
     requires scene { IsPaintable (scene C.table O.cells N.cells screens.now) }
     requires cells { IsOn (C.table screens.now.checked.now) cells }
     requires ink { ink ≡ N.cells screens.now.new.now cells.row like }
-    requires room { length text.old ≤ 128 }
+    requires room { length text.old ≤ 512 }
     ensures within { result ≤ cells.count }
     ensures room { result ≤ length text.new }
     ensures cells { AreOf (N.cells screens.now.new.now) cells ink result text.new }
