@@ -8,7 +8,7 @@ abbrev pub cut_at : ℕ → List ℕ → Option (List ℕ × List ℕ)
 cut_at c [] = None
 cut_at c (b ∷ text) = if b == c then Some ([], text) else option_map (λ p. (b ∷ p.0, p.1)) (cut_at c text)
 
--- no byte of a kind stands before a place
+-- (Serves the code alone.) no byte of a kind stands before a place
 abbrev pub IsFreeBefore : ℕ → List ℕ → ℕ → Type 0
 IsFreeBefore c text at = (k : ℕ) → k < at → (slice_index_or text k 0 == c) ≡ false
 
@@ -16,12 +16,12 @@ IsFreeBefore c text at = (k : ℕ) → k < at → (slice_index_or text k 0 == c)
 abbrev pub parts_of : ℕ → List ℕ → List (List ℕ)
 parts_of c text = slice_split (λ b. b == c) text
 
--- the parts of what is left, if anything is
+-- (Serves the code alone.) the parts of what is left, if anything is
 abbrev pub parts_left : ℕ → Option (List ℕ) → List (List ℕ)
 parts_left c None = []
 parts_left c (Some text) = parts_of c text
 
--- how many bytes are left, counted one more where anything is
+-- (Serves the code alone.) how many bytes are left, counted one more where anything is
 abbrev pub left_size : Option (List ℕ) → ℕ
 left_size None = 0
 left_size (Some text) = length text + 1

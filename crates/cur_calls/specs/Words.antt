@@ -4,17 +4,17 @@ use Rattle.std.specs.List.{join_with_byte}
 use Rattle.cur_calls.specs.Cuts.{words_of, ◌>>=◌}
 use Rattle.cur_calls.specs.Numbers.{number_in, window_in}
 
--- the words of a line behind one of them: each of them follows a space
+-- (Serves the code alone.) the words of a line after one of them: each of them follows a space
 abbrev pub words_behind : List ℕ → List (List ℕ)
 words_behind [] = []
 words_behind (b ∷ text) = words_of text
 
--- the first word of a text
+-- (Serves the code alone.) the first word of a text
 abbrev pub word_of : List ℕ → List ℕ
 word_of [] = []
 word_of (b ∷ text) = if b == 32 then [] else b ∷ word_of text
 
--- what stands behind the first word, from a space on
+-- (Serves the code alone.) what comes after the first word, from a space on
 abbrev pub behind_word : List ℕ → List ℕ
 behind_word [] = []
 behind_word (b ∷ text) = if b == 32 then b ∷ text else behind_word text

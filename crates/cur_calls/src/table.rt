@@ -282,7 +282,7 @@ fn under_v<'a>(name: &[u8], words: Words<'a>) -> Option<Call<'a>>
     }
 }
 
-// Whether the name is this one.
+// Whether the name is this one. It is compared in place: `==` of slices is a call, which takes longer than the names.
 #[inline(always)]
 fn is(name: &[u8], other: &[u8]) -> bool
     ensures { result ≡ bytes_eq name.now other.now }

@@ -168,7 +168,7 @@ impl<'a> Words<'a> {
     }
 }
 
-// The first word of a text, and what stands behind it, from a space on.
+// The first word of a text, and what comes after it, from a space on.
 #[inline(always)]
 #[tactic(auto, using(crate::proofs::WordsLeft::divided, std::proofs::lemmas::List::take_rest))]
 fn divided(text: &[u8]) -> (&[u8], &[u8])

@@ -96,7 +96,7 @@ pub record IsTouched (t u : Markings) (s : Slot) (o : Origin) (first : ℕ) : Ty
   pub none : length t ≤ s.root → u ≡ t
   pub others : (k : ℕ) → k ≢ s.root → marks_of u k ≡ marks_of t k
 
--- a character becomes one cell of the cursor's line, and isn't in its last column
+-- (Serves the code alone.) a character becomes one cell of the cursor's line, and isn't in its last column
 pub record IsOneCell (w : Window) (p : Put) : Type 0 where
   pub printed : is_printed p.byte ≡ true
   pub pair : is_pair p.pair ≡ true
@@ -106,7 +106,7 @@ pub record IsOneCell (w : Window) (p : Put) : Type 0 where
 abbrev pub ArePrinted : List ℕ → Type 0
 ArePrinted text = (k : ℕ) → k < length text → is_printed (slice_index_or text k 0) ≡ true
 
--- a string becomes cells of the cursor's line, none of them in its last column
+-- (Serves the code alone.) a string becomes cells of the cursor's line, none of them in its last column
 pub record FitsLine (w : Window) (text : List ℕ) : Type 0 where
   pub printed : ArePrinted text
   pub before : w.col + length text < w.area.cols
@@ -116,13 +116,13 @@ abbrev pub cells_shown : Origin → Window → ℕ → ℕ → Area
 cells_shown o w col n =
     record { top = o.top + w.area.top + w.row; left = o.left + w.area.left + col; rows = 1; cols = n }
 
--- they are marked as well, and no other line
+-- (Serves the code alone.) they are marked as well, and no other line
 pub record MarksCells (m n : Marking) (o : Origin) (w : Window) (col count : ℕ) : Type 0 where
   pub kept : (i j : ℕ) → IsUnmarked n i j → IsUnmarked m i j
   pub cells : (i j : ℕ) → IsUnmarked n i j → is_in (cells_shown o w col count) i j ≡ false
   pub only : (i j : ℕ) → IsUnmarked m i j → i ≢ o.top + w.area.top + w.row → IsUnmarked n i j
 
--- the same of the window's grid, unless it is a pad's, and of no other
+-- (Serves the code alone.) the same of the window's grid, unless it is a pad's, and of no other
 pub record AreTouched (t u : Markings) (s : Slot) (o : Origin) (col count : ℕ) : Type 0 where
   pub grid : o.pad ≡ false → s.root < length t → MarksCells (marks_of t s.root) (marks_of u s.root) o s.window col count
   pub pad : o.pad ≡ true → u ≡ t

@@ -127,7 +127,7 @@ impl Desk {
         }
     }
 
-    // Whether the window is all of its grid.
+    // Whether the window is all of its grid, or as large as the screen.
     fn has_all(&self, slot: &Slot) -> bool
         ensures there { result ≡ true → HasAll self.now slot.now }
         ensures part { result ≡ false → HasAll self.now slot.now → ⊥ }
