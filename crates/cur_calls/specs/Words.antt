@@ -10,14 +10,14 @@ words_behind [] = []
 words_behind (b ∷ text) = words_of text
 
 -- (Serves the code alone.) the first word of a text
-abbrev pub word_of : List ℕ → List ℕ
-word_of [] = []
-word_of (b ∷ text) = if b == 32 then [] else b ∷ word_of text
+abbrev pub front_word : List ℕ → List ℕ
+front_word [] = []
+front_word (b ∷ text) = if b == 32 then [] else b ∷ front_word text
 
 -- (Serves the code alone.) what comes after the first word, from a space on
-abbrev pub behind_word : List ℕ → List ℕ
-behind_word [] = []
-behind_word (b ∷ text) = if b == 32 then b ∷ text else behind_word text
+abbrev pub past_front_word : List ℕ → List ℕ
+past_front_word [] = []
+past_front_word (b ∷ text) = if b == 32 then b ∷ text else past_front_word text
 
 abbrev pub first_word : List (List ℕ) → Option (List ℕ × List (List ℕ))
 first_word [] = None

@@ -172,8 +172,8 @@ impl<'a> Words<'a> {
 #[inline(always)]
 #[tactic(auto, using(crate::proofs::WordsLeft::divided, std::proofs::lemmas::List::take_rest))]
 fn divided(text: &[u8]) -> (&[u8], &[u8])
-    ensures word { result.0.now ≡ spec.word_of text.now }
-    ensures behind { result.1.now ≡ spec.behind_word text.now }
+    ensures word { result.0.now ≡ spec.front_word text.now }
+    ensures behind { result.1.now ≡ spec.past_front_word text.now }
 {
     let at = word_length(text);
     (&text[..at], &text[at..])
@@ -182,7 +182,7 @@ fn divided(text: &[u8]) -> (&[u8], &[u8])
 // How many bytes the first word of a text has.
 #[inline(always)]
 fn word_length(text: &[u8]) -> usize
-    ensures { result ≡ length (spec.word_of text.now) }
+    ensures { result ≡ length (spec.front_word text.now) }
 {
     let mut at = 0;
     while at < text.len() && text[at] != b' ' {

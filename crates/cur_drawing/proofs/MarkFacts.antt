@@ -13,7 +13,7 @@ use Rattle.cur_drawing.specs.declared.spans.Span.{Span}
 use Rattle.cur_drawing.specs.Cells.{Content, space}
 use Rattle.cur_drawing.specs.Calls.{place}
 use Rattle.cur_drawing.specs.Grids.{Grid, cell_at, copied, drawn_in, is_in, row_of, taken}
-use Rattle.cur_drawing.specs.Marks.{AreSame, AreUnmarked, AreUnmarkedBeside, IsCopiedBut, JoinsLine, JoinsLines, Joins, IsSameIn, IsUnmarked, IsUntouched, Keeps, Marking, MarksOnly, marked_at, marked_between, nothing, widened}
+use Rattle.cur_drawing.specs.Marks.{AreSame, AreUnmarked, AreUnmarkedBeside, IsCopiedBut, JoinsLine, JoinsLines, JoinsMarks, IsSameIn, IsUnmarked, IsUntouched, Keeps, Marking, MarksOnly, marked_at, marked_between, nothing, widened}
 use Rattle.cur_drawing.proofs.ChangedRows.{AreEqualBeside, AreEqualOff}
 
 -- ---- columns of a line that are marked as well
@@ -294,7 +294,7 @@ line_joined m o n row cols s e some le marked others = record {
       | inr past ↦ past
     ]
 
-pub all_joined : (m o n : Marking) (lines : Span) (rows cols : ℕ) → JoinsLines m o lines lines.size cols n → ((i j : ℕ) → i < rows → (i < lines.at) ⊎ (lines.at + lines.size ≤ i) → IsUnmarked o i j) → Joins m o rows cols n
+pub all_joined : (m o n : Marking) (lines : Span) (rows cols : ℕ) → JoinsLines m o lines lines.size cols n → ((i j : ℕ) → i < rows → (i < lines.at) ⊎ (lines.at + lines.size ≤ i) → IsUnmarked o i j) → JoinsMarks m o rows cols n
 all_joined m o n lines rows cols is others = record {
   kept = is.kept;
   joined = λ i j row col u. elim (cases_lt i lines.at) [

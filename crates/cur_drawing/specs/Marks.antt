@@ -99,7 +99,7 @@ pub record JoinsLines (m o : Marking) (lines : Span) (k cols : ℕ) (n : Marking
 
 -- in all lines and columns of a screen: what was marked stays, and no more is marked than from the first to the last
 -- place of a line that was marked in one of them
-pub record Joins (m o : Marking) (rows cols : ℕ) (n : Marking) : Type 0 where
+pub record JoinsMarks (m o : Marking) (rows cols : ℕ) (n : Marking) : Type 0 where
   pub kept : (i j : ℕ) → IsUnmarked n i j → IsUnmarked m i j
   pub joined : (i j : ℕ) → i < rows → j < cols → IsUnmarked n i j → IsUnmarked o i j
   pub only : (i j : ℕ) → AreUnmarkedBeside m o cols i j → IsUnmarked n i j

@@ -1,6 +1,6 @@
 //! Marks at the places of a screen that may differ from another one.
 ghost use Rattle.std.specs.Prelude.{ℕ, ◌≡◌, ◌<◌, ◌≤◌, ◌+◌, ◌⊎◌, IfOk, length, replicate, true, []};
-ghost use Rattle.cur_drawing.specs.Marks.{AreMarkedWithin, IsUnmarked, Joins, JoinsLine, JoinsLines, marked_between, none_marked, nothing, widened};
+ghost use Rattle.cur_drawing.specs.Marks.{AreMarkedWithin, IsUnmarked, JoinsMarks, JoinsLine, JoinsLines, marked_between, none_marked, nothing, widened};
 
 use crate::spans::Span;
 use std::alloc::{AllocError, Global};
@@ -112,7 +112,7 @@ impl Marks {
     /// Marks what other marks have in the first `rows` lines and `cols` columns as well, of each line from its first
     /// mark to its last one.
     pub fn join(&mut self, other: &Marks, rows: u16, cols: u16)
-        ensures { Joins self.old other.now rows cols self.new }
+        ensures { JoinsMarks self.old other.now rows cols self.new }
     {
         join_lines(self, other, other.rows(rows), cols);
     }

@@ -152,6 +152,14 @@ impl Brush {
     }
 }
 
+/// Whether `ink` is of the plain set, and has no attributes and default colours.
+#[inline(always)]
+pub fn is_plain_ink(ink: Ink) -> bool
+    ensures value { result ≡ spec.same spec.blank_ink (record ink { byte = 32 }) }
+{
+    is_same(Ink::blank(), Ink { byte: b' ', ..ink })
+}
+
 /// Whether `a` and `b` are printed in one way with one look.
 pub fn is_same(a: Ink, b: Ink) -> bool
     ensures value { result ≡ spec.same a b }

@@ -20,7 +20,7 @@ mod texts;
 pub use beliefs::{Belief, Mode, Place};
 pub use cells::{blank_tail, brush_as, put_cell};
 pub use erasures::{ErasedPart, erase_at, erase_from, erasing_line};
-pub use inks::{Blank, Brush, Cells, Ink, Picture, byte_as, is_same};
+pub use inks::{Blank, Brush, Cells, Ink, Picture, byte_as, is_plain_ink, is_same};
 pub use modes::show_as;
 pub use reaches::{line_bytes, reach};
 pub use stretches::blank_shown;

@@ -2,7 +2,7 @@
 ghost use Rattle.std.specs.Prelude.{◌≡◌, ◌≤◌, length};
 ghost use Rattle.cur_looks.specs.Stretches.{AreBlank};
 
-use crate::inks::{Ink, is_same};
+use crate::inks::{Ink, is_plain_ink};
 
 /// Notes in `same`, for each of `count` blank cells, whether it is printed like `ink` with the character that `text` has
 /// for it.
@@ -12,7 +12,7 @@ pub fn blank_shown(count: usize, ink: Ink, text: &[u8], same: &mut [bool])
     ensures room { length same.new ≡ length same.old }
     ensures found { AreBlank count ink text.now same.new }
 {
-    let is_plain = is_same(Ink::blank(), Ink { byte: b' ', ..ink });
+    let is_plain = is_plain_ink(ink);
     for n in 0..count {
         same[n] = is_plain & (text[n] == b' ');
     }

@@ -12,7 +12,7 @@ use Rattle.cur_looks.specs.declared.beliefs.Belief.{Belief}
 use Rattle.cur_looks.specs.declared.inks.Ink.{Ink}
 use Rattle.cur_looks.proofs.Sameness.{byte_as_is}
 use Rattle.cur_paint.specs.Differ.{differs, span, IsSameBy}
-use Rattle.cur_paint.specs.Scenes.{AreOf, Mends}
+use Rattle.cur_paint.specs.Scenes.{AreInked, Mends}
 use Rattle.cur_paint.proofs.Mixtures.{span_first, span_grows, span_more, sum_limit, times_grows, agrees_at}
 
 pub first_then : {W T E U F : Type 0} (went : W → W → List ℕ → Type 0) (failures : W → ℕ) → IsWire went failures → (a b c : W) (v : U) (answer : Result T E) (t : Table) (old new : ℕ → ℕ → Ink) (row from n : ℕ) (x y z : Belief)
@@ -50,12 +50,12 @@ piece_short t d few n short le =
     let room : few + 1 ≤ cell_limit t = omega (arith, le) in
     omega (arith, short, times_more d few (cell_limit t) room)
 
-pub are_of : (new : ℕ → ℕ → Ink) (cells : Cells) (like n : ℕ) (ink : Ink) (text : List ℕ) → ink ≡ new cells.row like → AreLike new cells like n text → AreOf new cells ink n text
+pub are_of : (new : ℕ → ℕ → Ink) (cells : Cells) (like n : ℕ) (ink : Ink) (text : List ℕ) → ink ≡ new cells.row like → AreLike new cells like n text → AreInked new cells ink n text
 are_of new cells like n ink text e h k lt =
     subst (λ (z : Ink). new cells.row (cells.from + k) ≡ record z { byte = slice_index_or text k 0 }) (sym e)
     (byte_as_is (new cells.row (cells.from + k)) (new cells.row like) (slice_index_or text k 0) (h k lt))
 
-pub same_by : (old new : ℕ → ℕ → Ink) (cells : Cells) (ink : Ink) (n : ℕ) (text : List ℕ) (marks : List Bool) → AreOf new cells ink n text → AreShown old (record cells { count = n }) ink text marks
+pub same_by : (old new : ℕ → ℕ → Ink) (cells : Cells) (ink : Ink) (n : ℕ) (text : List ℕ) (marks : List Bool) → AreInked new cells ink n text → AreShown old (record cells { count = n }) ink text marks
     → IsSameBy old new cells.row cells.from (take n marks)
 same_by old new cells ink n text marks are shown k lt =
     let within : k < n = omega (arith, lt, length-take n marks) in

@@ -40,8 +40,8 @@ abbrev pub changed : Scene → Cells → ℕ
 changed s cells = span s.old s.new cells.row cells.from cells.count
 
 -- the first n of the cells are to have these characters in the set and the brush of an ink
-abbrev pub AreOf : (ℕ → ℕ → Ink) → Cells → Ink → ℕ → List ℕ → Type 0
-AreOf new cells ink n text = (k : ℕ) → k < n
+abbrev pub AreInked : (ℕ → ℕ → Ink) → Cells → Ink → ℕ → List ℕ → Type 0
+AreInked new cells ink n text = (k : ℕ) → k < n
     → new cells.row (cells.from + k) ≡ record ink { byte = slice_index_or text k 0 }
 
 -- there are no more of the cells than bytes may go out for those that differ

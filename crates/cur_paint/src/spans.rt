@@ -3,7 +3,7 @@ ghost use Rattle.std.specs.Prelude.{◌≡◌, ◌+◌, ◌*◌, ◌<◌, ◌≤
 ghost use Rattle.cur_looks.specs.Gaps.{IsAlike};
 ghost use Rattle.cur_looks.specs.declared.inks.Ink.{Ink};
 ghost use Rattle.cur_paint.specs.Differ.{differs, span, IsSameBy};
-ghost use Rattle.cur_paint.specs.Scenes.{AreOf, IsIdle, IsOn, IsPaintable, IsShort, MendsCell, MendsCells, changed, scene};
+ghost use Rattle.cur_paint.specs.Scenes.{AreInked, IsIdle, IsOn, IsPaintable, IsShort, MendsCell, MendsCells, changed, scene};
 
 use crate::screens::Screens;
 use cur_looks::{
@@ -106,7 +106,7 @@ fn piece_of<C: Certificate, O: Picture, N: Picture>(
     requires room { length text.old ≤ 512 }
     ensures within { result ≤ cells.count }
     ensures room { result ≤ length text.new }
-    ensures cells { AreOf (N.cells screens.now.new.now) cells ink result text.new }
+    ensures cells { AreInked (N.cells screens.now.new.now) cells ink result text.new }
     ensures bytes { IsShort (scene C.table O.cells N.cells screens.now) (record cells { count = result }) }
 {
     if cells.count == 0 {
@@ -148,7 +148,7 @@ fn print_alike<C: Certificate, O: Picture, N: Picture, W: Wire>(
     requires scene { IsPaintable (scene C.table O.cells N.cells screens.now) }
     requires cells { IsOn (C.table screens.now.checked.now) cells }
     requires long { cells.count ≤ length text.now }
-    requires alike { AreOf (N.cells screens.now.new.now) cells ink cells.count text.now }
+    requires alike { AreInked (N.cells screens.now.new.now) cells ink cells.count text.now }
     requires bytes { IsShort (scene C.table O.cells N.cells screens.now) cells }
     ensures idle { IsIdle result (changed (scene C.table O.cells N.cells screens.now) cells) belief.old belief.new }
     ensures step { MendsCells W.went W.failures wire.old wire.new result (scene C.table O.cells N.cells screens.now)

@@ -7,7 +7,7 @@ use Rattle.cur_drawing.specs.Grids.{Grid}
 use Rattle.cur_drawing.specs.Windows.{WindowStep}
 use Rattle.cur_windows.specs.declared.slots.Origin.{Origin}
 use Rattle.cur_windows.specs.Desks.{State, DeskStep, after, on_cursor, on_screen, slot_of, step, unchanged}
-use Rattle.cur_windows.specs.Touched.{IsShownBut, KeepsShown, Markings, ShowsBut, marks_of}
+use Rattle.cur_windows.specs.Touched.{IsShownBut, KeepsShown, Markings, ShowsBut, grid_marks}
 use Rattle.cur_calls.specs.declared.groups.AttrsCall.{AttrsCall}
 use Rattle.cur_calls.specs.declared.groups.AttrsCall.TheVariants.{Attron, Attroff, Attrset}
 use Rattle.cur_calls.specs.declared.groups.FlagCall.{FlagCall}
@@ -31,7 +31,7 @@ after_same (Err e) d next same = refl
 -- what isn't marked is the same in a desk of the same grids
 keeps_ground : (t : Markings) (d e : State) → ground e ≡ ground d → KeepsShown t d t e
 keeps_ground t d e is v shown =
-    subst (λ (x : Ground). (k : ℕ) → (get_or x.1 k (on_screen 0 0 false)).pad ≡ false → IsShownBut (marks_of t k) (get_or x.1 k (on_screen 0 0 false)) (get_or x.0 k []) v) (sym is) shown
+    subst (λ (x : Ground). (k : ℕ) → (get_or x.1 k (on_screen 0 0 false)).pad ≡ false → IsShownBut (grid_marks t k) (get_or x.1 k (on_screen 0 0 false)) (get_or x.0 k []) v) (sym is) shown
 
 pub keeps_on_cursor : (t : Markings) (d e : State) (n : ℕ) (act : Window → WindowStep) (r : Result (Unit {0}) Refusal) → step e r ≡ on_cursor d n act → KeepsShown t d t e
 keeps_on_cursor t d e n act r is = keeps_ground t d e (ap ground_of is ∙ after_same (slot_of d n) d _ (λ s. refl))

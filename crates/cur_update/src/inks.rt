@@ -100,14 +100,6 @@ pub(crate) fn is_plain(cell: Cell, colors: (Option<u8>, Option<u8>)) -> bool
     cell.attrs() == Attrs::none() && colors.0.is_none() && colors.1.is_none()
 }
 
-/// Whether an ink is of the plain set, and has no attributes and default colours.
-#[inline(always)]
-pub(crate) fn is_plain_ink(ink: Ink) -> bool
-    ensures { result ≡ same blank_ink (record ink { byte = 32 }) }
-{
-    is_same(Ink::blank(), Ink { byte: b' ', ..ink })
-}
-
 /// A character of no attributes and default colours.
 #[inline(always)]
 fn plain_ink(byte: u8) -> Ink

@@ -6,11 +6,10 @@ ghost use Rattle.cur_looks.specs.Stretches.{AreLike};
 ghost use Rattle.cur_update.specs.Inks.{content_at, ink_at_with, printed_cell};
 
 use crate::inks::{
-    Means, ink_of, is_blank_ink, is_other, is_plain, is_plain_ink, plain_byte, plain_text,
-    shows_ink,
+    Means, ink_of, is_blank_ink, is_other, is_plain, plain_byte, plain_text, shows_ink,
 };
 use cur_drawing::Cell;
-use cur_looks::{Cells, Ink, Picture, byte_as, is_same};
+use cur_looks::{Cells, Ink, Picture, byte_as, is_plain_ink, is_same};
 use cur_windows::Virtual;
 use ti_conforms::Certificate;
 

@@ -15,7 +15,7 @@ use Rattle.cur_drawing.specs.Calls.{Canvas, CanvasStep, IsCanvas, IsKept, canvas
 use Rattle.cur_drawing.specs.Grids.{Grid, Fits, cell_at, copied, is_in, line_at, shape_of, taken}
 use Rattle.cur_drawing.specs.Laws.{ChangesNothingIfRefusedButNoScroll, IsLocal, Stays}
 use Rattle.cur_drawing.specs.declared.marks.Marked.{Marked}
-use Rattle.cur_drawing.specs.Marks.{AreSame, IsUnmarked, Joins, Marking, marked_at, marked_between, none_marked, nothing, widened}
+use Rattle.cur_drawing.specs.Marks.{AreSame, IsUnmarked, JoinsMarks, Marking, marked_at, marked_between, none_marked, nothing, widened}
 use Rattle.cur_drawing.specs.declared.refusals.Refusal.TheVariants.{Full}
 use Rattle.cur_drawing.proofs.DrawingFacts.{shape_of-line, shape_of-length}
 use Rattle.cur_windows.proofs.WrittenLines.{Writes, Writing}
@@ -25,7 +25,7 @@ use Rattle.cur_windows.specs.Desks as desks
 use Rattle.cur_windows.specs.Desks.{DeskStep, IsDesk, IsFramed, IsPlaced, IsWhole, State, after, grid_at, on_grid, on_screen, on_window, origin_at, slot_of, some_slot, window_at}
 use Rattle.cur_windows.specs.VirtualScreen.{IsScreen, Screen, area_on_screen}
 use Rattle.cur_drawing.specs.declared.refusals.Refusal.TheVariants.{NoScroll}
-use Rattle.cur_windows.specs.Touched.{AreFull, FillsGrid, HasAll, IsCleared, IsGoneThrough, IsShownBut, KeepsShown, LeavesMarks, IsTouched, IsWrittenLine, Markings, MarksCopied, MarksWindow, MarksWritten, ShowsBut, Spreads, TouchesGrid, WritesLine, lines_shown, marks_of}
+use Rattle.cur_windows.specs.Touched.{AreFull, FillsGrid, HasAll, TakesMarksOff, IsGoneThrough, IsShownBut, KeepsShown, LeavesMarks, IsTouched, IsWrittenLine, Markings, MarksCopied, MarksWindow, MarksWritten, ShowsBut, Spreads, TouchesGrid, WritesLine, lines_shown, grid_marks}
 
 -- ---- writing
 
@@ -58,10 +58,10 @@ pub shown_full : (m : Marking) (o : Origin) (g v : Grid) → m.all ≡ true → 
 shown_full m o g v all i j row col off = absurd (let some = off.some in cc)
 
 pub shows_full : (t : Markings) (d : State) (v : Grid) → AreFull t → ShowsBut t d v
-shows_full t d v full k lies = shown_full (marks_of t k) (origin_at d k) (grid_at d k) v (full k)
+shows_full t d v full k lies = shown_full (grid_marks t k) (origin_at d k) (grid_at d k) v (full k)
 
 -- a grid without marks
-pub past_full : (t : Markings) (k : ℕ) → length t ≤ k → (marks_of t k).all ≡ true
+pub past_full : (t : Markings) (k : ℕ) → length t ≤ k → (grid_marks t k).all ≡ true
 past_full t k past = ap (λ (m : Marking). m.all) (get_or_past t k (record { all = true; lines = [] }) past)
 
 -- what isn't marked after a call wasn't before, and is as it was on the grid
@@ -71,9 +71,9 @@ pub record Spares (m n : Marking) (o : Origin) (g h : Grid) : Type 0 where
 
 -- the same of the grid of a window, unless it is a pad's, and nothing of any other has changed
 pub record SparesGrid (t u : Markings) (d : State) (slot : Slot) (h : Grid) : Type 0 where
-  pub grid : (origin_at d slot.root).pad ≡ false → slot.root < length t → Spares (marks_of t slot.root) (marks_of u slot.root) (origin_at d slot.root) (grid_at d slot.root) h
+  pub grid : (origin_at d slot.root).pad ≡ false → slot.root < length t → Spares (grid_marks t slot.root) (grid_marks u slot.root) (origin_at d slot.root) (grid_at d slot.root) h
   pub none : length t ≤ slot.root → u ≡ t
-  pub others : (k : ℕ) → k ≢ slot.root → marks_of u k ≡ marks_of t k
+  pub others : (k : ℕ) → k ≢ slot.root → grid_marks u k ≡ grid_marks t k
 
 -- the grid that is written
 same_written : (d : State) (ws : List (Option Slot)) (slot : Slot) (h : Grid) (m n : Marking) (v : Grid) → slot.root < length d.grids → shape_of h ≡ shape_of (grid_at d slot.root) → Spares m n (origin_at d slot.root) (grid_at d slot.root) h →
@@ -90,15 +90,15 @@ other_written d ws slot h m v k apart shown = subst (λ (x : Grid). IsShownBut m
 
 pub slot_spared : (d : State) (ws : List (Option Slot)) (slot : Slot) (h : Grid) (t u : Markings) → slot.root < length d.grids → shape_of h ≡ shape_of (grid_at d slot.root) → SparesGrid t u d slot h → KeepsShown t d u (with_grid d slot h ws)
 slot_spared d ws slot h t u lt shape spares v shown k = elim (cases_eq k slot.root) [
-  | inl same ↦ subst (λ (n : ℕ). (origin_at d n).pad ≡ false → IsShownBut (marks_of u n) (origin_at d n) (grid_at (with_grid d slot h ws) n) v) (sym same) there
-  | inr apart ↦ λ lies. subst (λ (m : Marking). IsShownBut m (origin_at d k) (grid_at (with_grid d slot h ws) k) v) (sym (spares.others k apart)) (other_written d ws slot h (marks_of t k) v k apart (shown k lies))
+  | inl same ↦ subst (λ (n : ℕ). (origin_at d n).pad ≡ false → IsShownBut (grid_marks u n) (origin_at d n) (grid_at (with_grid d slot h ws) n) v) (sym same) there
+  | inr apart ↦ λ lies. subst (λ (m : Marking). IsShownBut m (origin_at d k) (grid_at (with_grid d slot h ws) k) v) (sym (spares.others k apart)) (other_written d ws slot h (grid_marks t k) v k apart (shown k lies))
 ]
   where
-    there : (origin_at d slot.root).pad ≡ false → IsShownBut (marks_of u slot.root) (origin_at d slot.root) (grid_at (with_grid d slot h ws) slot.root) v
+    there : (origin_at d slot.root).pad ≡ false → IsShownBut (grid_marks u slot.root) (origin_at d slot.root) (grid_at (with_grid d slot h ws) slot.root) v
     there lies = elim (cases_lt slot.root (length t)) [
-      | inl some ↦ same_written d ws slot h (marks_of t slot.root) (marks_of u slot.root) v lt shape (spares.grid lies some) (shown slot.root lies)
-      | inr past ↦ shown_full (marks_of u slot.root) (origin_at d slot.root) (grid_at (with_grid d slot h ws) slot.root) v
-          (ap (λ (x : Markings). (marks_of x slot.root).all) (spares.none past) ∙ past_full t slot.root past)
+      | inl some ↦ same_written d ws slot h (grid_marks t slot.root) (grid_marks u slot.root) v lt shape (spares.grid lies some) (shown slot.root lies)
+      | inr past ↦ shown_full (grid_marks u slot.root) (origin_at d slot.root) (grid_at (with_grid d slot h ws) slot.root) v
+          (ap (λ (x : Markings). (grid_marks x slot.root).all) (spares.none past) ∙ past_full t slot.root past)
     ]
 
 -- a call that writes on the window of a number
@@ -116,7 +116,7 @@ touched_by d now ws n s w g h t u o act r writing local e is placed at value kep
     let spares : SparesGrid t u d (record s { window = w }) h = record {
       grid = λ lies some. record {
         kept = (touches.grid lies some).kept;
-        same = unchanged (canvas (grid_at d s.root) s.window) h (marks_of t s.root) (marks_of u s.root) w (origin_at d s.root) (subst (λ (x : Grid). Writes (canvas x s.window) (canvas h w)) read writes)
+        same = unchanged (canvas (grid_at d s.root) s.window) h (grid_marks t s.root) (grid_marks u s.root) w (origin_at d s.root) (subst (λ (x : Grid). Writes (canvas x s.window) (canvas h w)) read writes)
             (subst (λ (x : Grid). Stays (canvas x s.window) (canvas h w)) read stays) (touches.grid lies some);
       };
       none = touches.none;
@@ -144,10 +144,10 @@ left_by d now ws n s w g h t u act r back e is placed at value left v shown =
 -- where a grid was changed
 grid_filled : (d e : State) (s : Slot) (h : Grid) (t u : Markings) → e.grids ≡ set d.grids s.root h → e.origins ≡ d.origins → FillsGrid t u s.root → KeepsShown t d u e
 grid_filled d e s h t u grids origins fills v shown k =
-    subst (λ (os : List Origin). (get_or os k (on_screen 0 0 false)).pad ≡ false → IsShownBut (marks_of u k) (get_or os k (on_screen 0 0 false)) (grid_at e k) v) (sym origins)
-    (subst (λ (gs : List Grid). (origin_at d k).pad ≡ false → IsShownBut (marks_of u k) (origin_at d k) (get_or gs k []) v) (sym grids) (λ lies. elim (cases_eq k s.root) [
-      | inl same ↦ shown_full (marks_of u k) (origin_at d k) (get_or (set d.grids s.root h) k []) v (ap (λ (n : ℕ). (marks_of u n).all) same ∙ fills.full)
-      | inr apart ↦ subst (λ (m : Marking). IsShownBut m (origin_at d k) (get_or (set d.grids s.root h) k []) v) (sym (fills.others k apart)) (other_written d d.windows s h (marks_of t k) v k apart (shown k lies))
+    subst (λ (os : List Origin). (get_or os k (on_screen 0 0 false)).pad ≡ false → IsShownBut (grid_marks u k) (get_or os k (on_screen 0 0 false)) (grid_at e k) v) (sym origins)
+    (subst (λ (gs : List Grid). (origin_at d k).pad ≡ false → IsShownBut (grid_marks u k) (origin_at d k) (get_or gs k []) v) (sym grids) (λ lies. elim (cases_eq k s.root) [
+      | inl same ↦ shown_full (grid_marks u k) (origin_at d k) (get_or (set d.grids s.root h) k []) v (ap (λ (n : ℕ). (grid_marks u n).all) same ∙ fills.full)
+      | inr apart ↦ subst (λ (m : Marking). IsShownBut m (origin_at d k) (get_or (set d.grids s.root h) k []) v) (sym (fills.others k apart)) (other_written d d.windows s h (grid_marks t k) v k apart (shown k lies))
     ]))
 
 after_filled : (x : Result Slot Refusal) (t u : Markings) (d e : State) (r : Result (Unit {0}) Refusal) (next : Slot → DeskStep) (drawn : Slot → Grid) → ((s : Slot) → (next s).0.grids ≡ set d.grids s.root (drawn s)) → ((s : Slot) → (next s).0.origins ≡ d.origins) →
@@ -220,10 +220,10 @@ slot_there e ws n t small lt at =
 
 -- no other line of a window's grid is marked as well than one in which the window may have been written from a line on
 pub record MarksLess (t u : Markings) (s : Slot) (o : Origin) (first : ℕ) : Type 0 where
-  pub only : o.pad ≡ false → s.root < length t → (i j : ℕ) → IsUnmarked (marks_of t s.root) i j → (IsWrittenLine s.window o first i → ⊥) → IsUnmarked (marks_of u s.root) i j
+  pub only : o.pad ≡ false → s.root < length t → (i j : ℕ) → IsUnmarked (grid_marks t s.root) i j → (IsWrittenLine s.window o first i → ⊥) → IsUnmarked (grid_marks u s.root) i j
   pub pad : o.pad ≡ true → u ≡ t
   pub none : length t ≤ s.root → u ≡ t
-  pub others : (k : ℕ) → k ≢ s.root → marks_of u k ≡ marks_of t k
+  pub others : (k : ℕ) → k ≢ s.root → grid_marks u k ≡ grid_marks t k
 
 pub written_within : (d now e : State) (n : ℕ) (s : Slot) (w : Window) (t u : Markings) (o : Origin) → d ≡ now → IsDesk d → (n < 64) × (window_at now n ≡ Some s) → Ok s ≡ slot_of now n →
     e.windows ≡ set d.windows n (Some (record s { window = w })) → o ≡ origin_at now s.root → MarksLess t u (record s { window = w }) o s.window.row → MarksWritten t u now e n
@@ -242,13 +242,13 @@ written_within d now e n s w t u o is desk there before at lies touched = record
         (subst (λ (r : Result Slot Refusal). WritesLine k now (Ok s) r i) (sym (slot_there e d.windows n new there.0 (omega (arith, there.0, desk.windows)) at))
         (record { root = root; lies = subst (λ (x : Origin). x.pad ≡ false) lies lie; line = subst (λ (x : Origin). IsWrittenLine w x s.window.row i) lies line }))
 
-    left : (k i j : ℕ) → IsUnmarked (marks_of t k) i j → u ≡ t → IsUnmarked (marks_of u k) i j
-    left k i j off same = subst (λ (x : Markings). IsUnmarked (marks_of x k) i j) (sym same) off
+    left : (k i j : ℕ) → IsUnmarked (grid_marks t k) i j → u ≡ t → IsUnmarked (grid_marks u k) i j
+    left k i j off same = subst (λ (x : Markings). IsUnmarked (grid_marks x k) i j) (sym same) off
 
-    by_pad : (k i j : ℕ) → IsUnmarked (marks_of t k) i j → (WritesLine k now (slot_of now n) (slot_of e n) i → ⊥) → (b : Bool) → o.pad ≡ b → k ≡ s.root → IsUnmarked (marks_of u k) i j
+    by_pad : (k i j : ℕ) → IsUnmarked (grid_marks t k) i j → (WritesLine k now (slot_of now n) (slot_of e n) i → ⊥) → (b : Bool) → o.pad ≡ b → k ≡ s.root → IsUnmarked (grid_marks u k) i j
     by_pad k i j off not true pad same = left k i j off (touched.pad pad)
     by_pad k i j off not false lie same = elim (cases_lt s.root (length t)) [
-      | inl some ↦ subst (λ (x : ℕ). IsUnmarked (marks_of u x) i j) (sym same) (touched.only lie some i j (subst (λ (x : ℕ). IsUnmarked (marks_of t x) i j) same off) (λ line. not (writes k i (sym same) lie line)))
+      | inl some ↦ subst (λ (x : ℕ). IsUnmarked (grid_marks u x) i j) (sym same) (touched.only lie some i j (subst (λ (x : ℕ). IsUnmarked (grid_marks t x) i j) same off) (λ line. not (writes k i (sym same) lie line)))
       | inr past ↦ left k i j off (touched.none past)
     ]
 
@@ -258,7 +258,7 @@ written_by d now e n s w t u o is desk there before at lies touched = written_wi
     (record { only = λ lie some. (touched.grid lie some).only; pad = touched.pad; none = touched.none; others = touched.others })
 
 pub left_unmarked : (d e : State) (n : ℕ) (t u : Markings) (r : Result (Unit {0}) Refusal) → LeavesMarks t u r → MarksWritten t u d e n
-left_unmarked d e n t u r left = record { only = λ k i j off not. subst (λ (x : Markings). IsUnmarked (marks_of x k) i j) (sym left.same) off }
+left_unmarked d e n t u r left = record { only = λ k i j off not. subst (λ (x : Markings). IsUnmarked (grid_marks x k) i j) (sym left.same) off }
 
 -- ---- copying
 
@@ -318,63 +318,63 @@ all_copied m d s a v h at low right framed whole all legal rows cols is =
         low right row col framed.rows (framed.cols i row) beside
 
 -- the grid of another window, for which the screen's marks are marked as well
-pub other_copied : (m n o : Marking) (rows cols : ℕ) (p : Origin) (g v h : Grid) → Joins m o rows cols n → AreSame o v h → p.top + length g ≤ rows → ((i : ℕ) → i < length g → p.left + length (line_at g i) ≤ cols) → IsShownBut m p g v → IsShownBut n p g h
+pub other_copied : (m n o : Marking) (rows cols : ℕ) (p : Origin) (g v h : Grid) → JoinsMarks m o rows cols n → AreSame o v h → p.top + length g ≤ rows → ((i : ℕ) → i < length g → p.left + length (line_at g i) ≤ cols) → IsShownBut m p g v → IsShownBut n p g h
 other_copied m n o rows cols p g v h is same high wide shown i j row col off =
     sym (same (p.top + i) (p.left + j) (is.joined (p.top + i) (p.left + j) (omega (arith, high, row)) (omega (arith, wide i row, col)) off)) ∙ shown i j row col (is.kept (p.top + i) (p.left + j) off)
 
 -- the marks of a grid that a window was copied of
-marks_part : (t x u : Markings) (root : ℕ) (o : Marking) (rows cols : ℕ) (whole : Bool) → Spreads t x root o rows cols → IsCleared x u root whole → (whole ≡ false) ⊎ (length t ≤ root) → marks_of u root ≡ marks_of t root
+marks_part : (t x u : Markings) (root : ℕ) (o : Marking) (rows cols : ℕ) (whole : Bool) → Spreads t x root o rows cols → TakesMarksOff x u root whole → (whole ≡ false) ⊎ (length t ≤ root) → grid_marks u root ≡ grid_marks t root
 marks_part t x u root o rows cols whole spread cleared side =
-    ap (λ (y : Markings). marks_of y root) (elim side [ inl part ↦ cleared.part part | inr past ↦ cleared.past (omega (arith, past, spread.size)) ]) ∙ spread.same
+    ap (λ (y : Markings). grid_marks y root) (elim side [ inl part ↦ cleared.part part | inr past ↦ cleared.past (omega (arith, past, spread.size)) ]) ∙ spread.same
 
-marks_whole : (t x u : Markings) (root : ℕ) (o : Marking) (rows cols : ℕ) (whole : Bool) → Spreads t x root o rows cols → IsCleared x u root whole → whole ≡ true → root < length t → marks_of u root ≡ none_marked (length (marks_of t root).lines)
+marks_whole : (t x u : Markings) (root : ℕ) (o : Marking) (rows cols : ℕ) (whole : Bool) → Spreads t x root o rows cols → TakesMarksOff x u root whole → whole ≡ true → root < length t → grid_marks u root ≡ none_marked (length (grid_marks t root).lines)
 marks_whole t x u root o rows cols whole spread cleared is lt =
-    ap (λ (y : Markings). marks_of y root) (cleared.there is (omega (arith, lt, spread.size)))
-    ∙ get_or-set_same x root (none_marked (length (marks_of x root).lines)) (record { all = true; lines = [] }) (omega (arith, lt, spread.size))
+    ap (λ (y : Markings). grid_marks y root) (cleared.there is (omega (arith, lt, spread.size)))
+    ∙ get_or-set_same x root (none_marked (length (grid_marks x root).lines)) (record { all = true; lines = [] }) (omega (arith, lt, spread.size))
     ∙ ap (λ (m : Marking). none_marked (length m.lines)) spread.same
 
 -- those of another one
-marks_other : (x u : Markings) (root k : ℕ) (whole : Bool) → IsCleared x u root whole → k ≢ root → marks_of u k ≡ marks_of x k
+marks_other : (x u : Markings) (root k : ℕ) (whole : Bool) → TakesMarksOff x u root whole → k ≢ root → grid_marks u k ≡ grid_marks x k
 marks_other x u root k whole cleared apart = elim (cases_lt root (length x)) [
   | inl lt ↦ at whole refl lt
-  | inr past ↦ ap (λ (y : Markings). marks_of y k) (cleared.past past)
+  | inr past ↦ ap (λ (y : Markings). grid_marks y k) (cleared.past past)
 ]
   where
-    at : (b : Bool) → whole ≡ b → root < length x → marks_of u k ≡ marks_of x k
-    at true is lt = ap (λ (y : Markings). marks_of y k) (cleared.there is lt) ∙ get_or-set_other x root k (none_marked (length (marks_of x root).lines)) (record { all = true; lines = [] }) apart
-    at false is lt = ap (λ (y : Markings). marks_of y k) (cleared.part is)
+    at : (b : Bool) → whole ≡ b → root < length x → grid_marks u k ≡ grid_marks x k
+    at true is lt = ap (λ (y : Markings). grid_marks y k) (cleared.there is lt) ∙ get_or-set_other x root k (none_marked (length (grid_marks x root).lines)) (record { all = true; lines = [] }) apart
+    at false is lt = ap (λ (y : Markings). grid_marks y k) (cleared.part is)
 
-pub marks_copied : (t x u : Markings) (o : Marking) (d : State) (s : Slot) (whole : Bool) → Spreads t x s.root o d.rows d.cols → IsCleared x u s.root whole → (whole ≡ true → HasAll d s) → (whole ≡ false → HasAll d s → ⊥) → MarksCopied t u o d s
+pub marks_copied : (t x u : Markings) (o : Marking) (d : State) (s : Slot) (whole : Bool) → Spreads t x s.root o d.rows d.cols → TakesMarksOff x u s.root whole → (whole ≡ true → HasAll d s) → (whole ≡ false → HasAll d s → ⊥) → MarksCopied t u o d s
 marks_copied t x u o d s whole spread cleared there part = record {
   whole = λ lt all. at whole refl lt all;
   part = λ not. none whole refl not;
   others = λ k i j apart side. subst (λ (m : Marking). IsUnmarked m i j) (sym (marks_other x u s.root k whole cleared apart)) ((spread.others k apart).only i j side);
 }
   where
-    at : (b : Bool) → whole ≡ b → s.root < length t → HasAll d s → marks_of u s.root ≡ none_marked (length (marks_of t s.root).lines)
+    at : (b : Bool) → whole ≡ b → s.root < length t → HasAll d s → grid_marks u s.root ≡ none_marked (length (grid_marks t s.root).lines)
     at true is lt all = marks_whole t x u s.root o d.rows d.cols whole spread cleared is lt
     at false is lt all = absurd (part is all)
 
-    none : (b : Bool) → whole ≡ b → (HasAll d s → ⊥) → marks_of u s.root ≡ marks_of t s.root
+    none : (b : Bool) → whole ≡ b → (HasAll d s → ⊥) → grid_marks u s.root ≡ grid_marks t s.root
     none true is not = absurd (not (there is))
     none false is not = marks_part t x u s.root o d.rows d.cols whole spread cleared (inl is)
 
-pub slot_copied : (t x u : Markings) (o : Marking) (d : State) (s : Slot) (v : Screen) (h : Grid) (whole : Bool) → IsDesk d → (s.parent ≡ None → IsWhole s.window.area (grid_at d s.root)) → Spreads t x s.root o d.rows d.cols → IsCleared x u s.root whole →
+pub slot_copied : (t x u : Markings) (o : Marking) (d : State) (s : Slot) (v : Screen) (h : Grid) (whole : Bool) → IsDesk d → (s.parent ≡ None → IsWhole s.window.area (grid_at d s.root)) → Spreads t x s.root o d.rows d.cols → TakesMarksOff x u s.root whole →
     (whole ≡ true → HasAll d s) → AreSame o v.grid h → (area_on_screen d s).top + (area_on_screen d s).rows ≤ d.rows → (area_on_screen d s).left + (area_on_screen d s).cols ≤ d.cols → IsScreen v → v.rows ≡ d.rows → v.cols ≡ d.cols →
     h ≡ copied (area_on_screen d s) (place s.window.area.top s.window.area.left) (grid_at d s.root) v.grid → (origin_at d s.root).pad ≡ false → ShowsBut t d v.grid → ShowsBut u d h
 slot_copied t x u o d s v h whole desk own spread cleared there same low right legal rows cols is window shown k = elim (cases_eq k s.root) [
-  | inl same ↦ subst (λ (n : ℕ). (origin_at d n).pad ≡ false → IsShownBut (marks_of u n) (origin_at d n) (grid_at d n) h) (sym same) (λ lies. here)
+  | inl same ↦ subst (λ (n : ℕ). (origin_at d n).pad ≡ false → IsShownBut (grid_marks u n) (origin_at d n) (grid_at d n) h) (sym same) (λ lies. here)
   | inr apart ↦ λ lies. subst (λ (m : Marking). IsShownBut m (origin_at d k) (grid_at d k) h) (sym (marks_other x u s.root k whole cleared apart))
-      (other_copied (marks_of t k) (marks_of x k) o d.rows d.cols (origin_at d k) (grid_at d k) v.grid h (spread.others k apart) same (desk.framed k lies).rows (desk.framed k lies).cols (shown k lies))
+      (other_copied (grid_marks t k) (grid_marks x k) o d.rows d.cols (origin_at d k) (grid_at d k) v.grid h (spread.others k apart) same (desk.framed k lies).rows (desk.framed k lies).cols (shown k lies))
 ]
   where
-    still : marks_of u s.root ≡ marks_of t s.root → IsShownBut (marks_of u s.root) (origin_at d s.root) (grid_at d s.root) h
+    still : grid_marks u s.root ≡ grid_marks t s.root → IsShownBut (grid_marks u s.root) (origin_at d s.root) (grid_at d s.root) h
     still e = subst (λ (m : Marking). IsShownBut m (origin_at d s.root) (grid_at d s.root) h) (sym e)
-        (part_copied (marks_of t s.root) d s (area_on_screen d s) v h refl low right legal rows cols is (shown s.root window))
+        (part_copied (grid_marks t s.root) d s (area_on_screen d s) v h refl low right legal rows cols is (shown s.root window))
 
-    at : (b : Bool) → whole ≡ b → IsShownBut (marks_of u s.root) (origin_at d s.root) (grid_at d s.root) h
-    at true e = all_copied (marks_of u s.root) d s (area_on_screen d s) v h refl low right (desk.framed s.root window) own (there e) legal rows cols is
+    at : (b : Bool) → whole ≡ b → IsShownBut (grid_marks u s.root) (origin_at d s.root) (grid_at d s.root) h
+    at true e = all_copied (grid_marks u s.root) d s (area_on_screen d s) v h refl low right (desk.framed s.root window) own (there e) legal rows cols is
     at false e = still (marks_part t x u s.root o d.rows d.cols whole spread cleared (inl e))
 
-    here : IsShownBut (marks_of u s.root) (origin_at d s.root) (grid_at d s.root) h
+    here : IsShownBut (grid_marks u s.root) (origin_at d s.root) (grid_at d s.root) h
     here = at whole refl

@@ -7,7 +7,7 @@ use Rattle.cur_drawing.specs.declared.refusals.Refusal.TheVariants.{NoScroll}
 use Rattle.cur_drawing.specs.declared.windows.Window.{Window}
 use Rattle.cur_drawing.specs.Grids.{Grid, cell_at, is_in, line_at}
 use Rattle.cur_drawing.specs.Windows.{is_pair, is_printed}
-use Rattle.cur_drawing.specs.Marks.{AreUnmarkedBeside, IsUnmarked, Joins, Marking, none_marked}
+use Rattle.cur_drawing.specs.Marks.{AreUnmarkedBeside, IsUnmarked, JoinsMarks, Marking, none_marked}
 use Rattle.cur_windows.specs.declared.slots.Origin.{Origin}
 use Rattle.cur_windows.specs.declared.slots.Slot.{Slot}
 use Rattle.cur_windows.specs.Desks.{State, grid_at, origin_at, slot_of}
@@ -17,8 +17,8 @@ abbrev pub Markings : Type 0
 Markings = List Marking
 
 -- all of a grid is marked that has no marks
-abbrev pub marks_of : Markings → ℕ → Marking
-marks_of t k = slice_index_or t k (record { all = true; lines = [] })
+abbrev pub grid_marks : Markings → ℕ → Marking
+grid_marks t k = slice_index_or t k (record { all = true; lines = [] })
 
 -- a screen has the cells of a grid, where that lies on it, in each place that isn't marked
 abbrev pub IsShownBut : Marking → Origin → Grid → Grid → Type 0
@@ -29,7 +29,7 @@ IsShownBut m o g v =
 -- a screen has the cells of each grid, but for what is marked for it; a pad's lies nowhere
 abbrev pub ShowsBut : Markings → State → Grid → Type 0
 ShowsBut t d v =
-    (k : ℕ) → (origin_at d k).pad ≡ false → IsShownBut (marks_of t k) (origin_at d k) (grid_at d k) v
+    (k : ℕ) → (origin_at d k).pad ≡ false → IsShownBut (grid_marks t k) (origin_at d k) (grid_at d k) v
 
 -- What was shown but for the one's marks on the one desk is shown but for the other's on the other desk. So what was
 -- marked stays marked, and each place in which grids differ is marked.
@@ -38,13 +38,13 @@ KeepsShown t d u e = (v : Grid) → ShowsBut t d v → ShowsBut u e v
 
 -- all places of all grids are marked
 abbrev pub AreFull : Markings → Type 0
-AreFull t = (k : ℕ) → (marks_of t k).all ≡ true
+AreFull t = (k : ℕ) → (grid_marks t k).all ≡ true
 
 -- they are marked as well
 pub record FillsAll (t u : Markings) : Type 0 where
   pub size : length u ≡ length t
   pub full : AreFull u
-  pub lines : (k : ℕ) → (marks_of u k).lines ≡ (marks_of t k).lines
+  pub lines : (k : ℕ) → (grid_marks u k).lines ≡ (grid_marks t k).lines
 
 -- a grid of which all is marked, on a screen of so many lines
 abbrev pub all_marked : ℕ → Marking
@@ -91,10 +91,10 @@ pub record TouchesGrid (m n : Marking) (w : Window) (o : Origin) (first : ℕ) :
 
 -- those of the window's grid, unless it is a pad's, and no others
 pub record IsTouched (t u : Markings) (s : Slot) (o : Origin) (first : ℕ) : Type 0 where
-  pub grid : o.pad ≡ false → s.root < length t → TouchesGrid (marks_of t s.root) (marks_of u s.root) s.window o first
+  pub grid : o.pad ≡ false → s.root < length t → TouchesGrid (grid_marks t s.root) (grid_marks u s.root) s.window o first
   pub pad : o.pad ≡ true → u ≡ t
   pub none : length t ≤ s.root → u ≡ t
-  pub others : (k : ℕ) → k ≢ s.root → marks_of u k ≡ marks_of t k
+  pub others : (k : ℕ) → k ≢ s.root → grid_marks u k ≡ grid_marks t k
 
 -- (Serves the code alone.) a character becomes one cell of the cursor's line, and isn't in its last column
 pub record IsOneCell (w : Window) (p : Put) : Type 0 where
@@ -124,10 +124,10 @@ pub record MarksCells (m n : Marking) (o : Origin) (w : Window) (col count : ℕ
 
 -- (Serves the code alone.) the same of the window's grid, unless it is a pad's, and of no other
 pub record AreTouched (t u : Markings) (s : Slot) (o : Origin) (col count : ℕ) : Type 0 where
-  pub grid : o.pad ≡ false → s.root < length t → MarksCells (marks_of t s.root) (marks_of u s.root) o s.window col count
+  pub grid : o.pad ≡ false → s.root < length t → MarksCells (grid_marks t s.root) (grid_marks u s.root) o s.window col count
   pub pad : o.pad ≡ true → u ≡ t
   pub none : length t ≤ s.root → u ≡ t
-  pub others : (k : ℕ) → k ≢ s.root → marks_of u k ≡ marks_of t k
+  pub others : (k : ℕ) → k ≢ s.root → grid_marks u k ≡ grid_marks t k
 
 -- a call was refused, and not by NoScroll, which it may answer after it has written; the marks are as they were
 pub record LeavesMarks (t u : Markings) (r : Result (Unit {0}) Refusal) : Type 0 where
@@ -137,8 +137,9 @@ pub record LeavesMarks (t u : Markings) (r : Result (Unit {0}) Refusal) : Type 0
 
 -- all places of a grid are marked as well, and no others
 pub record FillsGrid (t u : Markings) (k : ℕ) : Type 0 where
-  pub full : (marks_of u k).all ≡ true
-  pub others : (l : ℕ) → l ≢ k → marks_of u l ≡ marks_of t l
+  pub full : (grid_marks u k).all ≡ true
+  pub lines : (grid_marks u k).lines ≡ (grid_marks t k).lines
+  pub others : (l : ℕ) → l ≢ k → grid_marks u l ≡ grid_marks t l
 
 -- those of a window's grid, if there is such a window
 abbrev pub MarksWindow : Markings → Markings → Result Slot Refusal → Type 0
@@ -162,8 +163,8 @@ WritesLine k d (Err e) t i = ⊥
 -- what wasn't marked of a grid stays unmarked, but for the lines in which the call may have written on the window of a
 -- number
 pub record MarksWritten (t u : Markings) (d e : State) (id : ℕ) : Type 0 where
-  pub only : (k i j : ℕ) → IsUnmarked (marks_of t k) i j → (WritesLine k d (slot_of d id) (slot_of e id) i → ⊥)
-      → IsUnmarked (marks_of u k) i j
+  pub only : (k i j : ℕ) → IsUnmarked (grid_marks t k) i j → (WritesLine k d (slot_of d id) (slot_of e id) i → ⊥)
+      → IsUnmarked (grid_marks u k) i j
 
 -- a window as large as the screen
 pub record IsScreenful (d : State) (s : Slot) : Type 0 where
@@ -177,18 +178,18 @@ HasAll d s = (s.parent ≡ None) ⊎ IsScreenful d s
 -- The marks after a window was copied, the screen being marked so: none of a grid that it is all of, and else those
 -- that there were; of each other grid also what the screen has.
 pub record MarksCopied (t u : Markings) (o : Marking) (d : State) (s : Slot) : Type 0 where
-  pub whole : s.root < length t → HasAll d s → marks_of u s.root ≡ none_marked (length (marks_of t s.root).lines)
-  pub part : (HasAll d s → ⊥) → marks_of u s.root ≡ marks_of t s.root
-  pub others : (k i j : ℕ) → k ≢ s.root → AreUnmarkedBeside (marks_of t k) o d.cols i j → IsUnmarked (marks_of u k) i j
+  pub whole : s.root < length t → HasAll d s → grid_marks u s.root ≡ none_marked (length (grid_marks t s.root).lines)
+  pub part : (HasAll d s → ⊥) → grid_marks u s.root ≡ grid_marks t s.root
+  pub others : (k i j : ℕ) → k ≢ s.root → AreUnmarkedBeside (grid_marks t k) o d.cols i j → IsUnmarked (grid_marks u k) i j
 
 -- the marks of all grids but one have those of the screen as well
 pub record Spreads (t u : Markings) (but : ℕ) (o : Marking) (rows cols : ℕ) : Type 0 where
-  pub same : marks_of u but ≡ marks_of t but
+  pub same : grid_marks u but ≡ grid_marks t but
   pub size : length u ≡ length t
-  pub others : (k : ℕ) → k ≢ but → Joins (marks_of t k) o rows cols (marks_of u k)
+  pub others : (k : ℕ) → k ≢ but → JoinsMarks (grid_marks t k) o rows cols (grid_marks u k)
 
 -- no mark is left of a grid if a window is all of it
-pub record IsCleared (t u : Markings) (root : ℕ) (whole : Bool) : Type 0 where
-  pub there : whole ≡ true → root < length t → u ≡ slice_set t root (none_marked (length (marks_of t root).lines))
+pub record TakesMarksOff (t u : Markings) (root : ℕ) (whole : Bool) : Type 0 where
+  pub there : whole ≡ true → root < length t → u ≡ slice_set t root (none_marked (length (grid_marks t root).lines))
   pub part : whole ≡ false → u ≡ t
   pub past : length t ≤ root → u ≡ t

@@ -5,7 +5,7 @@ ghost use Rattle.cur_drawing.specs.Marks.{Keeps, MarksOnly};
 ghost use Rattle.cur_drawing.specs.Windows.{IsWindow};
 ghost use Rattle.cur_windows.specs.Desks as spec;
 ghost use Rattle.cur_windows.specs.Creations as make;
-ghost use Rattle.cur_windows.specs.Touched.{HasAll, IsShownBut, LiesWithin, MarksCopied, ShowsBut, marks_of};
+ghost use Rattle.cur_windows.specs.Touched.{HasAll, IsShownBut, LiesWithin, MarksCopied, ShowsBut, grid_marks};
 ghost use Rattle.cur_windows.specs.declared.slots.Slot.{Slot};
 ghost use Rattle.cur_windows.specs.VirtualScreen.{IsScreen, refresh, noutrefresh, shown, area_on_screen, cursor_on_screen};
 
@@ -92,7 +92,7 @@ impl Desk {
         requires window { (spec.origin_at self.now (slot.now).root).pad ≡ false }
         requires rows { (screen.old).rows ≡ (self.now).rows }
         requires cols { (screen.old).cols ≡ (self.now).cols }
-        requires touched { IsShownBut (marks_of touched.now.grids.items (slot.now).root)
+        requires touched { IsShownBut (grid_marks touched.now.grids.items (slot.now).root)
             (spec.origin_at self.now (slot.now).root) (spec.grid_at self.now (slot.now).root) (screen.old).grid }
         ensures value { screen.new ≡ shown (area_on_screen self.now slot.now) (spec.grid_at self.now (slot.now).root)
             (place (slot.now).window.area.top (slot.now).window.area.left) (cursor_on_screen self.now slot.now)

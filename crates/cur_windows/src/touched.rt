@@ -1,9 +1,9 @@
 //! Where each grid may have changed since it was copied to the virtual screen.
 ghost use Rattle.std.specs.Prelude.{◌≡◌, ◌≢◌, ◌⊎◌, ◌<◌, ◌≤◌, ◌+◌, ℕ, IfErr, IfOk, false, true, length, replicate};
-ghost use Rattle.cur_drawing.specs.Marks.{Joins, none_marked};
+ghost use Rattle.cur_drawing.specs.Marks.{JoinsMarks, none_marked};
 ghost use Rattle.cur_drawing.specs.Windows.{IsWindow};
 ghost use Rattle.cur_windows.specs.Desks as spec;
-ghost use Rattle.cur_windows.specs.Touched.{AreFull, ArePrinted, AreTouched, FillsAll, FillsGrid, FitsLine, IsCleared, IsOneCell, LeavesMarks, IsTouched, LiesWithin, MarksCells, MarksLines, MarksWindow, Spreads, TouchesGrid, all_marked, marks_of};
+ghost use Rattle.cur_windows.specs.Touched.{AreFull, ArePrinted, AreTouched, FillsAll, FillsGrid, FitsLine, TakesMarksOff, IsOneCell, LeavesMarks, IsTouched, LiesWithin, MarksCells, MarksLines, MarksWindow, Spreads, TouchesGrid, all_marked, grid_marks};
 
 use crate::desks::Desk;
 use crate::slots::{Origin, Slot};
@@ -143,21 +143,21 @@ fn touch_grid(marks: &mut Marks, window: &Window, origin: Origin, first: u16)
 /// Where a window's cursor was before it was written, and how many cells of that line what is written becomes, before the
 /// last column; 0 where that isn't known.
 #[derive(Clone, Copy)]
-pub(crate) struct Start {
+pub(crate) struct WrittenFrom {
     pub row: u16,
     pub col: u16,
     pub cells: u16,
 }
 
 /// What is to be remembered before a character is written.
-pub(crate) fn start_of(window: &Window, put: Put) -> Start
+pub(crate) fn start_of(window: &Window, put: Put) -> WrittenFrom
     requires { IsWindow window.now }
     ensures row { result.row ≡ (window.now).row }
     ensures col { result.col ≡ (window.now).col }
     ensures one { 0 < result.cells → IsOneCell window.now put × (result.cells ≡ 1) }
 {
     let one = put.is_cell() && window.col + 1 < window.area.cols;
-    Start {
+    WrittenFrom {
         row: window.row,
         col: window.col,
         cells: if one { 1 } else { 0 },
@@ -165,13 +165,13 @@ pub(crate) fn start_of(window: &Window, put: Put) -> Start
 }
 
 /// What is to be remembered before a string is written.
-pub(crate) fn start_of_text(window: &Window, text: &[u8]) -> Start
+pub(crate) fn start_of_text(window: &Window, text: &[u8]) -> WrittenFrom
     requires { IsWindow window.now }
     ensures row { result.row ≡ (window.now).row }
     ensures col { result.col ≡ (window.now).col }
     ensures cells { 0 < result.cells → FitsLine window.now text.now × (result.cells ≡ length text.now) }
 {
-    Start {
+    WrittenFrom {
         row: window.row,
         col: window.col,
         cells: cells_of_text(window, text),
@@ -207,7 +207,7 @@ pub(crate) fn touch_written(
     touched: &mut Touched,
     slot: &Slot,
     origin: Origin,
-    start: Start,
+    start: WrittenFrom,
     answer: &Result<(), Refusal>,
 )
     requires window { IsWindow (slot.now).window }
@@ -227,7 +227,7 @@ pub(crate) fn touch_written(
 }
 
 /// Marks what was written by a call that wrote a string from `start` on: its cells, or what `touch` does.
-pub(crate) fn touch_text(touched: &mut Touched, slot: &Slot, origin: Origin, start: Start)
+pub(crate) fn touch_text(touched: &mut Touched, slot: &Slot, origin: Origin, start: WrittenFrom)
     requires window { IsWindow (slot.now).window }
     requires within { origin.pad ≡ false → LiesWithin origin (slot.now).window.area }
     requires cells { 0 < start.cells → start.col + start.cells ≤ (slot.now).window.area.cols }
@@ -286,7 +286,7 @@ fn mark_lines(marks: &mut Marks, window: &Window, origin: Origin, first: u16)
 
 /// Takes all marks off a grid, of which a window is `whole`.
 pub(crate) fn unmark(touched: &mut Touched, root: usize, whole: bool)
-    ensures { IsCleared touched.old.grids.items touched.new.grids.items root whole }
+    ensures { TakesMarksOff touched.old.grids.items touched.new.grids.items root whole }
 {
     if whole && root < touched.grids.len() {
         touched.grids[root].clear();
@@ -306,7 +306,7 @@ pub(crate) fn spread(touched: &mut Touched, but: usize, marks: &Marks, rows: u16
 
 // Marks what the screen's marks have for one grid, unless all of it is marked.
 fn join_grid(grid: &mut Marks, marks: &Marks, rows: u16, cols: u16)
-    ensures { Joins grid.old marks.now rows cols grid.new }
+    ensures { JoinsMarks grid.old marks.now rows cols grid.new }
 {
     if !grid.is_full() {
         grid.join(marks, rows, cols);

@@ -1,11 +1,11 @@
 use Rattle.std.proofs.Common.{◌≡◌, ◌≤◌, ◌+◌, ◌-◌, length, drop}
-use Rattle.cur_calls.specs.Words.{word_of}
+use Rattle.cur_calls.specs.Words.{front_word}
 use Rattle.cur_calls.proofs.words.word_length.Given as goal
 
 abbrev pub invariant-loop-at : goal.invariant-loop-at
 invariant-loop-at l = record {
   within : l.at ≤ length l.text;
-  word : l.at + length (word_of (drop l.at l.text)) ≡ length (word_of l.text);
+  word : l.at + length (front_word (drop l.at l.text)) ≡ length (front_word l.text);
 }
 
 abbrev pub decreases-loop-at : goal.decreases-loop-at

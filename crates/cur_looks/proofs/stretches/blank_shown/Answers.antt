@@ -2,7 +2,6 @@ use Rattle.std.proofs.Common.{◌≡◌, ◌==◌, ◌&&◌, ℕ, Bool, true, fa
 use Rattle.std.proofs.lemmas.Bool.Decides.{nat_tests}
 use Rattle.std.proofs.lemmas.List.{length-set}
 use Rattle.cur_looks.specs.Inks.{blank_ink, same}
-use Rattle.cur_looks.specs.declared.inks.Ink.{Ink}
 use Rattle.cur_looks.proofs.StretchFacts.{one_more}
 use Rattle.cur_looks.proofs.stretches.blank_shown.Goals as goal
 
@@ -13,7 +12,7 @@ swapped false b = grind (arith, nat_tests)
 pub loop-n-preserved : goal.loop-n-preserved
 loop-n-preserved c =
     let n = c.loop-n.n in
-    let plain = c.is_same-is_plain.result in
+    let plain = c.is_plain_ink-is_plain.result in
     let one = plain && (slice_index_or c.args.text.now n 0 == 32) in
     record {
       length = length-set c.loop-n.same n one ∙ c.loop-n.invariant.length;
@@ -23,4 +22,4 @@ loop-n-preserved c =
 pub returns-clause-found : goal.returns-clause-found
 returns-clause-found c k lt =
     let b = slice_index_or c.args.text.now k 0 in
-    c.loop-n.invariant.found k (omega (arith, lt, c.loop-n-test.false)) ∙ ap (λ (t : Bool). t && (b == 32)) (c.is_same-is_plain.ensures.value ∙ ap (λ (x : Ink). same x (record c.args.ink { byte = 32 })) c.blank.ensures.value) ∙ swapped (same blank_ink (record c.args.ink { byte = 32 })) b
+    c.loop-n.invariant.found k (omega (arith, lt, c.loop-n-test.false)) ∙ ap (λ (t : Bool). t && (b == 32)) c.is_plain_ink-is_plain.ensures.value ∙ swapped (same blank_ink (record c.args.ink { byte = 32 })) b
