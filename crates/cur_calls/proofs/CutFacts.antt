@@ -1,9 +1,11 @@
 -- A text cut at one byte.
-use Rattle.std.proofs.Common.{◌≡◌, ℕ, suc, ◌+◌, ◌<◌, ◌≤◌, ◌==◌, Bool, true, false, not, cond, if◌then◌else◌, List, [], ◌∷◌, Option, None, Some, length, take, drop, refl, sym, ap, subst, ◌∙◌, arith}
-use Rattle.std.specs.Prelude.{nat_lt}
+use Rattle.std.proofs.Common.{◌≡◌, ℕ, suc, ◌+◌, ◌==◌, Bool, true, false, not, cond, if◌then◌else◌, List, [], ◌∷◌, Option, None, Some, length, take, drop, refl, sym, ap, subst, ◌∙◌, arith}
+use Rattle.std.specs.Prelude.{nat_lt, slice_index}
 use Rattle.std.specs.Option.{option_map}
 use Rattle.std.specs.List.{position, position_or_len, onto_first}
 use Rattle.std.proofs.lemmas.Bool.Decides.{nat_tests}
+use Rattle.std.proofs.lemmas.List.Sums.{position_or_len_is}
+use Rattle.memchr.specs.Find.{IsFirstByte, is_byte}
 use Rattle.cur_calls.specs.Cuts.{cut_at, parts_of}
 
 -- so many bytes before, and what is after one more
@@ -60,13 +62,18 @@ part_alone c text e = subst (λ o. Parts c text o) e (parts_cut c text)
 pub part_first : (c : ℕ) (text before behind : List ℕ) → cut_at c text ≡ Some (before, behind) → parts_of c text ≡ before ∷ parts_of c behind
 part_first c text before behind e = subst (λ o. Parts c text o) e (parts_cut c text)
 
--- from the place of the cut
-pub parts_at : (c : ℕ) (text : List ℕ) (at : ℕ) → at ≡ position_or_len (λ b. b == c) text → at < length text → parts_of c text ≡ take at text ∷ parts_of c (drop (at + 1) text)
-parts_at c text at e h =
-    let inside : nat_lt at (length text) ≡ true = grind (arith, nat_tests) in
-    part_first c text (take at text) (drop (at + 1) text) (sym (cut_found c text) ∙ (ap (λ n. around text (place n (length text))) (sym e) ∙ ap (λ t. around text (if t then Some at else None)) inside))
+-- ---- the place of the first such byte, as a search finds it
 
-pub parts_alone : (c : ℕ) (text : List ℕ) (at : ℕ) → at ≡ position_or_len (λ b. b == c) text → length text ≤ at → parts_of c text ≡ text ∷ []
-parts_alone c text at e h =
-    let outside : nat_lt at (length text) ≡ false = grind (arith, nat_tests) in
-    part_alone c text (sym (cut_found c text) ∙ (ap (λ n. around text (place n (length text))) (sym e) ∙ ap (λ t. around text (if t then Some at else None)) outside))
+not_true : (t : Bool) → (t ≡ true → ⊥) → t ≡ false
+not_true true n = absurd (n refl)
+not_true false n = refl
+
+pub place_found : (c : ℕ) (text : List ℕ) (found : Option ℕ) → IsFirstByte (is_byte c) text found → found ≡ position (λ b. b == c) text
+place_found c text None nowhere =
+    let all = position_or_len_is (λ b. b == c) text (length text) 0 (omega arith) (λ k lt. not_true (slice_index text k == c) (nowhere k (omega arith) lt)) (λ lt. absurd (omega (arith, lt))) in
+    let outside : nat_lt (length text) (length text) ≡ false = grind (arith, nat_tests) in
+    sym (ap (λ n. place n (length text)) all ∙ ap (λ t. if t then Some (length text) else None) outside)
+place_found c text (Some at) (first, here) =
+    let is = position_or_len_is (λ b. b == c) text at 0 (omega (arith, first.high)) (λ k lt. not_true (slice_index text k == c) (first.before k (omega arith) lt)) (λ lt. here) in
+    let inside : nat_lt at (length text) ≡ true = grind (arith, nat_tests, first.high) in
+    sym (ap (λ n. place n (length text)) is ∙ ap (λ t. if t then Some at else None) inside)

@@ -1,5 +1,5 @@
 -- A text cut into parts: a script into lines at line feeds, a line into words at spaces, a cell at its colon.
-use Rattle.std.specs.Prelude.{◌≡◌, ℕ, ◌+◌, ◌<◌, length, slice_index_or, ◌==◌, false, if◌then◌else◌, List, [], ◌∷◌, Option, None, Some}
+use Rattle.std.specs.Prelude.{ℕ, ◌+◌, length, ◌==◌, if◌then◌else◌, List, [], ◌∷◌, Option, None, Some}
 use Rattle.std.specs.List.{slice_split}
 use Rattle.std.specs.Option.{option_map}
 
@@ -7,10 +7,6 @@ use Rattle.std.specs.Option.{option_map}
 abbrev pub cut_at : ℕ → List ℕ → Option (List ℕ × List ℕ)
 cut_at c [] = None
 cut_at c (b ∷ text) = if b == c then Some ([], text) else option_map (λ p. (b ∷ p.0, p.1)) (cut_at c text)
-
--- (Serves the code alone.) no byte of a kind stands before a place
-abbrev pub IsFreeBefore : ℕ → List ℕ → ℕ → Type 0
-IsFreeBefore c text at = (k : ℕ) → k < at → (slice_index_or text k 0 == c) ≡ false
 
 -- what stands between bytes of a kind: one part more than there are such bytes
 abbrev pub parts_of : ℕ → List ℕ → List (List ℕ)

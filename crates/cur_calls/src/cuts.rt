@@ -1,13 +1,9 @@
 //! Cutting a text at the first byte of a kind.
-ghost use Rattle.std.specs.List.{position, position_or_len};
-ghost use Rattle.std.specs.Simd.Lanes.{chunk, mask_l};
-ghost use Rattle.std.specs.Prelude.{◌≡◌, ◌==◌, ◌<◌, ◌≤◌, ◌+◌, ◌∷◌, length, take, drop, map, option_map, IfSome};
-ghost use Rattle.cur_calls.specs.Cuts.{cut_at, parts_of, parts_left, left_size, IsFreeBefore};
+ghost use Rattle.std.specs.List.{position};
+ghost use Rattle.std.specs.Prelude.{◌≡◌, ◌==◌, ◌<◌, ◌≤◌, ◌+◌, ◌∷◌, length, take, drop, option_map, IfSome};
+ghost use Rattle.cur_calls.specs.Cuts.{cut_at, parts_of, parts_left, left_size};
 
-use std::simd::prelude::*;
-
-// How many bytes a vector has.
-const LANES: usize = 16;
+use memchr::memchr;
 
 /// What stands before and after the first such byte.
 #[inline(always)]
@@ -24,81 +20,24 @@ pub(crate) fn cut(byte: u8, text: &[u8]) -> Option<(&[u8], &[u8])>
 
 /// The first of the parts of a text, and what stands after its end.
 #[inline(always)]
-#[tactic(auto, using(crate::proofs::CutFacts::parts_at, crate::proofs::CutFacts::parts_alone))]
+#[tactic(auto, using(crate::proofs::CutFacts::part_first, crate::proofs::CutFacts::part_alone))]
 pub(crate) fn first_part(byte: u8, text: &[u8]) -> (&[u8], Option<&[u8]>)
     ensures parts { parts_of byte text.now ≡ result.0.now ∷ parts_left byte (option_map (λ rest. rest.now) result.1) }
     ensures shorter { left_size (option_map (λ rest. rest.now) result.1) ≤ length text.now }
 {
-    let at = run_before(byte, text);
-    if at < text.len() {
-        let (part, rest) = before_and_behind(text, at);
-        (part, Some(rest))
-    } else {
-        (text, None)
+    match cut(byte, text) {
+        Some((part, rest)) => (part, Some(rest)),
+        None => (text, None),
     }
 }
 
+// The place of the first such byte.
 #[inline(always)]
 fn place_of(byte: u8, text: &[u8]) -> Option<usize>
     ensures value { result ≡ position (λ b. b == byte) text.now }
     ensures range { IfSome result (λ at. at < length text.now) }
 {
-    text.iter().position(|other| *other == byte)
-}
-
-// How many bytes stand before the first such one: all, where there is none.
-#[inline(always)]
-fn run_before(byte: u8, text: &[u8]) -> usize
-    ensures { result ≡ position_or_len (λ b. b == byte) text.now }
-{
-    let mut at = 0;
-    while text.len() - at >= LANES {
-        let run = run_in_lanes(byte, text, at);
-        if run < LANES {
-            return at + run;
-        }
-        at += LANES;
-    }
-    run_by_bytes(byte, text, at)
-}
-
-// The same where there is none before a place, byte by byte from there on.
-#[inline(always)]
-fn run_by_bytes(byte: u8, text: &[u8], from: usize) -> usize
-    requires within { from ≤ length text.now }
-    requires before { IsFreeBefore byte text.now from }
-    ensures { result ≡ position_or_len (λ b. b == byte) text.now }
-{
-    let mut at = from;
-    while at < text.len() && text[at] != byte {
-        at += 1;
-    }
-    at
-}
-
-// The same of the sixteen bytes from a place on.
-#[inline(always)]
-fn run_in_lanes(byte: u8, text: &[u8], at: usize) -> usize
-    requires { at + 16 ≤ length text.now }
-    ensures { result ≡ position_or_len (λ b. b == byte) (chunk at 16 text.now) }
-{
-    let marks = marks(byte, text, at);
-    if marks == 0 {
-        LANES
-    } else {
-        marks.trailing_zeros() as usize
-    }
-}
-
-// A bit for each of the sixteen bytes from a place on, set where it is this one.
-#[inline(always)]
-fn marks(byte: u8, text: &[u8], at: usize) -> u64
-    requires { at + 16 ≤ length text.now }
-    ensures { result ≡ mask_l (map (λ b. b == byte) (chunk at 16 text.now)) }
-{
-    u8x16::from_slice(&text[at..])
-        .simd_eq(u8x16::splat(byte))
-        .to_bitmask()
+    memchr(byte, text)
 }
 
 #[inline(always)]

@@ -9,6 +9,9 @@ use crate::faults::{ScriptFault, ScriptFaultKind};
 use crate::lines::{call_of, is_skipped, read_line};
 use std::alloc::Global;
 
+// How many bytes a short line has.
+const SHORT: usize = 8;
+
 /// The most bytes that a script has.
 pub const LONGEST: usize = 1_048_576;
 
@@ -26,7 +29,7 @@ pub fn read_script<'a>(alloc: Global, text: &'a [u8]) -> Result<Vec<Call<'a>>, S
             kind: ScriptFaultKind::TooLong,
         });
     }
-    let mut calls = Vec::new(alloc);
+    let mut calls = room_for(alloc, text)?;
     let mut left = Some(text);
     let mut number = 1;
     while let Some(text) = left {
@@ -36,6 +39,20 @@ pub fn read_script<'a>(alloc: Global, text: &'a [u8]) -> Result<Vec<Call<'a>>, S
         number += 1;
     }
     Ok(calls)
+}
+
+// Room for the calls of a text, of which a line has some eight bytes or more; more is made where that isn't so.
+fn room_for<'a>(alloc: Global, text: &[u8]) -> Result<Vec<Call<'a>>, ScriptFault>
+    ensures none { IfOk result (λ v. v.items ≡ []) }
+    ensures fault { IfErr result (λ e. e.kind ≡ ScriptFaultKind.NoMemory) }
+{
+    match Vec::with_capacity(alloc, text.len() / SHORT) {
+        Ok(calls) => Ok(calls),
+        Err(_) => Err(ScriptFault {
+            line: 0,
+            kind: ScriptFaultKind::NoMemory,
+        }),
+    }
 }
 
 /// The call of a script that has one line, if it is a call. It takes no memory.
