@@ -10,12 +10,10 @@ use Rattle.ti_commands.specs.declared.failure.Reply.{Reply}
 use Rattle.ti_conforms.specs.Certified.{Table}
 use Rattle.cur_calls.specs.declared.calls.Call.{Call}
 use Rattle.cur_calls.specs.Texts.{script_of}
-use Rattle.cur_play.specs.Log.{Ran}
-use Rattle.cur_play.specs.declared.runs.LogEntry.{LogEntry}
 use Rattle.cur_commands.specs.Preparations.{FailsToPrepare, Prepared}
 use Rattle.cur_commands.specs.Scripts.{IsScriptFailure}
 use Rattle.cur_commands.specs.Shows.{ShowsRun}
-use Rattle.cur_commands.specs.Through.{AreThrough, IsUnplayed, unfailing}
+use Rattle.cur_commands.specs.Through.{IsUnplayed, RanThrough}
 use Rattle.ti_requests.specs.declared.request.ScriptWords.{ScriptWords}
 
 -- the words give a size, an entry that conforms at it and has these strings, and these calls
@@ -33,9 +31,7 @@ pub record IsPlayed (table : CheckedTable → Table) (partners : CheckedTable �
   pub checked : CheckedTable
   pub calls : List Call
   pub ready : IsReady held words height width checked calls
-  pub log : List LogEntry
-  pub ran : Ran (unfailing (table checked) (partners checked)) old new calls log
-  pub through : AreThrough log
+  pub ran : RanThrough (table checked) (partners checked) old new calls
 
 -- the reply is about a run of the script's calls and the screen that it leaves
 pub record IsShown (table : CheckedTable → Table) (partners : CheckedTable → ℕ → Option ℕ) (held : Held)

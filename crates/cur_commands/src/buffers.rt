@@ -40,6 +40,13 @@ impl Buffer {
         self.bytes.len() >= CAPACITY
     }
 
+    /// Whether there is nothing in it.
+    pub fn is_empty(&self) -> bool
+        ensures value { IsTrue result ↔ (self.now ≡ []) }
+    {
+        self.bytes.is_empty()
+    }
+
     /// Takes what fits of a piece, and returns how many bytes that is.
     pub fn hold(&mut self, piece: &[u8]) -> usize
         ensures count { result ≡ min (length piece.now) (65536 - length self.old) }

@@ -34,7 +34,7 @@ pub fn play_script<F: Files, O: Output>(
         text,
     } = ready;
     let calls = calls_of(alloc, words.script, text.as_slice(), remarks)?;
-    let _log = play_calls(alloc, checked, calls.as_slice(), out)?;
+    play_calls(alloc, checked, calls.as_slice(), out)?;
     Ok(())
 }
 

@@ -30,6 +30,9 @@ impl<'a, O: Output> Held<'a, O> {
         if self.failures > 0 {
             return;
         }
+        if self.buffer.is_empty() {
+            return;
+        }
         if self.output.put(self.buffer.as_slice()).is_err() {
             self.failures = 1;
         }

@@ -1,12 +1,11 @@
 //! Runs of calls over an output.
-ghost use Rattle.std.specs.Prelude.{◌≡◌, [], IfErr, IfOk};
-ghost use Rattle.cur_play.specs.Log.{Ran};
-ghost use Rattle.cur_commands.specs.Through.{AreThrough, IsUnplayed, unfailing};
+ghost use Rattle.std.specs.Prelude.{◌≡◌, [], IfErr, OnOk};
+ghost use Rattle.cur_commands.specs.Through.{IsUnplayed, RanThrough};
 
 use crate::buffers::Buffer;
 use crate::held::Held;
 use cur_calls::Call;
-use cur_play::{Log, run_paced};
+use cur_play::run_paced;
 use std::alloc::Global;
 use ti_commands::{Failure, Output};
 use ti_conforms::Certificate;
@@ -15,17 +14,16 @@ use ti_conforms::Certificate;
 /// to `out`: what a call has sent is passed on before the next call, in one piece where it is no more than 65536 bytes.
 ///
 /// # Errors
-/// `NoMemory` where there is none for the session or the log; then nothing was written. `Output` after the run where
+/// `NoMemory` where there is none for the session; then nothing was written. `Output` after the run where
 /// the output has failed.
 pub fn play_calls<C: Certificate + Drop, O: Output>(
     alloc: Global,
     checked: C,
     calls: &[Call<'_>],
     out: &mut O,
-) -> Result<Log, Failure>
-    ensures ran { IfOk result (λ log. Ran (unfailing (C.table checked) (C.partners checked)) (O.contents out.old)
-        (O.contents out.new) calls.now log.entries.items) }
-    ensures through { IfOk result (λ log. AreThrough log.entries.items) }
+) -> Result<(), Failure>
+    ensures ran { OnOk result (RanThrough (C.table checked) (C.partners checked) (O.contents out.old)
+        (O.contents out.new) calls.now) }
     ensures failure { IfErr result (λ e. IsUnplayed O.has_failed out.old out.new e) }
 {
     let mut buffer = Buffer::new(alloc)?;
@@ -43,19 +41,18 @@ fn play_held<C: Certificate + Drop, O: Output>(
     checked: C,
     calls: &[Call<'_>],
     held: &mut Held<'_, O>,
-) -> Result<Log, Failure>
+) -> Result<(), Failure>
     requires nothing { held.old.buffer.now ≡ [] }
     requires unfailed { held.old.failures ≡ 0 }
-    ensures ran { IfOk result (λ log. Ran (unfailing (C.table checked) (C.partners checked))
-        (O.contents held.old.output.now) (O.contents held.new.output.now) calls.now log.entries.items) }
-    ensures through { IfOk result (λ log. AreThrough log.entries.items) }
+    ensures ran { OnOk result (RanThrough (C.table checked) (C.partners checked) (O.contents held.old.output.now)
+        (O.contents held.new.output.now) calls.now) }
     ensures failure { IfErr result (λ e. IsUnplayed O.has_failed held.old.output.now held.new.output.now e) }
     ensures same { held.new.output.ghost_name ≡ held.old.output.ghost_name }
 {
-    let log = run_paced(alloc, checked, calls, held)?;
+    run_paced(alloc, checked, calls, held)?;
     held.flush();
     if held.failures > 0 {
         return Err(Failure::Output);
     }
-    Ok(log)
+    Ok(())
 }

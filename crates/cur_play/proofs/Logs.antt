@@ -102,6 +102,15 @@ pub record Logged {W C : Type 0} (about : Subject W) (old new : MutBor W) (count
   pub few : length bytes ≤ i * 2 ^ 60
   pub plays : (rest : List LogEntry) (to : W) (all : List ℕ) → Plays about (moment new.now bytes (scene_of stage) last last_mode) (drop i calls) rest to all → Plays about (first_moment about old.now) calls (log ++ rest) to all
 
+-- with some log
+pub record LoggedSome {W C : Type 0} (about : Subject W) (old new : MutBor W) (count : ℕ) (calls : List Call) (i : ℕ) (stage : Stage C) : Type 0 where
+  pub log : List LogEntry
+  pub logged : Logged about old new count calls i stage log
+
+-- nothing went out
+pub none_counted : {W : Type 0} (went : W → W → List ℕ → Type 0) (failures : W → ℕ) → IsWire went failures → (a : MutBor W) (n : ℕ) → Counts went a a n n []
+none_counted went failures laws a n = record { inner = laws.nothing a.now; counted = λ lt. omega arith; same = refl }
+
 last_sized : (o : Emission) (answer : Answer) (last v : Screen) (n : ℕ) (f : Screen → ℕ) → f last ≡ n → f v ≡ n → f (last_after o answer last v) ≡ n
 last_sized Update Done last v n f e h = h
 last_sized Update (Was k) last v n f e h = e

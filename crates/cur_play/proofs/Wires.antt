@@ -1,7 +1,5 @@
 -- The same run, of another wire that tells as much: what it is about, its end, and what follows of its log.
-use Rattle.std.proofs.Common.{◌≡◌, ℕ, List, [], ◌∷◌, Option, Result, Ok, Err, sym, subst}
-use Rattle.std.specs.Prelude.{IfOk}
-use Rattle.std.specs.Borrow.{MutBor}
+use Rattle.std.proofs.Common.{◌≡◌, ℕ, List, [], ◌∷◌, Option, sym, subst}
 use Rattle.std.specs.List.{AllByRecursion}
 use Rattle.std.proofs.lemmas.List.{append-nil}
 use Rattle.vt_term.specs.Screen.{State}
@@ -12,7 +10,6 @@ use Rattle.cur_wires.specs.Wire.{IsWire, Rose}
 use Rattle.cur_paint.specs.Update.{IsFresh}
 use Rattle.cur_calls.specs.declared.calls.Call.{Call}
 use Rattle.cur_play.specs.Log.{Moment, Plays, Ran, Subject, Tells, first_moment, subject_of}
-use Rattle.cur_play.specs.Borrowed.{PassesOf}
 use Rattle.cur_play.specs.declared.answers.Answer.TheVariants.{WireFailed}
 use Rattle.cur_play.specs.declared.runs.LogEntry.{LogEntry}
 
@@ -93,16 +90,6 @@ ran_over went failures tells fails f IsWell k t partners old new calls log r w =
   counted = r.counted;
   plays = plays_over went failures tells fails f IsWell k t partners (first_moment (subject_of went failures t partners) old) calls log new r.bytes r.plays w;
 }
-
-direct_follows : {W V : Type 0} (went : W → W → List ℕ → Type 0) (failures : W → ℕ) (wire : V → MutBor W) → Follows (PassesOf went wire) (λ v. failures (wire v).now) went failures (λ v. (wire v).now) (λ v. Unit {0})
-direct_follows went failures wire = record { sooner = λ a b x h w. tt; goes = λ a b x h w. h.inner; rises = λ a b w r. r }
-
--- from a wire behind a reference to that wire
-pub direct_over : {W V T E : Type 0} (went : W → W → List ℕ → Type 0) (failures : W → ℕ) (wire : V → MutBor W) (t : Table) (partners : ℕ → Option ℕ) (a b : V) (calls : List Call) (entries : T → List LogEntry) (r : Result T E)
-    → IfOk r (λ log. Ran (subject_of (PassesOf went wire) (λ v. failures (wire v).now) t partners) a b calls (entries log)) → IfOk r (λ log. Ran (subject_of went failures t partners) (wire a).now (wire b).now calls (entries log))
-direct_over went failures wire t partners a b calls entries (Ok log) h =
-    ran_over (PassesOf went wire) (λ v. failures (wire v).now) went failures (λ v. (wire v).now) (λ v. Unit {0}) (direct_follows went failures wire) t partners a b calls (entries log) h tt
-direct_over went failures wire t partners a b calls entries (Err e) h = tt
 
 -- ---- what follows of the whole run
 

@@ -10,4 +10,3 @@ pub mod Sends
 pub mod Log
 pub mod Deliveries
 pub mod Runs
-pub mod Borrowed

@@ -199,3 +199,8 @@ pub record Ran {W : Type 0} (about : Subject W) (old new : W) (calls : List Call
   pub sent : about.went old new bytes
   pub counted : length log ≡ length calls
   pub plays : Plays about (first_moment about old) calls log new bytes
+
+-- a run whose log isn't kept
+pub record HasRun {W : Type 0} (about : Subject W) (old new : W) (calls : List Call) : Type 0 where
+  pub log : List LogEntry
+  pub ran : Ran about old new calls log

@@ -1,12 +1,12 @@
 //! Runs of many calls.
-ghost use Rattle.std.specs.Prelude.{◌≡◌, ◌≤◌, [], length, vec_capacity, vec_len, IfOk, OnErr};
+ghost use Rattle.std.specs.Prelude.{◌≡◌, ◌≤◌, [], length, vec_capacity, vec_len, IfOk, OnErr, OnOk};
 ghost use Rattle.cur_wires.specs.Counted.{Counts};
-ghost use Rattle.cur_play.specs.Log.{Ran, subject_of};
-ghost use Rattle.cur_play.specs.Runs.{RanOn};
+ghost use Rattle.cur_play.specs.Log.{HasRun, Ran, subject_of};
+ghost use Rattle.cur_play.specs.Runs.{HasRunOn, RanOn};
 ghost use Rattle.cur_play.specs.Scenes.{first, scene_of};
 
 use crate::answers::Answer;
-use crate::paced::{Direct, Paced};
+use crate::paced::Paced;
 use crate::sessions::Session;
 use cur_calls::Call;
 use cur_update::Wire;
@@ -42,47 +42,16 @@ pub fn run<C: Certificate + Drop, W: Wire>(
         wire.old wire.new calls.now log.entries.items) }
     ensures refused { OnErr result (wire.new ≡ wire.old) }
 {
-    let mut direct = Direct { wire };
-    run_direct(alloc, checked, calls, &mut direct)
-}
-
-/// A run on a borrowed wire.
-fn run_direct<C: Certificate + Drop, W: Wire>(
-    alloc: Global,
-    checked: C,
-    calls: &[Call<'_>],
-    direct: &mut Direct<'_, W>,
-) -> Result<Log, AllocError>
-    ensures ran { IfOk result (λ log. Ran (subject_of W.went W.failures (C.table checked) (C.partners checked))
-        direct.old.wire.now direct.new.wire.now calls.now log.entries.items) }
-    ensures refused { OnErr result (direct.new.wire.now ≡ direct.old.wire.now) }
-    ensures same { direct.new.wire.ghost_name ≡ direct.old.wire.ghost_name }
-{
-    run_paced(alloc, checked, calls, direct)
-}
-
-/// Plays calls as `run` does, on a wire that may hold back what it took: what a call has sent is passed on before the
-/// next call, and after the last one.
-pub fn run_paced<C: Certificate + Drop, W: Paced>(
-    alloc: Global,
-    checked: C,
-    calls: &[Call<'_>],
-    wire: &mut W,
-) -> Result<Log, AllocError>
-    ensures ran { IfOk result (λ log. Ran (subject_of W.went W.failures (C.table checked) (C.partners checked))
-        wire.old wire.new calls.now log.entries.items) }
-    ensures refused { OnErr result (wire.new ≡ wire.old) }
-{
     let entries = Vec::with_capacity(alloc, calls.len())?;
     let session = Session::open(alloc, checked)?;
     let mut counted = Counted { wire, sent: 0 };
     Ok(Log {
-        entries: play_all(session, calls, entries, &mut counted),
+        entries: play_logged(session, calls, entries, &mut counted),
     })
 }
 
-/// Plays the calls, with an entry for each. What each has sent is passed on before the next one.
-fn play_all<C: Certificate + Drop, W: Paced>(
+/// Plays the calls, with an entry for each.
+fn play_logged<C: Certificate + Drop, W: Wire>(
     session: Session<C>,
     calls: &[Call<'_>],
     log: Vec<LogEntry>,
@@ -100,7 +69,6 @@ fn play_all<C: Certificate + Drop, W: Paced>(
     let mut log = log;
     for call in calls {
         let answer = session.call(call, wire);
-        pass_on(wire);
         log.push(LogEntry {
             answer,
             sent: wire.sent,
@@ -108,6 +76,43 @@ fn play_all<C: Certificate + Drop, W: Paced>(
         .unwrap();
     }
     log
+}
+
+/// Plays calls as `run` does, without a log, on a wire that may hold back what it took: what a call has sent is passed
+/// on before the next call, and after the last one. An error where there was no memory for the session; then nothing
+/// was sent.
+pub fn run_paced<C: Certificate + Drop, W: Paced>(
+    alloc: Global,
+    checked: C,
+    calls: &[Call<'_>],
+    wire: &mut W,
+) -> Result<(), AllocError>
+    ensures ran { OnOk result (HasRun (subject_of W.went W.failures (C.table checked) (C.partners checked))
+        wire.old wire.new calls.now) }
+    ensures refused { OnErr result (wire.new ≡ wire.old) }
+{
+    let session = Session::open(alloc, checked)?;
+    let mut counted = Counted { wire, sent: 0 };
+    play_paced(session, calls, &mut counted);
+    Ok(())
+}
+
+/// Plays the calls. What each has sent is passed on before the next one.
+fn play_paced<C: Certificate + Drop, W: Paced>(
+    session: Session<C>,
+    calls: &[Call<'_>],
+    wire: &mut Counted<'_, W>,
+)
+    requires scene { scene_of session ≡ first (C.table session.painter.checked) }
+    requires none { wire.old.sent ≡ 0 }
+    ensures { HasRunOn (subject_of W.went W.failures (C.table session.painter.checked)
+        (C.partners session.painter.checked)) wire.old.wire wire.new.wire calls.now }
+{
+    let mut session = session;
+    for call in calls {
+        let _answer = session.call(call, wire);
+        pass_on(wire);
+    }
 }
 
 /// Passes on what a counted wire holds back.

@@ -2,7 +2,7 @@ use Rattle.std.proofs.Common.{◌≡◌, ◌≤◌, length}
 use Rattle.std.specs.Prelude.{vec_capacity, vec_len}
 use Rattle.cur_play.proofs.Logs.{Logged}
 use Rattle.cur_play.specs.Log.{subject_of}
-use Rattle.cur_play.proofs.runs.play_all.Given as goal
+use Rattle.cur_play.proofs.runs.play_logged.Given as goal
 
 abbrev pub invariant-loop-call : goal.invariant-loop-call
 invariant-loop-call g l = record {
