@@ -15,3 +15,5 @@ pub mod WrittenLines
 pub mod TouchedFacts
 pub mod CellFacts
 pub mod Spreading
+pub mod Shapes
+pub mod AreaMarks

@@ -21,11 +21,10 @@ use Rattle.cur_drawing.proofs.DrawingFacts.{shape_of-line, shape_of-length}
 use Rattle.cur_windows.proofs.WrittenLines.{Writes, Writing}
 use Rattle.cur_windows.specs.declared.slots.Origin.{Origin}
 use Rattle.cur_windows.specs.declared.slots.Slot.{Slot}
-use Rattle.cur_windows.specs.Desks as desks
-use Rattle.cur_windows.specs.Desks.{DeskStep, IsDesk, IsFramed, IsPlaced, IsWhole, State, after, grid_at, on_grid, on_screen, on_window, origin_at, slot_of, some_slot, window_at}
+use Rattle.cur_windows.specs.Desks.{IsDesk, IsFramed, IsPlaced, IsWhole, State, after, grid_at, origin_at, slot_of, some_slot, window_at}
 use Rattle.cur_windows.specs.VirtualScreen.{IsScreen, Screen, area_on_screen}
 use Rattle.cur_drawing.specs.declared.refusals.Refusal.TheVariants.{NoScroll}
-use Rattle.cur_windows.specs.Touched.{AreFull, FillsGrid, HasAll, TakesMarksOff, IsGoneThrough, IsShownBut, KeepsShown, LeavesMarks, IsTouched, IsWrittenLine, Markings, MarksCopied, MarksWindow, MarksWritten, ShowsBut, Spreads, TouchesGrid, WritesLine, lines_shown, grid_marks}
+use Rattle.cur_windows.specs.Touched.{AreFull, HasAll, TakesMarksOff, IsGoneThrough, IsShownBut, KeepsShown, LeavesMarks, IsTouched, IsWrittenLine, Markings, MarksCopied, MarksWritten, ShowsBut, Spreads, TouchesGrid, WritesLine, grid_marks}
 
 -- ---- writing
 
@@ -139,52 +138,6 @@ left_by d now ws n s w g h t u act r back e is placed at value left v shown =
     subst (λ (x : Markings). ShowsBut x (with_grid d s h ws) v) (sym left.same)
     (subst (λ (gs : List Grid). ShowsBut t (record d { grids = gs; windows = ws }) v) (sym grids) here)
 
--- ---- all of a grid is marked
-
--- where a grid was changed
-grid_filled : (d e : State) (s : Slot) (h : Grid) (t u : Markings) → e.grids ≡ set d.grids s.root h → e.origins ≡ d.origins → FillsGrid t u s.root → KeepsShown t d u e
-grid_filled d e s h t u grids origins fills v shown k =
-    subst (λ (os : List Origin). (get_or os k (on_screen 0 0 false)).pad ≡ false → IsShownBut (grid_marks u k) (get_or os k (on_screen 0 0 false)) (grid_at e k) v) (sym origins)
-    (subst (λ (gs : List Grid). (origin_at d k).pad ≡ false → IsShownBut (grid_marks u k) (origin_at d k) (get_or gs k []) v) (sym grids) (λ lies. elim (cases_eq k s.root) [
-      | inl same ↦ shown_full (grid_marks u k) (origin_at d k) (get_or (set d.grids s.root h) k []) v (ap (λ (n : ℕ). (grid_marks u n).all) same ∙ fills.full)
-      | inr apart ↦ subst (λ (m : Marking). IsShownBut m (origin_at d k) (get_or (set d.grids s.root h) k []) v) (sym (fills.others k apart)) (other_written d d.windows s h (grid_marks t k) v k apart (shown k lies))
-    ]))
-
-after_filled : (x : Result Slot Refusal) (t u : Markings) (d e : State) (r : Result (Unit {0}) Refusal) (next : Slot → DeskStep) (drawn : Slot → Grid) → ((s : Slot) → (next s).0.grids ≡ set d.grids s.root (drawn s)) → ((s : Slot) → (next s).0.origins ≡ d.origins) →
-    (e, r) ≡ after x d next → MarksWindow t u x → KeepsShown t d u e
-after_filled (Ok s) t u d e r next drawn grids origins is marks = grid_filled d e s (drawn s) t u (ap (λ (y : DeskStep). y.0.grids) is ∙ grids s) (ap (λ (y : DeskStep). y.0.origins) is ∙ origins s) marks
-after_filled (Err x) t u d e r next drawn grids origins is marks = λ v shown.
-    subst (λ (y : State). ShowsBut u y v) (sym (ap (λ (y : DeskStep). y.0) is)) (subst (λ (y : Markings). ShowsBut y d v) (sym marks) shown)
-
--- by a call on the window of a number
-pub keeps_on_grid : (t u : Markings) (d e : State) (n : ℕ) (act : Canvas → CanvasStep) (r : Result (Unit {0}) Refusal) → (e, r) ≡ on_grid d n act → MarksWindow t u (slot_of d n) → KeepsShown t d u e
-keeps_on_grid t u d e n act r is marks = after_filled (slot_of d n) t u d e r _ (λ s. (act (canvas (grid_at d s.root) s.window)).0.grid) (λ s. refl) (λ s. refl) is marks
-
-pub keeps_on_window : (t u : Markings) (d e : State) (n : ℕ) (act : Canvas → CanvasStep) (r : Result (Unit {0}) Refusal) → (e, r) ≡ on_window d n act → MarksWindow t u (slot_of d n) → KeepsShown t d u e
-keeps_on_window t u d e n act r is marks = after_filled (slot_of d n) t u d e r _ (λ s. (act (canvas (grid_at d s.root) s.window)).0.grid) (λ s. refl) (λ s. refl) is marks
-
-pub keeps_untouched : (t u : Markings) (d e : State) (n : ℕ) (r : Result (Unit {0}) Refusal) → (e, r) ≡ desks.unchanged d n → MarksWindow t u (slot_of d n) → KeepsShown t d u e
-keeps_untouched t u d e n r is marks = after_filled (slot_of d n) t u d e r _ (λ s. grid_at d s.root) (λ s. sym (set-get_or d.grids s.root [])) (λ s. refl) is marks
-
--- no line, and one more
-pub no_line : (o : Origin) (w : Window) (first i j : ℕ) → is_in (lines_shown o w first 0) i j ≡ false
-no_line o w first i j = grind (arith, nat_tests)
-
-in_next : (o : Origin) (w : Window) (first k i j : ℕ) → is_in (lines_shown o w first k) i j ≡ false → i ≢ o.top + w.area.top + first + k → is_in (lines_shown o w first (k + 1)) i j ≡ false
-in_next o w first k i j off apart = grind (arith, nat_tests)
-
-beside_left : (o : Origin) (w : Window) (first k i j : ℕ) → j < (o.left + w.area.left) → is_in (lines_shown o w first (k + 1)) i j ≡ false
-beside_left o w first k i j low = grind (arith, nat_tests)
-
-beside_right : (o : Origin) (w : Window) (first k i j : ℕ) → (o.left + w.area.left) + w.area.cols ≤ j → is_in (lines_shown o w first (k + 1)) i j ≡ false
-beside_right o w first k i j high = grind (arith, nat_tests)
-
-pub next_marked : (o : Origin) (w : Window) (first k i j : ℕ) → is_in (lines_shown o w first k) i j ≡ false → (i ≡ o.top + w.area.top + first + k → (j < (o.left + w.area.left)) ⊎ ((o.left + w.area.left) + w.area.cols ≤ j)) → is_in (lines_shown o w first (k + 1)) i j ≡ false
-next_marked o w first k i j off beside = elim (cases_eq i (o.top + w.area.top + first + k)) [
-  | inl same ↦ elim (beside same) [ inl low ↦ beside_left o w first k i j low | inr high ↦ beside_right o w first k i j high ]
-  | inr apart ↦ in_next o w first k i j off apart
-]
-
 -- what isn't marked in another line stays so
 pub unmarked_other : (m : Marking) (row from end i j : ℕ) → i ≢ row → IsUnmarked m i j → IsUnmarked (marked_between row from end m) i j
 unmarked_other m row from end i j apart u = record {
@@ -192,14 +145,6 @@ unmarked_other m row from end i j apart u = record {
   line = omega (arith, u.line, length-set m.lines row (widened from end (marked_at m row)));
   column = subst (λ (x : Marked). (j < x.from) ⊎ (x.end ≤ j)) (sym (get_or-set_other m.lines row i (widened from end (marked_at m row)) nothing apart)) u.column;
 }
-
-pub not_there : (o : Origin) (w : Window) (first k i : ℕ) → i ≡ o.top + w.area.top + first + k → (i < o.top + w.area.top + first) ⊎ (o.top + w.area.top + first + (k + 1) ≤ i) → ⊥
-not_there o w first k i e (inl low) = absurd (omega (arith, e, low))
-not_there o w first k i e (inr high) = absurd (omega (arith, e, high))
-
-pub sooner : (o : Origin) (w : Window) (first k i : ℕ) → (i < o.top + w.area.top + first) ⊎ (o.top + w.area.top + first + (k + 1) ≤ i) → (i < o.top + w.area.top + first) ⊎ (o.top + w.area.top + first + k ≤ i)
-sooner o w first k i (inl low) = inl low
-sooner o w first k i (inr high) = inr (omega (arith, high))
 
 -- a line through which the cursor didn't go
 pub not_gone : (o : Origin) (w : Window) (first i : ℕ) → (IsGoneThrough o w first i → ⊥) → (i < o.top + w.area.top + first) ⊎ (o.top + w.area.top + first + (w.row + 1 - first) ≤ i)

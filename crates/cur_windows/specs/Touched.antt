@@ -11,6 +11,7 @@ use Rattle.cur_drawing.specs.Marks.{AreUnmarkedBeside, IsUnmarked, JoinsMarks, M
 use Rattle.cur_windows.specs.declared.slots.Origin.{Origin}
 use Rattle.cur_windows.specs.declared.slots.Slot.{Slot}
 use Rattle.cur_windows.specs.Desks.{State, grid_at, origin_at, slot_of}
+use Rattle.cur_windows.specs.VirtualScreen.{area_on_screen}
 
 -- marks for each grid, by its number
 abbrev pub Markings : Type 0
@@ -135,16 +136,31 @@ pub record LeavesMarks (t u : Markings) (r : Result (Unit {0}) Refusal) : Type 0
   pub other : IfErr r (λ e. e ≢ NoScroll)
   pub same : u ≡ t
 
--- all places of a grid are marked as well, and no others
-pub record FillsGrid (t u : Markings) (k : ℕ) : Type 0 where
-  pub full : (grid_marks u k).all ≡ true
-  pub lines : (grid_marks u k).lines ≡ (grid_marks t k).lines
-  pub others : (l : ℕ) → l ≢ k → grid_marks u l ≡ grid_marks t l
+-- a place that isn't marked, outside a rectangle of the screen
+pub record IsUnmarkedOutside (m : Marking) (a : Area) (i j : ℕ) : Type 0 where
+  pub unmarked : IsUnmarked m i j
+  pub outside : is_in a i j ≡ false
 
--- those of a window's grid, if there is such a window
-abbrev pub MarksWindow : Markings → Markings → Result Slot Refusal → Type 0
-MarksWindow t u (Ok s) = FillsGrid t u s.root
-MarksWindow t u (Err e) = u ≡ t
+-- A rectangle of the screen is marked as well, and no more than from the first to the last place of each line that was
+-- marked or is in the rectangle: a place before these, or after them, is unmarked.
+pub record MarksArea (m n : Marking) (a : Area) : Type 0 where
+  pub kept : (i j : ℕ) → IsUnmarked n i j → IsUnmarked m i j
+  pub cells : (i j : ℕ) → IsUnmarked n i j → is_in a i j ≡ false
+  pub only : (i j : ℕ) → ((k : ℕ) → k ≤ j → IsUnmarkedOutside m a i k) ⊎ ((k : ℕ) → j ≤ k → IsUnmarkedOutside m a i k)
+      → IsUnmarked n i j
+
+-- a window's rectangle is marked as well of its grid, unless that is a pad's, and nothing of any other grid
+pub record MarksSlot (t u : Markings) (d : State) (s : Slot) : Type 0 where
+  pub grid : (origin_at d s.root).pad ≡ false → s.root < length t
+      → MarksArea (grid_marks t s.root) (grid_marks u s.root) (area_on_screen d s)
+  pub pad : (origin_at d s.root).pad ≡ true → u ≡ t
+  pub none : length t ≤ s.root → u ≡ t
+  pub others : (k : ℕ) → k ≢ s.root → grid_marks u k ≡ grid_marks t k
+
+-- that of the window of a number, if there is one
+abbrev pub MarksWindow : Markings → Markings → State → Result Slot Refusal → Type 0
+MarksWindow t u d (Ok s) = MarksSlot t u d s
+MarksWindow t u d (Err e) = u ≡ t
 
 -- ---- no more is marked
 

@@ -1,13 +1,15 @@
 //! Where each grid may have changed since it was copied to the virtual screen.
 ghost use Rattle.std.specs.Prelude.{◌≡◌, ◌≢◌, ◌⊎◌, ◌<◌, ◌≤◌, ◌+◌, ℕ, IfErr, IfOk, false, true, length, replicate};
 ghost use Rattle.cur_drawing.specs.Marks.{JoinsMarks, none_marked};
+ghost use Rattle.cur_drawing.specs.Calls.{IsCanvas};
 ghost use Rattle.cur_drawing.specs.Windows.{IsWindow};
 ghost use Rattle.cur_windows.specs.Desks as spec;
-ghost use Rattle.cur_windows.specs.Touched.{AreFull, ArePrinted, AreTouched, FillsAll, FillsGrid, FitsLine, TakesMarksOff, IsOneCell, LeavesMarks, IsTouched, LiesWithin, MarksCells, MarksLines, MarksWindow, Spreads, TouchesGrid, all_marked, grid_marks};
+ghost use Rattle.cur_windows.specs.Desks.{IsDesk};
+ghost use Rattle.cur_windows.specs.Touched.{AreFull, ArePrinted, AreTouched, FillsAll, FitsLine, TakesMarksOff, IsOneCell, LeavesMarks, IsTouched, LiesWithin, MarksArea, MarksCells, MarksLines, MarksSlot, MarksWindow, Spreads, TouchesGrid, all_marked, grid_marks};
 
 use crate::desks::Desk;
 use crate::slots::{Origin, Slot};
-use cur_drawing::{Marks, Put, Refusal, Window};
+use cur_drawing::{Area, Marks, Put, Refusal, Window};
 use std::alloc::{AllocError, Global};
 
 /// How many grids have marks: those of windows with numbers below this one.
@@ -70,23 +72,43 @@ fn fill(grids: &mut Vec<Marks>)
 }
 
 impl Desk {
-    /// Marks all of the window's grid, for a call that changes it and has no marks itself; nothing if there is no such
-    /// window.
+    /// Marks the window's rectangle, for a call that changes nothing outside of it and has no marks itself; nothing if
+    /// there is no such window, or if it lies in a pad. The desk is a legal one.
     pub fn mark_window(&self, id: usize, touched: &mut Touched)
-        ensures { MarksWindow touched.old.grids.items touched.new.grids.items (spec.slot_of self.now id) }
+        ensures marks { MarksWindow touched.old.grids.items touched.new.grids.items self.now
+            (spec.slot_of self.now id) }
+        ensures legal { IsDesk self.now }
     {
+        let _ = &self.rows;
         if let Ok(slot) = self.find(id) {
-            mark_grid(touched, slot.root as usize);
+            self.mark_slot(&slot, touched);
         }
+    }
+
+    // Marks the rectangle of a window.
+    fn mark_slot(&self, slot: &Slot, touched: &mut Touched)
+        requires canvas { IsCanvas (spec.grid_at self.now (slot.now).root) (slot.now).window }
+        requires root { (slot.now).root < 64 }
+        ensures { MarksSlot touched.old.grids.items touched.new.grids.items self.now slot.now }
+    {
+        let root = slot.root as usize;
+        if self.origin_of(slot).pad || root >= touched.grids.len() {
+            return;
+        }
+        let area = self.place_on_screen(slot);
+        mark_area(&mut touched.grids[root], area);
     }
 }
 
-// Marks all places of one grid.
-fn mark_grid(touched: &mut Touched, root: usize)
-    ensures { FillsGrid touched.old.grids.items touched.new.grids.items root }
+// Marks a rectangle of the screen.
+fn mark_area(marks: &mut Marks, area: Area)
+    requires rows { area.top + area.rows < 65536 }
+    requires cols { area.left + area.cols < 65536 }
+    requires some { 0 < area.cols }
+    ensures { MarksArea marks.old marks.new area }
 {
-    if root < touched.grids.len() {
-        touched.grids[root].mark_all();
+    for k in 0..area.rows {
+        marks.mark(area.top + k, area.left, area.left + area.cols);
     }
 }
 
@@ -275,13 +297,17 @@ fn mark_lines(marks: &mut Marks, window: &Window, origin: Origin, first: u16)
     requires within { LiesWithin origin (window.now).area }
     ensures { MarksLines marks.old marks.new origin window.now first }
 {
-    let area = window.area;
-    let left = origin.left + area.left;
     let count = (window.row + 1).saturating_sub(first);
-    for k in 0..count {
-        let row = origin.top + area.top + first + k;
-        marks.mark(row, left, left + area.cols);
+    if count == 0 {
+        return;
     }
+    let lines = Area {
+        top: origin.top + window.area.top + first,
+        left: origin.left + window.area.left,
+        rows: count,
+        cols: window.area.cols,
+    };
+    mark_area(marks, lines);
 }
 
 /// Takes all marks off a grid, of which a window is `whole`.

@@ -6,4 +6,4 @@ pub returns-in-Delwin-clause-touched : goal.returns-in-Delwin-clause-touched
 returns-in-Delwin-clause-touched c = keeps_full c.args.touched.now.grids.items c.mark_all.new.self.grids.items c.args.desk.now c.plain.new.desk c.mark_all.ensures.full
 
 pub returns-clause-touched : goal.returns-clause-touched
-returns-clause-touched c = keeps_plain c.args.touched.now.grids.items c.mark_window.new.touched.grids.items c.args.call c.args.desk.now c.plain-2.new.desk c.args.window c.plain-2.result c.in_default.not-Delwin c.plain-2.ensures c.mark_window.ensures
+returns-clause-touched c = keeps_plain c.args.touched.now.grids.items c.mark_window.new.touched.grids.items c.args.call c.args.desk.now c.plain-2.new.desk c.args.window c.plain-2.result c.mark_window.ensures.legal c.in_default.not-Delwin c.plain-2.ensures c.mark_window.ensures.marks
