@@ -96,14 +96,22 @@ unmarked_still m row from end i j u off = record {
   ];
 }
 
+-- a place before the columns and before all that was marked of its line
+pub unmarked_left : (m : Marking) (row from end i j : ℕ) → ((k : ℕ) → k ≤ j → IsUnmarked m i k) → (i ≡ row → j < from) → IsUnmarked (marked_between row from end m) i j
+unmarked_left m row from end i j all before = unmarked_still m row from end i j (all j (omega arith)) (λ same. off_left from end j (marked_at m i) (λ k le. (all k le).column) (before same))
+
+-- one after them
+pub unmarked_right : (m : Marking) (row from end i j : ℕ) → ((k : ℕ) → j ≤ k → IsUnmarked m i k) → (i ≡ row → end ≤ j) → IsUnmarked (marked_between row from end m) i j
+unmarked_right m row from end i j all after = unmarked_still m row from end i j (all j (omega arith)) (λ same. off_right from end j (marked_at m i) (λ k le. (all k le).column) (after same))
+
 -- ---- no more is marked than differs
 
 -- the columns from the first one in which a line differs to the last one are marked
 pub marks_only : (m n : Marking) (row from end : ℕ) (g h : Grid) → n ≡ marked_between row from end m → from < end → (cell_at g row from ≡ cell_at h row from → ⊥) → (cell_at g row (end - 1) ≡ cell_at h row (end - 1) → ⊥) → MarksOnly m g n h
 marks_only m n row from end g h e some first last i j side =
     subst (λ (x : Marking). IsUnmarked x i j) (sym e) (elim side [
-      | inl all ↦ unmarked_still m row from end i j (all j (omega arith)).unmarked (λ is. off_left from end j (marked_at m i) (λ k le. (all k le).unmarked.column) (before all is))
-      | inr all ↦ unmarked_still m row from end i j (all j (omega arith)).unmarked (λ is. off_right from end j (marked_at m i) (λ k le. (all k le).unmarked.column) (after all is))
+      | inl all ↦ unmarked_left m row from end i j (λ k le. (all k le).unmarked) (before all)
+      | inr all ↦ unmarked_right m row from end i j (λ k le. (all k le).unmarked) (after all)
     ])
   where
     before : ((k : ℕ) → k ≤ j → IsUntouched m g h i k) → i ≡ row → j < from
@@ -277,8 +285,8 @@ line_joined m o n row cols s e some le marked others = record {
   joined = λ j lt u. others j lt (unmarked_beside m row s.at (s.at + s.size) j (subst (λ (x : Marking). IsUnmarked x row j) e u));
   others = λ i j apart u. subst (λ (x : Marking). IsUnmarked x i j) (sym e) (unmarked_still m row s.at (s.at + s.size) i j u (λ same. absurd (apart same)));
   only = λ j side. subst (λ (x : Marking). IsUnmarked x row j) (sym e) (elim side [
-    | inl all ↦ unmarked_still m row s.at (s.at + s.size) row j (all j (omega arith)).one (λ same. off_left s.at (s.at + s.size) j (marked_at m row) (λ k le. (all k le).one.column) (before j all))
-    | inr all ↦ unmarked_still m row s.at (s.at + s.size) row j (all j (omega arith)).one (λ same. off_right s.at (s.at + s.size) j (marked_at m row) (λ k le. (all k le).one.column) (after j all))
+    | inl all ↦ unmarked_left m row s.at (s.at + s.size) row j (λ k le. (all k le).one) (λ same. before j all)
+    | inr all ↦ unmarked_right m row s.at (s.at + s.size) row j (λ k le. (all k le).one) (λ same. after j all)
   ]);
 }
   where

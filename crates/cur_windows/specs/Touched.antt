@@ -97,7 +97,7 @@ pub record IsTouched (t u : Markings) (s : Slot) (o : Origin) (first : ℕ) : Ty
   pub none : length t ≤ s.root → u ≡ t
   pub others : (k : ℕ) → k ≢ s.root → grid_marks u k ≡ grid_marks t k
 
--- (Serves the code alone.) a character becomes one cell of the cursor's line, and isn't in its last column
+-- a character becomes one cell of the cursor's line, and isn't in its last column
 pub record IsOneCell (w : Window) (p : Put) : Type 0 where
   pub printed : is_printed p.byte ≡ true
   pub pair : is_pair p.pair ≡ true
@@ -107,21 +107,38 @@ pub record IsOneCell (w : Window) (p : Put) : Type 0 where
 abbrev pub ArePrinted : List ℕ → Type 0
 ArePrinted text = (k : ℕ) → k < length text → is_printed (slice_index_or text k 0) ≡ true
 
--- (Serves the code alone.) a string becomes cells of the cursor's line, none of them in its last column
+-- a string becomes cells of the cursor's line, none of them in its last column
 pub record FitsLine (w : Window) (text : List ℕ) : Type 0 where
   pub printed : ArePrinted text
   pub before : w.col + length text < w.area.cols
+
+-- a place that isn't marked, and that isn't in a rectangle
+pub record IsUnmarkedOutside (m : Marking) (a : Area) (i j : ℕ) : Type 0 where
+  pub unmarked : IsUnmarked m i j
+  pub outside : is_in a i j ≡ false
+
+-- No more is marked afterwards than from the first to the last place of each line that was marked or is in the
+-- rectangle: a place before these, or after them, is unmarked.
+abbrev pub MarksNoMore : Marking → Marking → Area → Type 0
+MarksNoMore m n a =
+    (i j : ℕ) → ((k : ℕ) → k ≤ j → IsUnmarkedOutside m a i k) ⊎ ((k : ℕ) → j ≤ k → IsUnmarkedOutside m a i k) → IsUnmarked n i j
 
 -- cells of the cursor's line, on the screen
 abbrev pub cells_shown : Origin → Window → ℕ → ℕ → Area
 cells_shown o w col n =
     record { top = o.top + w.area.top + w.row; left = o.left + w.area.left + col; rows = 1; cols = n }
 
--- (Serves the code alone.) they are marked as well, and no other line
+-- of a window's grid no more is marked afterwards than so many cells, from the cursor on
+abbrev pub MarksCellsAlone : Markings → Markings → State → Slot → ℕ → Type 0
+MarksCellsAlone t u d s count =
+    MarksNoMore (grid_marks t s.root) (grid_marks u s.root) (cells_shown (origin_at d s.root) s.window s.window.col count)
+
+-- (Serves the code alone.) cells of the cursor's line are marked as well, and no more
 pub record MarksCells (m n : Marking) (o : Origin) (w : Window) (col count : ℕ) : Type 0 where
   pub kept : (i j : ℕ) → IsUnmarked n i j → IsUnmarked m i j
   pub cells : (i j : ℕ) → IsUnmarked n i j → is_in (cells_shown o w col count) i j ≡ false
   pub only : (i j : ℕ) → IsUnmarked m i j → i ≢ o.top + w.area.top + w.row → IsUnmarked n i j
+  pub alone : MarksNoMore m n (cells_shown o w col count)
 
 -- (Serves the code alone.) the same of the window's grid, unless it is a pad's, and of no other
 pub record AreTouched (t u : Markings) (s : Slot) (o : Origin) (col count : ℕ) : Type 0 where
@@ -136,18 +153,11 @@ pub record LeavesMarks (t u : Markings) (r : Result (Unit {0}) Refusal) : Type 0
   pub other : IfErr r (λ e. e ≢ NoScroll)
   pub same : u ≡ t
 
--- a place that isn't marked, outside a rectangle of the screen
-pub record IsUnmarkedOutside (m : Marking) (a : Area) (i j : ℕ) : Type 0 where
-  pub unmarked : IsUnmarked m i j
-  pub outside : is_in a i j ≡ false
-
--- A rectangle of the screen is marked as well, and no more than from the first to the last place of each line that was
--- marked or is in the rectangle: a place before these, or after them, is unmarked.
+-- a rectangle of the screen is marked as well, and no more
 pub record MarksArea (m n : Marking) (a : Area) : Type 0 where
   pub kept : (i j : ℕ) → IsUnmarked n i j → IsUnmarked m i j
   pub cells : (i j : ℕ) → IsUnmarked n i j → is_in a i j ≡ false
-  pub only : (i j : ℕ) → ((k : ℕ) → k ≤ j → IsUnmarkedOutside m a i k) ⊎ ((k : ℕ) → j ≤ k → IsUnmarkedOutside m a i k)
-      → IsUnmarked n i j
+  pub only : MarksNoMore m n a
 
 -- a window's rectangle is marked as well of its grid, unless that is a pad's, and nothing of any other grid
 pub record MarksSlot (t u : Markings) (d : State) (s : Slot) : Type 0 where

@@ -1,9 +1,9 @@
 //! The calls on one window.
-ghost use Rattle.std.specs.Prelude.{◌≡◌, ◌≢◌, bit_and, bit_or, ◌-◌, IfErr};
+ghost use Rattle.std.specs.Prelude.{◌≡◌, ◌≢◌, bit_and, bit_or, ◌-◌, IfErr, IfOk, length};
 ghost use Rattle.cur_windows.specs.Desks as spec;
 ghost use Rattle.cur_drawing.specs.Calls as call;
 ghost use Rattle.cur_drawing.specs.Windows as window;
-ghost use Rattle.cur_windows.specs.Touched.{KeepsShown, MarksWritten};
+ghost use Rattle.cur_windows.specs.Touched.{FitsLine, IsOneCell, KeepsShown, MarksCellsAlone, MarksWritten};
 
 use crate::desks::Desk;
 use crate::hints::{after_writing, joined};
@@ -129,7 +129,8 @@ impl Desk {
 
     /// As `addch`; where the window's grid has changed it is marked as well. Nothing is marked but the lines of that
     /// grid through which the cursor went, or all of it if the region may have gone up; nothing where the call is
-    /// refused with another answer than `NoScroll`.
+    /// refused with another answer than `NoScroll`. A character that becomes one cell of the cursor's line, not in its
+    /// last column, marks this cell alone, and what lies between it and the marks that were in its line.
     pub fn addch_marked(
         &mut self,
         id: usize,
@@ -139,6 +140,8 @@ impl Desk {
         ensures step { spec.step self.new result ≡ spec.on_window self.old id (call.added put) }
         ensures touched { KeepsShown touched.old.grids.items self.old touched.new.grids.items self.new }
         ensures only { MarksWritten touched.old.grids.items touched.new.grids.items self.old self.new id }
+        ensures cells { IfOk (spec.slot_of self.old id) (λ s. IsOneCell s.window put
+            → MarksCellsAlone touched.old.grids.items touched.new.grids.items self.old s 1) }
         ensures refused { IfErr result (λ e. e ≢ Refusal.NoScroll → touched.new ≡ touched.old) }
     {
         let mut slot = self.find(id)?;
@@ -166,7 +169,9 @@ impl Desk {
     }
 
     /// As `addstr`; where the window's grid has changed it is marked as well. Nothing is marked but the lines of that
-    /// grid through which the cursor went, or all of it if the region may have gone up.
+    /// grid through which the cursor went, or all of it if the region may have gone up. A string that becomes cells of
+    /// the cursor's line, none in its last column, marks these alone, and what lies between them and the marks that
+    /// were in their line.
     pub fn addstr_marked(
         &mut self,
         id: usize,
@@ -176,6 +181,8 @@ impl Desk {
         ensures step { spec.step self.new result ≡ spec.on_window self.old id (call.added_all text.now) }
         ensures touched { KeepsShown touched.old.grids.items self.old touched.new.grids.items self.new }
         ensures only { MarksWritten touched.old.grids.items touched.new.grids.items self.old self.new id }
+        ensures cells { IfOk (spec.slot_of self.old id) (λ s. FitsLine s.window text.now
+            → MarksCellsAlone touched.old.grids.items touched.new.grids.items self.old s (length text.now)) }
     {
         let mut slot = self.find(id)?;
         let (region, origin) = (self.region_of(&slot), self.origin_of(&slot));

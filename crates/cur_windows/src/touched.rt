@@ -1,5 +1,5 @@
 //! Where each grid may have changed since it was copied to the virtual screen.
-ghost use Rattle.std.specs.Prelude.{◌≡◌, ◌≢◌, ◌⊎◌, ◌<◌, ◌≤◌, ◌+◌, ℕ, IfErr, IfOk, false, true, length, replicate};
+ghost use Rattle.std.specs.Prelude.{◌≡◌, ◌≢◌, ◌⊎◌, ◌<◌, ◌≤◌, ◌+◌, ℕ, IfErr, IfOk, OnOk, false, true, length, replicate};
 ghost use Rattle.cur_drawing.specs.Marks.{JoinsMarks, none_marked};
 ghost use Rattle.cur_drawing.specs.Calls.{IsCanvas};
 ghost use Rattle.cur_drawing.specs.Windows.{IsWindow};
@@ -162,13 +162,14 @@ fn touch_grid(marks: &mut Marks, window: &Window, origin: Origin, first: u16)
     }
 }
 
-/// Where a window's cursor was before it was written, and how many cells of that line what is written becomes, before the
-/// last column; 0 where that isn't known.
+/// Where a window's cursor was before it was written, and whether what is written fits in that line: becomes `cells`
+/// cells of it, none of them in the last column.
 #[derive(Clone, Copy)]
 pub(crate) struct WrittenFrom {
     pub row: u16,
     pub col: u16,
     pub cells: u16,
+    pub fits: bool,
 }
 
 /// What is to be remembered before a character is written.
@@ -176,13 +177,14 @@ pub(crate) fn start_of(window: &Window, put: Put) -> WrittenFrom
     requires { IsWindow window.now }
     ensures row { result.row ≡ (window.now).row }
     ensures col { result.col ≡ (window.now).col }
-    ensures one { 0 < result.cells → IsOneCell window.now put × (result.cells ≡ 1) }
+    ensures one { result.fits ≡ true → IsOneCell window.now put × (result.cells ≡ 1) }
+    ensures exact { IsOneCell window.now put → result.fits ≡ true }
 {
-    let one = put.is_cell() && window.col + 1 < window.area.cols;
     WrittenFrom {
         row: window.row,
         col: window.col,
-        cells: if one { 1 } else { 0 },
+        cells: 1,
+        fits: put.is_cell() && window.col + 1 < window.area.cols,
     }
 }
 
@@ -191,29 +193,31 @@ pub(crate) fn start_of_text(window: &Window, text: &[u8]) -> WrittenFrom
     requires { IsWindow window.now }
     ensures row { result.row ≡ (window.now).row }
     ensures col { result.col ≡ (window.now).col }
-    ensures cells { 0 < result.cells → FitsLine window.now text.now × (result.cells ≡ length text.now) }
+    ensures cells { result.fits ≡ true → FitsLine window.now text.now × (result.cells ≡ length text.now) }
+    ensures exact { FitsLine window.now text.now → result.fits ≡ true }
 {
+    let fits = fits_line(window, text);
     WrittenFrom {
         row: window.row,
         col: window.col,
-        cells: cells_of_text(window, text),
+        cells: if fits { text.len() as u16 } else { 0 },
+        fits,
     }
 }
 
-// How many cells of the cursor's line a string becomes, before the last column; 0 where that isn't known.
-fn cells_of_text(window: &Window, text: &[u8]) -> u16
+// Whether a string becomes cells of the cursor's line, none of them in the last column.
+fn fits_line(window: &Window, text: &[u8]) -> bool
     requires { IsWindow window.now }
-    ensures { 0 < result → FitsLine window.now text.now × (result ≡ length text.now) }
+    ensures fits { result ≡ true → FitsLine window.now text.now }
+    ensures exact { FitsLine window.now text.now → result ≡ true }
 {
-    if text.len() >= (window.area.cols - window.col) as usize || !are_printed(text) {
-        return 0;
-    }
-    text.len() as u16
+    text.len() < (window.area.cols - window.col) as usize && are_printed(text)
 }
 
 // Whether each of the bytes is a character of 32 to 126.
 fn are_printed(text: &[u8]) -> bool
-    ensures { result ≡ true → ArePrinted text.now }
+    ensures printed { result ≡ true → ArePrinted text.now }
+    ensures exact { ArePrinted text.now → result ≡ true }
 {
     for k in 0..text.len() {
         if text[k] < 32 || text[k] > 126 {
@@ -234,14 +238,16 @@ pub(crate) fn touch_written(
 )
     requires window { IsWindow (slot.now).window }
     requires within { origin.pad ≡ false → LiesWithin origin (slot.now).window.area }
-    requires cells { 0 < start.cells → start.col + start.cells ≤ (slot.now).window.area.cols }
-    ensures touched { ((0 < start.cells)
+    requires cells { start.fits ≡ true → start.col + start.cells ≤ (slot.now).window.area.cols }
+    ensures touched { ((start.fits ≡ true)
         × AreTouched touched.old.grids.items touched.new.grids.items slot.now origin start.col start.cells)
         ⊎ (IsTouched touched.old.grids.items touched.new.grids.items slot.now origin start.row
         ⊎ LeavesMarks touched.old.grids.items touched.new.grids.items answer.now) }
+    ensures cells { start.fits ≡ true → OnOk answer.now
+        (AreTouched touched.old.grids.items touched.new.grids.items slot.now origin start.col start.cells) }
     ensures refused { IfErr answer.now (λ e. e ≢ Refusal.NoScroll → touched.new ≡ touched.old) }
 {
-    if start.cells > 0 && answer.is_ok() {
+    if start.fits && answer.is_ok() {
         touch_cells(touched, slot, origin, start.col, start.cells);
         return;
     }
@@ -252,12 +258,14 @@ pub(crate) fn touch_written(
 pub(crate) fn touch_text(touched: &mut Touched, slot: &Slot, origin: Origin, start: WrittenFrom)
     requires window { IsWindow (slot.now).window }
     requires within { origin.pad ≡ false → LiesWithin origin (slot.now).window.area }
-    requires cells { 0 < start.cells → start.col + start.cells ≤ (slot.now).window.area.cols }
-    ensures { ((0 < start.cells)
+    requires cells { start.fits ≡ true → start.col + start.cells ≤ (slot.now).window.area.cols }
+    ensures touched { ((start.fits ≡ true)
         × AreTouched touched.old.grids.items touched.new.grids.items slot.now origin start.col start.cells)
         ⊎ IsTouched touched.old.grids.items touched.new.grids.items slot.now origin start.row }
+    ensures cells { start.fits ≡ true
+        → AreTouched touched.old.grids.items touched.new.grids.items slot.now origin start.col start.cells }
 {
-    if start.cells > 0 {
+    if start.fits {
         touch_cells(touched, slot, origin, start.col, start.cells);
         return;
     }
@@ -273,7 +281,7 @@ fn touch_cells(touched: &mut Touched, slot: &Slot, origin: Origin, col: u16, cou
     ensures { AreTouched touched.old.grids.items touched.new.grids.items slot.now origin col count }
 {
     let root = slot.root as usize;
-    if origin.pad || root >= touched.grids.len() {
+    if origin.pad || root >= touched.grids.len() || count == 0 {
         return;
     }
     mark_cells(&mut touched.grids[root], &slot.window, origin, col, count);
@@ -284,6 +292,7 @@ fn mark_cells(marks: &mut Marks, window: &Window, origin: Origin, col: u16, coun
     requires window { IsWindow window.now }
     requires within { LiesWithin origin (window.now).area }
     requires cells { col + count ≤ (window.now).area.cols }
+    requires some { 0 < count }
     ensures { MarksCells marks.old marks.new origin window.now col count }
 {
     let row = origin.top + window.area.top + window.row;

@@ -1,9 +1,11 @@
-use Rattle.std.proofs.Common.{[], ℕ, inl, inr, refl, subst, sym}
+use Rattle.std.proofs.Common.{[], ℕ, IfOk, OnOk, Result, inl, inr, refl, subst, sym}
 use Rattle.cur_drawing.specs.Calls as calls
+use Rattle.cur_drawing.specs.declared.refusals.Refusal.{Refusal}
 use Rattle.cur_drawing.proofs.RefusalFacts as refusing
 use Rattle.cur_drawing.proofs.Stability as staying
-use Rattle.cur_windows.specs.Touched.{AreTouched, IsTouched}
-use Rattle.cur_windows.proofs.CellFacts.{StaysInLine, put_stays, touched_cells, written_cells}
+use Rattle.cur_windows.specs.declared.slots.Slot.{Slot}
+use Rattle.cur_windows.specs.Touched.{AreTouched, IsOneCell, IsTouched, MarksCellsAlone}
+use Rattle.cur_windows.proofs.CellFacts.{StaysInLine, alone_cells, put_answers, put_stays, touched_cells, written_cells}
 use Rattle.cur_windows.proofs.Closures.{closes_canvas}
 use Rattle.cur_windows.proofs.TouchedFacts.{left_by, left_unmarked, touched_by, written_by}
 use Rattle.cur_windows.proofs.WrittenLines as writing
@@ -37,3 +39,10 @@ returns-clause-only c = elim c.touch_written.ensures.touched [
     | inr left ↦ left_unmarked _ _ c.args.id _ _ c.add-answer.result left
   ]
 ]
+
+pub returns-clause-cells : goal.returns-clause-cells
+returns-clause-cells c = subst (λ (r : Result Slot Refusal). IfOk r (λ s. IsOneCell s.window c.args.put → MarksCellsAlone c.args.touched.now.grids.items c.touch_written.new.touched.grids.items c.args.self.now s 1)) c.in_ok-slot.ensures.value (λ is.
+    let fits = c.start_of-start.ensures.exact is in
+    alone_cells c.args.self.now _ _ _ _ _ _ _ _ _ 1 (put_stays c.args.put _ _ is c.add-answer.ensures.value) c.origin_of-origin.ensures.value c.start_of-start.ensures.col (c.start_of-start.ensures.one fits).1
+    (subst (λ (r : Result (Unit {0}) Refusal). OnOk r (AreTouched c.args.touched.now.grids.items c.touch_written.new.touched.grids.items (record c.in_ok-slot.slot { window = c.add-answer.new.self }) c.origin_of-origin.result c.start_of-start.result.col c.start_of-start.result.cells))
+    (put_answers c.args.put _ _ is c.add-answer.ensures.value) (c.touch_written.ensures.cells fits)))

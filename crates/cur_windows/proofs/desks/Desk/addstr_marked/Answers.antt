@@ -1,8 +1,10 @@
-use Rattle.std.proofs.Common.{[], ℕ, inl, inr, refl, subst, sym}
+use Rattle.std.proofs.Common.{[], ℕ, IfOk, Result, length, inl, inr, refl, subst, sym}
 use Rattle.cur_drawing.specs.Calls as calls
+use Rattle.cur_drawing.specs.declared.refusals.Refusal.{Refusal}
 use Rattle.cur_drawing.proofs.Stability as staying
-use Rattle.cur_windows.specs.Touched.{AreTouched, IsTouched}
-use Rattle.cur_windows.proofs.CellFacts.{StaysInLine, text_stays, touched_cells, written_cells}
+use Rattle.cur_windows.specs.declared.slots.Slot.{Slot}
+use Rattle.cur_windows.specs.Touched.{AreTouched, FitsLine, IsTouched, MarksCellsAlone}
+use Rattle.cur_windows.proofs.CellFacts.{StaysInLine, alone_cells, text_stays, touched_cells, written_cells}
 use Rattle.cur_windows.proofs.Closures.{closes_canvas}
 use Rattle.cur_windows.proofs.TouchedFacts.{touched_by, written_by}
 use Rattle.cur_windows.proofs.WrittenLines as writing
@@ -12,7 +14,7 @@ pub invariant_of-self : goal.invariant_of-self
 invariant_of-self c = closes_canvas _ _ c.args.id _ _ _ _ c.self.view_is c.self.invariant c.in_ok-slot.ensures.there c.index_mut-grid.ensures.value c.add_all-answer.ensures.kept
 
 pub returns-clause-touched : goal.returns-clause-touched
-returns-clause-touched c = elim c.touch_text.ensures [
+returns-clause-touched c = elim c.touch_text.ensures.touched [
   | inl cells ↦ (let fits = c.start_of_text-start.ensures.cells cells.0 in
       touched_cells _ _ [] c.args.id _ _ _ _ _ _ _ c.start_of_text-start.result.cells
       (subst (StaysInLine _ _) (sym fits.1) (text_stays c.args.text.now _ _ fits.0 c.add_all-answer.ensures.value)) c.self.view_is c.self.invariant c.in_ok-slot.ensures.placed c.index_mut-grid.ensures.value c.add_all-answer.ensures.kept c.origin_of-origin.ensures.value
@@ -22,7 +24,7 @@ returns-clause-touched c = elim c.touch_text.ensures [
 ]
 
 pub returns-clause-only : goal.returns-clause-only
-returns-clause-only c = elim c.touch_text.ensures [
+returns-clause-only c = elim c.touch_text.ensures.touched [
   | inl cells ↦ (let fits = c.start_of_text-start.ensures.cells cells.0 in
       written_cells _ _ _ c.args.id _ _ _ _ _ _ _ c.start_of_text-start.result.cells
       (subst (StaysInLine _ _) (sym fits.1) (text_stays c.args.text.now _ _ fits.0 c.add_all-answer.ensures.value)) c.self.view_is c.self.invariant c.in_ok-slot.ensures.there c.in_ok-slot.ensures.value refl c.origin_of-origin.ensures.value
@@ -30,3 +32,8 @@ returns-clause-only c = elim c.touch_text.ensures [
   | inr is ↦ written_by _ _ _ c.args.id _ _ _ _ _ c.self.view_is c.self.invariant c.in_ok-slot.ensures.there c.in_ok-slot.ensures.value refl c.origin_of-origin.ensures.value
       (subst (λ (n : ℕ). IsTouched c.args.touched.now.grids.items c.touch_text.new.touched.grids.items (record c.in_ok-slot.slot { window = c.add_all-answer.new.self }) c.origin_of-origin.result n) c.start_of_text-start.ensures.row is)
 ]
+
+pub returns-clause-cells : goal.returns-clause-cells
+returns-clause-cells c = subst (λ (r : Result Slot Refusal). IfOk r (λ s. FitsLine s.window c.args.text.now → MarksCellsAlone c.args.touched.now.grids.items c.touch_text.new.touched.grids.items c.args.self.now s (length c.args.text.now))) c.in_ok-slot.ensures.value (λ is.
+    let fits = c.start_of_text-start.ensures.exact is in
+    alone_cells c.args.self.now _ _ _ _ _ _ _ _ _ (length c.args.text.now) (text_stays c.args.text.now _ _ is c.add_all-answer.ensures.value) c.origin_of-origin.ensures.value c.start_of_text-start.ensures.col (c.start_of_text-start.ensures.cells fits).1 (c.touch_text.ensures.cells fits))
