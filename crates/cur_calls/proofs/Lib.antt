@@ -2,3 +2,4 @@ pub mod Caps
 pub mod CutFacts
 pub mod Readers
 pub mod WordsLeft
+pub mod Shorts

@@ -1,6 +1,11 @@
 //! Numbers in decimal.
-ghost use Rattle.std.specs.Prelude.{◌≡◌, ◌<◌, ◌≤◌, option_map, IfSome};
+ghost use Rattle.std.specs.Prelude.{◌≡◌, ◌<◌, ◌≤◌, option_map, IfSome, Some};
 ghost use Rattle.cur_calls.specs.Numbers as spec;
+ghost use Rattle.cur_calls.specs.Words.{SpellsShort, front_word, past_front_word};
+ghost use Rattle.cur_calls.specs.Numbers.{window_in};
+
+// A number below it has at most eight digits.
+const SHORT: u32 = 100_000_000;
 
 // The greatest value of a word, whatever its sign.
 const GREATEST: u64 = 2_147_483_648;
@@ -14,6 +19,38 @@ fn digit_in(byte: u8) -> Option<u32>
     } else {
         None
     }
+}
+
+/// The number that the first word of a text spells in at most nine digits, and what comes after that.
+#[inline(always)]
+#[tactic(auto, using(crate::proofs::WordsLeft::divided, std::proofs::lemmas::List::take_rest))]
+pub(crate) fn short_number(text: &[u8]) -> Option<(u32, &[u8])>
+    ensures value { IfSome result (λ x. window_in (front_word text.now) ≡ Some x.0) }
+    ensures rest { IfSome result (λ x. x.1.now ≡ past_front_word text.now) }
+    ensures range { IfSome result (λ x. x.0 ≤ 2147483647) }
+{
+    let (number, count) = short_digits(text)?;
+    Some((number, &text[count..]))
+}
+
+// The number that the first word of a text spells in at most nine digits, and how many these are.
+#[inline(always)]
+fn short_digits(text: &[u8]) -> Option<(u32, usize)>
+    ensures { IfSome result (λ x. SpellsShort text.now x.0 x.1) }
+{
+    let mut number = 0;
+    let mut at = 0;
+    while at < text.len() && text[at] != b' ' {
+        if number >= SHORT {
+            return None;
+        }
+        number = number * 10 + digit_in(text[at])?;
+        at += 1;
+    }
+    if at == 0 {
+        return None;
+    }
+    Some((number, at))
 }
 
 fn capped(number: u64) -> u32

@@ -1,12 +1,12 @@
 //! The words of a line, one after another.
-ghost use Rattle.std.specs.Prelude.{◌≡◌, ◌∷◌, length, option_map};
+ghost use Rattle.std.specs.Prelude.{◌≡◌, ◌∷◌, ◌≤◌, length, option_map, IfSome, Some};
 ghost use Rattle.cur_calls.specs.Words as spec;
 ghost use Rattle.cur_calls.specs.Cuts.{words_of};
 ghost use Rattle.cur_calls.specs.Numbers.{number_in, window_in, flag_in, zero_in};
 ghost use Rattle.cur_calls.specs.Cells.{cell_in, cell_or, attrs_in};
 
 use crate::cells::{attrs_in, cell_in, cell_or};
-use crate::numbers::{flag_in, number_in, window_in, zero_in};
+use crate::numbers::{flag_in, number_in, short_number, window_in, zero_in};
 use crate::texts::Text;
 use cur_drawing::{Attrs, Put};
 use std::marker::Model;
@@ -28,7 +28,7 @@ impl<'a> Model for Words<'a> {
 }
 
 impl<'a> Words<'a> {
-    ghost use Rattle.std.specs.Prelude.{◌≡◌, ◌∷◌, option_map};
+    ghost use Rattle.std.specs.Prelude.{◌≡◌, ◌∷◌, ◌≤◌, option_map, IfSome, Some};
 
     /// The first word of a line, and those after it.
     #[inline(always)]
@@ -76,11 +76,38 @@ impl<'a> Words<'a> {
 
     /// A number.
     #[inline(always)]
+    #[tactic(auto, using(crate::proofs::Shorts::as_number))]
     pub(crate) fn number(self) -> Option<(i32, Words<'a>)>
         ensures { result ≡ spec.first number_in self.entry }
     {
+        if let Some((number, words)) = self.short_number() {
+            return Some((number as i32, words));
+        }
         let (word, words) = self.next()?;
         Some((number_in(word)?, words))
+    }
+
+    /// A number of a few digits without a sign, whose end is found as it is read; `None` also for any other number.
+    #[inline(always)]
+    fn short_number(&self) -> Option<(u32, Words<'a>)>
+        ensures value { IfSome result (λ p. spec.first window_in self.now ≡ Some (p.0, p.1)) }
+        ensures range { IfSome result (λ p. p.0 ≤ 2147483647) }
+    {
+        match self.left {
+            [] => None,
+            [_, text @ ..] => Words::first_short(text),
+        }
+    }
+
+    /// The same of the first word of a line.
+    #[inline(always)]
+    #[tactic(auto, using(crate::proofs::Shorts::first_short))]
+    fn first_short(line: &'a [u8]) -> Option<(u32, Words<'a>)>
+        ensures value { IfSome result (λ p. spec.first window_in (words_of line.now) ≡ Some (p.0, p.1)) }
+        ensures range { IfSome result (λ p. p.0 ≤ 2147483647) }
+    {
+        let (number, left) = short_number(line)?;
+        Some((number, Words { left }))
     }
 
     /// A window's number.
@@ -88,6 +115,9 @@ impl<'a> Words<'a> {
     pub(crate) fn window(self) -> Option<(usize, Words<'a>)>
         ensures { result ≡ spec.first window_in self.entry }
     {
+        if let Some((number, words)) = self.short_number() {
+            return Some((number as usize, words));
+        }
         let (word, words) = self.next()?;
         Some((window_in(word)?, words))
     }
