@@ -174,7 +174,7 @@ copywin words = do
   c ← four_numbers b.1
   d ← first flag_in c.1
   _ ← ended d.1
-  Some (Copywin a.0.0 a.0.1 b.0.0 b.0.1 c.0.0 c.0.1 c.0.2 c.0.3 d.0)
+  Some (Copywin d.0 a.0.0 a.0.1 b.0.0 b.0.1 c.0.0 c.0.1 c.0.2 c.0.3)
 
 -- refresh w
 abbrev pub show : ShowCall → List (List ℕ) → Option Call

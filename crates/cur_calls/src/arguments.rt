@@ -280,6 +280,7 @@ pub(crate) fn copywin<'a>(words: Words<'a>) -> Option<Call<'a>>
     let (skip, words) = words.flag()?;
     words.end()?;
     Some(Call::Copywin {
+        skip,
         source,
         target,
         from_row,
@@ -288,7 +289,6 @@ pub(crate) fn copywin<'a>(words: Words<'a>) -> Option<Call<'a>>
         col,
         last_row,
         last_col,
-        skip,
     })
 }
 

@@ -107,9 +107,10 @@ pub enum Call<'a> {
         source: usize,
         target: usize,
     },
-    /// `copywin`: from a place of the source on, to the target's rows `row` to `last_row` and columns `col` to
-    /// `last_col`; whether spaces are skipped.
+    /// `copywin`: whether spaces are skipped; from a place of the source on, to the target's rows `row` to `last_row` and
+    /// columns `col` to `last_col`.
     Copywin {
+        skip: bool,
         source: usize,
         target: usize,
         from_row: i32,
@@ -118,7 +119,6 @@ pub enum Call<'a> {
         col: i32,
         last_row: i32,
         last_col: i32,
-        skip: bool,
     },
     /// `noutrefresh`, `refresh`.
     Show {

@@ -183,6 +183,9 @@ pub(crate) fn mend_span<C: Certificate, O: Picture, N: Picture, W: Wire>(
         cells belief.old belief.new }
     ensures mode { OnOk result (belief.new.mode ≡ belief.old.mode) }
 {
+    if cells.count == 1 {
+        return print_each(screens, belief, wire, cells);
+    }
     let mut text = [0; TEXT];
     let mut done = 0;
     while done < cells.count {

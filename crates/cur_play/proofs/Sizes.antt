@@ -159,5 +159,5 @@ changing_sized d (Line k n p x) = line_sized k d n p x
 changing_sized d (DrawBorder n b) = grid_sized d n (call.bordered b)
 changing_sized d (DrawBox n v h) = grid_sized d n (call.bordered (call.box_of v h))
 changing_sized d (Lay k s t) = lay_sized (skips k) d s t
-changing_sized d (Copywin s t from_row from_col row col last_row last_col skip) = copy_sized d s t from_row from_col row col last_row last_col skip
+changing_sized d (Copywin skip s t from_row from_col row col last_row last_col) = copy_sized d s t from_row from_col row col last_row last_col skip
 changing_sized d _ = tt

@@ -103,7 +103,7 @@ shaping d (Line k n p x) = Some (line_step k d n p x)
 shaping d (DrawBorder n b) = Some (on_grid d n (call.bordered b))
 shaping d (DrawBox n v h) = Some (on_grid d n (call.bordered (call.box_of v h)))
 shaping d (Lay k s t) = Some (copy.common_part (skips k) d s t)
-shaping d (Copywin s t from_row from_col row col last_row last_col skip) =
+shaping d (Copywin skip s t from_row from_col row col last_row last_col) =
     Some (copy.copywin d s t from_row from_col row col last_row last_col skip)
 shaping d _ = None
 

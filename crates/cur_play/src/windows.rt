@@ -104,6 +104,7 @@ fn shape(desk: &mut Desk, call: &Call<'_>) -> Option<Result<(), Refusal>>
             target,
         } => Some(lay(desk, *call, *source, *target)),
         Call::Copywin {
+            skip,
             source,
             target,
             from_row,
@@ -112,7 +113,6 @@ fn shape(desk: &mut Desk, call: &Call<'_>) -> Option<Result<(), Refusal>>
             col,
             last_row,
             last_col,
-            skip,
         } => {
             Some(desk.copywin(
                 *source, *target, *from_row, *from_col, *row, *col, *last_row, *last_col, *skip,
