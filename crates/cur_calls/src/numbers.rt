@@ -4,7 +4,7 @@ ghost use Rattle.cur_calls.specs.Numbers as spec;
 ghost use Rattle.cur_calls.specs.Words.{SpellsShort, front_word, past_front_word};
 ghost use Rattle.cur_calls.specs.Numbers.{window_in};
 
-// A number below it has at most eight digits.
+// A number below it is in range with one digit more.
 const SHORT: u32 = 100_000_000;
 
 // The greatest value of a word, whatever its sign.
@@ -21,7 +21,7 @@ fn digit_in(byte: u8) -> Option<u32>
     }
 }
 
-/// The number that the first word of a text spells in at most nine digits, and what comes after that.
+/// The number below 1,000,000,000 that the first word of a text spells without a sign, and what comes after that.
 #[inline(always)]
 #[tactic(auto, using(crate::proofs::WordsLeft::divided, std::proofs::lemmas::List::take_rest))]
 pub(crate) fn short_number(text: &[u8]) -> Option<(u32, &[u8])>
@@ -33,7 +33,7 @@ pub(crate) fn short_number(text: &[u8]) -> Option<(u32, &[u8])>
     Some((number, &text[count..]))
 }
 
-// The number that the first word of a text spells in at most nine digits, and how many these are.
+// The number below 1,000,000,000 that the first word of a text spells without a sign, and how many digits it has.
 #[inline(always)]
 fn short_digits(text: &[u8]) -> Option<(u32, usize)>
     ensures { IfSome result (λ x. SpellsShort text.now x.0 x.1) }

@@ -87,7 +87,7 @@ impl<'a> Words<'a> {
         Some((number_in(word)?, words))
     }
 
-    /// A number of a few digits without a sign, whose end is found as it is read; `None` also for any other number.
+    /// A number of a few digits without a sign, whose end is found as it is read; `None` for any other number too.
     #[inline(always)]
     fn short_number(&self) -> Option<(u32, Words<'a>)>
         ensures value { IfSome result (λ p. spec.first window_in self.now ≡ Some (p.0, p.1)) }

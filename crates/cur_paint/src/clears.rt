@@ -136,6 +136,10 @@ pub(crate) fn may_become_blanks<N: Picture, D: Changes>(
     rows: usize,
     cols: usize,
 ) -> bool {
+    let lines = changes.lines(rows, cols);
+    if lines.end - lines.from <= rows / 4 {
+        return false;
+    }
     let middle = may_become_blank(new, changes, rows / 2, rows, cols);
     let upper = may_become_blank(new, changes, rows / 4, rows, cols);
     match (middle, upper) {

@@ -48,10 +48,21 @@ fn read_up_to<F: Files>(
     ensures kept { F.holds files.new ≡ F.holds files.old }
 {
     let file = files.reader(path)?;
-    let mut bytes = Vec::new(alloc);
+    let Ok(mut bytes) = Vec::with_capacity(alloc, room_for(files.length_hint(), count)) else {
+        return Err(FileFault::NoMemory);
+    };
     match file.take(count).read_to_end(&mut bytes) {
         Ok(_) => Ok(bytes),
         Err(error) => Err(FileFault::from(error)),
+    }
+}
+
+/// How much room is made at first for at most `count` bytes, where they are likely to be `length`: one byte more, so that
+/// the end is found without growing.
+fn room_for(length: u64, count: u64) -> usize {
+    match length {
+        0 => 0,
+        _ => (length.min(count) as usize).saturating_add(1),
     }
 }
 

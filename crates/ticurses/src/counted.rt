@@ -28,6 +28,10 @@ impl<F: Files> Files for Counted<'_, F> {
         self.files.reader(path)
     }
 
+    fn length_hint(&self) -> u64 {
+        self.files.length_hint()
+    }
+
     fn store(&mut self, path: &str, bytes: &[u8]) -> Result<(), FileFault> {
         self.files.store(path, bytes)?;
         self.lines = Some(bytes.iter().filter(|byte| **byte == b'\n').count());

@@ -26,6 +26,8 @@ pub struct Stored<'a, R, I> {
     input: Option<I>,
     /// The file that was opened last, by its device and its number there.
     last_read: Option<(u64, u64)>,
+    /// The length of the file that was opened last, where it has one.
+    last_length: u64,
 }
 
 impl<'a, R: rt::Files, I> Stored<'a, R, I> {
@@ -36,6 +38,7 @@ impl<'a, R: rt::Files, I> Stored<'a, R, I> {
             rt,
             input: Some(input),
             last_read: None,
+            last_length: 0,
         }
     }
 
@@ -43,6 +46,7 @@ impl<'a, R: rt::Files, I> Stored<'a, R, I> {
     fn open_input(&mut self) -> Result<I, FileFault> {
         let metadata = fs::metadata(self.rt, INPUT_FILE);
         self.last_read = metadata.ok().map(|metadata| identity(&metadata));
+        self.last_length = 0;
         match self.input.take() {
             Some(input) => Ok(input),
             None => Err(FileFault::Failed(FileCause::Other)),
@@ -135,8 +139,14 @@ impl<R: rt::Files, I: Read + Drop> Files for Stored<'_, R, I> {
             return Ok(Opened::Input(self.open_input()?));
         }
         let file = fs::open(self.rt, path)?;
-        self.last_read = Some(identity(&file.metadata()?));
+        let metadata = file.metadata()?;
+        self.last_read = Some(identity(&metadata));
+        self.last_length = metadata.len();
         Ok(Opened::File(file))
+    }
+
+    fn length_hint(&self) -> u64 {
+        self.last_length
     }
 
     /// A file is replaced as a whole, through links too; what is no file, as a terminal or a pipe, is written.
