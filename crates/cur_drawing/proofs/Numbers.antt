@@ -13,6 +13,13 @@ equal_numbers m n h =
     let pairs : m / 256 / 256 ≡ n / 256 / 256 = ap (λ (c : Content). c.pair) h in
     omega (arith, bytes, attributes, pairs)
 
+-- the two upper parts of a number
+pub same_styles : (m n : ℕ) → m / 256 ≡ n / 256 → (m / 256 % 256 ≡ n / 256 % 256) × (m / 256 / 256 ≡ n / 256 / 256)
+same_styles m n h = (ap (λ (k : ℕ). k % 256) h, ap (λ (k : ℕ). k / 256) h)
+
+pub equal_styles : (m n : ℕ) → m / 256 % 256 ≡ n / 256 % 256 → m / 256 / 256 ≡ n / 256 / 256 → m / 256 ≡ n / 256
+equal_styles m n attributes pairs = omega (arith, attributes, pairs)
+
 -- the test that two numbers differ
 abbrev pub differ : ℕ → ℕ → Bool
 differ a b = not (eqb a b)

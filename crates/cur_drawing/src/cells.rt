@@ -1,5 +1,5 @@
 //! Attributes and cells (X/Open Curses Issue 7, "Attributes", "Characters").
-ghost use Rattle.std.specs.Prelude.{ℕ, length, slice_index_or, ⊤, ◌≡◌, ◌<◌, ◌≤◌, ◌-◌, ◌==◌, [], ◌∷◌, codes, bit_or, bit_and};
+ghost use Rattle.std.specs.Prelude.{ℕ, length, slice_index_or, ⊤, ◌≡◌, ◌<◌, ◌≤◌, ◌-◌, ◌==◌, [], ◌∷◌, codes, bit_or, bit_and, false, true};
 ghost use Rattle.cur_drawing.specs.Cells.{content_of, IsPrinted, IsCell, space, restyled};
 
 use bitflags::{Flag, Flags, bitflag_items};
@@ -141,6 +141,15 @@ impl Cell {
         ensures there { result < 64 }
     {
         (self.code / 256 / 256) as u8
+    }
+
+    /// Whether it has the attributes and the pair of another one.
+    #[tactic(auto, using(crate::proofs::Numbers::same_styles, crate::proofs::Numbers::equal_styles))]
+    pub fn is_styled_like(self, other: Cell) -> bool
+        ensures alike { result ≡ true → (self.attrs ≡ other.attrs) × (self.pair ≡ other.pair) }
+        ensures apart { result ≡ false → self.attrs ≡ other.attrs → self.pair ≡ other.pair → ⊥ }
+    {
+        self.code / 256 == other.code / 256
     }
 
     // The cell as one number.

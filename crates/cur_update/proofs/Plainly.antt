@@ -1,11 +1,12 @@
 -- Cells of no attributes and default colours.
-use Rattle.std.proofs.Common.{◌≡◌, ◌==◌, ◌&&◌, ℕ, Bool, true, false, Option, None, refl, sym, ap, subst, ◌∙◌}
+use Rattle.std.proofs.Common.{◌≡◌, ◌==◌, ◌&&◌, ℕ, Bool, true, false, not, if◌then◌else◌, Option, None, refl, sym, ap, subst, ◌∙◌}
 use Rattle.cur_drawing.specs.Cells.{Content}
 use Rattle.cur_windows.specs.declared.virtual_screen.Colors.{Colors}
-use Rattle.cur_looks.specs.Inks.{same, blank_ink}
+use Rattle.cur_looks.specs.Inks.{alike, same, same_brush, blank_ink}
 use Rattle.cur_looks.specs.declared.inks.Ink.{Ink}
 use Rattle.cur_update.specs.declared.inks.Means.{Means}
-use Rattle.cur_update.specs.Inks.{ink_with, plain_ink}
+use Rattle.ti_conforms.specs.Alternates.{Character, in_plain_set, shown}
+use Rattle.cur_update.specs.Inks.{brush_of, has_bit, ink_with, is_other, partner_in, plain_ink}
 
 pub plain_is : (m : Means) (partners : ℕ → Option ℕ) (f b : Option ℕ) (c : Content) → c.attrs ≡ 0 → f ≡ None → b ≡ None
     → ink_with m partners (record { foreground = f; background = b }) c ≡ plain_ink c.byte
@@ -19,3 +20,25 @@ space_told m partners p c e = subst (λ (x : Ink). (c.byte == 32) ≡ same x bla
     decide : (b : Bool) → b ≡ (b && same (plain_ink 32) blank_ink)
     decide true = refl
     decide false = refl
+
+-- a cell of the plain set with another character is printed otherwise
+pub other_told : (m : Means) (partners : ℕ → Option ℕ) (p : Colors) (c : Content) (byte : ℕ) (ink : Ink) → is_other c byte ≡ true → same (ink_with m partners p c) (record ink { byte = byte }) ≡ false
+other_told m partners p c byte ink is = by_set (has_bit c.attrs 128) refl is
+  where
+    character : Bool → Character
+    character a = if a then shown (partner_in m.graphic (partners c.byte)) c.byte else in_plain_set c.byte
+
+    others : Bool → Bool
+    others a = alike (character a).graphic ink.graphic && same_brush (brush_of m.colored p c) ink.brush
+
+    by_byte : (b : Bool) → (c.byte == byte) ≡ b → not b ≡ true → ((c.byte == byte) && others false) ≡ false
+    by_byte true e off = absurd (cc)
+    by_byte false e told = ap (λ (b : Bool). b && others false) e
+
+    by_set : (a : Bool) → has_bit c.attrs 128 ≡ a → (not a && not (c.byte == byte)) ≡ true → same (ink_with m partners p c) (record ink { byte = byte }) ≡ false
+    by_set true e off = absurd (cc)
+    by_set false e told = ap (λ (a : Bool). ((character a).byte == byte) && others a) e ∙ by_byte (c.byte == byte) refl told
+
+pub told_other : (b shown : Bool) → shown ≡ not b → shown ≡ false → b ≡ true
+told_other true shown is off = refl
+told_other false shown is off = absurd (let clash : true ≡ false = sym is ∙ off in cc)

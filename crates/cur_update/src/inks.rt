@@ -1,5 +1,5 @@
 //! How cells of the virtual screen are printed.
-ghost use Rattle.std.specs.Prelude.{◌≡◌, ◌+◌, ◌<◌, ◌≤◌, ℕ, Option, IfSome, length, slice_index_or, true};
+ghost use Rattle.std.specs.Prelude.{◌≡◌, ◌+◌, ◌<◌, ◌≤◌, ℕ, Option, IfSome, false, length, not, slice_index_or, true};
 ghost use Rattle.cur_drawing.specs.Cells.{space};
 ghost use Rattle.ti_rows.specs.declared.rows.Row.TheVariants.{Smacs, Op};
 ghost use Rattle.ti_conforms.specs.Certified.{has};
@@ -193,14 +193,34 @@ pub(crate) fn is_other(cell: Cell, byte: u8) -> bool
     !cell.attrs().has(Attrs::ALTCHARSET) && cell.byte() != byte
 }
 
+/// Notes in `shown` which cells aren't known to have another character than `text` has for them: those of the
+/// alternate set, and those with this character.
+pub(crate) fn note_alike(line: &[Cell], text: &[u8], shown: &mut [bool])
+    requires text { length line.now ≤ length text.now }
+    requires room { length line.now ≤ length shown.old }
+    ensures room { length shown.new ≡ length shown.old }
+    ensures alike { (k : ℕ) → k < length line.now → slice_index_or shown.new k false
+        ≡ not (spec.is_other (slice_index_or line.now k space) (slice_index_or text.now k 0)) }
+{
+    for n in 0..line.len() {
+        shown[n] = may_have(line[n], text[n]);
+    }
+}
+
+// Whether a cell is of the alternate set or has this character. Both are asked, so that there is no branch.
+#[inline(always)]
+fn may_have(cell: Cell, byte: u8) -> bool
+    ensures { result ≡ not (spec.is_other cell byte) }
+{
+    cell.attrs().has(Attrs::ALTCHARSET) | (cell.byte() == byte)
+}
+
 /// Whether a cell of the plain set has the attributes and the pair of another one.
 #[inline(always)]
 fn is_plain_like(cell: Cell, other: Cell) -> bool
     ensures { result ≡ true → spec.IsPlainLike cell other cell.byte }
 {
-    cell.attrs() == other.attrs()
-        && cell.pair() == other.pair()
-        && !other.attrs().has(Attrs::ALTCHARSET)
+    cell.is_styled_like(other) && !other.attrs().has(Attrs::ALTCHARSET)
 }
 
 /// The character of a cell of the plain set, if another cell has its attributes and its pair.

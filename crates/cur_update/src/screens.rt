@@ -6,7 +6,7 @@ ghost use Rattle.cur_looks.specs.Stretches.{AreLike};
 ghost use Rattle.cur_update.specs.Inks.{content_at, ink_at_with, printed_cell};
 
 use crate::inks::{
-    Means, ink_of, is_blank_ink, is_other, is_plain, plain_byte, plain_text, shows_ink,
+    Means, ink_of, is_blank_ink, is_other, is_plain, note_alike, plain_byte, plain_text, shows_ink,
 };
 use cur_drawing::Cell;
 use cur_looks::{Cells, Ink, Picture, byte_as, is_plain_ink, is_same};
@@ -160,8 +160,12 @@ impl<'a, C: Certificate> PrintedScreen<'a, C> {
             ≡ same (printed_cell self.now.means (C.partners self.now.checked.now) self.now.screen.now
             (slice_index_or line.now k space)) (record ink { byte = slice_index_or text.now k 0 }) }
     {
+        note_alike(line, text, shown);
         let is_plain_ink = is_plain_ink(ink);
         for n in 0..line.len() {
+            if !shown[n] {
+                continue;
+            }
             shown[n] = self.shows_cell(line[n], text[n], ink, is_plain_ink);
         }
     }

@@ -87,6 +87,10 @@ fn moved_between(old: &Virtual, new: &Virtual, top: u16, bottom: u16) -> Option<
 fn differ_much(found: &Findings<'_>, rows: u16) -> bool
     requires { 0 < rows }
 {
+    let lines = found.lines.end.saturating_sub(found.lines.from);
+    if lines <= usize::from(rows / 4) {
+        return false;
+    }
     let middle = may_differ(found, rows / 2);
     let upper = may_differ(found, rows / 4);
     match (middle, upper) {

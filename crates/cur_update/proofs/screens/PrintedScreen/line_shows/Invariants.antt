@@ -1,12 +1,14 @@
-use Rattle.std.proofs.Common.{◌≡◌, ◌<◌, ℕ, false, length, slice_index_or}
+-- For the cells that were gone through it is noted whether they are printed so; of the others, whether they may be.
+use Rattle.std.proofs.Common.{◌≡◌, ◌<◌, ◌≤◌, ℕ, false, length, not, slice_index_or}
 use Rattle.cur_drawing.specs.Cells.{space}
 use Rattle.cur_looks.specs.Inks.{same}
-use Rattle.cur_update.specs.Inks.{printed_cell}
+use Rattle.cur_update.specs.Inks.{is_other, printed_cell}
 use Rattle.cur_update.proofs.screens.PrintedScreen.line_shows.Given as goal
 
 abbrev pub invariant-loop-n : goal.invariant-loop-n
 invariant-loop-n g l = record {
-  length : length l.shown ≡ length l.fn.shown;
+  size : length l.shown ≡ length l.fn.shown;
   found : (k : ℕ) → k < l.n → slice_index_or l.shown k false
       ≡ same (printed_cell l.self.means (g.C.Certificate.partners l.self.checked.now) l.self.screen.now (slice_index_or l.line k space)) (record l.ink { byte = slice_index_or l.text k 0 });
+  rest : (k : ℕ) → l.n ≤ k → k < length l.line → slice_index_or l.shown k false ≡ not (is_other (slice_index_or l.line k space) (slice_index_or l.text k 0));
 }
