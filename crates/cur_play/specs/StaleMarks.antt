@@ -8,5 +8,5 @@ use Rattle.cur_play.specs.declared.stale_marks.StaleMarks.{StaleMarks}
 
 -- outside the marks the virtual screen has the cells of each grid, and what was shown last those of the screen
 pub record IsKnown (c : StaleMarks) (d : State) (v : Screen) (shown : Grid) : Type 0 where
-  pub window : ShowsBut c.window.grids.items d v.grid
+  pub window : ShowsBut c.window d v.grid
   pub screen : AreSame c.screen shown v.grid

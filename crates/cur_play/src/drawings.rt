@@ -25,7 +25,7 @@ pub(crate) fn draw<C: Certificate>(
 ) -> Answer
     requires rows { (screen.old).rows ≡ (desk.old).rows }
     requires cols { (screen.old).cols ≡ (desk.old).cols }
-    requires touched { ShowsBut stale.old.window.grids.items desk.old (screen.old).grid }
+    requires touched { ShowsBut stale.old.window desk.old (screen.old).grid }
     ensures draws { Draws (C.table painter.old.checked)
         (record {
           desk = desk.old;
@@ -45,7 +45,7 @@ pub(crate) fn draw<C: Certificate>(
     ensures cols { (screen.new).cols ≡ (screen.old).cols }
     ensures certificate { painter.new.checked ≡ painter.old.checked }
     ensures painter { painter.new ≡ record painter.old { mode = painter.new.mode } }
-    ensures touched { ShowsBut stale.new.window.grids.items desk.new (screen.new).grid }
+    ensures touched { ShowsBut stale.new.window desk.new (screen.new).grid }
     ensures marked { Keeps stale.old.screen (screen.old).grid stale.new.screen (screen.new).grid }
 {
     if let Some(outcome) = make(desk, call) {
@@ -68,7 +68,7 @@ fn show<C: Certificate>(
 ) -> Answer
     requires rows { (screen.old).rows ≡ (desk.old).rows }
     requires cols { (screen.old).cols ≡ (desk.old).cols }
-    requires touched { ShowsBut stale.old.window.grids.items desk.old (screen.old).grid }
+    requires touched { ShowsBut stale.old.window desk.old (screen.old).grid }
     ensures step { (
       record { desk = desk.new; screen = screen.new; mode = painter.new.mode; status = painter.old.session.status },
       result,
@@ -77,13 +77,13 @@ fn show<C: Certificate>(
         (record { desk = desk.old; screen = screen.old; mode = painter.old.mode; status = painter.old.session.status })
         call.now }
     ensures painter { painter.new ≡ record painter.old { mode = painter.new.mode } }
-    ensures touched { ShowsBut stale.new.window.grids.items desk.new (screen.new).grid }
+    ensures touched { ShowsBut stale.new.window desk.new (screen.new).grid }
     ensures marked { Keeps stale.old.screen (screen.old).grid stale.new.screen (screen.new).grid }
 {
     match call {
         Call::Show { window, .. } => {
             let (touched, marks) = (&mut stale.window, &mut stale.screen);
-            answer_of(desk.noutrefresh_marked(*window, screen, touched, marks))
+            answer_of(desk.noutrefresh_marked(*window as usize, screen, touched, marks))
         }
         Call::ShowPad {
             window,
@@ -98,7 +98,15 @@ fn show<C: Certificate>(
             stale.window.mark_all();
             stale.screen.mark_all();
             answer_of(pnoutrefresh(
-                desk, *window, *row, *col, *top, *left, *bottom, *right, screen,
+                desk,
+                *window as usize,
+                *row,
+                *col,
+                *top,
+                *left,
+                *bottom,
+                *right,
+                screen,
             ))
         }
         Call::CursSet { mode } => mode_answer(painter.cursor_mode(*mode)),

@@ -17,7 +17,7 @@ impl StaleMarks {
     /// For a screen of `rows` lines: all is marked of each grid, and nothing of the screen. An error where a growth was
     /// refused.
     pub(crate) fn new(alloc: Global, rows: u16) -> Result<StaleMarks, AllocError>
-        ensures { IfOk result (λ stale. AreFull stale.window.grids.items) }
+        ensures { IfOk result (λ stale. AreFull stale.window) }
     {
         let window = Touched::new(alloc, rows)?;
         let screen = Marks::new(alloc, rows)?;

@@ -20,30 +20,36 @@ pub(crate) fn change(
     call: &Call<'_>,
 ) -> Option<Result<(), Refusal>>
     ensures does { Does desk.old desk.new result (spec.changing desk.old call.now) }
-    ensures touched { KeepsShown touched.old.grids.items desk.old touched.new.grids.items desk.new }
+    ensures touched { KeepsShown touched.old desk.old touched.new desk.new }
 {
     match call {
-        Call::Plain { call, window } => Some(plain_marked(desk, touched, *call, *window)),
+        Call::Plain { call, window } => Some(plain_marked(desk, touched, *call, *window as usize)),
         Call::Number {
             call,
             window,
             number,
-        } => Some(number_call(desk, touched, *call, *window, *number)),
+        } => Some(number_call(desk, touched, *call, *window as usize, *number)),
         Call::Numbers {
             call,
             window,
             first,
             second,
-        } => Some(numbers_call(desk, touched, *call, *window, *first, *second)),
-        Call::Flag { call, window, on } => Some(flag(desk, *call, *window, *on)),
+        } => Some(numbers_call(desk, touched, *call, *window as usize, *first, *second)),
+        Call::Flag { call, window, on } => Some(flag(desk, *call, *window as usize, *on)),
         Call::Attributes {
             call,
             window,
             attrs,
-        } => Some(attributes(desk, *call, *window, *attrs)),
-        Call::Cell { call, window, put } => Some(cell(desk, touched, *call, *window, *put)),
+        } => Some(attributes(desk, *call, *window as usize, *attrs)),
+        Call::Cell { call, window, put } => Some(cell(
+            desk,
+            touched,
+            *call,
+            *window as usize,
+            *put,
+        )),
         Call::Addstr { window, text } => Some(desk.addstr_marked(
-            *window,
+            *window as usize,
             text.as_slice(),
             touched,
         )),
@@ -58,19 +64,19 @@ fn shape_marked(
     call: &Call<'_>,
 ) -> Option<Result<(), Refusal>>
     ensures does { Does desk.old desk.new result (spec.shaping desk.old call.now) }
-    ensures touched { KeepsShown touched.old.grids.items desk.old touched.new.grids.items desk.new }
+    ensures touched { KeepsShown touched.old desk.old touched.new desk.new }
 {
     match call {
         Call::Line { window, .. } => {
-            desk.mark_window(*window, touched);
+            desk.mark_window(*window as usize, touched);
             shape(desk, call)
         }
         Call::DrawBorder { window, .. } => {
-            desk.mark_window(*window, touched);
+            desk.mark_window(*window as usize, touched);
             shape(desk, call)
         }
         Call::DrawBox { window, .. } => {
-            desk.mark_window(*window, touched);
+            desk.mark_window(*window as usize, touched);
             shape(desk, call)
         }
         _ => {
@@ -91,18 +97,18 @@ fn shape(desk: &mut Desk, call: &Call<'_>) -> Option<Result<(), Refusal>>
             window,
             put,
             count,
-        } => Some(line(desk, *call, *window, *put, *count)),
-        Call::DrawBorder { window, border } => Some(desk.border(*window, border)),
+        } => Some(line(desk, *call, *window as usize, *put, *count)),
+        Call::DrawBorder { window, border } => Some(desk.border(*window as usize, border)),
         Call::DrawBox {
             window,
             vertical,
             horizontal,
-        } => Some(desk.draw_box(*window, *vertical, *horizontal)),
+        } => Some(desk.draw_box(*window as usize, *vertical, *horizontal)),
         Call::Lay {
             call,
             source,
             target,
-        } => Some(lay(desk, *call, *source, *target)),
+        } => Some(lay(desk, *call, *source as usize, *target as usize)),
         Call::Copywin {
             skip,
             source,
@@ -115,7 +121,15 @@ fn shape(desk: &mut Desk, call: &Call<'_>) -> Option<Result<(), Refusal>>
             last_col,
         } => {
             Some(desk.copywin(
-                *source, *target, *from_row, *from_col, *row, *col, *last_row, *last_col, *skip,
+                *source as usize,
+                *target as usize,
+                *from_row,
+                *from_col,
+                *row,
+                *col,
+                *last_row,
+                *last_col,
+                *skip,
             ))
         }
         _ => None,
@@ -130,7 +144,7 @@ fn plain_marked(
     window: usize,
 ) -> Result<(), Refusal>
     ensures step { desks.step desk.new result ≡ spec.plain_step call desk.old window }
-    ensures touched { KeepsShown touched.old.grids.items desk.old touched.new.grids.items desk.new }
+    ensures touched { KeepsShown touched.old desk.old touched.new desk.new }
 {
     if let PlainCall::Delwin = call {
         touched.mark_all();
@@ -164,7 +178,7 @@ fn number_call(
     number: i32,
 ) -> Result<(), Refusal>
     ensures step { desks.step desk.new result ≡ spec.number_step call desk.old window number }
-    ensures touched { KeepsShown touched.old.grids.items desk.old touched.new.grids.items desk.new }
+    ensures touched { KeepsShown touched.old desk.old touched.new desk.new }
 {
     match call {
         NumberCall::Scroll => {
@@ -184,7 +198,7 @@ fn numbers_call(
     second: i32,
 ) -> Result<(), Refusal>
     ensures step { desks.step desk.new result ≡ spec.numbers_step call desk.old window first second }
-    ensures touched { KeepsShown touched.old.grids.items desk.old touched.new.grids.items desk.new }
+    ensures touched { KeepsShown touched.old desk.old touched.new desk.new }
 {
     match call {
         NumbersCall::Mvwin => {
@@ -226,7 +240,7 @@ fn cell(
     put: Put,
 ) -> Result<(), Refusal>
     ensures step { desks.step desk.new result ≡ spec.cell_step call desk.old window put }
-    ensures touched { KeepsShown touched.old.grids.items desk.old touched.new.grids.items desk.new }
+    ensures touched { KeepsShown touched.old desk.old touched.new desk.new }
 {
     match call {
         CellCall::Addch => desk.addch_marked(window, put, touched),

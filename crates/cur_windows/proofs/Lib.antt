@@ -13,7 +13,9 @@ pub mod ViewFacts
 pub mod Within
 pub mod WrittenLines
 pub mod TouchedFacts
+pub mod Openings
 pub mod CellFacts
 pub mod Spreading
+pub mod UsedMarks
 pub mod Shapes
 pub mod AreaMarks

@@ -1,20 +1,14 @@
 -- Marks of many grids, changed one after another.
-use Rattle.std.proofs.Common.{ap, ◌≡◌, ◌≢◌, ℕ, ◌+◌, ◌<◌, ◌≤◌, ◌⊎◌, [], true, length, set, refl, sym, ◌∙◌, inl, inr, arith, subst, replicate}
+use Rattle.std.proofs.Common.{ap, ◌≡◌, ◌≢◌, ℕ, ◌+◌, ◌<◌, ◌≤◌, ◌⊎◌, [], true, length, min, set, refl, sym, ◌∙◌, inl, inr, arith, subst}
 use Rattle.std.proofs.lemmas.Bool.{cases_eq, cases_lt}
-use Rattle.std.proofs.lemmas.List.{get_or-set_same, get_or-set_other, get_or-replicate, length-replicate}
+use Rattle.std.proofs.lemmas.List.{get_or-set_same, get_or-set_other}
 use Rattle.cur_drawing.specs.Marks.{JoinsMarks, Marking}
-use Rattle.cur_windows.specs.Touched.{AreFull, all_marked, Markings, Spreads, grid_marks}
+use Rattle.cur_windows.specs.Touched.{Markings, Spreads, full_from, grid_marks}
+use Rattle.cur_windows.proofs.Openings.{filled, full_at, is_full_at, length_full_from, used_at}
 use Rattle.cur_windows.proofs.TouchedFacts.{past_full}
 
 abbrev pub unknown : Marking
 unknown = record { all = true; lines = [] }
-
--- as many grids, of which all is marked
-pub full_replicate : (t : Markings) (n rows : ℕ) → t ≡ replicate n (all_marked rows) → AreFull t
-full_replicate t n rows is k = ap (λ (x : Markings). (grid_marks x k).all) is ∙ elim (cases_lt k n) [
-  | inl near ↦ ap (λ (m : Marking). m.all) (get_or-replicate n k (all_marked rows) unknown near)
-  | inr past ↦ past_full (replicate n (all_marked rows)) k (omega (arith, past, length-replicate n (all_marked rows)))
-]
 
 -- nothing is to be marked where all is
 pub joins_full : (m o : Marking) (rows cols : ℕ) → m.all ≡ true → JoinsMarks m o rows cols m
@@ -44,13 +38,28 @@ later k l but (inr same) = inr same
 pub next_left : (t x : Markings) (o : Marking) (k but rows cols : ℕ) → k ≡ but → ((l : ℕ) → l < k → l ≢ but → JoinsMarks (grid_marks t l) o rows cols (grid_marks x l)) → (l : ℕ) → l < k + 1 → l ≢ but → JoinsMarks (grid_marks t l) o rows cols (grid_marks x l)
 next_left t x o k but rows cols is before l near apart = before l (omega (arith, is, near, apart)) apart
 
-pub all_spread : (t x : Markings) (o : Marking) (k but rows cols : ℕ) → length t ≤ k → length x ≡ length t → ((l : ℕ) → l < k → l ≢ but → JoinsMarks (grid_marks t l) o rows cols (grid_marks x l)) → ((l : ℕ) → (k ≤ l) ⊎ (l ≡ but) → grid_marks x l ≡ grid_marks t l) →
-    Spreads t x but o rows cols
-all_spread t x o k but rows cols le size before rest = record {
-  same = rest but (inr refl);
-  size = size;
+-- the grids that are used, of which all were gone through
+pub all_spread : (t x : Markings) (o : Marking) (n k but rows cols : ℕ) → min n (length t) ≤ k → k ≤ min n (length t) → length x ≡ length t → ((l : ℕ) → l < k → l ≢ but → JoinsMarks (grid_marks t l) o rows cols (grid_marks x l)) →
+    ((l : ℕ) → (k ≤ l) ⊎ (l ≡ but) → grid_marks x l ≡ grid_marks t l) → Spreads (full_from n t) (full_from n x) but o rows cols
+all_spread t x o n k but rows cols end near size before rest = record {
+  same = same_at but (rest but (inr refl));
+  size = length_full_from n x ∙ size ∙ sym (length_full_from n t);
   others = λ l apart. elim (cases_lt l k) [
-    | inl near ↦ before l near apart
-    | inr past ↦ subst (λ (m : Marking). JoinsMarks (grid_marks t l) o rows cols m) (sym (rest l (inl past))) (joins_full (grid_marks t l) o rows cols (past_full t l (omega (arith, le, past))))
+    | inl gone ↦ subst (λ (m : Marking). JoinsMarks m o rows cols (grid_marks (full_from n x) l)) (sym (used_at n t l (omega (arith, gone, near))))
+        (subst (λ (m : Marking). JoinsMarks (grid_marks t l) o rows cols m) (sym (used_at n x l (omega (arith, gone, near)))) (before l gone apart))
+    | inr past ↦ subst (λ (m : Marking). JoinsMarks (grid_marks (full_from n t) l) o rows cols m) (sym (same_at l (rest l (inl past))))
+        (joins_full (grid_marks (full_from n t) l) o rows cols (full_past l past))
   ];
 }
+  where
+    same_at : (l : ℕ) → grid_marks x l ≡ grid_marks t l → grid_marks (full_from n x) l ≡ grid_marks (full_from n t) l
+    same_at l is = elim (cases_lt l n) [
+      | inl used ↦ used_at n x l used ∙ is ∙ sym (used_at n t l used)
+      | inr full ↦ full_at n x l full ∙ ap filled is ∙ sym (full_at n t l full)
+    ]
+
+    full_past : (l : ℕ) → k ≤ l → (grid_marks (full_from n t) l).all ≡ true
+    full_past l past = elim (cases_lt l n) [
+      | inl used ↦ past_full (full_from n t) l (omega (arith, used, past, end, length_full_from n t))
+      | inr full ↦ is_full_at n t l full
+    ]

@@ -1,5 +1,5 @@
 -- Where each grid may have changed since it was copied to the virtual screen.
-use Rattle.std.specs.Prelude.{ℕ, ◌≡◌, ◌≢◌, ◌+◌, ◌-◌, ◌<◌, ◌≤◌, ◌⊎◌, List, [], length, slice_index_or, slice_set, Bool, true, false, None, Result, Ok, Err, IfErr, OnOk}
+use Rattle.std.specs.Prelude.{ℕ, ◌≡◌, ◌≢◌, ◌+◌, ◌-◌, ◌<◌, ◌≤◌, ◌⊎◌, ◌++◌, List, [], drop, length, map, slice_index_or, slice_set, take, Bool, true, false, None, Result, Ok, Err, IfErr, OnOk}
 use Rattle.grids.specs.declared.areas.Area.{Area}
 use Rattle.cur_drawing.specs.declared.puts.Put.{Put}
 use Rattle.cur_drawing.specs.declared.refusals.Refusal.{Refusal}
@@ -46,6 +46,10 @@ pub record FillsAll (t u : Markings) : Type 0 where
   pub size : length u ≡ length t
   pub full : AreFull u
   pub lines : (k : ℕ) → (grid_marks u k).lines ≡ (grid_marks t k).lines
+
+-- all is marked of the grids from a number on, and before it what is marked there
+abbrev pub full_from : ℕ → Markings → Markings
+full_from n t = take n t ++ map (λ (m : Marking). record m { all = true }) (drop n t)
 
 -- a grid of which all is marked, on a screen of so many lines
 abbrev pub all_marked : ℕ → Marking

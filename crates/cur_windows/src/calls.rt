@@ -138,10 +138,10 @@ impl Desk {
         touched: &mut Touched,
     ) -> Result<(), Refusal>
         ensures step { spec.step self.new result ≡ spec.on_window self.old id (call.added put) }
-        ensures touched { KeepsShown touched.old.grids.items self.old touched.new.grids.items self.new }
-        ensures only { MarksWritten touched.old.grids.items touched.new.grids.items self.old self.new id }
+        ensures touched { KeepsShown touched.old self.old touched.new self.new }
+        ensures only { MarksWritten touched.old touched.new self.old self.new id }
         ensures cells { IfOk (spec.slot_of self.old id) (λ s. IsOneCell s.window put
-            → MarksCellsAlone touched.old.grids.items touched.new.grids.items self.old s 1) }
+            → MarksCellsAlone touched.old touched.new self.old s 1) }
         ensures refused { IfErr result (λ e. e ≢ Refusal.NoScroll → touched.new ≡ touched.old) }
     {
         let mut slot = self.find(id)?;
@@ -179,10 +179,10 @@ impl Desk {
         touched: &mut Touched,
     ) -> Result<(), Refusal>
         ensures step { spec.step self.new result ≡ spec.on_window self.old id (call.added_all text.now) }
-        ensures touched { KeepsShown touched.old.grids.items self.old touched.new.grids.items self.new }
-        ensures only { MarksWritten touched.old.grids.items touched.new.grids.items self.old self.new id }
+        ensures touched { KeepsShown touched.old self.old touched.new self.new }
+        ensures only { MarksWritten touched.old touched.new self.old self.new id }
         ensures cells { IfOk (spec.slot_of self.old id) (λ s. FitsLine s.window text.now
-            → MarksCellsAlone touched.old.grids.items touched.new.grids.items self.old s (length text.now)) }
+            → MarksCellsAlone touched.old touched.new self.old s (length text.now)) }
     {
         let mut slot = self.find(id)?;
         let (region, origin) = (self.region_of(&slot), self.origin_of(&slot));

@@ -43,11 +43,11 @@ impl Desk {
     ) -> Result<(), Refusal>
         requires rows { (screen.old).rows ≡ (self.old).rows }
         requires cols { (screen.old).cols ≡ (self.old).cols }
-        requires touched { ShowsBut touched.old.grids.items self.old (screen.old).grid }
+        requires touched { ShowsBut touched.old self.old (screen.old).grid }
         ensures step { refresh self.new screen.new result ≡ noutrefresh self.old screen.old id }
-        ensures touched { ShowsBut touched.new.grids.items self.new (screen.new).grid }
+        ensures touched { ShowsBut touched.new self.new (screen.new).grid }
         ensures copied { IfOk result (λ _. (s : Slot) → spec.slot_of self.old id ≡ Ok s
-            → MarksCopied touched.old.grids.items touched.new.grids.items marks.new self.old s) }
+            → MarksCopied touched.old touched.new marks.new self.old s) }
         ensures refused { IfErr result (λ _. touched.new ≡ touched.old) }
         ensures marked { Keeps marks.old (screen.old).grid marks.new (screen.new).grid }
         ensures only { MarksOnly marks.old (screen.old).grid marks.new (screen.new).grid }
@@ -56,6 +56,9 @@ impl Desk {
         self.check_window(&slot)?;
         self.copy_slot(&slot, screen, touched, marks);
         self.scrolled = None;
+        if !slot.window.clears {
+            return Ok(());
+        }
         slot.window.clears = false;
         self.windows[id] = Some(slot);
         Ok(())
@@ -70,12 +73,12 @@ impl Desk {
         requires window { (spec.origin_at self.now (slot.now).root).pad ≡ false }
         requires rows { (screen.old).rows ≡ (self.now).rows }
         requires cols { (screen.old).cols ≡ (self.now).cols }
-        requires touched { ShowsBut touched.old.grids.items self.now (screen.old).grid }
+        requires touched { ShowsBut touched.old self.now (screen.old).grid }
         ensures value { screen.new ≡ shown (area_on_screen self.now slot.now) (spec.grid_at self.now (slot.now).root)
             (place (slot.now).window.area.top (slot.now).window.area.left) (cursor_on_screen self.now slot.now)
             (slot.now).window.clears screen.old }
-        ensures touched { ShowsBut touched.new.grids.items self.now (screen.new).grid }
-        ensures copied { MarksCopied touched.old.grids.items touched.new.grids.items marks.new self.now slot.now }
+        ensures touched { ShowsBut touched.new self.now (screen.new).grid }
+        ensures copied { MarksCopied touched.old touched.new marks.new self.now slot.now }
         ensures marked { Keeps marks.old (screen.old).grid marks.new (screen.new).grid }
         ensures only { MarksOnly marks.old (screen.old).grid marks.new (screen.new).grid }
     {
@@ -92,7 +95,7 @@ impl Desk {
         requires window { (spec.origin_at self.now (slot.now).root).pad ≡ false }
         requires rows { (screen.old).rows ≡ (self.now).rows }
         requires cols { (screen.old).cols ≡ (self.now).cols }
-        requires touched { IsShownBut (grid_marks touched.now.grids.items (slot.now).root)
+        requires touched { IsShownBut (grid_marks touched.now (slot.now).root)
             (spec.origin_at self.now (slot.now).root) (spec.grid_at self.now (slot.now).root) (screen.old).grid }
         ensures value { screen.new ≡ shown (area_on_screen self.now slot.now) (spec.grid_at self.now (slot.now).root)
             (place (slot.now).window.area.top (slot.now).window.area.left) (cursor_on_screen self.now slot.now)
@@ -119,11 +122,12 @@ impl Desk {
             root: slot.root,
         };
         let grid = self.grid_of(slot);
-        if root < touched.grids.len() {
-            screen.show(copy, grid, scrolled, &touched.grids[root], marks);
-        } else {
-            let unknown = Marks::unknown(self.alloc);
-            screen.show(copy, grid, scrolled, &unknown, marks);
+        match touched.of_grid(root) {
+            Some(touched) => screen.show(copy, grid, scrolled, touched, marks),
+            None => {
+                let unknown = Marks::unknown(self.alloc);
+                screen.show(copy, grid, scrolled, &unknown, marks);
+            }
         }
     }
 

@@ -1,81 +1,94 @@
 //! Where each grid may have changed since it was copied to the virtual screen.
-ghost use Rattle.std.specs.Prelude.{◌≡◌, ◌≢◌, ◌⊎◌, ◌<◌, ◌≤◌, ◌+◌, ℕ, IfErr, IfOk, OnOk, false, true, length, replicate};
+ghost use Rattle.std.specs.Prelude.{◌≡◌, ◌≢◌, ◌⊎◌, ◌<◌, ◌≤◌, ◌+◌, ℕ, IfErr, IfOk, IfSome, None, OnOk, false, true, length, replicate};
 ghost use Rattle.cur_drawing.specs.Marks.{JoinsMarks, none_marked};
 ghost use Rattle.cur_drawing.specs.Calls.{IsCanvas};
 ghost use Rattle.cur_drawing.specs.Windows.{IsWindow};
 ghost use Rattle.cur_windows.specs.Desks as spec;
 ghost use Rattle.cur_windows.specs.Desks.{IsDesk};
-ghost use Rattle.cur_windows.specs.Touched.{AreFull, ArePrinted, AreTouched, FillsAll, FitsLine, TakesMarksOff, IsOneCell, LeavesMarks, IsTouched, LiesWithin, MarksArea, MarksCells, MarksLines, MarksSlot, MarksWindow, Spreads, TouchesGrid, all_marked, grid_marks};
+ghost use Rattle.cur_windows.specs.Touched.{AreFull, ArePrinted, AreTouched, FillsAll, FitsLine, TakesMarksOff, IsOneCell, LeavesMarks, IsTouched, LiesWithin, MarksArea, MarksCells, MarksLines, MarksSlot, MarksWindow, Spreads, TouchesGrid, all_marked, full_from, grid_marks};
 
-use crate::desks::Desk;
+use crate::desks::{Desk, WINDOWS};
 use crate::slots::{Origin, Slot};
 use cur_drawing::{Area, Marks, Put, Refusal, Window};
 use std::alloc::{AllocError, Global};
-
-/// How many grids have marks: those of windows with numbers below this one.
-const MARKED: usize = 16;
+use std::marker::Model;
 
 /// For each grid, by the number of the window that made it, marks at the places of the screen where it may differ from
-/// the virtual screen. A grid without marks may differ in all of them: one that a window with a number above 15 made.
+/// the virtual screen. A grid without marks may differ in all of them.
 #[derive(Drop)]
 pub struct Touched {
-    pub grids: Vec<Marks>,
+    grids: Vec<Marks>,
+    // how many of them are used: all is marked of each grid from this one on
+    used: usize,
+}
+
+impl Model for Touched {
+    ghost use Rattle.cur_windows.specs.Touched.{Markings, full_from};
+
+    ghost Value = { Markings };
+
+    ghost view = { λ t. full_from t.used t.grids.items };
 }
 
 impl Touched {
-    /// The marks of 16 grids on a screen of `rows` lines, all of which are marked. An error where a growth was refused.
+    /// The marks of 64 grids on a screen of `rows` lines, all of which are marked. An error where a growth was refused.
+    #[tactic(auto, using(crate::proofs::Openings::new_marks, crate::proofs::Openings::none_open))]
     pub fn new(alloc: Global, rows: u16) -> Result<Touched, AllocError>
-        ensures value { IfOk result (λ touched. touched.grids.items ≡ replicate 16 (all_marked rows)) }
-        ensures full { IfOk result (λ touched. AreFull touched.grids.items) }
+        ensures value { IfOk result (λ touched. touched ≡ replicate 64 (all_marked rows)) }
+        ensures full { IfOk result (λ touched. AreFull touched) }
     {
-        let grids = full_grids(alloc, rows)?;
-        Ok(Touched { grids })
+        let grids = unmarked_grids(alloc, rows)?;
+        Ok(Touched { grids, used: 0 })
     }
 
     /// The marks of no grid. Takes no memory.
+    #[tactic(auto, using(crate::proofs::Openings::none_open))]
     pub fn unknown(alloc: Global) -> Touched
-        ensures { AreFull result.grids.items }
+        ensures { AreFull result }
     {
         Touched {
             grids: Vec::new(alloc),
+            used: 0,
         }
     }
 
     /// Marks all places of all grids.
+    #[tactic(auto, using(crate::proofs::Openings::all_closed))]
     pub fn mark_all(&mut self)
-        ensures { FillsAll self.old.grids.items self.new.grids.items }
+        ensures { FillsAll self.old self.new }
     {
-        fill(&mut self.grids);
+        self.used = 0;
+    }
+
+    // The marks of a grid, unless all of it is marked.
+    #[tactic(auto, using(crate::proofs::Openings::used_at, crate::proofs::Openings::is_full_at, crate::proofs::Openings::length_full_from))]
+    pub(crate) fn of_grid(&self, root: usize) -> Option<&Marks>
+        ensures marks { IfSome result (λ m. m.now ≡ grid_marks self.now root) }
+        ensures full { result ≡ None → (grid_marks self.now root).all ≡ true }
+    {
+        if root < self.used && root < self.grids.len() {
+            return Some(&self.grids[root]);
+        }
+        None
     }
 }
 
-// Marks for 16 grids, on a screen of `rows` lines. An error where a growth was refused.
-fn full_grids(alloc: Global, rows: u16) -> Result<Vec<Marks>, AllocError>
-    ensures { IfOk result (λ grids. grids.items ≡ replicate 16 (all_marked rows)) }
+// Marks for 64 grids, none of which is marked, on a screen of `rows` lines. An error where a growth was refused.
+fn unmarked_grids(alloc: Global, rows: u16) -> Result<Vec<Marks>, AllocError>
+    ensures { IfOk result (λ grids. grids.items ≡ replicate 64 (none_marked rows)) }
 {
-    let mut grids = Vec::with_capacity(alloc, MARKED)?;
-    for _k in 0..MARKED {
-        let mut marks = Marks::new(alloc, rows)?;
-        marks.mark_all();
-        grids.push(marks)?;
+    let mut grids = Vec::with_capacity(alloc, WINDOWS)?;
+    for _k in 0..WINDOWS {
+        grids.push(Marks::new(alloc, rows)?)?;
     }
     Ok(grids)
-}
-
-// Marks all places of all of them.
-fn fill(grids: &mut Vec<Marks>)
-    ensures { FillsAll grids.old.items grids.new.items }
-{
-    for k in 0..grids.len() {
-        grids[k].mark_all();
-    }
 }
 
 impl Desk {
     /// Marks the window's rectangle, for a call that changes nothing outside of it and has no marks itself; nothing if
     /// there is no such window, or if it lies in a pad. The desk is a legal one.
     pub fn mark_window(&self, id: usize, touched: &mut Touched)
-        ensures marks { MarksWindow touched.old.grids.items touched.new.grids.items self.now
+        ensures marks { MarksWindow touched.old touched.new self.now
             (spec.slot_of self.now id) }
         ensures legal { IsDesk self.now }
     {
@@ -89,10 +102,10 @@ impl Desk {
     fn mark_slot(&self, slot: &Slot, touched: &mut Touched)
         requires canvas { IsCanvas (spec.grid_at self.now (slot.now).root) (slot.now).window }
         requires root { (slot.now).root < 64 }
-        ensures { MarksSlot touched.old.grids.items touched.new.grids.items self.now slot.now }
+        ensures { MarksSlot touched.old touched.new self.now slot.now }
     {
         let root = slot.root as usize;
-        if self.origin_of(slot).pad || root >= touched.grids.len() {
+        if self.origin_of(slot).pad || root >= touched.used || root >= touched.grids.len() {
             return;
         }
         let area = self.place_on_screen(slot);
@@ -117,10 +130,10 @@ fn mark_area(marks: &mut Marks, area: Area)
 fn touch(touched: &mut Touched, slot: &Slot, origin: Origin, first: u16)
     requires window { IsWindow (slot.now).window }
     requires within { origin.pad ≡ false → LiesWithin origin (slot.now).window.area }
-    ensures { IsTouched touched.old.grids.items touched.new.grids.items slot.now origin first }
+    ensures { IsTouched touched.old touched.new slot.now origin first }
 {
     let root = slot.root as usize;
-    if origin.pad || root >= touched.grids.len() {
+    if origin.pad || root >= touched.used || root >= touched.grids.len() {
         return;
     }
     touch_grid(&mut touched.grids[root], &slot.window, origin, first);
@@ -137,8 +150,8 @@ fn touch_unless_refused(
 )
     requires window { IsWindow (slot.now).window }
     requires within { origin.pad ≡ false → LiesWithin origin (slot.now).window.area }
-    ensures touched { IsTouched touched.old.grids.items touched.new.grids.items slot.now origin first
-        ⊎ LeavesMarks touched.old.grids.items touched.new.grids.items answer.now }
+    ensures touched { IsTouched touched.old touched.new slot.now origin first
+        ⊎ LeavesMarks touched.old touched.new answer.now }
     ensures refused { IfErr answer.now (λ e. e ≢ Refusal.NoScroll → touched.new ≡ touched.old) }
 {
     if let Err(refusal) = answer {
@@ -240,11 +253,11 @@ pub(crate) fn touch_written(
     requires within { origin.pad ≡ false → LiesWithin origin (slot.now).window.area }
     requires cells { start.fits ≡ true → start.col + start.cells ≤ (slot.now).window.area.cols }
     ensures touched { ((start.fits ≡ true)
-        × AreTouched touched.old.grids.items touched.new.grids.items slot.now origin start.col start.cells)
-        ⊎ (IsTouched touched.old.grids.items touched.new.grids.items slot.now origin start.row
-        ⊎ LeavesMarks touched.old.grids.items touched.new.grids.items answer.now) }
+        × AreTouched touched.old touched.new slot.now origin start.col start.cells)
+        ⊎ (IsTouched touched.old touched.new slot.now origin start.row
+        ⊎ LeavesMarks touched.old touched.new answer.now) }
     ensures cells { start.fits ≡ true → OnOk answer.now
-        (AreTouched touched.old.grids.items touched.new.grids.items slot.now origin start.col start.cells) }
+        (AreTouched touched.old touched.new slot.now origin start.col start.cells) }
     ensures refused { IfErr answer.now (λ e. e ≢ Refusal.NoScroll → touched.new ≡ touched.old) }
 {
     if start.fits && answer.is_ok() {
@@ -260,10 +273,10 @@ pub(crate) fn touch_text(touched: &mut Touched, slot: &Slot, origin: Origin, sta
     requires within { origin.pad ≡ false → LiesWithin origin (slot.now).window.area }
     requires cells { start.fits ≡ true → start.col + start.cells ≤ (slot.now).window.area.cols }
     ensures touched { ((start.fits ≡ true)
-        × AreTouched touched.old.grids.items touched.new.grids.items slot.now origin start.col start.cells)
-        ⊎ IsTouched touched.old.grids.items touched.new.grids.items slot.now origin start.row }
+        × AreTouched touched.old touched.new slot.now origin start.col start.cells)
+        ⊎ IsTouched touched.old touched.new slot.now origin start.row }
     ensures cells { start.fits ≡ true
-        → AreTouched touched.old.grids.items touched.new.grids.items slot.now origin start.col start.cells }
+        → AreTouched touched.old touched.new slot.now origin start.col start.cells }
 {
     if start.fits {
         touch_cells(touched, slot, origin, start.col, start.cells);
@@ -278,10 +291,13 @@ fn touch_cells(touched: &mut Touched, slot: &Slot, origin: Origin, col: u16, cou
     requires window { IsWindow (slot.now).window }
     requires within { origin.pad ≡ false → LiesWithin origin (slot.now).window.area }
     requires cells { col + count ≤ (slot.now).window.area.cols }
-    ensures { AreTouched touched.old.grids.items touched.new.grids.items slot.now origin col count }
+    ensures { AreTouched touched.old touched.new slot.now origin col count }
 {
+    if count == 0 {
+        return;
+    }
     let root = slot.root as usize;
-    if origin.pad || root >= touched.grids.len() || count == 0 {
+    if origin.pad || root >= touched.used || root >= touched.grids.len() {
         return;
     }
     mark_cells(&mut touched.grids[root], &slot.window, origin, col, count);
@@ -320,21 +336,54 @@ fn mark_lines(marks: &mut Marks, window: &Window, origin: Origin, first: u16)
 }
 
 /// Takes all marks off a grid, of which a window is `whole`.
+#[tactic(auto, using(crate::proofs::Openings::set_open, crate::proofs::Openings::used_at, crate::proofs::Openings::length_full_from))]
 pub(crate) fn unmark(touched: &mut Touched, root: usize, whole: bool)
-    ensures { TakesMarksOff touched.old.grids.items touched.new.grids.items root whole }
+    ensures { TakesMarksOff touched.old touched.new root whole }
 {
-    if whole && root < touched.grids.len() {
-        touched.grids[root].clear();
+    if !whole || root >= touched.grids.len() {
+        return;
     }
+    touched.used = use_until(&mut touched.grids, touched.used, root + 1);
+    touched.grids[root].clear();
+}
+
+// Marks all of those that aren't used, up to `end`, which are used then; the answer says how many are.
+#[tactic(auto, using(crate::proofs::Openings::opened))]
+fn use_until(grids: &mut Vec<Marks>, used: usize, end: usize) -> usize
+    requires within { end ≤ length grids.old.items }
+    ensures same { full_from result grids.new.items ≡ full_from used grids.old.items }
+    ensures size { length grids.new.items ≡ length grids.old.items }
+    ensures used { end ≤ result }
+{
+    let mut used = used;
+    while used < end {
+        grids[used].mark_all();
+        used += 1;
+    }
+    used
 }
 
 /// Marks what the screen's marks have for each grid but one, on a screen of `rows` lines and `cols` columns.
 pub(crate) fn spread(touched: &mut Touched, but: usize, marks: &Marks, rows: u16, cols: u16)
-    ensures { Spreads touched.old.grids.items touched.new.grids.items but marks.now rows cols }
+    ensures { Spreads touched.old touched.new but marks.now rows cols }
 {
-    for k in 0..touched.grids.len() {
+    spread_over(&mut touched.grids, touched.used, but, marks, rows, cols);
+}
+
+// The same for the grids that are used.
+fn spread_over(
+    grids: &mut Vec<Marks>,
+    used: usize,
+    but: usize,
+    marks: &Marks,
+    rows: u16,
+    cols: u16,
+)
+    ensures { Spreads (full_from used grids.old.items) (full_from used grids.new.items) but marks.now rows cols }
+{
+    for k in 0..used.min(grids.len()) {
         if k != but {
-            join_grid(&mut touched.grids[k], marks, rows, cols);
+            join_grid(&mut grids[k], marks, rows, cols);
         }
     }
 }

@@ -33,12 +33,12 @@ returns-clause-cols g c =
     let sizes : SameSizes c.args.desk.now c.args.screen.now c.show.new.desk c.show.new.screen = returns-clause-sizes g c in sizes.cols
 
 pub returns-in-Some-clause-touched : goal.returns-in-Some-clause-touched
-returns-in-Some-clause-touched g c = shows_full c.mark_all.new.self.grids.items c.make.new.desk c.args.screen.now.grid c.mark_all.ensures.full
+returns-in-Some-clause-touched g c = shows_full c.mark_all.new.self c.make.new.desk c.args.screen.now.grid c.mark_all.ensures.full
 
 pub returns-in-Some-change-clause-touched : goal.returns-in-Some-change-clause-touched
 returns-in-Some-change-clause-touched g c =
-    c.change.ensures.touched c.args.screen.now.grid (shown_in c.args.stale.now.window.grids.items c.args.screen.now.grid c.args.desk.now c.make.new.desk (not_made c.args.desk.now c.make.new.desk (takes_memory c.args.call.now) (making c.args.desk.now c.args.call.now) c.in_default.ensures).same c.requires.touched)
+    c.change.ensures.touched c.args.screen.now.grid (shown_in c.args.stale.now.window c.args.screen.now.grid c.args.desk.now c.make.new.desk (not_made c.args.desk.now c.make.new.desk (takes_memory c.args.call.now) (making c.args.desk.now c.args.call.now) c.in_default.ensures).same c.requires.touched)
 
 pub show-requires-clause-touched : goal.show-requires-clause-touched
 show-requires-clause-touched g c =
-    c.change.ensures.touched c.args.screen.now.grid (shown_in c.args.stale.now.window.grids.items c.args.screen.now.grid c.args.desk.now c.make.new.desk (not_made c.args.desk.now c.make.new.desk (takes_memory c.args.call.now) (making c.args.desk.now c.args.call.now) c.in_default.ensures).same c.requires.touched)
+    c.change.ensures.touched c.args.screen.now.grid (shown_in c.args.stale.now.window c.args.screen.now.grid c.args.desk.now c.make.new.desk (not_made c.args.desk.now c.make.new.desk (takes_memory c.args.call.now) (making c.args.desk.now c.args.call.now) c.in_default.ensures).same c.requires.touched)

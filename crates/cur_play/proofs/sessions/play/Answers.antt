@@ -21,7 +21,7 @@ returns-in-Done g c =
       carries = all.carries;
       sizes = all.sizes;
       certificate = all.certificate;
-      known = record { window = shown_on c.draw.new.stale.window.grids.items c.draw.new.desk c.draw.new.screen.grid c.send.new.screen.grid c.send.ensures.cells c.draw.ensures.touched; screen = c.send.ensures.marked };
+      known = record { window = shown_on c.draw.new.stale.window c.draw.new.desk c.draw.new.screen.grid c.send.new.screen.grid c.send.ensures.cells c.draw.ensures.touched; screen = c.send.ensures.marked };
     }
 
 pub returns-in_default : goal.returns-in_default

@@ -23,7 +23,7 @@ invariant_of-result g c =
       },
       subst IsChecked (sym table) c.rows.ensures.checked,
       record {
-        window = shows_full c.in_ok-stale.stale.window.grids.items c.in_ok-desk.desk c.in_ok-screen.screen.grid c.in_ok-stale.ensures;
+        window = shows_full c.in_ok-stale.stale.window c.in_ok-desk.desk c.in_ok-screen.screen.grid c.in_ok-stale.ensures;
         screen = same_shown c.in_ok-stale.stale.screen c.in_ok-painter.painter.shown c.in_ok-screen.screen (new_screen t.rows t.cols) c.in_ok-painter.ensures.shown (ap (λ (v : Screen). v.grid) screen);
       },
     )

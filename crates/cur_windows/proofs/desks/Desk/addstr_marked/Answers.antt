@@ -18,9 +18,9 @@ returns-clause-touched c = elim c.touch_text.ensures.touched [
   | inl cells ↦ (let fits = c.start_of_text-start.ensures.cells cells.0 in
       touched_cells _ _ [] c.args.id _ _ _ _ _ _ _ c.start_of_text-start.result.cells
       (subst (StaysInLine _ _) (sym fits.1) (text_stays c.args.text.now _ _ fits.0 c.add_all-answer.ensures.value)) c.self.view_is c.self.invariant c.in_ok-slot.ensures.placed c.index_mut-grid.ensures.value c.add_all-answer.ensures.kept c.origin_of-origin.ensures.value
-      (subst (λ (n : ℕ). AreTouched c.args.touched.now.grids.items c.touch_text.new.touched.grids.items (record c.in_ok-slot.slot { window = c.add_all-answer.new.self }) c.origin_of-origin.result n c.start_of_text-start.result.cells) c.start_of_text-start.ensures.col cells.1))
+      (subst (λ (n : ℕ). AreTouched c.args.touched.now c.touch_text.new.touched (record c.in_ok-slot.slot { window = c.add_all-answer.new.self }) c.origin_of-origin.result n c.start_of_text-start.result.cells) c.start_of_text-start.ensures.col cells.1))
   | inr is ↦ touched_by _ _ [] c.args.id _ _ _ _ _ _ _ (calls.added_all c.args.text.now) c.add_all-answer.result (writing.added_all c.args.text.now) (staying.added_all c.args.text.now) c.self.view_is c.self.invariant c.in_ok-slot.ensures.placed c.index_mut-grid.ensures.value c.add_all-answer.ensures.value c.add_all-answer.ensures.kept c.origin_of-origin.ensures.value
-      (subst (λ (n : ℕ). IsTouched c.args.touched.now.grids.items c.touch_text.new.touched.grids.items (record c.in_ok-slot.slot { window = c.add_all-answer.new.self }) c.origin_of-origin.result n) c.start_of_text-start.ensures.row is)
+      (subst (λ (n : ℕ). IsTouched c.args.touched.now c.touch_text.new.touched (record c.in_ok-slot.slot { window = c.add_all-answer.new.self }) c.origin_of-origin.result n) c.start_of_text-start.ensures.row is)
 ]
 
 pub returns-clause-only : goal.returns-clause-only
@@ -28,12 +28,12 @@ returns-clause-only c = elim c.touch_text.ensures.touched [
   | inl cells ↦ (let fits = c.start_of_text-start.ensures.cells cells.0 in
       written_cells _ _ _ c.args.id _ _ _ _ _ _ _ c.start_of_text-start.result.cells
       (subst (StaysInLine _ _) (sym fits.1) (text_stays c.args.text.now _ _ fits.0 c.add_all-answer.ensures.value)) c.self.view_is c.self.invariant c.in_ok-slot.ensures.there c.in_ok-slot.ensures.value refl c.origin_of-origin.ensures.value
-      (subst (λ (n : ℕ). AreTouched c.args.touched.now.grids.items c.touch_text.new.touched.grids.items (record c.in_ok-slot.slot { window = c.add_all-answer.new.self }) c.origin_of-origin.result n c.start_of_text-start.result.cells) c.start_of_text-start.ensures.col cells.1))
+      (subst (λ (n : ℕ). AreTouched c.args.touched.now c.touch_text.new.touched (record c.in_ok-slot.slot { window = c.add_all-answer.new.self }) c.origin_of-origin.result n c.start_of_text-start.result.cells) c.start_of_text-start.ensures.col cells.1))
   | inr is ↦ written_by _ _ _ c.args.id _ _ _ _ _ c.self.view_is c.self.invariant c.in_ok-slot.ensures.there c.in_ok-slot.ensures.value refl c.origin_of-origin.ensures.value
-      (subst (λ (n : ℕ). IsTouched c.args.touched.now.grids.items c.touch_text.new.touched.grids.items (record c.in_ok-slot.slot { window = c.add_all-answer.new.self }) c.origin_of-origin.result n) c.start_of_text-start.ensures.row is)
+      (subst (λ (n : ℕ). IsTouched c.args.touched.now c.touch_text.new.touched (record c.in_ok-slot.slot { window = c.add_all-answer.new.self }) c.origin_of-origin.result n) c.start_of_text-start.ensures.row is)
 ]
 
 pub returns-clause-cells : goal.returns-clause-cells
-returns-clause-cells c = subst (λ (r : Result Slot Refusal). IfOk r (λ s. FitsLine s.window c.args.text.now → MarksCellsAlone c.args.touched.now.grids.items c.touch_text.new.touched.grids.items c.args.self.now s (length c.args.text.now))) c.in_ok-slot.ensures.value (λ is.
+returns-clause-cells c = subst (λ (r : Result Slot Refusal). IfOk r (λ s. FitsLine s.window c.args.text.now → MarksCellsAlone c.args.touched.now c.touch_text.new.touched c.args.self.now s (length c.args.text.now))) c.in_ok-slot.ensures.value (λ is.
     let fits = c.start_of_text-start.ensures.exact is in
     alone_cells c.args.self.now _ _ _ _ _ _ _ _ _ (length c.args.text.now) (text_stays c.args.text.now _ _ is c.add_all-answer.ensures.value) c.origin_of-origin.ensures.value c.start_of_text-start.ensures.col (c.start_of_text-start.ensures.cells fits).1 (c.touch_text.ensures.cells fits))

@@ -2,4 +2,4 @@ use Rattle.cur_windows.proofs.TouchedFacts.{shows_full}
 use Rattle.cur_windows.proofs.desks.Desk.noutrefresh.Goals as goal
 
 pub noutrefresh_marked-requires-clause-touched : goal.noutrefresh_marked-requires-clause-touched
-noutrefresh_marked-requires-clause-touched c = shows_full c.unknown-touched.result.grids.items c.args.self.now c.args.screen.now.grid c.unknown-touched.ensures
+noutrefresh_marked-requires-clause-touched c = shows_full c.unknown-touched.result c.args.self.now c.args.screen.now.grid c.unknown-touched.ensures
