@@ -1,5 +1,5 @@
 -- Reading the words of a line one after another.
-use Rattle.std.specs.Prelude.{ℕ, ℤ, ◌≡◌, ◌≤◌, ◌==◌, length, if◌then◌else◌, List, [], ◌∷◌, Option, None, Some}
+use Rattle.std.specs.Prelude.{ℕ, ℤ, ◌==◌, if◌then◌else◌, List, [], ◌∷◌, Option, None, Some}
 use Rattle.std.specs.List.{join_with_byte}
 use Rattle.cur_calls.specs.Cuts.{words_of, ◌>>=◌}
 use Rattle.cur_calls.specs.Numbers.{number_in, window_in}
@@ -18,12 +18,6 @@ front_word (b ∷ text) = if b == 32 then [] else b ∷ front_word text
 abbrev pub past_front_word : List ℕ → List ℕ
 past_front_word [] = []
 past_front_word (b ∷ text) = if b == 32 then b ∷ text else past_front_word text
-
--- (Serves the code alone.) the first word of a text spells this number in so many digits, and no sign
-pub record SpellsShort (text : List ℕ) (number count : ℕ) : Type 0 where
-  pub value : window_in (front_word text) ≡ Some number
-  pub digits : length (front_word text) ≡ count
-  pub small : number ≤ 2147483647
 
 abbrev pub first_word : List (List ℕ) → Option (List ℕ × List (List ℕ))
 first_word [] = None

@@ -11,6 +11,11 @@ pub(crate) fn cell_in(word: &[u8]) -> Option<Put>
     ensures { result ≡ spec.cell_in word.now }
 {
     match word {
+        [high, low] => Some(Put {
+            byte: byte_in(*high, *low)?,
+            attrs: Attrs::none(),
+            pair: 0,
+        }),
         [high, low, rest @ ..] => styled_in(byte_in(*high, *low)?, rest),
         _ => None,
     }

@@ -1,11 +1,11 @@
 //! Numbers in decimal.
-ghost use Rattle.std.specs.Prelude.{◌≡◌, ◌<◌, ◌≤◌, option_map, IfSome, Some};
+ghost use Rattle.std.specs.Prelude.{◌≡◌, ◌<◌, ◌≤◌, length, option_map, IfSome, Some};
 ghost use Rattle.cur_calls.specs.Numbers as spec;
-ghost use Rattle.cur_calls.specs.Words.{SpellsShort, front_word, past_front_word};
+ghost use Rattle.cur_calls.specs.Words.{front_word, past_front_word};
 ghost use Rattle.cur_calls.specs.Numbers.{window_in};
 
-// A number below it is in range with one digit more.
-const SHORT: u32 = 100_000_000;
+// A number from it on may be out of range with one digit more.
+const FULL: u32 = 100_000_000;
 
 // The greatest value of a word, whatever its sign.
 const GREATEST: u64 = 2_147_483_648;
@@ -36,12 +36,14 @@ pub(crate) fn short_number(text: &[u8]) -> Option<(u32, &[u8])>
 // The number below 1,000,000,000 that the first word of a text spells without a sign, and how many digits it has.
 #[inline(always)]
 fn short_digits(text: &[u8]) -> Option<(u32, usize)>
-    ensures { IfSome result (λ x. SpellsShort text.now x.0 x.1) }
+    ensures value { IfSome result (λ x. window_in (front_word text.now) ≡ Some x.0) }
+    ensures digits { IfSome result (λ x. length (front_word text.now) ≡ x.1) }
+    ensures range { IfSome result (λ x. x.0 ≤ 2147483647) }
 {
     let mut number = 0;
     let mut at = 0;
     while at < text.len() && text[at] != b' ' {
-        if number >= SHORT {
+        if number >= FULL {
             return None;
         }
         number = number * 10 + digit_in(text[at])?;
@@ -121,10 +123,10 @@ fn negated(number: u32) -> i32
 }
 
 /// The number of a window.
-pub(crate) fn window_in(word: &[u8]) -> Option<usize>
+pub(crate) fn window_in(word: &[u8]) -> Option<u32>
     ensures { result ≡ spec.window_in word.now }
 {
-    Some(natural(2_147_483_647, word)? as usize)
+    natural(2_147_483_647, word)
 }
 
 /// 0 or 1.

@@ -10,7 +10,7 @@ use crate::lines::{call_of, is_skipped, read_line};
 use std::alloc::Global;
 
 // How many bytes a short line has.
-const SHORT: usize = 8;
+const SHORT_LINE: usize = 8;
 
 /// The most bytes that a script has.
 pub const LONGEST: usize = 1_048_576;
@@ -29,7 +29,7 @@ pub fn read_script<'a>(alloc: Global, text: &'a [u8]) -> Result<Vec<Call<'a>>, S
             kind: ScriptFaultKind::TooLong,
         });
     }
-    let mut calls = room_for(alloc, text)?;
+    let mut calls = room_for_calls(alloc, text)?;
     let mut left = Some(text);
     let mut number = 1;
     while let Some(text) = left {
@@ -42,11 +42,11 @@ pub fn read_script<'a>(alloc: Global, text: &'a [u8]) -> Result<Vec<Call<'a>>, S
 }
 
 // Room for the calls of a text, of which a line has some eight bytes or more; more is made where that isn't so.
-fn room_for<'a>(alloc: Global, text: &[u8]) -> Result<Vec<Call<'a>>, ScriptFault>
+fn room_for_calls<'a>(alloc: Global, text: &[u8]) -> Result<Vec<Call<'a>>, ScriptFault>
     ensures none { IfOk result (λ v. v.items ≡ []) }
     ensures fault { IfErr result (λ e. e.kind ≡ ScriptFaultKind.NoMemory) }
 {
-    match Vec::with_capacity(alloc, text.len() / SHORT) {
+    match Vec::with_capacity(alloc, text.len() / SHORT_LINE) {
         Ok(calls) => Ok(calls),
         Err(_) => Err(ScriptFault {
             line: 0,
