@@ -156,6 +156,7 @@ fn clear_first<C: Certificate, O: Picture, N: Picture, W: Wire>(
 
 /// Whether it is likely to take fewer bytes to clear all to `background` and paint it than to mend what differs, and
 /// whether that keeps within the bound.
+#[inline(always)]
 fn is_better_cleared<C: Certificate, O: Picture, N: Picture, D: Changes>(
     screens: &Screens<'_, C, O, N>,
     background: Option<Color>,
