@@ -321,6 +321,7 @@ fn erases_runs<C: Certificate>(checked: &C) -> bool {
 }
 
 /// Mends the `cells`, with runs of blanks erased where that takes fewer bytes.
+#[inline(always)]
 pub(crate) fn mend_parts<C: Certificate, O: Picture, N: Picture, W: Wire>(
     screens: &Screens<'_, C, O, N>,
     belief: &mut Belief,
@@ -337,6 +338,23 @@ pub(crate) fn mend_parts<C: Certificate, O: Picture, N: Picture, W: Wire>(
     if cells.count <= FEWEST || !erases_runs(screens.checked) {
         return mend_span(screens, belief, wire, cells);
     }
+    mend_by_parts(screens, belief, wire, cells)
+}
+
+/// Mends the `cells`, part by part.
+fn mend_by_parts<C: Certificate, O: Picture, N: Picture, W: Wire>(
+    screens: &Screens<'_, C, O, N>,
+    belief: &mut Belief,
+    wire: &mut W,
+    cells: Cells,
+) -> Result<(), WireFault>
+    requires scene { IsPaintable (scene C.table O.cells N.cells screens.now) }
+    requires cells { IsOn (C.table screens.now.checked.now) cells }
+    ensures idle { IsIdle result (changed (scene C.table O.cells N.cells screens.now) cells) belief.old belief.new }
+    ensures step { MendsCells W.went W.failures wire.old wire.new result (scene C.table O.cells N.cells screens.now)
+        cells belief.old belief.new }
+    ensures mode { OnOk result (belief.new.mode ≡ belief.old.mode) }
+{
     let mut done = 0;
     while done < cells.count {
         let rest = Cells {

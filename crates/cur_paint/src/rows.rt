@@ -33,6 +33,7 @@ fn blank_from<N: Picture>(new: &N, row: usize, cols: usize) -> usize
 }
 
 /// The column from which on the line `row` of `cols` columns is blank, if the last of the `columns` is; else their end.
+#[inline(always)]
 fn tail_from<N: Picture>(new: &N, row: usize, columns: Columns, cols: usize) -> usize
     requires order { columns.from ≤ columns.end }
     requires within { columns.end ≤ cols }
@@ -274,6 +275,7 @@ fn rest_is_short<C: Certificate, O: Picture, N: Picture>(
 
 /// Where the screen is blank from the column `tail` of the line `row` on, that end, which ends the `columns`, and the
 /// next line may differ, and erasing all at once takes no more bytes. The line `solid`, if it is below, isn't blank.
+#[inline(always)]
 fn bottom_from<C: Certificate, O: Picture, N: Picture, D: Changes>(
     screens: &Screens<'_, C, O, N>,
     changes: &D,

@@ -21,6 +21,7 @@ const BESIDE: usize = 4;
 
 /// The scroll that `changes` name, if the terminal can do it and it leaves fewer cells to be mended, by at least 4 more
 /// than the lines that it moves by.
+#[inline(always)]
 pub(crate) fn useful_scroll<C: Certificate, O: Picture, N: Picture, D: Changes>(
     screens: &Screens<'_, C, O, N>,
     changes: &D,

@@ -170,6 +170,7 @@ fn print_alike<C: Certificate, O: Picture, N: Picture, W: Wire>(
 }
 
 /// Prints those of the `cells` that differ: in one piece those that are printed alike, with the few between them.
+#[inline(always)]
 pub(crate) fn mend_span<C: Certificate, O: Picture, N: Picture, W: Wire>(
     screens: &Screens<'_, C, O, N>,
     belief: &mut Belief,
@@ -186,6 +187,23 @@ pub(crate) fn mend_span<C: Certificate, O: Picture, N: Picture, W: Wire>(
     if cells.count == 1 {
         return print_each(screens, belief, wire, cells);
     }
+    print_pieces(screens, belief, wire, cells)
+}
+
+/// Prints them piece by piece.
+fn print_pieces<C: Certificate, O: Picture, N: Picture, W: Wire>(
+    screens: &Screens<'_, C, O, N>,
+    belief: &mut Belief,
+    wire: &mut W,
+    cells: Cells,
+) -> Result<(), WireFault>
+    requires scene { IsPaintable (scene C.table O.cells N.cells screens.now) }
+    requires cells { IsOn (C.table screens.now.checked.now) cells }
+    ensures idle { IsIdle result (changed (scene C.table O.cells N.cells screens.now) cells) belief.old belief.new }
+    ensures step { MendsCells W.went W.failures wire.old wire.new result (scene C.table O.cells N.cells screens.now)
+        cells belief.old belief.new }
+    ensures mode { OnOk result (belief.new.mode ≡ belief.old.mode) }
+{
     let mut text = [0; TEXT];
     let mut done = 0;
     while done < cells.count {

@@ -79,11 +79,15 @@ fn shape_marked(
             desk.mark_window(*window as usize, touched);
             shape(desk, call)
         }
-        _ => {
-            let outcome = shape(desk, call)?;
+        Call::Lay { .. } => {
             touched.mark_all();
-            Some(outcome)
+            shape(desk, call)
         }
+        Call::Copywin { .. } => {
+            touched.mark_all();
+            shape(desk, call)
+        }
+        _ => None,
     }
 }
 

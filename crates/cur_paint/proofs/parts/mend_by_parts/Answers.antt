@@ -7,7 +7,7 @@ use Rattle.cur_looks.specs.Beliefs.{Agrees}
 use Rattle.cur_wires.proofs.Stops.{steps_nothing, steps_next, steps_fail, steps_wider}
 use Rattle.cur_looks.proofs.Actions.{agrees_lost}
 use Rattle.cur_paint.proofs.Mixtures.{span_join, span_grows, times_grows, sum_limit, agrees_at}
-use Rattle.cur_paint.proofs.parts.mend_parts.Goals as goal
+use Rattle.cur_paint.proofs.parts.mend_by_parts.Goals as goal
 
 pub loop-done-init : goal.loop-done-init
 loop-done-init g c =

@@ -1,7 +1,7 @@
 use Rattle.std.proofs.Common.{◌≡◌, ◌-◌, ◌≤◌, Ok}
 use Rattle.cur_wires.specs.declared.wires.WireFault.{WireFault}
 use Rattle.cur_paint.specs.Scenes.{MendsCells, changed, scene}
-use Rattle.cur_paint.proofs.parts.mend_parts.Given as goal
+use Rattle.cur_paint.proofs.parts.mend_by_parts.Given as goal
 
 abbrev pub invariant-loop-done : goal.invariant-loop-done
 invariant-loop-done g l = record {

@@ -8,7 +8,7 @@ use Rattle.cur_wires.proofs.Stops.{steps_nothing, steps_next, steps_fail, steps_
 use Rattle.cur_looks.proofs.Actions.{agrees_lost}
 use Rattle.cur_paint.proofs.Mixtures.{span_first, span_join, span_more, span_grows, times_grows, sum_limit, agrees_as, agrees_at, mixed_same, found_same, found_different}
 use Rattle.cur_paint.proofs.SpanFacts.{first_then}
-use Rattle.cur_paint.proofs.spans.mend_span.Goals as goal
+use Rattle.cur_paint.proofs.spans.print_pieces.Goals as goal
 
 pub loop-done-init : goal.loop-done-init
 loop-done-init g c =
