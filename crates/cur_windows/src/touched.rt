@@ -371,14 +371,7 @@ pub(crate) fn spread(touched: &mut Touched, but: usize, marks: &Marks, rows: u16
 }
 
 // The same for the grids that are used.
-fn spread_over(
-    grids: &mut Vec<Marks>,
-    used: usize,
-    but: usize,
-    marks: &Marks,
-    rows: u16,
-    cols: u16,
-)
+fn spread_over(grids: &mut Vec<Marks>, used: usize, but: usize, marks: &Marks, rows: u16, cols: u16)
     ensures { Spreads (full_from used grids.old.items) (full_from used grids.new.items) but marks.now rows cols }
 {
     for k in 0..used.min(grids.len()) {

@@ -14,11 +14,11 @@ returns-then-origin c =
       | then-origin-via-else-origin+then-root-touched w ↦ inr (all (inl w.if-root-touched.true))
       | then-origin-via-else-origin+else-root-touched+then-root-len w ↦ inr (all (inr (omega (arith, w.len.ensures, w.if-root-len.true))))
     ]) in
-    record { grid = on.grid; pad = on.pad; none = on.none; others = on.others; }
+    record { grid = on.grid; pad = on.pad; none = on.none; others = on.others }
 
 pub returns : goal.returns
 returns c =
     let s = c.args.slot.now in let o = c.args.origin in
     let on = is_used (λ (m n : Marking). MarksCells m n o s.window c.args.col c.args.count) c.touched.inside.used c.touched.inside.grids.items c.args.touched.now s.root o.pad c.index_mut.result.now c.mark_cells.new.marks c.touched.view_is
-        c.if-root-touched.false (omega (arith, c.len.ensures, c.if-root-len.false)) c.index_mut.ensures.value c.mark_cells.ensures c.if-origin.false in
-    record { grid = on.grid; pad = on.pad; none = on.none; others = on.others; }
+    c.if-root-touched.false (omega (arith, c.len.ensures, c.if-root-len.false)) c.index_mut.ensures.value c.mark_cells.ensures c.if-origin.false in
+    record { grid = on.grid; pad = on.pad; none = on.none; others = on.others }

@@ -17,7 +17,7 @@ loop-n-preserved-then-not-shown-n g c =
     let byte : ℕ = slice_index_or c.args.text.now n 0 in
     let told : is_other cell byte ≡ true = told_other (is_other cell byte) (slice_index_or c.loop-n.shown n false) (c.loop-n.invariant.rest n (omega arith) c.loop-n-test.true) c.if-not-shown-n.true in
     let here : slice_index_or c.loop-n.shown n false ≡ same (printed_cell s.means (g.C.Certificate.partners s.checked.now) s.screen.now cell) (record c.args.ink { byte = byte }) =
-        c.if-not-shown-n.true ∙ sym (other_told s.means (g.C.Certificate.partners s.checked.now) (colors_at s.screen.now cell.pair) cell byte c.args.ink told) in
+    c.if-not-shown-n.true ∙ sym (other_told s.means (g.C.Certificate.partners s.checked.now) (colors_at s.screen.now cell.pair) cell byte c.args.ink told) in
     record {
       size = c.loop-n.invariant.size;
       found = λ k near. elim (cases_lt k n) [
@@ -25,7 +25,7 @@ loop-n-preserved-then-not-shown-n g c =
         | inr past ↦
             let last : n ≡ k = omega (arith, near, past) in
             subst (λ (k : ℕ). slice_index_or c.loop-n.shown k false
-                ≡ same (printed_cell s.means (g.C.Certificate.partners s.checked.now) s.screen.now (slice_index_or c.args.line.now k space)) (record c.args.ink { byte = slice_index_or c.args.text.now k 0 })) last here
+            ≡ same (printed_cell s.means (g.C.Certificate.partners s.checked.now) s.screen.now (slice_index_or c.args.line.now k space)) (record c.args.ink { byte = slice_index_or c.args.text.now k 0 })) last here
       ];
       rest = λ k past lt. c.loop-n.invariant.rest k (omega (arith, past)) lt;
     }

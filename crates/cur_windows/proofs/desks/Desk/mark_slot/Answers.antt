@@ -19,13 +19,13 @@ returns-then-origin_of c =
       | then-origin_of-via-else-origin_of+then-root-touched w ↦ inr (all (inl w.if-root-touched.true))
       | then-origin_of-via-else-origin_of+else-root-touched+then-root-len w ↦ inr (all (inr (omega (arith, w.len.ensures, w.if-root-len.true))))
     ]) in
-    record { grid = on.grid; pad = on.pad; none = on.none; others = on.others; }
+    record { grid = on.grid; pad = on.pad; none = on.none; others = on.others }
 
 pub returns : goal.returns
 returns c =
     let s = c.args.slot.now in let d = c.args.self.now in
     let on = is_used (λ (m n : Marking). MarksArea m n (area_on_screen d s)) c.touched.inside.used c.touched.inside.grids.items c.args.touched.now s.root (origin_at d s.root).pad c.index_mut.result.now c.mark_area.new.marks c.touched.view_is
-        c.if-root-touched.false (omega (arith, c.len.ensures, c.if-root-len.false)) c.index_mut.ensures.value
-        (subst (λ (a : Area). MarksArea c.index_mut.result.now c.mark_area.new.marks a) c.place_on_screen-area.ensures.value c.mark_area.ensures)
-        (sym (ap (λ (o : Origin). o.pad) c.origin_of.ensures.value) ∙ c.if-origin_of.false) in
-    record { grid = on.grid; pad = on.pad; none = on.none; others = on.others; }
+    c.if-root-touched.false (omega (arith, c.len.ensures, c.if-root-len.false)) c.index_mut.ensures.value
+    (subst (λ (a : Area). MarksArea c.index_mut.result.now c.mark_area.new.marks a) c.place_on_screen-area.ensures.value c.mark_area.ensures)
+    (sym (ap (λ (o : Origin). o.pad) c.origin_of.ensures.value) ∙ c.if-origin_of.false) in
+    record { grid = on.grid; pad = on.pad; none = on.none; others = on.others }
