@@ -129,7 +129,9 @@ fn may_become_blank<N: Picture, D: Changes>(
     may_differ(changes, row, rows, cols) && are_blank(new, row, 0, cols)
 }
 
-/// Whether two of three lines become blank, so that it is worth a look at all of them.
+/// Whether two of three lines become blank, so that it is worth a look at all of them: not where no more than a quarter
+/// of the lines may differ.
+#[inline(always)]
 pub(crate) fn may_become_blanks<N: Picture, D: Changes>(
     new: &N,
     changes: &D,
@@ -137,9 +139,17 @@ pub(crate) fn may_become_blanks<N: Picture, D: Changes>(
     cols: usize,
 ) -> bool {
     let lines = changes.lines(rows, cols);
-    if lines.end - lines.from <= rows / 4 {
-        return false;
-    }
+    lines.end - lines.from > rows / 4 && two_may_become_blank(new, changes, rows, cols)
+}
+
+/// The same, however many lines may differ.
+#[inline(never)]
+fn two_may_become_blank<N: Picture, D: Changes>(
+    new: &N,
+    changes: &D,
+    rows: usize,
+    cols: usize,
+) -> bool {
     let middle = may_become_blank(new, changes, rows / 2, rows, cols);
     let upper = may_become_blank(new, changes, rows / 4, rows, cols);
     match (middle, upper) {

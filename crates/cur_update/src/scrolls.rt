@@ -87,10 +87,6 @@ fn moved_between(old: &Virtual, new: &Virtual, top: u16, bottom: u16) -> Option<
 fn differ_much(found: &Findings<'_>, rows: u16) -> bool
     requires { 0 < rows }
 {
-    let lines = found.lines.end.saturating_sub(found.lines.from);
-    if lines <= usize::from(rows / 4) {
-        return false;
-    }
     let middle = may_differ(found, rows / 2);
     let upper = may_differ(found, rows / 4);
     match (middle, upper) {
@@ -101,8 +97,19 @@ fn differ_much(found: &Findings<'_>, rows: u16) -> bool
 }
 
 /// A scroll by which much of the screen `old` may have become the screen `new`, as far as few of their lines show; by
-/// `found` it is known which lines differ.
+/// `found` it is known which lines differ. None is looked for where that is no more than a quarter of the lines.
+#[inline(always)]
 pub(crate) fn found_scroll(old: &Virtual, new: &Virtual, found: &Findings<'_>) -> Option<Scroll> {
+    let lines = found.lines.end.saturating_sub(found.lines.from);
+    if lines <= usize::from(new.size().0 / 4) {
+        return None;
+    }
+    scroll_between(old, new, found)
+}
+
+/// The same, however many lines differ.
+#[inline(never)]
+fn scroll_between(old: &Virtual, new: &Virtual, found: &Findings<'_>) -> Option<Scroll> {
     let (rows, cols) = old.size();
     let (new_rows, new_cols) = new.size();
     if rows != new_rows || cols != new_cols || rows == 0 {
