@@ -60,9 +60,9 @@ impl Touched {
         self.used = 0;
     }
 
-    // The marks of a grid, unless all of it is marked.
+    /// The marks of the grid that the window of this number made, unless all of it is marked.
     #[tactic(auto, using(crate::proofs::Openings::used_at, crate::proofs::Openings::is_full_at, crate::proofs::Openings::length_full_from))]
-    pub(crate) fn of_grid(&self, root: usize) -> Option<&Marks>
+    pub fn of_grid(&self, root: usize) -> Option<&Marks>
         ensures marks { IfSome result (λ m. m.now ≡ grid_marks self.now root) }
         ensures full { result ≡ None → (grid_marks self.now root).all ≡ true }
     {
