@@ -15,7 +15,7 @@ use cur_drawing::{Attrs, Border, Put};
 pub enum Call<'a> {
     /// `newwin`: the window's number, its size, and its place on the screen.
     Newwin {
-        window: u32,
+        window: usize,
         lines: i32,
         cols: i32,
         y: i32,
@@ -23,15 +23,15 @@ pub enum Call<'a> {
     },
     /// `newpad`: the pad's number and its size.
     Newpad {
-        window: u32,
+        window: usize,
         lines: i32,
         cols: i32,
     },
     /// `subwin`, `derwin`, `subpad`: the part's number, the window or pad that it is a part of, its size and its place.
     Part {
         call: PartCall,
-        window: u32,
-        parent: u32,
+        window: usize,
+        parent: usize,
         lines: i32,
         cols: i32,
         y: i32,
@@ -39,80 +39,80 @@ pub enum Call<'a> {
     },
     /// `dupwin`: the copy's number, and the window that is copied.
     Dupwin {
-        window: u32,
-        source: u32,
+        window: usize,
+        source: usize,
     },
     /// `delwin`, `delch`, `insertln`, `deleteln`, `clrtoeol`, `clrtobot`, `erase`, `clear`, `touchwin`.
     Plain {
         call: PlainCall,
-        window: u32,
+        window: usize,
     },
     /// `scroll`, `color_set`.
     Number {
         call: NumberCall,
-        window: u32,
+        window: usize,
         number: i32,
     },
     /// `mvwin`, `move`, `setscrreg`, `touchline`.
     Numbers {
         call: NumbersCall,
-        window: u32,
+        window: usize,
         first: i32,
         second: i32,
     },
     /// `scrollok`, `leaveok`, `clearok`, `idlok`.
     Flag {
         call: FlagCall,
-        window: u32,
+        window: usize,
         on: bool,
     },
     /// `attron`, `attroff`, `attrset`.
     Attributes {
         call: AttrsCall,
-        window: u32,
+        window: usize,
         attrs: Attrs,
     },
     /// `addch`, `insch`, `bkgdset`, `bkgd`.
     Cell {
         call: CellCall,
-        window: u32,
+        window: usize,
         put: Put,
     },
     /// `addstr`.
     Addstr {
-        window: u32,
+        window: usize,
         text: Text<'a>,
     },
     /// `hline`, `vline`: at most `count` cells.
     Line {
         call: LineCall,
-        window: u32,
+        window: usize,
         put: Put,
         count: i32,
     },
     /// `border`.
     DrawBorder {
-        window: u32,
+        window: usize,
         border: Border,
     },
     /// `box`.
     DrawBox {
-        window: u32,
+        window: usize,
         vertical: Put,
         horizontal: Put,
     },
     /// `overlay`, `overwrite`.
     Lay {
         call: LayCall,
-        source: u32,
-        target: u32,
+        source: usize,
+        target: usize,
     },
     /// `copywin`: whether spaces are skipped; from a place of the source on, to the target's rows `row` to `last_row` and
     /// columns `col` to `last_col`.
     Copywin {
         skip: bool,
-        source: u32,
-        target: u32,
+        source: usize,
+        target: usize,
         from_row: i32,
         from_col: i32,
         row: i32,
@@ -123,13 +123,13 @@ pub enum Call<'a> {
     /// `noutrefresh`, `refresh`.
     Show {
         call: ShowCall,
-        window: u32,
+        window: usize,
     },
     /// `pnoutrefresh`, `prefresh`: from a place of the pad on, to the screen's rows `top` to `bottom` and columns
     /// `left` to `right`.
     ShowPad {
         call: PadCall,
-        window: u32,
+        window: usize,
         row: i32,
         col: i32,
         top: i32,

@@ -123,10 +123,10 @@ fn negated(number: u32) -> i32
 }
 
 /// The number of a window.
-pub(crate) fn window_in(word: &[u8]) -> Option<u32>
+pub(crate) fn window_in(word: &[u8]) -> Option<usize>
     ensures { result ≡ spec.window_in word.now }
 {
-    natural(2_147_483_647, word)
+    Some(natural(2_147_483_647, word)? as usize)
 }
 
 /// 0 or 1.

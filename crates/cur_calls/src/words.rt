@@ -112,11 +112,11 @@ impl<'a> Words<'a> {
 
     /// A window's number.
     #[inline(always)]
-    pub(crate) fn window(self) -> Option<(u32, Words<'a>)>
+    pub(crate) fn window(self) -> Option<(usize, Words<'a>)>
         ensures { result ≡ spec.first window_in self.entry }
     {
-        if let Some(short) = self.short_number() {
-            return Some(short);
+        if let Some((number, words)) = self.short_number() {
+            return Some((number as usize, words));
         }
         let (word, words) = self.next()?;
         Some((window_in(word)?, words))
@@ -189,7 +189,7 @@ impl<'a> Words<'a> {
 
     /// Two windows' numbers.
     #[inline(always)]
-    pub(crate) fn two_windows(self) -> Option<((u32, u32), Words<'a>)>
+    pub(crate) fn two_windows(self) -> Option<((usize, usize), Words<'a>)>
         ensures { result ≡ spec.two_windows self.entry }
     {
         let (first, words) = self.window()?;

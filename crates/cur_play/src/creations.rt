@@ -19,12 +19,12 @@ pub(crate) fn make(desk: &mut Desk, call: &Call<'_>) -> Option<Result<(), Refusa
             cols,
             y,
             x,
-        } => Some(desk.newwin(*window as usize, *lines, *cols, *y, *x)),
+        } => Some(desk.newwin(*window, *lines, *cols, *y, *x)),
         Call::Newpad {
             window,
             lines,
             cols,
-        } => Some(newpad(desk, *window as usize, *lines, *cols)),
+        } => Some(newpad(desk, *window, *lines, *cols)),
         Call::Part {
             call,
             window,
@@ -33,17 +33,8 @@ pub(crate) fn make(desk: &mut Desk, call: &Call<'_>) -> Option<Result<(), Refusa
             cols,
             y,
             x,
-        } => Some(part(
-            desk,
-            *call,
-            *window as usize,
-            *parent as usize,
-            *lines,
-            *cols,
-            *y,
-            *x,
-        )),
-        Call::Dupwin { window, source } => Some(desk.dupwin(*window as usize, *source as usize)),
+        } => Some(part(desk, *call, *window, *parent, *lines, *cols, *y, *x)),
+        Call::Dupwin { window, source } => Some(desk.dupwin(*window, *source)),
         _ => None,
     }
 }

@@ -83,7 +83,7 @@ fn show<C: Certificate>(
     match call {
         Call::Show { window, .. } => {
             let (touched, marks) = (&mut stale.window, &mut stale.screen);
-            answer_of(desk.noutrefresh_marked(*window as usize, screen, touched, marks))
+            answer_of(desk.noutrefresh_marked(*window, screen, touched, marks))
         }
         Call::ShowPad {
             window,
@@ -98,15 +98,7 @@ fn show<C: Certificate>(
             stale.window.mark_all();
             stale.screen.mark_all();
             answer_of(pnoutrefresh(
-                desk,
-                *window as usize,
-                *row,
-                *col,
-                *top,
-                *left,
-                *bottom,
-                *right,
-                screen,
+                desk, *window, *row, *col, *top, *left, *bottom, *right, screen,
             ))
         }
         Call::CursSet { mode } => mode_answer(painter.cursor_mode(*mode)),

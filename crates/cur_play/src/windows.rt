@@ -23,33 +23,27 @@ pub(crate) fn change(
     ensures touched { KeepsShown touched.old desk.old touched.new desk.new }
 {
     match call {
-        Call::Plain { call, window } => Some(plain_marked(desk, touched, *call, *window as usize)),
+        Call::Plain { call, window } => Some(plain_marked(desk, touched, *call, *window)),
         Call::Number {
             call,
             window,
             number,
-        } => Some(number_call(desk, touched, *call, *window as usize, *number)),
+        } => Some(number_call(desk, touched, *call, *window, *number)),
         Call::Numbers {
             call,
             window,
             first,
             second,
-        } => Some(numbers_call(desk, touched, *call, *window as usize, *first, *second)),
-        Call::Flag { call, window, on } => Some(flag(desk, *call, *window as usize, *on)),
+        } => Some(numbers_call(desk, touched, *call, *window, *first, *second)),
+        Call::Flag { call, window, on } => Some(flag(desk, *call, *window, *on)),
         Call::Attributes {
             call,
             window,
             attrs,
-        } => Some(attributes(desk, *call, *window as usize, *attrs)),
-        Call::Cell { call, window, put } => Some(cell(
-            desk,
-            touched,
-            *call,
-            *window as usize,
-            *put,
-        )),
+        } => Some(attributes(desk, *call, *window, *attrs)),
+        Call::Cell { call, window, put } => Some(cell(desk, touched, *call, *window, *put)),
         Call::Addstr { window, text } => Some(desk.addstr_marked(
-            *window as usize,
+            *window,
             text.as_slice(),
             touched,
         )),
@@ -68,15 +62,15 @@ fn shape_marked(
 {
     match call {
         Call::Line { window, .. } => {
-            desk.mark_window(*window as usize, touched);
+            desk.mark_window(*window, touched);
             shape(desk, call)
         }
         Call::DrawBorder { window, .. } => {
-            desk.mark_window(*window as usize, touched);
+            desk.mark_window(*window, touched);
             shape(desk, call)
         }
         Call::DrawBox { window, .. } => {
-            desk.mark_window(*window as usize, touched);
+            desk.mark_window(*window, touched);
             shape(desk, call)
         }
         Call::Lay { .. } => {
@@ -101,18 +95,18 @@ fn shape(desk: &mut Desk, call: &Call<'_>) -> Option<Result<(), Refusal>>
             window,
             put,
             count,
-        } => Some(line(desk, *call, *window as usize, *put, *count)),
-        Call::DrawBorder { window, border } => Some(desk.border(*window as usize, border)),
+        } => Some(line(desk, *call, *window, *put, *count)),
+        Call::DrawBorder { window, border } => Some(desk.border(*window, border)),
         Call::DrawBox {
             window,
             vertical,
             horizontal,
-        } => Some(desk.draw_box(*window as usize, *vertical, *horizontal)),
+        } => Some(desk.draw_box(*window, *vertical, *horizontal)),
         Call::Lay {
             call,
             source,
             target,
-        } => Some(lay(desk, *call, *source as usize, *target as usize)),
+        } => Some(lay(desk, *call, *source, *target)),
         Call::Copywin {
             skip,
             source,
@@ -125,15 +119,7 @@ fn shape(desk: &mut Desk, call: &Call<'_>) -> Option<Result<(), Refusal>>
             last_col,
         } => {
             Some(desk.copywin(
-                *source as usize,
-                *target as usize,
-                *from_row,
-                *from_col,
-                *row,
-                *col,
-                *last_row,
-                *last_col,
-                *skip,
+                *source, *target, *from_row, *from_col, *row, *col, *last_row, *last_col, *skip,
             ))
         }
         _ => None,
