@@ -11,7 +11,7 @@ work=$(mktemp -d)
 trap 'rm -rf "$work"' EXIT
 
 # the request that is refused: more than the calls ask for together, since one before the calls and one after them have to be met too
-REFUSED=1000
+REFUSED=740
 
 mkdir "$work/cases"
 word=
