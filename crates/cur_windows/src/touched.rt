@@ -60,7 +60,7 @@ impl Touched {
         self.used = 0;
     }
 
-    /// The marks of the grid that the window of this number made, unless all of it is marked.
+    /// The marks of the grid that the window of this number made. None says that all of it is marked.
     #[tactic(auto, using(crate::proofs::Openings::used_at, crate::proofs::Openings::is_full_at, crate::proofs::Openings::length_full_from))]
     pub fn of_grid(&self, root: usize) -> Option<&Marks>
         ensures marks { IfSome result (λ m. m.now ≡ grid_marks self.now root) }
