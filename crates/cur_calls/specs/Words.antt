@@ -19,6 +19,10 @@ abbrev pub past_front_word : List ℕ → List ℕ
 past_front_word [] = []
 past_front_word (b ∷ text) = if b == 32 then b ∷ text else past_front_word text
 
+-- (Serves the code alone.) the words of a line after the first one
+abbrev pub words_after : List ℕ → List (List ℕ)
+words_after line = words_behind (past_front_word line)
+
 abbrev pub first_word : List (List ℕ) → Option (List ℕ × List (List ℕ))
 first_word [] = None
 first_word (word ∷ words) = Some (word, words)

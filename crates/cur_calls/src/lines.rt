@@ -5,8 +5,7 @@ ghost use Rattle.cur_calls.specs.Texts.{is_skipped, line_calls, LineFails};
 
 use crate::calls::Call;
 use crate::faults::{ScriptFault, ScriptFaultKind};
-use crate::table::call_with;
-use crate::words::Words;
+use crate::table::call_named;
 
 /// The calls of a line, one or none, are added. `BadLine` for a line that is no call.
 #[inline(always)]
@@ -51,9 +50,9 @@ pub(crate) fn is_skipped(line: &[u8]) -> bool
 
 /// The call that a line is.
 #[inline(always)]
+#[tactic(auto, using(crate::proofs::WordsLeft::words_cut))]
 pub(crate) fn call_of<'a>(line: &'a [u8]) -> Option<Call<'a>>
     ensures { result ≡ call_of line.now }
 {
-    let (name, words) = Words::of(line);
-    call_with(name, words)
+    call_named(line)
 }

@@ -1,7 +1,8 @@
 //! The table of calls: the name of each, and what reads its arguments. A function for each letter has the names that
 //! begin with it.
-ghost use Rattle.std.specs.Prelude.{◌≡◌, bytes_eq};
+ghost use Rattle.std.specs.Prelude.{◌≡◌};
 ghost use Rattle.cur_calls.specs.Table as spec;
+ghost use Rattle.cur_calls.specs.Words.{front_word, words_after};
 
 use crate::arguments::{
     addstr, attributes, bare, beep, cell, copywin, curs_set, draw_border, draw_box, dupwin, flag,
@@ -14,45 +15,45 @@ use crate::groups::{
 };
 use crate::words::Words;
 
-/// The call of this name whose arguments are these words, and no more.
+/// The call that a line is, by its first word.
 #[inline(always)]
-pub(crate) fn call_with<'a>(name: &[u8], words: Words<'a>) -> Option<Call<'a>>
-    ensures { result ≡ spec.call_with name.now words.entry }
+pub(crate) fn call_named<'a>(text: &'a [u8]) -> Option<Call<'a>>
+    ensures { result ≡ spec.call_with (front_word text.now) (words_after text.now) }
 {
-    match name {
-        [b'a', ..] => under_a(name, words),
-        [b'b', ..] => under_b(name, words),
-        [b'c', ..] => under_c(name, words),
-        [b'd', ..] => under_d(name, words),
-        [b'e', ..] => under_e(name, words),
-        [b'h', ..] => under_h(name, words),
-        [b'i', ..] => under_i(name, words),
-        [b'l', ..] => under_l(name, words),
-        [b'm', ..] => under_m(name, words),
-        [b'n', ..] => under_n(name, words),
-        [b'o', ..] => under_o(name, words),
-        [b'p', ..] => under_p(name, words),
-        [b'r', ..] => under_r(name, words),
-        [b's', ..] => under_s(name, words),
-        [b't', ..] => under_t(name, words),
-        [b'v', ..] => under_v(name, words),
+    match text {
+        [b'a', ..] => under_a(text),
+        [b'b', ..] => under_b(text),
+        [b'c', ..] => under_c(text),
+        [b'd', ..] => under_d(text),
+        [b'e', ..] => under_e(text),
+        [b'h', ..] => under_h(text),
+        [b'i', ..] => under_i(text),
+        [b'l', ..] => under_l(text),
+        [b'm', ..] => under_m(text),
+        [b'n', ..] => under_n(text),
+        [b'o', ..] => under_o(text),
+        [b'p', ..] => under_p(text),
+        [b'r', ..] => under_r(text),
+        [b's', ..] => under_s(text),
+        [b't', ..] => under_t(text),
+        [b'v', ..] => under_v(text),
         _ => None,
     }
 }
 
 #[inline(always)]
-fn under_a<'a>(name: &[u8], words: Words<'a>) -> Option<Call<'a>>
-    ensures { result ≡ spec.call_in spec.rows_a name.now words.entry }
+fn under_a<'a>(text: &'a [u8]) -> Option<Call<'a>>
+    ensures { result ≡ spec.call_in spec.rows_a (front_word text.now) (words_after text.now) }
 {
-    if is(name, b"addch") {
+    if let Some(words) = Words::after(b"addch", text) {
         cell(CellCall::Addch, words)
-    } else if is(name, b"addstr") {
+    } else if let Some(words) = Words::after(b"addstr", text) {
         addstr(words)
-    } else if is(name, b"attroff") {
+    } else if let Some(words) = Words::after(b"attroff", text) {
         attributes(AttrsCall::Attroff, words)
-    } else if is(name, b"attron") {
+    } else if let Some(words) = Words::after(b"attron", text) {
         attributes(AttrsCall::Attron, words)
-    } else if is(name, b"attrset") {
+    } else if let Some(words) = Words::after(b"attrset", text) {
         attributes(AttrsCall::Attrset, words)
     } else {
         None
@@ -60,18 +61,18 @@ fn under_a<'a>(name: &[u8], words: Words<'a>) -> Option<Call<'a>>
 }
 
 #[inline(always)]
-fn under_b<'a>(name: &[u8], words: Words<'a>) -> Option<Call<'a>>
-    ensures { result ≡ spec.call_in spec.rows_b name.now words.entry }
+fn under_b<'a>(text: &'a [u8]) -> Option<Call<'a>>
+    ensures { result ≡ spec.call_in spec.rows_b (front_word text.now) (words_after text.now) }
 {
-    if is(name, b"beep") {
+    if let Some(words) = Words::after(b"beep", text) {
         beep(words)
-    } else if is(name, b"bkgd") {
+    } else if let Some(words) = Words::after(b"bkgd", text) {
         cell(CellCall::Bkgd, words)
-    } else if is(name, b"bkgdset") {
+    } else if let Some(words) = Words::after(b"bkgdset", text) {
         cell(CellCall::Bkgdset, words)
-    } else if is(name, b"border") {
+    } else if let Some(words) = Words::after(b"border", text) {
         draw_border(words)
-    } else if is(name, b"box") {
+    } else if let Some(words) = Words::after(b"box", text) {
         draw_box(words)
     } else {
         None
@@ -79,22 +80,22 @@ fn under_b<'a>(name: &[u8], words: Words<'a>) -> Option<Call<'a>>
 }
 
 #[inline(always)]
-fn under_c<'a>(name: &[u8], words: Words<'a>) -> Option<Call<'a>>
-    ensures { result ≡ spec.call_in spec.rows_c name.now words.entry }
+fn under_c<'a>(text: &'a [u8]) -> Option<Call<'a>>
+    ensures { result ≡ spec.call_in spec.rows_c (front_word text.now) (words_after text.now) }
 {
-    if is(name, b"clear") {
+    if let Some(words) = Words::after(b"clear", text) {
         plain(PlainCall::Clear, words)
-    } else if is(name, b"clearok") {
+    } else if let Some(words) = Words::after(b"clearok", text) {
         flag(FlagCall::Clearok, words)
-    } else if is(name, b"clrtobot") {
+    } else if let Some(words) = Words::after(b"clrtobot", text) {
         plain(PlainCall::Clrtobot, words)
-    } else if is(name, b"clrtoeol") {
+    } else if let Some(words) = Words::after(b"clrtoeol", text) {
         plain(PlainCall::Clrtoeol, words)
-    } else if is(name, b"color_set") {
+    } else if let Some(words) = Words::after(b"color_set", text) {
         number(NumberCall::ColorSet, words)
-    } else if is(name, b"copywin") {
+    } else if let Some(words) = Words::after(b"copywin", text) {
         copywin(words)
-    } else if is(name, b"curs_set") {
+    } else if let Some(words) = Words::after(b"curs_set", text) {
         curs_set(words)
     } else {
         None
@@ -102,20 +103,20 @@ fn under_c<'a>(name: &[u8], words: Words<'a>) -> Option<Call<'a>>
 }
 
 #[inline(always)]
-fn under_d<'a>(name: &[u8], words: Words<'a>) -> Option<Call<'a>>
-    ensures { result ≡ spec.call_in spec.rows_d name.now words.entry }
+fn under_d<'a>(text: &'a [u8]) -> Option<Call<'a>>
+    ensures { result ≡ spec.call_in spec.rows_d (front_word text.now) (words_after text.now) }
 {
-    if is(name, b"delch") {
+    if let Some(words) = Words::after(b"delch", text) {
         plain(PlainCall::Delch, words)
-    } else if is(name, b"deleteln") {
+    } else if let Some(words) = Words::after(b"deleteln", text) {
         plain(PlainCall::Deleteln, words)
-    } else if is(name, b"delwin") {
+    } else if let Some(words) = Words::after(b"delwin", text) {
         plain(PlainCall::Delwin, words)
-    } else if is(name, b"derwin") {
+    } else if let Some(words) = Words::after(b"derwin", text) {
         part(PartCall::Derwin, words)
-    } else if is(name, b"doupdate") {
+    } else if let Some(words) = Words::after(b"doupdate", text) {
         bare(ScreenCall::Doupdate, words)
-    } else if is(name, b"dupwin") {
+    } else if let Some(words) = Words::after(b"dupwin", text) {
         dupwin(words)
     } else {
         None
@@ -123,12 +124,12 @@ fn under_d<'a>(name: &[u8], words: Words<'a>) -> Option<Call<'a>>
 }
 
 #[inline(always)]
-fn under_e<'a>(name: &[u8], words: Words<'a>) -> Option<Call<'a>>
-    ensures { result ≡ spec.call_in spec.rows_e name.now words.entry }
+fn under_e<'a>(text: &'a [u8]) -> Option<Call<'a>>
+    ensures { result ≡ spec.call_in spec.rows_e (front_word text.now) (words_after text.now) }
 {
-    if is(name, b"endwin") {
+    if let Some(words) = Words::after(b"endwin", text) {
         bare(ScreenCall::Endwin, words)
-    } else if is(name, b"erase") {
+    } else if let Some(words) = Words::after(b"erase", text) {
         plain(PlainCall::Erase, words)
     } else {
         None
@@ -136,10 +137,10 @@ fn under_e<'a>(name: &[u8], words: Words<'a>) -> Option<Call<'a>>
 }
 
 #[inline(always)]
-fn under_h<'a>(name: &[u8], words: Words<'a>) -> Option<Call<'a>>
-    ensures { result ≡ spec.call_in spec.rows_h name.now words.entry }
+fn under_h<'a>(text: &'a [u8]) -> Option<Call<'a>>
+    ensures { result ≡ spec.call_in spec.rows_h (front_word text.now) (words_after text.now) }
 {
-    if is(name, b"hline") {
+    if let Some(words) = Words::after(b"hline", text) {
         line(LineCall::Hline, words)
     } else {
         None
@@ -147,16 +148,16 @@ fn under_h<'a>(name: &[u8], words: Words<'a>) -> Option<Call<'a>>
 }
 
 #[inline(always)]
-fn under_i<'a>(name: &[u8], words: Words<'a>) -> Option<Call<'a>>
-    ensures { result ≡ spec.call_in spec.rows_i name.now words.entry }
+fn under_i<'a>(text: &'a [u8]) -> Option<Call<'a>>
+    ensures { result ≡ spec.call_in spec.rows_i (front_word text.now) (words_after text.now) }
 {
-    if is(name, b"idlok") {
+    if let Some(words) = Words::after(b"idlok", text) {
         flag(FlagCall::Idlok, words)
-    } else if is(name, b"init_pair") {
+    } else if let Some(words) = Words::after(b"init_pair", text) {
         init_pair(words)
-    } else if is(name, b"insch") {
+    } else if let Some(words) = Words::after(b"insch", text) {
         cell(CellCall::Insch, words)
-    } else if is(name, b"insertln") {
+    } else if let Some(words) = Words::after(b"insertln", text) {
         plain(PlainCall::Insertln, words)
     } else {
         None
@@ -164,10 +165,10 @@ fn under_i<'a>(name: &[u8], words: Words<'a>) -> Option<Call<'a>>
 }
 
 #[inline(always)]
-fn under_l<'a>(name: &[u8], words: Words<'a>) -> Option<Call<'a>>
-    ensures { result ≡ spec.call_in spec.rows_l name.now words.entry }
+fn under_l<'a>(text: &'a [u8]) -> Option<Call<'a>>
+    ensures { result ≡ spec.call_in spec.rows_l (front_word text.now) (words_after text.now) }
 {
-    if is(name, b"leaveok") {
+    if let Some(words) = Words::after(b"leaveok", text) {
         flag(FlagCall::Leaveok, words)
     } else {
         None
@@ -175,12 +176,12 @@ fn under_l<'a>(name: &[u8], words: Words<'a>) -> Option<Call<'a>>
 }
 
 #[inline(always)]
-fn under_m<'a>(name: &[u8], words: Words<'a>) -> Option<Call<'a>>
-    ensures { result ≡ spec.call_in spec.rows_m name.now words.entry }
+fn under_m<'a>(text: &'a [u8]) -> Option<Call<'a>>
+    ensures { result ≡ spec.call_in spec.rows_m (front_word text.now) (words_after text.now) }
 {
-    if is(name, b"move") {
+    if let Some(words) = Words::after(b"move", text) {
         numbers(NumbersCall::Move, words)
-    } else if is(name, b"mvwin") {
+    } else if let Some(words) = Words::after(b"mvwin", text) {
         numbers(NumbersCall::Mvwin, words)
     } else {
         None
@@ -188,14 +189,14 @@ fn under_m<'a>(name: &[u8], words: Words<'a>) -> Option<Call<'a>>
 }
 
 #[inline(always)]
-fn under_n<'a>(name: &[u8], words: Words<'a>) -> Option<Call<'a>>
-    ensures { result ≡ spec.call_in spec.rows_n name.now words.entry }
+fn under_n<'a>(text: &'a [u8]) -> Option<Call<'a>>
+    ensures { result ≡ spec.call_in spec.rows_n (front_word text.now) (words_after text.now) }
 {
-    if is(name, b"newpad") {
+    if let Some(words) = Words::after(b"newpad", text) {
         newpad(words)
-    } else if is(name, b"newwin") {
+    } else if let Some(words) = Words::after(b"newwin", text) {
         newwin(words)
-    } else if is(name, b"noutrefresh") {
+    } else if let Some(words) = Words::after(b"noutrefresh", text) {
         show(ShowCall::Noutrefresh, words)
     } else {
         None
@@ -203,12 +204,12 @@ fn under_n<'a>(name: &[u8], words: Words<'a>) -> Option<Call<'a>>
 }
 
 #[inline(always)]
-fn under_o<'a>(name: &[u8], words: Words<'a>) -> Option<Call<'a>>
-    ensures { result ≡ spec.call_in spec.rows_o name.now words.entry }
+fn under_o<'a>(text: &'a [u8]) -> Option<Call<'a>>
+    ensures { result ≡ spec.call_in spec.rows_o (front_word text.now) (words_after text.now) }
 {
-    if is(name, b"overlay") {
+    if let Some(words) = Words::after(b"overlay", text) {
         lay(LayCall::Overlay, words)
-    } else if is(name, b"overwrite") {
+    } else if let Some(words) = Words::after(b"overwrite", text) {
         lay(LayCall::Overwrite, words)
     } else {
         None
@@ -216,12 +217,12 @@ fn under_o<'a>(name: &[u8], words: Words<'a>) -> Option<Call<'a>>
 }
 
 #[inline(always)]
-fn under_p<'a>(name: &[u8], words: Words<'a>) -> Option<Call<'a>>
-    ensures { result ≡ spec.call_in spec.rows_p name.now words.entry }
+fn under_p<'a>(text: &'a [u8]) -> Option<Call<'a>>
+    ensures { result ≡ spec.call_in spec.rows_p (front_word text.now) (words_after text.now) }
 {
-    if is(name, b"pnoutrefresh") {
+    if let Some(words) = Words::after(b"pnoutrefresh", text) {
         show_pad(PadCall::Pnoutrefresh, words)
-    } else if is(name, b"prefresh") {
+    } else if let Some(words) = Words::after(b"prefresh", text) {
         show_pad(PadCall::Prefresh, words)
     } else {
         None
@@ -229,10 +230,10 @@ fn under_p<'a>(name: &[u8], words: Words<'a>) -> Option<Call<'a>>
 }
 
 #[inline(always)]
-fn under_r<'a>(name: &[u8], words: Words<'a>) -> Option<Call<'a>>
-    ensures { result ≡ spec.call_in spec.rows_r name.now words.entry }
+fn under_r<'a>(text: &'a [u8]) -> Option<Call<'a>>
+    ensures { result ≡ spec.call_in spec.rows_r (front_word text.now) (words_after text.now) }
 {
-    if is(name, b"refresh") {
+    if let Some(words) = Words::after(b"refresh", text) {
         show(ShowCall::Refresh, words)
     } else {
         None
@@ -240,18 +241,18 @@ fn under_r<'a>(name: &[u8], words: Words<'a>) -> Option<Call<'a>>
 }
 
 #[inline(always)]
-fn under_s<'a>(name: &[u8], words: Words<'a>) -> Option<Call<'a>>
-    ensures { result ≡ spec.call_in spec.rows_s name.now words.entry }
+fn under_s<'a>(text: &'a [u8]) -> Option<Call<'a>>
+    ensures { result ≡ spec.call_in spec.rows_s (front_word text.now) (words_after text.now) }
 {
-    if is(name, b"scroll") {
+    if let Some(words) = Words::after(b"scroll", text) {
         number(NumberCall::Scroll, words)
-    } else if is(name, b"scrollok") {
+    } else if let Some(words) = Words::after(b"scrollok", text) {
         flag(FlagCall::Scrollok, words)
-    } else if is(name, b"setscrreg") {
+    } else if let Some(words) = Words::after(b"setscrreg", text) {
         numbers(NumbersCall::Setscrreg, words)
-    } else if is(name, b"subpad") {
+    } else if let Some(words) = Words::after(b"subpad", text) {
         part(PartCall::Subpad, words)
-    } else if is(name, b"subwin") {
+    } else if let Some(words) = Words::after(b"subwin", text) {
         part(PartCall::Subwin, words)
     } else {
         None
@@ -259,12 +260,12 @@ fn under_s<'a>(name: &[u8], words: Words<'a>) -> Option<Call<'a>>
 }
 
 #[inline(always)]
-fn under_t<'a>(name: &[u8], words: Words<'a>) -> Option<Call<'a>>
-    ensures { result ≡ spec.call_in spec.rows_t name.now words.entry }
+fn under_t<'a>(text: &'a [u8]) -> Option<Call<'a>>
+    ensures { result ≡ spec.call_in spec.rows_t (front_word text.now) (words_after text.now) }
 {
-    if is(name, b"touchline") {
+    if let Some(words) = Words::after(b"touchline", text) {
         numbers(NumbersCall::Touchline, words)
-    } else if is(name, b"touchwin") {
+    } else if let Some(words) = Words::after(b"touchwin", text) {
         plain(PlainCall::Touchwin, words)
     } else {
         None
@@ -272,27 +273,12 @@ fn under_t<'a>(name: &[u8], words: Words<'a>) -> Option<Call<'a>>
 }
 
 #[inline(always)]
-fn under_v<'a>(name: &[u8], words: Words<'a>) -> Option<Call<'a>>
-    ensures { result ≡ spec.call_in spec.rows_v name.now words.entry }
+fn under_v<'a>(text: &'a [u8]) -> Option<Call<'a>>
+    ensures { result ≡ spec.call_in spec.rows_v (front_word text.now) (words_after text.now) }
 {
-    if is(name, b"vline") {
+    if let Some(words) = Words::after(b"vline", text) {
         line(LineCall::Vline, words)
     } else {
         None
     }
-}
-
-// Whether the name is this one. It is compared in place: `==` of slices is a call, which takes longer than the names.
-#[inline(always)]
-fn is(name: &[u8], other: &[u8]) -> bool
-    ensures { result ≡ bytes_eq name.now other.now }
-{
-    if name.len() != other.len() {
-        return false;
-    }
-    let mut at = 0;
-    while at < other.len() && name[at] == other[at] {
-        at += 1;
-    }
-    at == other.len()
 }

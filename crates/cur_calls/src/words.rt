@@ -1,5 +1,5 @@
 //! The words of a line, one after another.
-ghost use Rattle.std.specs.Prelude.{◌≡◌, ◌∷◌, ◌≤◌, length, option_map, IfSome, Some};
+ghost use Rattle.std.specs.Prelude.{◌≡◌, ◌∷◌, ◌≤◌, [], bytes_eq, false, length, option_map, IfNone, IfSome, Some};
 ghost use Rattle.cur_calls.specs.Words as spec;
 ghost use Rattle.cur_calls.specs.Cuts.{words_of};
 ghost use Rattle.cur_calls.specs.Numbers.{number_in, window_in, flag_in, zero_in};
@@ -28,7 +28,23 @@ impl<'a> Model for Words<'a> {
 }
 
 impl<'a> Words<'a> {
-    ghost use Rattle.std.specs.Prelude.{◌≡◌, ◌∷◌, ◌≤◌, option_map, IfSome, Some};
+    ghost use Rattle.std.specs.Prelude.{◌≡◌, ◌∷◌, ◌≤◌, bytes_eq, false, true, option_map, IfNone, IfSome, Some};
+
+    /// The words of a line after the first one, where that is this name, which has no space.
+    #[inline(always)]
+    pub(crate) fn after(name: &[u8], line: &'a [u8]) -> Option<Words<'a>>
+        requires { spec.front_word name.now ≡ name.now }
+        ensures name { IfSome result (λ words. bytes_eq (spec.front_word line.now) name.now ≡ true) }
+        ensures words { IfSome result (λ words. words ≡ spec.words_after line.now) }
+        ensures other { IfNone result (bytes_eq (spec.front_word line.now) name.now ≡ false) }
+    {
+        let left = past_name(name, line)?;
+        match left {
+            [] => Some(Words { left }),
+            [b' ', ..] => Some(Words { left }),
+            _ => None,
+        }
+    }
 
     /// The first word of a line, and those after it.
     #[inline(always)]
@@ -196,6 +212,28 @@ impl<'a> Words<'a> {
         let (second, words) = words.window()?;
         Some(((first, second), words))
     }
+}
+
+// What comes after a name that begins a line.
+#[inline(always)]
+#[tactic(auto, using(crate::proofs::WordsLeft::shorter_line, crate::proofs::WordsLeft::passes_on, crate::proofs::WordsLeft::passes_no_more, std::proofs::lemmas::List::take_rest))]
+fn past_name<'a>(name: &[u8], line: &'a [u8]) -> Option<&'a [u8]>
+    requires { spec.front_word name.now ≡ name.now }
+    ensures none { IfNone result (bytes_eq (spec.front_word line.now) name.now ≡ false) }
+    ensures word { IfSome result (λ left. bytes_eq (spec.front_word left.now) [] ≡ bytes_eq (spec.front_word line.now) name.now) }
+    ensures rest { IfSome result (λ left. spec.past_front_word left.now ≡ spec.past_front_word line.now) }
+{
+    if line.len() < name.len() {
+        return None;
+    }
+    let mut at = 0;
+    while at < name.len() && line[at] == name[at] {
+        at += 1;
+    }
+    if at < name.len() {
+        return None;
+    }
+    Some(&line[at..])
 }
 
 // The first word of a text, and what comes after it, from a space on.
