@@ -3,3 +3,4 @@ pub mod CutFacts
 pub mod Readers
 pub mod WordsLeft
 pub mod Shorts
+pub mod Taken

@@ -5,5 +5,6 @@ pub mod Cuts
 pub mod Names
 pub mod Numbers
 pub mod Table
+pub mod Takers
 pub mod Texts
 pub mod Words

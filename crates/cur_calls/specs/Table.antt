@@ -16,7 +16,7 @@ use Rattle.cur_calls.specs.declared.groups.ScreenCall.TheVariants.{Doupdate, End
 use Rattle.cur_calls.specs.declared.groups.ShowCall.TheVariants.{Noutrefresh, Refresh}
 use Rattle.cur_calls.specs.Arguments.{addstr, attributes, bare, beep, cell, copywin, curs_set, draw_border, draw_box, dupwin, flag, init_pair, lay, line, newpad, newwin, number, numbers, part, plain, show, show_pad}
 use Rattle.cur_calls.specs.Cuts.{words_of, ◌>>=◌}
-use Rattle.cur_calls.specs.Words.{first_word}
+use Rattle.cur_calls.specs.Words.{first_word, front_word, words_after}
 
 -- a name, and which call of that name has these words as its arguments
 abbrev pub Row : Type 0
@@ -137,3 +137,7 @@ abbrev pub call_of : List ℕ → Option Call
 call_of line = do
   a ← first_word (words_of line)
   call_with a.0 a.1
+
+-- (Serves the code alone.) the call among these rows that a line is, by its first word
+abbrev pub call_under : List Row → List ℕ → Option Call
+call_under rows line = call_in rows (front_word line) (words_after line)

@@ -1,7 +1,6 @@
 //! The arguments of each call: a function for each form of them takes a line's words after the name, and no more.
 //!
-//! None is inlined: a `Call` is a large value, and in one function for all names its parts would be merged from each
-//! reader.
+//! Each is inlined where its call is handed on: a `Call` is a large value, and is made where it is kept.
 ghost use Rattle.std.specs.Prelude.{◌≡◌};
 ghost use Rattle.cur_calls.specs.Arguments as spec;
 
@@ -14,7 +13,7 @@ use crate::words::Words;
 use cur_drawing::{Border, Put};
 
 /// `newwin n l c y x`
-#[inline(never)]
+#[inline(always)]
 pub(crate) fn newwin<'a>(words: Words<'a>) -> Option<Call<'a>>
     ensures { result ≡ spec.newwin words.entry }
 {
@@ -31,7 +30,7 @@ pub(crate) fn newwin<'a>(words: Words<'a>) -> Option<Call<'a>>
 }
 
 /// `newpad n l c`
-#[inline(never)]
+#[inline(always)]
 pub(crate) fn newpad<'a>(words: Words<'a>) -> Option<Call<'a>>
     ensures { result ≡ spec.newpad words.entry }
 {
@@ -46,7 +45,7 @@ pub(crate) fn newpad<'a>(words: Words<'a>) -> Option<Call<'a>>
 }
 
 /// `subwin n w l c y x`
-#[inline(never)]
+#[inline(always)]
 pub(crate) fn part<'a>(call: PartCall, words: Words<'a>) -> Option<Call<'a>>
     ensures { result ≡ spec.part call words.entry }
 {
@@ -65,7 +64,7 @@ pub(crate) fn part<'a>(call: PartCall, words: Words<'a>) -> Option<Call<'a>>
 }
 
 /// `dupwin n w`
-#[inline(never)]
+#[inline(always)]
 pub(crate) fn dupwin<'a>(words: Words<'a>) -> Option<Call<'a>>
     ensures { result ≡ spec.dupwin words.entry }
 {
@@ -75,7 +74,7 @@ pub(crate) fn dupwin<'a>(words: Words<'a>) -> Option<Call<'a>>
 }
 
 /// `erase w`
-#[inline(never)]
+#[inline(always)]
 pub(crate) fn plain<'a>(call: PlainCall, words: Words<'a>) -> Option<Call<'a>>
     ensures { result ≡ spec.plain call words.entry }
 {
@@ -85,7 +84,7 @@ pub(crate) fn plain<'a>(call: PlainCall, words: Words<'a>) -> Option<Call<'a>>
 }
 
 /// `scroll w n`
-#[inline(never)]
+#[inline(always)]
 pub(crate) fn number<'a>(call: NumberCall, words: Words<'a>) -> Option<Call<'a>>
     ensures { result ≡ spec.number call words.entry }
 {
@@ -100,7 +99,7 @@ pub(crate) fn number<'a>(call: NumberCall, words: Words<'a>) -> Option<Call<'a>>
 }
 
 /// `move w y x`
-#[inline(never)]
+#[inline(always)]
 pub(crate) fn numbers<'a>(call: NumbersCall, words: Words<'a>) -> Option<Call<'a>>
     ensures { result ≡ spec.numbers call words.entry }
 {
@@ -116,7 +115,7 @@ pub(crate) fn numbers<'a>(call: NumbersCall, words: Words<'a>) -> Option<Call<'a
 }
 
 /// `scrollok w f`
-#[inline(never)]
+#[inline(always)]
 pub(crate) fn flag<'a>(call: FlagCall, words: Words<'a>) -> Option<Call<'a>>
     ensures { result ≡ spec.flag call words.entry }
 {
@@ -127,7 +126,7 @@ pub(crate) fn flag<'a>(call: FlagCall, words: Words<'a>) -> Option<Call<'a>>
 }
 
 /// `attron w A`
-#[inline(never)]
+#[inline(always)]
 pub(crate) fn attributes<'a>(call: AttrsCall, words: Words<'a>) -> Option<Call<'a>>
     ensures { result ≡ spec.attributes call words.entry }
 {
@@ -142,7 +141,7 @@ pub(crate) fn attributes<'a>(call: AttrsCall, words: Words<'a>) -> Option<Call<'
 }
 
 /// `addch w cell`
-#[inline(never)]
+#[inline(always)]
 pub(crate) fn cell<'a>(call: CellCall, words: Words<'a>) -> Option<Call<'a>>
     ensures { result ≡ spec.cell call words.entry }
 {
@@ -153,7 +152,7 @@ pub(crate) fn cell<'a>(call: CellCall, words: Words<'a>) -> Option<Call<'a>>
 }
 
 /// `addstr w TEXT`
-#[inline(never)]
+#[inline(always)]
 pub(crate) fn addstr<'a>(words: Words<'a>) -> Option<Call<'a>>
     ensures { result ≡ spec.addstr words.entry }
 {
@@ -165,7 +164,7 @@ pub(crate) fn addstr<'a>(words: Words<'a>) -> Option<Call<'a>>
 }
 
 /// `hline w cell n`
-#[inline(never)]
+#[inline(always)]
 pub(crate) fn line<'a>(call: LineCall, words: Words<'a>) -> Option<Call<'a>>
     ensures { result ≡ spec.line call words.entry }
 {
@@ -191,7 +190,7 @@ fn default_of(call: LineCall) -> Put
 }
 
 /// `border w ls rs ts bs tl tr bl br`
-#[inline(never)]
+#[inline(always)]
 pub(crate) fn draw_border<'a>(words: Words<'a>) -> Option<Call<'a>>
     ensures { result ≡ spec.draw_border words.entry }
 {
@@ -240,7 +239,7 @@ fn corners<'a>(border: Border, words: Words<'a>) -> Option<(Border, Words<'a>)>
 }
 
 /// `box w v h`
-#[inline(never)]
+#[inline(always)]
 pub(crate) fn draw_box<'a>(words: Words<'a>) -> Option<Call<'a>>
     ensures { result ≡ spec.draw_box words.entry }
 {
@@ -256,7 +255,7 @@ pub(crate) fn draw_box<'a>(words: Words<'a>) -> Option<Call<'a>>
 }
 
 /// `overlay s d`
-#[inline(never)]
+#[inline(always)]
 pub(crate) fn lay<'a>(call: LayCall, words: Words<'a>) -> Option<Call<'a>>
     ensures { result ≡ spec.lay call words.entry }
 {
@@ -270,7 +269,7 @@ pub(crate) fn lay<'a>(call: LayCall, words: Words<'a>) -> Option<Call<'a>>
 }
 
 /// `copywin s d sr sc dr dc er ec f`
-#[inline(never)]
+#[inline(always)]
 pub(crate) fn copywin<'a>(words: Words<'a>) -> Option<Call<'a>>
     ensures { result ≡ spec.copywin words.entry }
 {
@@ -293,7 +292,7 @@ pub(crate) fn copywin<'a>(words: Words<'a>) -> Option<Call<'a>>
 }
 
 /// `refresh w`
-#[inline(never)]
+#[inline(always)]
 pub(crate) fn show<'a>(call: ShowCall, words: Words<'a>) -> Option<Call<'a>>
     ensures { result ≡ spec.show call words.entry }
 {
@@ -303,7 +302,7 @@ pub(crate) fn show<'a>(call: ShowCall, words: Words<'a>) -> Option<Call<'a>>
 }
 
 /// `prefresh w pr pc sr sc er ec`
-#[inline(never)]
+#[inline(always)]
 pub(crate) fn show_pad<'a>(call: PadCall, words: Words<'a>) -> Option<Call<'a>>
     ensures { result ≡ spec.show_pad call words.entry }
 {
@@ -324,7 +323,7 @@ pub(crate) fn show_pad<'a>(call: PadCall, words: Words<'a>) -> Option<Call<'a>>
 }
 
 /// `beep 0`
-#[inline(never)]
+#[inline(always)]
 pub(crate) fn beep<'a>(words: Words<'a>) -> Option<Call<'a>>
     ensures { result ≡ spec.beep words.entry }
 {
@@ -334,7 +333,7 @@ pub(crate) fn beep<'a>(words: Words<'a>) -> Option<Call<'a>>
 }
 
 /// `curs_set n`
-#[inline(never)]
+#[inline(always)]
 pub(crate) fn curs_set<'a>(words: Words<'a>) -> Option<Call<'a>>
     ensures { result ≡ spec.curs_set words.entry }
 {
@@ -344,7 +343,7 @@ pub(crate) fn curs_set<'a>(words: Words<'a>) -> Option<Call<'a>>
 }
 
 /// `init_pair p f b`
-#[inline(never)]
+#[inline(always)]
 pub(crate) fn init_pair<'a>(words: Words<'a>) -> Option<Call<'a>>
     ensures { result ≡ spec.init_pair words.entry }
 {
@@ -359,7 +358,7 @@ pub(crate) fn init_pair<'a>(words: Words<'a>) -> Option<Call<'a>>
 }
 
 /// `doupdate`
-#[inline(never)]
+#[inline(always)]
 pub(crate) fn bare<'a>(call: ScreenCall, words: Words<'a>) -> Option<Call<'a>>
     ensures { result ≡ spec.bare call words.entry }
 {

@@ -11,6 +11,7 @@ mod lines;
 mod numbers;
 mod scripts;
 mod table;
+mod takers;
 mod texts;
 mod words;
 

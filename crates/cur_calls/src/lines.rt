@@ -1,14 +1,17 @@
 //! A line of a script.
-ghost use Rattle.std.specs.Prelude.{◌≡◌, ◌++◌, option_map, IfErr, OnOk};
+ghost use Rattle.std.specs.Prelude.{◌≡◌, ◌++◌, Some, option_map, IfErr, OnOk};
 ghost use Rattle.cur_calls.specs.Table.{call_of};
+ghost use Rattle.cur_calls.specs.Takers.{HandsOn};
 ghost use Rattle.cur_calls.specs.Texts.{is_skipped, line_calls, LineFails};
 
 use crate::calls::Call;
 use crate::faults::{ScriptFault, ScriptFaultKind};
-use crate::table::call_named;
+use crate::table::hand_on_named;
+use crate::takers::Taker;
 
 /// The calls of a line, one or none, are added. `BadLine` for a line that is no call.
 #[inline(always)]
+#[tactic(auto, unfolding(crate::specs::Takers::HandsOn))]
 pub(crate) fn read_line<'a>(
     number: u32,
     line: &'a [u8],
@@ -22,18 +25,9 @@ pub(crate) fn read_line<'a>(
     if is_skipped(line) {
         return Ok(());
     }
-    let Some(call) = call_of(line) else {
-        return Err(ScriptFault {
-            line: number,
-            kind: ScriptFaultKind::BadLine,
-        });
-    };
-    match calls.push(call) {
+    match hand_on_call(line, calls) {
         Ok(()) => Ok(()),
-        Err(_) => Err(ScriptFault {
-            line: number,
-            kind: ScriptFaultKind::NoMemory,
-        }),
+        Err(kind) => Err(ScriptFault { line: number, kind }),
     }
 }
 
@@ -48,11 +42,14 @@ pub(crate) fn is_skipped(line: &[u8]) -> bool
     }
 }
 
-/// The call that a line is.
+/// Hands on the call that a line is. `BadLine` if it is none, `NoMemory` where it isn't taken.
 #[inline(always)]
 #[tactic(auto, using(crate::proofs::WordsLeft::words_cut))]
-pub(crate) fn call_of<'a>(line: &'a [u8]) -> Option<Call<'a>>
-    ensures { result ≡ call_of line.now }
+pub(crate) fn hand_on_call<'a, T: Taker<'a>>(
+    line: &'a [u8],
+    to: &mut T,
+) -> Result<(), ScriptFaultKind>
+    ensures { HandsOn (T.calls to.old) (T.has_room to.old) (call_of line.now) (T.calls to.new) result }
 {
-    call_named(line)
+    hand_on_named(line, to)
 }

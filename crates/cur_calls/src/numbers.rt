@@ -4,8 +4,8 @@ ghost use Rattle.cur_calls.specs.Numbers as spec;
 ghost use Rattle.cur_calls.specs.Words.{front_word, past_front_word};
 ghost use Rattle.cur_calls.specs.Numbers.{window_in};
 
-// A number from it on may be out of range with one digit more.
-const FULL: u32 = 100_000_000;
+// The least number of nine digits: from it on a number may be out of range with one digit more.
+const NINE_DIGITS: u32 = 100_000_000;
 
 // The greatest value of a word, whatever its sign.
 const GREATEST: u64 = 2_147_483_648;
@@ -43,7 +43,7 @@ fn short_digits(text: &[u8]) -> Option<(u32, usize)>
     let mut number = 0;
     let mut at = 0;
     while at < text.len() && text[at] != b' ' {
-        if number >= FULL {
+        if number >= NINE_DIGITS {
             return None;
         }
         number = number * 10 + digit_in(text[at])?;

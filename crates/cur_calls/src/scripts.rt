@@ -6,7 +6,8 @@ ghost use Rattle.cur_calls.specs.Texts.{FailsBy, only_call, only_line, script_of
 use crate::calls::Call;
 use crate::cuts::{cut, first_part};
 use crate::faults::{ScriptFault, ScriptFaultKind};
-use crate::lines::{call_of, is_skipped, read_line};
+use crate::lines::{hand_on_call, is_skipped, read_line};
+use crate::takers::Single;
 use std::alloc::Global;
 
 // How many bytes a short line has.
@@ -64,6 +65,7 @@ pub fn read_call<'a>(text: &'a [u8]) -> Option<Call<'a>>
 }
 
 // The call of a script that has one line, without a clause on the script.
+#[tactic(auto, unfolding(crate::specs::Takers::HandsOn))]
 fn only_call<'a>(text: &'a [u8]) -> Option<Call<'a>>
     ensures { result ≡ only_call text.now }
 {
@@ -74,7 +76,11 @@ fn only_call<'a>(text: &'a [u8]) -> Option<Call<'a>>
     if is_skipped(line) {
         return None;
     }
-    call_of(line)
+    let mut single = Single { call: None };
+    match hand_on_call(line, &mut single) {
+        Ok(()) => single.call,
+        Err(_) => None,
+    }
 }
 
 /// The line of a text that has one, perhaps with its line feed.

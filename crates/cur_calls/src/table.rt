@@ -1,284 +1,287 @@
 //! The table of calls: the name of each, and what reads its arguments. A function for each letter has the names that
 //! begin with it.
-ghost use Rattle.std.specs.Prelude.{◌≡◌};
 ghost use Rattle.cur_calls.specs.Table as spec;
-ghost use Rattle.cur_calls.specs.Words.{front_word, words_after};
+ghost use Rattle.cur_calls.specs.Takers.{HandsOn};
 
 use crate::arguments::{
     addstr, attributes, bare, beep, cell, copywin, curs_set, draw_border, draw_box, dupwin, flag,
     init_pair, lay, line, newpad, newwin, number, numbers, part, plain, show, show_pad,
 };
-use crate::calls::Call;
+use crate::faults::ScriptFaultKind;
 use crate::groups::{
     AttrsCall, CellCall, FlagCall, LayCall, LineCall, NumberCall, NumbersCall, PadCall, PartCall,
     PlainCall, ScreenCall, ShowCall,
 };
+use crate::takers::{Taker, hand_on};
 use crate::words::Words;
 
-/// The call that a line is, by its first word.
+/// Hands on the call that a line is, by its first word. `BadLine` if it is none, `NoMemory` where it isn't taken.
 #[inline(always)]
-pub(crate) fn call_named<'a>(text: &'a [u8]) -> Option<Call<'a>>
-    ensures { result ≡ spec.call_with (front_word text.now) (words_after text.now) }
+pub(crate) fn hand_on_named<'a, T: Taker<'a>>(
+    text: &'a [u8],
+    to: &mut T,
+) -> Result<(), ScriptFaultKind>
+    ensures { HandsOn (T.calls to.old) (T.has_room to.old) (spec.call_under spec.table text.now) (T.calls to.new) result }
 {
     match text {
-        [b'a', ..] => under_a(text),
-        [b'b', ..] => under_b(text),
-        [b'c', ..] => under_c(text),
-        [b'd', ..] => under_d(text),
-        [b'e', ..] => under_e(text),
-        [b'h', ..] => under_h(text),
-        [b'i', ..] => under_i(text),
-        [b'l', ..] => under_l(text),
-        [b'm', ..] => under_m(text),
-        [b'n', ..] => under_n(text),
-        [b'o', ..] => under_o(text),
-        [b'p', ..] => under_p(text),
-        [b'r', ..] => under_r(text),
-        [b's', ..] => under_s(text),
-        [b't', ..] => under_t(text),
-        [b'v', ..] => under_v(text),
-        _ => None,
+        [b'a', ..] => under_a(text, to),
+        [b'b', ..] => under_b(text, to),
+        [b'c', ..] => under_c(text, to),
+        [b'd', ..] => under_d(text, to),
+        [b'e', ..] => under_e(text, to),
+        [b'h', ..] => under_h(text, to),
+        [b'i', ..] => under_i(text, to),
+        [b'l', ..] => under_l(text, to),
+        [b'm', ..] => under_m(text, to),
+        [b'n', ..] => under_n(text, to),
+        [b'o', ..] => under_o(text, to),
+        [b'p', ..] => under_p(text, to),
+        [b'r', ..] => under_r(text, to),
+        [b's', ..] => under_s(text, to),
+        [b't', ..] => under_t(text, to),
+        [b'v', ..] => under_v(text, to),
+        _ => hand_on(None, to),
     }
 }
 
-#[inline(always)]
-fn under_a<'a>(text: &'a [u8]) -> Option<Call<'a>>
-    ensures { result ≡ spec.call_in spec.rows_a (front_word text.now) (words_after text.now) }
+#[inline(never)]
+fn under_a<'a, T: Taker<'a>>(text: &'a [u8], to: &mut T) -> Result<(), ScriptFaultKind>
+    ensures { HandsOn (T.calls to.old) (T.has_room to.old) (spec.call_under spec.rows_a text.now) (T.calls to.new) result }
 {
     if let Some(words) = Words::after(b"addch", text) {
-        cell(CellCall::Addch, words)
+        hand_on(cell(CellCall::Addch, words), to)
     } else if let Some(words) = Words::after(b"addstr", text) {
-        addstr(words)
+        hand_on(addstr(words), to)
     } else if let Some(words) = Words::after(b"attroff", text) {
-        attributes(AttrsCall::Attroff, words)
+        hand_on(attributes(AttrsCall::Attroff, words), to)
     } else if let Some(words) = Words::after(b"attron", text) {
-        attributes(AttrsCall::Attron, words)
+        hand_on(attributes(AttrsCall::Attron, words), to)
     } else if let Some(words) = Words::after(b"attrset", text) {
-        attributes(AttrsCall::Attrset, words)
+        hand_on(attributes(AttrsCall::Attrset, words), to)
     } else {
-        None
+        hand_on(None, to)
     }
 }
 
-#[inline(always)]
-fn under_b<'a>(text: &'a [u8]) -> Option<Call<'a>>
-    ensures { result ≡ spec.call_in spec.rows_b (front_word text.now) (words_after text.now) }
+#[inline(never)]
+fn under_b<'a, T: Taker<'a>>(text: &'a [u8], to: &mut T) -> Result<(), ScriptFaultKind>
+    ensures { HandsOn (T.calls to.old) (T.has_room to.old) (spec.call_under spec.rows_b text.now) (T.calls to.new) result }
 {
     if let Some(words) = Words::after(b"beep", text) {
-        beep(words)
+        hand_on(beep(words), to)
     } else if let Some(words) = Words::after(b"bkgd", text) {
-        cell(CellCall::Bkgd, words)
+        hand_on(cell(CellCall::Bkgd, words), to)
     } else if let Some(words) = Words::after(b"bkgdset", text) {
-        cell(CellCall::Bkgdset, words)
+        hand_on(cell(CellCall::Bkgdset, words), to)
     } else if let Some(words) = Words::after(b"border", text) {
-        draw_border(words)
+        hand_on(draw_border(words), to)
     } else if let Some(words) = Words::after(b"box", text) {
-        draw_box(words)
+        hand_on(draw_box(words), to)
     } else {
-        None
+        hand_on(None, to)
     }
 }
 
-#[inline(always)]
-fn under_c<'a>(text: &'a [u8]) -> Option<Call<'a>>
-    ensures { result ≡ spec.call_in spec.rows_c (front_word text.now) (words_after text.now) }
+#[inline(never)]
+fn under_c<'a, T: Taker<'a>>(text: &'a [u8], to: &mut T) -> Result<(), ScriptFaultKind>
+    ensures { HandsOn (T.calls to.old) (T.has_room to.old) (spec.call_under spec.rows_c text.now) (T.calls to.new) result }
 {
     if let Some(words) = Words::after(b"clear", text) {
-        plain(PlainCall::Clear, words)
+        hand_on(plain(PlainCall::Clear, words), to)
     } else if let Some(words) = Words::after(b"clearok", text) {
-        flag(FlagCall::Clearok, words)
+        hand_on(flag(FlagCall::Clearok, words), to)
     } else if let Some(words) = Words::after(b"clrtobot", text) {
-        plain(PlainCall::Clrtobot, words)
+        hand_on(plain(PlainCall::Clrtobot, words), to)
     } else if let Some(words) = Words::after(b"clrtoeol", text) {
-        plain(PlainCall::Clrtoeol, words)
+        hand_on(plain(PlainCall::Clrtoeol, words), to)
     } else if let Some(words) = Words::after(b"color_set", text) {
-        number(NumberCall::ColorSet, words)
+        hand_on(number(NumberCall::ColorSet, words), to)
     } else if let Some(words) = Words::after(b"copywin", text) {
-        copywin(words)
+        hand_on(copywin(words), to)
     } else if let Some(words) = Words::after(b"curs_set", text) {
-        curs_set(words)
+        hand_on(curs_set(words), to)
     } else {
-        None
+        hand_on(None, to)
     }
 }
 
-#[inline(always)]
-fn under_d<'a>(text: &'a [u8]) -> Option<Call<'a>>
-    ensures { result ≡ spec.call_in spec.rows_d (front_word text.now) (words_after text.now) }
+#[inline(never)]
+fn under_d<'a, T: Taker<'a>>(text: &'a [u8], to: &mut T) -> Result<(), ScriptFaultKind>
+    ensures { HandsOn (T.calls to.old) (T.has_room to.old) (spec.call_under spec.rows_d text.now) (T.calls to.new) result }
 {
     if let Some(words) = Words::after(b"delch", text) {
-        plain(PlainCall::Delch, words)
+        hand_on(plain(PlainCall::Delch, words), to)
     } else if let Some(words) = Words::after(b"deleteln", text) {
-        plain(PlainCall::Deleteln, words)
+        hand_on(plain(PlainCall::Deleteln, words), to)
     } else if let Some(words) = Words::after(b"delwin", text) {
-        plain(PlainCall::Delwin, words)
+        hand_on(plain(PlainCall::Delwin, words), to)
     } else if let Some(words) = Words::after(b"derwin", text) {
-        part(PartCall::Derwin, words)
+        hand_on(part(PartCall::Derwin, words), to)
     } else if let Some(words) = Words::after(b"doupdate", text) {
-        bare(ScreenCall::Doupdate, words)
+        hand_on(bare(ScreenCall::Doupdate, words), to)
     } else if let Some(words) = Words::after(b"dupwin", text) {
-        dupwin(words)
+        hand_on(dupwin(words), to)
     } else {
-        None
+        hand_on(None, to)
     }
 }
 
-#[inline(always)]
-fn under_e<'a>(text: &'a [u8]) -> Option<Call<'a>>
-    ensures { result ≡ spec.call_in spec.rows_e (front_word text.now) (words_after text.now) }
+#[inline(never)]
+fn under_e<'a, T: Taker<'a>>(text: &'a [u8], to: &mut T) -> Result<(), ScriptFaultKind>
+    ensures { HandsOn (T.calls to.old) (T.has_room to.old) (spec.call_under spec.rows_e text.now) (T.calls to.new) result }
 {
     if let Some(words) = Words::after(b"endwin", text) {
-        bare(ScreenCall::Endwin, words)
+        hand_on(bare(ScreenCall::Endwin, words), to)
     } else if let Some(words) = Words::after(b"erase", text) {
-        plain(PlainCall::Erase, words)
+        hand_on(plain(PlainCall::Erase, words), to)
     } else {
-        None
+        hand_on(None, to)
     }
 }
 
-#[inline(always)]
-fn under_h<'a>(text: &'a [u8]) -> Option<Call<'a>>
-    ensures { result ≡ spec.call_in spec.rows_h (front_word text.now) (words_after text.now) }
+#[inline(never)]
+fn under_h<'a, T: Taker<'a>>(text: &'a [u8], to: &mut T) -> Result<(), ScriptFaultKind>
+    ensures { HandsOn (T.calls to.old) (T.has_room to.old) (spec.call_under spec.rows_h text.now) (T.calls to.new) result }
 {
     if let Some(words) = Words::after(b"hline", text) {
-        line(LineCall::Hline, words)
+        hand_on(line(LineCall::Hline, words), to)
     } else {
-        None
+        hand_on(None, to)
     }
 }
 
-#[inline(always)]
-fn under_i<'a>(text: &'a [u8]) -> Option<Call<'a>>
-    ensures { result ≡ spec.call_in spec.rows_i (front_word text.now) (words_after text.now) }
+#[inline(never)]
+fn under_i<'a, T: Taker<'a>>(text: &'a [u8], to: &mut T) -> Result<(), ScriptFaultKind>
+    ensures { HandsOn (T.calls to.old) (T.has_room to.old) (spec.call_under spec.rows_i text.now) (T.calls to.new) result }
 {
     if let Some(words) = Words::after(b"idlok", text) {
-        flag(FlagCall::Idlok, words)
+        hand_on(flag(FlagCall::Idlok, words), to)
     } else if let Some(words) = Words::after(b"init_pair", text) {
-        init_pair(words)
+        hand_on(init_pair(words), to)
     } else if let Some(words) = Words::after(b"insch", text) {
-        cell(CellCall::Insch, words)
+        hand_on(cell(CellCall::Insch, words), to)
     } else if let Some(words) = Words::after(b"insertln", text) {
-        plain(PlainCall::Insertln, words)
+        hand_on(plain(PlainCall::Insertln, words), to)
     } else {
-        None
+        hand_on(None, to)
     }
 }
 
-#[inline(always)]
-fn under_l<'a>(text: &'a [u8]) -> Option<Call<'a>>
-    ensures { result ≡ spec.call_in spec.rows_l (front_word text.now) (words_after text.now) }
+#[inline(never)]
+fn under_l<'a, T: Taker<'a>>(text: &'a [u8], to: &mut T) -> Result<(), ScriptFaultKind>
+    ensures { HandsOn (T.calls to.old) (T.has_room to.old) (spec.call_under spec.rows_l text.now) (T.calls to.new) result }
 {
     if let Some(words) = Words::after(b"leaveok", text) {
-        flag(FlagCall::Leaveok, words)
+        hand_on(flag(FlagCall::Leaveok, words), to)
     } else {
-        None
+        hand_on(None, to)
     }
 }
 
-#[inline(always)]
-fn under_m<'a>(text: &'a [u8]) -> Option<Call<'a>>
-    ensures { result ≡ spec.call_in spec.rows_m (front_word text.now) (words_after text.now) }
+#[inline(never)]
+fn under_m<'a, T: Taker<'a>>(text: &'a [u8], to: &mut T) -> Result<(), ScriptFaultKind>
+    ensures { HandsOn (T.calls to.old) (T.has_room to.old) (spec.call_under spec.rows_m text.now) (T.calls to.new) result }
 {
     if let Some(words) = Words::after(b"move", text) {
-        numbers(NumbersCall::Move, words)
+        hand_on(numbers(NumbersCall::Move, words), to)
     } else if let Some(words) = Words::after(b"mvwin", text) {
-        numbers(NumbersCall::Mvwin, words)
+        hand_on(numbers(NumbersCall::Mvwin, words), to)
     } else {
-        None
+        hand_on(None, to)
     }
 }
 
-#[inline(always)]
-fn under_n<'a>(text: &'a [u8]) -> Option<Call<'a>>
-    ensures { result ≡ spec.call_in spec.rows_n (front_word text.now) (words_after text.now) }
+#[inline(never)]
+fn under_n<'a, T: Taker<'a>>(text: &'a [u8], to: &mut T) -> Result<(), ScriptFaultKind>
+    ensures { HandsOn (T.calls to.old) (T.has_room to.old) (spec.call_under spec.rows_n text.now) (T.calls to.new) result }
 {
     if let Some(words) = Words::after(b"newpad", text) {
-        newpad(words)
+        hand_on(newpad(words), to)
     } else if let Some(words) = Words::after(b"newwin", text) {
-        newwin(words)
+        hand_on(newwin(words), to)
     } else if let Some(words) = Words::after(b"noutrefresh", text) {
-        show(ShowCall::Noutrefresh, words)
+        hand_on(show(ShowCall::Noutrefresh, words), to)
     } else {
-        None
+        hand_on(None, to)
     }
 }
 
-#[inline(always)]
-fn under_o<'a>(text: &'a [u8]) -> Option<Call<'a>>
-    ensures { result ≡ spec.call_in spec.rows_o (front_word text.now) (words_after text.now) }
+#[inline(never)]
+fn under_o<'a, T: Taker<'a>>(text: &'a [u8], to: &mut T) -> Result<(), ScriptFaultKind>
+    ensures { HandsOn (T.calls to.old) (T.has_room to.old) (spec.call_under spec.rows_o text.now) (T.calls to.new) result }
 {
     if let Some(words) = Words::after(b"overlay", text) {
-        lay(LayCall::Overlay, words)
+        hand_on(lay(LayCall::Overlay, words), to)
     } else if let Some(words) = Words::after(b"overwrite", text) {
-        lay(LayCall::Overwrite, words)
+        hand_on(lay(LayCall::Overwrite, words), to)
     } else {
-        None
+        hand_on(None, to)
     }
 }
 
-#[inline(always)]
-fn under_p<'a>(text: &'a [u8]) -> Option<Call<'a>>
-    ensures { result ≡ spec.call_in spec.rows_p (front_word text.now) (words_after text.now) }
+#[inline(never)]
+fn under_p<'a, T: Taker<'a>>(text: &'a [u8], to: &mut T) -> Result<(), ScriptFaultKind>
+    ensures { HandsOn (T.calls to.old) (T.has_room to.old) (spec.call_under spec.rows_p text.now) (T.calls to.new) result }
 {
     if let Some(words) = Words::after(b"pnoutrefresh", text) {
-        show_pad(PadCall::Pnoutrefresh, words)
+        hand_on(show_pad(PadCall::Pnoutrefresh, words), to)
     } else if let Some(words) = Words::after(b"prefresh", text) {
-        show_pad(PadCall::Prefresh, words)
+        hand_on(show_pad(PadCall::Prefresh, words), to)
     } else {
-        None
+        hand_on(None, to)
     }
 }
 
-#[inline(always)]
-fn under_r<'a>(text: &'a [u8]) -> Option<Call<'a>>
-    ensures { result ≡ spec.call_in spec.rows_r (front_word text.now) (words_after text.now) }
+#[inline(never)]
+fn under_r<'a, T: Taker<'a>>(text: &'a [u8], to: &mut T) -> Result<(), ScriptFaultKind>
+    ensures { HandsOn (T.calls to.old) (T.has_room to.old) (spec.call_under spec.rows_r text.now) (T.calls to.new) result }
 {
     if let Some(words) = Words::after(b"refresh", text) {
-        show(ShowCall::Refresh, words)
+        hand_on(show(ShowCall::Refresh, words), to)
     } else {
-        None
+        hand_on(None, to)
     }
 }
 
-#[inline(always)]
-fn under_s<'a>(text: &'a [u8]) -> Option<Call<'a>>
-    ensures { result ≡ spec.call_in spec.rows_s (front_word text.now) (words_after text.now) }
+#[inline(never)]
+fn under_s<'a, T: Taker<'a>>(text: &'a [u8], to: &mut T) -> Result<(), ScriptFaultKind>
+    ensures { HandsOn (T.calls to.old) (T.has_room to.old) (spec.call_under spec.rows_s text.now) (T.calls to.new) result }
 {
     if let Some(words) = Words::after(b"scroll", text) {
-        number(NumberCall::Scroll, words)
+        hand_on(number(NumberCall::Scroll, words), to)
     } else if let Some(words) = Words::after(b"scrollok", text) {
-        flag(FlagCall::Scrollok, words)
+        hand_on(flag(FlagCall::Scrollok, words), to)
     } else if let Some(words) = Words::after(b"setscrreg", text) {
-        numbers(NumbersCall::Setscrreg, words)
+        hand_on(numbers(NumbersCall::Setscrreg, words), to)
     } else if let Some(words) = Words::after(b"subpad", text) {
-        part(PartCall::Subpad, words)
+        hand_on(part(PartCall::Subpad, words), to)
     } else if let Some(words) = Words::after(b"subwin", text) {
-        part(PartCall::Subwin, words)
+        hand_on(part(PartCall::Subwin, words), to)
     } else {
-        None
+        hand_on(None, to)
     }
 }
 
-#[inline(always)]
-fn under_t<'a>(text: &'a [u8]) -> Option<Call<'a>>
-    ensures { result ≡ spec.call_in spec.rows_t (front_word text.now) (words_after text.now) }
+#[inline(never)]
+fn under_t<'a, T: Taker<'a>>(text: &'a [u8], to: &mut T) -> Result<(), ScriptFaultKind>
+    ensures { HandsOn (T.calls to.old) (T.has_room to.old) (spec.call_under spec.rows_t text.now) (T.calls to.new) result }
 {
     if let Some(words) = Words::after(b"touchline", text) {
-        numbers(NumbersCall::Touchline, words)
+        hand_on(numbers(NumbersCall::Touchline, words), to)
     } else if let Some(words) = Words::after(b"touchwin", text) {
-        plain(PlainCall::Touchwin, words)
+        hand_on(plain(PlainCall::Touchwin, words), to)
     } else {
-        None
+        hand_on(None, to)
     }
 }
 
-#[inline(always)]
-fn under_v<'a>(text: &'a [u8]) -> Option<Call<'a>>
-    ensures { result ≡ spec.call_in spec.rows_v (front_word text.now) (words_after text.now) }
+#[inline(never)]
+fn under_v<'a, T: Taker<'a>>(text: &'a [u8], to: &mut T) -> Result<(), ScriptFaultKind>
+    ensures { HandsOn (T.calls to.old) (T.has_room to.old) (spec.call_under spec.rows_v text.now) (T.calls to.new) result }
 {
     if let Some(words) = Words::after(b"vline", text) {
-        line(LineCall::Vline, words)
+        hand_on(line(LineCall::Vline, words), to)
     } else {
-        None
+        hand_on(None, to)
     }
 }

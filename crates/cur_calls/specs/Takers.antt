@@ -1,0 +1,26 @@
+-- What takes the calls of a script as they are read.
+use Rattle.std.specs.Prelude.{◌≡◌, Bool, true, false, List, [], ◌∷◌, Option, None, Some, Result, Ok, Err, ◌++◌, option_map}
+use Rattle.cur_calls.specs.declared.calls.Call.{Call}
+use Rattle.cur_calls.specs.declared.faults.ScriptFaultKind.{ScriptFaultKind}
+use Rattle.cur_calls.specs.declared.faults.ScriptFaultKind.TheVariants.{BadLine, TooLong, NoMemory}
+
+-- (Serves the code alone.) one call or none, as a list
+abbrev pub calls_in : Option Call → List Call
+calls_in None = []
+calls_in (Some call) = call ∷ []
+
+-- (Serves the code alone.) no call
+abbrev pub is_empty : Option Call → Bool
+is_empty None = true
+is_empty (Some call) = false
+
+-- (Serves the code alone.) why a line's call was not taken: it is none, or there was no room for it
+abbrev pub CallFails : ScriptFaultKind → Bool → Option Call → Type 0
+CallFails BadLine room call = call ≡ None
+CallFails TooLong room call = ⊥
+CallFails NoMemory room call = room ≡ false
+
+-- (Serves the code alone.) a line's call, if it is one, comes after the calls before it, or was not taken
+unfoldable pub HandsOn : List Call → Bool → Option Call → List Call → Result (Unit {0}) ScriptFaultKind → Type 0
+HandsOn before room call after (Ok done) = option_map (λ c. before ++ c ∷ []) call ≡ Some after
+HandsOn before room call after (Err kind) = CallFails kind room call
