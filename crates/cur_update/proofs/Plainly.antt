@@ -2,11 +2,12 @@
 use Rattle.std.proofs.Common.{◌≡◌, ◌==◌, ◌&&◌, ℕ, Bool, true, false, not, if◌then◌else◌, Option, None, refl, sym, ap, subst, ◌∙◌}
 use Rattle.cur_drawing.specs.Cells.{Content}
 use Rattle.cur_windows.specs.declared.virtual_screen.Colors.{Colors}
+use Rattle.cur_windows.specs.VirtualScreen.{Screen, colors_at}
 use Rattle.cur_looks.specs.Inks.{alike, same, same_brush, blank_ink}
 use Rattle.cur_looks.specs.declared.inks.Ink.{Ink}
 use Rattle.cur_update.specs.declared.inks.Means.{Means}
 use Rattle.ti_conforms.specs.Alternates.{Character, in_plain_set, shown}
-use Rattle.cur_update.specs.Inks.{brush_of, has_bit, ink_with, is_other, partner_in, plain_ink}
+use Rattle.cur_update.specs.Inks.{IsBare, brush_of, has_bit, ink_with, is_other, partner_in, plain_ink, printed_cell}
 
 pub plain_is : (m : Means) (partners : ℕ → Option ℕ) (f b : Option ℕ) (c : Content) → c.attrs ≡ 0 → f ≡ None → b ≡ None
     → ink_with m partners (record { foreground = f; background = b }) c ≡ plain_ink c.byte
@@ -42,3 +43,16 @@ other_told m partners p c byte ink is = by_set (has_bit c.attrs 128) refl is
 pub told_other : (b shown : Bool) → shown ≡ not b → shown ≡ false → b ≡ true
 told_other true shown is off = refl
 told_other false shown is off = absurd (let clash : true ≡ false = sym is ∙ off in cc)
+
+off_told : (t : Bool) → not t ≡ false → t ≡ true
+off_told true e = refl
+off_told false e = absurd (cc)
+
+-- a cell without attributes, of pair 0, which has default colours
+pub bare_told : (m : Means) (partners : ℕ → Option ℕ) (v : Screen) (c : Content) (byte : ℕ) (ink : Ink) → (colors_at v 0).foreground ≡ None → (colors_at v 0).background ≡ None
+    → same blank_ink (record ink { byte = 32 }) ≡ true → IsBare c → is_other c byte ≡ false → same (printed_cell m partners v c) (record ink { byte = byte }) ≡ true
+bare_told m partners v c byte ink no_f no_b plain (attrs, pair) told =
+    let has = off_told (c.byte == byte) (sym (ap (λ (a : ℕ). not (has_bit a 128) && not (c.byte == byte)) attrs) ∙ told) in
+    ap (λ (n : ℕ). same (ink_with m partners (colors_at v n) c) (record ink { byte = byte })) pair
+    ∙ (ap (λ (x : Ink). same x (record ink { byte = byte })) (plain_is m partners (colors_at v 0).foreground (colors_at v 0).background c attrs no_f no_b)
+    ∙ (ap (λ (t : Bool). t && (alike blank_ink.graphic ink.graphic && same_brush blank_ink.brush ink.brush)) has ∙ plain))

@@ -89,6 +89,10 @@ ink_at t partners v i j = ink_at_with (means_of t) partners v i j
 abbrev pub is_other : Content → ℕ → Bool
 is_other c byte = not (has_bit c.attrs 128) && not (c.byte == byte)
 
+-- (Serves the code alone.) a cell without attributes, of pair 0
+abbrev pub IsBare : Content → Type 0
+IsBare c = (c.attrs ≡ 0) × (c.pair ≡ 0)
+
 -- (Serves the code alone.) a cell of the plain set with this character, and the attributes and the pair of another one
 pub record IsPlainLike (c d : Content) (byte : ℕ) : Type 0 where
   pub byte_is : byte ≡ c.byte

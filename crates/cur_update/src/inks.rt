@@ -194,17 +194,31 @@ pub(crate) fn is_other(cell: Cell, byte: u8) -> bool
 }
 
 /// Notes in `shown` which cells aren't known to have another character than `text` has for them: those of the
-/// alternate set, and those with this character.
-pub(crate) fn note_alike(line: &[Cell], text: &[u8], shown: &mut [bool])
+/// alternate set, and those with this character. Whether each of these has no attributes, and pair 0.
+pub(crate) fn note_alike(line: &[Cell], text: &[u8], shown: &mut [bool]) -> bool
     requires text { length line.now ≤ length text.now }
     requires room { length line.now ≤ length shown.old }
     ensures room { length shown.new ≡ length shown.old }
     ensures alike { (k : ℕ) → k < length line.now → slice_index_or shown.new k false
         ≡ not (spec.is_other (slice_index_or line.now k space) (slice_index_or text.now k 0)) }
+    ensures bare { result ≡ true → (k : ℕ) → k < length line.now → slice_index_or shown.new k false ≡ true
+        → spec.IsBare (slice_index_or line.now k space) }
 {
+    let mut are_bare = true;
     for n in 0..line.len() {
-        shown[n] = may_have(line[n], text[n]);
+        let alike = may_have(line[n], text[n]);
+        shown[n] = alike;
+        are_bare = are_bare & (!alike | is_bare(line[n]));
     }
+    are_bare
+}
+
+// Whether a cell has no attributes, and pair 0.
+#[inline(always)]
+fn is_bare(cell: Cell) -> bool
+    ensures { result ≡ true → spec.IsBare cell }
+{
+    cell.is_styled_like(Cell::space())
 }
 
 // Whether a cell is of the alternate set or has this character. Both are asked, so that there is no branch.

@@ -1,9 +1,9 @@
 //! The virtual screen as a painter sees it.
-ghost use Rattle.std.specs.Prelude.{◌≡◌, ◌+◌, ◌<◌, ◌≤◌, ℕ, false, length, slice_index_or};
-ghost use Rattle.cur_drawing.specs.Cells.{IsCell, space};
+ghost use Rattle.std.specs.Prelude.{◌≡◌, ◌+◌, ◌<◌, ◌≤◌, ℕ, false, true, length, slice_index_or};
+ghost use Rattle.cur_drawing.specs.Cells.{Content, IsCell, space};
 ghost use Rattle.cur_looks.specs.Inks.{blank_ink, same};
 ghost use Rattle.cur_looks.specs.Stretches.{AreLike};
-ghost use Rattle.cur_update.specs.Inks.{content_at, ink_at_with, printed_cell};
+ghost use Rattle.cur_update.specs.Inks.{IsBare, content_at, ink_at_with, is_other, printed_cell};
 
 use crate::inks::{
     Means, ink_of, is_blank_ink, is_other, is_plain, note_alike, plain_byte, plain_text, shows_ink,
@@ -150,6 +150,17 @@ impl<'a, C: Certificate> PrintedScreen<'a, C> {
         shows_ink(self.checked, self.means, colors, cell, Ink { byte, ..ink })
     }
 
+    /// Whether a cell without attributes, of pair 0, is printed like `ink` if it has its character.
+    #[tactic(auto, using(crate::proofs::Plainly::bare_told))]
+    fn shows_bare(&self, ink: Ink) -> bool
+        ensures { result ≡ true → (cell : Content) (byte : ℕ) → IsBare cell → is_other cell byte ≡ false
+            → same (printed_cell self.now.means (C.partners self.now.checked.now) self.now.screen.now cell)
+            (record ink { byte = byte }) ≡ true }
+    {
+        let colors = self.screen.pair(0);
+        is_plain_ink(ink) && colors.0.is_none() && colors.1.is_none()
+    }
+
     /// Notes in `shown`, for each of the cells of the screen in `line`, whether it is printed like `ink` with the
     /// character that `text` has for it.
     fn line_shows(&self, line: &[Cell], ink: Ink, text: &[u8], shown: &mut [bool])
@@ -160,7 +171,10 @@ impl<'a, C: Certificate> PrintedScreen<'a, C> {
             ≡ same (printed_cell self.now.means (C.partners self.now.checked.now) self.now.screen.now
             (slice_index_or line.now k space)) (record ink { byte = slice_index_or text.now k 0 }) }
     {
-        note_alike(line, text, shown);
+        let are_bare = note_alike(line, text, shown);
+        if are_bare && self.shows_bare(ink) {
+            return;
+        }
         let is_plain_ink = is_plain_ink(ink);
         for n in 0..line.len() {
             if !shown[n] {
