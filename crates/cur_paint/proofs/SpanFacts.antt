@@ -1,5 +1,5 @@
 -- A cell and those after it, one step after the other; and cells that go out in one piece.
-use Rattle.std.proofs.Common.{◌≡◌, ◌+◌, ◌*◌, ◌<◌, ◌≤◌, ℕ, Bool, false, List, length-take, slice_index_or, take, Result, Ok, sym, ap, subst, ◌∙◌, arith}
+use Rattle.std.proofs.Common.{◌≡◌, ◌+◌, ◌*◌, ◌<◌, ◌≤◌, ℕ, Bool, true, false, refl, if◌then◌else◌, List, length-take, slice_index_or, take, Result, Ok, sym, ap, subst, ◌∙◌, arith}
 use Rattle.std.proofs.lemmas.List.{get_or-take}
 use Rattle.cur_wires.specs.Wire.{IsWire}
 use Rattle.cur_wires.proofs.Stops.{steps_next, steps_wider}
@@ -40,6 +40,17 @@ piece_longer old new i from end k few le gap short one =
     let more = span_more old new i from k in
     let grown : span old new i from end + 1 ≤ span old new i from (k + 1) = omega (arith, more, one, span_grows old new i from end k le) in
     omega (arith, times_grows (span old new i from end + 1) (span old new i from (k + 1)) (few + 1) grown, grows_each (span old new i from end) few, short, gap)
+
+-- the end of a piece after one more place, which is the same or differs
+pub end_within : {t : Bool} (end k result : ℕ) → (t ≡ true → result ≡ end) → (t ≡ false → result ≡ k + 1) → end ≤ k → result ≤ k + 1
+end_within {t = true} end k result stays moves le = let e = stays refl in omega (arith, e, le)
+end_within {t = false} end k result stays moves le = let e = moves refl in omega (arith, e)
+
+pub piece_goes_on : {t : Bool} (old new : ℕ → ℕ → Ink) (i from end k few result : ℕ) → (t ≡ true → result ≡ end) → (t ≡ false → result ≡ k + 1) → differs old new i (from + k) ≡ (if t then 0 else 1)
+    → end ≤ k → k ≤ end + few → end ≤ span old new i from end * (few + 1) → result ≤ span old new i from result * (few + 1)
+piece_goes_on {t = true} old new i from end k few result stays moves told le gap short = subst (λ (n : ℕ). n ≤ span old new i from n * (few + 1)) (sym (stays refl)) short
+piece_goes_on {t = false} old new i from end k few result stays moves told le gap short =
+    subst (λ (n : ℕ). n ≤ span old new i from n * (few + 1)) (sym (moves refl)) (piece_longer old new i from end k few le gap short told)
 
 times_more : (d few n : ℕ) → few + 1 ≤ n → d * (few + 1) ≤ d * n
 times_more d few n le = grind arith

@@ -1,5 +1,5 @@
 //! Cells of a line that differ: printed one by one, or several in one piece.
-ghost use Rattle.std.specs.Prelude.{◌≡◌, ◌+◌, ◌*◌, ◌<◌, ◌≤◌, ℕ, true, OnOk, length};
+ghost use Rattle.std.specs.Prelude.{◌≡◌, ◌+◌, ◌*◌, ◌<◌, ◌≤◌, ℕ, false, true, OnOk, length};
 ghost use Rattle.cur_looks.specs.Gaps.{IsAlike};
 ghost use Rattle.cur_looks.specs.declared.inks.Ink.{Ink};
 ghost use Rattle.cur_paint.specs.Differ.{differs, span, IsSameBy};
@@ -79,15 +79,22 @@ fn piece_end(same: &[bool], few: usize) -> usize
 {
     let mut end = 0;
     for k in 0..same.len() {
-        if !same[k] {
-            end = k + 1;
-            continue;
-        }
+        end = end_after(end, k, same[k]);
         if k >= end + few {
             return end;
         }
     }
     end
+}
+
+// The end of a piece after its cell `k`, which may be the same as before. There is no branch.
+#[inline(always)]
+fn end_after(end: usize, k: usize, is_same: bool) -> usize
+    requires { k < 512 }
+    ensures same { is_same ≡ true → result ≡ end }
+    ensures differs { is_same ≡ false → result ≡ k + 1 }
+{
+    if is_same { end } else { k + 1 }
 }
 
 /// How many of the first `cells` go out in one piece: they are printed in the set and the brush of `ink`, which is what
