@@ -1,12 +1,13 @@
 -- What was handed on, as the calls of a line and as one call.
 use Rattle.std.proofs.Common.{◌≡◌, Bool, false, length, if◌then◌else◌, ℕ, List, [], ◌∷◌, ◌++◌, Option, None, Some, Result, Ok, Err, sym, ap, ◌∙◌}
 use Rattle.std.specs.Prelude.{nat_lt, option_map}
+use Rattle.std.specs.Option.{option_to_list}
 use Rattle.std.proofs.lemmas.Option.{same_Some}
 use Rattle.cur_calls.specs.declared.calls.Call.{Call}
 use Rattle.cur_calls.specs.declared.faults.ScriptFaultKind.{ScriptFaultKind}
 use Rattle.cur_calls.specs.Cuts.{cut_at, ◌>>=◌}
 use Rattle.cur_calls.specs.Table.{call_of}
-use Rattle.cur_calls.specs.Takers.{HandsOn, calls_in}
+use Rattle.cur_calls.specs.Takers.{HandsOn}
 use Rattle.cur_calls.specs.Texts.{is_skipped, line_calls, only_call, only_line}
 
 handed : (before : List Call) (room : Bool) (call : Option Call) (after : List Call) (result : Result (Unit {0}) ScriptFaultKind) (done : Unit {0}) → result ≡ Ok done → HandsOn before room call after result → option_map (λ c. before ++ c ∷ []) call ≡ Some after
@@ -28,14 +29,14 @@ abbrev first_of : List Call → Option Call
 first_of [] = None
 first_of (call ∷ calls) = Some call
 
-only : (call single : Option Call) → option_map (λ c. [] ++ c ∷ []) call ≡ Some (calls_in single) → single ≡ call
+only : (call single : Option Call) → option_map (λ c. [] ++ c ∷ []) call ≡ Some (option_to_list single) → single ≡ call
 only None single e = absurd (cc)
 only (Some call) None e = let none = same_Some (call ∷ []) [] e in absurd (cc)
 only (Some call) (Some single) e = sym (ap first_of (same_Some (call ∷ []) (single ∷ []) e))
 
 -- where there was no call before it
-pub as_single : (call single : Option Call) (room : Bool) (result : Result (Unit {0}) ScriptFaultKind) (done : Unit {0}) → result ≡ Ok done → HandsOn [] room call (calls_in single) result → single ≡ call
-as_single call single room result done e h = only call single (handed [] room call (calls_in single) result done e h)
+pub as_single : (call single : Option Call) (room : Bool) (result : Result (Unit {0}) ScriptFaultKind) (done : Unit {0}) → result ≡ Ok done → HandsOn [] room call (option_to_list single) result → single ≡ call
+as_single call single room result done e h = only call single (handed [] room call (option_to_list single) result done e h)
 
 -- the call of a text that is one line
 pub alone : (text line : List ℕ) → nat_lt 1048576 (length text) ≡ false → only_line text (cut_at 10 text) ≡ Some line → is_skipped line ≡ false → only_call text ≡ call_of line

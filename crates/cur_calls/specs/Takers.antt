@@ -1,18 +1,8 @@
 -- What takes the calls of a script as they are read.
-use Rattle.std.specs.Prelude.{◌≡◌, Bool, true, false, List, [], ◌∷◌, Option, None, Some, Result, Ok, Err, ◌++◌, option_map}
+use Rattle.std.specs.Prelude.{◌≡◌, Bool, false, List, [], ◌∷◌, Option, None, Result, Ok, Err, Some, ◌++◌, option_map}
 use Rattle.cur_calls.specs.declared.calls.Call.{Call}
 use Rattle.cur_calls.specs.declared.faults.ScriptFaultKind.{ScriptFaultKind}
 use Rattle.cur_calls.specs.declared.faults.ScriptFaultKind.TheVariants.{BadLine, TooLong, NoMemory}
-
--- (Serves the code alone.) one call or none, as a list
-abbrev pub calls_in : Option Call → List Call
-calls_in None = []
-calls_in (Some call) = call ∷ []
-
--- (Serves the code alone.) no call
-abbrev pub is_empty : Option Call → Bool
-is_empty None = true
-is_empty (Some call) = false
 
 -- (Serves the code alone.) why a line's call was not taken: it is none, or there was no room for it
 abbrev pub CallFails : ScriptFaultKind → Bool → Option Call → Type 0

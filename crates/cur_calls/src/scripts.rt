@@ -7,7 +7,7 @@ use crate::calls::Call;
 use crate::cuts::{cut, first_part};
 use crate::faults::{ScriptFault, ScriptFaultKind};
 use crate::lines::{hand_on_call, is_skipped, read_line};
-use crate::takers::Single;
+use crate::takers::OneCall;
 use std::alloc::Global;
 
 // How many bytes a short line has.
@@ -76,9 +76,9 @@ fn only_call<'a>(text: &'a [u8]) -> Option<Call<'a>>
     if is_skipped(line) {
         return None;
     }
-    let mut single = Single { call: None };
-    match hand_on_call(line, &mut single) {
-        Ok(()) => single.call,
+    let mut one = OneCall { call: None };
+    match hand_on_call(line, &mut one) {
+        Ok(()) => one.call,
         Err(_) => None,
     }
 }

@@ -4,9 +4,9 @@ ghost use Rattle.cur_calls.specs.Takers.{HandsOn};
 use crate::calls::Call;
 use crate::faults::ScriptFaultKind;
 
-/// That there was no room for a call, and no memory.
+/// That a call was not taken: there was no room for it, and no memory.
 #[derive(Clone, Copy)]
-pub(crate) struct NoRoom;
+pub(crate) struct NotTaken;
 
 /// Takes calls one after another.
 pub(crate) trait Taker<'a> {
@@ -18,7 +18,7 @@ pub(crate) trait Taker<'a> {
     ghost has_room: { Self → Bool };
 
     /// Takes one more call.
-    fn take(&mut self, call: Call<'a>) -> Result<(), NoRoom>
+    fn take(&mut self, call: Call<'a>) -> Result<(), NotTaken>
         ensures taken { OnOk result (calls self.new ≡ calls self.old ++ call.entry ∷ []) }
         ensures refused { OnErr result (has_room self.old ≡ false) };
 }
@@ -31,31 +31,31 @@ impl<'a> Taker<'a> for Vec<Call<'a>> {
     ghost has_room = { λ v. false };
 
     #[inline(always)]
-    fn take(&mut self, call: Call<'a>) -> Result<(), NoRoom> {
+    fn take(&mut self, call: Call<'a>) -> Result<(), NotTaken> {
         match self.push(call) {
             Ok(()) => Ok(()),
-            Err(_) => Err(NoRoom),
+            Err(_) => Err(NotTaken),
         }
     }
 }
 
 /// One call or none. It takes no memory.
 #[derive(Drop)]
-pub(crate) struct Single<'a> {
+pub(crate) struct OneCall<'a> {
     pub call: Option<Call<'a>>,
 }
 
-impl<'a> Taker<'a> for Single<'a> {
-    ghost use Rattle.cur_calls.specs.Takers.{calls_in, is_empty};
+impl<'a> Taker<'a> for OneCall<'a> {
+    ghost use Rattle.std.specs.Option.{is_none, option_to_list};
 
-    ghost calls = { λ s. calls_in s.call };
+    ghost calls = { λ s. option_to_list s.call };
 
-    ghost has_room = { λ s. is_empty s.call };
+    ghost has_room = { λ s. is_none s.call };
 
     #[inline(always)]
-    fn take(&mut self, call: Call<'a>) -> Result<(), NoRoom> {
+    fn take(&mut self, call: Call<'a>) -> Result<(), NotTaken> {
         if self.call.is_some() {
-            return Err(NoRoom);
+            return Err(NotTaken);
         }
         self.call = Some(call);
         Ok(())
