@@ -15,17 +15,15 @@ use Rattle.ti_conforms.specs.Charsets.{charset_after, charset_over, IsAmong}
 use Rattle.ti_rows.specs.declared.rows.Row.{Row}
 use Rattle.ti_rows.specs.declared.rows.Row.TheVariants.{Clear, Smcup, Enacs, Sgr0, Rmacs}
 use Rattle.ti_rows.specs.Asked.{start_of}
-use Rattle.ti_conforms.specs.Table.{Table, or_nothing, text_of, widening, resync, resync_front, resync_of}
+use Rattle.ti_conforms.specs.Table.{Table, or_nothing, text_of, widening, resync, resync_of}
 use Rattle.ti_conforms.specs.Sets.{CanHave, AtReset, AfterToken, LeadsBy, CanSettle, AfterResync, AfterLine, SetsHold}
 use Rattle.ti_conforms.specs.Judged.{AskedLine, ChangesSets, NoLine, ByLine, changed, left_of, IsJudged}
 use Rattle.ti_conforms.proofs.Judgements.{over_steps}
-
-over_append : (ts us : List (List ℕ)) (c : Charset) → charset_over (ts ++ us) c ≡ charset_over us (charset_over ts c)
-over_append [] us c = refl
-over_append (t ∷ ts) us c = over_append ts us (charset_after (function_of t) c)
+use Rattle.ti_conforms.proofs.ResyncFacts.{with_middle}
+use Rattle.ti_conforms.proofs.Switching.{over_append}
 
 -- the tokens of a line do to the sets what its record says
-line_sets : (t : Table) (row : Row) (bytes : List ℕ) (l : AskedLine t row bytes) (c : Charset) → charset_over l.tokens c ≡ designated l.effect.charset c
+pub line_sets : (t : Table) (row : Row) (bytes : List ℕ) (l : AskedLine t row bytes) (c : Charset) → charset_over l.tokens c ≡ designated l.effect.charset c
 line_sets t row bytes l c =
     let s : Screen = record (reset_screen t.rows t.cols) { charset = c } in
     let sets : SetsAs l.effect s (steps l.tokens s) = (records_tell t.rows t.cols (start_of t.rows t.cols row) l.tokens l.effect l.recorded).settings s refl (record { autowrap = refl; inserting = refl }) in
@@ -50,20 +48,20 @@ pub record Leads (bytes : List ℕ) (f : Charset → Charset) : Type 0 where
   pub whole : Splits bytes tokens []
   pub leads : (c : Charset) → charset_over tokens c ≡ f c
 
-leads_joined : (a b : List ℕ) (f g : Charset → Charset) → Leads a f → Leads b g → Leads (a ++ b) (λ c. g (f c))
+pub leads_joined : (a b : List ℕ) (f g : Charset → Charset) → Leads a f → Leads b g → Leads (a ++ b) (λ c. g (f c))
 leads_joined a b f g p q = record {
   tokens = p.tokens ++ q.tokens;
   whole = splits_append a p.tokens q.tokens [] b [] p.whole q.whole;
   leads = λ c. over_append p.tokens q.tokens c ∙ (ap (λ (x : Charset). charset_over q.tokens x) (p.leads c) ∙ q.leads (f c));
 }
 
-leads_nothing : Leads [] (λ c. c)
+pub leads_nothing : Leads [] (λ c. c)
 leads_nothing = record { tokens = []; whole = empty_splits; leads = λ c. refl }
 
 leads_line : (t : Table) (row : Row) (bytes : List ℕ) (l : AskedLine t row bytes) → Leads bytes (λ c. designated l.effect.charset c)
 leads_line t row bytes l = record { tokens = l.tokens; whole = l.whole; leads = line_sets t row bytes l }
 
-leads_part : (t : Table) (row : Row) (change : Option Sets) → ChangesSets t row change → Leads (text_of t row) (λ c. changed change c)
+pub leads_part : (t : Table) (row : Row) (change : Option Sets) → ChangesSets t row change → Leads (text_of t row) (λ c. changed change c)
 leads_part t row change (NoLine none is) =
     subst (λ (o : Option Sets). Leads (text_of t row) (λ c. changed o c)) (sym is) (subst (λ (b : List ℕ). Leads b (λ c. c)) (sym (ap or_nothing none)) leads_nothing)
 leads_part t row change (ByLine bytes there l is) =
@@ -82,13 +80,25 @@ clear_keeps t j None e = leads_nothing
 clear_keeps t j (Some bytes) e = let l : AskedLine t Clear bytes = j.lines Clear bytes e in
     leads_kept bytes (λ c. designated l.effect.charset c) (leads_line t Clear bytes l) (λ c. ap (λ (x : Effect). designated x.charset c) l.asked_for)
 
+-- with a text in place of `rmacs` that does the same to the sets after `sgr0`
+pub leads_by : (t : Table) (j : IsJudged t) (middle : List ℕ) → Leads (text_of t Sgr0 ++ middle) (λ c. changed j.changes.rmacs (changed j.changes.sgr0 c)) → Leads (with_middle t middle) (λ c. left_of j.changes c)
+leads_by t j middle p = leads_joined ((text_of t Smcup ++ text_of t Enacs) ++ (text_of t Sgr0 ++ middle)) (text_of t (widening t) ++ text_of t Clear) (λ c. left_of j.changes c) (λ c. c)
+    (leads_joined (text_of t Smcup ++ text_of t Enacs) (text_of t Sgr0 ++ middle) (λ c. changed j.changes.enacs (changed j.changes.smcup c)) (λ c. changed j.changes.rmacs (changed j.changes.sgr0 c))
+    (leads_joined (text_of t Smcup) (text_of t Enacs) (λ c. changed j.changes.smcup c) (λ c. changed j.changes.enacs c) (leads_part t Smcup j.changes.smcup j.smcup) (leads_part t Enacs j.changes.enacs j.enacs)) p)
+    (leads_joined (text_of t (widening t)) (text_of t Clear) (λ c. c) (λ c. c) (widen_keeps t j (t.line_of (widening t)) refl) (clear_keeps t j (t.line_of Clear) refl))
+
+pub leads_whole : (t : Table) (j : IsJudged t) → Leads (text_of t Sgr0 ++ text_of t Rmacs) (λ c. changed j.changes.rmacs (changed j.changes.sgr0 c))
+leads_whole t j = leads_joined (text_of t Sgr0) (text_of t Rmacs) (λ c. changed j.changes.sgr0 c) (λ c. changed j.changes.rmacs c) (leads_part t Sgr0 j.changes.sgr0 j.sgr0) (leads_part t Rmacs j.changes.rmacs j.rmacs)
+
+-- `sgr0` alone, where `rmacs` changes nothing after it
+pub leads_alone : (t : Table) (j : IsJudged t) → ((c : Charset) → changed j.changes.rmacs (changed j.changes.sgr0 c) ≡ changed j.changes.sgr0 c) → Leads (text_of t Sgr0 ++ []) (λ c. changed j.changes.rmacs (changed j.changes.sgr0 c))
+leads_alone t j same =
+    let p = leads_joined (text_of t Sgr0) [] (λ c. changed j.changes.sgr0 c) (λ c. c) (leads_part t Sgr0 j.changes.sgr0 j.sgr0) leads_nothing in
+    record { tokens = p.tokens; whole = p.whole; leads = λ c. p.leads c ∙ sym (same c) }
+
 pub leads_resync : (t : Table) (j : IsJudged t) → Leads (resync t) (λ c. left_of j.changes c)
 unfolding resync_of
-leads_resync t j = leads_joined (resync_front t) (text_of t (widening t) ++ text_of t Clear) (λ c. left_of j.changes c) (λ c. c)
-    (leads_joined (text_of t Smcup ++ text_of t Enacs) (text_of t Sgr0 ++ text_of t Rmacs) (λ c. changed j.changes.enacs (changed j.changes.smcup c)) (λ c. changed j.changes.rmacs (changed j.changes.sgr0 c))
-    (leads_joined (text_of t Smcup) (text_of t Enacs) (λ c. changed j.changes.smcup c) (λ c. changed j.changes.enacs c) (leads_part t Smcup j.changes.smcup j.smcup) (leads_part t Enacs j.changes.enacs j.enacs))
-    (leads_joined (text_of t Sgr0) (text_of t Rmacs) (λ c. changed j.changes.sgr0 c) (λ c. changed j.changes.rmacs c) (leads_part t Sgr0 j.changes.sgr0 j.sgr0) (leads_part t Rmacs j.changes.rmacs j.rmacs)))
-    (leads_joined (text_of t (widening t)) (text_of t Clear) (λ c. c) (λ c. c) (widen_keeps t j (t.line_of (widening t)) refl) (clear_keeps t j (t.line_of Clear) refl))
+leads_resync t j = leads_by t j (text_of t Rmacs) (leads_whole t j)
 
 -- there is one splitting, so there is one such charset
 led : (bytes : List ℕ) (f : Charset → Charset) (c d : Charset) → Leads bytes f → LeadsBy bytes c d → d ≡ f c
