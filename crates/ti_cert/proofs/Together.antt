@@ -7,9 +7,7 @@ use Rattle.vt_term.specs.Function.{function_of}
 use Rattle.vt_term.specs.Screen.{Charset, is_graphic}
 use Rattle.vt_term.proofs.Splits.{one_splitting, splits_append, empty_splits}
 use Rattle.vt_effects.specs.declared.effects.Sets.{Sets}
-use Rattle.vt_effects.specs.declared.effects.Switch.{Switch}
-use Rattle.vt_effects.specs.declared.effects.Switch.TheVariants as switches
-use Rattle.vt_effects.specs.Effect.{designated, switched}
+use Rattle.vt_effects.specs.Effect.{designated}
 use Rattle.ti_conforms.specs.declared.reach.Reach.{Reach}
 use Rattle.ti_conforms.specs.declared.closures.Charsets.{Charsets}
 use Rattle.ti_conforms.specs.Charsets.{charset_after, charset_over, can_have, IsAmong, Reached, AtReset, AfterToken}
@@ -21,6 +19,7 @@ use Rattle.ti_rows.specs.declared.rows.Row.TheVariants.{Clear, Smcup, Enacs, Sgr
 use Rattle.ti_conforms.specs.Table.{Table, or_nothing, text_of, widening, resync, resync_front, resync_of, Activates}
 use Rattle.ti_conforms.specs.Sets.{CanHave, LeadsBy, CanSettle, AfterResync, AfterLine, Occurs, has_sets}
 use Rattle.ti_conforms.specs.Sets as sets
+use Rattle.ti_conforms.proofs.Covering.{designated_twice}
 use Rattle.ti_conforms.proofs.Holds.{Leads}
 use Rattle.ti_cert.specs.Clashes.{Misswitches, SwitchesRight, StaysGraphic, ResyncsPlain, IsClash, GoesTogether}
 use Rattle.ti_cert.specs.Seen.{LeadsAs, IsOfLine, IsLineSeen, AreSeen, ChangesBy, NoLine, ByLine, KeepsSets, IsFound, parts_of, Misleads, AreSettled, ClashesAs, NoneClashes}
@@ -199,14 +198,6 @@ stays_plain t reach changes r smacs escapes settled pairs p plain s =
     never_both s.charset s.graphic (plain (sym (sets_there t smacs r.rmacs pairs p.found.smacs_is p.found.rmacs_is) ∙ s.unsent) s.charset (is_settled t reach changes r smacs escapes settled p s.charset s.settles))
 
 -- ---- what leads out of an unknown state leaves the plain set active, since what is sent twice leaves what it leaves once
-
-switched_twice : (a : Switch) (x : Bool) → switched a (switched a x) ≡ switched a x
-switched_twice switches.Kept x = refl
-switched_twice switches.On x = refl
-switched_twice switches.Off x = refl
-
-designated_twice : (a : Sets) (c : Charset) → designated a (designated a c) ≡ designated a c
-designated_twice a c = cc (switched_twice a.g0_graphic c.g0_graphic, switched_twice a.g1_graphic c.g1_graphic, switched_twice a.shifted_out c.shifted_out)
 
 plain_if : (c : Charset) → (is_graphic c ≡ true → ⊥) → is_graphic c ≡ false
 plain_if c never = by_set (is_graphic c) refl

@@ -15,20 +15,21 @@ use Rattle.ti_conforms.specs.Judged.{AskedLine, ChangesSets, NoLine, ByLine, cha
 use Rattle.ti_conforms.proofs.Holds.{line_sets}
 use Rattle.ti_conforms.proofs.Switching.{covers_leaves}
 
-twice_switched : (x : Switch) (b : Bool) → switched x (switched x b) ≡ switched x b
-twice_switched switches.Kept b = refl
-twice_switched switches.On b = refl
-twice_switched switches.Off b = refl
+switched_twice : (x : Switch) (b : Bool) → switched x (switched x b) ≡ switched x b
+switched_twice switches.Kept b = refl
+switched_twice switches.On b = refl
+switched_twice switches.Off b = refl
 
-twice : (e : Sets) (c : Charset) → designated e (designated e c) ≡ designated e c
-twice e c = cc (twice_switched e.g0_graphic c.g0_graphic, twice_switched e.g1_graphic c.g1_graphic, twice_switched e.shifted_out c.shifted_out)
+-- what is sent twice leaves what it leaves once
+pub designated_twice : (e : Sets) (c : Charset) → designated e (designated e c) ≡ designated e c
+designated_twice e c = cc (switched_twice e.g0_graphic c.g0_graphic, switched_twice e.g1_graphic c.g1_graphic, switched_twice e.shifted_out c.shifted_out)
 
 -- the lines leave the same sets
 same_left : (t : Table) (a b : List ℕ) (l : AskedLine t Sgr0 a) (m : AskedLine t Rmacs b) → covers a b ≡ true → (c : Charset) → designated l.effect.charset c ≡ designated m.effect.charset c
 same_left t a b l m h c = sym (line_sets t Sgr0 a l c) ∙ (covers_leaves a b l.tokens m.tokens h l.whole m.whole c ∙ line_sets t Rmacs b m c)
 
 after_both : (e f : Sets) → ((c : Charset) → designated e c ≡ designated f c) → (c : Charset) → designated f (designated e c) ≡ designated e c
-after_both e f same c = ap (λ (x : Charset). designated f x) (same c) ∙ (twice f c ∙ sym (same c))
+after_both e f same c = ap (λ (x : Charset). designated f x) (same c) ∙ (designated_twice f c ∙ sym (same c))
 
 pub rmacs_idle : (t : Table) (sgr0 rmacs : Option Sets) → ChangesSets t Sgr0 sgr0 → ChangesSets t Rmacs rmacs → line_covers (t.line_of Sgr0) (t.line_of Rmacs) ≡ true → (c : Charset) → changed rmacs (changed sgr0 c) ≡ changed sgr0 c
 rmacs_idle t sgr0 rmacs a (NoLine none is) h c = ap (λ (o : Option Sets). changed o (changed sgr0 c)) is
