@@ -22,9 +22,9 @@ use Rattle.ti_conforms.specs.Lines.{StaysIn}
 use Rattle.ti_conforms.specs.Table.{Table, has, or_nothing, text_of, widening, resync, resync_front, resync_of, Activates}
 use Rattle.ti_conforms.specs.Sets.{CanHave, AtReset, AfterToken, LeadsBy, CanSettle, AfterResync, AfterLine, Occurs, has_sets}
 use Rattle.ti_conforms.specs.Judged.{AskedLine, ChangesSets, NoLine, ByLine, Changes, changed, left_of, IsJudged}
-use Rattle.ti_conforms.proofs.Holds.{Leads}
+use Rattle.ti_conforms.proofs.Holds.{Leads, leads_joined, leads_nothing, led}
 use Rattle.ti_cert.specs.Clashes.{SwitchesRight, GoesTogether}
-use Rattle.ti_cert.proofs.Together.{SetsAre, joined, nothing, led}
+use Rattle.ti_cert.proofs.Together.{SetsAre}
 
 -- the tokens do to the sets what their record says
 pub record_sets : (rows cols : ℕ) (row : Row) (tokens : List (List ℕ)) (e : Effect) → record_of rows cols (start_of rows cols row) tokens ≡ Some e → (c : Charset) → charset_over tokens c ≡ designated e.charset c
@@ -112,7 +112,7 @@ change_of : (t : Table) (pairs : Bool) → Closed t pairs → (row : Row) (o : O
 change_of t pairs p row None e = record {
   sets = None;
   is = NoLine e refl;
-  leads = subst (λ (b : List ℕ). Leads b (λ c. c)) (sym (ap or_nothing e)) nothing;
+  leads = subst (λ (b : List ℕ). Leads b (λ c. c)) (sym (ap or_nothing e)) leads_nothing;
   had = λ c h. h;
 }
 change_of t pairs p row (Some bytes) e =
@@ -127,7 +127,7 @@ change_of t pairs p row (Some bytes) e =
 
 -- `csr` and `clear` leave the sets alone
 keeps_of : (t : Table) (pairs : Bool) → Closed t pairs → (row : Row) → ((l : Looks) (e : Effect) (c : Charset) → designated (asked l row e).charset c ≡ c) → (o : Option (List ℕ)) → t.line_of row ≡ o → Leads (or_nothing o) (λ c. c)
-keeps_of t pairs p row same None e = nothing
+keeps_of t pairs p row same None e = leads_nothing
 keeps_of t pairs p row same (Some bytes) e =
     let l = p.lines row bytes e in
     record { tokens = l.tokens; whole = l.whole; leads = λ c. record_sets t.rows t.cols row l.tokens l.effect l.recorded c ∙ (ap (λ (x : Effect). designated x.charset c) l.asked_for ∙ same t.looks l.effect c) }
@@ -143,7 +143,7 @@ begins (b ∷ rest) never = elim (cases_eq b 27) [
 
 resync_leads : (t : Table) (f : Charset → Charset) → Leads (resync_front t) f → Leads (text_of t (widening t) ++ text_of t Clear) (λ c. c) → Leads (resync t) f
 unfolding resync_of
-resync_leads t f front back = joined (resync_front t) (text_of t (widening t) ++ text_of t Clear) f (λ c. c) front back
+resync_leads t f front back = leads_joined (resync_front t) (text_of t (widening t) ++ text_of t Clear) f (λ c. c) front back
 
 both_off : (a b : Bool) → b ≡ false → (a && b) ≡ false
 both_off true b h = h
@@ -200,12 +200,12 @@ judged_closed t pairs p = record {
     changes = record { smcup = smcup.sets; enacs = enacs.sets; sgr0 = plain.sets; rmacs = rmacs.sets }
 
     front : Leads (resync_front t) (λ c. left_of changes c)
-    front = joined (text_of t Smcup ++ text_of t Enacs) (text_of t Sgr0 ++ text_of t Rmacs) (λ c. changed enacs.sets (changed smcup.sets c)) (λ c. changed rmacs.sets (changed plain.sets c))
-        (joined (text_of t Smcup) (text_of t Enacs) (λ c. changed smcup.sets c) (λ c. changed enacs.sets c) smcup.leads enacs.leads)
-        (joined (text_of t Sgr0) (text_of t Rmacs) (λ c. changed plain.sets c) (λ c. changed rmacs.sets c) plain.leads rmacs.leads)
+    front = leads_joined (text_of t Smcup ++ text_of t Enacs) (text_of t Sgr0 ++ text_of t Rmacs) (λ c. changed enacs.sets (changed smcup.sets c)) (λ c. changed rmacs.sets (changed plain.sets c))
+        (leads_joined (text_of t Smcup) (text_of t Enacs) (λ c. changed smcup.sets c) (λ c. changed enacs.sets c) smcup.leads enacs.leads)
+        (leads_joined (text_of t Sgr0) (text_of t Rmacs) (λ c. changed plain.sets c) (λ c. changed rmacs.sets c) plain.leads rmacs.leads)
 
     back : Leads (text_of t (widening t) ++ text_of t Clear) (λ c. c)
-    back = joined (text_of t (widening t)) (text_of t Clear) (λ c. c) (λ c. c)
+    back = leads_joined (text_of t (widening t)) (text_of t Clear) (λ c. c) (λ c. c)
         (keeps_of t pairs p (widening t) (λ l e c. refl) (t.line_of (widening t)) refl) (keeps_of t pairs p Clear (λ l e c. refl) (t.line_of Clear) refl)
 
     whole : Leads (resync t) (λ c. left_of changes c)

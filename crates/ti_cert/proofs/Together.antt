@@ -1,16 +1,15 @@
 -- What was found wrong with all lines together is so by the terminal's own tokens, and so is that nothing is.
-use Rattle.std.proofs.Common.{◌≡◌, ◌&&◌, ℕ, Bool, true, false, not, List, [], ◌∷◌, ◌++◌, Option, Some, None, refl, sym, ap, subst, ◌∙◌}
+use Rattle.std.proofs.Common.{◌≡◌, ◌&&◌, ℕ, Bool, true, false, not, List, [], ◌++◌, Option, Some, None, refl, sym, ap, subst, ◌∙◌}
 use Rattle.std.specs.Prelude.{is_some}
 use Rattle.std.proofs.lemmas.Bool.{true≢false, and_right}
 use Rattle.std.proofs.lemmas.Option.{same_Some, none-some}
-use Rattle.vt_term.specs.Function.{function_of}
 use Rattle.vt_term.specs.Screen.{Charset, is_graphic}
-use Rattle.vt_term.proofs.Splits.{one_splitting, splits_append, empty_splits}
+use Rattle.vt_term.proofs.Splits.{one_splitting}
 use Rattle.vt_effects.specs.declared.effects.Sets.{Sets}
 use Rattle.vt_effects.specs.Effect.{designated}
 use Rattle.ti_conforms.specs.declared.reach.Reach.{Reach}
 use Rattle.ti_conforms.specs.declared.closures.Charsets.{Charsets}
-use Rattle.ti_conforms.specs.Charsets.{charset_after, charset_over, can_have, IsAmong, Reached, AtReset, AfterToken}
+use Rattle.ti_conforms.specs.Charsets.{can_have, IsAmong, Reached, AtReset, AfterToken}
 use Rattle.ti_conforms.specs.Closures.{Settled, First, After, SomeLeads, Leaves, designated_all, kept, or_kept}
 use Rattle.ti_conforms.specs.Closures as closing
 use Rattle.ti_conforms.proofs.Reaches.{reached_can, can_reached}
@@ -20,7 +19,7 @@ use Rattle.ti_conforms.specs.Table.{Table, or_nothing, text_of, widening, resync
 use Rattle.ti_conforms.specs.Sets.{CanHave, LeadsBy, CanSettle, AfterResync, AfterLine, Occurs, has_sets}
 use Rattle.ti_conforms.specs.Sets as sets
 use Rattle.ti_conforms.proofs.Covering.{designated_twice}
-use Rattle.ti_conforms.proofs.Holds.{Leads}
+use Rattle.ti_conforms.proofs.Holds.{Leads, leads_joined, leads_nothing, led}
 use Rattle.ti_cert.specs.Clashes.{Misswitches, SwitchesRight, StaysGraphic, ResyncsPlain, IsClash, GoesTogether}
 use Rattle.ti_cert.specs.Seen.{LeadsAs, IsOfLine, IsLineSeen, AreSeen, ChangesBy, NoLine, ByLine, KeepsSets, IsFound, parts_of, Misleads, AreSettled, ClashesAs, NoneClashes}
 use Rattle.ti_cert.specs.Seen as seen
@@ -30,46 +29,26 @@ use Rattle.ti_cert.specs.declared.clashes.Resync.{Resync}
 
 -- ---- what leads out of an unknown state
 
-over_append : (ts us : List (List ℕ)) (c : Charset) → charset_over (ts ++ us) c ≡ charset_over us (charset_over ts c)
-over_append [] us c = refl
-over_append (t ∷ ts) us c = over_append ts us (charset_after (function_of t) c)
-
-pub joined : (a b : List ℕ) (f g : Charset → Charset) → Leads a f → Leads b g → Leads (a ++ b) (λ c. g (f c))
-joined a b f g p q = record {
-  tokens = p.tokens ++ q.tokens;
-  whole = splits_append a p.tokens q.tokens [] b [] p.whole q.whole;
-  leads = λ c. over_append p.tokens q.tokens c ∙ (ap (λ (x : Charset). charset_over q.tokens x) (p.leads c) ∙ q.leads (f c));
-}
-
-pub nothing : Leads [] (λ c. c)
-nothing = record { tokens = []; whole = empty_splits; leads = λ c. refl }
-
 -- a string leads charsets as its change says
 of_change : (t : Table) (row : Row) (o : Option Sets) → ChangesBy t row o → Leads (text_of t row) (λ c. designated (or_kept o) c)
-of_change t row _ (NoLine none) = subst (λ (b : List ℕ). Leads b (λ c. c)) (sym (ap (λ (o : Option (List ℕ)). or_nothing o) none)) nothing
+of_change t row _ (NoLine none) = subst (λ (b : List ℕ). Leads b (λ c. c)) (sym (ap (λ (o : Option (List ℕ)). or_nothing o) none)) leads_nothing
 of_change t row _ (ByLine bytes there change l) = subst (λ (b : List ℕ). Leads b (λ c. designated change c)) (sym (ap (λ (o : Option (List ℕ)). or_nothing o) there))
     (record { tokens = l.tokens; whole = l.whole; leads = l.leads })
 
 -- `csr` and `clear` leave them alone
 keeps : (t : Table) (row : Row) (o : Option (List ℕ)) → t.line_of row ≡ o → KeepsSets t row → Leads (or_nothing o) (λ c. c)
-keeps t row None e k = nothing
+keeps t row None e k = leads_nothing
 keeps t row (Some bytes) e k = let l : LeadsAs bytes kept = k bytes e in record { tokens = l.tokens; whole = l.whole; leads = l.leads }
 
 resync_leads : (t : Table) (reach : Reach) (changes : List Sets) (r : Resync) (smacs : Option Sets) (escapes : Bool) → IsFound t reach changes r smacs escapes → Leads (resync t) (λ c. designated_all (parts_of r) c)
 unfolding resync_of
 resync_leads t reach changes r smacs escapes p =
-    joined (resync_front t) (text_of t (widening t) ++ text_of t Clear) (λ c. designated_all (parts_of r) c) (λ c. c)
-    (joined (text_of t Smcup ++ text_of t Enacs) (text_of t Sgr0 ++ text_of t Rmacs)
+    leads_joined (resync_front t) (text_of t (widening t) ++ text_of t Clear) (λ c. designated_all (parts_of r) c) (λ c. c)
+    (leads_joined (text_of t Smcup ++ text_of t Enacs) (text_of t Sgr0 ++ text_of t Rmacs)
     (λ c. designated (or_kept r.enacs) (designated (or_kept r.smcup) c)) (λ c. designated (or_kept r.rmacs) (designated (or_kept r.sgr0) c))
-    (joined (text_of t Smcup) (text_of t Enacs) (λ c. designated (or_kept r.smcup) c) (λ c. designated (or_kept r.enacs) c) (of_change t Smcup r.smcup p.smcup_is) (of_change t Enacs r.enacs p.enacs_is))
-    (joined (text_of t Sgr0) (text_of t Rmacs) (λ c. designated (or_kept r.sgr0) c) (λ c. designated (or_kept r.rmacs) c) (of_change t Sgr0 r.sgr0 p.sgr0_is) (of_change t Rmacs r.rmacs p.rmacs_is)))
-    (joined (text_of t (widening t)) (text_of t Clear) (λ c. c) (λ c. c) (keeps t (widening t) (t.line_of (widening t)) refl p.widens) (keeps t Clear (t.line_of Clear) refl p.clears))
-
--- there is one splitting, so there is one such charset
-pub led : (bytes : List ℕ) (f : Charset → Charset) (c d : Charset) → Leads bytes f → LeadsBy bytes c d → d ≡ f c
-led bytes f c d p l =
-    let same = one_splitting bytes l.tokens p.tokens [] [] l.whole p.whole in
-    l.is ∙ (ap (λ (ts : List (List ℕ)). charset_over ts c) (sym same.0) ∙ p.leads c)
+    (leads_joined (text_of t Smcup) (text_of t Enacs) (λ c. designated (or_kept r.smcup) c) (λ c. designated (or_kept r.enacs) c) (of_change t Smcup r.smcup p.smcup_is) (of_change t Enacs r.enacs p.enacs_is))
+    (leads_joined (text_of t Sgr0) (text_of t Rmacs) (λ c. designated (or_kept r.sgr0) c) (λ c. designated (or_kept r.rmacs) c) (of_change t Sgr0 r.sgr0 p.sgr0_is) (of_change t Rmacs r.rmacs p.rmacs_is)))
+    (leads_joined (text_of t (widening t)) (text_of t Clear) (λ c. c) (λ c. c) (keeps t (widening t) (t.line_of (widening t)) refl p.widens) (keeps t Clear (t.line_of Clear) refl p.clears))
 
 by_line : (bytes : List ℕ) (change : Sets) → LeadsAs bytes change → (c : Charset) → LeadsBy bytes c (designated change c)
 by_line bytes change l c = record { tokens = l.tokens; whole = l.whole; is = sym (l.leads c) }

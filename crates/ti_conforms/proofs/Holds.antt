@@ -101,7 +101,7 @@ unfolding resync_of
 leads_resync t j = leads_by t j (text_of t Rmacs) (leads_whole t j)
 
 -- there is one splitting, so there is one such charset
-led : (bytes : List ℕ) (f : Charset → Charset) (c d : Charset) → Leads bytes f → LeadsBy bytes c d → d ≡ f c
+pub led : (bytes : List ℕ) (f : Charset → Charset) (c d : Charset) → Leads bytes f → LeadsBy bytes c d → d ≡ f c
 led bytes f c d p l =
     let same = one_splitting bytes l.tokens p.tokens [] [] l.whole p.whole in
     l.is ∙ (ap (λ (ts : List (List ℕ)). charset_over ts c) (sym same.0) ∙ p.leads c)
