@@ -9,7 +9,7 @@ use Rattle.grids.specs.Grids as base
 use Rattle.grids.proofs.Drawings.{cell_at-drawn_in, drawn_same, drawn_kept}
 use Rattle.cur_drawing.specs.declared.spans.Span.{Span}
 use Rattle.cur_drawing.specs.Cells.{Content, space}
-use Rattle.cur_drawing.specs.Grids.{Grid, Fits, cell_at, copied, drawn_in, is_in, line_at, moved_to, row_of, taken}
+use Rattle.cur_drawing.specs.Grids.{Grid, Fits, cell_at, copied, drawn_in, filled, is_in, line_at, moved_to, one, row_of, taken}
 use Rattle.cur_drawing.specs.Calls.{place}
 use Rattle.cur_drawing.specs.Differences.{AreEqualAt, AreEqualIn, DifferAt, HasChanges}
 
@@ -239,3 +239,33 @@ rows_copied a from s source g fits there le equal =
     (λ i j old. if is_in a i j then taken a from source i j old else old) g
     (λ i j d. chosen (is_in (rows_in a s) i j) (is_in a i j) _ _ (base.cell_at d g i j) (rows_within a s i j le)
     (rows_taken a from s source i j (base.cell_at d g i j)) (others_equal a from s source g i j d fits there equal))
+
+-- ---- a rectangle of one place
+in_one : (a : Area) (i j : ℕ) → a.rows ≡ 1 → a.cols ≡ 1 → is_in a i j ≡ true → is_in (one a.top a.left) i j ≡ true
+in_one a i j rows cols h = grind (arith, nat_tests)
+
+of_one : (a : Area) (i j : ℕ) → a.rows ≡ 1 → a.cols ≡ 1 → is_in (one a.top a.left) i j ≡ true → is_in a i j ≡ true
+of_one a i j rows cols h = grind (arith, nat_tests)
+
+row_of_one : (a : Area) (i j : ℕ) → is_in (one a.top a.left) i j ≡ true → i ≡ a.top
+row_of_one a i j h = grind (arith, nat_tests)
+
+col_of_one : (a : Area) (i j : ℕ) → is_in (one a.top a.left) i j ≡ true → j ≡ a.left
+col_of_one a i j h = grind (arith, nat_tests)
+
+one_taken : (a : Area) (from : Place) (source : Grid) (cell old : Content) (i j : ℕ) → ((d : Content) → cell ≡ base.cell_at d source from.row from.col) → is_in (one a.top a.left) i j ≡ true →
+    cell ≡ taken a from source i j old
+one_taken a from source cell old i j is on =
+    let row : i ≡ a.top = row_of_one a i j on in
+    let col : j ≡ a.left = col_of_one a i j on in
+    let rows : from.row ≡ from.row + (i - a.top) = omega (arith, row) in
+    let cols : from.col ≡ from.col + (j - a.left) = omega (arith, col) in
+    is old ∙ ap (λ (n : ℕ). base.cell_at old source n from.col) rows ∙ ap (λ (n : ℕ). base.cell_at old source (from.row + (i - a.top)) n) cols
+
+-- the place has the cell
+pub cell_is_copied : (a : Area) (from : Place) (source g : Grid) (cell : Content) → a.rows ≡ 1 → a.cols ≡ 1 → ((d : Content) → cell ≡ base.cell_at d source from.row from.col) →
+    filled (one a.top a.left) cell g ≡ copied a from source g
+cell_is_copied a from source g cell rows cols is =
+    drawn_same (λ i j old. if is_in (one a.top a.left) i j then cell else old) (λ i j old. if is_in a i j then taken a from source i j old else old) g
+    (λ i j d. chosen (is_in (one a.top a.left) i j) (is_in a i j) cell (taken a from source i j (base.cell_at d g i j)) (base.cell_at d g i j) (of_one a i j rows cols)
+    (one_taken a from source cell (base.cell_at d g i j) i j is) (λ off on. absurd (let h : is_in (one a.top a.left) i j ≡ true = in_one a i j rows cols on in cc)))

@@ -149,7 +149,7 @@ fn copy_changed_line(
         row: from.row,
         col: from.col + span.at,
     };
-    grid.copy_from(part, source, place);
+    copy_cells(grid, part, source, place);
     marks.mark(part.top, part.left, part.left + part.cols);
 }
 
@@ -209,7 +209,34 @@ fn copy_marked_row(grid: &mut Grid<Cell>, area: Area, k: u16, source: &Grid<Cell
         rows: 1,
         cols: span.size,
     };
-    grid.copy_from(part, source, Place { row, col: left });
+    copy_cells(grid, part, source, Place { row, col: left });
+}
+
+// Copies into the rectangle the cells of another grid from a place on; one cell without a loop.
+fn copy_cells(grid: &mut Grid<Cell>, area: Area, source: &Grid<Cell>, from: Place)
+    requires target { Fits area grid.old }
+    requires source { Fits (moved_to area from) source.now }
+    ensures value { grid.new ≡ copied area from source.now grid.old }
+    ensures shape { shape_of grid.new ≡ shape_of grid.old }
+{
+    if area.rows == 1 && area.cols == 1 {
+        copy_cell(grid, area, source, from);
+    } else {
+        grid.copy_from(area, source, from);
+    }
+}
+
+// Copies into the rectangle of one place the cell of a place of another grid.
+fn copy_cell(grid: &mut Grid<Cell>, area: Area, source: &Grid<Cell>, from: Place)
+    requires rows { area.rows ≡ 1 }
+    requires cols { area.cols ≡ 1 }
+    requires target { Fits area grid.old }
+    requires source { Fits (moved_to area from) source.now }
+    ensures value { grid.new ≡ copied area from source.now grid.old }
+    ensures shape { shape_of grid.new ≡ shape_of grid.old }
+{
+    let cell = source.get(from.row as usize, from.col as usize);
+    grid.set(area.top as usize, area.left as usize, cell);
 }
 
 // The `cols` cells of a line from the column `left` on.

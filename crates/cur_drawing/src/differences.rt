@@ -119,6 +119,12 @@ pub(crate) fn changed(a: &[Cell], b: &[Cell]) -> Option<Span>
     ensures { IsChanged a.now b.now result }
 {
     let first = first_diff(a, b)?;
+    if first + 1 == a.len() {
+        return Some(Span {
+            at: first as u16,
+            size: 1,
+        });
+    }
     let last = last_diff(a, b)?;
     Some(Span {
         at: first as u16,

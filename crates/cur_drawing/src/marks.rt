@@ -97,7 +97,11 @@ impl Marks {
     pub fn clear(&mut self)
         ensures { self.new ≡ none_marked (length self.old.lines) }
     {
-        clear_lines(&mut self.lines, self.rows);
+        if self.rows.end - self.rows.from == 1 {
+            clear_line(&mut self.lines, self.rows);
+        } else {
+            clear_lines(&mut self.lines, self.rows);
+        }
         self.rows = NONE;
         self.all = false;
     }
@@ -182,6 +186,15 @@ fn clear_lines(lines: &mut [Marked], rows: Marked)
     for k in rows.from..rows.end {
         lines[k as usize] = NONE;
     }
+}
+
+// The same where that is one line.
+fn clear_line(lines: &mut [Marked], rows: Marked)
+    requires within { AreMarkedWithin rows lines.old }
+    requires one { rows.end ≡ rows.from + 1 }
+    ensures { lines.new ≡ replicate (length lines.old) nothing }
+{
+    lines[rows.from as usize] = NONE;
 }
 
 // Marks what other marks have in these lines as well.

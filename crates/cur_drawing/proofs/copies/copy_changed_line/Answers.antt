@@ -16,21 +16,21 @@ pub returns-clause-value : goal.returns-clause-value
 returns-clause-value c =
     let a = c.args.area in let s = c.in-Some.span in
     let changes = c.in-Some.ensures in
-    c.copy_from.ensures.value
+    c.copy_cells.ensures.value
     ∙ line_copied a c.args.from s c.args.source.now c.args.grid.now c.requires.one c.requires.target c.requires.source (omega (arith, changes.within, c.part_of-old.ensures.len))
     (equal_beside a c.args.from 0 s c.args.source.now c.args.grid.now c.part_of-old.result.now c.part_of-new.result.now c.line.result.now c.line-2.result.now (first_line c.line.result.now c.args.grid.now a.top c.line.ensures) (first_line c.line-2.result.now c.args.source.now c.args.from.row c.line-2.ensures)
     c.part_of-old.ensures.cells c.part_of-new.ensures.cells c.part_of-old.ensures.len changes.before changes.after)
 
 pub returns-clause-marked : goal.returns-clause-marked
 returns-clause-marked c =
-    copied_kept _ _ c.args.source.now c.args.grid.now c.copy_from.new.self c.args.marks.now c.mark.new.self refl c.copy_from.ensures.value c.mark.ensures
+    copied_kept _ _ c.args.source.now c.args.grid.now c.copy_cells.new.grid c.args.marks.now c.mark.new.self refl c.copy_cells.ensures.value c.mark.ensures
 
 pub returns-clause-only : goal.returns-clause-only
 returns-clause-only c =
     let a = c.args.area in
     let s = c.in-Some.span in
     let g : Grid = c.args.grid.now in
-    let h : Grid = c.copy_from.new.self in
+    let h : Grid = c.copy_cells.new.grid in
     let changes = c.in-Some.ensures in
     let some : 0 < s.size = some_changed c.part_of-old.result.now c.part_of-new.result.now s changes in
     let last : a.left + (s.at + s.size - 1) ≡ a.left + s.at + s.size - 1 = omega (arith, some) in
