@@ -1,5 +1,5 @@
 //! The desk: grids, and the windows that are rectangles of them.
-ghost use Rattle.std.specs.Prelude.{◌≡◌, ◌<◌, ◌≤◌, Some, None, IfOk, [], replicate, false};
+ghost use Rattle.std.specs.Prelude.{◌≡◌, ◌<◌, ◌≤◌, Some, None, Ok, Err, IfErr, IfOk, [], replicate, false};
 ghost use Rattle.cur_drawing.specs.Grids.{blank};
 ghost use Rattle.cur_windows.specs.Desks as spec;
 ghost use Rattle.cur_windows.specs.Desks.{IsPlaced, IsDesk};
@@ -89,6 +89,22 @@ impl Desk {
             return Err(Refusal::NoWindow);
         };
         Ok(slot)
+    }
+
+    // The same, where it stands.
+    pub(crate) fn slot(&self, id: usize) -> Result<&Slot, Refusal>
+        ensures found { IfOk result (λ s. spec.slot_of self.now id ≡ Ok s.now) }
+        ensures refused { IfErr result (λ e. spec.slot_of self.now id ≡ Err e) }
+        ensures placed { IfOk result (λ s. IsPlaced self.now id s.now) }
+        ensures there { IfOk result (λ s. (id < 64) × (spec.window_at self.now id ≡ Some s.now)) }
+    {
+        if id >= WINDOWS {
+            return Err(Refusal::Full);
+        }
+        match &self.windows[id] {
+            Some(slot) => Ok(slot),
+            None => Err(Refusal::NoWindow),
+        }
     }
 }
 

@@ -75,8 +75,38 @@ pub(crate) fn joined(before: Option<Scroll>, later: Option<Scroll>) -> Option<Sc
     }
 }
 
+// Takes note of a copy to a screen of `cols` columns: whose its lines are, and which scroll is remembered. Mostly no
+// rows have gone.
+#[inline(always)]
+pub(crate) fn remember(
+    owners: &mut Owners,
+    scrolled: &mut Option<Scroll>,
+    later: Option<Scroll>,
+    copy: Copy,
+    cols: u16,
+) {
+    if scrolled.is_some() || later.is_some() {
+        remember_scroll(owners, scrolled, later, copy, cols);
+    } else if copy.area.cols == cols {
+        owners.cover(copy.area, copy.root);
+    }
+}
+
+// The same where rows have gone.
+#[inline(never)]
+fn remember_scroll(
+    owners: &mut Owners,
+    scrolled: &mut Option<Scroll>,
+    later: Option<Scroll>,
+    copy: Copy,
+    cols: u16,
+) {
+    let kept = owners.take(copy, cols, *scrolled);
+    *scrolled = later_of(kept, later);
+}
+
 // What is remembered on the screen: the later scroll, if there was one.
-pub(crate) fn later_of(before: Option<Scroll>, later: Option<Scroll>) -> Option<Scroll> {
+fn later_of(before: Option<Scroll>, later: Option<Scroll>) -> Option<Scroll> {
     match later {
         Some(later) => Some(later),
         None => before,
@@ -168,7 +198,7 @@ impl Owners {
 
     // What is remembered after this copy to a screen of `cols` columns: no rows of which another grid has taken the
     // last line. A copy that is narrower takes none.
-    pub(crate) fn take(&mut self, copy: Copy, cols: u16, before: Option<Scroll>) -> Option<Scroll> {
+    fn take(&mut self, copy: Copy, cols: u16, before: Option<Scroll>) -> Option<Scroll> {
         if copy.area.cols != cols {
             return before;
         }

@@ -52,9 +52,10 @@ impl Desk {
         ensures marked { Keeps marks.old (screen.old).grid marks.new (screen.new).grid }
         ensures only { MarksOnly marks.old (screen.old).grid marks.new (screen.new).grid }
     {
-        let mut slot = self.find(id)?;
-        self.check_window(&slot)?;
-        self.copy_slot(&slot, screen, touched, marks);
+        let slot = self.slot(id)?;
+        self.check_window(slot)?;
+        self.copy_slot(slot, screen, touched, marks);
+        let mut slot = *slot;
         self.scrolled = None;
         if !slot.window.clears {
             return Ok(());

@@ -7,7 +7,7 @@ ghost use Rattle.cur_drawing.specs.Spans.{ArePlaces};
 ghost use Rattle.cur_windows.specs.VirtualScreen as spec;
 
 use crate::desks::blank_grid;
-use crate::hints::{Hint, Owners, Scroll, later_of};
+use crate::hints::{Hint, Owners, Scroll, remember};
 use cur_drawing::{Cell, Marks, PAIRS, Refusal, all_cells, copy_changed, copy_marked, place_below};
 use grids::{Area, Grid, Place};
 use std::alloc::{AllocError, Global};
@@ -222,6 +222,7 @@ impl Virtual {
 
     // A rectangle, which outside the marks `touched` has the cells of a grid from a place on, gets all of them, and
     // where they differ they are marked. A scroll replaces the one that is remembered.
+    #[inline(always)]
     pub(crate) fn show(
         &mut self,
         copy: Copy,
@@ -242,8 +243,13 @@ impl Virtual {
         ensures legal { spec.IsScreen self.old }
     {
         copy_changed(&mut self.grid, copy.area, grid, copy.from, touched, marks);
-        let kept = self.owners.take(copy, self.cols, self.scrolled);
-        self.scrolled = later_of(kept, scrolled);
+        remember(
+            &mut self.owners,
+            &mut self.scrolled,
+            scrolled,
+            copy,
+            self.cols,
+        );
         self.cursor = copy.cursor;
         self.clearok = self.clearok | copy.clears;
     }
