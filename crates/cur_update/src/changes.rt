@@ -233,6 +233,12 @@ fn changed_columns(old: &[Cell], new: &[Cell]) -> Columns
     let Some(first) = first_diff(old, new) else {
         return Columns { from: 0, end: 0 };
     };
+    if first + 1 == new.len() {
+        return Columns {
+            from: first,
+            end: first + 1,
+        };
+    }
     match last_diff(old, new) {
         Some(last) => Columns {
             from: first,

@@ -123,6 +123,7 @@ fn brush_of(colored: bool, colors: (Option<u8>, Option<u8>), cell: Cell) -> Brus
 }
 
 /// How a cell is printed, with the colours of its pair.
+#[inline(always)]
 pub(crate) fn ink_of<C: Certificate>(
     checked: &C,
     means: Means,
@@ -134,6 +135,19 @@ pub(crate) fn ink_of<C: Certificate>(
     if is_plain(cell, colors) {
         return plain_ink(cell.byte());
     }
+    styled_ink(checked, means, colors, cell)
+}
+
+/// The same, also of a plain cell, without a look whether it is one.
+#[inline(never)]
+fn styled_ink<C: Certificate>(
+    checked: &C,
+    means: Means,
+    colors: (Option<u8>, Option<u8>),
+    cell: Cell,
+) -> Ink
+    ensures { result ≡ spec.ink_with means (C.partners checked.now) (spec.pair_colors colors) cell }
+{
     let character = character_of(checked, means.graphic, cell);
     Ink {
         byte: character.byte,
