@@ -201,6 +201,7 @@ fn put_here<C: Certificate, W: Wire>(
 }
 
 /// Prints `ink` at `at`, in a line that is shown as far as that place.
+#[inline(always)]
 pub fn put_cell<C: Certificate, N: Picture, W: Wire>(
     target: &Target<'_, C, N>,
     belief: &mut Belief,

@@ -161,6 +161,7 @@ fn mend_line<C: Certificate, O: Picture, N: Picture, W: Wire>(
 
 /// Mends the `columns` of the line `row`, before which it is as it was, and erases by the string `line` all from their
 /// end on, lines below it too.
+#[inline(never)]
 fn mend_bottom<C: Certificate, O: Picture, N: Picture, W: Wire>(
     screens: &Screens<'_, C, O, N>,
     belief: &mut Belief,

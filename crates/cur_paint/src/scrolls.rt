@@ -33,7 +33,23 @@ pub(crate) fn useful_scroll<C: Certificate, O: Picture, N: Picture, D: Changes>(
         (N.cells screens.now.new.now) (C.table screens.now.checked.now).cols (C.table screens.now.checked.now).rows
         ≤ all_changed (scene C.table O.cells N.cells screens.now)) }
 {
-    let scroll = changes.scroll()?;
+    useful(screens, changes, changes.scroll()?)
+}
+
+/// This scroll, if it is one.
+#[inline(never)]
+fn useful<C: Certificate, O: Picture, N: Picture, D: Changes>(
+    screens: &Screens<'_, C, O, N>,
+    changes: &D,
+    scroll: Scroll,
+) -> Option<Scroll>
+    requires scene { IsPaintable (scene C.table O.cells N.cells screens.now) }
+    requires changes { D.between changes.now (O.cells screens.now.old.now) (N.cells screens.now.new.now) }
+    ensures can { IfSome result (λ x. CanScroll (C.table screens.now.checked.now) x) }
+    ensures fewer { IfSome result (λ x. (x.count + 4) + all_differ (shifted x (O.cells screens.now.old.now))
+        (N.cells screens.now.new.now) (C.table screens.now.checked.now).cols (C.table screens.now.checked.now).rows
+        ≤ all_changed (scene C.table O.cells N.cells screens.now)) }
+{
     if !can_scroll(screens.checked, scroll) {
         return None;
     }
@@ -56,6 +72,7 @@ pub(crate) fn useful_scroll<C: Certificate, O: Picture, N: Picture, D: Changes>(
 }
 
 /// From a known state: scrolls as `scroll` says, and mends what then differs.
+#[inline(never)]
 pub(crate) fn scroll_first<C: Certificate, O: Picture, N: Picture, D: Changes, W: Wire>(
     screens: &Screens<'_, C, O, N>,
     belief: &mut Belief,

@@ -94,6 +94,7 @@ impl Picture for Cleared {
 }
 
 /// From any lost state in which the cursor is shown in the mode `shown_as`, if that is known: paints all anew.
+#[inline(never)]
 fn repaint<C: Certificate, O: Picture, N: Picture, W: Wire>(
     screens: &Screens<'_, C, O, N>,
     belief: &mut Belief,
@@ -122,6 +123,7 @@ fn repaint<C: Certificate, O: Picture, N: Picture, W: Wire>(
 }
 
 /// From a known state: clears all, and paints it anew.
+#[inline(never)]
 fn clear_first<C: Certificate, O: Picture, N: Picture, W: Wire>(
     screens: &Screens<'_, C, O, N>,
     belief: &mut Belief,
@@ -171,9 +173,24 @@ fn is_better_cleared<C: Certificate, O: Picture, N: Picture, D: Changes>(
 {
     let rows = screens.checked.rows();
     let cols = screens.checked.cols();
-    if !may_become_blanks(screens.new, changes, rows, cols) {
-        return false;
-    }
+    may_become_blanks(screens.new, changes, rows, cols)
+        && takes_fewer_cleared(screens, background, changes)
+}
+
+/// The same, however many lines may differ.
+#[inline(never)]
+fn takes_fewer_cleared<C: Certificate, O: Picture, N: Picture, D: Changes>(
+    screens: &Screens<'_, C, O, N>,
+    background: Option<Color>,
+    changes: &D,
+) -> bool
+    requires scene { IsPaintable (scene C.table O.cells N.cells screens.now) }
+    requires changes { D.between changes.now (O.cells screens.now.old.now) (N.cells screens.now.new.now) }
+    ensures fewer { result ≡ true → (line : List ℕ) → (C.table screens.now.checked.now).line_of Clear ≡ Some line
+        → length line + all_differ (cleared background) (N.cells screens.now.new.now)
+        (C.table screens.now.checked.now).cols (C.table screens.now.checked.now).rows
+        < all_changed (scene C.table O.cells N.cells screens.now) }
+{
     let blank = Cleared { background };
     let clear = screens.checked.line(Row::Clear).unwrap().len();
     if !saves(screens.checked, &blank, screens.old, screens.new, clear) {
