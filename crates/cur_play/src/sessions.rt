@@ -103,6 +103,7 @@ impl<C: Certificate> Session<C> {
 }
 
 /// Draws, and then sends.
+#[inline(always)]
 fn play<C: Certificate, W: Wire>(
     desk: &mut Desk,
     screen: &mut Virtual,
