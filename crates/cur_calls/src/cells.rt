@@ -7,7 +7,23 @@ use crate::numbers::natural;
 use cur_drawing::{Attrs, Put};
 
 /// A cell of its own: its byte in hexadecimal, its attributes after a slash, its pair after a colon.
+#[inline(always)]
 pub(crate) fn cell_in(word: &[u8]) -> Option<Put>
+    ensures { result ≡ spec.cell_in word.now }
+{
+    match word {
+        [high, low] => Some(Put {
+            byte: byte_in(*high, *low)?,
+            attrs: Attrs::none(),
+            pair: 0,
+        }),
+        _ => any_cell_in(word),
+    }
+}
+
+// The same, however long the word is.
+#[inline(never)]
+fn any_cell_in(word: &[u8]) -> Option<Put>
     ensures { result ≡ spec.cell_in word.now }
 {
     match word {
