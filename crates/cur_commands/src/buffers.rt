@@ -1,5 +1,5 @@
 //! Bytes that are held back.
-ghost use Rattle.std.specs.Prelude.{◌≡◌, ◌↔◌, ◌≤◌, ◌-◌, ◌++◌, [], IfOk, IsTrue, length, min, take};
+ghost use Rattle.std.specs.Prelude.{◌≡◌, ◌∷◌, ◌↔◌, ◌≤◌, ◌-◌, ◌++◌, [], IfOk, IsTrue, length, min, take};
 
 use std::alloc::{AllocError, Global};
 use std::marker::Model;
@@ -52,9 +52,24 @@ impl Buffer {
         ensures count { result ≡ min (length piece.now) (65536 - length self.old) }
         ensures value { self.new ≡ self.old ++ take result piece.now }
     {
+        if let [byte] = piece {
+            return self.hold_byte(*byte);
+        }
         let held = piece.len().min(CAPACITY - self.bytes.len());
         self.bytes.extend_from_slice(&piece[..held]).unwrap();
         held
+    }
+
+    /// Takes a byte where there is room, and returns how many bytes that is.
+    fn hold_byte(&mut self, byte: u8) -> usize
+        ensures count { result ≡ min 1 (65536 - length self.old) }
+        ensures value { self.new ≡ self.old ++ take result (byte ∷ []) }
+    {
+        if self.is_full() {
+            return 0;
+        }
+        self.bytes.push(byte).unwrap();
+        1
     }
 
     /// What it holds.

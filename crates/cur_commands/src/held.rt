@@ -22,15 +22,25 @@ pub struct Held<'a, O> {
 
 impl<'a, O: Output> Held<'a, O> {
     /// Hands the output all that is held back.
+    #[inline(always)]
     pub fn flush(&mut self)
         ensures holds { Holds O.contents O.has_failed self.old.output self.new.output self.old.buffer.now
             self.new.buffer.now self.old.failures self.new.failures [] }
         ensures emptied { self.new.failures ≡ 0 → self.new.buffer.now ≡ [] }
     {
-        if self.failures > 0 {
-            return;
+        if !self.buffer.is_empty() {
+            self.hand_over();
         }
-        if self.buffer.is_empty() {
+    }
+
+    /// The same, also of nothing.
+    #[inline(never)]
+    fn hand_over(&mut self)
+        ensures holds { Holds O.contents O.has_failed self.old.output self.new.output self.old.buffer.now
+            self.new.buffer.now self.old.failures self.new.failures [] }
+        ensures emptied { self.new.failures ≡ 0 → self.new.buffer.now ≡ [] }
+    {
+        if self.failures > 0 {
             return;
         }
         if self.output.put(self.buffer.as_slice()).is_err() {
