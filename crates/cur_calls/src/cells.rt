@@ -17,21 +17,6 @@ pub(crate) fn cell_in(word: &[u8]) -> Option<Put>
             attrs: Attrs::none(),
             pair: 0,
         }),
-        _ => any_cell_in(word),
-    }
-}
-
-// The same, however long the word is.
-#[inline(never)]
-fn any_cell_in(word: &[u8]) -> Option<Put>
-    ensures { result ≡ spec.cell_in word.now }
-{
-    match word {
-        [high, low] => Some(Put {
-            byte: byte_in(*high, *low)?,
-            attrs: Attrs::none(),
-            pair: 0,
-        }),
         [high, low, rest @ ..] => styled_in(byte_in(*high, *low)?, rest),
         _ => None,
     }
@@ -79,6 +64,7 @@ fn hex_digit(byte: u8) -> Option<u8>
 }
 
 // The cell of this byte whose attributes and pair follow.
+#[inline(never)]
 fn styled_in(byte: u8, text: &[u8]) -> Option<Put>
     ensures { result ≡ spec.styled_in byte text.now }
 {
