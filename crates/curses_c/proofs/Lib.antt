@@ -2,3 +2,4 @@ mod Looses
 mod Making
 mod Reaching
 mod Slots
+mod Openings
