@@ -1,5 +1,5 @@
 -- The strings of an entry that was verified for a size, and what may be relied on of them, by runs of a terminal alone.
-use Rattle.std.specs.Prelude.{ℕ, ◌<◌, ◌≡◌, ◌&&◌, List, Option, Some, None, if◌then◌else◌}
+use Rattle.std.specs.Prelude.{ℕ, ◌<◌, ◌≡◌, ◌&&◌, Bool, List, Option, Some, None, if◌then◌else◌}
 use Rattle.vt_term.specs.Size.{IsSize}
 use Rattle.vt_term.specs.Screen.{State}
 use Rattle.ti_conforms.specs.Alternates.{partner_of}
@@ -42,10 +42,14 @@ abbrev pub listed : Option (List ℕ) → ℕ → Option ℕ
 listed None letter = None
 listed (Some pairs) letter = partner_of pairs letter
 
+-- the strings that switch to the graphic set and back are both there
+abbrev pub can_switch : CheckedTable → Bool
+can_switch c = has (table_of c) Smacs && has (table_of c) Rmacs
+
 -- What a letter of the alternate set is sent as (terminfo(5), "Line Graphics"): its partner in `acsc` where the sets
 -- can be switched.
 abbrev pub partner_in : CheckedTable → ℕ → Option ℕ
-partner_in c letter = if has (table_of c) Smacs && has (table_of c) Rmacs then listed c.acsc letter else None
+partner_in c letter = if can_switch c then listed c.acsc letter else None
 
 -- from every state that output cut off at any byte may leave, to a blank screen at rest
 abbrev pub Resyncs : Table → Type 0

@@ -32,17 +32,19 @@ use vt_term::Size;
 pub struct Checked {
     table: Table,
     resync: Bytes,
+    switches: bool,
 }
 
 impl Model for Checked {
     ghost use Rattle.ti_cert.specs.Table.{CheckedTable};
-    ghost use Rattle.ti_cert.specs.Verified.{IsVerified, IsResync};
+    ghost use Rattle.ti_cert.specs.Verified.{IsVerified, IsResync, can_switch};
+    ghost use Rattle.std.specs.Prelude.{◌≡◌};
 
     ghost Value = { CheckedTable };
 
     ghost view = { λ c. c.table };
 
-    ghost invariant = { λ c. IsVerified c.table × IsResync c.table c.resync };
+    ghost invariant = { λ c. IsVerified c.table × IsResync c.table c.resync × (c.switches ≡ can_switch c.table) };
 }
 
 /// The row of a capability with these parameters, `None` where it isn't checked or doesn't take them.
@@ -104,13 +106,25 @@ fn resync_of(alloc: Global, table: &Table) -> Result<Bytes, AllocError>
     Ok(Bytes::from_vec(text))
 }
 
+/// Whether the strings that switch to the graphic set and back are both there.
+fn can_switch(table: &Table) -> bool
+    ensures { result ≡ spec.can_switch table.now }
+{
+    table.bytes(Row::Smacs).is_some() && table.bytes(Row::Rmacs).is_some()
+}
+
 impl Checked {
     fn new(alloc: Global, table: Table) -> Result<Checked, AllocError>
         requires { spec.IsVerified table }
         ensures { IfOk result (λ checked. checked ≡ table) }
     {
         let resync = resync_of(alloc, &table)?;
-        Ok(Checked { table, resync })
+        let switches = can_switch(&table);
+        Ok(Checked {
+            table,
+            resync,
+            switches,
+        })
     }
 
     /// The size that they are for. What else may be relied on stands in the contract.
@@ -150,7 +164,7 @@ impl Checked {
     pub fn partner(&self, letter: u8) -> Option<u8>
         ensures { result ≡ spec.partner_in self.now letter }
     {
-        if self.row_bytes(Row::Smacs).is_none() || self.row_bytes(Row::Rmacs).is_none() {
+        if !self.switches {
             return None;
         }
         match self.table.acsc() {
