@@ -17,7 +17,7 @@ use Rattle.ti_conforms.specs.Looks.{LooksStand}
 use Rattle.ti_cert.specs.Strings.{row_string, total}
 use Rattle.ti_cert.specs.Certificates.{limit}
 use Rattle.ti_cert.specs.Table as tables
-use Rattle.ti_cert.specs.Verified.{IsVerified, Resyncs, ShortResyncs}
+use Rattle.ti_cert.specs.Verified.{IsVerified, Resyncs}
 
 pub verified : (entry : Content) (t : tables.CheckedTable) (rows cols : ℕ) → IsFit entry → IsJudged (tables.table_of t) → EntryAgrees t.known.strings.rows t.known.strings.cols entry (λ row. row_string t.known.strings row)
     → t.known.strings.rows ≡ rows → t.known.strings.cols ≡ cols → Conforms entry rows cols
@@ -42,9 +42,6 @@ agrees_at entry t rows cols agrees r c =
 -- from a lost state
 pub resyncs : (t : tables.CheckedTable) → IsVerified t → Resyncs (tables.table_of t)
 resyncs t v s lost = v.holds.resyncs (has (tables.table_of t) Cnorm) s lost
-
-pub short_resyncs : (t : tables.CheckedTable) → IsVerified t → ShortResyncs (tables.table_of t)
-short_resyncs t v s lost = v.holds.short_resyncs (has (tables.table_of t) Cnorm) s lost
 
 pub line_right : (t : tables.CheckedTable) (row : Row) → IsVerified t → (o : Option (Bor (List ℕ))) → option_copied o ≡ (tables.table_of t).line_of row → IfSome o (λ b. LineHolds (tables.table_of t) row b.now)
 line_right t row v None e = tt

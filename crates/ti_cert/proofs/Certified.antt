@@ -7,7 +7,7 @@ use Rattle.ti_conforms.specs.Charsets.{reset_charset}
 use Rattle.ti_conforms.specs.Certified.{IsCheckedLine, IsChecked, HasSingles, text_of, lengths, singles}
 use Rattle.ti_conforms.specs.Looks.{SingleLooks}
 use Rattle.ti_conforms.specs.Sets.{AtReset}
-use Rattle.ti_conforms.specs.Table.{has, shortened}
+use Rattle.ti_conforms.specs.Table.{has}
 use Rattle.ti_conforms.specs.Resync.{resync_rows}
 use Rattle.ti_conforms.proofs.Sendable.{drives, resyncs, resync_fronts, pieces_of, each_piece, line_there, made}
 use Rattle.ti_cert.specs.Lengths.{longest_line, longest_change, longest_in, singly}
@@ -68,7 +68,7 @@ is_checked c v = record {
   plain_sets = λ h x settled. v.holds.sets.plain (second_false (has (table_of c) Smacs) (has (table_of c) Rmacs) h) x settled;
   starts = v.holds.sets.reached reset_charset (AtReset reset_charset refl);
   settled_reached = v.holds.sets.settled_reached;
-  resync_pieces = pieces_of (shortened (certified c)) (resync_rows c.known.strings.rows);
+  resync_pieces = pieces_of (certified c) (resync_rows c.known.strings.rows);
   resync_made = made (table_of c);
   resync_each = each_piece (certified c) (resync_rows c.known.strings.rows);
   resyncs = resyncs (table_of c) v.holds;

@@ -57,7 +57,7 @@ clear_within t bytes h =
 -- each line is within its limit
 pub short : (c : CheckedTable) → StandTogether (table_of c) → (row : Row) (bytes : List ℕ) → row_string c.known.strings row ≡ Some bytes → line_in (table_of c) row ≡ Some bytes → length bytes ≤ limit_of (certified c) row
 unfolding longest_in
-short c together Clear bytes h l = clear_within (strings.shortened (table_of c)) bytes h
+short c together Clear bytes h l = clear_within (table_of c) bytes h
 short c together (Cup row col) bytes h l = within c.known.strings (Cup row col) bytes h
 short c together El bytes h l = let w : length bytes ≤ longest_line c.known.strings El = within c.known.strings El bytes h in omega arith
 short c together El1 bytes h l = let w : length bytes ≤ longest_line c.known.strings El1 = within c.known.strings El1 bytes h in omega arith

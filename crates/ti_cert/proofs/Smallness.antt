@@ -91,10 +91,10 @@ cell_few c few =
     let scroll : max (longest_line s (Csr 0 1)) (max (longest_line s Ind) (longest_line s Ri)) < 2 ^ 26 = omega (arith, csr, ind, ri) in
     omega (arith, cup, setaf, setab, op, sets, erasure, scroll, civis, cnorm, cvvis, change)
 
-resync_few : (c : CheckedTable) → total c.known.strings < limit → length (strings.resync (strings.shortened (table_of c))) < 2 ^ 29
+resync_few : (c : CheckedTable) → total c.known.strings < limit → length (strings.resync (table_of c)) < 2 ^ 29
 unfolding strings.resync_of
 resync_few c few =
-    let t : strings.Table = strings.shortened (table_of c) in
+    let t : strings.Table = table_of c in
     let a = strings.text_of t Smcup in
     let b = strings.text_of t Enacs in
     let d = strings.text_of t Sgr0 in
@@ -111,7 +111,7 @@ resync_few c few =
       resync_part_few c Smcup few,
       resync_part_few c Enacs few,
       resync_part_few c Sgr0 few,
-      held_back (strings.line_covers ((table_of c).line_of Sgr0) ((table_of c).line_of Rmacs)) ((table_of c).line_of Rmacs) (2 ^ 26) (resync_part_few c Rmacs few),
+      resync_part_few c Rmacs few,
       resync_part_few c (strings.widening t) few,
       resync_part_few c Clear few,
     )

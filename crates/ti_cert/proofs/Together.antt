@@ -18,8 +18,7 @@ use Rattle.ti_rows.specs.declared.rows.Row.TheVariants.{Clear, Smcup, Enacs, Sgr
 use Rattle.ti_conforms.specs.Table.{Table, or_nothing, text_of, widening, resync, resync_front, resync_of, Activates}
 use Rattle.ti_conforms.specs.Sets.{CanHave, LeadsBy, CanSettle, AfterResync, AfterLine, Occurs, has_sets}
 use Rattle.ti_conforms.specs.Sets as sets
-use Rattle.ti_conforms.proofs.Covering.{designated_twice}
-use Rattle.ti_conforms.proofs.Holds.{Leads, leads_joined, leads_nothing, led}
+use Rattle.ti_conforms.proofs.Holds.{Leads, leads_joined, leads_nothing, led, designated_twice}
 use Rattle.ti_cert.specs.Clashes.{Misswitches, SwitchesRight, StaysGraphic, ResyncsPlain, IsClash, GoesTogether}
 use Rattle.ti_cert.specs.Seen.{LeadsAs, IsOfLine, IsLineSeen, AreSeen, ChangesBy, NoLine, ByLine, KeepsSets, IsFound, parts_of, Misleads, AreSettled, ClashesAs, NoneClashes}
 use Rattle.ti_cert.specs.Seen as seen

@@ -11,7 +11,7 @@ use Rattle.ti_rows.specs.declared.rows.Row.{Row}
 use Rattle.ti_rows.specs.Asked.{start_of}
 use Rattle.ti_conforms.specs.Certified.{sendable}
 use Rattle.ti_conforms.specs.Resync.{resync_rows, texts_of}
-use Rattle.ti_conforms.specs.Table.{Table, resync_of, resync_line}
+use Rattle.ti_conforms.specs.Table.{Table, resync_of}
 use Rattle.ti_cert.specs.Strings.{Strings, row_string}
 use Rattle.ti_cert.specs.Known.{Known}
 use Rattle.ti_cert.specs.Lengths.{longest_in}
@@ -31,7 +31,7 @@ checked_of k settled = record {
   looks = k.looks;
   reached = λ c. can_have k.reach c;
   settled = λ c. closing.has settled c;
-  resync = resync_of k.strings.rows (resync_line (λ row. row_string k.strings row));
+  resync = resync_of k.strings.rows (λ row. row_string k.strings row);
   longest = longest_in k.strings;
 }
 

@@ -8,7 +8,7 @@ use Rattle.ti_rows.specs.declared.rows.Row.TheVariants.{Smacs, Rmacs}
 use Rattle.ti_rows.specs.Names.{cap_of}
 use Rattle.ti_rows.specs.Params.{params}
 use Rattle.vt_term.specs.Ends.{Ends}
-use Rattle.ti_conforms.specs.Table.{Table, has, resync, shortened, IsLost}
+use Rattle.ti_conforms.specs.Table.{Table, has, resync, IsLost}
 use Rattle.ti_conforms.specs.Holds.{LineHolds, TableHolds, IsResynced}
 use Rattle.ti_conforms.specs.Together.{StandTogether}
 use Rattle.ti_conforms.specs.Looks.{LooksStand}
@@ -55,9 +55,5 @@ partner_in c letter = if can_switch c then listed c.acsc letter else None
 abbrev pub Resyncs : Table → Type 0
 Resyncs t = (s : State) → IsLost t s → Ends s (resync t) (IsResynced t s.screen.visible)
 
--- so does what is sent of it
-abbrev pub ShortResyncs : Table → Type 0
-ShortResyncs t = (s : State) → IsLost t s → Ends s (resync (shortened t)) (IsResynced t s.screen.visible)
-
 abbrev pub IsResync : CheckedTable → List ℕ → Type 0
-IsResync c text = text ≡ resync (shortened (table_of c))
+IsResync c text = text ≡ resync (table_of c)

@@ -8,8 +8,7 @@ ghost use Rattle.ti_cert.specs.Disagreements.{IsAgreeRefused};
 ghost use Rattle.ti_caps.specs.Entry.{string_at};
 ghost use Rattle.ti_conforms.specs.Holds.{LineHolds};
 ghost use Rattle.ti_conforms.specs.Resync.{texts_of};
-ghost use Rattle.ti_conforms.specs.Table.{resync, shortened, text_of};
-ghost use Rattle.ti_rows.specs.declared.rows.Row.TheVariants.{Rmacs};
+ghost use Rattle.ti_conforms.specs.Table.{text_of, resync};
 ghost use Rattle.ti_conforms.specs.Conforms.{Conforms};
 ghost use Rattle.ti_conforms.specs.Entries.{EntryAgrees, acsc};
 ghost use Rattle.ti_cert.specs.Table.{table_of};
@@ -22,7 +21,7 @@ use crate::table::Table;
 use std::alloc::{AllocError, Global};
 use std::marker::Model;
 use ti_caps::{Bytes, Cap, Entry, name};
-use ti_conforms::{covers, partner, resync_rows};
+use ti_conforms::{partner, resync_rows};
 use ti_lines::Reader;
 use ti_rows::Row;
 use vt_term::Size;
@@ -55,41 +54,19 @@ fn row_of(cap: Cap, params: &[u16]) -> Option<Row>
     Row::named(name(cap))?.with_params(params)
 }
 
-/// The bytes of `rmacs` in a resynchronization, `None` where there is no such line, or where `sgr0` has done all that it
-/// does.
-fn resync_rmacs(table: &Table) -> Option<&[u8]>
-    ensures { option_copied result ≡ (shortened (table_of table.now)).line_of Rmacs }
-{
-    let rmacs = table.bytes(Row::Rmacs)?;
-    match table.bytes(Row::Sgr0) {
-        Some(sgr0) if covers(sgr0, rmacs) => None,
-        _ => Some(rmacs),
-    }
-}
-
-/// The bytes of the row's line as a resynchronization sends it, `None` where it sends none.
-fn resync_line(table: &Table, row: Row) -> Option<&[u8]>
-    ensures { option_copied result ≡ (shortened (table_of table.now)).line_of row }
-{
-    match row {
-        Row::Rmacs => resync_rmacs(table),
-        _ => table.bytes(row),
-    }
-}
-
-/// Adds the bytes of the row's line as a resynchronization sends it.
+/// Adds the bytes of the row's line, where there is one.
 fn add(text: &mut Vec<u8>, table: &Table, row: Row) -> Result<(), AllocError>
-    ensures { OnOk result (text.new.items ≡ text.old.items ++ text_of (shortened (table_of table.now)) row) }
+    ensures { OnOk result (text.new.items ≡ text.old.items ++ text_of (table_of table.now) row) }
 {
-    match resync_line(table, row) {
+    match table.bytes(row) {
         Some(bytes) => text.extend_from_slice(bytes),
         None => Ok(()),
     }
 }
 
-/// Adds those of these rows.
+/// Adds the bytes of these rows' lines, those that there are.
 fn add_all(text: &mut Vec<u8>, table: &Table, rows: &[Row]) -> Result<(), AllocError>
-    ensures { OnOk result (text.new.items ≡ text.old.items ++ texts_of (shortened (table_of table.now)).line_of rows.now) }
+    ensures { OnOk result (text.new.items ≡ text.old.items ++ texts_of (table_of table.now).line_of rows.now) }
 {
     for row in rows {
         add(text, table, *row)?;
@@ -99,7 +76,7 @@ fn add_all(text: &mut Vec<u8>, table: &Table, rows: &[Row]) -> Result<(), AllocE
 
 /// What leads a terminal out of any state to a blank screen at rest.
 fn resync_of(alloc: Global, table: &Table) -> Result<Bytes, AllocError>
-    ensures { IfOk result (λ text. text ≡ resync (shortened (table_of table.now))) }
+    ensures { IfOk result (λ text. text ≡ resync (table_of table.now)) }
 {
     let mut text = Vec::new(alloc);
     add_all(&mut text, table, &resync_rows(table.size()))?;
@@ -174,11 +151,10 @@ impl Checked {
     }
 
     /// What leads from every state that output cut off anywhere may leave to a blank screen at rest,
-    /// whatever sequence is open: `smcup`, `enacs`, `sgr0`, `rmacs`, `csr` of the whole screen and `clear`,
-    /// those that have lines. `rmacs` is left out where `sgr0` has done all that it does.
+    /// whatever sequence is open.
     pub fn resync(&self) -> &[u8]
-        ensures text { result.now ≡ resync (shortened (table_of self.now)) }
-        ensures leads { spec.ShortResyncs (table_of self.now) }
+        ensures text { result.now ≡ resync (table_of self.now) }
+        ensures leads { spec.Resyncs (table_of self.now) }
     {
         self.resync.as_slice()
     }

@@ -1,5 +1,5 @@
 -- A resynchronization that is cut off anywhere.
-use Rattle.std.proofs.Common.{◌≡◌, ℕ, Bool, true, false, if◌then◌else◌, List, [], ◌∷◌, ◌++◌, Option, Some, None, refl, sym, ap, subst, ◌∙◌}
+use Rattle.std.proofs.Common.{◌≡◌, ℕ, Bool, true, false, List, [], ◌∷◌, ◌++◌, Option, Some, None, refl, sym, ap, subst, ◌∙◌}
 use Rattle.std.proofs.lemmas.Bool.{false≢true}
 use Rattle.vt_term.specs.Screen.{State, Charset, IsOfSize}
 use Rattle.vt_term.specs.Run.{Runs}
@@ -18,13 +18,12 @@ use Rattle.ti_conforms.specs.Lines.{MayBeCut}
 use Rattle.ti_conforms.specs.Resync.{IsLostAndClosed}
 use Rattle.ti_conforms.proofs.Drops.{escape_drops}
 use Rattle.ti_conforms.proofs.Fronts.{fronts_stay, wholes_stay}
-use Rattle.ti_conforms.specs.Table.{Table, has, or_nothing, text_of, widening, resync, resync_of, line_covers, shortened, IsLost}
-use Rattle.ti_conforms.specs.Judged.{IsJudged, changed}
+use Rattle.ti_conforms.specs.Table.{Table, has, or_nothing, text_of, widening, resync, resync_front, IsLost, resync_of}
+use Rattle.ti_conforms.specs.Judged.{IsJudged}
 use Rattle.ti_conforms.specs.Holds.{IsResynced, JudgedHolds}
 use Rattle.ti_conforms.proofs.Judgements.{over_steps, may_be_cut, line}
-use Rattle.ti_conforms.proofs.ResyncFacts.{MakesPlain, with_middle, makes_plain, plain_alone, resyncs}
-use Rattle.ti_conforms.proofs.Holds.{Leads, leads_by, leads_whole, leads_alone, sets_hold}
-use Rattle.ti_conforms.proofs.Covering.{Escapes, rmacs_idle, escapes_alone}
+use Rattle.ti_conforms.proofs.ResyncFacts.{resyncs}
+use Rattle.ti_conforms.proofs.Holds.{leads_resync, sets_hold}
 
 -- from a lost state with nothing open: cut off anywhere, and as a whole
 record Passes (t : Table) (bytes : List ℕ) : Type 0 where
@@ -69,11 +68,12 @@ passes_line t j row keeps (Some bytes) e =
 passes_part : (t : Table) → IsJudged t → (row : Row) → sets_visible row ≡ false → Passes t (text_of t row)
 passes_part t j row keeps = passes_line t j row keeps (t.line_of row) refl
 
-passes_by : (t : Table) → IsJudged t → (middle : List ℕ) → Passes t middle → Passes t (with_middle t middle)
-passes_by t j middle p = passes_then t ((text_of t Smcup ++ text_of t Enacs) ++ (text_of t Sgr0 ++ middle)) (text_of t (widening t) ++ text_of t Clear)
-    (passes_then t (text_of t Smcup ++ text_of t Enacs) (text_of t Sgr0 ++ middle)
+passes_resync : (t : Table) → IsJudged t → Passes t (resync t)
+unfolding resync_of
+passes_resync t j = passes_then t (resync_front t) (text_of t (widening t) ++ text_of t Clear)
+    (passes_then t (text_of t Smcup ++ text_of t Enacs) (text_of t Sgr0 ++ text_of t Rmacs)
     (passes_then t (text_of t Smcup) (text_of t Enacs) (passes_part t j Smcup refl) (passes_part t j Enacs refl))
-    (passes_then t (text_of t Sgr0) middle (passes_part t j Sgr0 refl) p))
+    (passes_then t (text_of t Sgr0) (text_of t Rmacs) (passes_part t j Sgr0 refl) (passes_part t j Rmacs refl)))
     (passes_then t (text_of t (widening t)) (text_of t Clear) (passes_part t j (widening t) refl) (passes_part t j Clear refl))
 
 resync_cut : (t : Table) → IsJudged t → (text more : List ℕ) → text ≡ 27 ∷ more → Passes t text → (s : State) → IsLost t s → (front back : List ℕ) → text ≡ front ++ back → Ends s front (IsLost t)
@@ -101,74 +101,23 @@ led_to s u text more tokens begins whole begun runs =
     let same : u ≡ end = runs_once s end u (27 ∷ more) dropped (subst (λ (b : List ℕ). Runs s b u) begins runs) in
     ap (λ (x : State). x.screen.charset) same ∙ over_steps tokens s.screen
 
--- what may stand in place of `rmacs`
-record Serves (t : Table) (j : IsJudged t) (middle : List ℕ) : Type 0 where
-  makes : MakesPlain t j.changes.sgr0 j.changes.rmacs middle
-  leads : Leads (text_of t Sgr0 ++ middle) (λ c. changed j.changes.rmacs (changed j.changes.sgr0 c))
-  passes : Passes t middle
-  escapes : Escapes (with_middle t middle)
-
-resynced : (t : Table) (j : IsJudged t) (middle : List ℕ) → Serves t j middle → (shows : Bool) (s : State) → lost.IsLost t.rows t.cols (has t (widening t)) shows t.reached s → Ends s (with_middle t middle) (IsResynced t s.screen.visible)
-resynced t j middle p shows s known =
-    let e = resyncs t j middle p.escapes.rest p.escapes.begins p.makes shows s known in
-    let l = leads_by t j middle p.leads in
+resynced : (t : Table) → IsJudged t → (shows : Bool) (s : State) → lost.IsLost t.rows t.cols (has t (widening t)) shows t.reached s → Ends s (resync t) (IsResynced t s.screen.visible)
+resynced t j shows s known =
+    let e = resyncs t j shows s known in
+    let l = leads_resync t j in
     record {
       after = e.after;
       runs = e.runs;
       there = record {
         cleared = e.there;
-        settled = ap (λ (c : Charset). t.settled c) (led_to s e.after (with_middle t middle) p.escapes.rest l.tokens p.escapes.begins l.whole known.sized.state.rest e.runs ∙ l.leads s.screen.charset) ∙ j.first_settled s.screen.charset known.reached;
+        settled = ap (λ (c : Charset). t.settled c) (led_to s e.after (resync t) j.rest l.tokens j.escapes l.whole known.sized.state.rest e.runs ∙ l.leads s.screen.charset) ∙ j.first_settled s.screen.charset known.reached;
       };
     }
 
-cut : (t : Table) (j : IsJudged t) (middle : List ℕ) → Serves t j middle → (s : State) → IsLost t s → (front back : List ℕ) → with_middle t middle ≡ front ++ back → Ends s front (IsLost t)
-cut t j middle p s known front back parts = resync_cut t j (with_middle t middle) p.escapes.rest p.escapes.begins (passes_by t j middle p.passes) s known front back parts
-
-itself_serves : (t : Table) (j : IsJudged t) → Serves t j (text_of t Rmacs)
-unfolding resync_of
-itself_serves t j = record {
-  makes = makes_plain t j j.sgr0;
-  leads = leads_whole t j;
-  passes = passes_part t j Rmacs refl;
-  escapes = record { rest = j.rest; begins = j.escapes };
-}
-
-nothing_serves : (t : Table) (j : IsJudged t) → line_covers (t.line_of Sgr0) (t.line_of Rmacs) ≡ true → Serves t j []
-unfolding resync_of
-nothing_serves t j covered =
-    let idle = rmacs_idle t j.changes.sgr0 j.changes.rmacs j.sgr0 j.rmacs covered in
-    record {
-      makes = plain_alone t j idle j.sgr0;
-      leads = leads_alone t j idle;
-      passes = passes_nothing t;
-      escapes = escapes_alone t (text_of t Smcup ++ text_of t Enacs) (text_of t (widening t) ++ text_of t Clear) j.rest covered j.escapes;
-    }
-
--- what is sent has this in place of `rmacs`
-abbrev short_middle : Table → List ℕ
-short_middle t = text_of (shortened t) Rmacs
-
-short_serves : (t : Table) (j : IsJudged t) (b : Bool) → line_covers (t.line_of Sgr0) (t.line_of Rmacs) ≡ b → Serves t j (or_nothing (if b then None else t.line_of Rmacs))
-short_serves t j true e = nothing_serves t j e
-short_serves t j false e = itself_serves t j
-
-whole_is : (t : Table) → resync t ≡ with_middle t (text_of t Rmacs)
-unfolding resync_of
-whole_is t = refl
-
-short_is : (t : Table) → resync (shortened t) ≡ with_middle t (short_middle t)
-unfolding resync_of
-short_is t = refl
-
 pub judged_holds : JudgedHolds
-judged_holds t j =
-    let whole = itself_serves t j in
-    let shorter = short_serves t j (line_covers (t.line_of Sgr0) (t.line_of Rmacs)) refl in
-    record {
-      lines = line t j;
-      resyncs = λ shows s known. subst (λ (l : List ℕ). Ends s l (IsResynced t s.screen.visible)) (sym (whole_is t)) (resynced t j (text_of t Rmacs) whole shows s known);
-      resync_fronts = λ s known front back parts. cut t j (text_of t Rmacs) whole s known front back (sym (whole_is t) ∙ parts);
-      short_resyncs = λ shows s known. subst (λ (l : List ℕ). Ends s l (IsResynced t s.screen.visible)) (sym (short_is t)) (resynced t j (short_middle t) shorter shows s known);
-      short_fronts = λ s known front back parts. cut t j (short_middle t) shorter s known front back (sym (short_is t) ∙ parts);
-      sets = sets_hold t j;
-    }
+judged_holds t j = record {
+  lines = line t j;
+  resyncs = resynced t j;
+  resync_fronts = λ s lost front back parts. resync_cut t j (resync t) j.rest j.escapes (passes_resync t j) s lost front back parts;
+  sets = sets_hold t j;
+}

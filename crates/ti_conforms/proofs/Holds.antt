@@ -1,5 +1,5 @@
 -- What a table says of charsets holds at least those that a terminal can have.
-use Rattle.std.proofs.Common.{◌≡◌, inl, inr, ℕ, true, List, [], ◌∷◌, ◌++◌, Option, Some, None, refl, sym, ap, subst, ◌∙◌}
+use Rattle.std.proofs.Common.{◌≡◌, inl, inr, ℕ, Bool, true, List, [], ◌∷◌, ◌++◌, Option, Some, None, refl, sym, ap, subst, ◌∙◌}
 use Rattle.std.specs.List.{AllByRecursion}
 use Rattle.vt_term.specs.Text.{Splits}
 use Rattle.vt_term.specs.Function.{function_of}
@@ -8,22 +8,35 @@ use Rattle.vt_term.specs.Step.{steps}
 use Rattle.vt_term.proofs.Splits.{one_splitting, splits_append, empty_splits}
 use Rattle.vt_effects.specs.declared.effects.Effect.{Effect}
 use Rattle.vt_effects.specs.declared.effects.Sets.{Sets}
-use Rattle.vt_effects.specs.Effect.{designated}
+use Rattle.vt_effects.specs.declared.effects.Switch.{Switch}
+use Rattle.vt_effects.specs.declared.effects.Switch.TheVariants as switches
+use Rattle.vt_effects.specs.Effect.{designated, switched}
 use Rattle.vt_effects.specs.Settings.{SetsAs}
 use Rattle.vt_effects.proofs.Sayings.{records_tell}
 use Rattle.ti_conforms.specs.Charsets.{charset_after, charset_over, IsAmong}
 use Rattle.ti_rows.specs.declared.rows.Row.{Row}
 use Rattle.ti_rows.specs.declared.rows.Row.TheVariants.{Clear, Smcup, Enacs, Sgr0, Rmacs}
 use Rattle.ti_rows.specs.Asked.{start_of}
-use Rattle.ti_conforms.specs.Table.{Table, or_nothing, text_of, widening, resync, resync_of}
+use Rattle.ti_conforms.specs.Table.{Table, or_nothing, text_of, widening, resync, resync_front, resync_of}
 use Rattle.ti_conforms.specs.Sets.{CanHave, AtReset, AfterToken, LeadsBy, CanSettle, AfterResync, AfterLine, SetsHold}
 use Rattle.ti_conforms.specs.Judged.{AskedLine, ChangesSets, NoLine, ByLine, changed, left_of, IsJudged}
 use Rattle.ti_conforms.proofs.Judgements.{over_steps}
-use Rattle.ti_conforms.proofs.ResyncFacts.{with_middle}
-use Rattle.ti_conforms.proofs.Switching.{over_append}
+
+over_append : (ts us : List (List ℕ)) (c : Charset) → charset_over (ts ++ us) c ≡ charset_over us (charset_over ts c)
+over_append [] us c = refl
+over_append (t ∷ ts) us c = over_append ts us (charset_after (function_of t) c)
+
+switched_twice : (x : Switch) (b : Bool) → switched x (switched x b) ≡ switched x b
+switched_twice switches.Kept b = refl
+switched_twice switches.On b = refl
+switched_twice switches.Off b = refl
+
+-- what is sent twice leaves what it leaves once
+pub designated_twice : (e : Sets) (c : Charset) → designated e (designated e c) ≡ designated e c
+designated_twice e c = cc (switched_twice e.g0_graphic c.g0_graphic, switched_twice e.g1_graphic c.g1_graphic, switched_twice e.shifted_out c.shifted_out)
 
 -- the tokens of a line do to the sets what its record says
-pub line_sets : (t : Table) (row : Row) (bytes : List ℕ) (l : AskedLine t row bytes) (c : Charset) → charset_over l.tokens c ≡ designated l.effect.charset c
+line_sets : (t : Table) (row : Row) (bytes : List ℕ) (l : AskedLine t row bytes) (c : Charset) → charset_over l.tokens c ≡ designated l.effect.charset c
 line_sets t row bytes l c =
     let s : Screen = record (reset_screen t.rows t.cols) { charset = c } in
     let sets : SetsAs l.effect s (steps l.tokens s) = (records_tell t.rows t.cols (start_of t.rows t.cols row) l.tokens l.effect l.recorded).settings s refl (record { autowrap = refl; inserting = refl }) in
@@ -61,7 +74,7 @@ leads_nothing = record { tokens = []; whole = empty_splits; leads = λ c. refl }
 leads_line : (t : Table) (row : Row) (bytes : List ℕ) (l : AskedLine t row bytes) → Leads bytes (λ c. designated l.effect.charset c)
 leads_line t row bytes l = record { tokens = l.tokens; whole = l.whole; leads = line_sets t row bytes l }
 
-pub leads_part : (t : Table) (row : Row) (change : Option Sets) → ChangesSets t row change → Leads (text_of t row) (λ c. changed change c)
+leads_part : (t : Table) (row : Row) (change : Option Sets) → ChangesSets t row change → Leads (text_of t row) (λ c. changed change c)
 leads_part t row change (NoLine none is) =
     subst (λ (o : Option Sets). Leads (text_of t row) (λ c. changed o c)) (sym is) (subst (λ (b : List ℕ). Leads b (λ c. c)) (sym (ap or_nothing none)) leads_nothing)
 leads_part t row change (ByLine bytes there l is) =
@@ -80,25 +93,13 @@ clear_keeps t j None e = leads_nothing
 clear_keeps t j (Some bytes) e = let l : AskedLine t Clear bytes = j.lines Clear bytes e in
     leads_kept bytes (λ c. designated l.effect.charset c) (leads_line t Clear bytes l) (λ c. ap (λ (x : Effect). designated x.charset c) l.asked_for)
 
--- with a text in place of `rmacs` that does the same to the sets after `sgr0`
-pub leads_by : (t : Table) (j : IsJudged t) (middle : List ℕ) → Leads (text_of t Sgr0 ++ middle) (λ c. changed j.changes.rmacs (changed j.changes.sgr0 c)) → Leads (with_middle t middle) (λ c. left_of j.changes c)
-leads_by t j middle p = leads_joined ((text_of t Smcup ++ text_of t Enacs) ++ (text_of t Sgr0 ++ middle)) (text_of t (widening t) ++ text_of t Clear) (λ c. left_of j.changes c) (λ c. c)
-    (leads_joined (text_of t Smcup ++ text_of t Enacs) (text_of t Sgr0 ++ middle) (λ c. changed j.changes.enacs (changed j.changes.smcup c)) (λ c. changed j.changes.rmacs (changed j.changes.sgr0 c))
-    (leads_joined (text_of t Smcup) (text_of t Enacs) (λ c. changed j.changes.smcup c) (λ c. changed j.changes.enacs c) (leads_part t Smcup j.changes.smcup j.smcup) (leads_part t Enacs j.changes.enacs j.enacs)) p)
-    (leads_joined (text_of t (widening t)) (text_of t Clear) (λ c. c) (λ c. c) (widen_keeps t j (t.line_of (widening t)) refl) (clear_keeps t j (t.line_of Clear) refl))
-
-pub leads_whole : (t : Table) (j : IsJudged t) → Leads (text_of t Sgr0 ++ text_of t Rmacs) (λ c. changed j.changes.rmacs (changed j.changes.sgr0 c))
-leads_whole t j = leads_joined (text_of t Sgr0) (text_of t Rmacs) (λ c. changed j.changes.sgr0 c) (λ c. changed j.changes.rmacs c) (leads_part t Sgr0 j.changes.sgr0 j.sgr0) (leads_part t Rmacs j.changes.rmacs j.rmacs)
-
--- `sgr0` alone, where `rmacs` changes nothing after it
-pub leads_alone : (t : Table) (j : IsJudged t) → ((c : Charset) → changed j.changes.rmacs (changed j.changes.sgr0 c) ≡ changed j.changes.sgr0 c) → Leads (text_of t Sgr0 ++ []) (λ c. changed j.changes.rmacs (changed j.changes.sgr0 c))
-leads_alone t j same =
-    let p = leads_joined (text_of t Sgr0) [] (λ c. changed j.changes.sgr0 c) (λ c. c) (leads_part t Sgr0 j.changes.sgr0 j.sgr0) leads_nothing in
-    record { tokens = p.tokens; whole = p.whole; leads = λ c. p.leads c ∙ sym (same c) }
-
 pub leads_resync : (t : Table) (j : IsJudged t) → Leads (resync t) (λ c. left_of j.changes c)
 unfolding resync_of
-leads_resync t j = leads_by t j (text_of t Rmacs) (leads_whole t j)
+leads_resync t j = leads_joined (resync_front t) (text_of t (widening t) ++ text_of t Clear) (λ c. left_of j.changes c) (λ c. c)
+    (leads_joined (text_of t Smcup ++ text_of t Enacs) (text_of t Sgr0 ++ text_of t Rmacs) (λ c. changed j.changes.enacs (changed j.changes.smcup c)) (λ c. changed j.changes.rmacs (changed j.changes.sgr0 c))
+    (leads_joined (text_of t Smcup) (text_of t Enacs) (λ c. changed j.changes.smcup c) (λ c. changed j.changes.enacs c) (leads_part t Smcup j.changes.smcup j.smcup) (leads_part t Enacs j.changes.enacs j.enacs))
+    (leads_joined (text_of t Sgr0) (text_of t Rmacs) (λ c. changed j.changes.sgr0 c) (λ c. changed j.changes.rmacs c) (leads_part t Sgr0 j.changes.sgr0 j.sgr0) (leads_part t Rmacs j.changes.rmacs j.rmacs)))
+    (leads_joined (text_of t (widening t)) (text_of t Clear) (λ c. c) (λ c. c) (widen_keeps t j (t.line_of (widening t)) refl) (clear_keeps t j (t.line_of Clear) refl))
 
 -- there is one splitting, so there is one such charset
 pub led : (bytes : List ℕ) (f : Charset → Charset) (c d : Charset) → Leads bytes f → LeadsBy bytes c d → d ≡ f c

@@ -9,9 +9,7 @@ pub mod Leads
 pub mod Fronts
 pub mod Judgements
 pub mod ResyncFacts
-pub mod Switching
 pub mod Holds
-pub mod Covering
 pub mod Cuts
 pub mod Values
 pub mod Walks

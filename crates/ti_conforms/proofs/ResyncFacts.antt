@@ -1,8 +1,8 @@
--- The lines of a resynchronization, one after another, with any text in place of that of `rmacs` that does the same.
-use Rattle.std.proofs.Common.{Bool, ◌≡◌, ℕ, List, [], ◌∷◌, ◌++◌, Option, Some, None, refl, sym, ap, subst, ◌∙◌}
+-- The lines of a resynchronization, one after another.
+use Rattle.std.proofs.Common.{Bool, ◌≡◌, ℕ, List, ◌++◌, Option, Some, None, refl, sym, ap, subst, ◌∙◌}
 use Rattle.std.specs.Prelude.{is_some}
 use Rattle.vt_term.specs.Look.{Rendition, plain}
-use Rattle.vt_term.specs.Screen.{State, Charset}
+use Rattle.vt_term.specs.Screen.{State}
 use Rattle.vt_effects.specs.declared.effects.Effect.{Effect}
 use Rattle.vt_effects.specs.declared.effects.Sets.{Sets}
 use Rattle.vt_effects.specs.Effect.{rendered, designated}
@@ -15,7 +15,7 @@ use Rattle.ti_conforms.specs.Lost as lost
 use Rattle.ti_conforms.specs.Lines.{HasLine, free_start, IsQuiet, SetsMargins, Clears, MayWiden, Absent, Present}
 use Rattle.ti_conforms.specs.Resync.{Settles}
 use Rattle.ti_conforms.proofs.Leads.{quiet_settles, nothing_settles, settles_then, resync_leads}
-use Rattle.ti_conforms.specs.Table.{Table, has, or_nothing, text_of, widening}
+use Rattle.ti_conforms.specs.Table.{Table, has, or_nothing, text_of, widening, resync, resync_front, resync_of}
 use Rattle.ti_conforms.specs.Judged.{AskedLine, ChangesSets, NoLine, ByLine, changed, left_of, IsJudged}
 
 -- a line of one of the four rows, or none, with what it does to the rendition
@@ -58,16 +58,11 @@ quiet_sgr0 t bytes l = record { margins = ap (λ (e : Effect). e.margins) l.aske
 quiet_rmacs : (t : Table) (bytes : List ℕ) (l : AskedLine t Rmacs bytes) → IsQuiet l.effect
 quiet_rmacs t bytes l = record { margins = ap (λ (e : Effect). e.margins) l.asked_for; visible = ap (λ (e : Effect). e.visible) l.asked_for }
 
--- with this text in place of `rmacs`
-abbrev pub with_middle : Table → List ℕ → List ℕ
-with_middle t middle =
-    ((text_of t Smcup ++ text_of t Enacs) ++ (text_of t Sgr0 ++ middle)) ++ (text_of t (widening t) ++ text_of t Clear)
-
--- after `sgr0` and that text the rendition is the default one, and the sets are as after `sgr0` and `rmacs`
-pub record MakesPlain (t : Table) (sgr0 rmacs : Option Sets) (middle : List ℕ) : Type 0 where
-  pub render : Rendition → Rendition
-  pub makes : (r : Rendition) → render r ≡ plain
-  pub settles : Settles t.rows t.cols (text_of t Sgr0 ++ middle) render (λ c. changed rmacs (changed sgr0 c))
+-- after `sgr0` and `rmacs` the rendition is the default one
+record MakesPlain (t : Table) (sgr0 rmacs : Option Sets) : Type 0 where
+  render : Rendition → Rendition
+  makes : (r : Rendition) → render r ≡ plain
+  settles : Settles t.rows t.cols (text_of t Sgr0 ++ text_of t Rmacs) render (λ c. changed rmacs (changed sgr0 c))
 
 sgr0_plain : (t : Table) (bytes : List ℕ) (l : AskedLine t Sgr0 bytes) (r : Rendition) → rendered l.effect.rendition r ≡ plain
 sgr0_plain t bytes l r = ap (λ (e : Effect). rendered e.rendition r) l.asked_for
@@ -75,7 +70,7 @@ sgr0_plain t bytes l r = ap (λ (e : Effect). rendered e.rendition r) l.asked_fo
 rmacs_keeps : (t : Table) (bytes : List ℕ) (l : AskedLine t Rmacs bytes) (r : Rendition) → rendered l.effect.rendition r ≡ r
 rmacs_keeps t bytes l r = ap (λ (e : Effect). rendered e.rendition r) l.asked_for
 
-with_rmacs : (t : Table) (bytes : List ℕ) (l : AskedLine t Sgr0 bytes) (sgr0 rmacs : Option Sets) → Settles t.rows t.cols (text_of t Sgr0) (λ r. rendered l.effect.rendition r) (changed sgr0) → ChangesSets t Rmacs rmacs → MakesPlain t sgr0 rmacs (text_of t Rmacs)
+with_rmacs : (t : Table) (bytes : List ℕ) (l : AskedLine t Sgr0 bytes) (sgr0 rmacs : Option Sets) → Settles t.rows t.cols (text_of t Sgr0) (λ r. rendered l.effect.rendition r) (changed sgr0) → ChangesSets t Rmacs rmacs → MakesPlain t sgr0 rmacs
 with_rmacs t bytes l sgr0 rmacs first (NoLine none is) = record {
   render = λ r. rendered l.effect.rendition r;
   makes = sgr0_plain t bytes l;
@@ -87,37 +82,9 @@ with_rmacs t bytes l sgr0 rmacs first (ByLine other there m is) = record {
   settles = settles_then t.rows t.cols (text_of t Sgr0) (text_of t Rmacs) (λ r. rendered l.effect.rendition r) (λ r. rendered m.effect.rendition r) (changed sgr0) (changed rmacs) first (by_line t Rmacs rmacs other m (quiet_rmacs t other m) there is);
 }
 
-pub makes_plain : (t : Table) (j : IsJudged t) → ChangesSets t Sgr0 j.changes.sgr0 → MakesPlain t j.changes.sgr0 j.changes.rmacs (text_of t Rmacs)
+makes_plain : (t : Table) (j : IsJudged t) → ChangesSets t Sgr0 j.changes.sgr0 → MakesPlain t j.changes.sgr0 j.changes.rmacs
 makes_plain t j (NoLine none is) = let no : None ≡ Some j.sgr0_bytes = sym none ∙ j.makes_plain in cc
 makes_plain t j (ByLine bytes there l is) = with_rmacs t bytes l j.changes.sgr0 j.changes.rmacs (by_line t Sgr0 j.changes.sgr0 bytes l (quiet_sgr0 t bytes l) there is) j.rmacs
-
-settles_as : (rows cols : ℕ) (bytes : List ℕ) (R : Rendition → Rendition) (B C : Charset → Charset) → ((c : Charset) → C c ≡ B c) → Settles rows cols bytes R B → Settles rows cols bytes R C
-settles_as rows cols bytes R B C same h s rest size tame =
-    let x = h s rest size tame in
-    record {
-      after = x.after;
-      runs = x.runs;
-      there = record {
-        rest = x.there.rest;
-        size = x.there.size;
-        tame = x.there.tame;
-        rendition = x.there.rendition;
-        charset = x.there.charset ∙ sym (same s.screen.charset);
-        visible = x.there.visible;
-        margins = x.there.margins;
-      };
-    }
-
--- `sgr0` alone, where `rmacs` changes nothing after it
-pub plain_alone : (t : Table) (j : IsJudged t) → ((c : Charset) → changed j.changes.rmacs (changed j.changes.sgr0 c) ≡ changed j.changes.sgr0 c) → ChangesSets t Sgr0 j.changes.sgr0 → MakesPlain t j.changes.sgr0 j.changes.rmacs []
-plain_alone t j same (NoLine none is) = let no : None ≡ Some j.sgr0_bytes = sym none ∙ j.makes_plain in cc
-plain_alone t j same (ByLine bytes there l is) = record {
-  render = λ r. rendered l.effect.rendition r;
-  makes = sgr0_plain t bytes l;
-  settles = settles_as t.rows t.cols (text_of t Sgr0 ++ []) (λ r. rendered l.effect.rendition r) (changed j.changes.sgr0) (λ c. changed j.changes.rmacs (changed j.changes.sgr0 c)) same
-      (settles_then t.rows t.cols (text_of t Sgr0) [] (λ r. rendered l.effect.rendition r) (λ r. r) (changed j.changes.sgr0) (λ c. c)
-      (by_line t Sgr0 j.changes.sgr0 bytes l (quiet_sgr0 t bytes l) there is) (nothing_settles t.rows t.cols));
-}
 
 sets_whole : (t : Table) (bytes : List ℕ) (l : AskedLine t (widening t) bytes) → SetsMargins t.rows l.effect
 sets_whole t bytes l = record {
@@ -144,18 +111,18 @@ clears_all t bytes l = record {
   visible = ap (λ (e : Effect). e.visible) l.asked_for;
 }
 
-pub resyncs : (t : Table) (j : IsJudged t) (middle rest : List ℕ) → with_middle t middle ≡ 27 ∷ rest → MakesPlain t j.changes.sgr0 j.changes.rmacs middle
-    → (shows : Bool) (s : State) → lost.IsLost t.rows t.cols (has t (widening t)) shows t.reached s → Ends s (with_middle t middle) (IsCleared t.rows t.cols s.screen.visible)
-resyncs t j middle rest escapes p shows s known =
+pub resyncs : (t : Table) (j : IsJudged t) (shows : Bool) (s : State) → lost.IsLost t.rows t.cols (has t (widening t)) shows t.reached s → Ends s (resync t) (IsCleared t.rows t.cols s.screen.visible)
+unfolding resync_of
+resyncs t j shows s known =
     let a = settles_by t Smcup j.changes.smcup (quiet_smcup t) j.smcup in
     let b = settles_by t Enacs j.changes.enacs (quiet_enacs t) j.enacs in
+    let p = makes_plain t j j.sgr0 in
     let first : Settles t.rows t.cols (text_of t Smcup ++ text_of t Enacs) (λ r. b.render (a.render r)) (λ c. changed j.changes.enacs (changed j.changes.smcup c)) =
     settles_then t.rows t.cols (text_of t Smcup) (text_of t Enacs) a.render b.render (changed j.changes.smcup) (changed j.changes.enacs) a.settles b.settles in
-    let before : List ℕ = (text_of t Smcup ++ text_of t Enacs) ++ (text_of t Sgr0 ++ middle) in
-    let front : Settles t.rows t.cols before (λ r. p.render (b.render (a.render r))) (λ c. left_of j.changes c) =
-    settles_then t.rows t.cols (text_of t Smcup ++ text_of t Enacs) (text_of t Sgr0 ++ middle) (λ r. b.render (a.render r)) p.render (λ c. changed j.changes.enacs (changed j.changes.smcup c)) (λ c. changed j.changes.rmacs (changed j.changes.sgr0 c)) first p.settles in
+    let front : Settles t.rows t.cols (resync_front t) (λ r. p.render (b.render (a.render r))) (λ c. left_of j.changes c) =
+    settles_then t.rows t.cols (text_of t Smcup ++ text_of t Enacs) (text_of t Sgr0 ++ text_of t Rmacs) (λ r. b.render (a.render r)) p.render (λ c. changed j.changes.enacs (changed j.changes.smcup c)) (λ c. changed j.changes.rmacs (changed j.changes.sgr0 c)) first p.settles in
     let l : AskedLine t Clear j.clear_bytes = j.lines Clear j.clear_bytes j.clears in
     let same : text_of t Clear ≡ j.clear_bytes = part_is t Clear (Some j.clear_bytes) j.clears in
     let clear : HasLine t.rows t.cols (free_start t.rows t.cols) (text_of t Clear) l.effect = subst (λ (x : List ℕ). HasLine t.rows t.cols (free_start t.rows t.cols) x l.effect) (sym same) (has_line t Clear j.clear_bytes l) in
-    resync_leads t.rows t.cols (has t (widening t)) shows before (text_of t (widening t)) (text_of t Clear) rest (λ r. p.render (b.render (a.render r))) (λ c. left_of j.changes c) t.reached l.effect
-    escapes front (λ r. p.makes (b.render (a.render r))) j.quiet (may_widen t j (t.line_of (widening t)) refl) clear (clears_all t j.clear_bytes l) s known
+    resync_leads t.rows t.cols (has t (widening t)) shows (resync_front t) (text_of t (widening t)) (text_of t Clear) j.rest (λ r. p.render (b.render (a.render r))) (λ c. left_of j.changes c) t.reached l.effect
+    j.escapes front (λ r. p.makes (b.render (a.render r))) j.quiet (may_widen t j (t.line_of (widening t)) refl) clear (clears_all t j.clear_bytes l) s known

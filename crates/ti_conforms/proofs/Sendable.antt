@@ -10,7 +10,7 @@ use Rattle.ti_rows.specs.declared.rows.Row.TheVariants.{Clear, Sgr0, Enacs, Rmac
 use Rattle.ti_rows.specs.Right.{sets_visible}
 use Rattle.ti_rows.specs.Starts.{Starts}
 use Rattle.ti_conforms.specs.Lost as lost
-use Rattle.ti_conforms.specs.Table.{Table, has, or_nothing, text_of, widening, resync, resync_of, is_rmacs, line_covers, shortened, IsLost, Ended}
+use Rattle.ti_conforms.specs.Table.{Table, has, or_nothing, text_of, widening, resync, resync_of, IsLost, Ended}
 use Rattle.ti_conforms.specs.Resync.{resync_rows, texts_of}
 use Rattle.ti_conforms.specs.Holds.{LineHolds, IsResynced, TableHolds}
 use Rattle.ti_conforms.specs.Certified.{IsBlank, IsPiece, Line, line_in, sendable}
@@ -86,13 +86,13 @@ blank t s l u h = record {
   set = h.cleared.rest.charset;
 }
 
-pub resyncs : (t : Table) → TableHolds t → (s : State) → IsLost (sendable t) s → Ends s (resync (shortened t)) (IsBlank (sendable t) s.screen.visible)
+pub resyncs : (t : Table) → TableHolds t → (s : State) → IsLost (sendable t) s → Ends s (resync t) (IsBlank (sendable t) s.screen.visible)
 resyncs t k s l =
-    let e : Ends s (resync (shortened t)) (IsResynced t s.screen.visible) = k.short_resyncs (has t Cnorm) s (as_lost t s l) in
+    let e : Ends s (resync t) (IsResynced t s.screen.visible) = k.resyncs (has t Cnorm) s (as_lost t s l) in
     record { after = e.after; runs = e.runs; there = blank t s l e.after e.there }
 
-pub resync_fronts : (t : Table) → TableHolds t → (s : State) → IsLost (sendable t) s → (front back : List ℕ) → resync (shortened t) ≡ front ++ back → Ends s front (IsLost (sendable t))
-resync_fronts t k s l front back e = ends_lost t s front (k.short_fronts s (as_lost t s l) front back e)
+pub resync_fronts : (t : Table) → TableHolds t → (s : State) → IsLost (sendable t) s → (front back : List ℕ) → resync t ≡ front ++ back → Ends s front (IsLost (sendable t))
+resync_fronts t k s l front back e = ends_lost t s front (k.resync_fronts s (as_lost t s l) front back e)
 
 -- one piece more, where there is such a line
 abbrev with_piece : Option (List ℕ) → List (List ℕ) → List (List ℕ)
@@ -104,17 +104,13 @@ abbrev pub pieces_of : Table → List Row → List (List ℕ)
 pieces_of t [] = []
 pieces_of t (row ∷ rows) = with_piece (t.line_of row) (pieces_of t rows)
 
--- a line of a resynchronization as it is sent is the table's
-short_there : (t : Table) (row : Row) (bytes : List ℕ) → (shortened t).line_of row ≡ Some bytes → t.line_of row ≡ Some bytes
-short_there t row bytes h = (let_through (is_rmacs row && line_covers (t.line_of Sgr0) (t.line_of Rmacs)) (t.line_of row) bytes h).1
-
-one_more : (t : Table) (row : Row) (pieces : List (List ℕ)) → AllByRecursion (IsPiece t) pieces → (o : Option (List ℕ)) → (shortened t).line_of row ≡ o → AllByRecursion (IsPiece t) (with_piece o pieces)
+one_more : (t : Table) (row : Row) (pieces : List (List ℕ)) → AllByRecursion (IsPiece t) pieces → (o : Option (List ℕ)) → t.line_of row ≡ o → AllByRecursion (IsPiece t) (with_piece o pieces)
 one_more t row pieces h None e = h
-one_more t row pieces h (Some x) e = (Line row (short_there t row x e), h)
+one_more t row pieces h (Some x) e = (Line row e, h)
 
-pub each_piece : (t : Table) (rows : List Row) → AllByRecursion (IsPiece t) (pieces_of (shortened t) rows)
+pub each_piece : (t : Table) (rows : List Row) → AllByRecursion (IsPiece t) (pieces_of t rows)
 each_piece t [] = tt
-each_piece t (row ∷ rows) = one_more t row (pieces_of (shortened t) rows) (each_piece t rows) ((shortened t).line_of row) refl
+each_piece t (row ∷ rows) = one_more t row (pieces_of t rows) (each_piece t rows) (t.line_of row) refl
 
 cut_off : (o : Option (List ℕ)) (pieces : List (List ℕ)) → concat (with_piece o pieces) ≡ or_nothing o ++ concat pieces
 cut_off None pieces = refl
@@ -133,8 +129,8 @@ unfolding resync_of
 in_order t = six (text_of t Smcup) (text_of t Enacs) (text_of t Sgr0) (text_of t Rmacs) (text_of t (widening t)) (text_of t Clear)
 
 -- and made of lines
-pub made : (t : Table) → resync (shortened t) ≡ concat (pieces_of (shortened (sendable t)) (resync_rows t.rows))
-made t = in_order (shortened t) ∙ sym (all_joined (shortened (sendable t)) (resync_rows t.rows))
+pub made : (t : Table) → resync t ≡ concat (pieces_of (sendable t) (resync_rows t.rows))
+made t = in_order t ∙ sym (all_joined (sendable t) (resync_rows t.rows))
 
 texts-append : (line_of : Row → Option (List ℕ)) (a b : List Row) → texts_of line_of (a ++ b) ≡ texts_of line_of a ++ texts_of line_of b
 texts-append line_of [] b = refl

@@ -8,7 +8,7 @@ use Rattle.ti_rows.specs.Starts.{Starts}
 use Rattle.ti_rows.specs.Right.{IsRight, sets_visible}
 use Rattle.ti_conforms.specs.Lost as lost
 use Rattle.ti_conforms.specs.Lost.{IsCleared}
-use Rattle.ti_conforms.specs.Table.{Table, has, widening, resync, shortened, IsLost, Ended}
+use Rattle.ti_conforms.specs.Table.{Table, has, widening, resync, IsLost, Ended}
 use Rattle.ti_conforms.specs.Sets.{SetsHold}
 use Rattle.ti_conforms.specs.Judged.{IsJudged}
 
@@ -34,11 +34,6 @@ pub record TableHolds (t : Table) : Type 0 where
   pub resyncs : (shows : Bool) (s : State) → lost.IsLost t.rows t.cols (has t (widening t)) shows t.reached s
       → Ends s (resync t) (IsResynced t s.screen.visible)
   pub resync_fronts : (s : State) → IsLost t s → (front back : List ℕ) → resync t ≡ front ++ back
-      → Ends s front (IsLost t)
-  -- the same of what is sent of it
-  pub short_resyncs : (shows : Bool) (s : State) → lost.IsLost t.rows t.cols (has t (widening t)) shows t.reached s
-      → Ends s (resync (shortened t)) (IsResynced t s.screen.visible)
-  pub short_fronts : (s : State) → IsLost t s → (front back : List ℕ) → resync (shortened t) ≡ front ++ back
       → Ends s front (IsLost t)
   pub sets : SetsHold t
 

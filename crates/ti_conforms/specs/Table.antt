@@ -1,6 +1,5 @@
 -- The strings of an entry for a size, as what drives a terminal sees them.
-use Rattle.std.specs.Prelude.{ℕ, ◌-◌, ◌≡◌, ◌==◌, ◌&&◌, not, if◌then◌else◌, Bool, true, false, List, [], ◌++◌, length, drop, Option, Some, None, is_some}
-use Rattle.std.specs.List.{list_all, starts_with}
+use Rattle.std.specs.Prelude.{ℕ, ◌-◌, ◌≡◌, Bool, true, false, List, [], ◌++◌, Option, Some, None, is_some}
 use Rattle.vt_term.specs.Screen.{State, Screen, Charset, is_graphic}
 use Rattle.ti_rows.specs.declared.rows.Looks.{Looks}
 use Rattle.ti_rows.specs.declared.rows.Row.{Row}
@@ -82,34 +81,6 @@ resync_front t = front_of t.line_of
 
 abbrev pub resync : Table → List ℕ
 resync t = resync_of t.rows t.line_of
-
--- neither SO nor SI, nor `(` or `)`, one of which every SCS has (ECMA-48 8.3.76 and 8.3.126, LS0 and LS1; VT100 user
--- guide, "Select character set")
-abbrev pub switches_nothing : ℕ → Bool
-switches_nothing b = not (b == 14) && (not (b == 15) && (not (b == 40) && not (b == 41)))
-
--- The first string does all that the second one does to the sets: it begins with it, and nothing after that switches
--- them.
-abbrev pub covers : List ℕ → List ℕ → Bool
-covers first second = starts_with (λ a b. a == b) first second
-    && list_all (λ b. switches_nothing b) (drop (length second) first)
-
--- both lines are there, and so it is of them
-abbrev pub line_covers : Option (List ℕ) → Option (List ℕ) → Bool
-line_covers (Some first) (Some second) = covers first second
-line_covers _ _ = false
-
-abbrev pub is_rmacs : Row → Bool
-is_rmacs Rmacs = true
-is_rmacs _ = false
-
--- The lines of a resynchronization as it is sent: `rmacs`, which comes after `sgr0`, is left out where `sgr0` has done
--- all that it does.
-abbrev pub resync_line : (Row → Option (List ℕ)) → Row → Option (List ℕ)
-resync_line line_of row = if is_rmacs row && line_covers (line_of Sgr0) (line_of Rmacs) then None else line_of row
-
-abbrev pub shortened : Table → Table
-shortened t = record t { line_of = resync_line t.line_of }
 
 -- A state after output was cut off: margins are free where `csr` can set them, and visibility where `cnorm` can.
 abbrev pub IsLost : Table → State → Type 0

@@ -23,5 +23,5 @@ pub use fitness::{Unfit, acsc, first_unfit};
 pub use looks::{NO_LOOKS, is_alone, is_some_look};
 pub use partners::{Character, fallback, misfit, partner, shown};
 pub use reach::Reach;
-pub use resync::{covers, resync_rows};
+pub use resync::resync_rows;
 pub use sends::{SendFault, send, send_into};

@@ -1,11 +1,12 @@
 -- Characters one after another in one line.
-use Rattle.std.proofs.Common.{◌≡◌, ℕ, ◌+◌, ◌-◌, ◌<◌, ◌≤◌, ◌&&◌, ◌||◌, ◌==◌, nat_le, min, Bool, true, false, List, [], ◌∷◌, ◌++◌, length, take, get_or, set, refl, sym, ap, subst, ◌∙◌, arith, if◌then◌else◌}
-use Rattle.std.specs.List.{AllByRecursion}
+use Rattle.std.proofs.Common.{◌≡◌, ℕ, zero, suc, ◌+◌, ◌-◌, ◌<◌, ◌≤◌, ◌&&◌, ◌||◌, ◌==◌, nat_le, min, cond, Bool, true, false, List, [], ◌∷◌, ◌++◌, length, take, drop, get_or, set, refl, sym, ap, subst, ◌∙◌, arith, if◌then◌else◌}
+use Rattle.std.specs.List.{AllByRecursion, prefix_len}
+use Rattle.std.proofs.Math.Seq.{drop-cons, drop-nil}
 use Rattle.std.proofs.lemmas.Bool.{or_parts}
 use Rattle.std.proofs.lemmas.Bool.Decides.{nat_tests}
-use Rattle.std.proofs.lemmas.List.{set-set, set-get_or, get_or-set_same, length-set, take_more, length-take}
+use Rattle.std.proofs.lemmas.List.{set-set, set-get_or, get_or-set_same, length-set, take_more, length-take, get_or-take}
 use Rattle.vt_screen.specs.declared.functions.Function.TheVariants.{Print}
-use Rattle.vt_screen.specs.Look.{Look, IsPrinted}
+use Rattle.vt_screen.specs.Look.{Look, IsPrinted, is_printed}
 use Rattle.vt_screen.specs.Grid.{Grid, line_at, put, written}
 use Rattle.vt_screen.specs.Screen.{Screen, IsScreen}
 use Rattle.vt_screen.specs.Step.{shown, placed, printed, opened, inserted, line_feed, all_printed}
@@ -60,6 +61,33 @@ is_character b e = (let lo : 32 ≤ b = grind (arith, nat_tests) in lo, let hi :
 
 pub all_step : (k : ℕ) (bytes : List ℕ) → k < length bytes → AllByRecursion IsPrinted (take k bytes) → IsPrinted (get_or bytes k 0) → AllByRecursion IsPrinted (take (k + 1) bytes)
 all_step k bytes lt h p = subst (λ (l : List ℕ). AllByRecursion IsPrinted l) (sym (take_more bytes k 0 lt)) (all_more (take k bytes) (get_or bytes k 0) h p)
+
+-- how many characters a text has in front, seen from a place up to which all are
+first_left : (p : ℕ → Bool) (xs : List ℕ) (k : ℕ) → k < length xs → prefix_len p (drop k xs) ≡ cond (p (get_or xs k 0)) (1 + prefix_len p (drop (k + 1) xs)) 0
+first_left p xs k lt = let next : suc k ≡ k + 1 = omega arith in ap (λ (l : List ℕ). prefix_len p l) (drop-cons xs k 0 lt) ∙ ap (λ (m : ℕ). cond (p (get_or xs k 0)) (1 + prefix_len p (drop m xs)) 0) next
+
+left_at : (n k : ℕ) (bytes : List ℕ) (b : Bool) → k < n → k < length bytes → is_printed (get_or bytes k 0) ≡ b
+    → prefix_len is_printed (drop k (take n bytes)) ≡ cond b (1 + prefix_len is_printed (drop (k + 1) (take n bytes))) 0
+left_at n k bytes b below within e =
+    let lt : k < length (take n bytes) = omega (arith, length-take n bytes) in
+    first_left is_printed (take n bytes) k lt
+    ∙ ap (λ (c : Bool). cond c (1 + prefix_len is_printed (drop (k + 1) (take n bytes))) 0) (ap is_printed (get_or-take n bytes k 0 below) ∙ e)
+
+pub one_further : (n k : ℕ) (bytes : List ℕ) → k < n → k < length bytes → is_printed (get_or bytes k 0) ≡ true
+    → prefix_len is_printed (take n bytes) ≡ k + prefix_len is_printed (drop k (take n bytes)) → prefix_len is_printed (take n bytes) ≡ (k + 1) + prefix_len is_printed (drop (k + 1) (take n bytes))
+one_further n k bytes below within e h = omega (arith, left_at n k bytes true below within e)
+
+pub stops_there : (n k : ℕ) (bytes : List ℕ) → k < n → k < length bytes → is_printed (get_or bytes k 0) ≡ false
+    → prefix_len is_printed (take n bytes) ≡ k + prefix_len is_printed (drop k (take n bytes)) → k ≡ prefix_len is_printed (take n bytes)
+stops_there n k bytes below within e h = omega (arith, left_at n k bytes false below within e)
+
+pub ends_there : (n k : ℕ) (bytes : List ℕ) → length (take n bytes) ≤ k → prefix_len is_printed (take n bytes) ≡ k + prefix_len is_printed (drop k (take n bytes)) → k ≡ prefix_len is_printed (take n bytes)
+ends_there n k bytes beyond h = omega (arith, ap (λ (l : List ℕ). prefix_len is_printed l) (drop_all (take n bytes) k beyond))
+  where
+    drop_all : (xs : List ℕ) (k : ℕ) → length xs ≤ k → drop k xs ≡ []
+    drop_all [] k h = drop-nil k
+    drop_all (x ∷ xs) zero h = absurd (omega arith)
+    drop_all (x ∷ xs) (suc k) h = drop_all xs k (omega arith)
 
 pub all_printed_kept : (bytes : List ℕ) (s : Screen) → AllByRecursion IsPrinted bytes → IsScreen s → Kept s (all_printed bytes s)
 all_printed_kept [] s p h = same_kept s h

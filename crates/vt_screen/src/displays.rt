@@ -1,10 +1,10 @@
 //! `Display`: the cells, the cursor and the modes, and what each function does to them.
 
 ghost use Rattle.std.specs.Prelude.{◌≡◌, ◌==◌, ◌+◌, ◌-◌, ◌^◌, ◌<◌, ◌≤◌, min, max, nat_le, ◌&&◌, if◌then◌else◌, length, take, IfOk};
-ghost use Rattle.std.specs.List.{AllByRecursion};
+ghost use Rattle.std.specs.List.{AllByRecursion, prefix_len};
 ghost use Rattle.vt_screen.specs.Grid.{look_at};
 ghost use Rattle.vt_screen.specs.Step as spec;
-ghost use Rattle.vt_screen.specs.Look.{IsPrinted};
+ghost use Rattle.vt_screen.specs.Look.{IsPrinted, is_printed};
 
 use crate::cells::Cell;
 use crate::functions::{CodeElement, EraseExtent, Function, ModeKind};
@@ -332,12 +332,13 @@ impl Display {
         self.place(byte);
     }
 
-    /// Prints the characters at the front of these bytes, as many as the cursor's line has room for, and none where
-    /// the first would wrap or insert. Returns how many.
+    /// Prints the characters that `bytes` begin with, as many as the cursor's line has room for, and none where the
+    /// first would wrap or insert. Returns how many.
     pub fn print_front(&mut self, bytes: &[u8]) -> usize
         ensures within { result ≤ length bytes.now }
         ensures printed { AllByRecursion IsPrinted (take result bytes.now) }
         ensures screen { self.new ≡ spec.all_printed (take result bytes.now) self.old }
+        ensures count { result ≡ spec.printed_front bytes.now self.old }
     {
         if self.pending | self.inserting {
             return 0;
@@ -645,6 +646,7 @@ fn characters_before(bytes: &[u8], limit: usize) -> usize
     ensures within { result ≤ length bytes.now }
     ensures few { result ≤ limit }
     ensures printed { AllByRecursion IsPrinted (take result bytes.now) }
+    ensures count { result ≡ prefix_len is_printed (take limit bytes.now) }
 {
     let end = bytes.len().min(limit);
     for k in 0..end {
@@ -657,7 +659,7 @@ fn characters_before(bytes: &[u8], limit: usize) -> usize
 
 /// Whether the byte is a character that has a picture.
 fn is_printed(byte: u8) -> bool
-    ensures { result ≡ (nat_le 32 byte && nat_le byte 126) }
+    ensures { result ≡ is_printed byte }
 {
     (32..=126).contains(&byte)
 }

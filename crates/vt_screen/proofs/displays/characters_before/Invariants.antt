@@ -1,8 +1,11 @@
--- The bytes that were gone through are characters.
-use Rattle.std.proofs.Common.{take}
-use Rattle.std.specs.List.{AllByRecursion}
-use Rattle.vt_screen.specs.Look.{IsPrinted}
+-- The bytes that were gone through are characters, and what is left has the others.
+use Rattle.std.proofs.Common.{◌≡◌, ◌+◌, take, drop}
+use Rattle.std.specs.List.{AllByRecursion, prefix_len}
+use Rattle.vt_screen.specs.Look.{IsPrinted, is_printed}
 use Rattle.vt_screen.proofs.displays.characters_before.Given as goal
 
 abbrev pub invariant-loop-k : goal.invariant-loop-k
-invariant-loop-k l = AllByRecursion IsPrinted (take l.k l.bytes)
+invariant-loop-k l = record {
+  printed : AllByRecursion IsPrinted (take l.k l.bytes);
+  count : prefix_len is_printed (take l.limit l.bytes) ≡ l.k + prefix_len is_printed (drop l.k (take l.limit l.bytes));
+}
