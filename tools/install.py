@@ -17,8 +17,8 @@ import tempfile
 
 from crates import TOP
 from sources import LIBRARY, is_newer
+from version import SONAME, VERSION
 
-VERSION, SONAME = "0.1.0", "libticurses.so.0"
 # what a program may link, and no other symbol of the archive
 EXPORTED = "{ global: ticurses_raw_*; local: *; };\n"
 PKGCONFIG = """prefix={prefix}

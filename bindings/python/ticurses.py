@@ -12,7 +12,7 @@
 Calls are lines in the language of scripts (man 5 ticurses-script). What a refresh sends waits in the session until it
 is taken (`output`) and written, or both at once (`send`). What isn't done raises an `Error`, whose `code` is a `Code`.
 
-The library is $TICURSES_LIBRARY, or libticurses.so.0 where the install script put it, or where the system finds it."""
+The library is $TICURSES_LIBRARY, or libticurses.so.1 where the install script put it, or where the system finds it."""
 
 import ctypes
 import enum
@@ -139,7 +139,7 @@ _CALLS = {
 
 def _library():
     """The library, with the types of its calls."""
-    own, name = os.environ.get("TICURSES_LIBRARY"), "libticurses.so.0"
+    own, name = os.environ.get("TICURSES_LIBRARY"), "libticurses.so.1"
     installed = os.path.normpath(os.path.join(os.path.dirname(os.path.abspath(__file__)), "..", "..", name))
     # it keeps the interpreter's lock, so that no two threads are in one session
     library = ctypes.PyDLL(own or (installed if os.path.exists(installed) else name))

@@ -69,7 +69,7 @@ fn top_command<'a>(alloc: Global) -> Result<Command<'a>, AllocError>
         Command::new(alloc, "ticurses")
             .no_binary_name(true)
             .bin_name("ticurses")?
-            .version("0.1.0")
+            .version(help::VERSION)
             .about(help::ABOUT)
             .after_help(help::MORE)
             .propagate_version(true)

@@ -1,4 +1,7 @@
-//! The help texts.
+//! The version, and the help texts.
+
+/// The version of the program, the libraries and the packages; the scripts of `tools/` read it here.
+pub const VERSION: &str = "1.0.0";
 
 /// What the program does.
 pub const ABOUT: &str =
