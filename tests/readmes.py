@@ -16,7 +16,7 @@ TOP = os.path.dirname(os.path.dirname(os.path.abspath(__file__)))
 sys.path.append(f"{TOP}/tools")
 
 from crates import listed
-from pages import block_at, each_clause, exported, files_of, read
+from specs import block_at, each_clause, exported, files_of, read
 
 CRATES = f"{TOP}/crates"
 HEADINGS = ["Contracts", "Words", "A caller", "Only tested", "Not done", "Trusted", "Rules"]

@@ -1,17 +1,18 @@
 #!/usr/bin/env python3
 """The pages of docs/ that are made from the sources.
 
-pages.py          writes docs/MAP.md, docs/CAPABILITIES.md and the list of docs/AUDIT.md
-pages.py --check  says which of them differ from the sources, and which pages name files of crates that aren't there; with
-                  status 1 if there is one
+pages.py          writes docs/MAP.md, docs/CAPABILITIES.md and the lists of docs/AUDIT.md
+pages.py --check  says which of them differ from the sources, and which pages name or link what isn't there; with status 1
+                  if there is one
 """
 import os
 import re
 import sys
 import textwrap
 
-TOP = os.path.dirname(os.path.dirname(os.path.abspath(__file__)))
-CRATES = os.path.join(TOP, "crates")
+import audit
+from crates import TOP
+from specs import CRATES, block_at, crates_listed, files_of, read
 
 # The parts of the project, each with its crates from the top down.
 PARTS = [
@@ -25,40 +26,6 @@ PARTS = [
     ("Benchmarks", ["bench_parm"]),
 ]
 
-# The crates whose exported clauses are the promises to users; a helper crate counts where these cite it.
-PUBLISHED = [
-    "ti_caps", "ti_source", "ti_resolve", "ti_compiled", "ti_parm", "ti_reach", "vt_term", "vt_effects", "ti_cert",
-    "ti_checker", "cur_windows", "cur_pads", "cur_update", "cur_play", "ti_commands", "ti_verdicts", "ti_reports", "cur_commands",
-    "ti_arguments",
-]
-
-WORD = r"[^\W\d]\w*"
-NAME = rf"(?:\S*◌\S*|{WORD})"
-
-
-def read(path):
-    with open(path, encoding="utf-8") as file:
-        return file.read()
-
-
-def crates_listed():
-    """The crates of crates.txt, each with those of them that it stands on."""
-    crates = {}
-    for line in read(os.path.join(TOP, "crates.txt")).splitlines():
-        line = line.split("#")[0].strip()
-        if line:
-            name, below = line.split(":")
-            crates[name.split()[0]] = below.split()
-    return {name: [crate for crate in below if crate in crates] for name, below in crates.items()}
-
-
-def files_of(crate, folder, ending):
-    place = os.path.join(CRATES, crate, folder)
-    if not os.path.isdir(place):
-        return []
-    return sorted(name[: -len(ending)] for name in os.listdir(place) if name.endswith(ending))
-
-
 def head(path, mark):
     """The first sentence of the comment at a file's head."""
     words = []
@@ -69,208 +36,6 @@ def head(path, mark):
     text = re.sub(r"^\(Serves the code alone\.\) ", "", " ".join(words).strip())
     found = re.match(r"(.*?[.:])(\s|$)", text)
     return (found.group(1) if found else text).rstrip(":.")
-
-
-# ---- what the names of a file mean
-
-USE = re.compile(
-    r"^\s*(?:ghost )?(?:pub )?use Rattle\.([a-z_]+)\.specs\.([A-Z]\w*)(?:\.\{([^}]*)\})?(?: as (\w+))?;?\s*$", re.M)
-
-
-def imports_of(text):
-    """The words and the modules of specifications that a text names: each by its own name there."""
-    words, modules = {}, {}
-    for crate, module, names, alias in USE.findall(text):
-        if names:
-            for name in names.split(","):
-                name = name.strip()
-                own, _, local = name.partition(" as ")
-                words[(local or own).strip()] = (crate, module, own.strip())
-        else:
-            modules[alias or module] = (crate, module)
-    return words, modules
-
-
-class Spec:
-    """A file of specs/: its definitions, each with the text that states it."""
-
-    START = re.compile(rf"(?:abbrev |unfoldable |opaque |pub |record |data |inductive )*({NAME})")
-
-    def __init__(self, crate, module):
-        self.crate, self.module = crate, module
-        text = read(os.path.join(CRATES, crate, "specs", module + ".antt"))
-        self.words, self.modules = imports_of(text)
-        self.blocks, self.owner, self.order = {}, {}, []
-        current = None
-        for line in text.splitlines():
-            if line.startswith(("--", "use ", "pub use ", "pub mod ", "mod ", "mutual")):
-                continue
-            if line and not line[0].isspace():
-                found = self.START.match(line)
-                if found:
-                    current = found.group(1)
-                    if current not in self.blocks:
-                        self.blocks[current] = []
-                        self.order.append(current)
-            elif current:
-                member = re.match(rf"\s+(?:pub )?({WORD}) :", line)
-                if member and member.group(1) not in self.owner:
-                    self.owner[member.group(1)] = current
-            if current:
-                self.blocks[current].append(line.split(" --")[0])
-
-    def name_of(self, word):
-        """The definition in which a word stands: itself, or the type whose constructor it is."""
-        if word in self.blocks:
-            return word
-        return self.owner.get(word)
-
-
-SPECS = {}
-
-
-def spec(crate, module):
-    key = (crate, module)
-    if key not in SPECS:
-        path = os.path.join(CRATES, crate, "specs", module + ".antt")
-        SPECS[key] = Spec(crate, module) if os.path.exists(path) else None
-    return SPECS[key]
-
-
-def cited(text, words, modules, own=None):
-    """The definitions that a text names."""
-    found = set()
-    for alias, word in re.findall(rf"({WORD})\.({WORD})", text):
-        if alias in modules:
-            crate, module = modules[alias]
-            there = spec(crate, module)
-            if there and there.name_of(word):
-                found.add((crate, module, there.name_of(word)))
-    signs = {word for word in words if "◌" in word and all(part in text for part in word.split("◌"))}
-    for word in set(re.findall(WORD, text)) | signs:
-        if word in words:
-            crate, module, name = words[word]
-            there = spec(crate, module)
-            if there and there.name_of(name):
-                found.add((crate, module, there.name_of(name)))
-        elif own and word in own.blocks:
-            found.add((own.crate, own.module, word))
-        elif own and word[0].isupper() and word in own.owner:
-            found.add((own.crate, own.module, own.owner[word]))
-    return found
-
-
-def closure(roots):
-    """The definitions, and all that they name."""
-    known, left = set(), list(roots)
-    while left:
-        one = left.pop()
-        if one in known:
-            continue
-        known.add(one)
-        there = spec(one[0], one[1])
-        text = "\n".join(there.blocks[one[2]])
-        left.extend(cited(text, there.words, there.modules, there))
-    return known
-
-
-# ---- exported clauses
-
-def each_clause(text, at):
-    """The clauses of the function whose parameters begin after `at`: each one's kind, name (or none) and text."""
-    found, i, depth = [], at, 0
-    while i < len(text):
-        char = text[i]
-        if char in "([":
-            depth += 1
-        elif char in ")]":
-            depth -= 1
-        elif char == ";" and depth == 0:
-            break
-        elif char == "{" and depth == 0:
-            head = re.search(rf"\b(requires|ensures)\*?(?:\s+({WORD}))?$", text[at:i].rstrip())
-            end, inner = i + 1, 1
-            while inner and end < len(text):
-                inner += {"{": 1, "}": -1}.get(text[end], 0)
-                end += 1
-            if not head:
-                break
-            found.append((head.group(1), head.group(2) or "", text[i:end]))
-            i = end
-            continue
-        i += 1
-    return found
-
-
-def clauses(text, at):
-    """The clauses of the function whose parameters begin after `at`, as one text."""
-    return "\n".join(text for _, _, text in each_clause(text, at))
-
-
-def block_at(text, at):
-    """The text in braces that begins at or after `at`."""
-    start = text.index("{", at)
-    end, inner = start + 1, 1
-    while inner and end < len(text):
-        inner += {"{": 1, "}": -1}.get(text[end], 0)
-        end += 1
-    return text[start:end]
-
-
-def exported(crate):
-    """The names that a crate's lib.rt exports from its modules, and those that it passes on from other crates."""
-    text = read(os.path.join(CRATES, crate, "src", "lib.rt"))
-    own, passed = set(), []
-    modules = set(re.findall(r"^(?:pub )?mod (\w+);", text, re.M))
-    for path, names, name in re.findall(r"pub use ([\w:]+?)::(?:\{([^}]*)\}|(\w+));", text):
-        listed = {n.strip() for n in names.split(",") if n.strip()} if names else {name}
-        top = path.split("::")[0]
-        if top in modules or top == "crate":
-            own |= listed
-        else:
-            passed.append((top, listed))
-    laws = [m for m in re.findall(r"^pub mod (\w+);", text, re.M)]
-    if crate in ("ti_reach",):
-        own |= set(re.findall(r"^pub (?:fn|enum|struct) (\w+)", text, re.M))
-    return own, passed, laws
-
-
-def roots_of(crate, names=None):
-    """The definitions that the exported clauses of a crate name."""
-    if not os.path.isdir(os.path.join(CRATES, crate, "src")):
-        return set()
-    own, passed, laws = exported(crate)
-    if names is not None:
-        own = {name for name in own if name in names}
-        laws = []
-    found = set()
-    for module in files_of(crate, "src", ".rt"):
-        text = read(os.path.join(CRATES, crate, "src", module + ".rt"))
-        words, modules = imports_of(text)
-        parts = []
-        for item in re.finditer(r"^pub fn (\w+)", text, re.M):
-            if item.group(1) in own or module in laws:
-                parts.append(clauses(text, item.end()))
-        for item in re.finditer(r"^pub trait (\w+)[^\n]*\{", text, re.M):
-            if item.group(1) in own:
-                parts.append(block_at(text, item.start()))
-        for item in re.finditer(r"^impl(?:<[^{\n]*?>)? (?:(\w+)(?:<[^{\n]*>)? for )?(\w+)[^{\n]*\{", text, re.M):
-            if item.group(2) not in own:
-                continue
-            body = block_at(text, item.start())
-            if item.group(1) == "Model":
-                parts.append(re.sub(r"ghost invariant = \{.*?\};", "", body, flags=re.S))
-            elif item.group(1) is None:
-                inner, more = imports_of(body)
-                words.update(inner)
-                modules.update(more)
-                for method in re.finditer(r"^    pub fn (\w+)", body, re.M):
-                    parts.append(clauses(body, method.end()))
-        found |= cited("\n".join(parts), words, modules)
-    if names is None:
-        for other, listed in passed:
-            found |= roots_of(other, listed)
-    return found
 
 
 # ---- the pages
@@ -296,6 +61,8 @@ def subject(crate):
     """The first sentence of a crate's README."""
     paragraphs = [part.strip() for part in read(os.path.join(CRATES, crate, "README.md")).split("\n\n")]
     text = " ".join(next(part for part in paragraphs if part and not part.startswith("#")).split())
+    # a link of the README leads from its folder, and one of docs/ from there
+    text = re.sub(r"\]\((?!\w+:)([^)#]+)", lambda it: f"]({os.path.relpath(os.path.join(CRATES, crate, it[1]), os.path.join(TOP, 'docs'))}", text)
     return re.match(r"(.*?[^.][.])(\s|$)", text + " ").group(1)
 
 
@@ -328,47 +95,27 @@ def map_page():
     return "\n".join(out).rstrip() + "\n"
 
 
-def audit_list():
-    """A list for each part: what exported clauses name, and all that this names."""
-    roots = set()
-    for crate in PUBLISHED:
-        roots |= roots_of(crate)
-    known = closure(roots)
-    out = []
-    for part, names in PARTS:
-        rows = []
-        for crate in reversed(names):
-            for module in files_of(crate, "specs", ".antt"):
-                words = [word for word in spec(crate, module).order if (crate, module, word) in known]
-                if words:
-                    link = f"[{crate}/specs/{module}](../crates/{crate}/specs/{module}.antt)"
-                    rows.append(wrapped(f"- {link}: " + ", ".join(f"`{word}`" for word in words) + "."))
-        if rows:
-            out += [f"### {part}\n"] + rows + [""]
-    rest = []
-    for crate in crates_listed():
-        for module in files_of(crate, "specs", ".antt"):
-            if spec(crate, module).order and not any(one[:2] == (crate, module) for one in known):
-                rest.append(f"{crate} `{module}`")
-    out.append("### Not needed\n")
-    out.append(wrapped("Files of `specs/` that no exported clause leads to; they serve private functions, the own calls of "
-                       "helper crates, or a program: " + ", ".join(rest) + "."))
-    return "\n".join(out) + "\n"
-
-
 def wrapped(text):
     """The text in lines of at most 120 columns where that is possible; an item's further lines are indented."""
     return "\n".join(textwrap.wrap(text, 120, subsequent_indent="  " if text.startswith("- ") else "",
                                    break_long_words=False, break_on_hyphens=False))
 
 
-FIRST, LAST = "<!-- from here on made by tools/pages.py -->\n", "<!-- to here -->\n"
+FIRST, LAST = "<!-- from here on made by tools/pages.py: {} -->\n", "<!-- to here -->\n"
+
+
+def between(text, name, made):
+    """The text with what stands between the marks of this name made anew."""
+    first = FIRST.format(name)
+    at = text.index(first) + len(first)
+    return text[:at] + "\n" + made.strip() + "\n\n" + text[text.index(LAST, at):]
 
 
 def audit_page():
-    """docs/AUDIT.md, with the list between its marks made anew."""
-    text = read(os.path.join(TOP, "docs", "AUDIT.md"))
-    return text[: text.index(FIRST) + len(FIRST)] + "\n" + audit_list() + "\n" + text[text.index(LAST):]
+    """docs/AUDIT.md, with its lists made anew."""
+    lists = audit.Lists(PARTS, wrapped)
+    text = between(read(os.path.join(TOP, "docs", "AUDIT.md")), "what to read", audit.reading(lists))
+    return between(text, "the other words", audit.others(lists))
 
 
 # What the page of capabilities says in its own words: the parameters, and what a refusal may mean.
@@ -531,6 +278,25 @@ def lacking(path):
             yield f"{crate}/{folder}/{name}"
 
 
+LINK = re.compile(r"\]\((?!\w+:)([^)#\s]*)(?:#([^)\s]*))?\)")
+
+
+def anchors(path):
+    """The names by which a page's headings are linked."""
+    heads = re.findall(r"^#+ (.*)$", read(path), re.M)
+    return {re.sub(r"[^\w\- ]", "", it.lower()).replace(" ", "-") for it in heads}
+
+
+def dead_links(path):
+    """The files and headings to which a page links and that aren't there."""
+    for there, heading in LINK.findall(read(path)):
+        target = os.path.normpath(os.path.join(os.path.dirname(path), there)) if there else path
+        if not os.path.exists(target):
+            yield there
+        elif heading and target.endswith(".md") and heading not in anchors(target):
+            yield f"{there}#{heading}"
+
+
 def written_pages():
     """The pages of the repository that name files of crates."""
     folders = [TOP, os.path.join(TOP, "docs"), *(os.path.join(CRATES, crate) for crate in crates_listed())]
@@ -554,7 +320,7 @@ def main():
             with open(path, "w", encoding="utf-8") as file:
                 file.write(text)
     for path in written_pages() if sys.argv[1:] == ["--check"] else []:
-        for name in lacking(path):
+        for name in [*lacking(path), *dead_links(path)]:
             print(f"pages: {os.path.relpath(path, TOP)} names {name}, which isn't there")
             stale = 1
     if sys.argv[1:] == ["--check"] and not stale:

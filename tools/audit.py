@@ -1,0 +1,175 @@
+"""The lists of docs/AUDIT.md: what to read for the main theorem, for the library for C and for each command, and after
+that every word on which a published clause depends."""
+
+import math
+
+from specs import cited, closure, clauses, crates_listed, each_item, files_of, imports_of, roots_of, spec
+
+# the crates whose exported clauses are the promises to users; a helper crate counts where these cite it
+PUBLISHED = [
+    "ti_caps", "ti_source", "ti_resolve", "ti_compiled", "ti_parm", "ti_reach", "vt_term", "vt_effects", "ti_cert",
+    "ti_checker", "cur_windows", "cur_pads", "cur_update", "cur_play", "ti_commands", "ti_verdicts", "ti_reports", "cur_commands",
+    "ti_arguments", "curses_c",
+]
+
+# the commands, with the functions that the program calls for each
+COMMANDS = [
+    ("the command line", [("ti_arguments", "parse_line")]),
+    ("expand", [("ti_commands", "expand_string")]),
+    ("feed", [("ti_commands", "feed_file")]),
+    ("infocmp", [("ti_commands", "print_entry"), ("ti_commands", "compare_entries")]),
+    ("tic", [("ti_commands", "compile_entry")]),
+    ("verify", [("ti_verdicts", "verify_certificate")]),
+    ("play", [("cur_commands", "play_script")]),
+    ("show", [("cur_commands", "show_script")]),
+    ("check", [("ti_verdicts", "check_entry"), ("ti_verdicts", "notes_on")]),
+    ("check --all", [("ti_verdicts", "check_all")]),
+    ("survey", [("ti_verdicts", "survey_paths"), ("ti_verdicts", "survey_files")]),
+    ("check --json, survey --json", [("ti_reports", "check_reports"), ("ti_reports", "survey_reports")]),
+]
+
+# what a reader takes in who looks at each line until it is clear
+LINES_A_MINUTE = 6
+
+
+def said_by(functions):
+    """The words that the clauses of these functions name."""
+    found = set()
+    for crate, name in functions:
+        if not any(item == name for item, _, _ in each_item(crate)):
+            raise SystemExit(f"audit: {crate} has no function {name}")
+        for item, text, at in each_item(crate):
+            if item == name:
+                found |= cited(clauses(text, at), *imports_of(text))
+    return found
+
+
+def lines_of(crate, module, words):
+    """How many lines of a file state these words."""
+    blocks = spec(crate, module).blocks
+    return sum(1 for word in words for line in blocks[word] if line.strip())
+
+
+def files_in(known, parts):
+    """The files of these words, from the bottom up: each with those of its words that are asked for, in its own order."""
+    order = [crate for _, names in parts for crate in reversed(names)]
+    found = {}
+    for crate in order:
+        for module in files_of(crate, "specs", ".antt"):
+            words = [word for word in spec(crate, module).order if (crate, module, word) in known]
+            if words:
+                found[crate, module] = words
+    placed = []
+
+    def place(key):
+        if key in placed:
+            return
+        placed.append(None)
+        there = spec(*key)
+        for crate, module, _ in sorted(cited("\n".join("\n".join(there.blocks[it]) for it in found[key]), there.words, there.modules)):
+            # of its own crate: the others stand where their crate does
+            if crate == key[0] and (crate, module) in found and (crate, module) not in placed and (crate, module) != key:
+                place((crate, module))
+        placed.append(key)
+
+    for key in found:
+        place(key)
+    return [(key, found[key]) for key in placed if key]
+
+
+def types_of(known):
+    """The types of the code that these words name: for each crate their names."""
+    found = {}
+    for crate, module, word in known:
+        there = spec(crate, module)
+        names = set(" ".join(there.blocks[word]).replace("(", " ").replace(")", " ").replace(";", " ").split())
+        for name in names & set(there.types):
+            owner, _, kind = there.types[name]
+            found.setdefault(owner, set()).add(kind)
+    return found
+
+
+def named(key, words):
+    """The words of a file as a list in a page."""
+    return ", ".join(f"`{it}`" for word in words for it in spec(*key).shown(word))
+
+
+class Lists:
+    """Tables of words, and the words that they had so far; `wrapped` breaks a text into lines."""
+
+    def __init__(self, parts, wrapped):
+        self.parts, self.wrapped, self.out = parts, wrapped, []
+        self.read = set()
+
+    def row(self, key, words):
+        crate, module = key
+        lines = lines_of(crate, module, words)
+        link = f"[{crate} `{module}`](../crates/{crate}/specs/{module}.antt)"
+        self.out.append(f"| {link} | {named(key, words)} | {lines} | {math.ceil(lines / LINES_A_MINUTE)} |")
+        return lines
+
+    def table(self, known, first=None):
+        """A table of the files that have these words, but for those that an earlier table had."""
+        left = known - self.read
+        files = files_in(left, self.parts)
+        if first:
+            files = [it for it in files if it[0] == first] + [it for it in files if it[0] != first]
+        self.out += ["| file | words | lines | minutes |", "|---|---|---|---|"]
+        lines = sum(self.row(*it) for it in files)
+        self.out += [f"| {len(files)} files | {len(left)} words | {lines} | {math.ceil(lines / LINES_A_MINUTE)} |", ""]
+        self.read |= known
+
+    def types(self, known):
+        """A sentence that names the types of the code."""
+        rows = [f"{crate} {', '.join(f'`{it}`' for it in sorted(names))}" for crate, names in sorted(types_of(known).items())]
+        self.out += [self.wrapped("Types of the code that these words name, each with its doc comments in the crate's `src/`: " + "; ".join(rows) + "."), ""]
+
+    def say(self, text):
+        self.out += [self.wrapped(text), ""]
+
+
+def reading(lists):
+    """The order to read: for the main theorem, then `verify`, the library for C, and each command."""
+    lists.out += ["### The main theorem", ""]
+    lists.say("The statement, `Ran`, then all that its words mean, from the terminal up to a call's step.")
+    theorem = closure({("cur_play", "Log", "Ran")})
+    lists.table(theorem, ("cur_play", "Log"))
+    lists.types(theorem)
+    lists.out += ["### What `verify` adds", ""]
+    lists.say("`run` takes a certificate that `verify` has accepted (the trait `Certificate` of ti_conforms, whose `rows` promises "
+              "`IsChecked`). What an accepted certificate means is `Conforms`; what its text is, `IsTableOf`.")
+    lists.table(closure(said_by([("ti_cert", "verify"), ("ti_cert", "verify_from")]) | roots_of("ti_conforms", {"Certificate"})))
+    lists.out += ["### The library for C", ""]
+    lists.say("The words of the exported functions and of the four laws, but for those above.")
+    lists.table(closure(roots_of("curses_c")))
+    lists.out += ["### The commands", ""]
+    lists.say("For each command the words of the functions that answer it, but for those above it.")
+    for command, functions in COMMANDS:
+        lists.out += [f"#### {command}", ""]
+        lists.table(closure(said_by(functions)))
+    return "\n".join(lists.out)
+
+
+def others(lists):
+    """A list for each part: what exported clauses name, and all that this names, but for what is in a table above; and
+    the files to which no clause leads."""
+    known = closure(set().union(*map(roots_of, PUBLISHED)))
+    out = []
+    for part, names in lists.parts:
+        rows = []
+        for (crate, module), words in files_in(known - lists.read, [(part, names)]):
+            link = f"[{crate} `{module}`](../crates/{crate}/specs/{module}.antt)"
+            rows.append(lists.wrapped(f"- {link}: {named((crate, module), words)}."))
+        if rows:
+            out += [f"### {part}\n"] + rows + [""]
+    known |= lists.read
+    rest = []
+    for crate in crates_listed():
+        for module in files_of(crate, "specs", ".antt"):
+            if spec(crate, module).order and not any(one[:2] == (crate, module) for one in known):
+                rest.append(f"{crate} `{module}`")
+    out.append("### Not needed\n")
+    out.append(lists.wrapped("Files of `specs/` that no exported clause leads to; they serve private functions, the own calls of "
+                       "helper crates, or a program: " + ", ".join(rest) + "."))
+    return "\n".join(out) + "\n"
+
