@@ -1,9 +1,9 @@
 #!/usr/bin/env python3
 """The pages of docs/ that are made from the sources.
 
-pages.py          writes docs/MAP.md, docs/CAPABILITIES.md and the lists of docs/AUDIT.md
-pages.py --check  says which of them differ from the sources, and which pages name or link what isn't there; with status 1
-                  if there is one
+pages.py          writes docs/MAP.md, docs/CAPABILITIES.md, the lists of docs/AUDIT.md and the statement in docs/THEOREM.md
+pages.py --check  says which of them differ from the sources, which pages name or link what isn't there, and which words or
+                  sentences docs/THEOREM.md leaves out; with status 1 if there is one
 """
 import os
 import re
@@ -11,6 +11,7 @@ import sys
 import textwrap
 
 import audit
+import theorem
 from crates import TOP
 from specs import CRATES, block_at, crates_listed, files_of, read
 
@@ -116,6 +117,11 @@ def audit_page():
     lists = audit.Lists(PARTS, wrapped)
     text = between(read(os.path.join(TOP, "docs", "AUDIT.md")), "what to read", audit.reading(lists))
     return between(text, "the other words", audit.others(lists))
+
+
+def theorem_page():
+    """docs/THEOREM.md, with the statement made anew."""
+    return between(read(os.path.join(TOP, "docs", "THEOREM.md")), "the statement", theorem.statement())
 
 
 # What the page of capabilities says in its own words: the parameters, and what a refusal may mean.
@@ -304,7 +310,7 @@ def written_pages():
     return [path for path in paths if os.path.basename(path) != "NEWS.md"]
 
 
-PAGES = {"MAP.md": map_page, "AUDIT.md": audit_page, "CAPABILITIES.md": capabilities_page}
+PAGES = {"MAP.md": map_page, "AUDIT.md": audit_page, "THEOREM.md": theorem_page, "CAPABILITIES.md": capabilities_page}
 
 
 def main():
@@ -323,6 +329,9 @@ def main():
         for name in [*lacking(path), *dead_links(path)]:
             print(f"pages: {os.path.relpath(path, TOP)} names {name}, which isn't there")
             stale = 1
+    for fault in theorem.faults(read(os.path.join(TOP, "docs", "THEOREM.md"))) if sys.argv[1:] == ["--check"] else []:
+        print(f"pages: {fault}")
+        stale = 1
     if sys.argv[1:] == ["--check"] and not stale:
         print(f"pages: {len(PAGES)} pages of docs/ are what the sources say")
     return stale
