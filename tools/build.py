@@ -1,31 +1,50 @@
 #!/usr/bin/env python3
 """Proves and builds the program and the crates that it stands on, as many side by side as there are processors.
-With the word `curses_c` it does so for the library for C.
+With the word `library` it does so for the library for C.
 
 Each crate is built in a room of its own: a folder with links to its files and to the built libraries below it. The
 toolchain lets no two runs work in one folder, and most crates stand on the same few. What was proved goes back to the
-crate's out/ whenever a run ends, so that an interrupted build goes on where it was.
+crate's out/ whenever a run ends, so that an interrupted build goes on where it was. What an earlier build of the same
+sources made, in any checkout of this user, is taken from where it is kept.
 
-Standard error gets what is built, how far it is and how long it took. The status is 0, or 125 if the toolchain refused
-a crate."""
+Standard error gets what is built, how far it is and how long it took. The status is 0, 125 if the toolchain refused a
+crate or the checkout can't be written, 127 without the toolchain, and 128 and the number of a signal that ended it."""
 
+import contextlib
 import fcntl
 import os
 import re
 import shutil
-import signal
 import subprocess
 import sys
 import time
 
+import kept
 from crates import TOP, below, heads, listed
-from sources import ARCHIVE, LIBRARY, PROGRAM, PROVED, is_newer, size_of
+from ending import Ended, heed, held, say, started, stop, why
+from linking import Failed, link
+from sources import LIBRARY, PROVED, size_of
 
 # a check of one crate takes about so many bytes of memory
 NEEDS = 3_000_000_000
 SHOWN = 20
-# rt ci reads every folder of the repository but this one
-ROOMS = f"{TOP}/.git/rooms" if os.path.isdir(f"{TOP}/.git") else f"{TOP}/../.ticurses-rooms"
+
+
+def rooms():
+    """The folder of all rooms, of this user alone. It is in the one that git names for this checkout, since `rt ci`
+    reads every other; where there is none on this disk, it is in the checkout."""
+    at = f"{TOP}/.rooms"
+    if os.path.lexists(f"{TOP}/.git"):
+        words = ["git", "-C", TOP, "rev-parse", "--absolute-git-dir"]
+        named = subprocess.run(words, stdin=subprocess.DEVNULL, capture_output=True, check=False) if shutil.which("git") else None
+        folder = os.fsdecode(named.stdout)[:-1] if named and not named.returncode else f"{TOP}/.git"
+        if os.path.isdir(folder) and os.stat(folder).st_dev == os.stat(TOP).st_dev:
+            at = f"{folder}/rooms"
+    if not os.path.lexists(at):
+        os.mkdir(at, 0o700)
+    if not kept.is_own(at):
+        raise OSError(f"{at} is no folder of this user alone; remove it")
+    return at
 
 
 def processors():
@@ -39,8 +58,8 @@ def processors():
 class Room:
     """A folder in which one crate is built: a repository of this crate and of those below it."""
 
-    def __init__(self, name, names, uses):
-        self.name, self.top = name, f"{ROOMS}/{name}"
+    def __init__(self, where, name, names, uses):
+        self.name, self.top = name, f"{where}/{name}"
         self.names, self.uses = names, uses
 
     def enter(self):
@@ -78,7 +97,8 @@ class Build:
     def __init__(self, top):
         self.uses = listed()
         self.names = below([top], self.uses)
-        self.rooms = {name: Room(name, below([name], self.uses), self.uses) for name in self.names}
+        where = rooms()
+        self.rooms = {name: Room(where, name, below([name], self.uses), self.uses) for name in self.names}
         above = {name: [other for other in self.names if name in self.uses[other]] for name in self.names}
         self.sizes = {name: size_of(name) for name in self.names}
         self.length = {}
@@ -102,12 +122,13 @@ class Build:
         room.enter()
         folder = f"{room.top}/crates/{name}"
         words = ["rt", "lib", "--jobs", str(jobs)]
-        if name == PROGRAM:
+        if name == PROVED.crate:
             # the program stays where it was built; --version is the shortest run
             words = ["rt", "run", "--jobs", str(jobs), "--", "--version"]
         with open(f"{folder}/out/build.log", "wb") as log:
             how = {"cwd": folder, "stdin": subprocess.DEVNULL, "stdout": log, "stderr": log}
-            self.going[name] = subprocess.Popen(words, start_new_session=True, **how)
+            with held():
+                self.going[name] = started(words, **how)
 
     def start_ready(self):
         """Begins what is ready while there are processors; those that nothing waits for go to the crates that run."""
@@ -133,7 +154,7 @@ class Build:
     def report(self, what):
         """A line of its own where standard error is no terminal."""
         if not self.is_terminal:
-            print(f"ticurses: {self.progress()}: {what}", file=sys.stderr, flush=True)
+            say(f"ticurses: {self.progress()}: {what}")
 
     def progress(self):
         minutes = (time.monotonic() - self.began) / 60
@@ -151,17 +172,15 @@ class Build:
     def show(self, ending=""):
         """Writes the line anew where standard error is a terminal."""
         if self.is_terminal:
-            width = os.get_terminal_size(2).columns or 80
+            width = shutil.get_terminal_size().columns
             text = f"ticurses: {self.progress()}: {', '.join(self.going)}"[: width - 1]
-            print(f"\r\033[K{text}", end=ending, file=sys.stderr, flush=True)
+            say(f"\r\033[K{text}", ending)
 
     def stop(self):
         """Ends the runs that are going. What they have proved so far is kept."""
-        for run in self.going.values():
-            os.killpg(run.pid, signal.SIGTERM)
-        for name, run in self.going.items():
-            run.wait()
-            self.rooms[name].leave()
+        stop(self.going.values())
+        for room in self.rooms.values():
+            room.leave()
 
     def run(self):
         """Builds all; returns the status."""
@@ -182,33 +201,82 @@ class Build:
         with open(log, encoding="utf-8", errors="replace") as file:
             lines = file.read().splitlines()
         told = [line for line in lines if not re.match("statements |library |logic /|fn .*: proved$", line)]
-        print("\n".join(told[-SHOWN:]), file=sys.stderr)
-        print(f"ticurses: the toolchain refused {name}; all that it said is in {log}", file=sys.stderr)
+        say("\n".join(told[-SHOWN:]))
+        say(f"ticurses: the toolchain refused {name}; all that it said is in {log}")
         return 125
 
 
-def main():
-    top, made, what = (ARCHIVE, LIBRARY, "library") if sys.argv[1:] == [ARCHIVE] else (PROGRAM, PROVED, "program")
-    if is_newer(made):
-        return 0
-    print(f"ticurses: proving and building the {what}, which takes a while from nothing", file=sys.stderr, flush=True)
-    signal.signal(signal.SIGTERM, signal.default_int_handler)
-    with open(f"{TOP}/crates.txt", encoding="utf-8") as lock:
-        # a second build waits, and then finds everything built
-        fcntl.flock(lock, fcntl.LOCK_EX)
-        begun = time.time()
-        build = Build(top)
-        try:
-            status = build.run()
-            if not status:
-                # an edit that leaves what is made as it was leaves its age too, and one during the build is newer
-                os.utime(made, (begun, begun))
+def built(made):
+    """Builds it from the sources as they are; returns the status."""
+    if not shutil.which("rt"):
+        say(f"ticurses: the Rattle toolchain, which proves and builds the {made.name}, is missing")
+        say("ticurses: its command rt is expected on the PATH")
+        return 127
+    say(f"ticurses: proving and building the {made.name}, which takes a while from nothing")
+    sources = made.sources()
+    made.forget()
+    build = Build(made.crate)
+    try:
+        status = build.run()
+        if status:
             return status
-        except KeyboardInterrupt:
-            build.stop()
-            build.show("\n")
-            print("ticurses: stopped; ./build goes on from here", file=sys.stderr)
-            return 130
+        if made is LIBRARY:
+            link(made)
+        if made.sources() != sources:
+            say("ticurses: a source changed during the build, which is to be run again")
+            return 125
+        made.note(sources)
+        return 0
+    except Ended:
+        build.stop()
+        build.show("\n")
+        raise
+
+
+@contextlib.contextmanager
+def alone():
+    """No other build of this checkout runs meanwhile."""
+    with open(f"{TOP}/crates.txt", encoding="utf-8") as lock:
+        fcntl.flock(lock, fcntl.LOCK_EX)
+        yield
+
+
+def is_there(made):
+    """Whether it is current, as it is or as it was kept, so that nothing has to be built."""
+    if made.is_current():
+        return True
+    with alone():
+        return made.is_current() or kept.fetch(made)
+
+
+def bring(made):
+    """Has it current: as it is, as it was kept, or built now. Returns the status."""
+    if made.is_current():
+        return 0
+    with alone():
+        # another build may have ended meanwhile
+        if made.is_current() or kept.fetch(made):
+            return 0
+        status = built(made)
+        if not status:
+            kept.keep(made)
+        return status
+
+
+def main():
+    made = LIBRARY if sys.argv[1:] == ["library"] else PROVED
+    heed()
+    try:
+        return bring(made)
+    except Ended as ended:
+        say("ticurses: stopped; ./build goes on from here")
+        return ended.status
+    except Failed as failed:
+        say(f"ticurses: {failed}")
+        return failed.status
+    except OSError as error:
+        say(f"ticurses: {why(error)}")
+        return 125
 
 
 if __name__ == "__main__":

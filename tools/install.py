@@ -1,26 +1,32 @@
 #!/usr/bin/env python3
-"""Builds the library for C and Python, and installs it.
+"""Builds the library for C and Python, and installs it; with the word `uninstall` it removes what an install with the
+same words has placed.
 
-    ./install [PREFIX=/usr/local] [DESTDIR=] [LIBDIR=PREFIX/lib] [PYTHONDIR=PREFIX/lib/pythonX.Y/site-packages]
+    ./install [uninstall] [PREFIX=/usr/local] [DESTDIR=] [LIBDIR=PREFIX/lib] [PYTHONDIR=..]
 
 Without PREFIX it is /usr/local. Files go below DESTDIR, but are made for PREFIX: the headers, libticurses.a,
-libticurses.so, ticurses.pc for pkg-config, the manual pages, and the Python module. CC and AR are the C compiler and the
-archiver, cc and ar if they aren't set. The status is 0, 1 if a file could not be written, 2 for other words than these,
-125 if a crate, the compiler or the archiver failed, 127 without one of them."""
+libticurses.so, ticurses.pc for pkg-config, the manual pages, and the Python package, in the folder below PREFIX in which
+python3 looks for packages. The program and its page come along where it is built. CC and AR are the C compiler and the
+archiver, cc and ar if they aren't set. The status is 0, 1 if a file could not be written, 2 for other words than these
+and for folders that a .pc file can't have, 125 if a crate, the compiler or the archiver failed, 127 without one of them,
+and 128 and the number of a signal that ended it."""
 
+import contextlib
 import os
+import re
 import shutil
-import subprocess
+import site
 import sys
 import sysconfig
 import tempfile
 
+import build
 from crates import TOP
-from sources import LIBRARY, is_newer
+from ending import Ended, heed, say, why
+from linking import Failed
+from sources import LIBRARY, PROVED
 from version import SONAME, VERSION
 
-# what a program may link, and no other symbol of the archive
-EXPORTED = "{ global: ticurses_raw_*; local: *; };\n"
 PKGCONFIG = """prefix={prefix}
 includedir=${{prefix}}/include
 libdir={libdir}
@@ -33,111 +39,166 @@ Libs: -L${{libdir}}{found} -lticurses
 """
 # where programs find shared libraries by themselves; elsewhere a program is told where
 KNOWN = ("/lib", "/usr/lib")
+WORDS = ("PREFIX", "DESTDIR", "LIBDIR", "PYTHONDIR")
+BINDING = f"{TOP}/bindings/python/ticurses"
+# where the Python package looks for the library
+INSTALLED = '''"""Where the library is installed, as ./install wrote it."""
+
+LIBRARY = {path!r}
+'''
 
 
-class Failed(Exception):
-    """A step that failed: the status of the whole, and what is said."""
+class Where:
+    """The folders, by the words and the environment."""
 
-    def __init__(self, status, text):
-        super().__init__(text)
-        self.status = status
+    def __init__(self, words, environment):
+        given = dict(it.split("=", 1) for it in words if "=" in it)
+        if len(given) < len(words) or not set(given) <= set(WORDS):
+            raise Failed(2, f"usage: ./install [uninstall] {' '.join(f'[{it}=FOLDER]' for it in WORDS)}")
+        found = {it: given.get(it, environment.get(it, "")) for it in WORDS}
+        self.destination, self.prefix = found["DESTDIR"], os.path.abspath(found["PREFIX"] or "/usr/local")
+        self.libdir = os.path.abspath(found["LIBDIR"] or f"{self.prefix}/lib")
+        self.python = os.path.abspath(found["PYTHONDIR"] or python_folder(self.prefix))
+        for name, folder in (("PREFIX", self.prefix), ("LIBDIR", self.libdir)):
+            # a shell, pkg-config and the linker read them without quotes
+            if not re.fullmatch(r"[\w/.+@=~-]*", folder):
+                raise Failed(2, f"{name} is {folder!r}; a name there may have letters, digits and _ . + @ = ~ - alone")
 
-
-def run(words, **how):
-    """Runs a program, whose output is returned."""
-    if not shutil.which(words[0]):
-        raise Failed(127, f"{words[0]} is missing")
-    ran = subprocess.run(words, stdin=subprocess.DEVNULL, stdout=subprocess.PIPE, text=True, **how)
-    if ran.returncode:
-        raise Failed(125, f"{' '.join(words)} failed, with status {ran.returncode}")
-    return ran.stdout
-
-
-def settings(words, environment):
-    """Where what is installed, by the words and the environment."""
-    given = dict(it.split("=", 1) for it in words if "=" in it)
-    known = ("PREFIX", "DESTDIR", "LIBDIR", "PYTHONDIR")
-    if len(given) < len(words) or not set(given) <= set(known):
-        raise Failed(2, f"usage: ./install {' '.join(f'[{it}=FOLDER]' for it in known)}")
-    found = {it: given.get(it, environment.get(it, "")) for it in known}
-    prefix = os.path.abspath(found["PREFIX"] or "/usr/local")
-    python = sysconfig.get_path("purelib", "posix_prefix", {"base": prefix, "platbase": prefix})
-    libdir = os.path.abspath(found["LIBDIR"] or f"{prefix}/lib")
-    return found["DESTDIR"], prefix, libdir, os.path.abspath(found["PYTHONDIR"] or python)
+    def pkgconfig(self):
+        """The text of ticurses.pc."""
+        libdir, prefix = self.libdir, self.prefix.rstrip("/")
+        if libdir.startswith(f"{prefix}/"):
+            libdir = f"${{prefix}}{libdir[len(prefix) :]}"
+        found = "" if self.libdir in KNOWN else " -Wl,-rpath,${libdir}"
+        return PKGCONFIG.format(prefix=prefix, libdir=libdir, version=VERSION, found=found)
 
 
-def kit():
-    """The folder of the toolchain, which has the allocator that the archive is linked with."""
-    return os.path.dirname(run(["rt", "doc"]).split()[0])
+def python_folder(prefix):
+    """The folder below the prefix in which this Python looks for packages; where there is none, the usual one."""
+    for folder in site.getsitepackages():
+        if os.path.relpath(folder, prefix).startswith("lib"):
+            return folder
+    return sysconfig.get_path("purelib", "posix_prefix", {"base": prefix, "platbase": prefix})
 
 
-def link(room):
-    """Makes both forms of the library in the room."""
-    archiver, compiler = os.environ.get("AR") or "ar", os.environ.get("CC") or "cc"
-    archives = "".join(f"addlib {it}\n" for it in ("curses_c.a", "libc_c.a"))
-    # names without a path: a script of the archiver takes no spaces
-    shutil.copy(LIBRARY, f"{room}/curses_c.a")
-    shutil.copy(f"{kit()}/c/liblibc_c.a", f"{room}/libc_c.a")
-    script = f"create libticurses.a\n{archives}save\nend\n"
-    if not shutil.which(archiver.split()[0]):
-        raise Failed(127, f"{archiver} is missing")
-    ran = subprocess.run([*archiver.split(), "-M"], cwd=room, input=script, text=True)
-    if ran.returncode or not os.path.isfile(f"{room}/libticurses.a"):
-        raise Failed(125, f"{archiver} made no archive")
-    with open(f"{room}/exported", "w", encoding="ascii") as file:
-        file.write(EXPORTED)
-    shared = ["-shared", f"-Wl,-soname,{SONAME}", "-Wl,--version-script,exported", "-o", SONAME]
-    whole = ["-Wl,--whole-archive", "libticurses.a", "-Wl,--no-whole-archive"]
-    run([*compiler.split(), *shared, *whole], cwd=room)
+class File:
+    """A file to install: where it goes, what it holds (a path, or a text) and its mode."""
+
+    def __init__(self, at, path=None, text=None, mode=0o644):
+        self.at, self.path, self.text, self.mode = at, path, text, mode
+
+    def place(self):
+        """Writes it; what was there is replaced at once."""
+        folder = os.path.dirname(self.at)
+        os.makedirs(folder, exist_ok=True)
+        # a new file, whatever other users have put there
+        descriptor, new = tempfile.mkstemp(prefix=".ticurses-", dir=folder)
+        try:
+            with open(descriptor, "wb") as file:
+                file.write(self.held())
+                os.fchmod(file.fileno(), self.mode)
+            os.replace(new, self.at)
+        except BaseException:
+            os.remove(new)
+            raise
+        print(f"install: {self.at}")
+
+    def held(self):
+        if self.path is None:
+            return self.text.encode("utf-8", "surrogateescape")
+        with open(self.path, "rb") as file:
+            return file.read()
 
 
-def place(path, folder, name=None, mode=0o644):
-    """Copies a file to a folder, which is made; what was there is replaced at once."""
-    os.makedirs(folder, exist_ok=True)
-    at = f"{folder}/{name or os.path.basename(path)}"
-    shutil.copyfile(path, f"{at}.new")
-    os.chmod(f"{at}.new", mode)
-    os.replace(f"{at}.new", at)
-    print(f"install: {at}")
+def files(where):
+    """All files but the program's, in the order in which they are placed."""
+    top, libdir = f"{where.destination}{where.prefix}", f"{where.destination}{where.libdir}"
+    package = f"{where.destination}{where.python}/ticurses"
+    archive, shared = LIBRARY.files
+    found = [File(f"{top}/include/{it}", f"{TOP}/include/{it}") for it in ("ticurses.h", "ticurses_terminal.h")]
+    found += [File(f"{libdir}/libticurses.a", archive), File(f"{libdir}/{SONAME}", shared, mode=0o755)]
+    found.append(File(f"{libdir}/pkgconfig/ticurses.pc", text=where.pkgconfig()))
+    found += [manual(top, page) for page in ("ticurses.3", "ticurses-script.5")]
+    names = sorted(it for it in os.listdir(BINDING) if it.endswith((".py", "py.typed")) and it != "_installed.py")
+    found += [File(f"{package}/{it}", f"{BINDING}/{it}") for it in names]
+    found.append(File(f"{package}/_installed.py", text=INSTALLED.format(path=f"{where.libdir}/{SONAME}")))
+    return found
 
 
-def install(room, destination, prefix, libdir, python):
-    """Copies all files to where they go."""
-    with open(f"{room}/ticurses.pc", "w", encoding="utf-8") as file:
-        found = "" if libdir in KNOWN else " -Wl,-rpath,${libdir}"
-        file.write(PKGCONFIG.format(prefix=prefix, libdir=libdir, version=VERSION, found=found))
-    for header in ("ticurses.h", "ticurses_terminal.h"):
-        place(f"{TOP}/include/{header}", f"{destination}{prefix}/include")
-    place(f"{room}/libticurses.a", f"{destination}{libdir}")
-    place(f"{room}/{SONAME}", f"{destination}{libdir}", mode=0o755)
-    link_at = f"{destination}{libdir}/libticurses.so"
+def manual(top, page):
+    return File(f"{top}/share/man/man{page[-1]}/{page}", f"{TOP}/man/{page}")
+
+
+def of_program(where):
+    """The program, and its page."""
+    top = f"{where.destination}{where.prefix}"
+    return [File(f"{top}/bin/ticurses", PROVED.files[0], mode=0o755), manual(top, "ticurses.1")]
+
+
+def links(where):
+    """The link by which -lticurses finds the shared library."""
+    return f"{where.destination}{where.libdir}/libticurses.so"
+
+
+def install(where):
+    """Places all files."""
+    # what is installed is for all users
+    os.umask(0o022)
+    placed = files(where)
+    if PROVED.is_current():
+        placed += of_program(where)
+    else:
+        print("install: the program isn't built (./build makes it), so that it and its page ticurses(1) are left out")
+    for file in placed:
+        file.place()
+    link_at = links(where)
     if os.path.lexists(link_at):
         os.remove(link_at)
     os.symlink(SONAME, link_at)
     print(f"install: {link_at}")
-    place(f"{room}/ticurses.pc", f"{destination}{libdir}/pkgconfig")
-    for page in ("ticurses.3", "ticurses-script.5"):
-        place(f"{TOP}/man/{page}", f"{destination}{prefix}/share/man/man{page[-1]}")
-    place(f"{TOP}/bindings/python/ticurses.py", f"{destination}{python}")
+
+
+def uninstall(where):
+    """Removes what `install` places. What isn't there is no error."""
+    package = f"{where.destination}{where.python}/ticurses"
+    for at in [*(it.at for it in files(where) + of_program(where)), links(where)]:
+        if os.path.lexists(at):
+            os.remove(at)
+            print(f"install: {at} is removed")
+    shutil.rmtree(f"{package}/__pycache__", ignore_errors=True)
+    # a folder that has files of others stays
+    with contextlib.suppress(OSError):
+        os.rmdir(package)
+
+
+def brought():
+    """Has the library built; returns the status."""
+    try:
+        return build.bring(LIBRARY)
+    except OSError as error:
+        raise Failed(125, f"the library can't be built here: {why(error)}") from error
 
 
 def main():
+    heed()
     try:
-        where = settings(sys.argv[1:], os.environ)
-        if not is_newer(LIBRARY):
-            built = subprocess.run([sys.executable, "-B", f"{TOP}/tools/build.py", "curses_c"])
-            if built.returncode:
-                return built.returncode
-        with tempfile.TemporaryDirectory() as room:
-            link(room)
-            install(room, *where)
+        if sys.argv[1:2] == ["uninstall"]:
+            uninstall(Where(sys.argv[2:], os.environ))
+            return 0
+        where = Where(sys.argv[1:], os.environ)
+        status = brought()
+        if not status:
+            install(where)
+        return status
+    except Ended as ended:
+        say("install: stopped")
+        return ended.status
     except Failed as failed:
-        print(f"install: {failed}", file=sys.stderr)
+        say(f"install: {failed}")
         return failed.status
     except OSError as error:
-        print(f"install: {error}", file=sys.stderr)
+        say(f"install: {why(error)}")
         return 1
-    return 0
 
 
 if __name__ == "__main__":

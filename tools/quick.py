@@ -3,10 +3,10 @@
 
 `rt try` keeps none. So it runs the program on a FIFO as its file: once somebody reads from the FIFO, the program is
 whole and started, and can be copied. The copy gets its name only when it is whole, so that a build which is
-interrupted leaves nothing that a further run would take for the program. The status is 0, 125 if there is no program,
-127 without the toolchain, 130 if interrupted."""
+interrupted leaves nothing that a further run would take for the program. Then it runs the program with the words given.
+The status is that of the program, 125 if there is none or the checkout can't be written, 127 without the toolchain, and
+128 and the number of a signal that ended the build."""
 
-import contextlib
 import errno
 import fcntl
 import glob
@@ -18,17 +18,20 @@ import sys
 import tempfile
 import time
 
+import ending
 from crates import TOP
-from sources import PROGRAM, UNPROVED, is_newer
+from ending import Ended, heed, held, started, stop, why
+from program import current
+from sources import UNPROVED
 
-FOLDER = f"{TOP}/crates/{PROGRAM}"
+FOLDER = f"{TOP}/crates/{UNPROVED.crate}"
 LOG = f"{FOLDER}/out/unproved.log"
 # how often it is looked whether the program has started, and how often progress is reported, in seconds
 LOOKS, REPORTS = 0.1, 10
 
 
 def say(text):
-    print(f"ticurses: {text}", file=sys.stderr, flush=True)
+    ending.say(f"ticurses: {text}")
 
 
 def is_read(fifo):
@@ -56,38 +59,55 @@ def wait_for_reader(run, fifo):
     return None
 
 
-def keep(room, began):
-    """Copies the program that runs below the room. It is as old as the beginning of its build."""
+def keep(room, sources):
+    """Copies the program that runs below the room. Its record is that of the sources at the beginning."""
     made = glob.glob(f"{glob.escape(room)}/**/program", recursive=True)
     if len(made) != 1:
         return False
     shutil.copyfile(made[0], f"{room}/kept")
     os.chmod(f"{room}/kept", 0o755)
-    os.utime(f"{room}/kept", (began, began))
-    os.replace(f"{room}/kept", UNPROVED)
+    UNPROVED.forget()
+    os.replace(f"{room}/kept", UNPROVED.files[0])
+    UNPROVED.note(sources)
     return True
 
 
 def build(room):
     """Builds the program in the room. Returns whether it is kept."""
-    began, fifo = time.time(), f"{room}/fifo"
+    sources, fifo = UNPROVED.sources(), f"{room}/fifo"
     os.mkfifo(fifo)
     words = ["rt", "try", "--steps", "1", "--seconds", "600", "--", "feed", "2", "2", fifo]
-    how = {"cwd": FOLDER, "env": {**os.environ, "TMPDIR": room}, "stdin": subprocess.DEVNULL, "start_new_session": True}
-    with open(LOG, "wb") as log:
-        run = subprocess.Popen(words, stdout=log, stderr=log, **how)
+    how = {"cwd": FOLDER, "env": {**os.environ, "TMPDIR": room}, "stdin": subprocess.DEVNULL}
+    runs = []
     try:
-        descriptor = wait_for_reader(run, fifo)
+        with open(LOG, "wb") as log, held():
+            runs.append(started(words, stdout=log, stderr=log, **how))
+        descriptor = wait_for_reader(runs[0], fifo)
         if descriptor is None:
             return False
-        is_kept = keep(room, began)
+        is_kept = keep(room, sources)
         os.close(descriptor)
         return is_kept
     finally:
         # nothing more is wanted of it
-        with contextlib.suppress(ProcessLookupError):
-            os.killpg(run.pid, signal.SIGTERM)
-        run.wait()
+        stop(runs)
+
+
+def bring():
+    """Builds the program where no other first run has; returns the status."""
+    os.makedirs(f"{FOLDER}/out", exist_ok=True)
+    with open(f"{FOLDER}/out/unproved.lock", "w", encoding="utf-8") as lock:
+        # a second first run waits, and then finds the program built
+        fcntl.flock(lock, fcntl.LOCK_EX)
+        if UNPROVED.is_current():
+            return 0
+        say("building the program without proof, which takes a minute or two")
+        with tempfile.TemporaryDirectory(prefix="quick-", dir=f"{FOLDER}/out") as room:
+            if build(room):
+                return 0
+    say("the toolchain made no program (rt try, in crates/ticurses)")
+    say(f"what it said is expected in {LOG}")
+    return 125
 
 
 def main():
@@ -95,24 +115,22 @@ def main():
         say("the program is not built, and the Rattle toolchain, which builds it, is missing")
         say("its command rt is expected on the PATH")
         return 127
-    signal.signal(signal.SIGTERM, signal.default_int_handler)
-    os.makedirs(f"{FOLDER}/out", exist_ok=True)
+    heed()
     try:
-        with open(f"{FOLDER}/out/unproved.lock", "w", encoding="utf-8") as lock:
-            # a second first run waits, and then finds the program built
-            fcntl.flock(lock, fcntl.LOCK_EX)
-            if is_newer(UNPROVED):
-                return 0
-            say("building the program without proof, which takes a minute or two")
-            with tempfile.TemporaryDirectory(prefix="quick-", dir=f"{FOLDER}/out") as room:
-                if build(room):
-                    return 0
-    except KeyboardInterrupt:
+        status = bring()
+        path = None if status else current()
+    except Ended as ended:
         say("stopped; nothing is built")
-        return 130
-    say("the toolchain made no program (rt try, in crates/ticurses)")
-    say(f"what it said is expected in {LOG}")
-    return 125
+        return ended.status
+    except OSError as error:
+        say(f"the program can't be built here: {why(error)}")
+        return 125
+    if path is None:
+        # a source has changed since
+        return status or 125
+    # what Python has set otherwise than it was
+    signal.signal(signal.SIGPIPE, signal.SIG_DFL)
+    os.execv(path, [path, *sys.argv[1:]])
 
 
 if __name__ == "__main__":

@@ -1,19 +1,36 @@
-"""What the program and the library for C are made from, and whether what was built is newer than that."""
+"""What the program and the library for C are made from, and whether what was built was made from what is there now.
 
+Beside what is built lies its record: the checksum of each source and of each file that was made, as sha256sum prints
+them. What is current has the record that would be written now. Times say nothing: a source may be replaced by an older
+one, or go away."""
+
+import hashlib
 import os
 
 from crates import TOP, below, listed
+from version import SONAME
 
-PROGRAM, ARCHIVE = "ticurses", "curses_c"
-PROVED = f"{TOP}/crates/{PROGRAM}/out/ticurses"
-UNPROVED = f"{TOP}/crates/{PROGRAM}/out/unproved"
-LIBRARY = f"{TOP}/crates/{ARCHIVE}/out/lib{ARCHIVE}.a"
+
+def checksum(path):
+    with open(path, "rb") as file:
+        return hashlib.sha256(file.read()).hexdigest()
 
 
 def files_of(crate):
-    """The files from which a crate is built."""
-    folders = [f"{TOP}/crates/{crate}/{part}" for part in ("src", "specs", "proofs")]
-    return [f"{at}/{name}" for folder in folders for at, _, names in os.walk(folder) for name in names]
+    """The files from which a crate is built. A folder that can't be read is an error, and so is a linked one."""
+
+    def refuse(error):
+        raise error
+
+    found = []
+    for part in ("src", "specs", "proofs"):
+        top = f"{TOP}/crates/{crate}/{part}"
+        for at, folders, names in os.walk(top, onerror=refuse) if os.path.lexists(top) or part == "src" else []:
+            linked = [it for it in folders if os.path.islink(f"{at}/{it}")]
+            if linked:
+                raise OSError(f"{at}/{linked[0]} is a link to a folder")
+            found += [f"{at}/{name}" for name in names]
+    return found
 
 
 def size_of(crate):
@@ -21,11 +38,49 @@ def size_of(crate):
     return sum(os.path.getsize(file) for file in files_of(crate))
 
 
-def is_newer(made):
-    """Whether the program or the library is there and no file that it is made from has changed since."""
-    crate, access = (ARCHIVE, os.R_OK) if made == LIBRARY else (PROGRAM, os.X_OK)
-    if not os.access(made, access):
-        return False
-    built = os.stat(made).st_mtime_ns
-    files = [file for crate in below([crate], listed()) for file in files_of(crate)]
-    return all(os.stat(file).st_mtime_ns <= built for file in [f"{TOP}/crates.txt", *files])
+def lines_of(files):
+    """The line of each file, by its path in the repository."""
+    return "".join(f"{checksum(file)}  {os.path.relpath(file, TOP)}\n" for file in sorted(files))
+
+
+class Made:
+    """What is made from a crate and those below it: files of the crate's out/."""
+
+    def __init__(self, name, crate, paths):
+        self.name, self.crate = name, crate
+        self.out = f"{TOP}/crates/{crate}/out"
+        self.files = [f"{self.out}/{it}" for it in paths]
+        self.record = f"{self.out}/{name}.sums"
+
+    def sources(self):
+        """The lines of all that it is made from."""
+        files = [file for crate in below([self.crate], listed()) for file in files_of(crate)]
+        return lines_of([f"{TOP}/crates.txt", *files])
+
+    def is_current(self):
+        """Whether it was made from what is there now. What can't be decided is not current."""
+        try:
+            with open(self.record, encoding="utf-8", errors="surrogateescape") as file:
+                return file.read() == self.sources() + lines_of(self.files)
+        except (OSError, KeyError):
+            return False
+
+    def note(self, sources):
+        """Writes the record of what was just made from these sources."""
+        text = sources + lines_of(self.files)
+        with open(f"{self.record}.new", "w", encoding="utf-8", errors="surrogateescape") as file:
+            file.write(text)
+        os.replace(f"{self.record}.new", self.record)
+
+    def forget(self):
+        """Takes the record away, before anything is made."""
+        if os.path.lexists(self.record):
+            os.remove(self.record)
+
+
+PROVED = Made("program", "ticurses", ["ticurses"])
+UNPROVED = Made("unproved", "ticurses", ["unproved"])
+# both forms of the library, as they are linked
+LIBRARY = Made("library", "curses_c", ["linked/libticurses.a", f"linked/{SONAME}"])
+# what the toolchain leaves of the library's crate
+ARCHIVE = f"{LIBRARY.out}/libcurses_c.a"
