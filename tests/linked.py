@@ -17,7 +17,8 @@ from trying import PROGRAM, TOP, Case, held_in, run_cases
 
 sys.path.append(f"{TOP}/tools")
 
-from sources import LIBRARY, is_newer
+from build import is_there
+from sources import LIBRARY
 
 STRICT = ["-Wall", "-Wextra", "-pedantic", "-Werror"]
 SANITIZED = ["-g", "-fsanitize=address,undefined", "-fno-sanitize-recover=all"]
@@ -40,9 +41,9 @@ def missing(script, *tools):
 
 def installed(work):
     """Installs the library in the folder and gives its prefix. The gate leaves it unbuilt, and to build it proves the
-    crates below it once more, so that where it isn't built nothing is tried."""
-    if not is_newer(LIBRARY):
-        print("the library for C isn't built: `./install` builds it; nothing of this is tried")
+    crates below it once more, so that where it is neither built nor kept nothing is tried."""
+    if not is_there(LIBRARY):
+        print("the library for C isn't built: `./install` or `./test --library` builds it; nothing of this is tried")
         sys.exit(0)
     run = subprocess.run([f"{TOP}/install", f"PREFIX={work}/prefix"], stdout=subprocess.PIPE)
     if run.returncode:

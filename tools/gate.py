@@ -1,8 +1,12 @@
 #!/usr/bin/env python3
 """The whole gate: what the toolchain can't check (the scripts of tests/), and the toolchain's own gate, `rt ci`.
 
-Scripts that run the program come last, since `rt ci` proves and builds it. Before each script and each crate it says
-what comes, and after it how long that took. If all passed, the last line is that of `rt ci`."""
+    ./test [--library] [--anew]
+
+Scripts that run the program come last, since `rt ci` proves and builds it. Those of the library for C take it as it was
+built or kept from the same sources; with `--library` it is built first where it is neither. With `--anew` nothing that
+`rt ci` has passed before counts. Before each script and each crate it says what comes, and after it how long that took,
+and at the end what was left out. If all passed, the last line is that of `rt ci`."""
 
 import os
 import re
@@ -12,11 +16,18 @@ import threading
 import time
 from concurrent.futures import ThreadPoolExecutor
 
+import build
+import kept
 from crates import TOP, listed
+from ending import Ended, heed, held, started, stop, why
+from sources import LIBRARY, PROVED
 
+WORDS = {"--library", "--anew"}
+# how a script says that it tries less than all
+LEFT_OUT = re.compile(r".*(left out|nothing of this is tried|skipped).*")
 # the scripts that run the program, which `rt ci` leaves built
 OF_PROGRAM = {
-    "c.sh", "compiled.sh", "examples.sh", "expansions.sh", "faults.sh", "hello.sh", "infocmp.sh", "manual.sh", "python.sh",
+    "c.sh", "compiled.sh", "edge.sh", "examples.sh", "expansions.sh", "faults.sh", "hello.sh", "infocmp.sh", "manual.sh", "python.sh",
     "reality.sh", "reports.sh", "screens.sh", "scripts.sh", "tour.sh",
 }
 
@@ -41,27 +52,39 @@ class Scripts:
 
     def __init__(self, names):
         self.paths = [f"tests/{it}" for it in names]
-        self.printing, self.begun = threading.Lock(), 0
+        self.printing, self.begun, self.left_out = threading.Lock(), 0, []
+        self.going, self.is_ended = set(), False
 
     def run(self, path):
         """Runs one script; returns whether it passed."""
         with self.printing:
+            if self.is_ended:
+                return False
             self.begun += 1
             say(f"begins {path} ({self.begun} of {len(self.paths)}): {subject(path)}")
-        began = time.monotonic()
-        pipe = subprocess.PIPE
-        ran = subprocess.run(["sh", path], stdin=subprocess.DEVNULL, stdout=pipe, stderr=subprocess.STDOUT)
+            began, pipe = time.monotonic(), subprocess.PIPE
+            run = started(["sh", path], stdin=subprocess.DEVNULL, stdout=pipe, stderr=subprocess.STDOUT)
+            self.going.add(run)
+        out = run.communicate()[0].decode(errors="replace")
         with self.printing:
-            ending = "passed" if ran.returncode == 0 else "FAILED"
+            self.going.remove(run)
+            ending = "passed" if run.returncode == 0 else "FAILED"
             print(f"== {path}: {ending} after {time.monotonic() - began:.0f} s")
-            print(ran.stdout.decode(errors="replace"), end="", flush=True)
-        return ran.returncode == 0
+            print(out, end="", flush=True)
+            self.left_out += [f"{path}: {it[0]}" for it in LEFT_OUT.finditer(out)]
+        return run.returncode == 0
 
     def run_all(self):
         """Runs all of them; returns whether all passed."""
         began = time.monotonic()
         with ThreadPoolExecutor(len(os.sched_getaffinity(0))) as pool:
-            passed = list(pool.map(self.run, self.paths))
+            try:
+                passed = list(pool.map(self.run, self.paths))
+            except Ended:
+                with self.printing:
+                    self.is_ended = True
+                    stop(self.going)
+                raise
         say(f"{sum(passed)} of {len(passed)} scripts passed, {minutes(began)}")
         return all(passed)
 
@@ -92,34 +115,83 @@ class Crates:
             self.edits += int(edits[2])
             say(f"{self.edits} of {self.all_edits} edits begun, {minutes(began)}")
 
-    def run(self):
+    def run(self, words):
         """Runs `rt ci`; returns its status and its last line, which is held back until all else is said."""
-        began, last = time.monotonic(), ""
-        say(f"rt ci: {len(self.uses)} crates, each proved from nothing, and {self.all_edits} must-fail edits{self.come()}")
-        with subprocess.Popen(["rt", "ci"], stdout=subprocess.PIPE, text=True, errors="replace") as gate:
-            for line in gate.stdout:
+        began, last, gates = time.monotonic(), "", []
+        say(f"{' '.join(words)}: {len(self.uses)} crates and {self.all_edits} must-fail edits{self.come()}")
+        try:
+            with held():
+                gates.append(started(words, stdout=subprocess.PIPE, text=True, errors="replace"))
+            for line in gates[0].stdout:
                 print(last, end="", flush=True)
                 self.after(last.rstrip("\n"), began)
                 last = line
+            gates[0].wait()
+        except Ended:
+            stop(gates)
+            raise
         say(f"rt ci ended after {minutes(began)}: {last.strip()}")
-        return gate.returncode, last
+        return gates[0].returncode, last
 
 
-def main():
-    os.chdir(TOP)
-    say("docs/PROVING.md says how long the whole takes")
+def rt_ci(is_anew):
+    """The words of `rt ci`, with --anew if that is wanted and the toolchain knows it."""
+    if not is_anew:
+        return ["rt", "ci"]
+    told = subprocess.run(["rt", "--help"], stdin=subprocess.DEVNULL, capture_output=True, text=True, errors="replace")
+    if "--anew" in told.stdout + told.stderr:
+        return ["rt", "ci", "--anew"]
+    say("rt ci of this toolchain has no --anew")
+    return ["rt", "ci"]
+
+
+def proved(words):
+    """Runs `rt ci`, and notes of which sources the program is that it leaves. Returns its status and last line."""
+    sources = PROVED.sources()
+    status, last = Crates().run(words)
+    if status == 0 and os.path.isfile(PROVED.files[0]) and PROVED.sources() == sources:
+        PROVED.note(sources)
+        kept.keep(PROVED)
+    return status, last
+
+
+def run(given):
+    """Runs the gate; returns the status."""
     names = sorted(it for it in os.listdir("tests") if it.endswith(".sh"))
     if not OF_PROGRAM <= set(names):
         sys.exit(f"test: tests/ lacks {', '.join(sorted(OF_PROGRAM - set(names)))}")
-    say(f"{len(names) - len(OF_PROGRAM)} scripts come first, then rt ci, and then {len(OF_PROGRAM)} scripts that run the program")
-    if not Scripts([it for it in names if it not in OF_PROGRAM]).run_all():
+    if "--library" in given and build.bring(LIBRARY):
+        say("FAILED: the library for C isn't built")
         return 1
-    status, last = Crates().run()
-    if status or not Scripts(sorted(OF_PROGRAM)).run_all():
+    say(f"{len(names) - len(OF_PROGRAM)} scripts come first, then rt ci, and then {len(OF_PROGRAM)} scripts that run the program")
+    first, others = Scripts([it for it in names if it not in OF_PROGRAM]), Scripts(sorted(OF_PROGRAM))
+    if not first.run_all():
+        return 1
+    status, last = proved(rt_ci("--anew" in given))
+    if status or not others.run_all():
         say(f"FAILED; rt ci said: {last.strip()}")
         return 1
+    for it in first.left_out + others.left_out:
+        say(f"left out: {it}")
     print(last, end="", flush=True)
     return 0
+
+
+def main():
+    given = set(sys.argv[1:])
+    if not given <= WORDS:
+        print("usage: ./test [--library] [--anew]", file=sys.stderr)
+        return 2
+    os.chdir(TOP)
+    heed()
+    say("docs/PROVING.md says how long the whole takes")
+    try:
+        return run(given)
+    except Ended as ended:
+        return ended.status
+    except OSError as error:
+        say(f"FAILED: {why(error)}")
+        return 1
 
 
 if __name__ == "__main__":
