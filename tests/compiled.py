@@ -62,6 +62,12 @@ def infocmp(option, folder, name):
     return ran.stdout
 
 
+def standard(printed):
+    """A listing of ncurses in the standard's spelling. Of `%` and the character behind it ncurses prints, and reads, both
+    as they are: the caret of `%^`, exclusive or, begins no control character there, and in standard text it would."""
+    return re.sub(rb"%([ -~])", lambda code: b"%\\^" if code[1] == b"^" else code[0], printed)
+
+
 def table_of(folder, name):
     """The system's names by kind, and which of them that begin with OT the entry has: `infocmp -1` leaves these out."""
     text = infocmp("-E", folder, name).decode("latin-1")
@@ -79,7 +85,7 @@ def table_of(folder, name):
 
 def theirs(folder, name):
     """What the system reads of an entry: the text of `infocmp -1`, its names, and its values by capability."""
-    text = infocmp("-1", folder, name)
+    text = standard(infocmp("-1", folder, name))
     names, found = fields_of(text) or ("", {})
     return text, (names, {**found, **table_of(folder, name)[1]})
 
@@ -124,6 +130,12 @@ def made_entry(name, kinds, least):
         lines.append(f"\t{it}=" + "".join(f"\\{byte:03o}" for byte in found[it]) + ",")
     found["acsc"] = {tuple(found["acsc"][:2])}
     return "\n".join(lines).encode() + b"\n", (lines[0], found)
+
+
+def caret_entry():
+    """A source text with an exclusive or, which ncurses lists in a spelling of its own, and what is to be read of it."""
+    text = b"caret|exclusive or,\n\tcup=%p1%p2%\\^%c,\n\tel=%%\\^,\n"
+    return text, ("caret|exclusive or,", {"cup": b"%p1%p2%^%c", "el": b"%%^"})
 
 
 def compare(label, mine, other):
@@ -172,7 +184,7 @@ def main():
         return
     entries = system_entries()
     kinds, _ = table_of(*entries[0][:2])
-    made = [made_entry("legacy", kinds, 0), made_entry("wide", kinds, 2147483647 - 38 * 38)]
+    made = [made_entry("legacy", kinds, 0), made_entry("wide", kinds, 2147483647 - 38 * 38), caret_entry()]
     with tempfile.TemporaryDirectory() as work:
         for text, (names, _) in made:
             name = names.split("|")[0]
@@ -195,7 +207,7 @@ def main():
     every = sum(map(len, kinds))
     print(f"compiled: {len(entries)} files of ncurses are read here as it reads them; {extended} have an extended section,")
     print(f"compiled: which is left unread. {len(sources)} files written here are read by ncurses as their sources say. 2 files")
-    print(f"compiled: each way have all {every} capabilities, 1 of these numbers of 32 bits. The order in acsc isn't compared")
+    print(f"compiled: each way have all {every} capabilities, 1 of these numbers of 32 bits; 1 has an exclusive or. The order in acsc isn't compared")
 
 
 main()

@@ -22,7 +22,8 @@ awk -v step="$step" 'NR % step == 0' "$work/files" >"$work/chosen"
 # source texts of 40 entries, since each run reads its own to the end, and a case for each entry
 count=0
 while read -r file; do
-    infocmp -1 "${file##*/}" 2>/dev/null | grep -v '^#' >"$work/text" || continue
+    # ncurses prints the caret of `%^` bare, and in standard text it would begin a control character
+    infocmp -1 "${file##*/}" 2>/dev/null | grep -v '^#' | sed 's/%%/%%\n/g; s/%^/%\\^/g; s/%%\n/%%/g' >"$work/text"
     # a file may bear a name that its entry does not have
     name=$(sed -n '1s/[|,].*//p' "$work/text")
     [ -n "$name" ] && [ ! -e "$work/cases/$name.args" ] || continue
