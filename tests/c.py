@@ -114,6 +114,8 @@ def check_scripts(player, work):
     if shutil.which("awk"):
         awk = ["awk", "-v", "kind=texts", "-v", "rows=24", "-v", "cols=80", "-f", f"{TOP}/bench/scripts.awk"]
         cases.append(("xt", 24, 80, subprocess.run(awk, stdout=subprocess.PIPE, check=True).stdout))
+    else:
+        print("c: awk is not installed, and its script of texts is left out")
     for number, (entry, rows, cols, script) in enumerate(cases):
         size = [str(rows), str(cols)]
         write(f"{work}/certificate", ticurses(["check", f"terminals.ti:{entry}", *size]))

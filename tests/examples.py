@@ -565,7 +565,10 @@ def judge_checks():
 
 def judge_system():
     """`check` of entries of the system's database, those that it has."""
-    folders = subprocess.run(["infocmp", "-D"], capture_output=True, text=True, check=False).stdout.split() if shutil.which("infocmp") else []
+    if not shutil.which("infocmp"):
+        print("examples: infocmp is not installed, and the entries of the system's database are left out")
+        return
+    folders = subprocess.run(["infocmp", "-D"], capture_output=True, text=True, check=False).stdout.split()
     paths = {name: path for name in SYSTEM for folder in reversed(folders) if os.path.isfile(path := f"{folder}/{name[0]}/{name}")}
     cases = [Case(["check", path, "24", "80"]) for path in paths.values()]
     for name, case, answer in zip(paths, cases, run_cases(f"{TOP}/crates/ticurses", cases, FILES)):

@@ -47,6 +47,8 @@ def helps():
 
 
 def judge_pages(texts):
+    if not shutil.which("groff"):
+        print("manual: groff is not installed, and whether it sets the pages is left out")
     for path, text in pages(texts, box()).items():
         if held_in(f"{TOP}/{path}", b"").decode() != text:
             fail(f"{path} isn't what tools/manpages.py makes of --help; run it")

@@ -112,7 +112,7 @@ class Script:
 def scripts():
     """Random scripts, played into tmux: its screen and cursor are those that `show` prints."""
     if not shutil.which("tmux"):
-        print("reality: tmux isn't installed, so no scripts are played into it")
+        print("reality: tmux is not installed, and the scripts that are played into it are left out")
         return
     tmux = Tmux(ROWS, COLS)
     try:
