@@ -1,5 +1,6 @@
 """SVG pictures as lists of elements: text that needs no font of its own, whole coordinates, the same bytes each time."""
 
+import re
 from xml.sax.saxutils import escape, quoteattr
 
 INK, FAINT, PAPER, FRAME = "#1b1f24", "#57606a", "#ffffff", "#d0d7de"
@@ -36,12 +37,11 @@ class Picture:
         self.add("text", text, x=x, y=y, font_family=font, font_size=size, fill=color, **more)
 
     def cells(self, x, y, text, step, size, color, **more):
-        """Characters, each in a cell of its own width, whatever the font's is."""
-        places = " ".join(number(x + step * at) for at, char in enumerate(text) if char != " ")
-        shown = text.replace(" ", "")
-        if shown:
+        """Characters, each in a cell of its own width, whatever the font's is; each run of them is an element."""
+        for run in re.finditer(r"[^ ]+", text):
+            places = " ".join(number(x + step * at) for at in range(run.start(), run.end()))
             self.height = max(self.height, y + size / 3)
-            self.add("text", shown, x=places, y=y, font_family=MONO, font_size=size, fill=color, **more)
+            self.add("text", run[0], x=places, y=y, font_family=MONO, font_size=size, fill=color, **more)
 
     def written(self, margin=14):
         """The picture's file."""
