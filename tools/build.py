@@ -20,6 +20,7 @@ import sys
 import time
 
 import kept
+import verdicts
 from crates import TOP, below, heads, listed
 from ending import Ended, heed, held, say, started, stop, why
 from linking import Failed, link
@@ -147,6 +148,7 @@ class Build:
                 self.rooms[name].leave()
                 if run.returncode:
                     return name
+                verdicts.note(name)
                 self.built.append(name)
                 self.report(f"{name} is built")
         return None
@@ -225,6 +227,7 @@ def built(made):
         if made.sources() != sources:
             say("ticurses: a source changed during the build, which is to be run again")
             return 125
+        verdicts.write(made, sources, build.names, kept.kit())
         made.note(sources)
         return 0
     except Ended:

@@ -94,6 +94,9 @@ def fetch(made):
         os.makedirs(os.path.dirname(file), exist_ok=True)
         shutil.copy2(kept, f"{file}.new")
         os.replace(f"{file}.new", file)
+    verdicts = f"{os.path.dirname(files[0])}/verdicts"
+    if is_own(verdicts, stat.S_ISREG):
+        shutil.copy2(verdicts, made.verdicts)
     made.note(sources)
     return True
 
@@ -118,6 +121,9 @@ def keep(made):
                 os.chmod(f"{room}/{os.path.basename(file)}", os.stat(file).st_mode & 0o755)
             with open(f"{room}/sums", "w", encoding="utf-8", opener=_private) as file:
                 file.write(_sums([f"{room}/{os.path.basename(it)}" for it in made.files]))
+            if os.path.isfile(made.verdicts):
+                shutil.copyfile(made.verdicts, f"{room}/verdicts")
+                os.chmod(f"{room}/verdicts", 0o644)
             # one that is there and is not whole goes
             shutil.rmtree(place, ignore_errors=True)
             os.rename(room, place)

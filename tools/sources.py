@@ -51,6 +51,8 @@ class Made:
         self.out = f"{TOP}/crates/{crate}/out"
         self.files = [f"{self.out}/{it}" for it in paths]
         self.record = f"{self.out}/{name}.sums"
+        # what the toolchain said of each crate (tools/verdicts.py)
+        self.verdicts = f"{self.out}/{name}.verdicts"
 
     def sources(self):
         """The lines of all that it is made from."""
