@@ -100,6 +100,8 @@ class Lists:
     def __init__(self, parts, wrapped):
         self.parts, self.wrapped, self.out = parts, wrapped, []
         self.read = set()
+        # for each part of the page the files and the lines of its tables
+        self.totals = {}
 
     def row(self, key, words):
         crate, module = key
@@ -108,7 +110,11 @@ class Lists:
         self.out.append(f"| {link} | {named(key, words)} | {lines} | {math.ceil(lines / LINES_A_MINUTE)} |")
         return lines
 
-    def table(self, known, first=None):
+    def count(self, part, files, lines):
+        before = self.totals.get(part, (0, 0))
+        self.totals[part] = before[0] + files, before[1] + lines
+
+    def table(self, part, known, first=None):
         """A table of the files that have these words, but for those that an earlier table had."""
         left = known - self.read
         files = files_in(left, self.parts)
@@ -116,6 +122,7 @@ class Lists:
             files = [it for it in files if it[0] == first] + [it for it in files if it[0] != first]
         self.out += ["| file | words | lines | minutes |", "|---|---|---|---|"]
         lines = sum(self.row(*it) for it in files)
+        self.count(part, len(files), lines)
         self.out += [f"| {len(files)} files | {len(left)} words | {lines} | {math.ceil(lines / LINES_A_MINUTE)} |", ""]
         self.read |= known
 
@@ -133,20 +140,20 @@ def reading(lists):
     lists.out += ["### The main theorem", ""]
     lists.say("The statement, `Ran`, then all that its words mean, from the terminal up to a call's step.")
     theorem = closure({("cur_play", "Log", "Ran")})
-    lists.table(theorem, ("cur_play", "Log"))
+    lists.table("the main theorem", theorem, ("cur_play", "Log"))
     lists.types(theorem)
     lists.out += ["### What `verify` adds", ""]
     lists.say("`run` takes a certificate that `verify` has accepted (the trait `Certificate` of ti_conforms, whose `rows` promises "
               "`IsChecked`). What an accepted certificate means is `Conforms`; what its text is, `IsTableOf`.")
-    lists.table(closure(said_by([("ti_cert", "verify"), ("ti_cert", "verify_from")]) | roots_of("ti_conforms", {"Certificate"})))
+    lists.table("verify", closure(said_by([("ti_cert", "verify"), ("ti_cert", "verify_from")]) | roots_of("ti_conforms", {"Certificate"})))
     lists.out += ["### The library for C", ""]
     lists.say("The words of the exported functions and of the four laws, but for those above.")
-    lists.table(closure(roots_of("curses_c")))
+    lists.table("the library for C", closure(roots_of("curses_c")))
     lists.out += ["### The commands", ""]
     lists.say("For each command the words of the functions that answer it, but for those above it.")
     for command, functions in COMMANDS:
         lists.out += [f"#### {command}", ""]
-        lists.table(closure(said_by(functions)))
+        lists.table("the commands", closure(said_by(functions)))
     return "\n".join(lists.out)
 
 
@@ -160,6 +167,7 @@ def others(lists):
         for (crate, module), words in files_in(known - lists.read, [(part, names)]):
             link = f"[{crate} `{module}`](../crates/{crate}/specs/{module}.antt)"
             rows.append(lists.wrapped(f"- {link}: {named((crate, module), words)}."))
+            lists.count("the other calls", 1, lines_of(crate, module, words))
         if rows:
             out += [f"### {part}\n"] + rows + [""]
     known |= lists.read

@@ -1,7 +1,8 @@
 #!/usr/bin/env python3
 """The pages of docs/ that are made from the sources.
 
-pages.py          writes docs/MAP.md, docs/CAPABILITIES.md, the lists of docs/AUDIT.md and the statement in docs/THEOREM.md
+pages.py          writes docs/MAP.md, docs/CAPABILITIES.md, the lists of docs/AUDIT.md, the statement in docs/THEOREM.md and the
+                  sizes in docs/TRUST.md
 pages.py --check  says which of them differ from the sources, which pages name or link what isn't there, and which words or
                   sentences docs/THEOREM.md leaves out; with status 1 if there is one
 """
@@ -12,6 +13,7 @@ import textwrap
 
 import audit
 import theorem
+import trust
 from crates import TOP
 from specs import CRATES, block_at, crates_listed, files_of, read
 
@@ -117,6 +119,16 @@ def audit_page():
     lists = audit.Lists(PARTS, wrapped)
     text = between(read(os.path.join(TOP, "docs", "AUDIT.md")), "what to read", audit.reading(lists))
     return between(text, "the other words", audit.others(lists))
+
+
+def trust_page():
+    """docs/TRUST.md, with the sizes of this repository made anew."""
+    lists = audit.Lists(PARTS, wrapped)
+    audit.reading(lists)
+    audit.others(lists)
+    text = between(read(os.path.join(TOP, "docs", "TRUST.md")), "what you read", trust.what_is_read(lists.totals))
+    text = between(text, "what is proved", trust.what_is_proved())
+    return between(text, "what runs it", trust.what_runs())
 
 
 def theorem_page():
@@ -310,7 +322,7 @@ def written_pages():
     return [path for path in paths if os.path.basename(path) != "NEWS.md"]
 
 
-PAGES = {"MAP.md": map_page, "AUDIT.md": audit_page, "THEOREM.md": theorem_page, "CAPABILITIES.md": capabilities_page}
+PAGES = {"MAP.md": map_page, "AUDIT.md": audit_page, "THEOREM.md": theorem_page, "TRUST.md": trust_page, "CAPABILITIES.md": capabilities_page}
 
 
 def main():

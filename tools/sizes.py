@@ -19,13 +19,20 @@ def lines_below(folder, ending):
     return count
 
 
-def main():
-    print("| crate | code | specs | proofs | must-fail edits |\n|---|---|---|---|---|")
+def sizes():
+    """For each crate its lines of code, of definitions and of proofs, and its must-fail edits."""
     for crate in listed():
         folder = f"{TOP}/crates/{crate}"
         parts = [lines_below(f"{folder}/src", ".rt"), *(lines_below(f"{folder}/{it}", ".antt") for it in ("specs", "proofs"))]
         edits = sum(it.endswith(".edit") for it in os.listdir(f"{folder}/must-fail")) if os.path.isdir(f"{folder}/must-fail") else 0
-        print(f"| {crate} | {' | '.join(map(str, parts))} | {edits} |")
+        yield crate, *parts, edits
 
 
-main()
+def main():
+    print("| crate | code | specs | proofs | must-fail edits |\n|---|---|---|---|---|")
+    for row in sizes():
+        print(f"| {' | '.join(map(str, row))} |")
+
+
+if __name__ == "__main__":
+    main()

@@ -1,6 +1,7 @@
 """The version of all that is made here, as the program's own source has it.
 
-    python3 -B tools/version.py     prints it"""
+    python3 -B tools/version.py             prints it
+    python3 -B tools/version.py --check     says which pages and sources name another one, with status 1 if there is one"""
 
 import re
 import sys
@@ -23,5 +24,29 @@ VERSION = written()
 # a program that was linked with a library finds every later one of the same first number
 SONAME = f"libticurses.so.{VERSION.split('.')[0]}"
 
+# what names the version or the library by it: the file, and how
+NAMED = [
+    ("NEWS.md", r"^## (\d+\.\d+\.\d+)", VERSION),
+    ("README.md", r"\bticurses[-_](\d+\.\d+\.\d+)", VERSION),
+    ("bindings/python/ticurses/__init__.py", r"\b(libticurses\.so\.\d+)", SONAME),
+]
+
+
+def main():
+    if sys.argv[1:] != ["--check"]:
+        print(VERSION)
+        return 0
+    status = 0
+    for path, form, wanted in NAMED:
+        with open(f"{TOP}/{path}", encoding="utf-8") as file:
+            found = re.findall(form, file.read(), re.M)
+        # of NEWS the newest is first
+        for name in found[:1] if path == "NEWS.md" else found or [None]:
+            if name != wanted:
+                print(f"version: {path} has {name}, and {wanted} is right")
+                status = 1
+    return status
+
+
 if __name__ == "__main__":
-    print(VERSION)
+    sys.exit(main())

@@ -1,0 +1,66 @@
+"""The tables of docs/TRUST.md that have sizes of this repository."""
+
+import os
+
+import sizes
+from crates import TOP
+
+HEAD = ["| part | size | why |", "|---|---|---|"]
+
+
+def lines_in(*paths):
+    """How many lines files have together."""
+    count = 0
+    for path in paths:
+        with open(f"{TOP}/{path}", encoding="utf-8") as file:
+            count += len(file.read().splitlines())
+    return count
+
+
+def below(folder, *endings):
+    """The files below a folder, by the endings of their names."""
+    found = [os.path.relpath(f"{at}/{name}", TOP) for at, _, names in os.walk(f"{TOP}/{folder}") for name in names]
+    return sorted(it for it in found if it.endswith(endings) and "__pycache__" not in it)
+
+
+def row(part, size, why):
+    return f"| {part} | {size} | {why} |"
+
+
+def what_is_read(totals):
+    """What a reader has to understand, by the tables of docs/AUDIT.md."""
+    why = {
+        "the main theorem": "they say what a run promises, and what T, windows and calls are",
+        "verify": "they say what a certificate's yes means",
+        "the library for C": "they say what C and Python are promised",
+        "the commands": "they say what the program replies",
+        "the other calls": "they say what the libraries' other calls promise",
+    }
+    rows = [row(f"definitions of {name}", f"{files} files, {lines:,} lines", why[name]) for name, (files, lines) in totals.items()]
+    return "\n".join(HEAD + rows)
+
+
+def what_is_proved():
+    """What needs no reading."""
+    totals = [sum(column) for column in zip(*([code, proofs, edits] for _, code, _, proofs, edits in sizes.sizes()))]
+    crates = len(list(sizes.sizes()))
+    rows = [
+        row("code", f"{crates} crates, {totals[0]:,} lines with clauses", "each function is proved to meet its clauses"),
+        row("proofs", f"{totals[1]:,} lines", "the kernel checks each"),
+        row("wrong bodies", f"{totals[2]} edits", "the prover refuses each, in every gate"),
+    ]
+    return "\n".join(HEAD + rows)
+
+
+def what_runs():
+    """The unproved edge."""
+    python = below("bindings/python", ".py")
+    scripts = [*below("tools", ".py"), "build", "install", "package", "ticurses", "packaging/install.sh"]
+    rows = [
+        row("headers for C", f"{lines_in(*below('include', '.h'))} lines", "they pass pointers and lengths on; compiled into your program"),
+        row("Python package", f"{lines_in(*python)} lines", "it loads the library and passes values on"),
+        row("scripts", f"{lines_in(*scripts):,} lines", "they build, install and package what was proved"),
+        row("glibc and Linux", "2.34 or later", "memory, files, and bytes that arrive"),
+        row("your terminal", "like T", "no proof reaches it; [TERMINAL](TERMINAL.md) has what is known"),
+    ]
+    return "\n".join(HEAD + rows)
