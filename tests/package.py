@@ -179,6 +179,25 @@ def check_debian(bare, package, work):
         hold(said.returncode == 0, "lintian finds", said.stdout)
 
 
+def check_dpkg(package, work):
+    """Debian's own program installs the package into an empty root, and removes all of it."""
+    if missing("package", "dpkg"):
+        return
+    root = f"{work}/installed"
+    for folder in ("info", "updates", "triggers"):
+        os.makedirs(f"{root}/var/lib/dpkg/{folder}")
+    for name in ("status", "available"):
+        with open(f"{root}/var/lib/dpkg/{name}", "wb"):
+            pass
+    # an empty root has no libc6, and a user who isn't root may do this too
+    words = ["dpkg", f"--root={root}", "--force-depends", "--force-not-root", "--force-bad-path"]
+    ran([*words, "--install", package])
+    hold(os.access(f"{root}/usr/bin/ticurses", os.X_OK), "dpkg installs no program")
+    ran([*words, "--purge", "ticurses"])
+    left = [f"{at}/{it}" for at, _, names in os.walk(root) for it in names if not at.startswith(f"{root}/var/lib/dpkg")]
+    hold(not left, "a purge leaves", left)
+
+
 def check_sums(folder):
     """The checksums are those of the sources, and each crate has a verdict."""
     for line in held_in(f"{folder}/SHA256SUMS").decode().splitlines():
@@ -233,8 +252,9 @@ def main():
         tarball, debian = make_twice(work)
         bare = Bare()
         check_debian(bare, debian, work)
+        check_dpkg(debian, work)
         check_tarball(bare, tarball, work)
-    print("package: the same bytes twice; without a toolchain both answer, compile hello.c and draw; the archive is removed again")
+    print("package: the same bytes twice; without a toolchain both answer, compile hello.c and draw; both are removed again")
 
 
 if __name__ == "__main__":

@@ -60,7 +60,7 @@ def what_runs():
         row("headers for C", f"{lines_in(*below('include', '.h'))} lines", "they pass pointers and lengths on; compiled into your program"),
         row("Python package", f"{lines_in(*python)} lines", "it loads the library and passes values on"),
         row("scripts", f"{lines_in(*scripts):,} lines", "they build, install and package what was proved"),
-        row("glibc and Linux", "2.34 or later", "memory, files, and bytes that arrive"),
+        row("Linux", "glibc 2.34, x86-64-v2", "memory, files, and bytes that arrive; processors since about 2009"),
         row("your terminal", "like T", "no proof reaches it; [TERMINAL](TERMINAL.md) has what is known"),
     ]
     return "\n".join(HEAD + rows)
