@@ -46,14 +46,21 @@ def hold(holds, what, *seen):
 
 def ran(words, **how):
     done = subprocess.run(words, stdin=subprocess.DEVNULL, stdout=subprocess.PIPE, stderr=subprocess.PIPE, **how)
-    hold(done.returncode == 0, f"{' '.join(map(str, words))} ended with status {done.returncode}", done.stdout, done.stderr)
+    hold(
+        done.returncode == 0,
+        f"{' '.join(map(str, words))} ended with status {done.returncode}",
+        done.stdout,
+        done.stderr,
+    )
     return done.stdout
 
 
 def kit():
     """The toolchain's folder, where there is one."""
     with contextlib.suppress(OSError, subprocess.CalledProcessError):
-        return os.path.dirname(subprocess.run(["rt", "doc"], capture_output=True, check=True).stdout.decode().split()[0])
+        return os.path.dirname(
+            subprocess.run(["rt", "doc"], capture_output=True, check=True).stdout.decode().split()[0]
+        )
     return None
 
 
@@ -68,7 +75,9 @@ class Bare:
             self.words = hides
             hold(not ran([*self.words, "ls", folder]), "the toolchain's folder is not hidden")
         else:
-            print("package: the toolchain's folder can't be hidden here; it is off the PATH alone, and what needs more is left out")
+            print(
+                "package: the toolchain's folder can't be hidden here; it is off the PATH alone, and what needs more is left out"
+            )
 
     def line(self, words, **environment):
         """The words that run a program so."""
@@ -84,7 +93,9 @@ def make_twice(work):
     for name, umask in (("one", 0o022), ("two", 0o077)):
         ran([f"{TOP}/package", f"{work}/{name}"], umask=umask)
     names = sorted(os.listdir(f"{work}/one"))
-    hold(names == [f"ticurses-{VERSION}-x86_64-linux-gnu.tar.gz", f"ticurses_{VERSION}_amd64.deb"], "other files", names)
+    hold(
+        names == [f"ticurses-{VERSION}-x86_64-linux-gnu.tar.gz", f"ticurses_{VERSION}_amd64.deb"], "other files", names
+    )
     for name in names:
         hold(held_in(f"{work}/one/{name}") == held_in(f"{work}/two/{name}"), f"{name} has other bytes the second time")
     return [f"{work}/one/{it}" for it in names]
@@ -156,7 +167,10 @@ def found(bare, **environment):
     if not shutil.which("pkg-config", path="/usr/bin:/bin"):
         return None
     words = bare.run(["pkg-config", "--cflags", "--libs", "ticurses"], **environment).decode().split()
-    hold(bare.run(["pkg-config", "--modversion", "ticurses"], **environment).decode() == f"{VERSION}\n", "pkg-config has another version")
+    hold(
+        bare.run(["pkg-config", "--modversion", "ticurses"], **environment).decode() == f"{VERSION}\n",
+        "pkg-config has another version",
+    )
     return words
 
 
@@ -172,8 +186,14 @@ def check_debian(bare, package, work):
     words = words or [f"-I{root}/usr/include", f"-L{libdir}", "-lticurses"]
     check_c(bare, [*words, f"-L{libdir}"], libdir, f"{root}/usr/bin/ticurses", work)
     # the package is made for /, so that its Python package is told where the library is
-    check_python(bare, f"{root}/usr/lib/python3/dist-packages", f"{root}/usr/bin/ticurses", certificate, work,
-                 TICURSES_LIBRARY=f"{libdir}/{SONAME}")
+    check_python(
+        bare,
+        f"{root}/usr/lib/python3/dist-packages",
+        f"{root}/usr/bin/ticurses",
+        certificate,
+        work,
+        TICURSES_LIBRARY=f"{libdir}/{SONAME}",
+    )
     if not missing("package", "lintian"):
         said = subprocess.run(["lintian", "--fail-on", "error", package], capture_output=True, text=True)
         hold(said.returncode == 0, "lintian finds", said.stdout)
@@ -227,12 +247,19 @@ def check_tarball(bare, package, work):
     ran(bare.line(install), umask=0o077)
     for at, _, names in os.walk(prefix):
         for name in names:
-            hold(os.path.islink(f"{at}/{name}") or os.stat(f"{at}/{name}").st_mode & 0o444 == 0o444, f"{name} can't be read by all")
+            hold(
+                os.path.islink(f"{at}/{name}") or os.stat(f"{at}/{name}").st_mode & 0o444 == 0o444,
+                f"{name} can't be read by all",
+            )
     certificate = check_program(bare, f"{prefix}/bin/ticurses", work)
     words = found(bare, PKG_CONFIG_LIBDIR=f"{prefix}/lib/pkgconfig")
     words = words or [f"-I{prefix}/include", f"-L{prefix}/lib", "-lticurses"]
     check_c(bare, words, f"{prefix}/lib", f"{prefix}/bin/ticurses", work)
-    [python] = [os.path.dirname(at) for at, _, names in os.walk(prefix) if os.path.basename(at) == "ticurses" and "__init__.py" in names]
+    [python] = [
+        os.path.dirname(at)
+        for at, _, names in os.walk(prefix)
+        if os.path.basename(at) == "ticurses" and "__init__.py" in names
+    ]
     check_python(bare, python, f"{prefix}/bin/ticurses", certificate, work)
     ran(bare.line([install[0], "uninstall", *install[1:]]))
     left = [f"{at}/{it}" for at, _, names in os.walk(prefix) for it in names]
@@ -254,7 +281,9 @@ def main():
         check_debian(bare, debian, work)
         check_dpkg(debian, work)
         check_tarball(bare, tarball, work)
-    print("package: the same bytes twice; without a toolchain both answer, compile hello.c and draw; both are removed again")
+    print(
+        "package: the same bytes twice; without a toolchain both answer, compile hello.c and draw; both are removed again"
+    )
 
 
 if __name__ == "__main__":

@@ -7,9 +7,26 @@ from specs import cited, closure, clauses, crates_listed, each_item, files_of, i
 
 # the crates whose exported clauses are the promises to users; a helper crate counts where these cite it
 PUBLISHED = [
-    "ti_caps", "ti_source", "ti_resolve", "ti_compiled", "ti_parm", "ti_reach", "vt_term", "vt_effects", "ti_cert",
-    "ti_checker", "cur_windows", "cur_pads", "cur_update", "cur_play", "ti_commands", "ti_verdicts", "ti_reports", "cur_commands",
-    "ti_arguments", "curses_c",
+    "ti_caps",
+    "ti_source",
+    "ti_resolve",
+    "ti_compiled",
+    "ti_parm",
+    "ti_reach",
+    "vt_term",
+    "vt_effects",
+    "ti_cert",
+    "ti_checker",
+    "cur_windows",
+    "cur_pads",
+    "cur_update",
+    "cur_play",
+    "ti_commands",
+    "ti_verdicts",
+    "ti_reports",
+    "cur_commands",
+    "ti_arguments",
+    "curses_c",
 ]
 
 # the commands, with the functions that the program calls for each
@@ -66,9 +83,16 @@ def files_in(known, parts):
             return
         placed.append(None)
         there = spec(*key)
-        for crate, module, _ in sorted(cited("\n".join("\n".join(there.blocks[it]) for it in found[key]), there.words, there.modules)):
+        for crate, module, _ in sorted(
+            cited("\n".join("\n".join(there.blocks[it]) for it in found[key]), there.words, there.modules)
+        ):
             # of its own crate: the others stand where their crate does
-            if crate == key[0] and (crate, module) in found and (crate, module) not in placed and (crate, module) != key:
+            if (
+                crate == key[0]
+                and (crate, module) in found
+                and (crate, module) not in placed
+                and (crate, module) != key
+            ):
                 place((crate, module))
         placed.append(key)
 
@@ -128,8 +152,18 @@ class Lists:
 
     def types(self, known):
         """A sentence that names the types of the code."""
-        rows = [f"{crate} {', '.join(f'`{it}`' for it in sorted(names))}" for crate, names in sorted(types_of(known).items())]
-        self.out += [self.wrapped("Types of the code that these words name, each with its doc comments in the crate's `src/`: " + "; ".join(rows) + "."), ""]
+        rows = [
+            f"{crate} {', '.join(f'`{it}`' for it in sorted(names))}"
+            for crate, names in sorted(types_of(known).items())
+        ]
+        self.out += [
+            self.wrapped(
+                "Types of the code that these words name, each with its doc comments in the crate's `src/`: "
+                + "; ".join(rows)
+                + "."
+            ),
+            "",
+        ]
 
     def say(self, text):
         self.out += [self.wrapped(text), ""]
@@ -143,9 +177,16 @@ def reading(lists):
     lists.table("the main theorem", theorem, ("cur_play", "Log"))
     lists.types(theorem)
     lists.out += ["### What `verify` adds", ""]
-    lists.say("`run` takes a certificate that `verify` has accepted (the trait `Certificate` of ti_conforms, whose `rows` promises "
-              "`IsChecked`). What an accepted certificate means is `Conforms`; what its text is, `IsTableOf`.")
-    lists.table("verify", closure(said_by([("ti_cert", "verify"), ("ti_cert", "verify_from")]) | roots_of("ti_conforms", {"Certificate"})))
+    lists.say(
+        "`run` takes a certificate that `verify` has accepted (the trait `Certificate` of ti_conforms, whose `rows` promises "
+        "`IsChecked`). What an accepted certificate means is `Conforms`; what its text is, `IsTableOf`."
+    )
+    lists.table(
+        "verify",
+        closure(
+            said_by([("ti_cert", "verify"), ("ti_cert", "verify_from")]) | roots_of("ti_conforms", {"Certificate"})
+        ),
+    )
     lists.out += ["### The library for C", ""]
     lists.say("The words of the exported functions and of the four laws, but for those above.")
     lists.table("the library for C", closure(roots_of("curses_c")))
@@ -177,7 +218,10 @@ def others(lists):
             if spec(crate, module).order and not any(one[:2] == (crate, module) for one in known):
                 rest.append(f"{crate} `{module}`")
     out.append("### Not needed\n")
-    out.append(lists.wrapped("Files of `specs/` that no exported clause leads to; they serve private functions, the own calls of "
-                       "helper crates, or a program: " + ", ".join(rest) + "."))
+    out.append(
+        lists.wrapped(
+            "Files of `specs/` that no exported clause leads to; they serve private functions, the own calls of "
+            "helper crates, or a program: " + ", ".join(rest) + "."
+        )
+    )
     return "\n".join(out) + "\n"
-

@@ -30,7 +30,9 @@ def sections():
             if line.startswith("|"):
                 rows.append([cell.strip() for cell in line.strip("|").split("|")])
             elif rows:
-                found.setdefault(name, []).append([row for row in rows if not all(re.fullmatch("-*", it) for it in row)])
+                found.setdefault(name, []).append(
+                    [row for row in rows if not all(re.fullmatch("-*", it) for it in row)]
+                )
                 rows = []
     return found
 
@@ -51,11 +53,18 @@ def pair(cell):
 
 # Each chart: its groups, each with a label and bars; a bar is a series, a ratio, and perhaps the greatest of a range.
 
+
 def reading(tables):
     rows = {row[0]: row[1:] for row in tables[0][1:]}
     own = rows["`./ticurses infocmp FILE:NAME`"]
-    return [(label.split(": ", 1)[-1].replace("`", ""), [(tables[0][0][at + 1], figure(cell) / figure(own[at])) for at, cell in enumerate(cells)])
-            for label, cells in rows.items() if label.startswith("ncurses")]
+    return [
+        (
+            label.split(": ", 1)[-1].replace("`", ""),
+            [(tables[0][0][at + 1], figure(cell) / figure(own[at])) for at, cell in enumerate(cells)],
+        )
+        for label, cells in rows.items()
+        if label.startswith("ncurses")
+    ]
 
 
 def resolving(tables):
@@ -65,8 +74,10 @@ def resolving(tables):
 
 
 def feeding(tables):
-    return [(f"{row[0]}, {row[1]}", [(name, figure(row[at])) for name, at in (("libvterm", 4), ("vt100", 6))])
-            for row in tables[0][1:]]
+    return [
+        (f"{row[0]}, {row[1]}", [(name, figure(row[at])) for name, at in (("libvterm", 4), ("vt100", 6))])
+        for row in tables[0][1:]
+    ]
 
 
 def expanding(tables):
@@ -93,8 +104,13 @@ def sending(tables):
 
 def program(tables):
     sizes = [it for it in tables[0][0][1:] if it and it != "ratio"]
-    return [(row[0].split(":")[0], [(size, figure(row[2 + 3 * at]) / figure(row[1 + 3 * at])) for at, size in enumerate(sizes)])
-            for row in tables[0][2:]]
+    return [
+        (
+            row[0].split(":")[0],
+            [(size, figure(row[2 + 3 * at]) / figure(row[1 + 3 * at])) for at, size in enumerate(sizes)],
+        )
+        for row in tables[0][2:]
+    ]
 
 
 def playing(tables):
@@ -109,16 +125,44 @@ def playing(tables):
     for row in tables[1][1:]:
         for at in (1, 3, 5):
             size = tables[1][0][at].split(",")[0]
-            groups.append((f"{row[0]}, {size}", [(tables[1][0][at + it].split("`")[1], pair(row[at + it])[1] / pair(row[at + it])[0]) for it in (1, 0)]))
+            groups.append(
+                (
+                    f"{row[0]}, {size}",
+                    [
+                        (tables[1][0][at + it].split("`")[1], pair(row[at + it])[1] / pair(row[at + it])[0])
+                        for it in (1, 0)
+                    ],
+                )
+            )
     return groups
 
 
 CHARTS = [
-    ("reading", "Reading a source and printing an entry", "the time of ncurses' tic to that of ticurses infocmp", reading),
-    ("resolving", "Resolving", "the time for a use among 20,000 to that among more; at 1 the whole time grows linearly", resolving),
+    (
+        "reading",
+        "Reading a source and printing an entry",
+        "the time of ncurses' tic to that of ticurses infocmp",
+        reading,
+    ),
+    (
+        "resolving",
+        "Resolving",
+        "the time for a use among 20,000 to that among more; at 1 the whole time grows linearly",
+        resolving,
+    ),
     ("feeding", "Feeding the terminal", "the time of another terminal to that of ticurses feed", feeding),
-    ("expanding", "Expanding a parameter string", "the time of ncurses' tparm to that of ticurses, from the least to the greatest of three runs", expanding),
-    ("checking", "Checking an entry", "the time of tic -c, which looks for other faults, to that of ticurses check", checking),
+    (
+        "expanding",
+        "Expanding a parameter string",
+        "the time of ncurses' tparm to that of ticurses, from the least to the greatest of three runs",
+        expanding,
+    ),
+    (
+        "checking",
+        "Checking an entry",
+        "the time of tic -c, which looks for other faults, to that of ticurses check",
+        checking,
+    ),
     ("verifying", "Verifying a certificate", "the time of sha256sum to that of ticurses verify", verifying),
     ("sending", "What a refresh sends", "the bytes of ncurses to those of ticurses, at 24 by 80", sending),
     ("program", "A C program", "the time of ncurses to that of ticurses", program),
@@ -166,7 +210,13 @@ def drawn(title, subject, groups):
     top = y
     y += 14
     for label, bars in groups:
-        picture.text(LEFT - 8, y + BAR * len(bars) / 2 + 4, label if len(label) < 40 else label[:38] + "..", 11, text_anchor="end")
+        picture.text(
+            LEFT - 8,
+            y + BAR * len(bars) / 2 + 4,
+            label if len(label) < 40 else label[:38] + "..",
+            11,
+            text_anchor="end",
+        )
         for bar in bars:
             begin, end = sorted((scale.at(1), scale.at(bar[1])))
             color = COLORS[series.index(bar[0])]
@@ -175,7 +225,14 @@ def drawn(title, subject, groups):
                 picture.box(scale.at(bar[1]), y, scale.at(bar[2]) - scale.at(bar[1]), BAR - 2, color, fill_opacity=0.4)
             words = " to ".join(shown(it) for it in bar[1:])
             right = bar[1] >= 1
-            picture.text(scale.at(bar[-1]) + (4 if right else -4), y + BAR - 3, words, 9, FAINT, text_anchor="start" if right else "end")
+            picture.text(
+                scale.at(bar[-1]) + (4 if right else -4),
+                y + BAR - 3,
+                words,
+                9,
+                FAINT,
+                text_anchor="start" if right else "end",
+            )
             y += BAR
         y += GAP
     for x, label in scale.marks():
@@ -190,7 +247,10 @@ def drawn(title, subject, groups):
 def made():
     """Each chart's file and what is in it."""
     tables = sections()
-    return {f"{FOLDER}/performance-{name}.svg": drawn(title, subject, groups(tables[title])) for name, title, subject, groups in CHARTS}
+    return {
+        f"{FOLDER}/performance-{name}.svg": drawn(title, subject, groups(tables[title]))
+        for name, title, subject, groups in CHARTS
+    }
 
 
 def main():

@@ -49,9 +49,16 @@ def drawn():
         y += HIGH
         if at + 1 < len(BANDS):
             middle = LEFT + (WIDTH - LEFT - 16) / 2
-            words = ["is what these are proved to meet", "whose proofs this checks", "and whose code this turns into a program", "that runs on"][at]
+            words = [
+                "is what these are proved to meet",
+                "whose proofs this checks",
+                "and whose code this turns into a program",
+                "that runs on",
+            ][at]
             picture.line(middle, y + 3, middle, y + 21, FAINT, stroke_width=1.5)
-            picture.add("path", d=f"M{middle - 4:.0f} {y + 17} L{middle:.0f} {y + 23} L{middle + 4:.0f} {y + 17} Z", fill=FAINT)
+            picture.add(
+                "path", d=f"M{middle - 4:.0f} {y + 17} L{middle:.0f} {y + 23} L{middle + 4:.0f} {y + 17} Z", fill=FAINT
+            )
             picture.text(middle + 12, y + 16, words, 11, FAINT)
             y += 26
     return picture.written()

@@ -123,7 +123,9 @@ class Proved:
         sources = PROVED.sources(), LIBRARY.sources()
         said = [verdicts.read(it, own) for it, own in zip((PROVED, LIBRARY), sources)]
         self.verdicts = "".join(dict.fromkeys(line for lines in said for line in lines))
-        self.sums = "".join(sorted({*sources[0].splitlines(True), *sources[1].splitlines(True)}, key=lambda it: it.split("  ", 1)[1]))
+        self.sums = "".join(
+            sorted({*sources[0].splitlines(True), *sources[1].splitlines(True)}, key=lambda it: it.split("  ", 1)[1])
+        )
 
     def depends(self):
         """The packages of Debian that have the shared libraries."""
@@ -189,10 +191,12 @@ def copyright_text():
     """The license in Debian's form."""
     text = read(f"{TOP}/LICENSE").decode()
     found = re.search(r"^Copyright \(c\) (.*)$", text, re.M)
-    lines = text[text.index("Permission is hereby"):].strip().splitlines()
+    lines = text[text.index("Permission is hereby") :].strip().splitlines()
     body = "".join(f" {line}\n" if line.strip() else " .\n" for line in lines)
-    return ("Format: https://www.debian.org/doc/packaging-manuals/copyright-format/1.0/\nUpstream-Name: ticurses\n\n"
-            f"Files: *\nCopyright: {found[1]}\nLicense: Expat\n\nLicense: Expat\n{body}")
+    return (
+        "Format: https://www.debian.org/doc/packaging-manuals/copyright-format/1.0/\nUpstream-Name: ticurses\n\n"
+        f"Files: *\nCopyright: {found[1]}\nLicense: Expat\n\nLicense: Expat\n{body}"
+    )
 
 
 def debian(proved, age):
@@ -202,7 +206,10 @@ def debian(proved, age):
     add_common(tree, proved, "usr/", libdir, "usr/lib/python3/dist-packages", True)
     pkgconfig = PKGCONFIG.format(prefix="/usr", libdir=f"${{prefix}}/lib/{MULTIARCH}", version=VERSION, found="")
     tree.add(f"{libdir}/pkgconfig/ticurses.pc", pkgconfig)
-    tree.add("usr/lib/python3/dist-packages/ticurses/_installed.py", INSTALLED.format(path=f"/{libdir}/{SONAME}").replace("./install", "the package"))
+    tree.add(
+        "usr/lib/python3/dist-packages/ticurses/_installed.py",
+        INSTALLED.format(path=f"/{libdir}/{SONAME}").replace("./install", "the package"),
+    )
     doc = f"usr/{DOC}"
     tree.add(f"{doc}/changelog.gz", zipped(changelog(age).encode()))
     tree.add(f"{doc}/copyright", copyright_text())
@@ -212,11 +219,17 @@ def debian(proved, age):
     size = sum(len(held) for held, _ in tree.files.values())
     control = Tree()
     control.add("control", filled("control", SIZE=str(-(-size // 1024)), DEPENDS=proved.depends()))
-    control.add("md5sums", "".join(f"{hashlib.md5(held).hexdigest()}  {path}\n" for path, (held, _) in sorted(tree.files.items())))
+    control.add(
+        "md5sums",
+        "".join(f"{hashlib.md5(held).hexdigest()}  {path}\n" for path, (held, _) in sorted(tree.files.items())),
+    )
     control.add("shlibs", f"libticurses {VERSION.split('.')[0]} ticurses (>= {VERSION})\n")
     control.add("triggers", "activate-noawait ldconfig\n")
-    members = [("debian-binary", b"2.0\n"), ("control.tar.xz", lzma.compress(control.tar(".", age), preset=9)),
-               ("data.tar.xz", lzma.compress(tree.tar(".", age), preset=9))]
+    members = [
+        ("debian-binary", b"2.0\n"),
+        ("control.tar.xz", lzma.compress(control.tar(".", age), preset=9)),
+        ("data.tar.xz", lzma.compress(tree.tar(".", age), preset=9)),
+    ]
     heads = [f"{name:<16}{age:<12}{0:<6}{0:<6}{'100644':<8}{len(held):<10}`\n".encode() for name, held in members]
     return b"!<arch>\n" + b"".join(head + held + b"\n" * (len(held) % 2) for head, (_, held) in zip(heads, members))
 
@@ -254,7 +267,9 @@ def made(folder):
     os.makedirs(folder, exist_ok=True)
     write(folder, DEBIAN, debian(proved, age))
     write(folder, f"{NAME}.tar.gz", tarball(proved, age))
-    print(f"package: they run on x86-64 Linux with glibc {proved.glibc} or later, and need {', '.join(sorted(proved.libraries))}")
+    print(
+        f"package: they run on x86-64 Linux with glibc {proved.glibc} or later, and need {', '.join(sorted(proved.libraries))}"
+    )
     return 0
 
 

@@ -21,21 +21,33 @@ from svg import FAINT, FRAME, INK, MONO, Picture
 
 FOLDER = f"{TOP}/docs/pictures"
 MARKS = ["bold", "dim", "underlined", "blinking", "reverse", "invisible"]
-COLORS = {"black": "#24292f", "red": "#cf222e", "green": "#1a7f37", "yellow": "#d4a72c", "blue": "#0969da",
-          "magenta": "#8250df", "cyan": "#1b7c83", "white": "#eaeef2", None: None}
+COLORS = {
+    "black": "#24292f",
+    "red": "#cf222e",
+    "green": "#1a7f37",
+    "yellow": "#d4a72c",
+    "blue": "#0969da",
+    "magenta": "#8250df",
+    "cyan": "#1b7c83",
+    "white": "#eaeef2",
+    None: None,
+}
 GRAPHIC = dict(zip("jklmnqtuvwx", "┘┐┌└┼─├┤┴┬│"))
 DARK, GLASS, GOOD, BAD = "#d7dde4", "#0d1117", "#1a7f37", "#cf222e"
 
 
 def run(*words, data=None, fails=False):
     """What a command of the program prints."""
-    ran = subprocess.run([f"{TOP}/ticurses", *words], cwd=TOP, input=data, stdout=subprocess.PIPE, stderr=subprocess.PIPE)
+    ran = subprocess.run(
+        [f"{TOP}/ticurses", *words], cwd=TOP, input=data, stdout=subprocess.PIPE, stderr=subprocess.PIPE
+    )
     if ran.returncode != (1 if fails else 0):
         sys.exit(f"pictures: ticurses {' '.join(words)}: status {ran.returncode}\n{ran.stderr.decode()}")
     return ran.stdout
 
 
 # ---- the words of a report
+
 
 def state(words):
     """The state that the words behind `start: ` or `seen: ` name: what they leave out is as after a reset."""
@@ -66,8 +78,11 @@ def wanted_of(words, start):
 
 def pen_of(given):
     """The parts of a rendition, each with whether it is on."""
-    return [*((mark, mark in given["marks"]) for mark in MARKS), (f"in {given['fore'] or 'the default color'}", bool(given["fore"])),
-            (f"on {given['back'] or 'the default color'}", bool(given["back"]))]
+    return [
+        *((mark, mark in given["marks"]) for mark in MARKS),
+        (f"in {given['fore'] or 'the default color'}", bool(given["fore"])),
+        (f"on {given['back'] or 'the default color'}", bool(given["back"])),
+    ]
 
 
 def small_screen(picture, x, y, given, fill):
@@ -77,8 +92,16 @@ def small_screen(picture, x, y, given, fill):
     for row in range(rows):
         picture.cells(x + 8, y + 18 + row * high, fill * columns, step, 13, "#57606a")
     row, col = given["cursor"]
-    picture.box(x + 7 + col * step, y + 5 + row * high, step, high - 1, "none", stroke="#f0b429", stroke_width=1.4,
-                stroke_dasharray="2 2" if given["hidden"] else None)
+    picture.box(
+        x + 7 + col * step,
+        y + 5 + row * high,
+        step,
+        high - 1,
+        "none",
+        stroke="#f0b429",
+        stroke_width=1.4,
+        stroke_dasharray="2 2" if given["hidden"] else None,
+    )
 
 
 def sample(picture, x, y, given):
@@ -100,9 +123,24 @@ def chips(picture, x, y, given, wanted=None):
         is_wrong = wanted is not None and is_on != pen_of(wanted)[at][1]
         left, top = x + 118 * (at % 2), y + 22 * (at // 2)
         color = BAD if is_wrong else INK if is_on else FAINT
-        picture.box(left, top, 112, 18, "#ffebe9" if is_wrong else "#eaeef2" if is_on else "none", rx=9, stroke=BAD if is_wrong else FRAME)
-        picture.text(left + 56, top + 12.5, name if not is_wrong or is_on else f"{name}: lost", 10, color, text_anchor="middle",
-                     font_weight="bold" if is_wrong else None)
+        picture.box(
+            left,
+            top,
+            112,
+            18,
+            "#ffebe9" if is_wrong else "#eaeef2" if is_on else "none",
+            rx=9,
+            stroke=BAD if is_wrong else FRAME,
+        )
+        picture.text(
+            left + 56,
+            top + 12.5,
+            name if not is_wrong or is_on else f"{name}: lost",
+            10,
+            color,
+            text_anchor="middle",
+            font_weight="bold" if is_wrong else None,
+        )
 
 
 def fault():
@@ -122,23 +160,36 @@ def fault():
         small_screen(picture, x, 90, given, fill)
         sample(picture, x, 176, given)
         chips(picture, x, 216, given, wanted if name == "seen" else None)
-    picture.text(20, 326, "The dashed box is the cursor, which is hidden in this start; reverse swaps the two colors of the next text.", 11, FAINT)
+    picture.text(
+        20,
+        326,
+        "The dashed box is the cursor, which is hidden in this start; reverse swaps the two colors of the next text.",
+        11,
+        FAINT,
+    )
     return picture.written()
 
 
 # ---- a certificate's lines
 
+
 def line_state(words):
     """What a line says of the effect: the cursor's place, whether all cells are blank, and what it sets."""
     told = dict(it.split("=", 1) for it in words if "=" in it)
-    return (int(told["row"]), int(told["col"])) if "row" in told else None, "all" in words, [it for it in words if ":" in it]
+    return (
+        (int(told["row"]), int(told["col"])) if "row" in told else None,
+        "all" in words,
+        [it for it in words if ":" in it],
+    )
 
 
 def certificate():
     """The lines of the certificate of `mini` at 2 by 2, each with the screen that it leaves."""
     lines = run("check", "examples/terminals.ti:mini", "2", "2").decode().splitlines()
     picture = Picture(800, "The certificate of mini at 2 by 2")
-    picture.text(20, 28, "The certificate of mini at 2 by 2: what each line leaves, from every state", 15, font_weight="bold")
+    picture.text(
+        20, 28, "The certificate of mini at 2 by 2: what each line leaves, from every state", 15, font_weight="bold"
+    )
     shown = [it.split() for it in lines[1:-1]]
     for at, words in enumerate(shown):
         params = 0
@@ -155,15 +206,24 @@ def certificate():
                 if not is_blank:
                     picture.text(left + 17, top + 22, "?", 13, "#8b949e", MONO, text_anchor="middle")
         if cursor:
-            picture.box(x + 10 + 34 * cursor[1], y + 10 + 34 * cursor[0], 30, 30, "none", stroke="#f0b429", stroke_width=2.4)
+            picture.box(
+                x + 10 + 34 * cursor[1], y + 10 + 34 * cursor[0], 30, 30, "none", stroke="#f0b429", stroke_width=2.4
+            )
         picture.text(x, y + 104, name, 13, font=MONO, font_weight="bold")
         picture.text(x, y + 120, bytes.fromhex(sent).decode("ascii").replace("\x1b", "\\E"), 11, FAINT, MONO)
         picture.text(x, y + 135, " ".join(others) or ("all blank" if is_blank else "cells stay"), 11, FAINT)
-    picture.text(20, 204, "The box is the cursor; ? is a cell that stays as it was. sgr0 leaves the cursor and the cells, and turns all attributes and colors off.", 11, FAINT)
+    picture.text(
+        20,
+        204,
+        "The box is the cursor; ? is a cell that stays as it was. sgr0 leaves the cursor and the cells, and turns all attributes and colors off.",
+        11,
+        FAINT,
+    )
     return picture.written()
 
 
 # ---- screens
+
 
 def screen_of(text, rows, cols):
     """The parts of a printed screen: its rows, the cursor, and the marks of each cell."""
@@ -190,7 +250,9 @@ def large_screen(picture, x, y, text, rows, cols):
             if is_reverse and any(here):
                 first = here.index(True)
                 picture.box(x + 8 + first * step, base - 14, step * sum(here), high, DARK)
-            chars = [GRAPHIC.get(char, char) if "G" in looks.get((at, it), "") else char for it, char in enumerate(line)]
+            chars = [
+                GRAPHIC.get(char, char) if "G" in looks.get((at, it), "") else char for it, char in enumerate(line)
+            ]
             shown = "".join(char if own else " " for char, own in zip(chars, here))
             picture.cells(x + 8, base, shown, step, 15, GLASS if is_reverse else DARK)
     picture.box(x + 8 + col * step, y + 7 + row * high, step, high, "none", stroke="#f0b429", stroke_width=1.4)
@@ -203,8 +265,11 @@ def play():
         run("check", "examples/terminals.ti:vt", "5", "24", "--out", path)
         sent = run("play", "examples/terminals.ti:vt", "5", "24", path, "examples/clock.script")
     cut = sent[: sent.index(b"\x1b[3;21H") + 4]
-    feeds = [("played", f"{len(sent)} bytes", sent), ("cut off", f"after byte {len(cut)}, within \\E[3;21H", cut),
-             ("played again", f"{len(cut)} and {len(sent)} bytes", cut + sent)]
+    feeds = [
+        ("played", f"{len(sent)} bytes", sent),
+        ("cut off", f"after byte {len(cut)}, within \\E[3;21H", cut),
+        ("played again", f"{len(cut)} and {len(sent)} bytes", cut + sent),
+    ]
     picture = Picture(800, "A play, cut off, and played again")
     for at, (name, words, data) in enumerate(feeds):
         x = 20 + 258 * at
@@ -225,7 +290,9 @@ def main():
         path = f"{FOLDER}/{name}.svg"
         if sys.argv[1:] == ["--check"]:
             if not os.path.exists(path) or open(path, encoding="utf-8").read() != text:
-                print(f"pictures: docs/pictures/{name}.svg isn't what the program and the tables say: run tools/pictures.py")
+                print(
+                    f"pictures: docs/pictures/{name}.svg isn't what the program and the tables say: run tools/pictures.py"
+                )
                 stale = 1
         else:
             os.makedirs(FOLDER, exist_ok=True)

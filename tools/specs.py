@@ -37,10 +37,13 @@ def files_of(crate, folder, ending):
 # ---- what the names of a file mean
 
 USE = re.compile(
-    r"^\s*(?:ghost )?(?:pub )?use Rattle\.([a-z_]+)\.specs\.([A-Z]\w*)(?:\.\{([^}]*)\})?(?: as (\w+))?;?\s*$", re.M)
+    r"^\s*(?:ghost )?(?:pub )?use Rattle\.([a-z_]+)\.specs\.([A-Z]\w*)(?:\.\{([^}]*)\})?(?: as (\w+))?;?\s*$", re.M
+)
 PASSED_ON = re.compile(r"^pub use [^\n]*$", re.M)
 # the types that the code declares, and their variants and fields
-DECLARED = re.compile(r"^\s*(?:ghost )?(?:pub )?use Rattle\.([a-z_]+)\.specs\.declared\.([\w.]+)\.\{([^}]*)\};?\s*$", re.M)
+DECLARED = re.compile(
+    r"^\s*(?:ghost )?(?:pub )?use Rattle\.([a-z_]+)\.specs\.declared\.([\w.]+)\.\{([^}]*)\};?\s*$", re.M
+)
 
 
 def imports_of(text):

@@ -20,8 +20,11 @@ class Picture:
 
     def add(self, name, text=None, **attributes):
         """An element; `_` in an attribute's name is a hyphen, and the bottom of the picture moves down to it."""
-        given = "".join(f" {key.rstrip('_').replace('_', '-')}={quoteattr(number(value) if isinstance(value, (int, float)) else value)}"
-                        for key, value in attributes.items() if value is not None)
+        given = "".join(
+            f" {key.rstrip('_').replace('_', '-')}={quoteattr(number(value) if isinstance(value, (int, float)) else value)}"
+            for key, value in attributes.items()
+            if value is not None
+        )
         self.elements.append(f"<{name}{given}/>" if text is None else f"<{name}{given}>{escape(text)}</{name}>")
 
     def box(self, x, y, width, height, fill, **more):
@@ -46,7 +49,9 @@ class Picture:
     def written(self, margin=14):
         """The picture's file."""
         height = number(self.height + margin)
-        head = (f'<svg xmlns="http://www.w3.org/2000/svg" width="{self.width}" height="{height}" '
-                f'viewBox="0 0 {self.width} {height}" role="img">\n<title>{escape(self.title)}</title>\n'
-                f'<rect width="{self.width}" height="{height}" rx="6" fill="{PAPER}" stroke="{FRAME}"/>\n')
+        head = (
+            f'<svg xmlns="http://www.w3.org/2000/svg" width="{self.width}" height="{height}" '
+            f'viewBox="0 0 {self.width} {height}" role="img">\n<title>{escape(self.title)}</title>\n'
+            f'<rect width="{self.width}" height="{height}" rx="6" fill="{PAPER}" stroke="{FRAME}"/>\n'
+        )
         return head + "\n".join(self.elements) + "\n</svg>\n"

@@ -7,7 +7,9 @@ from crates import TOP
 from specs import CRATES, cited, each_clause, read, spec
 
 STATED = ("cur_play", "Log", ["Ran", "Plays", "Tells"])
-ROW = re.compile(r"^\| ((?:`\S+`(?:, )?)+) \| .* \| \[[^\]]*\]\(\.\./crates/(\w+)/(specs|src)/(\w+)\.(?:antt|rt)\) \|$", re.M)
+ROW = re.compile(
+    r"^\| ((?:`\S+`(?:, )?)+) \| .* \| \[[^\]]*\]\(\.\./crates/(\w+)/(specs|src)/(\w+)\.(?:antt|rt)\) \|$", re.M
+)
 CLAIM = re.compile(r"^\| (\"[^|]*\") \| ([^|]*) \|", re.M)
 CLAUSE = re.compile(r"`(\w+)::((?:\w+::)?\w+)` \(([^)]*)\)")
 
@@ -15,7 +17,9 @@ CLAUSE = re.compile(r"`(\w+)::((?:\w+::)?\w+)` \(([^)]*)\)")
 def definition(crate, module, name):
     """The text of a definition with the comment above it."""
     lines = read(os.path.join(CRATES, crate, "specs", module + ".antt")).splitlines()
-    at = next(i for i, line in enumerate(lines) if re.match(rf"(abbrev |unfoldable |pub |record |data )*{name}\b", line))
+    at = next(
+        i for i, line in enumerate(lines) if re.match(rf"(abbrev |unfoldable |pub |record |data )*{name}\b", line)
+    )
     first = at
     while first and lines[first - 1].startswith("--") and not lines[first - 1].startswith("-- ----"):
         first -= 1
@@ -30,7 +34,7 @@ def statement():
     text = read(os.path.join(CRATES, "cur_play", "src", "runs.rt"))
     at = re.search(r"^pub fn run<", text, re.M).end()
     clause = next(it for kind, name, it in each_clause(text, at) if name == "ran")
-    parts = ["ensures ran " + clause[clause.index("{"):].replace("\n        ", "\n    ")]
+    parts = ["ensures ran " + clause[clause.index("{") :].replace("\n        ", "\n    ")]
     crate, module, names = STATED
     parts += [definition(crate, module, name) for name in names]
     return "```\n" + "\n\n".join(parts) + "\n```\n"
@@ -76,7 +80,11 @@ def unclaimed(page):
             yield f"THEOREM.md has no row for README's sentence: {sentence}"
     for _, clauses in CLAIM.findall(page):
         for crate, call, names in CLAUSE.findall(clauses):
-            rows = [line for line in read(os.path.join(CRATES, crate, "README.md")).splitlines() if f"`{call}`" in line.split(" | ")[0]]
+            rows = [
+                line
+                for line in read(os.path.join(CRATES, crate, "README.md")).splitlines()
+                if f"`{call}`" in line.split(" | ")[0]
+            ]
             said = " ".join(row.split(" | ")[1] for row in rows if row.count(" | ") >= 2)
             for name in re.findall(r"`(\w+)`", names):
                 if f"`{name}`" not in said:

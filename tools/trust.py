@@ -36,7 +36,10 @@ def what_is_read(totals):
         "the commands": "they say what the program replies",
         "the other calls": "they say what the libraries' other calls promise",
     }
-    rows = [row(f"definitions of {name}", f"{files} files, {lines:,} lines", why[name]) for name, (files, lines) in totals.items()]
+    rows = [
+        row(f"definitions of {name}", f"{files} files, {lines:,} lines", why[name])
+        for name, (files, lines) in totals.items()
+    ]
     return "\n".join(HEAD + rows)
 
 
@@ -45,7 +48,9 @@ def what_is_proved():
     totals = [sum(column) for column in zip(*([code, proofs, edits] for _, code, _, proofs, edits in sizes.sizes()))]
     crates = len(list(sizes.sizes()))
     rows = [
-        row("code", f"{crates} crates, {totals[0]:,} lines with clauses", "each function is proved to meet its clauses"),
+        row(
+            "code", f"{crates} crates, {totals[0]:,} lines with clauses", "each function is proved to meet its clauses"
+        ),
         row("proofs", f"{totals[1]:,} lines", "the kernel checks each"),
         row("wrong bodies", f"{totals[2]} edits", "the prover refuses each, in every gate"),
     ]
@@ -57,7 +62,11 @@ def what_runs():
     python = below("bindings/python", ".py")
     scripts = [*below("tools", ".py"), "build", "install", "package", "ticurses", "packaging/install.sh"]
     rows = [
-        row("headers for C", f"{lines_in(*below('include', '.h'))} lines", "they pass pointers and lengths on; compiled into your program"),
+        row(
+            "headers for C",
+            f"{lines_in(*below('include', '.h'))} lines",
+            "they pass pointers and lengths on; compiled into your program",
+        ),
         row("Python package", f"{lines_in(*python)} lines", "it loads the library and passes values on"),
         row("scripts", f"{lines_in(*scripts):,} lines", "they build, install and package what was proved"),
         row("Linux", "glibc 2.34, x86-64-v2", "memory, files, and bytes that arrive; processors since about 2009"),

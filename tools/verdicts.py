@@ -38,7 +38,14 @@ def _asked(crate):
     log = f"{TOP}/crates/{crate}/out/check.log"
     try:
         with open(log, "wb") as file:
-            subprocess.run(["rt", "check", "--jobs", "1"], cwd=f"{TOP}/crates/{crate}", stdin=subprocess.DEVNULL, stdout=file, stderr=file, check=True)
+            subprocess.run(
+                ["rt", "check", "--jobs", "1"],
+                cwd=f"{TOP}/crates/{crate}",
+                stdin=subprocess.DEVNULL,
+                stdout=file,
+                stderr=file,
+                check=True,
+            )
     except (OSError, subprocess.CalledProcessError):
         return []
     return _said(log)
