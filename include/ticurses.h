@@ -155,8 +155,9 @@ static inline int ticurses_verify(const void *entry, size_t entry_len, const voi
                                ticurses_bytes(certificate), certificate_len);
 }
 
-/* Opens a session; one that was open is closed, whatever the answer is (but TICURSES_NULL). With no
- * certificate (a length of 0) it checks the entry itself, which takes some milliseconds more. The
+/* Opens a session. One that was open is closed once the new one is there; where none is opened, it stays
+ * open, so that `endwin` can still be sent. With no certificate (a length of 0) it checks the entry itself,
+ * which takes some milliseconds more. The
  * terminal is taken to be as after a reset, and its first refresh clears it; after ticurses_lost the
  * first refresh leads to the screen from whatever state the terminal is in, also within a sequence that
  * was cut. A session keeps its size: where the terminal's changes, open it anew, call ticurses_lost, and
@@ -164,11 +165,17 @@ static inline int ticurses_verify(const void *entry, size_t entry_len, const voi
 static inline int ticurses_open(ticurses *session, const void *entry, size_t entry_len, const void *name,
                                 size_t name_len, uint16_t rows, uint16_t cols, const void *certificate,
                                 size_t certificate_len) {
+    ticurses opened = {0, 0};
+    int code;
     if (!session || ticurses_is_bad(entry, entry_len) || ticurses_is_bad(name, name_len) ||
         ticurses_is_bad(certificate, certificate_len))
         return TICURSES_NULL;
-    return ticurses_raw_open(session, ticurses_bytes(entry), entry_len, ticurses_bytes(name), name_len, rows, cols,
+    code = ticurses_raw_open(&opened, ticurses_bytes(entry), entry_len, ticurses_bytes(name), name_len, rows, cols,
                              ticurses_bytes(certificate), certificate_len);
+    if (code != TICURSES_OK) return code;
+    ticurses_raw_close(session);
+    *session = opened;
+    return code;
 }
 
 /* Makes calls, one a line, in the language of scripts (man 5 ticurses-script), up to the first that

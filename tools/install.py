@@ -44,7 +44,7 @@ BINDING = f"{TOP}/bindings/python/ticurses"
 # where the Python package looks for the library
 INSTALLED = '''"""Where the library is installed, as ./install wrote it."""
 
-LIBRARY = {path!r}
+LIBRARY: str = {path!r}
 '''
 
 

@@ -54,7 +54,8 @@ struct monitor {
 static volatile sig_atomic_t resized, stopped, ended;
 
 static void on_signal(int number) {
-    if (number == SIGWINCH) resized = 1;
+    /* the size may have changed while it was stopped */
+    if (number == SIGWINCH || number == SIGCONT) resized = 1;
     else if (number == SIGTSTP) stopped = 1;
     else ended = number;
 }
@@ -202,10 +203,12 @@ static void make_windows(struct monitor *m) {
         show_logged(m, m->log.kept[at % KEPT]);
 }
 
-/* Opens the session, also anew, for the size that the terminal has now, and draws all windows. */
+/* Opens the session, also anew, for the size that the terminal has now, and draws all windows. Where there is none
+ * of this size, the one that was open stays open, and ends the screen. */
 static int open_session(struct monitor *m) {
-    ticurses_size(m->fd, &m->rows, &m->cols);
-    int code = ticurses_open(&m->session, m->entry, m->entry_len, NULL, 0, m->rows, m->cols, NULL, 0);
+    int code = ticurses_size(m->fd, &m->rows, &m->cols);
+    if (code == TICURSES_OK)
+        code = ticurses_open(&m->session, m->entry, m->entry_len, NULL, 0, m->rows, m->cols, NULL, 0);
     if (code != TICURSES_OK) return code;
     /* what the terminal shows, and whether it got a part of what an earlier session sent, isn't known */
     note(m, ticurses_lost(&m->session));
@@ -283,7 +286,7 @@ static void drain(struct monitor *m) {
         if (now > 0) {
             m->sent += (size_t)now;
             m->failures = 0;
-        } else if (now < 0 && (errno == EAGAIN || errno == EWOULDBLOCK)) {
+        } else if (now < 0 && ticurses_is_full(errno)) {
             return;
         } else if (now == 0 || errno != EINTR) {
             note(m, ticurses_lost(&m->session));
@@ -303,7 +306,8 @@ static void restore(struct monitor *m) {
         poll(&room, 1, 100);
         drain(m);
     }
-    ticurses_set_cooked(STDIN_FILENO, &m->before);
+    if (is_pending(m)) tcsetattr(STDIN_FILENO, TCSANOW, &m->before);
+    else ticurses_set_cooked(STDIN_FILENO, &m->before);
 }
 
 /* Stops as ^Z asks for, and goes on with a terminal of which nothing is known. */
@@ -318,7 +322,7 @@ static void stop(struct monitor *m) {
 }
 
 static void take_signals(void) {
-    static const int numbers[] = {SIGWINCH, SIGTSTP, SIGINT, SIGTERM, SIGHUP, SIGQUIT};
+    static const int numbers[] = {SIGWINCH, SIGCONT, SIGTSTP, SIGINT, SIGTERM, SIGHUP, SIGQUIT};
     struct sigaction action;
     memset(&action, 0, sizeof action);
     action.sa_handler = on_signal;
@@ -412,7 +416,7 @@ static void explain(struct monitor *m) {
 
 int main(int argc, char **argv) {
     static struct monitor m;
-    m.log.fd = argc == 3 ? open(argv[2], O_RDONLY) : -1;
+    m.log.fd = argc == 3 ? open(argv[2], O_RDONLY | O_NONBLOCK) : -1;
     if (argc < 2 || argc > 3 || (argc == 3 && m.log.fd < 0) || read_text(&m.text, argv[1]) != 0) {
         fprintf(stderr, "usage: monitor FILE [LOG], of files that can be read\n");
         return 2;
@@ -428,9 +432,8 @@ int main(int argc, char **argv) {
     note(&m, m.name ? open_session(&m) : TICURSES_NO_MEMORY);
     if (m.code == TICURSES_OK) {
         take_signals();
-        ticurses_set_raw(STDIN_FILENO, &m.before);
-        run(&m);
-        restore(&m);
+        if (ticurses_set_raw(STDIN_FILENO, &m.before) == 0) run(&m), restore(&m);
+        else perror("monitor: standard input");
     }
     ticurses_close(&m.session);
     free_text(&m.text);

@@ -136,6 +136,7 @@ static void closed(void) {
 
 static void opening(void) {
     ticurses session = {0, 0};
+    size_t waits;
     static const char wrong[] = "w|w,\n\tclear=\\E[H\\E[2J, cup=\\E[%p1%d;%p2%dH, sgr0=\\E[m,\n";
     IS(TICURSES_BAD_SIZE, OPEN(&session, "vt", 1, 80));
     IS(TICURSES_BAD_SIZE, OPEN(&session, "vt", 201, 80));
@@ -147,11 +148,16 @@ static void opening(void) {
     IS(TICURSES_NO_CERTIFICATE, ticurses_open(&session, wrong, sizeof wrong - 1, "w", 1, 24, 80, NULL, 0));
     IS(TICURSES_OK, OPEN(&session, "mini", 2, 2));
     IS(TICURSES_OK, CALL(&session, "refresh 0"));
-    /* what was open is closed, also where nothing is opened */
+    /* what was open stays open where nothing is opened, with what waits, and else it is closed */
+    waits = ticurses_waiting(&session);
+    IS(1, waits > 0);
     IS(TICURSES_BAD_SIZE, OPEN(&session, "mini", 0, 0));
-    IS(TICURSES_CLOSED, CALL(&session, "refresh 0"));
-    IS(0, ticurses_waiting(&session));
+    IS(TICURSES_BAD_ENTRY, OPEN(&session, "none", 24, 80));
+    IS(TICURSES_NO_CERTIFICATE, ticurses_open(&session, wrong, sizeof wrong - 1, "w", 1, 24, 80, NULL, 0));
+    IS(waits, ticurses_waiting(&session));
+    IS(TICURSES_OK, CALL(&session, "move 0 1 1\nrefresh 0"));
     IS(TICURSES_OK, OPEN(&session, "mini", 200, 500));
+    IS(0, ticurses_waiting(&session));
     IS(TICURSES_OK, OPEN(&session, "mini", 3, 9));
     IS(TICURSES_OUT_OF_WINDOW, CALL(&session, "move 0 3 0"));
     ticurses_close(&session);
