@@ -16,11 +16,11 @@ TERMINALS = f"{TOP}/examples/terminals.ti"
 
 def module(prefix):
     """The module, as it is installed."""
-    [folder] = [at for at, _, names in os.walk(f"{prefix}/lib") if "ticurses.py" in names]
+    [folder] = [os.path.dirname(at) for at, _, names in os.walk(f"{prefix}/lib") if "py.typed" in names]
     sys.path.insert(0, folder)
     import ticurses as made
 
-    if os.path.dirname(made.__file__) != folder:
+    if os.path.dirname(made.__file__) != f"{folder}/ticurses":
         sys.exit(f"python: the module is {made.__file__}")
     return made, folder
 
@@ -48,9 +48,8 @@ def check_names(made, prefix, work):
         for enum in re.findall(r"^enum ticurses_\w+ \{(.*?)^\}", header, re.M | re.S)
     )
     hold(attrs == {it.name: it.value for it in made.Attrs}, "the attributes differ", attrs)
-    del codes["NULL"]
     hold(codes == {it.name: it.value for it in made.Code}, "the codes differ", codes)
-    loop = "for (int i = 0; i < 26; i++) puts(ticurses_text(i));"
+    loop = "for (int i = 0; i < 27; i++) puts(ticurses_text(i));"
     write(f"{work}/texts.c", f"#include <ticurses.h>\nint main(void) {{ {loop} }}\n".encode())
     texts = subprocess.run([compiled(prefix, f"{work}/texts.c", f"{work}/texts")], stdout=subprocess.PIPE, text=True)
     hold(texts.stdout.splitlines() == [made.TEXTS[it] for it in made.Code], "the words differ", texts.stdout)
@@ -82,9 +81,13 @@ def check_calls(made):
     raises(made, made.Code.BAD_CELL, session.addstr, 0, "\u00e9")
     raises(made, made.Code.FULL, session.addstr, 2**64, "a")
     raises(made, made.Code.FULL, session.cursor, -1)
+    # what was open stays open where nothing is opened
     raises(made, made.Code.BAD_SIZE, session.open, source, 6, 70000)
-    raises(made, made.Code.CLOSED, session.call, "doupdate")
+    hold(session.window_size(0) == (6, 24), "the session that was open is another", session.window_size(0))
+    session.open(source, 7, 30, name="xc")
+    hold(session.window_size(0) == (7, 30), "another session is open", session.window_size(0))
     session.close()
+    raises(made, made.Code.CLOSED, session.call, "doupdate")
     session.close()
     raises(made, made.Code.BAD_ENTRY, made.Session, b"", 6, 24)
 

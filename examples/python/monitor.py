@@ -7,6 +7,7 @@ import errno
 import os
 import select
 import signal
+import stat
 import sys
 import termios
 
@@ -32,6 +33,8 @@ HELP_LINES = [
 # the letters that stand for keys which send a sequence
 LETTERS = {"A": "k", "B": "j", "C": "l", "D": "h", "H": "g", "F": "G"}
 NUMBERS = {1: "g", 4: "G", 5: "b", 6: " "}
+# the signals that don't end it
+GOING_ON = (signal.SIGWINCH, signal.SIGCONT, signal.SIGTSTP)
 
 
 def drawable(line):
@@ -44,21 +47,31 @@ class Log:
     """The last lines of a file that grows."""
 
     def __init__(self, path):
-        self.fd = os.open(path, os.O_RDONLY) if path else None
+        # a FIFO that nobody writes to is a log without lines
+        self.fd = os.open(path, os.O_RDONLY | os.O_NONBLOCK) if path else None
         self.kept, self.partial = collections.deque(maxlen=KEPT), b""
 
     def added(self):
         """The lines that were added since. A file that became shorter is read from its start."""
         if self.fd is None:
             return
-        if os.fstat(self.fd).st_size < os.lseek(self.fd, 0, os.SEEK_CUR):
+        now = os.fstat(self.fd)
+        if stat.S_ISREG(now.st_mode) and now.st_size < os.lseek(self.fd, 0, os.SEEK_CUR):
             os.lseek(self.fd, 0, os.SEEK_SET)
             self.partial = b""
-        while piece := os.read(self.fd, 4096):
+        while piece := self.read():
             *whole, self.partial = (self.partial + piece).split(b"\n")
             for line in whole:
                 self.kept.append(drawable(line[:256])[:255])
                 yield self.kept[-1]
+
+
+    def read(self):
+        """What is there now."""
+        try:
+            return os.read(self.fd, 4096)
+        except BlockingIOError:
+            return b""
 
 
 class Monitor:
@@ -79,7 +92,8 @@ class Monitor:
     # -- the screen --
 
     def open_session(self):
-        """Opens the session, also anew, for the size that the terminal has now, and draws all windows."""
+        """Opens the session, also anew, for the size that the terminal has now, and draws all windows. Where there is none
+        of this size, the one that was open stays open, and ends the screen."""
         self.rows, self.cols = ticurses.terminal_size(self.fd)
         if self.session is None:
             self.session = ticurses.Session(self.entry, self.rows, self.cols)
@@ -196,14 +210,23 @@ class Monitor:
 
     def restore(self):
         """Leaves the terminal as other programs want it; waits at most two seconds for one that takes nothing."""
-        self.session.call("endwin")
-        for _ in range(20):
-            if not self.is_pending() or self.failures >= 5:
-                break
-            select.select([], [self.fd], [], 0.1)
-            self.drain()
         try:
-            ticurses.set_cooked(self.before)
+            self.session.call("endwin")
+            for _ in range(20):
+                if not self.is_pending() or self.failures >= 5:
+                    break
+                self.waits([(self.fd, select.POLLOUT)])
+                self.drain()
+        finally:
+            self.set_cooked()
+
+    def set_cooked(self):
+        """Sets the terminal back; one that takes nothing isn't waited for."""
+        try:
+            if self.is_pending():
+                termios.tcsetattr(0, termios.TCSANOW, self.before)
+            else:
+                ticurses.set_cooked(self.before)
         except termios.error as error:
             # the terminal is gone
             if error.args[0] != errno.EIO:
@@ -223,7 +246,7 @@ class Monitor:
         os.set_blocking(self.woken, False)
         os.set_blocking(waking, False)
         signal.set_wakeup_fd(waking, warn_on_full_buffer=False)
-        for name in ("SIGWINCH", "SIGTSTP", "SIGINT", "SIGTERM", "SIGHUP", "SIGQUIT"):
+        for name in ("SIGWINCH", "SIGCONT", "SIGTSTP", "SIGINT", "SIGTERM", "SIGHUP", "SIGQUIT"):
             signal.signal(getattr(signal, name), lambda number, _: self.signals.update([number]))
 
     # -- the keys --
@@ -262,14 +285,26 @@ class Monitor:
             self.act(byte)
 
     def take_keys(self):
-        keys = os.read(0, 64).decode("latin-1")
+        try:
+            keys = os.read(0, 64).decode("latin-1")
+        except OSError:
+            # the terminal is gone
+            keys = ""
         self.is_ending = self.is_ending or not keys
         for byte in keys:
             self.take_byte(byte)
 
+    def waits(self, wanted):
+        """Waits a tenth of a second for one of these descriptors, and gives those that are ready."""
+        waiting = select.poll()
+        for fd, events in wanted:
+            waiting.register(fd, events)
+        return [fd for fd, _ in waiting.poll(100)]
+
     def wait(self):
         """Waits a tenth of a second for a key, a signal, or room for what is pending."""
-        ready = select.select([0, self.woken], [self.fd] if self.is_pending() else [], [], 0.1)[0]
+        wanted = [(0, select.POLLIN), (self.woken, select.POLLIN)]
+        ready = self.waits(wanted + [(self.fd, select.POLLOUT)] if self.is_pending() else wanted)
         if self.woken in ready:
             os.read(self.woken, 64)
         if 0 in ready:
@@ -281,17 +316,22 @@ class Monitor:
         while not self.is_ending:
             if self.signals.pop(signal.SIGTSTP, 0):
                 self.stop()
-            if self.signals.pop(signal.SIGWINCH, 0):
+            # the size may have changed while it was stopped
+            if self.signals.pop(signal.SIGWINCH, 0) + self.signals.pop(signal.SIGCONT, 0):
                 self.open_session()
-            if self.signals:
-                return min(self.signals)
+            if self.ending():
+                break
             for line in self.log.added():
                 self.show_logged(line)
             if self.is_changed and not self.is_pending():
                 self.draw()
             self.drain()
             self.wait()
-        return None
+        return self.ending()
+
+    def ending(self):
+        """The signal that ends it, if one came."""
+        return min((it for it in self.signals if it not in GOING_ON), default=None)
 
 
 def main():
@@ -302,15 +342,19 @@ def main():
     except (OSError, termios.error, ticurses.Error) as error:
         sys.exit(f"monitor.py: {error}")
     monitor.take_signals()
-    monitor.before = ticurses.set_raw()
+    told = ended = None
     try:
+        monitor.before = ticurses.set_raw()
         ended = monitor.run()
+    except ticurses.Error as error:
+        told = f"monitor.py: {error}"
     finally:
         monitor.restore()
         monitor.session.close()
     if ended:
         signal.signal(ended, signal.SIG_DFL)
         os.kill(os.getpid(), ended)
+    sys.exit(told)
 
 
 if __name__ == "__main__":

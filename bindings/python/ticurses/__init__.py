@@ -1,91 +1,53 @@
 """Curses sessions with a proved refresh: ctypes over the library of ticurses.
 
-    before = ticurses.set_raw()
-    with ticurses.Session(ticurses.find_entry(), *ticurses.terminal_size()) as session:
+    import os
+    import ticurses
+
+    with ticurses.Session.on_terminal() as session:
         session.call("newwin 1 5 24 2 4", "box 1 - -", "move 1 2 5", "addstr 1 Hello", "refresh 1")
         session.send()
         os.read(0, 1)
-        session.call("endwin")
-        session.send()
-    ticurses.set_cooked(before)
 
 Calls are lines in the language of scripts (man 5 ticurses-script). What a refresh sends waits in the session until it
 is taken (`output`) and written, or both at once (`send`). What isn't done raises an `Error`, whose `code` is a `Code`.
+However the block is left, by its end, an exception, an interrupt or SIGTERM, the terminal is as it was before.
 
-The library is $TICURSES_LIBRARY, or libticurses.so.1 where the install script put it, or where the system finds it."""
+The library is $TICURSES_LIBRARY, or the one that was installed with this package, or the one that the system finds."""
 
+from __future__ import annotations
+
+import contextlib
 import ctypes
-import enum
-import errno
-import fcntl
 import os
 import select
-import struct
+import signal
+import sys
 import termios
-from collections import namedtuple
+import threading
+from types import TracebackType
+from typing import Any, Callable, NamedTuple, NoReturn, Union
+import enum
 
-Cell = namedtuple("Cell", "byte attrs pair")
+from ._codes import TEXTS, Code, Error
+from ._raw import RAW, SHORT, SIZE, Handle
+from ._raw import Cell as _Cell
+from ._terminal import find_entry, set_cooked, set_raw, terminal_size
 
+__version__ = "1.0.0"
+__all__ = [
+    "TEXTS", "Attrs", "Cell", "Code", "Error", "Session", "check", "find_entry", "reason", "set_cooked", "set_raw",
+    "terminal_size", "verify",
+]
 
-class Code(enum.IntEnum):
-    """What a call answers."""
-
-    OK = 0
-    NO_WINDOW = 1
-    OUT_OF_WINDOW = 2
-    OUT_OF_SCREEN = 3
-    HAS_CHILDREN = 4
-    IS_SUB = 5
-    PAD_KIND = 6
-    NO_SCROLL = 7
-    BAD_REGION = 8
-    NUMBER_USED = 9
-    BAD_CELL = 10
-    FULL = 11
-    NO_MEMORY = 12
-    IS_SCREEN = 13
-    NO_CAP = 14
-    IS_LOST = 15
-    BAD_PAIR = 16
-    OUTPUT_FAILED = 17
-    BAD_LINE = 18
-    TOO_LONG = 19
-    CLOSED = 20
-    BAD_SIZE = 21
-    BAD_ENTRY = 22
-    BAD_CERTIFICATE = 23
-    NO_CERTIFICATE = 24
-    NO_ROOM = 25
+Text = Union[str, bytes, bytearray, memoryview]
 
 
-TEXTS = {
-    Code.OK: "done",
-    Code.NO_WINDOW: "the number is not that of a window",
-    Code.OUT_OF_WINDOW: "the place or the part is not in the window",
-    Code.OUT_OF_SCREEN: "the place or the part is not on the screen",
-    Code.HAS_CHILDREN: "the window has subwindows",
-    Code.IS_SUB: "the window is a subwindow",
-    Code.PAD_KIND: "the call takes no pad, or it takes only pads",
-    Code.NO_SCROLL: "the text goes past the last line, and the window may not scroll",
-    Code.BAD_REGION: "a size, a range or a mode that does not exist",
-    Code.NUMBER_USED: "the number is that of a window already",
-    Code.BAD_CELL: "the byte cannot stand in a cell",
-    Code.FULL: "window numbers are 0 to 63",
-    Code.NO_MEMORY: "out of memory",
-    Code.IS_SCREEN: "window 0 stays",
-    Code.NO_CAP: "the entry lacks the strings for it",
-    Code.IS_LOST: "what the terminal shows is not known",
-    Code.BAD_PAIR: "pairs are 0 to 63, pair 0 cannot be changed, and colors are 0 to 7",
-    Code.OUTPUT_FAILED: "out of memory for what a refresh sends",
-    Code.BAD_LINE: "a line is no call",
-    Code.TOO_LONG: "the lines are too long",
-    Code.CLOSED: "the session is not open",
-    Code.BAD_SIZE: "a terminal has 2 to 200 rows and 2 to 500 columns",
-    Code.BAD_ENTRY: "the entry cannot be read",
-    Code.BAD_CERTIFICATE: "the certificate is not one of this entry and size",
-    Code.NO_CERTIFICATE: "a string of the entry is wrong",
-    Code.NO_ROOM: "the buffer is too short",
-}
+class Cell(NamedTuple):
+    """What stands in a place of a window."""
+
+    byte: str
+    attrs: Attrs
+    pair: int
 
 
 class Attrs(enum.IntFlag):
@@ -101,81 +63,38 @@ class Attrs(enum.IntFlag):
     ALTCHARSET = 128
 
 
-class Error(Exception):
-    """A call that wasn't done."""
-
-    def __init__(self, code, reason=""):
-        self.code = Code(code)
-        super().__init__(f"{TEXTS[self.code]}: {reason}" if reason else TEXTS[self.code])
-
-
-class _Handle(ctypes.Structure):
-    _fields_ = [("at", ctypes.c_void_p), ("state", ctypes.c_size_t)]
-
-
-class _Cell(ctypes.Structure):
-    _fields_ = [("byte", ctypes.c_uint8), ("attrs", ctypes.c_uint8), ("pair", ctypes.c_uint8)]
-
-
-_BYTES, _SIZE, _SHORT, _CODE = ctypes.c_char_p, ctypes.c_size_t, ctypes.c_uint16, ctypes.c_int32
-_SESSION, _SHORTS, _SIZES = ctypes.POINTER(_Handle), ctypes.POINTER(_SHORT), ctypes.POINTER(_SIZE)
-_ENTRY = [_BYTES, _SIZE, _BYTES, _SIZE, _SHORT, _SHORT]
-_CALLS = {
-    "check": (_CODE, [*_ENTRY, _BYTES, _SIZE, _SIZES]),
-    "reason": (_CODE, [*_ENTRY, _BYTES, _SIZE, _SIZES]),
-    "verify": (_CODE, [*_ENTRY, _BYTES, _SIZE]),
-    "open": (_CODE, [_SESSION, *_ENTRY, _BYTES, _SIZE]),
-    "call": (_CODE, [_SESSION, _BYTES, _SIZE]),
-    "addstr": (_CODE, [_SESSION, _SIZE, _BYTES, _SIZE]),
-    "cursor": (_CODE, [_SESSION, _SIZE, _SHORTS, _SHORTS]),
-    "size": (_CODE, [_SESSION, _SIZE, _SHORTS, _SHORTS]),
-    "cell": (_CODE, [_SESSION, _SIZE, _SHORT, _SHORT, ctypes.POINTER(_Cell)]),
-    "waiting": (_SIZE, [_SESSION]),
-    "output": (_SIZE, [_SESSION, _BYTES, _SIZE]),
-    "lost": (_CODE, [_SESSION]),
-    "close": (None, [_SESSION]),
-}
-
-
-def _library():
-    """The library, with the types of its calls."""
-    own, name = os.environ.get("TICURSES_LIBRARY"), "libticurses.so.1"
-    installed = os.path.normpath(os.path.join(os.path.dirname(os.path.abspath(__file__)), "..", "..", name))
-    # it keeps the interpreter's lock, so that no two threads are in one session
-    library = ctypes.PyDLL(own or (installed if os.path.exists(installed) else name))
-    for call, (result, arguments) in _CALLS.items():
-        function = getattr(library, f"ticurses_raw_{call}")
-        function.restype, function.argtypes = result, arguments
-    return library
-
-
-_RAW = _library()
-
-
-def _bytes(text):
+def _bytes(text: Text) -> bytes:
     """What is no ASCII becomes bytes that are refused."""
-    return text.encode("utf-8", "surrogateescape") if isinstance(text, str) else bytes(text)
+    if isinstance(text, str):
+        try:
+            return text.encode("utf-8", "surrogateescape")
+        except UnicodeEncodeError:
+            return text.encode("utf-8", "surrogatepass")
+    if isinstance(text, (bytes, bytearray, memoryview)):
+        return bytes(text)
+    raise TypeError(f"a text or bytes were expected, not {type(text).__name__}")
 
 
-def _window(number):
+def _window(number: int) -> int:
     """A window's number that ctypes passes as it is; what doesn't fit is no window's."""
     return number if 0 <= number < 64 else 64
 
 
-def _numbers(rows, cols):
+def _numbers(rows: int, cols: int) -> list[int]:
     """Sizes that ctypes passes as they are; what doesn't fit is no size."""
     return [it if 0 <= it < 65536 else 0 for it in (rows, cols)]
 
 
-def _is_done(code, reason=""):
+def _is_done(code: int, reason: str = "") -> None:
     if code:
         raise Error(code, reason)
 
 
-def _asked(call, room, entry, rows, cols, name):
+def _asked(call: Callable[..., int], room: int, entry: Text, rows: int, cols: int, name: Text) -> tuple[int, bytes]:
     """The bytes that a call writes to a room, which is made larger where it has to be."""
-    entry, name, needed = _bytes(entry), _bytes(name), _SIZE(0)
+    entry, name, needed = _bytes(entry), _bytes(name), SIZE(0)
     rows, cols = _numbers(rows, cols)
+    code, space = int(Code.NO_ROOM), ctypes.create_string_buffer(0)
     for _ in range(2):
         space = ctypes.create_string_buffer(room)
         code = call(entry, len(entry), name, len(name), rows, cols, space, room, needed)
@@ -185,156 +104,204 @@ def _asked(call, room, entry, rows, cols, name):
     return code, space.raw[: needed.value]
 
 
-def check(entry, rows, cols, name=b""):
+def check(entry: Text, rows: int, cols: int, name: Text = b"") -> bytes:
     """The certificate of an entry: a compiled one, or with a name that of a source text. Where it has none, the error
     says which string is wrong."""
-    code, text = _asked(_RAW.ticurses_raw_check, 1 << 16, entry, rows, cols, name)
+    code, text = _asked(RAW.ticurses_raw_check, 1 << 16, entry, rows, cols, name)
     _is_done(code, reason(entry, rows, cols, name) if code == Code.NO_CERTIFICATE else "")
     return text
 
 
-def reason(entry, rows, cols, name=b""):
+def reason(entry: Text, rows: int, cols: int, name: Text = b"") -> str:
     """Why an entry has no certificate, as in `no op: WrongEffect`; "" where it has one."""
-    code, text = _asked(_RAW.ticurses_raw_reason, 256, entry, rows, cols, name)
+    code, text = _asked(RAW.ticurses_raw_reason, 256, entry, rows, cols, name)
     _is_done(code)
     return text.decode("ascii")
 
 
-def verify(entry, rows, cols, certificate, name=b""):
+def verify(entry: Text, rows: int, cols: int, certificate: Text, name: Text = b"") -> None:
     """Raises an error unless the certificate shows that the entry's strings do what programs rely on."""
     entry, name, certificate = _bytes(entry), _bytes(name), _bytes(certificate)
     sizes = _numbers(rows, cols)
-    _is_done(_RAW.ticurses_raw_verify(entry, len(entry), name, len(name), *sizes, certificate, len(certificate)))
+    _is_done(RAW.ticurses_raw_verify(entry, len(entry), name, len(name), *sizes, certificate, len(certificate)))
+
+
+def _leave(number: int, _: Any) -> NoReturn:
+    """A signal that would end the program without a word leaves its blocks; once, so that they are left in peace."""
+    signal.signal(number, signal.SIG_IGN)
+    sys.exit(128 + number)
 
 
 class Session:
-    """A session on a terminal. One call at a time is made on it."""
+    """A session on a terminal. One call at a time is made on it.
 
-    def __init__(self, entry, rows, cols, name=b"", certificate=b""):
-        self._handle = _Handle()
+    In a `with` statement it is closed at the end. Before that it sends `endwin`, where it has sent anything, and sets
+    the terminal back, where it has set it."""
+
+    def __init__(self, entry: Text, rows: int, cols: int, name: Text = b"", certificate: Text = b"") -> None:
+        self._handle = Handle()
+        self._input, self._output, self._is_owner = 0, 1, False
+        # where bytes went, and whether `endwin` was the last call
+        self._shown_on: int | None = None
+        self._is_over = False
+        self._before: list[Any] | None = None
+        self._handlers: dict[int, Any] = {}
         self.open(entry, rows, cols, name, certificate)
 
-    def open(self, entry, rows, cols, name=b"", certificate=b""):
-        """Opens it anew, as after a change of size. Without a certificate the entry is checked."""
+    @classmethod
+    def on_terminal(cls, term: str | None = None, input: int = 0, output: int = 1) -> Session:
+        """A session on the terminal at these descriptors, by its name or $TERM, for a `with` statement: at its
+        beginning the terminal is set raw, and from then on SIGTERM and SIGHUP leave the block, where the program does
+        nothing else about them. It raises `FileNotFoundError` without an entry, `termios.error` where the input is no
+        terminal, and `Error`."""
+        session = cls(find_entry(term), *terminal_size(output))
+        session._input, session._output, session._is_owner = input, output, True
+        return session
+
+    def open(self, entry: Text, rows: int, cols: int, name: Text = b"", certificate: Text = b"") -> None:
+        """Opens it anew, as after a change of size. Without a certificate the entry is checked. Where it raises an
+        error, the session that was open stays open."""
         entry, name, certificate = _bytes(entry), _bytes(name), _bytes(certificate)
         words = (entry, len(entry), name, len(name), *_numbers(rows, cols), certificate, len(certificate))
-        code = _RAW.ticurses_raw_open(self._handle, *words)
+        opened = Handle()
+        code = RAW.ticurses_raw_open(opened, *words)
         _is_done(code, reason(entry, rows, cols, name) if code == Code.NO_CERTIFICATE else "")
+        before, self._handle = self._handle, opened
+        RAW.ticurses_raw_close(before)
 
-    def call(self, *lines):
+    def call(self, *lines: Text) -> None:
         """Makes calls, one a line, up to the first that isn't done."""
-        text = _bytes("\n".join(lines))
-        _is_done(_RAW.ticurses_raw_call(self._handle, text, len(text)))
+        text = b"\n".join(map(_bytes, lines))
+        self._is_over = False
+        _is_done(RAW.ticurses_raw_call(self._handle, text, len(text)))
+        self._is_over = text.endswith(b"endwin")
 
-    def addstr(self, window, text):
+    def addstr(self, window: int, text: Text) -> None:
         """Writes a text at the cursor of a window: bytes, or a string of ASCII. Others are refused."""
-        text = _bytes(text)
-        _is_done(_RAW.ticurses_raw_addstr(self._handle, _window(window), text, len(text)))
+        held = _bytes(text)
+        _is_done(RAW.ticurses_raw_addstr(self._handle, _window(window), held, len(held)))
 
-    def cursor(self, window):
+    def cursor(self, window: int) -> tuple[int, int]:
         """The row and the column of a window's cursor."""
-        return self._pair(_RAW.ticurses_raw_cursor, window)
+        return self._pair(RAW.ticurses_raw_cursor, window)
 
-    def window_size(self, window):
+    def window_size(self, window: int) -> tuple[int, int]:
         """The rows and columns of a window or a pad."""
-        return self._pair(_RAW.ticurses_raw_size, window)
+        return self._pair(RAW.ticurses_raw_size, window)
 
-    def _pair(self, call, window):
-        one, other = _SHORT(0), _SHORT(0)
+    def _pair(self, call: Callable[..., int], window: int) -> tuple[int, int]:
+        one, other = SHORT(0), SHORT(0)
         _is_done(call(self._handle, _window(window), one, other))
         return one.value, other.value
 
-    def cell(self, window, row, col):
+    def cell(self, window: int, row: int, col: int) -> Cell:
         """What stands in a place of a window or a pad."""
         cell = _Cell()
         if not (0 <= row < 65536 and 0 <= col < 65536):
             raise Error(Code.OUT_OF_WINDOW)
-        _is_done(_RAW.ticurses_raw_cell(self._handle, _window(window), row, col, cell))
+        _is_done(RAW.ticurses_raw_cell(self._handle, _window(window), row, col, cell))
         return Cell(chr(cell.byte), Attrs(cell.attrs), cell.pair)
 
     @property
-    def waiting(self):
+    def waiting(self) -> int:
         """How many bytes wait to be written."""
-        return _RAW.ticurses_raw_waiting(self._handle)
+        return int(RAW.ticurses_raw_waiting(self._handle))
 
-    def output(self, most=65536):
+    def output(self, most: int = 65536) -> bytes:
         """Takes the first of the bytes that wait, at most so many."""
         room = ctypes.create_string_buffer(max(most, 1))
-        taken = _RAW.ticurses_raw_output(self._handle, room, max(most, 0))
+        taken = RAW.ticurses_raw_output(self._handle, room, max(most, 0))
         return room.raw[:taken]
 
-    def lost(self):
+    def lost(self) -> None:
         """Bytes that were taken did not all get to the terminal: the next refresh begins anew."""
-        _is_done(_RAW.ticurses_raw_lost(self._handle))
+        _is_done(RAW.ticurses_raw_lost(self._handle))
 
-    def send(self, fd=1):
-        """Writes all that waits to a descriptor, also one that doesn't block. What an error cut off, the next refresh
-        repairs."""
+    def send(self, fd: int | None = None) -> None:
+        """Writes all that waits to a descriptor, also one that doesn't block; without one to the terminal's. What an
+        error or an interrupt cut off, the next refresh repairs."""
+        fd = self._output if fd is None else fd
         try:
             while piece := self.output():
+                self._shown_on = fd
                 while piece:
                     try:
                         piece = piece[os.write(fd, piece) :]
                     except BlockingIOError:
-                        select.select([], [fd], [])
-        except OSError:
-            self.lost()
+                        room = select.poll()
+                        room.register(fd, select.POLLOUT)
+                        room.poll()
+        except BaseException:
+            with contextlib.suppress(Error):
+                self.lost()
             raise
 
-    def close(self):
-        """Frees the session; `endwin` comes before. Closed twice it stays closed."""
-        _RAW.ticurses_raw_close(self._handle)
+    def set_raw(self, fd: int | None = None) -> None:
+        """Sets the terminal raw, as the function of this name does, until the end of the `with` statement."""
+        self._input = self._input if fd is None else fd
+        self._before = set_raw(self._input)
 
-    def __enter__(self):
+    def set_cooked(self) -> None:
+        """Sets the terminal back where `set_raw` has set it."""
+        before, self._before = self._before, None
+        if before is not None:
+            set_cooked(before, self._input)
+
+    def end(self) -> None:
+        """Sends `endwin` to where `send` has sent before, if it has, and it wasn't sent yet; after it the terminal is as
+        other programs want it."""
+        fd = self._shown_on
+        if fd is not None and not (self._is_over and not self.waiting):
+            if not self._is_over:
+                self.call("endwin")
+            self.send(fd)
+        self._shown_on = None
+
+    def close(self) -> None:
+        """Frees the session; `endwin` comes before. Closed twice it stays closed."""
+        RAW.ticurses_raw_close(self._handle)
+
+    def __enter__(self) -> Session:
+        try:
+            if self._is_owner:
+                self._heed()
+                self.set_raw()
+        except BaseException:
+            self._restore(True)
+            raise
         return self
 
-    def __exit__(self, *_):
-        self.close()
+    def _heed(self) -> None:
+        """Has signals leave the block; only the main thread can say so."""
+        if threading.current_thread() is threading.main_thread():
+            for number in (signal.SIGTERM, signal.SIGHUP):
+                if signal.getsignal(number) == signal.SIG_DFL:
+                    self._handlers[number] = signal.signal(number, _leave)
 
-    def __del__(self):
+    def __exit__(self, kind: type[BaseException] | None, error: BaseException | None, at: TracebackType | None) -> None:
+        try:
+            self.end()
+        except (OSError, Error):
+            # the error that leaves the block says more
+            if kind is None:
+                raise
+        finally:
+            self._restore(kind is not None)
+
+    def _restore(self, is_leaving: bool) -> None:
+        """Sets back all that isn't the session's own, whatever else fails."""
+        try:
+            self.set_cooked()
+        except termios.error:
+            # the terminal is gone
+            if not is_leaving:
+                raise
+        finally:
+            for number in list(self._handlers):
+                signal.signal(number, self._handlers.pop(number))
+            self.close()
+
+    def __del__(self) -> None:
         # a handle that was never made has nothing to free
         if hasattr(self, "_handle"):
             self.close()
-
-
-def find_entry(term=None):
-    """The compiled entry of a terminal, by name or by $TERM, sought where ncurses seeks."""
-    term = term or os.environ.get("TERM", "")
-    folders = [os.environ.get("TERMINFO"), os.path.expanduser("~/.terminfo")]
-    folders += os.environ.get("TERMINFO_DIRS", "").split(":")
-    folders += ["/etc/terminfo", "/lib/terminfo", "/usr/share/terminfo", "/usr/lib/terminfo"]
-    for folder in folders if term and "/" not in term else []:
-        for sub in (term[0], f"{ord(term[0]):02x}"):
-            path = f"{folder}/{sub}/{term}"
-            if folder and os.path.isfile(path):
-                with open(path, "rb") as file:
-                    return file.read()
-    raise FileNotFoundError(errno.ENOENT, "there is no terminfo entry", term)
-
-
-def set_raw(fd=0):
-    """Has the terminal pass on bytes unaltered, which a refresh needs (it may move down by a newline), and keys as they
-    are pressed, without showing them. Keys that send signals go on doing so. Gives what `set_cooked` sets back."""
-    before, raw = termios.tcgetattr(fd), termios.tcgetattr(fd)
-    raw[3] &= ~(termios.ICANON | termios.ECHO)
-    raw[0] &= ~(termios.ICRNL | termios.IXON)
-    raw[1] &= ~termios.OPOST
-    raw[6][termios.VMIN], raw[6][termios.VTIME] = 1, 0
-    termios.tcsetattr(fd, termios.TCSANOW, raw)
-    return before
-
-
-def set_cooked(before, fd=0):
-    """Sets the terminal back to what it was like."""
-    termios.tcsetattr(fd, termios.TCSANOW, before)
-
-
-def terminal_size(fd=1):
-    """The rows and columns of the terminal at a descriptor, within what a session takes."""
-    try:
-        rows, cols = struct.unpack("HHHH", fcntl.ioctl(fd, termios.TIOCGWINSZ, bytes(8)))[:2]
-    except OSError:
-        rows = cols = 0
-    if not rows or not cols:
-        rows, cols = 24, 80
-    return min(max(rows, 2), 200), min(max(cols, 2), 500)

@@ -1,0 +1,70 @@
+"""The library of ticurses, by ctypes: its calls with their types."""
+
+from __future__ import annotations
+
+import ctypes
+import os
+from typing import Any
+
+from ._installed import LIBRARY
+
+# the number is the first of the version's; a library of another one has other calls
+NAME = "libticurses.so.1"
+
+
+class Handle(ctypes.Structure):
+    _fields_ = [("at", ctypes.c_void_p), ("state", ctypes.c_size_t)]
+
+
+class Cell(ctypes.Structure):
+    _fields_ = [("byte", ctypes.c_uint8), ("attrs", ctypes.c_uint8), ("pair", ctypes.c_uint8)]
+
+
+BYTES, SIZE, SHORT, CODE = ctypes.c_char_p, ctypes.c_size_t, ctypes.c_uint16, ctypes.c_int32
+SESSION, SHORTS, SIZES = ctypes.POINTER(Handle), ctypes.POINTER(SHORT), ctypes.POINTER(SIZE)
+_ENTRY = [BYTES, SIZE, BYTES, SIZE, SHORT, SHORT]
+_CALLS: dict[str, tuple[Any, list[Any]]] = {
+    "check": (CODE, [*_ENTRY, BYTES, SIZE, SIZES]),
+    "reason": (CODE, [*_ENTRY, BYTES, SIZE, SIZES]),
+    "verify": (CODE, [*_ENTRY, BYTES, SIZE]),
+    "open": (CODE, [SESSION, *_ENTRY, BYTES, SIZE]),
+    "call": (CODE, [SESSION, BYTES, SIZE]),
+    "addstr": (CODE, [SESSION, SIZE, BYTES, SIZE]),
+    "cursor": (CODE, [SESSION, SIZE, SHORTS, SHORTS]),
+    "size": (CODE, [SESSION, SIZE, SHORTS, SHORTS]),
+    "cell": (CODE, [SESSION, SIZE, SHORT, SHORT, ctypes.POINTER(Cell)]),
+    "waiting": (SIZE, [SESSION]),
+    "output": (SIZE, [SESSION, BYTES, SIZE]),
+    "lost": (CODE, [SESSION]),
+    "close": (None, [SESSION]),
+}
+
+
+def is_trusting() -> bool:
+    """Whether variables may say what is read: not where the program has rights that its user lacks."""
+    return os.geteuid() == os.getuid() and os.getegid() == os.getgid()
+
+
+def _path() -> str:
+    """Where the library is: as a variable says, where ./install put it, or where the system looks."""
+    own = os.environ.get("TICURSES_LIBRARY") if is_trusting() else None
+    if own:
+        return own
+    return LIBRARY if os.path.exists(LIBRARY) else NAME
+
+
+def _loaded() -> Any:
+    path = _path()
+    try:
+        # it keeps the interpreter's lock, so that no two threads are in one session
+        library = ctypes.PyDLL(path)
+        for call, (result, arguments) in _CALLS.items():
+            function = getattr(library, f"ticurses_raw_{call}")
+            function.restype, function.argtypes = result, arguments
+    except (OSError, AttributeError) as error:
+        text = f"the library of ticurses can't be used ({error}); ./install of its repository installs it, and TICURSES_LIBRARY names another"
+        raise ImportError(text, name="ticurses", path=path) from error
+    return library
+
+
+RAW = _loaded()

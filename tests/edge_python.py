@@ -1,0 +1,228 @@
+"""The Python package over a library that only pretends: errors, imports, what is interrupted, and blocks that are left."""
+
+import os
+import shutil
+import subprocess
+import sys
+import sysconfig
+
+from trying import TOP, held_in, write
+
+sys.path.append(f"{TOP}/tools")
+
+from version import SONAME, VERSION
+
+# what each program here begins with
+BEGINNING = """
+import contextlib, copy, io, os, pickle, signal, sys
+import ticurses
+from ticurses import Code, Error, Session
+
+def found():
+    try:
+        return len(ticurses.find_entry())
+    except FileNotFoundError:
+        return 0
+
+def raises(kind, call, *words):
+    try:
+        call(*words)
+    except kind as error:
+        return error
+    sys.exit(f"{call} {words} raises nothing")
+
+def same(one, other):
+    if one != other:
+        sys.exit(f"{one!r} is not {other!r}")
+"""
+
+ERRORS = """
+from concurrent.futures import ProcessPoolExecutor
+
+def fail():
+    raise Error(Code.NO_CERTIFICATE, "no op: WrongEffect")
+
+if __name__ == "__main__":
+    error = Error(24, "no op: WrongEffect")
+    for made in (copy.copy(error), copy.deepcopy(error), pickle.loads(pickle.dumps(error))):
+        same((made.code, made.reason, str(made)), (Code.NO_CERTIFICATE, error.reason, str(error)))
+    with ProcessPoolExecutor(1) as pool:
+        same(raises(Error, pool.submit(fail).result).code, Code.NO_CERTIFICATE)
+    same(set(Code), set(ticurses.TEXTS))
+    same([it for it in ticurses.__all__ if not hasattr(ticurses, it)], [])
+"""
+
+TEXTS = """
+session = Session(b"entry", 24, 80)
+for given in (5, [1, 2], None, 2.5, object()):
+    raises(TypeError, session.addstr, 0, given)
+    raises(TypeError, session.call, given)
+    raises(TypeError, Session, given, 24, 80)
+for given in ("text", b"text", bytearray(b"text"), memoryview(b"text"), "\\ud800", "\\udcff", "\\u00e9", ""):
+    session.addstr(0, given)
+raises(Error, session.open, b"entry wrong", 40, 80)
+raises(Error, session.open, b"entry", 24, 501)
+session.call("refresh 3")
+same(session.output(), b"<24x80>xxx")
+session.open(b"entry", 14, 50)
+session.call("refresh 3")
+same(session.output(), b"<14x50>xxx")
+session.close()
+same(raises(Error, session.call, "refresh 1").code, Code.CLOSED)
+"""
+
+# what ends `send` is an exception from a handler, an interrupt, or an error; each throws away what waits
+SENT = """
+import fcntl, resource, threading, time
+
+resource.setrlimit(resource.RLIMIT_NOFILE, (4096, 4096))
+
+def late(number, _):
+    raise TimeoutError("late")
+
+def cut(session, fd, kind, number):
+    session.call("refresh 300000")
+    timer = threading.Timer(0.3, os.kill, (os.getpid(), number))
+    timer.start()
+    raises(kind, session.send, fd)
+    same(session.waiting, 0)
+    session.call("refresh 1")
+    same(session.output(), b"<again>x")
+
+signal.signal(signal.SIGALRM, late)
+for blocking in (True, False):
+    reading, writing = os.pipe()
+    high = fcntl.fcntl(writing, fcntl.F_DUPFD, 2000)
+    os.set_blocking(high, blocking)
+    session = Session(b"entry", 24, 80)
+    session.call("refresh 1")
+    session.output()
+    cut(session, high, TimeoutError, signal.SIGALRM)
+    cut(session, high, KeyboardInterrupt, signal.SIGINT)
+    held = []
+    reader = threading.Thread(target=lambda: [held.append(os.read(reading, 65536)) for _ in range(40)], daemon=True)
+    reader.start()
+    session.call("refresh 200000")
+    session.send(high)
+    os.close(writing)
+    os.close(high)
+    reader.join()
+    same(b"".join(held).count(b"x") >= 200000, True)
+    os.close(reading)
+reading, writing = os.pipe()
+os.close(reading)
+session.call("refresh 9")
+raises(BrokenPipeError, session.send, writing)
+same(session.waiting, 0)
+"""
+
+# what a block sends at its end, to a pipe
+BLOCKS = """
+def sent(block, kind=None):
+    reading, writing = os.pipe()
+    left = None
+    try:
+        with Session(b"entry", 24, 80) as session:
+            block(session, writing)
+    except BaseException as error:
+        left = type(error)
+    same(left, kind)
+    same(raises(Error, session.call, "refresh 1").code, Code.CLOSED)
+    os.close(writing)
+    with open(reading, "rb") as file:
+        return file.read()
+
+def draw(session, fd):
+    session.call("refresh 2")
+    session.send(fd)
+
+def draw_and_fail(session, fd):
+    draw(session, fd)
+    raise ZeroDivisionError
+
+def cut_and_fail(session, fd):
+    session.call("refresh 2")
+    session.send(fd)
+    session.lost()
+    raise ZeroDivisionError
+
+def draw_and_end(session, fd):
+    draw(session, fd)
+    session.call("endwin")
+    session.send(fd)
+
+def draw_badly(session, fd):
+    draw(session, fd)
+    session.call("refresh 1", "bad")
+
+same(sent(draw), b"<24x80>xx<endwin>")
+same(sent(draw_and_fail, ZeroDivisionError), b"<24x80>xx<endwin>")
+same(sent(cut_and_fail, ZeroDivisionError), b"<24x80>xx<again><endwin>")
+same(sent(draw_and_end), b"<24x80>xx<endwin>")
+same(sent(draw_badly, Error), b"<24x80>xxx<endwin>")
+same(sent(lambda session, fd: session.call("refresh 1")), b"")
+"""
+
+
+def variables(work):
+    """What a program needs to find the package, and the library that only pretends."""
+    return {"TICURSES_LIBRARY": f"{work}/libstub.so", "PYTHONPATH": f"{TOP}/bindings/python", "PYTHONDONTWRITEBYTECODE": "1"}
+
+
+def run(work, program, environment):
+    """What a program prints, which has to end well."""
+    write(f"{work}/program.py", (BEGINNING + program).encode())
+    how = {"env": {**environment, **variables(work)}, "stdout": subprocess.PIPE, "stderr": subprocess.STDOUT, "timeout": 120}
+    ran = subprocess.run([sys.executable, "-X", "dev", f"{work}/program.py"], stdin=subprocess.DEVNULL, **how)
+    if ran.returncode:
+        sys.exit(f"edge: of Python: {ran.stdout.decode()}{program[:200]}")
+    return ran.stdout.decode()
+
+
+def page():
+    """The program of docs/LIBRARY.md."""
+    section = held_in(f"{TOP}/docs/LIBRARY.md").decode().partition("\n## In Python\n")[2]
+    lines = [it for it in section.split("\n## ")[0].split("\n") if it.startswith("    ") or not it]
+    text = "\n".join(it[4:] for it in lines).strip()
+    return text.partition("\n\n\n")[0] + "\n"
+
+
+def check_import(work):
+    """Without the library, or with another file in its place, it is an ImportError that says what to do."""
+    shutil.copytree(f"{TOP}/bindings/python/ticurses", f"{work}/a/b/ticurses")
+    write(f"{work}/empty.so", b"no library")
+    # a library that lies two folders above is nobody's
+    shutil.copy(f"{work}/libstub.so", f"{work}/a/{SONAME}")
+    shutil.copy(f"{work}/libstub.so", f"{work}/{SONAME}")
+    line = "try:\n    import ticurses\nexcept ImportError as error:\n    print(error)"
+    libc = next(it for it in ("libm.so.6", "libc.so.6") if it)
+    for library in (None, f"{work}/none.so", f"{work}/empty.so", libc):
+        environment = {"PYTHONPATH": f"{work}/a/b", "PYTHONDONTWRITEBYTECODE": "1"} | ({"TICURSES_LIBRARY": library} if library else {})
+        out = subprocess.run([sys.executable, "-c", line], env=environment, stdout=subprocess.PIPE, check=True).stdout.decode()
+        if "./install" not in out or "TICURSES_LIBRARY" not in out or (library or SONAME).split("/")[-1] not in out:
+            sys.exit(f"edge: of Python: without its library it says {out!r}")
+    write(f"{work}/a/b/ticurses/_installed.py", f"LIBRARY: str = {work + '/libstub.so'!r}\n".encode())
+    line = "import ticurses\nprint(ticurses.__version__)"
+    environment = {"PYTHONPATH": f"{work}/a/b", "PYTHONDONTWRITEBYTECODE": "1"}
+    out = subprocess.run([sys.executable, "-c", line], env=environment, stdout=subprocess.PIPE, check=True).stdout.decode()
+    if out != f"{VERSION}\n":
+        sys.exit(f"edge: of Python: the version is {out}, and {VERSION} was wanted")
+
+
+def check_types(work):
+    """Type checkers find nothing."""
+    if not shutil.which("mypy"):
+        print("edge: mypy is not installed, and what needs it is left out")
+        return
+    words = ["mypy", "--strict", "--cache-dir", f"{work}/types", f"{TOP}/bindings/python/ticurses"]
+    ran = subprocess.run(words, stdout=subprocess.PIPE, stderr=subprocess.STDOUT, text=True)
+    if ran.returncode:
+        sys.exit(f"edge: of Python: {ran.stdout}")
+
+
+def check(work):
+    for program in (ERRORS, TEXTS, SENT, BLOCKS):
+        run(work, program, {"PATH": os.environ["PATH"]})
+    check_import(work)
+    check_types(work)
+    print(f"edge: the Python package ({sysconfig.get_python_version()}): errors, imports, interrupted sends, blocks that are left")
