@@ -10,6 +10,7 @@ set -eu
 cd -- "$(dirname -- "$0")"
 work=$(mktemp -d)
 trap 'rm -rf "$work"' EXIT
+trap 'exit 130' HUP INT TERM
 
 if ! cc -O2 -o "$work/spent" spent.c 2>"$work/log"; then
     echo "check: a C compiler is missing" >&2

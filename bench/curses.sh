@@ -9,6 +9,7 @@ set -eu
 cd -- "$(dirname -- "$0")"
 work=$(mktemp -d)
 trap 'rm -rf "$work"' EXIT
+trap 'exit 130' HUP INT TERM
 entry=${ENTRY:-xterm-256color}
 
 ../install PREFIX="$work/prefix" >"$work/log"

@@ -8,6 +8,7 @@ set -eu
 cd -- "$(dirname -- "$0")"
 work=$(mktemp -d)
 trap 'rm -rf "$work"' EXIT
+trap 'exit 130' HUP INT TERM
 [ $# -gt 0 ] || set -- text mixed scrolling painting sequences colours
 
 peer=$work/peer

@@ -6,6 +6,7 @@ cd -- "$(dirname -- "$0")/.."
 
 work=$(mktemp -d)
 trap 'rm -rf "$work"' EXIT
+trap 'exit 130' HUP INT TERM
 if ! (cd crates/bench_parm && rt run -- 0 '' >"$work/log" 2>&1); then
     cat "$work/log" >&2
     exit 1

@@ -8,6 +8,7 @@ set -eu
 cd -- "$(dirname -- "$0")"
 work=$(mktemp -d)
 trap 'rm -rf "$work"' EXIT
+trap 'exit 130' HUP INT TERM
 
 if ! { cc -O2 -o "$work/spent" spent.c && cc -O2 -o "$work/peer" curses_peer.c -lncurses; } 2>"$work/log"; then
     echo "play: a C compiler, ncurses or its headers are missing" >&2

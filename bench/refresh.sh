@@ -7,6 +7,7 @@ set -eu
 cd -- "$(dirname -- "$0")"
 work=$(mktemp -d)
 trap 'rm -rf "$work"' EXIT
+trap 'exit 130' HUP INT TERM
 
 if ! cc -O2 -o "$work/peer" curses_peer.c -lncurses 2>"$work/log"; then
     echo "refresh: a C compiler, ncurses or its headers are missing" >&2

@@ -15,6 +15,7 @@ runs=${1:-5}
 
 work=$(mktemp -d)
 trap 'rm -rf "$work"' EXIT
+trap 'exit 130' HUP INT TERM
 
 # the entries of the system, each once
 infocmp -D 2>/dev/null | while read -r folder; do

@@ -5,6 +5,7 @@ set -eu
 cd -- "$(dirname -- "$0")"
 work=$(mktemp -d)
 trap 'rm -rf "$work"' EXIT
+trap 'exit 130' HUP INT TERM
 ../build
 ours=../crates/ticurses/out/ticurses
 

@@ -8,6 +8,8 @@ cd -- "$(dirname -- "$0")/.."
 
 work=$(mktemp -d)
 trap 'rm -rf "$work"' EXIT
+# some shells leave out that where a signal ends them
+trap 'exit 130' HUP INT TERM
 
 # probe NAME OUTER FIRST SECOND: a program that keeps what was read, and names; the others are lines of it
 probe() {

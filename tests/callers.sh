@@ -7,6 +7,8 @@ cd -- "$(dirname -- "$0")/.."
 
 work=$(mktemp -d)
 trap 'rm -rf "$work"' EXIT
+# some shells leave out that where a signal ends them
+trap 'exit 130' HUP INT TERM
 mkdir "$work/sources"
 python3 -B tests/readmes.py --callers "$work/sources" >"$work/names"
 # shellcheck disable=SC2046

@@ -8,6 +8,8 @@ cd -- "$(dirname -- "$0")/.."
 
 work=$(mktemp -d)
 trap 'rm -rf "$work"' EXIT
+# some shells leave out that where a signal ends them
+trap 'exit 130' HUP INT TERM
 # shellcheck disable=SC2046
 lay "$work/command" $(sed -n 's/^ticurses: *//p' crates.txt)
 cp crates/ticurses/src/*.rt "$work/command/crates/probe/src"

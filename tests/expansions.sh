@@ -8,6 +8,8 @@ cd -- "$(dirname -- "$0")/.."
 needs expansions od tr cut awk
 work=$(mktemp -d)
 trap 'rm -rf "$work"' EXIT
+# some shells leave out that where a signal ends them
+trap 'exit 130' HUP INT TERM
 mkdir "$work/cases"
 count=0
 

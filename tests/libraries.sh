@@ -7,6 +7,8 @@ cd -- "$(dirname -- "$0")/.."
 
 work=$(mktemp -d)
 trap 'rm -rf "$work"' EXIT
+# some shells leave out that where a signal ends them
+trap 'exit 130' HUP INT TERM
 # shellcheck disable=SC2046
 lay "$work/libraries" $(used tests/libraries/*.txt)
 fill "$work/libraries" tests/libraries

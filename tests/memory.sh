@@ -9,6 +9,8 @@ cd -- "$(dirname -- "$0")/.."
 
 work=$(mktemp -d)
 trap 'rm -rf "$work"' EXIT
+# some shells leave out that where a signal ends them
+trap 'exit 130' HUP INT TERM
 
 # the request that is refused: more than the calls ask for together, since one before the calls and one after them have to be met too
 REFUSED=740

@@ -7,6 +7,8 @@ cd -- "$(dirname -- "$0")/.."
 
 work=$(mktemp -d)
 trap 'rm -rf "$work"' EXIT
+# some shells leave out that where a signal ends them
+trap 'exit 130' HUP INT TERM
 
 # count NAME CALLS: runs the program with these calls, true or false; `allocations` of NAME.log is how often it asked
 count() {

@@ -5,6 +5,8 @@ set -eu
 cd -- "$(dirname -- "$0")/.."
 work=$(mktemp -d)
 trap 'rm -rf "$work"' EXIT
+# some shells leave out that where a signal ends them
+trap 'exit 130' HUP INT TERM
 mkdir "$work/cases"
 
 count=0

@@ -8,6 +8,8 @@ cd -- "$(dirname -- "$0")/.."
 
 work=$(mktemp -d)
 trap 'rm -rf "$work"' EXIT
+# some shells leave out that where a signal ends them
+trap 'exit 130' HUP INT TERM
 # shellcheck disable=SC2046
 lay "$work/surface" $(used tests/surface/*.txt)
 fill "$work/surface" tests/surface

@@ -126,7 +126,7 @@ def program_page(helps):
         lines += tagged([*((flag(it), [text]) for it, text in page.options()), *words])
         lines += [line for block in page.body for line in block_lines(block)]
     lines += [".Sh EXIT STATUS", *block_lines(statuses[1:])[1:]]
-    return MADE + "\n".join([*lines, ".Sh SEE ALSO", ".Xr infocmp 1 ,", ".Xr tic 1 ,", ".Xr ticurses\\-script 5 ,", ".Xr terminfo 5", ""])
+    return MADE + "\n".join([*lines, ".Sh SEE ALSO", ".Xr infocmp 1 ,", ".Xr tic 1 ,", ".Xr ticurses 3 ,", ".Xr terminfo 5 ,", ".Xr ticurses\\-script 5", ""])
 
 
 def script_page(helps, example):
@@ -140,7 +140,7 @@ def script_page(helps, example):
     lines += [".Sh DIAGNOSTICS", "A call may be refused.", "The reason, which", ".Cm ticurses show", "prints, is one of:"]
     lines += block_lines(refused[1:])[1:]
     lines += [".Sh EXAMPLES", ".Bd -literal", *(escaped(line) for line in example.rstrip("\n").split("\n")), ".Ed"]
-    return MADE + "\n".join([*lines, ".Sh SEE ALSO", ".Xr ticurses 1 ,", ".Xr curses 3", ""])
+    return MADE + "\n".join([*lines, ".Sh SEE ALSO", ".Xr ticurses 1 ,", ".Xr curses 3 ,", ".Xr ticurses 3", ""])
 
 
 def pages(helps, example):
