@@ -31,14 +31,21 @@ NEEDS = 3_000_000_000
 SHOWN = 20
 
 
+def git_folder():
+    """The folder that git has for this checkout; None where there is no git, or it doesn't say."""
+    if not shutil.which("git"):
+        return None
+    words = ["git", "-C", TOP, "rev-parse", "--absolute-git-dir"]
+    ran = subprocess.run(words, stdin=subprocess.DEVNULL, capture_output=True, check=False)
+    return None if ran.returncode else os.fsdecode(ran.stdout)[:-1]
+
+
 def rooms():
     """The folder of all rooms, of this user alone. It is in the one that git names for this checkout, since `rt ci`
     reads every other; where there is none on this disk, it is in the checkout."""
     at = f"{TOP}/.rooms"
     if os.path.lexists(f"{TOP}/.git"):
-        words = ["git", "-C", TOP, "rev-parse", "--absolute-git-dir"]
-        named = subprocess.run(words, stdin=subprocess.DEVNULL, capture_output=True, check=False) if shutil.which("git") else None
-        folder = os.fsdecode(named.stdout)[:-1] if named and not named.returncode else f"{TOP}/.git"
+        folder = git_folder() or f"{TOP}/.git"
         if os.path.isdir(folder) and os.stat(folder).st_dev == os.stat(TOP).st_dev:
             at = f"{folder}/rooms"
     if not os.path.lexists(at):

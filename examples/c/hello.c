@@ -1,4 +1,4 @@
-/* hello: draws a box with a text on this terminal, and waits for a key. What ends it sooner restores the terminal. */
+/* hello: draws a box with a text on this terminal, and waits for a key. Signals restore the terminal first. */
 #define _POSIX_C_SOURCE 200809L
 #include <ticurses_terminal.h>
 
@@ -32,7 +32,8 @@ static void wait_for_key(const sigset_t *signals) {
     char key;
     FD_ZERO(&keys);
     FD_SET(STDIN_FILENO, &keys);
-    if (pselect(STDIN_FILENO + 1, &keys, NULL, NULL, NULL, signals) > 0 && read(STDIN_FILENO, &key, 1) < 0) ended = SIGHUP;
+    if (pselect(STDIN_FILENO + 1, &keys, NULL, NULL, NULL, signals) > 0 && read(STDIN_FILENO, &key, 1) < 0)
+        ended = SIGHUP;
 }
 
 int main(void) {
@@ -65,7 +66,8 @@ int main(void) {
     if (ticurses_send(&session, STDOUT_FILENO) != 0) is_sent = 0;
     ticurses_set_cooked(STDIN_FILENO, &before);
     ticurses_close(&session);
-    if (code != TICURSES_OK || !is_sent) fprintf(stderr, "hello: %s\n", is_sent ? ticurses_text(code) : strerror(errno));
+    if (!is_sent || code != TICURSES_OK)
+        fprintf(stderr, "hello: %s\n", is_sent ? ticurses_text(code) : strerror(errno));
     if (ended) {
         signal(ended, SIG_DFL);
         sigprocmask(SIG_SETMASK, &signals, NULL);
