@@ -18,6 +18,11 @@
 
 #ifdef __cplusplus
 extern "C" {
+#ifdef __GNUC__
+/* what is C too has the casts of C */
+#pragma GCC diagnostic push
+#pragma GCC diagnostic ignored "-Wold-style-cast"
+#endif
 #endif
 
 /* A compiled entry is at most so long. */
@@ -189,6 +194,9 @@ static inline int ticurses_send(ticurses *session, int fd) {
 }
 
 #ifdef __cplusplus
+#ifdef __GNUC__
+#pragma GCC diagnostic pop
+#endif
 }
 #endif
 #endif

@@ -72,6 +72,11 @@ def check_header(prefix, work):
         exported = {line.split()[2] for line in listed.splitlines()}
         if exported != declared:
             sys.exit(f"libticurses.so exports {sorted(exported)}, and the header declares {sorted(declared)}")
+        words = ["nm", "-g", "--defined-only", f"{prefix}/lib/libticurses.a"]
+        listed = subprocess.run(words, stdout=subprocess.PIPE, text=True, check=True).stdout
+        defined = {it[2] for it in map(str.split, listed.splitlines()) if len(it) == 3}
+        if defined != declared:
+            sys.exit(f"libticurses.a defines {sorted(defined)}, and the header declares {sorted(declared)}")
     print("c: the headers compile as C and as C++ without a warning; the shared library exports what they declare")
 
 

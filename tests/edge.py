@@ -40,16 +40,18 @@ def stub(work):
 
 def check_headers(work):
     """Each of the compilers takes the headers as C99 and as C++11, without a warning."""
-    text = "#include <ticurses.h>\n#include <ticurses_terminal.h>\nint main(void) { return ticurses_text(0) == 0; }\n"
+    text = "#include <ticurses.h>\n#include <ticurses_terminal.h>\nint main(void) { return !*ticurses_text(0); }\n"
     write(f"{work}/header.c", text.encode())
     tried = []
     for compiler, standard in (("gcc", "c99"), ("clang", "c99"), ("g++", "c++11"), ("clang++", "c++11")):
         if not missing("edge", compiler):
-            language = "c++" if "++" in standard else "c"
-            build([compiler, f"-std={standard}", "-x", language, *WARNED, f"-I{TOP}/include", "-c", f"{work}/header.c", "-o", f"{work}/header.o"])
+            language, more = ("c++", ["-Wold-style-cast"]) if "++" in standard else ("c", [])
+            words = [compiler, f"-std={standard}", "-x", language, *WARNED, *more, f"-I{TOP}/include"]
+            build([*words, "-c", f"{work}/header.c", "-o", f"{work}/header.o"])
             tried.append(f"{compiler} as {standard}")
     for example in ("hello", "monitor"):
-        build(["cc", "-std=c99", *WARNED, f"-I{TOP}/include", "-c", f"{TOP}/examples/c/{example}.c", "-o", f"{work}/example.o"])
+        words = ["cc", "-std=c99", *WARNED, f"-I{TOP}/include", "-c", f"{TOP}/examples/c/{example}.c"]
+        build([*words, "-o", f"{work}/example.o"])
     print(f"edge: the headers compile without a warning by {', '.join(tried)}")
 
 

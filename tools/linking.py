@@ -10,6 +10,8 @@ from version import SONAME
 
 # what a program may link, and no other symbol of the archive
 EXPORTED = "{ global: ticurses_raw_*; local: *; };\n"
+# the compiler, the archiver and the copier of objects: the variable that names each, and its usual name
+TOOLS = (("CC", "cc"), ("AR", "ar"), ("OBJCOPY", "objcopy"))
 
 
 class Failed(Exception):
@@ -46,19 +48,16 @@ def link(made):
 
 
 def _link_in(room):
-    archiver, compiler = os.environ.get("AR") or "ar", os.environ.get("CC") or "cc"
-    archives = "".join(f"addlib {it}\n" for it in ("curses_c.a", "libc_c.a"))
-    # names without a path: a script of the archiver takes no spaces
+    compiler, archiver, copier = (os.environ.get(it) or other for it, other in TOOLS)
+    # names without a path, since a linker's script and a message of it have them
     shutil.copy(ARCHIVE, f"{room}/curses_c.a")
     shutil.copy(f"{kit()}/c/liblibc_c.a", f"{room}/libc_c.a")
-    script = f"create libticurses.a\n{archives}save\nend\n"
-    if not shutil.which(archiver.split()[0]):
-        raise Failed(127, f"{archiver} is missing")
-    ran = subprocess.run([*archiver.split(), "-M"], cwd=room, input=script, text=True)
-    if ran.returncode or not os.path.isfile(f"{room}/libticurses.a"):
-        raise Failed(125, f"{archiver} made no archive")
     with open(f"{room}/exported", "w", encoding="ascii") as file:
         file.write(EXPORTED)
+    whole = ["-Wl,--whole-archive", "curses_c.a", "libc_c.a", "-Wl,--no-whole-archive"]
+    run([*compiler.split(), "-r", "-nostdlib", "-o", "ticurses.o", *whole], cwd=room)
+    # a program that links the archive may have any name but the library's
+    run([*copier.split(), "--wildcard", "--keep-global-symbol=ticurses_raw_*", "ticurses.o"], cwd=room)
+    run([*archiver.split(), "rcsD", "libticurses.a", "ticurses.o"], cwd=room)
     shared = ["-shared", f"-Wl,-soname,{SONAME}", "-Wl,--version-script,exported", "-o", SONAME]
-    whole = ["-Wl,--whole-archive", "libticurses.a", "-Wl,--no-whole-archive"]
-    run([*compiler.split(), *shared, *whole], cwd=room)
+    run([*compiler.split(), *shared, "ticurses.o"], cwd=room)
