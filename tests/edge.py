@@ -2,6 +2,7 @@
 library isn't built; random calls want the real one."""
 
 import os
+import re
 import shutil
 import signal
 import struct
@@ -19,6 +20,7 @@ WARNED = ["-Wall", "-Wextra", "-Wconversion", "-Wshadow", "-pedantic", "-Werror"
 FORMATS, CALLS, SLOW_CALLS = 150_000, 150_000, 4_000
 IS_ROOT = os.geteuid() == 0
 NOBODY = 65534
+TOO_LARGE = b"a terminal has 2 to 200 rows and 2 to 500 columns"
 ENDINGS = (signal.SIGHUP, signal.SIGINT, signal.SIGQUIT, signal.SIGTERM)
 
 
@@ -67,7 +69,8 @@ def check_entries(work, linked):
     good, home = entry(), f"{work}/home"
     write_at(f"{home}/.terminfo/x/xx", good)
     environment = {"HOME": home, "TERMINFO": f"{work}/own", "TERMINFO_DIRS": f"{work}/none::{work}/dirs", "TERM": "xx"}
-    for what, held in (("seven bytes", good[:7]), ("cut", good[:-1]), ("text", b"xx|a,\n\tam,\n"), ("long", entry(4, 32768))):
+    broken = {"seven bytes": good[:7], "cut": good[:-1], "text": b"xx|a,\n\tam,\n", "long": entry(4, 32768)}
+    for what, held in broken.items():
         write_at(f"{work}/own/x/xx", held)
         hold(found(program, work, environment) == len(good), f"an entry that is {what} ends the search")
     os.remove(f"{work}/own/x/xx")
@@ -169,7 +172,12 @@ def on_terminal(words, environment, began=b"x", size=(24, 80)):
 
 
 # runs a program once a line has come, so that the modes before are known
-WAITING = "import os, sys; print('ready', flush=True); sys.stdin.buffer.raw.readline(); os.execv(sys.argv[1], sys.argv[1:])"
+WAITING = """
+import os, sys
+print("ready", flush=True)
+sys.stdin.buffer.raw.readline()
+os.execv(sys.argv[1], sys.argv[1:])
+"""
 
 
 def check_programs(work, linked):
@@ -180,7 +188,8 @@ def check_programs(work, linked):
     for name in ("hello", "monitor"):
         build(["cc", "-std=c99", *WARNED, f"{TOP}/examples/c/{name}.c", *linked, "-o", f"{work}/{name}"])
     hello, page = [f"{work}/hello"], [sys.executable, "-c", edge_python.page()]
-    monitors = [[f"{work}/monitor", f"{work}/file"], [sys.executable, f"{TOP}/examples/python/monitor.py", f"{work}/file"]]
+    python = [sys.executable, f"{TOP}/examples/python/monitor.py"]
+    monitors = [[*run, f"{work}/file"] for run in ([f"{work}/monitor"], python)]
     for words in (hello, *monitors, page):
         for number in ENDINGS if words is not page else (signal.SIGHUP, signal.SIGTERM):
             run, before = on_terminal(words, environment)
@@ -201,7 +210,7 @@ def check_programs(work, linked):
 def check_sizes(words, environment):
     """A terminal that no session fits is refused, and left as it was."""
     for rows, cols in ((1, 80), (24, 501), (201, 80), (24, 600), (24, 1)):
-        run, before = on_terminal(words, environment, b"a terminal has 2 to 200 rows and 2 to 500 columns", (rows, cols))
+        run, before = on_terminal(words, environment, TOO_LARGE, (rows, cols))
         run.is_left(before, 1, b"columns")
         hold(b"<endwin>" not in run.sent and b"xx" not in run.sent, "something is drawn", run.sent)
 
@@ -217,10 +226,10 @@ if not job:
     os.tcsetpgrp(0, os.getpid())
     signal.signal(signal.SIGTTOU, signal.SIG_DFL)
     os.execv(sys.argv[1], sys.argv[1:])
-print("job", job, "begins", flush=True)
+os.write(1, b"job %d begins" % job)
 while os.WIFSTOPPED(status := os.waitpid(job, os.WUNTRACED)[1]):
     os.tcsetpgrp(0, os.getpgrp())
-    print("stopped", flush=True)
+    os.write(1, b"stopped")
     signal.sigwait([signal.SIGUSR1])
     os.tcsetpgrp(0, job)
     os.killpg(job, signal.SIGCONT)
@@ -233,7 +242,9 @@ def check_stopped(words, environment):
     for is_key in (True, False):
         run, before = on_terminal([sys.executable, "-c", JOB, *words], environment)
         run.waits_for(b"begins")
-        job = int(run.sent.partition(b"job ")[2].split()[0])
+        told = re.search(rb"job (\d+) begins", run.sent)
+        hold(told, "the job doesn't begin", run.sent)
+        job = int(told[1])
         os.write(run.fd, b"\x1a") if is_key else os.kill(job, signal.SIGSTOP)
         run.waits_for(b"stopped")
         if is_key:
@@ -254,7 +265,7 @@ def check_gone(words, environment):
     hold(b"<endwin>" in run.sent, "the screen isn't ended", run.sent)
     run, before = on_terminal(words, environment)
     run.resize(24, 600)
-    run.is_left(before, 1, b"a terminal has 2 to 200 rows and 2 to 500 columns")
+    run.is_left(before, 1, TOO_LARGE)
     hold(b"<endwin>" in run.sent, "the screen isn't ended", run.sent)
     # a terminal that goes away ends it as it ends other programs
     run, _ = on_terminal(words, environment)
@@ -273,8 +284,9 @@ def check_fifo(work, words, environment):
 
 def check_said(work, hello, environment):
     """hello says what is wrong."""
-    ran = subprocess.run(hello, env={**os.environ, **environment}, stdin=subprocess.DEVNULL, capture_output=True, check=False)
-    hold(ran.returncode == 1 and ran.stderr == b"hello: standard input: Inappropriate ioctl for device\n", "hello says", ran)
+    how = {"env": {**os.environ, **environment}, "stdin": subprocess.DEVNULL, "capture_output": True}
+    ran, text = subprocess.run(hello, **how), b"hello: standard input: Inappropriate ioctl for device\n"
+    hold(ran.returncode == 1 and ran.stderr == text, "hello says", ran)
     run, before = on_terminal(hello, {**environment, "TERM": "none"}, b"hello: ")
     run.is_left(before, 1, b"hello: TERM names no entry of terminfo\r\n")
     run, before = on_terminal(hello, environment, b"hello: ", (40, 80))
@@ -290,7 +302,7 @@ def check_said(work, hello, environment):
 
 def check_formats(work):
     """What ticurses_callf makes of random formats is what snprintf makes."""
-    words = ["-O1", "-std=c99", *STRICT, f"-I{TOP}/include", f"{TOP}/tests/c/random_formats.c", "-Wno-format-nonliteral"]
+    words = ["-O1", "-std=c99", *STRICT, f"-I{TOP}/include", f"{TOP}/tests/c/random_formats.c"]
     build(["cc", *words, *SANITIZED, "-o", f"{work}/formats"])
     build(["cc", *words, "-g", "-o", f"{work}/formats_plain"])
     seed = str(int.from_bytes(os.urandom(4), "little"))
@@ -298,7 +310,7 @@ def check_formats(work):
     if not missing("edge", "valgrind"):
         tries.append(["valgrind", "-q", "--error-exitcode=9", f"{work}/formats_plain", seed, str(SLOW_CALLS)])
     run_all("formats", tries)
-    print(f"edge: {FORMATS} random formats (seed {seed}) make what snprintf makes, with the sanitizers and under valgrind")
+    print(f"edge: {FORMATS} random formats (seed {seed}) make what snprintf makes, with the sanitizers")
 
 
 def run_all(what, tries):
@@ -310,7 +322,8 @@ def run_all(what, tries):
 def check_calls(work):
     """Random calls of the real library: each answer is a code, and no other memory is read or written."""
     prefix = installed(work)
-    words = ["-O1", "-std=c99", *STRICT, f"-I{prefix}/include", f"{TOP}/tests/c/random_calls.c", f"{prefix}/lib/libticurses.a"]
+    found_at = [f"-I{prefix}/include", f"{TOP}/tests/c/random_calls.c", f"{prefix}/lib/libticurses.a"]
+    words = ["-O1", "-std=c99", *STRICT, *found_at]
     build(["cc", *words, *SANITIZED, "-o", f"{work}/calls"])
     build(["cc", *words, "-g", "-o", f"{work}/calls_plain"])
     seed = str(int.from_bytes(os.urandom(4), "little"))

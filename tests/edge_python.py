@@ -1,4 +1,4 @@
-"""The Python package over a library that only pretends: errors, imports, what is interrupted, and blocks that are left."""
+"""The Python package over a library that only pretends: errors, imports, interrupted output, blocks that are left."""
 
 import os
 import shutil
@@ -43,9 +43,12 @@ def fail():
     raise Error(Code.NO_CERTIFICATE, "no op: WrongEffect")
 
 if __name__ == "__main__":
-    error = Error(24, "no op: WrongEffect")
-    for made in (copy.copy(error), copy.deepcopy(error), pickle.loads(pickle.dumps(error))):
-        same((made.code, made.reason, str(made)), (Code.NO_CERTIFICATE, error.reason, str(error)))
+    for error in (Error(24, "no op: WrongEffect"), Error(18, "", 2, "boks 1 - -")):
+        for made in (copy.copy(error), copy.deepcopy(error), pickle.loads(pickle.dumps(error))):
+            same((made.code, made.reason, str(made)), (error.code, error.reason, str(error)))
+            same((made.line, made.text), (error.line, error.text))
+    same(str(Error(18, "", 2, "boks 1 - -")), "a line is no call: line 2, 'boks 1 - -'")
+    same(str(Error(24, "no op: WrongEffect")), "a string of the entry is wrong: no op: WrongEffect")
     with ProcessPoolExecutor(1) as pool:
         same(raises(Error, pool.submit(fail).result).code, Code.NO_CERTIFICATE)
     same(set(Code), set(ticurses.TEXTS))
@@ -67,8 +70,11 @@ same(session.output(), b"<24x80>xxx")
 session.open(b"entry", 14, 50)
 session.call("refresh 3")
 same(session.output(), b"<14x50>xxx")
+error = raises(Error, session.call, "box 1", "bad \\u00e9\\nmove 1 2 3", "refresh 1")
+same((error.code, error.line, error.text), (Code.BAD_LINE, 2, "bad \\u00e9"))
 session.close()
-same(raises(Error, session.call, "refresh 1").code, Code.CLOSED)
+error = raises(Error, session.call, "refresh 1")
+same((error.code, error.line, error.text), (Code.CLOSED, None, ""))
 """
 
 # what ends `send` is an exception from a handler, an interrupt, or an error; each throws away what waits
@@ -166,14 +172,16 @@ same(sent(lambda session, fd: session.call("refresh 1")), b"")
 
 def variables(work):
     """What a program needs to find the package, and the library that only pretends."""
-    return {"TICURSES_LIBRARY": f"{work}/libstub.so", "PYTHONPATH": f"{TOP}/bindings/python", "PYTHONDONTWRITEBYTECODE": "1"}
+    package = f"{TOP}/bindings/python"
+    return {"TICURSES_LIBRARY": f"{work}/libstub.so", "PYTHONPATH": package, "PYTHONDONTWRITEBYTECODE": "1"}
 
 
 def run(work, program, environment):
     """What a program prints, which has to end well."""
     write(f"{work}/program.py", (BEGINNING + program).encode())
-    how = {"env": {**environment, **variables(work)}, "stdout": subprocess.PIPE, "stderr": subprocess.STDOUT, "timeout": 120}
-    ran = subprocess.run([sys.executable, "-X", "dev", f"{work}/program.py"], stdin=subprocess.DEVNULL, **how)
+    how = {"env": {**environment, **variables(work)}, "stdin": subprocess.DEVNULL, "timeout": 120}
+    words = [sys.executable, "-X", "dev", f"{work}/program.py"]
+    ran = subprocess.run(words, stdout=subprocess.PIPE, stderr=subprocess.STDOUT, **how)
     if ran.returncode:
         sys.exit(f"edge: of Python: {ran.stdout.decode()}{program[:200]}")
     return ran.stdout.decode()
@@ -195,18 +203,21 @@ def check_import(work):
     shutil.copy(f"{work}/libstub.so", f"{work}/a/{SONAME}")
     shutil.copy(f"{work}/libstub.so", f"{work}/{SONAME}")
     line = "try:\n    import ticurses\nexcept ImportError as error:\n    print(error)"
-    libc = next(it for it in ("libm.so.6", "libc.so.6") if it)
-    for library in (None, f"{work}/none.so", f"{work}/empty.so", libc):
-        environment = {"PYTHONPATH": f"{work}/a/b", "PYTHONDONTWRITEBYTECODE": "1"} | ({"TICURSES_LIBRARY": library} if library else {})
-        out = subprocess.run([sys.executable, "-c", line], env=environment, stdout=subprocess.PIPE, check=True).stdout.decode()
+    for library in ("", f"{work}/none.so", f"{work}/empty.so", "libm.so.6"):
+        out = printed(work, line, library)
         if "./install" not in out or "TICURSES_LIBRARY" not in out or (library or SONAME).split("/")[-1] not in out:
             sys.exit(f"edge: of Python: without its library it says {out!r}")
     write(f"{work}/a/b/ticurses/_installed.py", f"LIBRARY: str = {work + '/libstub.so'!r}\n".encode())
-    line = "import ticurses\nprint(ticurses.__version__)"
-    environment = {"PYTHONPATH": f"{work}/a/b", "PYTHONDONTWRITEBYTECODE": "1"}
-    out = subprocess.run([sys.executable, "-c", line], env=environment, stdout=subprocess.PIPE, check=True).stdout.decode()
+    out = printed(work, "import ticurses\nprint(ticurses.__version__)", "")
     if out != f"{VERSION}\n":
         sys.exit(f"edge: of Python: the version is {out}, and {VERSION} was wanted")
+
+
+def printed(work, line, library):
+    """What a line prints that imports the copy of the package."""
+    environment = {"PYTHONPATH": f"{work}/a/b", "PYTHONDONTWRITEBYTECODE": "1", "TICURSES_LIBRARY": library}
+    ran = subprocess.run([sys.executable, "-c", line], env=environment, stdout=subprocess.PIPE, check=True)
+    return ran.stdout.decode()
 
 
 def check_types(work):
@@ -225,4 +236,5 @@ def check(work):
         run(work, program, {"PATH": os.environ["PATH"]})
     check_import(work)
     check_types(work)
-    print(f"edge: the Python package ({sysconfig.get_python_version()}): errors, imports, interrupted sends, blocks that are left")
+    which = sysconfig.get_python_version()
+    print(f"edge: the Python package ({which}): errors, imports, interrupted output, blocks that are left")

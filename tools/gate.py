@@ -164,8 +164,8 @@ def run(given):
     if "--library" in given and build.bring(LIBRARY):
         say("FAILED: the library for C isn't built")
         return 1
-    say(f"{len(names) - len(OF_PROGRAM)} scripts come first, then rt ci, and then {len(OF_PROGRAM)} scripts that run the program")
     first, others = Scripts([it for it in names if it not in OF_PROGRAM]), Scripts(sorted(OF_PROGRAM))
+    say(f"{len(first.paths)} scripts come first, then rt ci, and then {len(others.paths)} scripts that run the program")
     if not first.run_all():
         return 1
     status, last = proved(rt_ci("--anew" in given))

@@ -5,11 +5,13 @@ same words has placed.
     ./install [uninstall] [PREFIX=/usr/local] [DESTDIR=] [LIBDIR=PREFIX/lib] [PYTHONDIR=..]
 
 Without PREFIX it is /usr/local. Files go below DESTDIR, but are made for PREFIX: the headers, libticurses.a,
-libticurses.so, ticurses.pc for pkg-config, the manual pages, and the Python package, in the folder below PREFIX in which
-python3 looks for packages. The program and its page come along where it is built. CC, AR and OBJCOPY are the C compiler,
-the archiver and the copier of objects, cc, ar and objcopy if they aren't set. The status is 0, 1 if a file could not be written, 2 for other words than these
-and for folders that a .pc file can't have, 125 if a crate, the compiler or the archiver failed, 127 without one of them,
-and 128 and the number of a signal that ended it."""
+libticurses.so, ticurses.pc for pkg-config, the manual pages, and the Python package, in the folder below PREFIX in
+which python3 looks for packages. The program and its page come along where it is built. CC, AR and OBJCOPY are the C
+compiler, the archiver and the copier of objects, cc, ar and objcopy if they aren't set.
+
+The status is 0, 1 if a file could not be written, 2 for other words than these and for folders that a .pc file can't
+have, 125 if a crate, the compiler or the archiver failed, 127 without one of them, and 128 and the number of a signal
+that ended it."""
 
 import contextlib
 import os

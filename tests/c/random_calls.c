@@ -1,16 +1,17 @@
-/* random_calls SOURCE SEED COUNT: random calls on three sessions, of which some are right, some are altered and some are
- * any bytes. Pieces that are passed have exactly their length, so that the address sanitizer and valgrind see any other
- * byte that is read or written. The status is 0 if each answer is a code. */
+/* random_calls SOURCE SEED COUNT: random calls on three sessions, of which some are right and some are altered. Pieces
+ * that are passed have exactly their length, so that the address sanitizer and valgrind see any other byte that is read
+ * or written. The status is 0 if each answer is a code. */
 #include <ticurses.h>
 
 #include <string.h>
 
 static const char *const words[] = {
-    "newwin", "newpad", "derwin", "subpad", "dupwin", "delwin", "mvwin", "move", "addch", "addstr", "insch", "delch", "insertln",
-    "deleteln", "insdelln", "erase", "clear", "clrtobot", "clrtoeol", "box", "border", "hline", "vline", "attron", "attroff",
-    "attrset", "color_set", "bkgd", "bkgdset", "scroll", "scrollok", "setscrreg", "leaveok", "clearok", "touchwin", "touchline",
-    "overlay", "overwrite", "copywin", "noutrefresh", "pnoutrefresh", "prefresh", "refresh", "doupdate", "init_pair", "curs_set",
-    "beep", "endwin", "idlok", "pechochar", "nothing", "",
+    "newwin", "newpad", "derwin", "subpad", "dupwin", "delwin", "mvwin", "move", "addch", "addstr", "insch",
+    "delch", "insertln", "deleteln", "insdelln", "erase", "clear", "clrtobot", "clrtoeol", "box", "border",
+    "hline", "vline", "attron", "attroff", "attrset", "color_set", "bkgd", "bkgdset", "scroll", "scrollok",
+    "setscrreg", "leaveok", "clearok", "touchwin", "touchline", "overlay", "overwrite", "copywin",
+    "noutrefresh", "pnoutrefresh", "prefresh", "refresh", "doupdate", "init_pair", "curs_set", "beep", "endwin",
+    "idlok", "pechochar", "nothing", "",
 };
 static const char *const names[] = {"mini", "vt", "xt", "xc", "none"};
 static char source[1 << 16];

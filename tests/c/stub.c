@@ -9,7 +9,7 @@
 #include <string.h>
 
 typedef struct { void *at; size_t state; } handle;
-typedef struct { char *text, size[16]; size_t from, to; int is_lost; } session;
+typedef struct { char *text, size[16]; size_t from, to, failed; int is_lost; } session;
 
 enum { FULL = 11, BAD_LINE = 18, CLOSED = 20, BAD_SIZE, BAD_ENTRY, NO_CERTIFICATE = 24, ROOM = 1 << 22 };
 
@@ -37,8 +37,8 @@ int32_t ticurses_raw_open(handle *at, const uint8_t *entry, size_t entry_len, co
     int32_t code = judged(entry, entry_len, rows, cols);
     session *it;
     (void)name, (void)name_len, (void)certificate, (void)certificate_len;
-    ticurses_raw_close(at);
     if (code) return code;
+    ticurses_raw_close(at);
     at->at = it = calloc(1, sizeof *it);
     it->text = malloc(ROOM);
     snprintf(it->size, sizeof it->size, "<%dx%d>", rows, cols);
@@ -85,14 +85,25 @@ static int32_t line(session *it, const char *text, size_t len) {
 
 int32_t ticurses_raw_call(handle *at, const uint8_t *text, size_t len) {
     const char *from = (const char *)text, *end = from + len;
-    int32_t code = at->at ? 0 : CLOSED;
+    session *it = at->at;
+    int32_t code = it ? 0 : CLOSED;
+    size_t number = 0;
     while (!code && from < end) {
         const char *stop = memchr(from, '\n', (size_t)(end - from));
         if (!stop) stop = end;
-        code = line(at->at, from, (size_t)(stop - from));
+        code = line(it, from, (size_t)(stop - from));
         from = stop + 1;
+        number++;
     }
+    if (it) it->failed = code ? number : 0;
     return code;
+}
+
+int32_t ticurses_raw_failed(handle *at, size_t *number) {
+    session *it = at->at;
+    if (!it) return CLOSED;
+    *number = it->failed;
+    return 0;
 }
 
 int32_t ticurses_raw_addstr(handle *at, size_t window, const uint8_t *text, size_t len) {

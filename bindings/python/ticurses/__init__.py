@@ -170,11 +170,21 @@ class Session:
         RAW.ticurses_raw_close(before)
 
     def call(self, *lines: Text) -> None:
-        """Makes calls, one a line, up to the first that isn't done."""
+        """Makes calls, one a line, up to the first that isn't done; the error says which it is. If a line is no call, none
+        is made."""
         text = b"\n".join(map(_bytes, lines))
         self._is_over = False
-        _is_done(RAW.ticurses_raw_call(self._handle, text, len(text)))
+        code = RAW.ticurses_raw_call(self._handle, text, len(text))
+        if code:
+            raise self._refused(code, text)
         self._is_over = text.endswith(b"endwin")
+
+    def _refused(self, code: int, text: bytes) -> Error:
+        number = SIZE(0)
+        if RAW.ticurses_raw_failed(self._handle, number) or not number.value:
+            return Error(code)
+        line = text.split(b"\n")[number.value - 1]
+        return Error(code, "", number.value, line.decode("utf-8", "backslashreplace"))
 
     def addstr(self, window: int, text: Text) -> None:
         """Writes a text at the cursor of a window: bytes, or a string of ASCII. Others are refused."""

@@ -69,13 +69,14 @@ TEXTS: dict[Code, str] = {
 
 
 class Error(Exception):
-    """A call that wasn't done: its `code`, and the `reason` where there is more to say."""
+    """A call that wasn't done: its `code`, and the `reason` where there is more to say. Of a text of calls, `line` is the
+    number of the line that was refused or is no call, from 1, and `text` is what stands on it."""
 
-    def __init__(self, code: int, reason: str = "") -> None:
+    def __init__(self, code: int, reason: str = "", line: int | None = None, text: str = "") -> None:
         # by its arguments an error is copied and pickled
-        super().__init__(code, reason)
-        self.code = Code(code)
-        self.reason = reason
+        super().__init__(code, reason, line, text)
+        self.code, self.reason, self.line, self.text = Code(code), reason, line, text
 
     def __str__(self) -> str:
-        return f"{TEXTS[self.code]}: {self.reason}" if self.reason else TEXTS[self.code]
+        where = "" if self.line is None else f"line {self.line}, {self.text!r}"
+        return ": ".join(it for it in (TEXTS[self.code], self.reason, where) if it)

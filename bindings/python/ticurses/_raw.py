@@ -29,6 +29,7 @@ _CALLS: dict[str, tuple[Any, list[Any]]] = {
     "verify": (CODE, [*_ENTRY, BYTES, SIZE]),
     "open": (CODE, [SESSION, *_ENTRY, BYTES, SIZE]),
     "call": (CODE, [SESSION, BYTES, SIZE]),
+    "failed": (CODE, [SESSION, SIZES]),
     "addstr": (CODE, [SESSION, SIZE, BYTES, SIZE]),
     "cursor": (CODE, [SESSION, SIZE, SHORTS, SHORTS]),
     "size": (CODE, [SESSION, SIZE, SHORTS, SHORTS]),
@@ -62,7 +63,8 @@ def _loaded() -> Any:
             function = getattr(library, f"ticurses_raw_{call}")
             function.restype, function.argtypes = result, arguments
     except (OSError, AttributeError) as error:
-        text = f"the library of ticurses can't be used ({error}); ./install of its repository installs it, and TICURSES_LIBRARY names another"
+        text = f"the library of ticurses can't be used ({error}); "
+        text += "./install of its repository installs it, and TICURSES_LIBRARY names another"
         raise ImportError(text, name="ticurses", path=path) from error
     return library
 
