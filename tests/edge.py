@@ -1,8 +1,11 @@
 """What isn't proved. Much of it runs over a library that only pretends (c/stub.c), so that it is tried also where the
 library isn't built; random calls want the real one."""
 
+import errno
 import os
+import pty
 import re
+import select
 import shutil
 import signal
 import struct
@@ -207,6 +210,37 @@ def check_programs(work, linked):
     print("edge: hello, both monitors and the page's program restore the terminal after each signal, and refuse sizes")
 
 
+def check_cuts(work, linked):
+    """What is sent to a terminal that is slow, while signals interrupt it, arrives whole; one that goes away in the middle,
+    after any number of bytes, is an error, and the next refresh begins anew. So in Python."""
+    build(["cc", "-std=c99", *WARNED, *SANITIZED, f"{TOP}/tests/c/sends.c", *linked, "-o", f"{work}/sends"])
+    for taken in (0, 1, 4095, 4096, 4097, 70_000, 200_009, 200_017, 333_333):
+        for words in ([f"{work}/sends", "200000"], edge_python.sender(work)):
+            outer, inner = pty.openpty()
+            # nobody knows modes of this terminal but the program
+            how = {"stdin": inner, "stdout": inner, "stderr": subprocess.PIPE, "start_new_session": True}
+            run = subprocess.Popen(words, env={**os.environ, **edge_python.variables(work)}, **how)
+            os.close(inner)
+            sent = taken_slowly(outer, taken)
+            os.close(outer)
+            told = run.communicate(timeout=60)[1]
+            hold(run.returncode == 0 and told == b"%d 0 <again>\n" % errno.EIO, "a cut is told otherwise", taken, run, told)
+            whole = (b"<24x80>" + b"x" * 200_000 + b"<endwin>") + (b"x" * 200_000 + b"<endwin>")
+            hold(sent == whole[:taken], "something else arrives", taken, sent[:40], sent[-40:])
+    print("edge: output to a slow terminal arrives whole while signals come; one that is cut at any byte begins anew")
+
+
+def taken_slowly(outer, most):
+    """So many bytes of what is sent to a terminal, in pieces, once something is."""
+    sent = b""
+    select.select([outer], [], [], 60)
+    while len(sent) < most:
+        sent += os.read(outer, min(most - len(sent), 1 + len(sent) % 3000))
+        if len(sent) % 7 == 0:
+            time.sleep(0.0005)
+    return sent
+
+
 def check_sizes(words, environment):
     """A terminal that no session fits is refused, and left as it was."""
     for rows, cols in ((1, 80), (24, 501), (201, 80), (24, 600), (24, 1)):
@@ -344,6 +378,7 @@ def main():
         edge_python.check(work)
         check_entries(work, linked)
         check_programs(work, linked)
+        check_cuts(work, linked)
         check_calls(work)
 
 

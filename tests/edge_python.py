@@ -170,6 +170,32 @@ same(sent(lambda session, fd: session.call("refresh 1")), b"")
 """
 
 
+# what tests/c/sends.c does
+SENDER = """
+signal.signal(signal.SIGALRM, lambda *_: None)
+signal.signal(signal.SIGHUP, signal.SIG_IGN)
+ticurses.set_raw(1)
+os.set_blocking(1, False)
+session = Session(b"entry", 24, 80)
+signal.setitimer(signal.ITIMER_REAL, 0.0005, 0.0005)
+try:
+    while True:
+        session.call("refresh 200000", "endwin")
+        session.send()
+except OSError as error:
+    print(error.errno, session.waiting, end=" ", file=sys.stderr)
+signal.setitimer(signal.ITIMER_REAL, 0)
+session.call("refresh 1")
+print(session.output(7).decode(), file=sys.stderr)
+"""
+
+
+def sender(work):
+    """The words that run it."""
+    write(f"{work}/sender.py", (BEGINNING + SENDER).encode())
+    return [sys.executable, f"{work}/sender.py"]
+
+
 def variables(work):
     """What a program needs to find the package, and the library that only pretends."""
     package = f"{TOP}/bindings/python"
