@@ -56,7 +56,7 @@ library=$PREFIX/lib/libticurses.so.@MAJOR@
 files=$(cd -- "$here" && find bin include lib python share \( -type f -o -type l \) | LC_ALL=C sort)
 
 if [ "$does" = uninstall ]; then
-    for file in $files lib/pkgconfig/ticurses.pc python/ticurses/_installed.py; do
+    for file in $files lib/pkgconfig/ticurses.pc; do
         rm -f -- "$(place_of "$file")"
     done
     rm -rf -- "$DESTDIR$PYTHONDIR/ticurses/__pycache__"
@@ -106,6 +106,6 @@ Cflags: -I\${includedir}
 Libs: -L\${libdir}$found -lticurses
 END
 put lib/pkgconfig/ticurses.pc "$made"
-printf '"""Where the library is installed, as install.sh wrote it."""\n\nLIBRARY = "%s"\n' "$library" >"$made"
+printf '"""Where the library is installed, as install.sh wrote it."""\n\nLIBRARY: str = "%s"\n' "$library" >"$made"
 put python/ticurses/_installed.py "$made"
 echo "install.sh: ticurses @VERSION@ is installed in $DESTDIR$PREFIX, its Python package in $DESTDIR$PYTHONDIR"

@@ -145,7 +145,7 @@ def add_common(tree, proved, prefix, libdir, python, pages_zipped):
     tree.add(f"{libdir}/{SONAME}", proved.shared)
     tree.links[f"{libdir}/libticurses.so"] = SONAME
     for name in sorted(os.listdir(BINDING)):
-        if name.endswith((".py", "py.typed")) and name != "_installed.py":
+        if name.endswith((".py", "py.typed")):
             tree.add(f"{python}/ticurses/{name}", read(f"{BINDING}/{name}"))
     for page in sorted(os.listdir(f"{TOP}/man")):
         held, ending = read(f"{TOP}/man/{page}"), ""

@@ -28,7 +28,7 @@ SONAME = f"libticurses.so.{VERSION.split('.')[0]}"
 NAMED = [
     ("NEWS.md", r"^## (\d+\.\d+\.\d+)", VERSION),
     ("README.md", r"\bticurses[-_](\d+\.\d+\.\d+)", VERSION),
-    ("bindings/python/ticurses/__init__.py", r"\b(libticurses\.so\.\d+)", SONAME),
+    ("bindings/python/ticurses/_raw.py", r"\b(libticurses\.so\.\d+)", SONAME),
 ]
 
 
