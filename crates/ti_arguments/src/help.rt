@@ -151,9 +151,13 @@ whole or not at all, and there is no output; a terminal as standard error has a 
 
 Standard error gets a line `note CAP HEX` for each sequence of the entry's strings, with the first parameters of each,
 that the terminal ignores, or of which it ignores a number. There are none where a string can't be expanded, or doesn't
-send text and whole sequences.
+send text and whole sequences. Of an entry of a source, and of those that it uses, it gets a line
+`hint line N: NAME is no capability` for each name that is none, and hints at names that stand in the entry before, and at
+escapes without a meaning. Behind a certificate it gets a line `advice CAP: ..` for what is never seen although the entry
+has a string for it: an attribute that sgr never shows, colors without setaf, setab or op, acsc without smacs or rmacs,
+civis without cnorm. Neither changes what is answered.
 
-If there is none, standard error has a line `refused: no CAP P..: CAUSE` with a capability and its parameters, the
+If there is no certificate, standard error has a line `refused: no CAP P..: CAUSE` with a capability and its parameters, the
 first in the order of a certificate's lines. The lines below it say what the string sends for these parameters, from
 which state of the terminal it goes wrong, what was wanted there, and what happens instead.
 
@@ -170,8 +174,9 @@ CAUSE. Standard error has the first of them too, after `refused: `. If nothing i
 With --json there is no certificate either. The output is a JSON object on a line of its own: what is wrong first, or with
 --all one for each fault, or one with the verdict `yes`. Each has the members entry (the first name), size (rows and cols),
 verdict (`yes` or `no`), capability, parameters, cause, bytes (what the string sends, in hexadecimal), start, wanted and
-seen (the words of the lines that begin so), file (its path) and line (on which the value stands); what doesn't apply is
-null. The notes, the line `refused: ` and the exit status are those of the form without --json.
+seen (the words of the lines that begin so), file (its path), line (on which the value stands) and advice (what follows
+`advice ` in those lines, a list); what doesn't apply is null. Characters outside 32 to 126 are escapes of JSON. The notes,
+the line `refused: ` and the exit status are those of the form without --json.
 
 A certificate has at most 67108864 bytes. The limits of a source file and of a compiled file are those of
 `ticurses tic --help`.
@@ -375,12 +380,14 @@ Each FILE is a source file, of which all entries are checked in their order, or 
   NAME yes                   there is a certificate
   NAME no CAP P..: CAUSE     there is none; `ticurses check --help` explains each CAUSE
   NAME refused: KIND         the entry can't be had; `ticurses tic --help` explains each KIND
-A FILE with a fault of its own has one line, `FILE refused: KIND`; a source without entries has none. The last line is
-the number of the lines before it, and then how many got each answer.
+A FILE with a fault of its own has one line, `FILE refused: KIND`; a source without entries has none. A byte outside 32 to
+126 of a name is a backslash and three octal digits. The last line is the number of the lines before it, and then how many
+got each answer.
 
 With --all an entry that has no certificate has a line `NAME no CAP P..: CAUSE` for each of its faults, those that
 `ticurses check --all` lists. For each of them whose value stands in a source FILE, standard error has the line
-`FILE:LINE: CAP of ENTRY: NAME no CAP P..: CAUSE`; ENTRY is NAME, or an entry that it uses.
+`FILE:LINE: CAP of ENTRY: NAME no CAP P..: CAUSE`; ENTRY is NAME, or an entry that it uses. It also gets the hints of
+`ticurses check`, each with `, in FILE` at its end.
 
 With --json the output is a JSON object on a line of its own for each of these lines but the last, with the members of
 `ticurses check --json`. In place of KIND the verdict is `refused`, and cause has the KIND; entry is null where a FILE has a

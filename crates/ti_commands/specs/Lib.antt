@@ -9,3 +9,4 @@ pub mod Feeds
 pub mod Findings
 pub mod Replies
 pub mod Sources
+pub mod Refusals

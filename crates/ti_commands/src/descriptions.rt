@@ -15,7 +15,7 @@ use std::alloc::{AllocError, Global};
 use ti_caps::{CAPABILITIES, Cap, Entry, Kind, Value, at_rank, is_kind, name};
 use ti_compiled::{PackFault, encode};
 use ti_source::print;
-use ti_words::{Remarks, explain_large, unknown_names};
+use ti_words::{Remarks, explain_large, hint_carets, unknown_names};
 
 /// Reports the notes of the source file that `word` names, and writes the compiled form of the entry that `word` gives
 /// to the file at `out`, if there is an `out`. Further lines go to `remarks`.
@@ -31,6 +31,7 @@ pub fn compile_entry<F: Files>(
     ensures kept { OnErr result (F.holds files.new ≡ F.holds files.old) }
 {
     let Found { text, raws, entry } = find_entry(alloc, files, word, remarks)?;
+    hint_carets(alloc, text.as_slice(), remarks);
     let notes = note_lines(alloc, raws.as_slice())?;
     let unknown = unknown_names(alloc, text.as_slice())?;
     let failure = stored(alloc, files, out, entry, remarks)?;
@@ -145,10 +146,11 @@ pub fn entry_of<F: Files>(
     ensures kept { F.holds files.new ≡ F.holds files.old }
 {
     let Found {
-        text: _text,
+        text,
         raws: _raws,
         entry,
     } = find_entry(alloc, files, word, remarks)?;
+    hint_carets(alloc, text.as_slice(), remarks);
     match entry {
         Ok(entry) => Ok(entry),
         Err(refusal) => Err(Failure::Refused(refusal)),

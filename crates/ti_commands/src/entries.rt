@@ -15,7 +15,7 @@ use ti_caps::Entry;
 use ti_compiled::{PackFault, Packed, decode};
 use ti_resolve::{ResolveFault, resolve, resolve_at};
 use ti_source::{FaultKind, Note, NoteKind, RawEntry, read};
-use ti_words::{Remarks, explain_packed, explain_resolving, explain_source, hint_carets};
+use ti_words::{Remarks, explain_packed, explain_resolving, explain_source};
 
 /// The most bytes of a compiled file.
 const COMPILED_LIMIT: u32 = 131_072;
@@ -78,7 +78,6 @@ pub(crate) fn find_in_source<F: Files>(
             if let Err(CommandRefusal::Resolve(fault)) = &entry {
                 explain_resolving(alloc, path, fault, remarks);
             }
-            hint_carets(alloc, text.as_slice(), remarks);
             Ok(Found { text, raws, entry })
         }
         Err(failure) => {

@@ -166,7 +166,7 @@ fn write_failure<E: Write>(failure: &Failure, remarks: &Remarks, err: &mut E) ->
         Failure::Output => err.write_all(OUTPUT)?,
         Failure::NoMemory => err.write_all(b"no memory\n")?,
     }
-    err.write_all(remarks.as_slice())
+    remarks.write(err)
 }
 
 /// The fixed line, and in plain words what happened.

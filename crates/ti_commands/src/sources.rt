@@ -2,6 +2,7 @@
 
 ghost use Rattle.std.specs.Prelude.{◌≡◌, IfErr, IfOk};
 ghost use Rattle.ti_commands.specs.Findings.{LacksEntry};
+ghost use Rattle.ti_commands.specs.Replies.{GivesEntry};
 ghost use Rattle.ti_commands.specs.Sources.{IsSourced};
 
 use crate::descriptions::entry_of;
@@ -11,7 +12,7 @@ use crate::files::Files;
 use std::alloc::Global;
 use ti_caps::Entry;
 use ti_source::RawEntry;
-use ti_words::Remarks;
+use ti_words::{Remarks, hint_entry};
 
 /// A source file, and the name of an entry in it.
 #[derive(Debug, Drop)]
@@ -35,7 +36,8 @@ pub struct Sourced<'a> {
     pub source: Option<SourceText<'a>>,
 }
 
-/// The entry that `word` gives, with its source.
+/// The entry that `word` gives, with its source. Hints about its fields, and those of the entries that it uses, go to
+/// `remarks`.
 pub fn sourced_entry<'a, F: Files>(
     alloc: Global,
     files: &mut F,
@@ -43,6 +45,7 @@ pub fn sourced_entry<'a, F: Files>(
     remarks: &mut Remarks,
 ) -> Result<Sourced<'a>, Failure>
     ensures entry { IfOk result (λ found. IsSourced (F.holds files.old) word.entry.now found.entry found.source) }
+    ensures gives { IfOk result (λ found. GivesEntry (F.holds files.old) word.entry.now found.entry) }
     ensures failure { IfErr result (λ e. LacksEntry (F.holds files.old) word.entry.now e) }
     ensures kept { F.holds files.new ≡ F.holds files.old }
 {
@@ -54,6 +57,13 @@ pub fn sourced_entry<'a, F: Files>(
         });
     };
     let Found { text, raws, entry } = find_in_source(alloc, files, path, name, remarks)?;
+    hint_entry(
+        alloc,
+        text.as_slice(),
+        raws.as_slice(),
+        name.as_bytes(),
+        remarks,
+    );
     match entry {
         Ok(entry) => Ok(Sourced {
             entry,

@@ -1,7 +1,8 @@
 -- No part of a report's JSON is a number with a fraction, so that its text is exact.
 use Rattle.std.proofs.Common.{◌≡◌, ℕ, List, [], ◌∷◌, Option, Some, None, String, false, map, refl}
+use Rattle.std.specs.Prelude.{string_bytes}
 use Rattle.std.specs.declared.alloc.Global.{Global}
-use Rattle.serde_json.specs.Data.{number, unsigned}
+use Rattle.serde_json.specs.Data.{number, string, unsigned}
 use Rattle.serde_json.specs.View.{items_of}
 use Rattle.serde_json.specs.Written.{has_float, items_have_float}
 use Rattle.ti_reports.specs.Reports.{number_data, numbers_data, report_data, text_data}
@@ -19,6 +20,10 @@ numbers_whole : (ns : List ℕ) → items_have_float (items_of (map (λ n. numbe
 numbers_whole [] = refl
 numbers_whole (n ∷ ns) = numbers_whole ns
 
+texts_whole : (texts : List (String Global)) → items_have_float (items_of (map (λ text. string (string_bytes text)) texts)) ≡ false
+texts_whole [] = refl
+texts_whole (text ∷ texts) = texts_whole texts
+
 pub report_whole : (report : Report) → has_float (report_data report) ≡ false
 report_whole report =
-    rw (text_whole report.bytes, text_whole report.capability, text_whole report.cause, text_whole report.entry, number_whole report.line, numbers_whole report.parameters.items, text_whole report.seen, text_whole report.start, text_whole report.wanted) refl
+    rw (text_whole report.bytes, text_whole report.capability, text_whole report.cause, text_whole report.entry, number_whole report.line, numbers_whole report.parameters.items, texts_whole report.advice.items, text_whole report.seen, text_whole report.start, text_whole report.wanted) refl

@@ -1,24 +1,40 @@
--- What a report says of the run that shows a fault: what lines in free words have behind fixed ones.
-use Rattle.std.specs.Prelude.{ℕ, List, ◌++◌, Option, Some, None, String, codes, string_bytes}
+-- What a report says of the run that shows a fault.
+use Rattle.std.specs.Prelude.{◌≡◌, ℕ, Bool, true, false, List, Option, Some, None, String, string_bytes}
 use Rattle.std.specs.declared.alloc.Global.{Global}
-use Rattle.std.specs.Str.Lines.{IsFirstLine}
+use Rattle.ti_checker.specs.declared.causes.Cause.{Cause}
+use Rattle.ti_checker.specs.declared.causes.Cause.TheVariants.{BadLook, NotShown, WrongEffect}
+use Rattle.ti_verdicts.specs.Starts.{settings_of}
+use Rattle.ti_words.specs.Starts.{start_text}
 
--- a line of a text: its first one, or one of those after that
-pub data IsAnyLine (line : List ℕ) : List ℕ → Type 0 where
-  First : (text rest : List ℕ) → IsFirstLine text line rest → IsAnyLine line text
-  Later : (text first rest : List ℕ) → IsFirstLine text first rest → IsAnyLine line rest → IsAnyLine line text
+-- a text that may be there for a cause of which this holds, and for no other one
+abbrev pub IsOnlyIf : Bool → Option (String Global) → Type 0
+IsOnlyIf true text = Unit {0}
+IsOnlyIf false text = text ≡ None
 
--- what a line of the text has behind these bytes, with which it begins, or nothing
-abbrev pub StandsBehind : List ℕ → List ℕ → Option (String Global) → Type 0
-StandsBehind front text None = Unit {0}
-StandsBehind front text (Some found) = IsAnyLine (front ++ string_bytes found) text
+-- something is wanted of what is sent
+abbrev pub wants : Cause → Bool
+wants BadLook = true
+wants (WrongEffect probe) = true
+wants NotShown = true
+wants _ = false
 
--- what the lines of a text say of a run
-pub record Explains (text : List ℕ) (start wanted seen : Option (String Global)) : Type 0 where
-  pub start_is : StandsBehind (codes "start: ") text start
-  pub wanted_is : StandsBehind (codes "wanted: ") text wanted
-  pub seen_is : StandsBehind (codes "seen: ") text seen
+-- what is sent was run
+abbrev pub is_run : Cause → Bool
+is_run BadLook = true
+is_run (WrongEffect probe) = true
+is_run _ = false
 
--- the text itself is in free words, those that explain the fault
-abbrev pub IsExplained : Option (String Global) → Option (String Global) → Option (String Global) → Type 0
-IsExplained start wanted seen = (text : List ℕ) × Explains text start wanted seen
+abbrev pub HasText : List ℕ → Option (String Global) → Type 0
+HasText bytes (Some text) = string_bytes text ≡ bytes
+HasText bytes None = ⊥
+
+-- the state from which it goes wrong on a terminal of this height, in words
+abbrev pub HasStart : ℕ → Cause → Option (String Global) → Type 0
+HasStart height (WrongEffect probe) start = HasText (start_text height (settings_of probe) probe.fill) start
+HasStart height _ start = start ≡ None
+
+-- Where a state shows the fault, it is the cause's own; what is wanted, and what is seen, is in free words.
+pub record IsExplained (height : ℕ) (cause : Cause) (start wanted seen : Option (String Global)) : Type 0 where
+  pub start_is : HasStart height cause start
+  pub wanted_is : IsOnlyIf (wants cause) wanted
+  pub seen_is : IsOnlyIf (is_run cause) seen

@@ -53,8 +53,9 @@ pub record ReportsFault (entry : Content) (height width : ℕ) (file : List ℕ)
   pub parameters : report.parameters.items ≡ refusal.params.items
   pub cause : HasWords (cause_name refusal.cause) report.cause
   pub bytes : IsSentText entry refusal report.bytes
-  pub run : IsExplained report.start report.wanted report.seen
+  pub run : IsExplained height refusal.cause report.start report.wanted report.seen
   pub line : IsValueLine stands refusal.cap report.line
+  pub no_advice : report.advice.items ≡ []
 
 -- the line of a report of which this holds
 abbrev pub IsReportLine : (Report → Type 0) → List ℕ → Type 0

@@ -1,4 +1,5 @@
 pub mod Checks
+pub mod Escapes
 pub mod Explanations
 pub mod Faults
 pub mod Findings

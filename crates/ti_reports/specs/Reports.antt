@@ -1,9 +1,10 @@
--- What a report says, and its JSON: an object with the same twelve members each time, null where one doesn't apply.
+-- What a report says, and its JSON: an object with the same thirteen members each time, null where one doesn't apply.
 use Rattle.std.specs.Prelude.{ℕ, List, [], ◌∷◌, ◌++◌, Option, Some, None, String, codes, map, string_bytes}
 use Rattle.std.specs.declared.alloc.Global.{Global}
 use Rattle.serde_json.specs.Data.{Data, Members, no_members, member, array, null, number, object, put, string, unsigned}
 use Rattle.serde_json.specs.View.{items_of}
 use Rattle.serde_json.specs.Written.{compact_text}
+use Rattle.ti_reports.specs.Escapes.{printable_json}
 use Rattle.ti_reports.specs.declared.reports.Report.{Report}
 use Rattle.ti_reports.specs.declared.reports.Verdict.{Verdict}
 use Rattle.ti_reports.specs.declared.reports.Verdict.TheVariants.{Yes, No, Refused}
@@ -24,13 +25,17 @@ number_data None = null
 abbrev pub numbers_data : List ℕ → Data
 numbers_data ns = array (items_of (map (λ n. number (unsigned n)) ns))
 
+abbrev pub texts_data : List (String Global) → Data
+texts_data texts = array (items_of (map (λ text. string (string_bytes text)) texts))
+
 abbrev pub size_data : ℕ → ℕ → Data
 size_data height width = object (member (codes "cols") (number (unsigned width)) (member (codes "rows") (number (unsigned height)) no_members))
 
 -- the members stand in the order of their names
 abbrev pub report_data : Report → Data
 report_data report = object (
-    member (codes "bytes") (text_data report.bytes)
+    member (codes "advice") (texts_data report.advice.items)
+    (member (codes "bytes") (text_data report.bytes)
     (member (codes "capability") (text_data report.capability)
     (member (codes "cause") (text_data report.cause)
     (member (codes "entry") (text_data report.entry)
@@ -41,11 +46,11 @@ report_data report = object (
     (member (codes "size") (size_data report.rows report.cols)
     (member (codes "start") (text_data report.start)
     (member (codes "verdict") (string (word_of report.verdict))
-    (member (codes "wanted") (text_data report.wanted) no_members))))))))))))
+    (member (codes "wanted") (text_data report.wanted) no_members)))))))))))))
 
--- the object without a space, and the end of the line
+-- the object without a space, in characters that can be printed, and the end of the line
 abbrev pub report_line : Report → List ℕ
-report_line report = compact_text (report_data report) ++ 10 ∷ []
+report_line report = printable_json (compact_text (report_data report)) ++ 10 ∷ []
 
 -- ---- for private clauses: the members in the order in which they are put into the object
 
@@ -65,7 +70,8 @@ with_string report ms =
 
 abbrev pub with_run : Report → Members → Members
 with_run report ms =
-    put (codes "line") (number_data report.line)
+    put (codes "advice") (texts_data report.advice.items)
+    (put (codes "line") (number_data report.line)
     (put (codes "seen") (text_data report.seen)
     (put (codes "wanted") (text_data report.wanted)
-    (put (codes "start") (text_data report.start) ms)))
+    (put (codes "start") (text_data report.start) ms))))

@@ -15,6 +15,7 @@ use Rattle.ti_reports.specs.declared.reports.Verdict.TheVariants as verdicts
 use Rattle.ti_requests.specs.declared.request.SurveyWords.{SurveyWords}
 use Rattle.ti_verdicts.specs.Lines.{AreLines, Refusing, Saying}
 use Rattle.ti_verdicts.specs.Surveys.{EndsPaths}
+use Rattle.ti_verdicts.specs.Told.{Told}
 
 -- ---- an entry
 
@@ -33,6 +34,7 @@ pub record ReportsRefused (height width : ℕ) (path : List ℕ) (name : Option 
   pub verdict : report.verdict ≡ verdicts.Refused
   pub cause : HasWords why report.cause
   pub faultless : IsFaultless report
+  pub no_advice : report.advice.items ≡ []
 
 abbrev pub IsRefusedReport : ℕ → ℕ → List ℕ → Option (List ℕ) → List ℕ → List ℕ → Type 0
 IsRefusedReport height width path name why line = IsReportLine (ReportsRefused height width path name why) line
@@ -45,12 +47,13 @@ pub record AreOfEntry (height width : ℕ) (all : Bool) (path : List ℕ) (stand
 
 -- what is reported of an entry, and nothing beside it
 abbrev pub Reports : ℕ → ℕ → Bool → Saying
-Reports height width all path stands name entry lines beside =
-    AreOfEntry height width all path (by_place stands) entry lines × (beside ≡ [])
+Reports height width all path stands name entry told =
+    AreOfEntry height width all path (by_place stands) entry told.lines × (told.places ≡ [])
 
 -- or of one that can't be had under its name, or of a whole file, and why
 abbrev pub ReportsLack : ℕ → ℕ → Refusing
-ReportsLack height width path name why line beside = IsRefusedReport height width path name why line × (beside ≡ [])
+ReportsLack height width path name why told =
+    IsRefusedReport height width path name why told.lines × (told.places ≡ [])
 
 -- ---- the reply
 
@@ -59,5 +62,7 @@ pub record AreSurveyed (held : Held) (words : SurveyWords) (reply : Reply) : Typ
   pub height : ℕ
   pub width : ℕ
   pub given : SizeGiven words.rows.now words.cols.now height width
-  pub ends : EndsPaths (AreLines (Reports height width words.lists_all) (ReportsLack height width)) held (texts_of words.paths.items) reply.text.items
-      reply.notes.items reply.failure
+  pub told : Told
+  pub ends : EndsPaths (AreLines (Reports height width words.lists_all) (ReportsLack height width)) held (texts_of words.paths.items) told reply.failure
+  pub places : reply.notes.items ≡ told.places
+  pub says : reply.text.items ≡ told.lines

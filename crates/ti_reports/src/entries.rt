@@ -1,6 +1,6 @@
 //! The reports on the entries of a file.
 
-ghost use Rattle.std.specs.Prelude.{◌<◌, IfOk, IfSome, length};
+ghost use Rattle.std.specs.Prelude.{◌≡◌, ◌<◌, [], IfOk, IfSome, length};
 ghost use Rattle.ti_reports.specs.Sources.{IsThere, whereabouts_of};
 ghost use Rattle.ti_reports.specs.Surveys as spec;
 ghost use Rattle.ti_verdicts.specs.Locations.{place_if};
@@ -12,16 +12,20 @@ use crate::lines::{Standing, placed};
 use crate::refusals::refused_line;
 use std::alloc::{AllocError, Global};
 use ti_caps::Entry;
-use ti_verdicts::{FileEntry, Said, Speaker, Tally};
+use ti_verdicts::{FileEntry, Said, Speaker};
 
 impl Speaker for Asked {
     ghost says = { λ asked. spec.Reports asked.size.rows asked.size.cols asked.lists_all };
 
     ghost refuses = { λ asked. spec.ReportsLack asked.size.rows asked.size.cols };
 
+    fn hints(&self) -> bool {
+        self.lists_all
+    }
+
     fn say(&self, alloc: Global, found: &FileEntry<'_>) -> Result<Said, AllocError> {
         let lines = entry_lines(alloc, *self, found.path, placed(found.stands), found.entry)?;
-        Ok(Said::of_lines(alloc, lines, Tally::new()))
+        Ok(of_lines(alloc, lines))
     }
 
     fn refuse(
@@ -32,7 +36,19 @@ impl Speaker for Asked {
         why: &[u8],
     ) -> Result<Said, AllocError> {
         let line = refused_line(alloc, *self, path, name, why)?;
-        Ok(Said::of_lines(alloc, line, Tally::new()))
+        Ok(of_lines(alloc, line))
+    }
+}
+
+/// These `lines` alone.
+fn of_lines(alloc: Global, lines: Vec<u8>) -> Said
+    ensures lines { result.lines ≡ lines }
+    ensures places { result.places.items ≡ [] }
+{
+    Said {
+        lines,
+        places: Vec::new(alloc),
+        answers: Vec::new(alloc),
     }
 }
 

@@ -1,17 +1,17 @@
 //! What the lines for people say of a run.
 
-ghost use Rattle.std.specs.Prelude.{IfOk};
+ghost use Rattle.std.specs.Prelude.{◌≡◌, IfOk};
 ghost use Rattle.ti_reports.specs.Explanations as spec;
 
 use crate::texts::text_of;
 use std::alloc::{AllocError, Global};
 use ti_caps::Entry;
-use ti_checker::No;
-use ti_verdicts::explain_no;
+use ti_checker::{Cause, No};
+use ti_verdicts::{explain_no, probe_words};
 use ti_words::Remarks;
 use vt_term::Size;
 
-/// What the lines below a no say of the run that shows it, in words.
+/// What is said of the run that shows a no, in words.
 #[derive(Drop)]
 pub struct Explanation {
     /// The state of the terminal from which it goes wrong.
@@ -22,39 +22,79 @@ pub struct Explanation {
     pub seen: Option<String>,
 }
 
-/// What the lines that explain the `no` of `entry` say of a run.
+/// What is said of the run that shows the `no` of `entry`.
 pub fn explained(
     alloc: Global,
     entry: &Entry,
     size: Size,
     no: &No,
 ) -> Result<Explanation, AllocError>
-    ensures { IfOk result (λ it. spec.IsExplained it.start it.wanted it.seen) }
+    ensures { IfOk result (λ it. spec.IsExplained size.rows no.now.cause it.start it.wanted it.seen) }
 {
     let mut remarks = Remarks::new(alloc);
     explain_no(alloc, entry, size, no, &mut remarks);
-    let text = text_of(alloc, remarks.as_slice())?;
-    explanation_in(alloc, text.as_str())
-}
-
-/// What the lines of `text` say of a run.
-fn explanation_in(alloc: Global, text: &str) -> Result<Explanation, AllocError>
-    ensures { IfOk result (λ it. spec.Explains text.now it.start it.wanted it.seen) }
-{
     Ok(Explanation {
-        start: line_after(alloc, text, "start: ")?,
-        wanted: line_after(alloc, text, "wanted: ")?,
-        seen: line_after(alloc, text, "seen: ")?,
+        start: start_of(alloc, size, no.cause)?,
+        wanted: wanted_in(alloc, no.cause, remarks.lines())?,
+        seen: seen_in(alloc, no.cause, remarks.lines())?,
     })
 }
 
-/// What follows `front` in the first line of `text` that begins with it.
-fn line_after(alloc: Global, text: &str, front: &str) -> Result<Option<String>, AllocError>
-    ensures { IfOk result (λ found. spec.StandsBehind front.now text.now found) }
+/// The state from which it goes wrong, if one shows the `cause`.
+fn start_of(alloc: Global, size: Size, cause: Cause) -> Result<Option<String>, AllocError>
+    ensures { IfOk result (λ start. spec.HasStart size.rows cause start) }
 {
-    for line in text.lines() {
-        if let Some(words) = line.strip_prefix(front) {
-            return Ok(Some(String::from_str(alloc, words)?));
+    match cause {
+        Cause::WrongEffect(probe) => {
+            let words = probe_words(alloc, size, &probe)?;
+            Ok(Some(text_of(alloc, words.as_slice())?))
+        }
+        Cause::FlagOut | Cause::Absent | Cause::AcsByte | Cause::Parm(_) => Ok(None),
+        Cause::StaticRead | Cause::Unfinished | Cause::Stuck | Cause::NotTame => Ok(None),
+        Cause::BadLook | Cause::NotShown | Cause::TooLong => Ok(None),
+        Cause::NoResync | Cause::NoMemory => Ok(None),
+    }
+}
+
+/// What is wanted, as one of the `lines` says, if the `cause` is that it isn't so.
+fn wanted_in(
+    alloc: Global,
+    cause: Cause,
+    lines: &[Vec<u8>],
+) -> Result<Option<String>, AllocError>
+    ensures { IfOk result (λ wanted. spec.IsOnlyIf (spec.wants cause) wanted) }
+{
+    match cause {
+        Cause::BadLook | Cause::WrongEffect(_) | Cause::NotShown => {
+            line_after(alloc, lines, b"wanted: ")
+        }
+        Cause::FlagOut | Cause::Absent | Cause::AcsByte | Cause::Parm(_) => Ok(None),
+        Cause::StaticRead | Cause::Unfinished | Cause::Stuck | Cause::NotTame => Ok(None),
+        Cause::TooLong | Cause::NoResync | Cause::NoMemory => Ok(None),
+    }
+}
+
+/// What happens, as one of the `lines` says, if a run showed the `cause`.
+fn seen_in(alloc: Global, cause: Cause, lines: &[Vec<u8>]) -> Result<Option<String>, AllocError>
+    ensures { IfOk result (λ seen. spec.IsOnlyIf (spec.is_run cause) seen) }
+{
+    match cause {
+        Cause::BadLook | Cause::WrongEffect(_) => line_after(alloc, lines, b"seen: "),
+        Cause::FlagOut | Cause::Absent | Cause::AcsByte | Cause::Parm(_) => Ok(None),
+        Cause::StaticRead | Cause::Unfinished | Cause::Stuck | Cause::NotTame => Ok(None),
+        Cause::NotShown | Cause::TooLong | Cause::NoResync | Cause::NoMemory => Ok(None),
+    }
+}
+
+/// What follows `front` in the first of the `lines` that begins with it.
+fn line_after(
+    alloc: Global,
+    lines: &[Vec<u8>],
+    front: &[u8],
+) -> Result<Option<String>, AllocError> {
+    for line in lines {
+        if let Some(words) = line.as_slice().strip_prefix(front) {
+            return Ok(Some(text_of(alloc, words)?));
         }
     }
     Ok(None)

@@ -18,6 +18,7 @@ use std::alloc::{AllocError, Global};
 use ti_caps::{Cap, Entry, name};
 use ti_checker::{Cause, No};
 use ti_verdicts::{cause_name, first_name};
+use ti_words::advice_on;
 use vt_term::Size;
 
 /// An entry that is reported on.
@@ -100,6 +101,7 @@ fn yes_report(alloc: Global, subject: &Subject<'_>) -> Result<Report, AllocError
         seen: None,
         file: String::from_str(alloc, subject.file)?,
         line: None,
+        advice: advice_texts(alloc, subject.entry, subject.size)?,
     })
 }
 
@@ -125,7 +127,17 @@ fn fault_report(alloc: Global, subject: &Subject<'_>, no: &No) -> Result<Report,
         seen: explanation.seen,
         file: String::from_str(alloc, subject.file)?,
         line: value_line(alloc, &subject.stands, no.cap)?,
+        advice: Vec::new(alloc),
     })
+}
+
+/// The advice on `entry`, which has a certificate.
+fn advice_texts(alloc: Global, entry: &Entry, size: Size) -> Result<Vec<String>, AllocError> {
+    let mut texts = Vec::new(alloc);
+    for words in &advice_on(alloc, entry, size)? {
+        texts.push(text_of(alloc, words.as_slice())?)?;
+    }
+    Ok(texts)
 }
 
 /// The first name of `entry`.

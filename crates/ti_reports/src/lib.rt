@@ -4,6 +4,7 @@
 mod asked;
 mod checks;
 mod entries;
+mod escapes;
 mod explanations;
 mod faults;
 mod findings;

@@ -48,6 +48,7 @@ fn refused_report(
         seen: None,
         file: String::from_str(alloc, path)?,
         line: None,
+        advice: Vec::new(alloc),
     })
 }
 

@@ -4,6 +4,7 @@ ghost use Rattle.std.specs.Prelude.{◌≡◌, IfOk, OnOk};
 ghost use Rattle.serde_json.specs.View.{members_view, view};
 ghost use Rattle.ti_reports.specs.Reports as spec;
 
+use crate::escapes::printable_json;
 use serde_json::{Map, Value, json, put};
 use std::alloc::{AllocError, Global};
 
@@ -60,15 +61,18 @@ pub struct Report {
     pub file: String,
     /// The line of that file on which the capability's value stands.
     pub line: Option<usize>,
+    /// What a user of an entry that has a certificate would want to know.
+    pub advice: Vec<String>,
 }
 
-/// The line of `report`: its JSON object, and LF.
+/// The line of `report`: its JSON object, in bytes of 32 to 126, and LF.
 #[tactic(auto, using(crate::proofs::Floats::report_whole))]
 pub fn report_line(alloc: Global, report: &Report) -> Result<Vec<u8>, AllocError>
     ensures { IfOk result (λ line. line.items ≡ spec.report_line report.now) }
 {
     let value = value_of(alloc, report)?;
-    let mut line = value.to_string(alloc)?.into_bytes();
+    let text = value.to_string(alloc)?;
+    let mut line = printable_json(alloc, text.as_str())?;
     line.push(b'\n')?;
     Ok(line)
 }
@@ -123,7 +127,7 @@ fn put_string(
     put(members, alloc, "bytes", bytes)
 }
 
-/// Puts what `report` says of a run of that string, and the line on which it stands, into `members`.
+/// Puts what `report` says of a run of that string, the line on which it stands, and the advice, into `members`.
 fn put_run(
     alloc: Global,
     report: &Report,
@@ -138,7 +142,8 @@ fn put_run(
     put(members, alloc, "start", start)?;
     put(members, alloc, "wanted", wanted)?;
     put(members, alloc, "seen", seen)?;
-    put(members, alloc, "line", number_value(report.line))
+    put(members, alloc, "line", number_value(report.line))?;
+    put(members, alloc, "advice", texts_value(alloc, report.advice.as_slice())?)
 }
 
 /// The JSON object of a terminal's size.
@@ -156,6 +161,17 @@ fn text_value(alloc: Global, text: &Option<String>) -> Result<Value, AllocError>
         Some(text) => Value::try_from_str(alloc, text.as_str()),
         None => Ok(Value::Null),
     }
+}
+
+/// The JSON array of `texts`.
+fn texts_value(alloc: Global, texts: &[String]) -> Result<Value, AllocError>
+    ensures { IfOk result (λ value. view value ≡ spec.texts_data texts.now) }
+{
+    let mut items = Vec::new(alloc);
+    for text in texts {
+        items.push(Value::try_from_str(alloc, text.as_str())?)?;
+    }
+    Ok(Value::Array(items))
 }
 
 /// The JSON number, or null.

@@ -1,7 +1,7 @@
 -- What `check --all` answers: all faults of an entry, and how many there are.
 use Rattle.std.specs.Prelude.{◌≡◌, ◌==◌, ℕ, List, [], ◌∷◌, ◌++◌, Option, Some, None, if◌then◌else◌, codes, length}
 use Rattle.std.specs.Fmt.{decimal}
-use Rattle.std.specs.List.{count_by, flat_map}
+use Rattle.std.specs.List.{AllByRecursion, count_by, flat_map}
 use Rattle.std.specs.Str.{bytes_eq}
 use Rattle.ti_caps.specs.Entry.{Content}
 use Rattle.ti_checker.specs.declared.causes.No.{No}
@@ -18,21 +18,19 @@ use Rattle.ti_verdicts.specs.Lines.{HasParts}
 use Rattle.ti_verdicts.specs.Locations.{IsLocation}
 use Rattle.ti_verdicts.specs.Remedies.{HasRemedy}
 use Rattle.ti_verdicts.specs.Refusals.{TellsNo, cause_name, no_text}
+use Rattle.ti_words.specs.Remarks.{IsRemark}
 
 -- ---- a fault
 
--- a byte of lines that come after two spaces
-abbrev pub indented_byte : ℕ → List ℕ
-indented_byte b = if b == 10 then codes "\n  " else b ∷ []
-
--- the lines of a text, each after two spaces; of an empty one there is none
+-- words on a line of their own, after two spaces
 abbrev pub indented : List ℕ → List ℕ
-indented [] = []
-indented (b ∷ rest) = codes "  " ++ (flat_map indented_byte (b ∷ rest) ++ 10 ∷ [])
+indented words = codes "  " ++ (words ++ 10 ∷ [])
 
--- lines in free words, each after two spaces
-abbrev pub AreIndented : List ℕ → Type 0
-AreIndented lines = (text : List ℕ) × (lines ≡ indented text)
+-- lines in free words, none of which could be taken for a suggestion
+pub record AreIndented (lines : List ℕ) : Type 0 where
+  pub each : List (List ℕ)
+  pub remarks : AllByRecursion IsRemark each
+  pub says : lines ≡ flat_map indented each
 
 -- Its line; below it where its value stands in the source, further lines in free words, each of which begins with two
 -- spaces, and the line of the string that would be right.

@@ -3,8 +3,11 @@ pub mod Refusals
 pub mod Verifications
 pub mod Checks
 pub mod Locations
+pub mod Starts
+pub mod Told
 pub mod Lines
 pub mod Answers
-pub mod Surveys
 pub mod Remedies
 pub mod FaultLists
+pub mod Counts
+pub mod Surveys

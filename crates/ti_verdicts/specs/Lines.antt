@@ -1,5 +1,4 @@
--- The lines of a survey: what is said of each entry of a file, in order, and beside it where the faults stand that it
--- names.
+-- The lines of a survey: what is said of each entry of a file, in order.
 use Rattle.std.specs.Prelude.{◌≡◌, ◌⊎◌, ◌==◌, ◌&&◌, ◌||◌, ℕ, Bool, true, false, List, [], ◌∷◌, ◌++◌, Option, Some, None, Result, Ok, Err, length, slice_get}
 use Rattle.std.specs.List.{range_with_len}
 use Rattle.ti_caps.specs.Entry.{Content}
@@ -10,6 +9,9 @@ use Rattle.ti_source.specs.declared.types.RawEntry.{RawEntry}
 use Rattle.ti_commands.specs.Findings.{FitsTo, IsSourceFailure, ResolvesAt}
 use Rattle.ti_commands.specs.declared.failure.Failure.TheVariants.{Refused}
 use Rattle.ti_commands.specs.declared.failure.CommandRefusal.{CommandRefusal}
+use Rattle.ti_commands.specs.declared.failure.CommandRefusal.TheVariants.{Pack}
+use Rattle.ti_commands.specs.Refusals.{refusal_text_of}
+use Rattle.ti_verdicts.specs.Told.{IsToldOfEach, Told}
 use Rattle.ti_verdicts.specs.Locations.{PlaceInSource, first_name}
 
 -- a text that has a part for each item, one after another
@@ -17,50 +19,43 @@ unfoldable pub HasParts : {X : Type 0} → (X → List ℕ → Type 0) → List 
 HasParts P [] text = text ≡ []
 HasParts P (x ∷ xs) text = (own : List ℕ) × (later : List ℕ) × (text ≡ own ++ later) × P x own × HasParts P xs later
 
--- two texts that each have a part for each item, one after another
-unfoldable pub HasPairs : {X : Type 0} → (X → List ℕ → List ℕ → Type 0) → List X → List ℕ → List ℕ → Type 0
-HasPairs P [] text other = (text ≡ []) × (other ≡ [])
-HasPairs P (x ∷ xs) text other =
-    (own : List ℕ) × (later : List ℕ) × (beside : List ℕ) × (further : List ℕ) × (text ≡ own ++ later) × (other ≡ beside ++ further) × P x own beside × HasPairs P xs later further
-
--- what may be said of an entry by the path of its file, where it stands in a source, its name and what it has: lines, and
--- others beside them
+-- what may be said of an entry by the path of its file, where it stands in a source, its name and what it has
 abbrev pub Saying : Type 1
-Saying = List ℕ → Option PlaceInSource → List ℕ → Content → List ℕ → List ℕ → Type 0
+Saying = List ℕ → Option PlaceInSource → List ℕ → Content → Told → Type 0
 
 -- what may be said by the path of a file of an entry of this name that can't be had, or of a file that has none, and the
 -- reason
 abbrev pub Refusing : Type 1
-Refusing = List ℕ → Option (List ℕ) → List ℕ → List ℕ → List ℕ → Type 0
+Refusing = List ℕ → Option (List ℕ) → List ℕ → Told → Type 0
 
--- the same, with the reason in free words
-abbrev pub IsLack : Refusing → List ℕ → Option (List ℕ) → List ℕ → List ℕ → Type 0
-IsLack Refuses path name lines places = (why : List ℕ) × Refuses path name why lines places
+-- the same, where the reason is a refusal
+abbrev pub IsLack : Refusing → CommandRefusal → List ℕ → Option (List ℕ) → Told → Type 0
+IsLack Refuses refusal path name told = Refuses path name (refusal_text_of refusal) told
 
 -- ---- the lines of an entry
 
 -- what is said under its name of an entry that is there, or of one that can't be had
-abbrev pub IsTold : Saying → Refusing → Result Content CommandRefusal → List ℕ → Option PlaceInSource → List ℕ → List ℕ
-    → List ℕ → Type 0
-IsTold Says Refuses (Ok entry) path stands name lines places = Says path stands name entry lines places
-IsTold Says Refuses (Err refusal) path stands name lines places = IsLack Refuses path (Some name) lines places
+abbrev pub IsTold : Saying → Refusing → Result Content CommandRefusal → List ℕ → Option PlaceInSource → List ℕ → Told
+    → Type 0
+IsTold Says Refuses (Ok entry) path stands name told = Says path stands name entry told
+IsTold Says Refuses (Err refusal) path stands name told = IsLack Refuses refusal path (Some name) told
 
 -- of an entry of a source text by its place, whatever other entries have its names
 pub record IsSourcePart (Says : Saying) (Refuses : Refusing) (path text : List ℕ) (raws : List RawEntry) (place : ℕ)
-    (lines places : List ℕ) : Type 0 where
+    (said : Told) : Type 0 where
   pub raw : RawEntry
   pub there : slice_get raws place ≡ Some raw
   pub entry : Result Content CommandRefusal
   pub resolves : ResolvesAt raws place entry
   pub told : IsTold Says Refuses entry path (Some (record { path = path; text = text; raws = raws; place = place }))
-      (first_name raw.names) lines places
+      (first_name raw.names) said
 
 -- of the entry of a compiled file
-pub record IsFilePart (Says : Saying) (Refuses : Refusing) (path : List ℕ) (packed : Content) (lines places : List ℕ)
+pub record IsFilePart (Says : Saying) (Refuses : Refusing) (path : List ℕ) (packed : Content) (said : Told)
     : Type 0 where
   pub entry : Result Content CommandRefusal
   pub fits : FitsTo packed entry
-  pub told : IsTold Says Refuses entry path None (first_name packed.names) lines places
+  pub told : IsTold Says Refuses entry path None (first_name packed.names) said
 
 -- ---- a file
 
@@ -70,35 +65,35 @@ is_compiled (first ∷ second ∷ rest) = ((first == 0x1a) && (second == 0x01)) 
 is_compiled _ = false
 
 -- the entry of a compiled file
-pub record HasEntry (Says : Saying) (Refuses : Refusing) (path bytes lines places : List ℕ) : Type 0 where
+pub record HasEntry (Says : Saying) (Refuses : Refusing) (path bytes : List ℕ) (said : Told) : Type 0 where
   pub packed : Content
   pub reads : read_of bytes ≡ Ok packed
-  pub told : IsFilePart Says Refuses path packed lines places
+  pub told : IsFilePart Says Refuses path packed said
 
 -- or it has a fault
-pub record IsFaultyFile (Refuses : Refusing) (path bytes lines places : List ℕ) : Type 0 where
+pub record IsFaultyFile (Refuses : Refusing) (path bytes : List ℕ) (said : Told) : Type 0 where
   pub fault : PackFault
   pub faulty : read_of bytes ≡ Err fault
-  pub told : IsLack Refuses path None lines places
+  pub told : IsLack Refuses (Pack fault) path None said
 
 -- the entries of a source text
-pub record HasEntries (Says : Saying) (Refuses : Refusing) (path bytes lines places : List ℕ) : Type 0 where
+pub record HasEntries (Says : Saying) (Refuses : Refusing) (path bytes : List ℕ) (said : Told) : Type 0 where
   pub raws : List RawEntry
   pub reads : source_of bytes ≡ Ok raws
-  pub each : HasPairs (IsSourcePart Says Refuses path bytes raws) (range_with_len 0 (length raws)) lines places
+  pub each : IsToldOfEach (IsSourcePart Says Refuses path bytes raws) (range_with_len 0 (length raws)) said
 
 -- or it has a fault
-pub record LacksEntries (Refuses : Refusing) (path bytes lines places : List ℕ) : Type 0 where
+pub record LacksEntries (Refuses : Refusing) (path bytes : List ℕ) (said : Told) : Type 0 where
   pub refusal : CommandRefusal
   pub faulty : IsSourceFailure bytes (Refused refusal)
-  pub told : IsLack Refuses path None lines places
+  pub told : IsLack Refuses refusal path None said
 
-abbrev pub AreLinesBy : Bool → Saying → Refusing → List ℕ → List ℕ → List ℕ → List ℕ → Type 0
-AreLinesBy true Says Refuses path bytes lines places =
-    HasEntry Says Refuses path bytes lines places ⊎ IsFaultyFile Refuses path bytes lines places
-AreLinesBy false Says Refuses path bytes lines places =
-    HasEntries Says Refuses path bytes lines places ⊎ LacksEntries Refuses path bytes lines places
+abbrev pub AreLinesBy : Bool → Saying → Refusing → List ℕ → List ℕ → Told → Type 0
+AreLinesBy true Says Refuses path bytes said =
+    HasEntry Says Refuses path bytes said ⊎ IsFaultyFile Refuses path bytes said
+AreLinesBy false Says Refuses path bytes said =
+    HasEntries Says Refuses path bytes said ⊎ LacksEntries Refuses path bytes said
 
 -- the lines of a file: its first bytes show whether it is compiled
-abbrev pub AreLines : Saying → Refusing → List ℕ → List ℕ → List ℕ → List ℕ → Type 0
-AreLines Says Refuses path bytes lines places = AreLinesBy (is_compiled bytes) Says Refuses path bytes lines places
+abbrev pub AreLines : Saying → Refusing → List ℕ → List ℕ → Told → Type 0
+AreLines Says Refuses path bytes said = AreLinesBy (is_compiled bytes) Says Refuses path bytes said

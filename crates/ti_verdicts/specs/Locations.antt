@@ -34,10 +34,11 @@ place_text path text raws cap origin =
     path
     ++ (codes ":" ++ (decimal (line_of_field text origin) ++ (codes ": " ++ (name_at cap ++ (codes " of " ++ first_name (names_at raws origin.entry))))))
 
--- a capability without a value has no such line
+-- the line that has this, as far as it can be shown; a capability without a value has none
 abbrev pub origin_text : SourceText → ℕ → Option Origin → List ℕ
 origin_text source cap None = []
-origin_text source cap (Some origin) = place_text source.path.now source.text.items source.raws.items cap origin ++ 10 ∷ []
+origin_text source cap (Some origin) =
+    shown (place_text source.path.now source.text.items source.raws.items cap origin) ++ 10 ∷ []
 
 -- the field that gives the entry its value is the first one about it, of the entry's own or of those that it uses
 pub record IsLocatedIn (source : SourceText) (cap : ℕ) (line : List ℕ) : Type 0 where

@@ -12,10 +12,9 @@ use Rattle.ti_cert.specs.declared.faults.VerifyFault.TheVariants.{Cert, Agree}
 use Rattle.ti_checker.specs.declared.causes.Cause.{Cause}
 use Rattle.ti_checker.specs.declared.causes.Cause.TheVariants as causes
 use Rattle.ti_checker.specs.declared.causes.No.{No}
-use Rattle.ti_parm.specs.declared.fault.ParmFault.{ParmFault}
-use Rattle.ti_parm.specs.declared.fault.ParmFault.TheVariants as parm_faults
 use Rattle.ti_words.specs.Numbers.{numbers_text}
 use Rattle.ti_commands.specs.Failures.{IsFileFailure}
+use Rattle.ti_commands.specs.Refusals.{parm_name}
 use Rattle.ti_commands.specs.declared.failure.Failure.{Failure}
 use Rattle.ti_commands.specs.declared.failure.Failure.TheVariants as failures
 use Rattle.ti_commands.specs.declared.failure.CommandRefusal.TheVariants.{Verdict}
@@ -66,15 +65,6 @@ TellsFault path (Agree (agree_faults.Disagree cap numbers)) failure =
 TellsFault path (Agree agree_faults.NoMemory) failure = failure ≡ failures.NoMemory
 
 -- ---- an entry without a certificate
-
-abbrev pub parm_name : ParmFault → List ℕ
-parm_name parm_faults.Underflow = codes "Underflow"
-parm_name parm_faults.BadNest = codes "BadNest"
-parm_name parm_faults.BadCode = codes "BadCode"
-parm_name parm_faults.Overflow = codes "Overflow"
-parm_name parm_faults.BadChar = codes "BadChar"
-parm_name parm_faults.WrongKind = codes "WrongKind"
-parm_name parm_faults.NoMemory = codes "NoMemory"
 
 abbrev pub cause_name : Cause → List ℕ
 cause_name causes.FlagOut = codes "FlagOut"

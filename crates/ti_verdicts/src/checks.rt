@@ -9,13 +9,14 @@ use crate::refusals::no_failure;
 use std::alloc::{AllocError, Global};
 use ti_caps::Entry;
 use ti_checker::{Cause, No, note_lines, notes};
-use ti_commands::{Failure, Files, Reply, entry_of, file_fault, size_words};
+use ti_commands::{Failure, Files, Reply, Sourced, file_fault, size_words, sourced_entry};
 use ti_requests::CheckWords;
-use ti_words::Remarks;
+use ti_words::{Remarks, advise};
 use vt_term::Size;
 
 /// Replies with the notes on the entry that the `words` give and with the certificate that the `certifier` writes of
-/// it, which goes to its path or to standard output, or with why there is none. Further lines go to `remarks`.
+/// it, which goes to its path or to standard output, or with why there is none. Further lines go to `remarks`, advice on
+/// an entry with a certificate among them.
 pub fn check_entry<C: Certifier, F: Files>(
     alloc: Global,
     certifier: &C,
@@ -29,10 +30,16 @@ pub fn check_entry<C: Certifier, F: Files>(
     ensures kept { OnErr result (F.holds files.new ≡ F.holds files.old) }
 {
     let size = size_words(alloc, words.rows, words.cols, remarks)?;
-    let entry = entry_of(alloc, files, words.entry, remarks)?;
+    let Sourced { entry, source: _ } = sourced_entry(alloc, files, words.entry, remarks)?;
     let notes = notes_on(alloc, &entry, size)?;
     match certificate_of(alloc, certifier, &entry, size, remarks) {
-        Ok(text) => Ok(deliver(alloc, notes, text, words.out, files, remarks)),
+        Ok(text) => {
+            let reply = deliver(alloc, notes, text, words.out, files, remarks);
+            if reply.failure.is_none() {
+                advise(alloc, &entry, size, remarks);
+            }
+            Ok(reply)
+        }
         Err(failure) => Ok(Reply {
             notes,
             text: Vec::new(alloc),

@@ -10,7 +10,7 @@ use std::alloc::{AllocError, Global};
 use ti_checker::No;
 
 /// The causes in the order in which they are counted.
-pub const CAUSES: [&str; 18] = [
+const CAUSES: [&str; 18] = [
     "FlagOut",
     "Absent",
     "AcsByte",

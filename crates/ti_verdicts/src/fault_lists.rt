@@ -18,12 +18,12 @@ use ti_checker::No;
 use ti_commands::{Failure, Files, Reply, Sourced, size_words, sourced_entry};
 use ti_faults::faults;
 use ti_requests::FaultsWords;
-use ti_words::Remarks;
+use ti_words::{Remarks, advise};
 use vt_term::Size;
 
 /// Replies with the notes on the entry that the `words` give, and with all its faults, each with where it stands and
 /// what explains it, and how many there are; or with `yes` where there is none. The reply fails as the first of the
-/// faults does. Further lines go to `remarks`.
+/// faults does. Further lines go to `remarks`, advice on an entry without a fault among them.
 pub fn check_all<F: Files>(
     alloc: Global,
     words: &FaultsWords<'_>,
@@ -41,6 +41,9 @@ pub fn check_all<F: Files>(
     let nos = faults(alloc, &found.entry, size)?;
     let reply = reply_of(alloc, &found, size, notes, nos.as_slice())?;
     note_another_kind(nos.as_slice(), remarks);
+    if nos.is_empty() {
+        advise(alloc, &found.entry, size, remarks);
+    }
     Ok(reply)
 }
 
@@ -133,13 +136,5 @@ fn explanation(alloc: Global, entry: &Entry, size: Size, no: &No) -> Result<Vec<
 {
     let mut remarks = Remarks::new(alloc);
     explain_no(alloc, entry, size, no, &mut remarks);
-    indented(alloc, without_end(remarks.as_slice()))
-}
-
-/// The `text` without the end of its last line.
-fn without_end(text: &[u8]) -> &[u8] {
-    match text {
-        [front @ .., b'\n'] => front,
-        _ => text,
-    }
+    indented(alloc, remarks.lines())
 }

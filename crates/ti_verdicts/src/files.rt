@@ -5,6 +5,7 @@ ghost use Rattle.std.specs.List.{AllByRecursion, range_with_len};
 ghost use Rattle.ti_source.specs.Raw.{IsRaw};
 ghost use Rattle.ti_verdicts.specs.Lines as spec;
 ghost use Rattle.ti_verdicts.specs.Locations.{place_if};
+ghost use Rattle.ti_verdicts.specs.Told.{IsToldOfEach, told_of};
 
 use crate::locations::{SourcePlace, first_name};
 use crate::said::Said;
@@ -12,27 +13,28 @@ use crate::speakers::{FileEntry, Speaker};
 use crate::watchers::Watcher;
 use std::alloc::{AllocError, Global};
 use ti_caps::Entry;
-use ti_commands::{CommandRefusal, entry_at, unpacked_entry};
+use ti_commands::{CommandRefusal, entry_at, refusal_words, unpacked_entry};
 use ti_compiled::{Packed, decode};
-use ti_resolve::ResolveFault;
 use ti_source::{FaultKind, RawEntry, read};
+use ti_words::{Remarks, hint_entries};
 
 /// What the `speaker` says of the file at `path` with these `bytes`: a compiled one, as its first two bytes show, or a
-/// source.
+/// source. Hints about a source go to `remarks`, where the speaker gives them.
 pub fn file_lines<S: Speaker, W: Watcher>(
     alloc: Global,
     speaker: &S,
     path: &str,
     bytes: &[u8],
     watcher: &mut W,
+    remarks: &mut Remarks,
 ) -> Result<Said, AllocError>
     ensures { IfOk result (λ said. spec.AreLines (S.says speaker.now) (S.refuses speaker.now)
-        path.now bytes.now said.lines.items said.places.items) }
+        path.now bytes.now (told_of said)) }
 {
     if is_compiled(bytes) {
         compiled_lines(alloc, speaker, path, bytes)
     } else {
-        text_lines(alloc, speaker, path, bytes, watcher)
+        text_lines(alloc, speaker, path, bytes, watcher, remarks)
     }
 }
 
@@ -54,14 +56,11 @@ fn compiled_lines<S: Speaker>(
     bytes: &[u8],
 ) -> Result<Said, AllocError>
     ensures { IfOk result (λ said. spec.AreLinesBy true (S.says speaker.now) (S.refuses speaker.now)
-        path.now bytes.now said.lines.items said.places.items) }
+        path.now bytes.now (told_of said)) }
 {
     match decode(bytes) {
         Ok(packed) => packed_lines(alloc, speaker, path, &packed),
-        Err(fault) => {
-            let why = format!(in alloc; "{fault}")?;
-            lack(alloc, speaker, path, None, why.as_bytes())
-        }
+        Err(fault) => lack(alloc, speaker, path, None, &CommandRefusal::Pack(fault)),
     }
 }
 
@@ -73,7 +72,7 @@ fn packed_lines<S: Speaker>(
     packed: &Packed<'_>,
 ) -> Result<Said, AllocError>
     ensures { IfOk result (λ said. spec.IsFilePart (S.says speaker.now) (S.refuses speaker.now)
-        path.now packed.now said.lines.items said.places.items) }
+        path.now packed.now (told_of said)) }
 {
     let entry = unpacked_entry(alloc, packed)?;
     let name = first_name(packed.names());
@@ -87,18 +86,21 @@ fn text_lines<S: Speaker, W: Watcher>(
     path: &str,
     bytes: &[u8],
     watcher: &mut W,
+    remarks: &mut Remarks,
 ) -> Result<Said, AllocError>
     ensures { IfOk result (λ said. spec.AreLinesBy false (S.says speaker.now) (S.refuses speaker.now)
-        path.now bytes.now said.lines.items said.places.items) }
+        path.now bytes.now (told_of said)) }
 {
     match read(alloc, bytes) {
-        Ok(raws) => source_lines(alloc, speaker, path, bytes, raws.as_slice(), watcher),
+        Ok(raws) => {
+            if speaker.hints() {
+                hint_entries(alloc, path, bytes, raws.as_slice(), remarks);
+            }
+            source_lines(alloc, speaker, path, bytes, raws.as_slice(), watcher)
+        }
         Err(fault) => match fault.kind {
             FaultKind::NoMemory => Err(AllocError),
-            _ => {
-                let why = format!(in alloc; "{fault}")?;
-                lack(alloc, speaker, path, None, why.as_bytes())
-            }
+            _ => lack(alloc, speaker, path, None, &CommandRefusal::Source(fault)),
         },
     }
 }
@@ -113,9 +115,9 @@ fn source_lines<S: Speaker, W: Watcher>(
     watcher: &mut W,
 ) -> Result<Said, AllocError>
     requires { AllByRecursion IsRaw raws.now }
-    ensures { IfOk result (λ said. spec.HasPairs
+    ensures { IfOk result (λ said. IsToldOfEach
         (spec.IsSourcePart (S.says speaker.now) (S.refuses speaker.now) path.now text.now raws.now)
-        (range_with_len 0 (length raws.now)) said.lines.items said.places.items) }
+        (range_with_len 0 (length raws.now)) (told_of said)) }
 {
     let mut said = Said::new(alloc);
     for place in 0..raws.len() {
@@ -143,7 +145,7 @@ fn source_part<S: Speaker>(
     requires there { stands.place < length stands.raws.now }
     ensures { IfOk result (λ said. spec.IsSourcePart (S.says speaker.now) (S.refuses speaker.now)
         stands.entry.path.now stands.entry.text.now stands.entry.raws.now stands.entry.place
-        said.lines.items said.places.items) }
+        (told_of said)) }
 {
     let path = stands.path;
     let raw = raw_at(stands.raws, stands.place);
@@ -173,7 +175,7 @@ fn entry_lines<S: Speaker>(
 ) -> Result<Said, AllocError>
     requires { IfSome stands.now (λ there. there.place < length there.raws.now) }
     ensures { IfOk result (λ said. spec.IsTold (S.says speaker.now) (S.refuses speaker.now) entry.now path.now
-        (place_if stands.now) name.now said.lines.items said.places.items) }
+        (place_if stands.now) name.now (told_of said)) }
 {
     match entry {
         Ok(entry) => {
@@ -185,37 +187,22 @@ fn entry_lines<S: Speaker>(
             };
             speaker.say(alloc, &found)
         }
-        Err(refusal) => {
-            let why = refusal_words(alloc, refusal)?;
-            lack(alloc, speaker, path, Some(name), why.as_slice())
-        }
+        Err(refusal) => lack(alloc, speaker, path, Some(name), refusal),
     }
 }
 
 /// That the file at `path` has an entry of this `name` that can't be had, or no entries where there is no name, and
-/// `why`.
+/// the `refusal` that says why.
 fn lack<S: Speaker>(
     alloc: Global,
     speaker: &S,
     path: &str,
     name: Option<&[u8]>,
-    why: &[u8],
+    refusal: &CommandRefusal,
 ) -> Result<Said, AllocError>
-    ensures { IfOk result (λ said. spec.IsLack (S.refuses speaker.now) path.now (option_map (λ n. n.now) name.entry)
-        said.lines.items said.places.items) }
+    ensures { IfOk result (λ said. spec.IsLack (S.refuses speaker.now) refusal.now path.now
+        (option_map (λ n. n.now) name.entry) (told_of said)) }
 {
-    speaker.refuse(alloc, path, name, why)
-}
-
-/// The kind of `refusal`, and the name that it is about.
-fn refusal_words(alloc: Global, refusal: &CommandRefusal) -> Result<Vec<u8>, AllocError> {
-    let mut words = format!(in alloc; "{refusal}")?.into_bytes();
-    if let CommandRefusal::Resolve(
-        ResolveFault::NoSuchEntry(name) | ResolveFault::Cycle(name) | ResolveFault::TooMany(name),
-    ) = refusal
-    {
-        words.push(b' ')?;
-        words.extend_from_slice(name.as_slice())?;
-    }
-    Ok(words)
+    let why = refusal_words(alloc, refusal)?;
+    speaker.refuse(alloc, path, name, why.as_slice())
 }

@@ -1,42 +1,28 @@
 //! Lines that stand below another one.
 
-ghost use Rattle.std.specs.Prelude.{◌≡◌, ◌++◌, IfOk, OnOk};
+ghost use Rattle.std.specs.Prelude.{◌≡◌, ◌++◌, IfOk, OnOk, map};
 ghost use Rattle.std.specs.List.{flat_map};
 ghost use Rattle.ti_verdicts.specs.FaultLists as spec;
 
 use std::alloc::{AllocError, Global};
 
-/// The lines of `text`, each after two spaces; none where it is empty.
-pub fn indented(alloc: Global, text: &[u8]) -> Result<Vec<u8>, AllocError>
-    ensures { IfOk result (λ lines. lines.items ≡ spec.indented text.now) }
+/// The `lines`, each after two spaces.
+pub fn indented(alloc: Global, lines: &[Vec<u8>]) -> Result<Vec<u8>, AllocError>
+    ensures { IfOk result (λ text. text.items ≡ flat_map spec.indented (map (λ line. line.items) lines.now)) }
 {
-    match text {
-        [] => Ok(Vec::new(alloc)),
-        [_, ..] => {
-            let mut lines = Vec::from_slice(alloc, b"  ")?;
-            push_indented(text, &mut lines)?;
-            lines.push(b'\n')?;
-            Ok(lines)
-        }
+    let mut text = Vec::new(alloc);
+    for line in lines {
+        push_indented(line.as_slice(), &mut text)?;
     }
+    Ok(text)
 }
 
-/// Appends `text` to `lines`, with two spaces after the end of each line.
-fn push_indented(text: &[u8], lines: &mut Vec<u8>) -> Result<(), AllocError>
-    ensures { OnOk result (lines.new.items ≡ lines.old.items ++ flat_map spec.indented_byte text.now) }
+/// Appends the `line` to `text`, after two spaces.
+fn push_indented(line: &[u8], text: &mut Vec<u8>) -> Result<(), AllocError>
+    ensures { OnOk result (text.new.items ≡ text.old.items ++ spec.indented line.now) }
 {
-    for byte in text {
-        push_byte(*byte, lines)?;
-    }
+    text.extend_from_slice(b"  ")?;
+    text.extend_from_slice(line)?;
+    text.push(b'\n')?;
     Ok(())
-}
-
-fn push_byte(byte: u8, lines: &mut Vec<u8>) -> Result<(), AllocError>
-    ensures { OnOk result (lines.new.items ≡ lines.old.items ++ spec.indented_byte byte) }
-{
-    if byte == b'\n' {
-        lines.extend_from_slice(b"\n  ")
-    } else {
-        lines.extend_from_slice(&[byte])
-    }
 }

@@ -1,6 +1,7 @@
 //! What the program's commands about certificates reply: `check`, `verify` and `survey`.
 #![tactic(auto)]
 
+mod answers;
 mod asked;
 mod certificates;
 mod certifiers;
@@ -19,10 +20,10 @@ mod said;
 mod speakers;
 mod starts;
 mod surveys;
-mod tallies;
 mod verifications;
 mod watchers;
 
+pub use answers::Answer;
 pub use certifiers::{Certifier, Checker};
 pub use checks::{check_entry, notes_on};
 pub use fault_lists::check_all;
@@ -30,8 +31,8 @@ pub use locations::{SourcePlace, first_name, line_of_field};
 pub use reasons::explain_no;
 pub use refusals::{cause_name, no_failure, no_words};
 pub use said::Said;
+pub use starts::probe_words;
 pub use speakers::{FileEntry, Speaker};
 pub use surveys::{Surveyed, survey_files, survey_paths};
-pub use tallies::Tally;
 pub use verifications::{checked_at, verify_certificate};
 pub use watchers::Watcher;

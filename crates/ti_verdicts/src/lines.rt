@@ -1,29 +1,35 @@
 //! The lines of a survey: one for each entry of a file, or for each of its faults, and where these stand.
 
-ghost use Rattle.std.specs.Prelude.{◌≡◌, ◌<◌, ◌++◌, [], IfOk, IfSome, codes, length, option_map};
+ghost use Rattle.std.specs.Prelude.{◌≡◌, ◌≢◌, ◌<◌, ◌++◌, IfOk, IfSome, codes, length, map, option_map};
 ghost use Rattle.std.specs.List.{flat_map};
 ghost use Rattle.ti_verdicts.specs.Answers as spec;
 ghost use Rattle.ti_verdicts.specs.Lines.{HasParts};
 ghost use Rattle.ti_verdicts.specs.Locations.{IsPlaced, place_if};
 ghost use Rattle.ti_verdicts.specs.Refusals.{no_text};
+ghost use Rattle.ti_verdicts.specs.Told.{told_of};
 
+use crate::answers::Answer;
 use crate::asked::Asked;
 use crate::certifiers::Certifier;
 use crate::locations::{SourcePlace, placed};
 use crate::refusals::no_words;
 use crate::said::Said;
 use crate::speakers::{FileEntry, Speaker};
-use crate::tallies::Tally;
 use std::alloc::{AllocError, Global};
 use ti_caps::Entry;
 use ti_checker::{Cause, No};
 use ti_faults::faults;
+use ti_words::push_shown;
 use vt_term::Size;
 
 impl<'a, C: Certifier> Speaker for Asked<'a, C> {
     ghost says = { λ asked path. spec.SaysTo C.certifies C.refuses asked path };
 
     ghost refuses = { λ _. spec.IsRefused };
+
+    fn hints(&self) -> bool {
+        self.lists_all
+    }
 
     fn say(&self, alloc: Global, found: &FileEntry<'_>) -> Result<Said, AllocError> {
         if self.lists_all {
@@ -54,41 +60,29 @@ fn name_or<'a>(name: Option<&'a [u8]>, path: &'a str) -> &'a [u8]
     }
 }
 
-/// The line of `name`, with the `words` that are said of it.
+/// The line of `name`, with the `words` that are said of it, as far as they can be shown.
 fn line(alloc: Global, name: &[u8], words: &[u8]) -> Result<Vec<u8>, AllocError>
     ensures { IfOk result (λ line. line.items ≡ spec.line_of name.now words.now) }
 {
-    let mut line = Vec::from_slice(alloc, name)?;
-    line.extend_from_slice(words)?;
+    let mut text = Vec::from_slice(alloc, name)?;
+    text.extend_from_slice(words)?;
+    let mut line = Vec::new(alloc);
+    push_shown(&mut line, text.as_slice())?;
     line.push(b'\n')?;
     Ok(line)
 }
 
-/// What the certifier says of `entry`, which `tally` counts.
-fn answer<C: Certifier>(
+/// The line of `name` alone, with the `words` that are said of it, which answer this.
+fn one_line(
     alloc: Global,
-    asked: &Asked<'_, C>,
-    entry: &Entry,
-    tally: &mut Tally,
-) -> Result<Vec<u8>, AllocError>
-    ensures { IfOk result (λ words. spec.AnswersTo C.certifies C.refuses asked.now entry.now words.items) }
+    name: &[u8],
+    words: &[u8],
+    answer: Answer,
+) -> Result<Said, AllocError>
+    ensures { IfOk result (λ said. told_of said ≡ spec.one_line name.now words.now answer) }
 {
-    match asked.certifier.certify(alloc, entry, asked.size) {
-        Ok(_text) => {
-            tally.add_yes();
-            Vec::from_slice(alloc, b" yes")
-        }
-        Err(
-            No {
-                cause: Cause::NoMemory,
-                ..
-            },
-        ) => Err(AllocError),
-        Err(no) => {
-            tally.add_no(no.cause);
-            words_of(alloc, &no)
-        }
-    }
+    let line = line(alloc, name, words)?;
+    Said::of_line(alloc, line, answer)
 }
 
 /// What `no` says of its entry.
@@ -100,11 +94,10 @@ fn words_of(alloc: Global, no: &No) -> Result<Vec<u8>, AllocError>
     Ok(words)
 }
 
-/// That something can't be had, and `why`, which `tally` counts.
-fn refused(alloc: Global, why: &[u8], tally: &mut Tally) -> Result<Vec<u8>, AllocError>
+/// That something can't be had, and `why`.
+fn refused(alloc: Global, why: &[u8]) -> Result<Vec<u8>, AllocError>
     ensures { IfOk result (λ words. words.items ≡ spec.refusal_text why.now) }
 {
-    tally.add_refused();
     let mut words = Vec::from_slice(alloc, b" refused: ")?;
     words.extend_from_slice(why)?;
     Ok(words)
@@ -120,16 +113,16 @@ fn all_faults(
 ) -> Result<Said, AllocError>
     requires { IfSome stands.now (λ there. there.place < length there.raws.now) }
     ensures { IfOk result (λ said. spec.HasAllFaults size.rows size.cols (place_if stands.now) name.now entry.now
-        said.lines.items said.places.items) }
+        (told_of said)) }
 {
     let nos = faults(alloc, entry, size)?;
-    let mut tally = Tally::new();
-    let lines = listed(alloc, name, nos.as_slice(), &mut tally)?;
+    let lines = listed(alloc, name, nos.as_slice())?;
     let places = places_of(alloc, stands, name, nos.as_slice())?;
+    let answers = answers_of(alloc, nos.as_slice())?;
     Ok(Said {
         lines,
         places,
-        tally,
+        answers,
     })
 }
 
@@ -152,30 +145,21 @@ fn places_of(
 }
 
 /// The lines of the faults `nos` of the entry of this `name`; or that it has none.
-fn listed(alloc: Global, name: &[u8], nos: &[No], tally: &mut Tally) -> Result<Vec<u8>, AllocError>
+fn listed(alloc: Global, name: &[u8], nos: &[No]) -> Result<Vec<u8>, AllocError>
     ensures { IfOk result (λ lines. lines.items ≡ spec.fault_lines name.now nos.now) }
 {
     match nos {
-        [] => {
-            tally.add_yes();
-            line(alloc, name, b" yes")
-        }
-        [_, ..] => fault_lines(alloc, name, nos, tally),
+        [] => line(alloc, name, b" yes"),
+        [_, ..] => fault_lines(alloc, name, nos),
     }
 }
 
 /// A line for each of `nos`, after the `name` of their entry.
-fn fault_lines(
-    alloc: Global,
-    name: &[u8],
-    nos: &[No],
-    tally: &mut Tally,
-) -> Result<Vec<u8>, AllocError>
+fn fault_lines(alloc: Global, name: &[u8], nos: &[No]) -> Result<Vec<u8>, AllocError>
     ensures { IfOk result (λ lines. lines.items ≡ flat_map (spec.fault_line name.now) nos.now) }
 {
     let mut lines = Vec::new(alloc);
     for no in nos {
-        tally.add_no(no.cause);
         let own = fault_line(alloc, name, no)?;
         lines.extend_from_slice(own.as_slice())?;
     }
@@ -190,6 +174,27 @@ fn fault_line(alloc: Global, name: &[u8], no: &No) -> Result<Vec<u8>, AllocError
     line(alloc, name, words.as_slice())
 }
 
+/// The answers of the lines of the faults `nos`, or of the line that there are none.
+fn answers_of(alloc: Global, nos: &[No]) -> Result<Vec<Answer>, AllocError>
+    ensures { IfOk result (λ answers. answers.items ≡ spec.fault_answers nos.now) }
+{
+    match nos {
+        [] => Ok(vec![in alloc; Answer::Yes]?),
+        [_, ..] => fault_answers(alloc, nos),
+    }
+}
+
+/// The answers of the lines of the faults `nos`.
+fn fault_answers(alloc: Global, nos: &[No]) -> Result<Vec<Answer>, AllocError>
+    ensures { IfOk result (λ answers. answers.items ≡ map spec.fault_answer nos.now) }
+{
+    let mut answers = Vec::new(alloc);
+    for no in nos {
+        answers.push(Answer::No(no.cause))?;
+    }
+    Ok(answers)
+}
+
 /// The line of `entry` under its `name`, with what the certifier says.
 fn answer_line<C: Certifier>(
     alloc: Global,
@@ -197,24 +202,36 @@ fn answer_line<C: Certifier>(
     name: &[u8],
     entry: &Entry,
 ) -> Result<Said, AllocError>
-    ensures line { IfOk result (λ said. spec.HasAnswer (C.certifies asked.now.certifier.now)
+    ensures { IfOk result (λ said. spec.HasAnswer (C.certifies asked.now.certifier.now)
         (C.refuses asked.now.certifier.now) asked.now.size.rows asked.now.size.cols
-        name.now entry.now said.lines.items) }
-    ensures alone { IfOk result (λ said. said.places.items ≡ []) }
+        name.now entry.now (told_of said)) }
 {
-    let mut tally = Tally::new();
-    let words = answer(alloc, asked, entry, &mut tally)?;
-    let line = line(alloc, name, words.as_slice())?;
-    Ok(Said::of_lines(alloc, line, tally))
+    match asked.certifier.certify(alloc, entry, asked.size) {
+        Ok(_text) => one_line(alloc, name, b" yes", Answer::Yes),
+        Err(no) => no_line(alloc, name, &no),
+    }
+}
+
+/// The line of `no` about the entry of this `name`; out of memory is no answer.
+fn no_line(alloc: Global, name: &[u8], no: &No) -> Result<Said, AllocError>
+    ensures claims { IfOk result (λ said. no.now.cause ≢ Cause.NoMemory) }
+    ensures says { IfOk result (λ said. told_of said
+        ≡ spec.one_line name.now (codes " " ++ no_text no.now) (Answer.No no.now.cause)) }
+{
+    match no.cause {
+        Cause::NoMemory => Err(AllocError),
+        cause => {
+            let words = words_of(alloc, no)?;
+            one_line(alloc, name, words.as_slice(), Answer::No(cause))
+        }
+    }
 }
 
 /// The line of `name`, that what it names can't be had, and `why`.
 fn refused_line(alloc: Global, name: &[u8], why: &[u8]) -> Result<Said, AllocError>
-    ensures line { IfOk result (λ said. said.lines.items ≡ spec.line_of name.now (spec.refusal_text why.now)) }
-    ensures alone { IfOk result (λ said. said.places.items ≡ []) }
+    ensures { IfOk result (λ said. told_of said
+        ≡ spec.one_line name.now (spec.refusal_text why.now) Answer.Refused) }
 {
-    let mut tally = Tally::new();
-    let words = refused(alloc, why, &mut tally)?;
-    let line = line(alloc, name, words.as_slice())?;
-    Ok(Said::of_lines(alloc, line, tally))
+    let words = refused(alloc, why)?;
+    one_line(alloc, name, words.as_slice(), Answer::Refused)
 }

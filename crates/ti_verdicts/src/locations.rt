@@ -44,8 +44,8 @@ pub fn first_name(names: &[u8]) -> &[u8]
     }
 }
 
-/// The line that says where the value of `cap` stands in `source`, as `FILE:LINE: CAP of NAME`; nothing where there is
-/// no source or no value.
+/// The line that says where the value of `cap` stands in `source`, as `FILE:LINE: CAP of NAME`, as far as that can be
+/// shown; nothing where there is no source or no value.
 pub fn location(
     alloc: Global,
     source: &Option<SourceText<'_>>,
@@ -82,7 +82,9 @@ fn place_line(
 {
     let text = source.text.as_slice();
     let raws = source.raws.as_slice();
-    let mut line = place_words(alloc, source.path, text, raws, cap, origin)?;
+    let words = place_words(alloc, source.path, text, raws, cap, origin)?;
+    let mut line = Vec::new(alloc);
+    push_shown(&mut line, words.as_slice())?;
     line.push(b'\n')?;
     Ok(line)
 }

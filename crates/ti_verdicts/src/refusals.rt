@@ -7,8 +7,7 @@ use std::alloc::{AllocError, Global};
 use ti_caps::{Cap, name};
 use ti_cert::{CertFault, CertFaultKind};
 use ti_checker::{Cause, No};
-use ti_commands::{CommandRefusal, Failure};
-use ti_parm::ParmFault;
+use ti_commands::{CommandRefusal, Failure, parm_name};
 use ti_words::push_numbers;
 
 /// `line N: KIND` of `fault`, and the capability that the kind has.
@@ -86,20 +85,6 @@ pub fn cause_name(cause: Cause) -> &'static [u8]
         Cause::TooLong => b"TooLong",
         Cause::NoResync => b"NoResync",
         Cause::NoMemory => b"NoMemory",
-    }
-}
-
-fn parm_name(fault: ParmFault) -> &'static [u8]
-    ensures { result.now ≡ spec.parm_name fault }
-{
-    match fault {
-        ParmFault::Underflow => b"Underflow",
-        ParmFault::BadNest => b"BadNest",
-        ParmFault::BadCode => b"BadCode",
-        ParmFault::Overflow => b"Overflow",
-        ParmFault::BadChar => b"BadChar",
-        ParmFault::WrongKind => b"WrongKind",
-        ParmFault::NoMemory => b"NoMemory",
     }
 }
 

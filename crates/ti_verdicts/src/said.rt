@@ -1,8 +1,9 @@
 //! What is said of an entry, a file or several.
 
-ghost use Rattle.std.specs.Prelude.{◌≡◌, ◌++◌, [], OnOk};
+ghost use Rattle.std.specs.Prelude.{◌≡◌, [], ◌∷◌, IfOk, OnOk};
+ghost use Rattle.ti_verdicts.specs.Told as spec;
 
-use crate::tallies::Tally;
+use crate::answers::Answer;
 use std::alloc::{AllocError, Global};
 
 /// What is said of an entry, a file or several.
@@ -12,39 +13,41 @@ pub struct Said {
     pub lines: Vec<u8>,
     /// Where the faults in them stand.
     pub places: Vec<u8>,
-    /// How many of the lines have which answer.
-    pub tally: Tally,
+    /// The answer of each line.
+    pub answers: Vec<Answer>,
 }
 
 impl Said {
     /// Nothing yet.
     pub fn new(alloc: Global) -> Said
-        ensures lines { result.lines.items ≡ [] }
-        ensures places { result.places.items ≡ [] }
-    {
-        Said::of_lines(alloc, Vec::new(alloc), Tally::new())
-    }
-
-    /// These `lines`, which `tally` counts, and which have no faults that stand anywhere.
-    pub fn of_lines(alloc: Global, lines: Vec<u8>, tally: Tally) -> Said
-        ensures lines { result.lines ≡ lines }
-        ensures places { result.places.items ≡ [] }
+        ensures { spec.told_of result ≡ spec.nothing }
     {
         Said {
-            lines,
+            lines: Vec::new(alloc),
             places: Vec::new(alloc),
-            tally,
+            answers: Vec::new(alloc),
         }
+    }
+
+    /// A `line` that answers this, and names no fault that stands anywhere.
+    pub fn of_line(alloc: Global, line: Vec<u8>, answer: Answer) -> Result<Said, AllocError>
+        ensures { IfOk result (λ said. spec.told_of said
+            ≡ record { lines = line.items; places = []; answers = answer ∷ [] }) }
+    {
+        Ok(Said {
+            lines: line,
+            places: Vec::new(alloc),
+            answers: vec![in alloc; answer]?,
+        })
     }
 
     /// Adds what `later` says.
     pub fn add(&mut self, later: &Said) -> Result<(), AllocError>
-        ensures lines { OnOk result (self.new.lines.items ≡ self.old.lines.items ++ later.now.lines.items) }
-        ensures places { OnOk result (self.new.places.items ≡ self.old.places.items ++ later.now.places.items) }
+        ensures { OnOk result (spec.told_of self.new
+            ≡ spec.followed_by (spec.told_of self.old) (spec.told_of later.now)) }
     {
         self.lines.extend_from_slice(later.lines.as_slice())?;
         self.places.extend_from_slice(later.places.as_slice())?;
-        self.tally.add(&later.tally);
-        Ok(())
+        self.answers.extend_from_slice(later.answers.as_slice())
     }
 }

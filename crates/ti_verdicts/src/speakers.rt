@@ -3,6 +3,7 @@
 ghost use Rattle.std.specs.Prelude.{◌<◌, IfOk, IfSome, length, option_map};
 ghost use Rattle.ti_verdicts.specs.Lines.{Refusing, Saying};
 ghost use Rattle.ti_verdicts.specs.Locations.{place_if};
+ghost use Rattle.ti_verdicts.specs.Told.{told_of};
 
 use crate::locations::SourcePlace;
 use crate::said::Said;
@@ -30,11 +31,14 @@ pub trait Speaker {
     /// What holds of what it says of an entry that can't be had, or of a file that has none.
     ghost refuses: { Self → Refusing };
 
+    /// Whether hints about the fields of a source text are wanted beside what it says.
+    fn hints(&self) -> bool;
+
     /// What it says of the entry that was `found`.
     fn say(&self, alloc: Global, found: &FileEntry<'_>) -> Result<Said, AllocError>
         requires { IfSome found.now.stands.now (λ there. there.place < length there.raws.now) }
         ensures { IfOk result (λ said. says self.now found.now.path.now (place_if found.now.stands.now)
-            found.now.name.now found.now.entry.now said.lines.items said.places.items) };
+            found.now.name.now found.now.entry.now (told_of said)) };
 
     /// That the file at `path` has an entry of this `name` that can't be had, or no entries where there is no name, and
     /// `why`.
@@ -46,5 +50,5 @@ pub trait Speaker {
         why: &[u8],
     ) -> Result<Said, AllocError>
         ensures { IfOk result (λ said. refuses self.now path.now (option_map (λ n. n.now) name.entry) why.now
-            said.lines.items said.places.items) };
+            (told_of said)) };
 }

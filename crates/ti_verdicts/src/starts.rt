@@ -1,7 +1,12 @@
 //! A terminal in the state that a probe describes.
 
+ghost use Rattle.std.specs.Prelude.{◌≡◌, IfOk};
+ghost use Rattle.ti_verdicts.specs.Starts as spec;
+ghost use Rattle.ti_words.specs.Starts.{start_text};
+
 use std::alloc::{AllocError, Global};
 use ti_checker::Probe;
+use ti_words::start_words;
 use vt_term::{Rendition, Settings, Size, Terminal};
 
 /// A terminal of `size` in the state of `probe`; `None` where the probe's cursor or margins don't lie in the size.
@@ -24,7 +29,17 @@ pub fn terminal_at(
     }
 }
 
-fn settings_of(probe: &Probe) -> Settings {
+/// The state of `probe` on a terminal of `size`, in words.
+pub fn probe_words(alloc: Global, size: Size, probe: &Probe) -> Result<Vec<u8>, AllocError>
+    ensures { IfOk result (λ words. words.items
+        ≡ start_text size.rows (spec.settings_of probe.now) probe.now.fill) }
+{
+    start_words(alloc, size, &settings_of(probe), probe.fill)
+}
+
+fn settings_of(probe: &Probe) -> Settings
+    ensures { result ≡ spec.settings_of probe.now }
+{
     Settings {
         row: usize::from(probe.row),
         col: usize::from(probe.col),
@@ -37,7 +52,9 @@ fn settings_of(probe: &Probe) -> Settings {
     }
 }
 
-fn rendition_of(probe: &Probe) -> Rendition {
+fn rendition_of(probe: &Probe) -> Rendition
+    ensures { result ≡ spec.rendition_of probe.now }
+{
     Rendition {
         bold: probe.look.bold,
         faint: probe.look.faint,

@@ -5,7 +5,9 @@ ghost use Rattle.ti_commands.specs.Sizes.{LacksSize};
 ghost use Rattle.ti_commands.specs.Words.{texts_of};
 ghost use Rattle.ti_verdicts.specs.Lines.{AreLines};
 ghost use Rattle.ti_verdicts.specs.Surveys as spec;
+ghost use Rattle.ti_verdicts.specs.Told.{told_of};
 
+use crate::answers::answers_line;
 use crate::asked::Asked;
 use crate::certifiers::Certifier;
 use crate::files::file_lines;
@@ -64,10 +66,10 @@ pub fn survey_files<C: Certifier, F: Files, W: Watcher + Drop>(
     let Said {
         lines,
         places,
-        tally,
+        answers,
     } = surveyed.said;
     let mut text = lines;
-    let counts = tally.line(alloc)?;
+    let counts = answers_line(alloc, answers.as_slice())?;
     text.extend_from_slice(counts.as_slice())?;
     Ok(Reply {
         notes: places,
@@ -87,8 +89,7 @@ pub fn survey_paths<S: Speaker, F: Files, W: Watcher + Drop>(
     remarks: &mut Remarks,
 ) -> Result<Surveyed, AllocError>
     ensures told { IfOk result (λ surveyed. spec.EndsPaths (AreLines (S.says speaker.now) (S.refuses speaker.now))
-        (F.holds files.old) (texts_of paths.now) surveyed.said.lines.items surveyed.said.places.items
-        surveyed.failure) }
+        (F.holds files.old) (texts_of paths.now) (told_of surveyed.said) surveyed.failure) }
     ensures kept { F.holds files.new ≡ F.holds files.old }
 {
     let surveyed = paths_said(alloc, speaker, paths, files, &mut watcher, remarks);
@@ -106,8 +107,7 @@ fn paths_said<S: Speaker, F: Files, W: Watcher>(
     remarks: &mut Remarks,
 ) -> Result<Surveyed, AllocError>
     ensures told { IfOk result (λ surveyed. spec.EndsPaths (AreLines (S.says speaker.now) (S.refuses speaker.now))
-        (F.holds files.old) (texts_of paths.now) surveyed.said.lines.items surveyed.said.places.items
-        surveyed.failure) }
+        (F.holds files.old) (texts_of paths.now) (told_of surveyed.said) surveyed.failure) }
     ensures kept { F.holds files.new ≡ F.holds files.old }
 {
     let mut said = Said::new(alloc);
@@ -141,13 +141,12 @@ fn path_said<S: Speaker, F: Files, W: Watcher>(
     remarks: &mut Remarks,
 ) -> Result<Surveyed, AllocError>
     ensures told { IfOk result (λ surveyed. spec.EndsPath (AreLines (S.says speaker.now) (S.refuses speaker.now))
-        (F.holds files.old) path.now surveyed.said.lines.items surveyed.said.places.items
-        surveyed.failure) }
+        (F.holds files.old) path.now (told_of surveyed.said) surveyed.failure) }
     ensures kept { F.holds files.new ≡ F.holds files.old }
 {
     match read_whole(alloc, files, path, LONGEST_FILE, remarks) {
         Ok(bytes) => Ok(Surveyed {
-            said: file_lines(alloc, speaker, path, bytes.as_slice(), watcher)?,
+            said: file_lines(alloc, speaker, path, bytes.as_slice(), watcher, remarks)?,
             failure: None,
         }),
         Err(Failure::NoMemory) => Err(AllocError),

@@ -3,7 +3,8 @@
 use crate::escapes::push_spelled;
 use crate::numbers::push_numbers;
 use crate::remarks::Remarks;
-use crate::states::{push_rendition, seen_words, start_words};
+use crate::starts::{push_rendition, start_words};
+use crate::states::seen_words;
 use crate::strings::parm_words;
 use crate::wanted::wanted_words;
 use std::alloc::{AllocError, Global};
@@ -262,7 +263,9 @@ pub fn explain_run(
     }
     let wanted = wanted_words(alloc, row)?;
     let seen = seen_words(alloc, &start, &terminal, fill)?;
-    remarks.add_words(start_words(alloc, size, &start, fill)?.as_slice());
+    let mut began = Vec::from_slice(alloc, b"start: ")?;
+    began.extend_from_slice(start_words(alloc, size, &start, fill)?.as_slice())?;
+    remarks.add_words(began.as_slice());
     if does_its_own(alloc, size, row, bytes) {
         remarks.add_words(LED_THERE);
     }

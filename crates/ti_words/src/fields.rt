@@ -27,8 +27,27 @@ impl FieldText<'_> {
         let is_use = self.name == b"use".as_slice()
             && self.mark == Some(b'=')
             && !self.value.is_empty();
-        let is_left_out = self.text.is_empty() || self.text.first() == Some(&b'.');
-        !is_use && !is_left_out && by_name(self.name).is_none()
+        !is_use && !self.is_left_out() && by_name(self.name).is_none()
+    }
+
+    /// Whether it is empty, or left out by a period.
+    pub fn is_left_out(&self) -> bool {
+        self.text.is_empty() || self.text.first() == Some(&b'.')
+    }
+
+    /// The first byte behind a backslash that has no meaning there, if it is a string of a capability and has one.
+    pub fn odd_escape(&self) -> Option<u8> {
+        if self.mark != Some(b'=') || self.is_left_out() || by_name(self.name).is_none() {
+            return None;
+        }
+        let mut is_escaped = false;
+        for byte in self.value {
+            if is_escaped && !has_meaning(*byte) {
+                return Some(*byte);
+            }
+            is_escaped = !is_escaped && *byte == b'\\';
+        }
+        None
     }
 
     /// Whether it has the fault `fault`.
@@ -47,6 +66,11 @@ impl FieldText<'_> {
             _ => false,
         }
     }
+}
+
+/// Whether a backslash before `byte` has a meaning, terminfo(5).
+fn has_meaning(byte: u8) -> bool {
+    byte.is_ascii_digit() && byte < b'8' || b"Eenlrtbfas^\\,:".contains(&byte)
 }
 
 /// The line `number` of `text`, counted from 1; nothing where there is no such line.

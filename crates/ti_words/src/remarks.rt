@@ -1,66 +1,137 @@
 //! Further lines for standard error.
 
-ghost use Rattle.std.specs.Prelude.{◌≡◌, ◌++◌, ◌&&◌, nat_le, OnOk};
+ghost use Rattle.std.specs.Prelude.{◌≡◌, ◌++◌, ◌&&◌, ◌==◌, [], IfOk, List, map, nat_le, OnOk, ℕ};
+ghost use Rattle.std.specs.List.{AllByRecursion, ends_with};
+ghost use Rattle.ti_words.specs.Remarks.{IsPrintable, IsRemark, MayAdd, quoted, suggestion_end};
 ghost use Rattle.ti_words.specs.Shown.{shown, shown_byte};
 
 use std::alloc::{AllocError, Global};
 use std::io;
 use std::io::Write;
+use std::marker::Model;
 use ti_source::octal;
 
-/// Lines that explain a failure. One for which there is no memory is left out.
-#[derive(Debug, Drop)]
+/// What the line of a suggestion ends with, and no remark.
+pub const SUGGESTION_END: &[u8] = b" would be right on T";
+
+/// Lines that explain a failure. One for which there is no memory is left out. Contracts see the list of them, without
+/// the ends of the lines.
+#[derive(Drop)]
 pub struct Remarks {
-    text: Vec<u8>,
+    alloc: Global,
+    lines: Vec<Vec<u8>>,
+}
+
+impl Model for Remarks {
+    ghost use Rattle.std.specs.Prelude.{List, map, ℕ};
+    ghost use Rattle.std.specs.List.{AllByRecursion};
+    ghost use Rattle.ti_words.specs.Remarks.{IsRemark};
+
+    ghost Value = { List (List ℕ) };
+
+    ghost view = { λ r. map (λ line. line.items) r.lines.items };
+
+    ghost invariant = { λ r. AllByRecursion IsRemark (map (λ line. line.items) r.lines.items) };
 }
 
 impl Remarks {
     /// No line yet.
-    pub fn new(alloc: Global) -> Remarks {
+    pub fn new(alloc: Global) -> Remarks
+        ensures { result ≡ [] }
+    {
         Remarks {
-            text: Vec::new(alloc),
+            alloc,
+            lines: Vec::new(alloc),
         }
     }
 
-    /// The lines so far, of bytes 32 to 126 but for their ends.
-    pub fn as_slice(&self) -> &[u8] {
-        self.text.as_slice()
+    /// The lines so far.
+    pub fn lines(&self) -> &[Vec<u8>]
+        ensures lines { map (λ line. line.items) result.now ≡ self.now }
+        ensures remarks { AllByRecursion IsRemark self.now }
+    {
+        self.lines.as_slice()
     }
 
-    /// Adds a line: `subject` in quotes, and the `words` about it.
-    pub fn add(&mut self, subject: &[u8], words: &[u8]) {
-        let len = self.text.len();
-        if self.push_line(subject, words).is_err() {
-            self.text.truncate(len);
+    /// Adds a line, as far as there is memory: `subject` in quotes, and the `words` about it. A line that could be taken
+    /// for a suggestion is left out.
+    pub fn add(&mut self, subject: &[u8], words: &[u8])
+        ensures { MayAdd (quoted (shown subject.now) (shown words.now)) self.old self.new }
+    {
+        if let Ok(line) = quoted_line(self.alloc, subject, words) {
+            self.push(line);
         }
     }
 
-    /// Adds a line of these `words`, if there are any.
-    pub fn add_words(&mut self, words: &[u8]) {
-        let len = self.text.len();
-        if !words.is_empty() && self.push_words(words).is_err() {
-            self.text.truncate(len);
+    /// Adds a line of these `words`, if there are any, as far as there is memory. A line that could be taken for a
+    /// suggestion is left out.
+    pub fn add_words(&mut self, words: &[u8])
+        ensures { MayAdd (shown words.now) self.old self.new }
+    {
+        if words.is_empty() {
+            return;
+        }
+        if let Ok(line) = shown_line(self.alloc, words) {
+            self.push(line);
         }
     }
 
-    fn push_line(&mut self, subject: &[u8], words: &[u8]) -> Result<(), AllocError> {
-        self.text.push(b'\'')?;
-        push_shown(&mut self.text, subject)?;
-        self.text.push(b'\'')?;
-        self.push_words(words)
+    /// Adds `line`, as far as there is memory, unless it could be taken for a suggestion.
+    fn push(&mut self, line: Vec<u8>)
+        requires { AllByRecursion IsPrintable line.items }
+        ensures { MayAdd line.items self.old self.new }
+    {
+        if !ends_as_suggestion(line.as_slice()) {
+            let _ = self.lines.push(line);
+        }
     }
 
-    fn push_words(&mut self, words: &[u8]) -> Result<(), AllocError> {
-        push_shown(&mut self.text, words)?;
-        self.text.push(b'\n')?;
+    /// Writes the lines to `out`.
+    ///
+    /// # Errors
+    /// What `out` answers.
+    pub fn write<W: Write>(&self, out: &mut W) -> io::Result<()> {
+        for line in &self.lines {
+            out.write_all(line.as_slice())?;
+            out.write_all(b"\n")?;
+        }
         Ok(())
     }
+}
+
+fn ends_as_suggestion(line: &[u8]) -> bool
+    ensures { result ≡ ends_with (λ a b. a == b) line.now suggestion_end }
+{
+    line.ends_with(SUGGESTION_END)
+}
+
+/// The line of these `words`.
+fn shown_line(alloc: Global, words: &[u8]) -> Result<Vec<u8>, AllocError>
+    ensures words { IfOk result (λ line. line.items ≡ shown words.now) }
+    ensures printable { IfOk result (λ line. AllByRecursion IsPrintable line.items) }
+{
+    let mut line = Vec::new(alloc);
+    push_shown(&mut line, words)?;
+    Ok(line)
+}
+
+/// The line of `subject` in quotes and the `words` about it.
+fn quoted_line(alloc: Global, subject: &[u8], words: &[u8]) -> Result<Vec<u8>, AllocError>
+    ensures words { IfOk result (λ line. line.items ≡ quoted (shown subject.now) (shown words.now)) }
+    ensures printable { IfOk result (λ line. AllByRecursion IsPrintable line.items) }
+{
+    let mut line = Vec::from_slice(alloc, b"'")?;
+    push_shown(&mut line, subject)?;
+    line.push(b'\'')?;
+    push_shown(&mut line, words)?;
+    Ok(line)
 }
 
 /// Appends `bytes` to `text` so that no terminal takes them for a sequence: each byte outside 32 to 126 as a backslash
 /// and three octal digits.
 pub fn push_shown(text: &mut Vec<u8>, bytes: &[u8]) -> Result<(), AllocError>
-    ensures { OnOk result (text.new.items ≡ text.old.items ++ shown bytes.now) }
+    ensures shown { OnOk result (text.new.items ≡ text.old.items ++ shown bytes.now) }
+    ensures printable { OnOk result (AllByRecursion IsPrintable (shown bytes.now)) }
 {
     for byte in bytes {
         push_byte(text, *byte)?;
@@ -69,7 +140,8 @@ pub fn push_shown(text: &mut Vec<u8>, bytes: &[u8]) -> Result<(), AllocError>
 }
 
 fn push_byte(text: &mut Vec<u8>, byte: u8) -> Result<(), AllocError>
-    ensures { OnOk result (text.new.items ≡ text.old.items ++ shown_byte byte) }
+    ensures shown { OnOk result (text.new.items ≡ text.old.items ++ shown_byte byte) }
+    ensures printable { AllByRecursion IsPrintable (shown_byte byte) }
 {
     if is_printable(byte) {
         text.extend_from_slice(&[byte])

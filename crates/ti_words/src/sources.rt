@@ -2,32 +2,11 @@
 
 use crate::fields::{FieldText, faulty_field, line_of};
 use crate::remarks::Remarks;
-use std::alloc::{AllocError, Global};
-use ti_caps::{Kind, by_name, kind, name};
+use std::alloc::Global;
+use ti_caps::{Kind, by_name, kind};
 use ti_compiled::PackFault;
 use ti_resolve::ResolveFault;
-use ti_source::{FaultKind, SourceFault, percent_carets};
-
-/// Adds a line for each `%^` in a string of the source text `text`, as far as there is memory: by the rules of escapes
-/// it is `%` and a control character, and some mean exclusive or.
-pub fn hint_carets(alloc: Global, text: &[u8], remarks: &mut Remarks) {
-    let _ = add_hints(alloc, text, remarks);
-}
-
-fn add_hints(alloc: Global, text: &[u8], remarks: &mut Remarks) -> Result<(), AllocError> {
-    for hint in percent_carets(alloc, text)?.as_slice() {
-        let line = hint.line;
-        let mut words = Vec::new(alloc);
-        words.extend_from_slice(format!(in alloc; "hint line {line}: in ")?.as_bytes())?;
-        words.extend_from_slice(name(hint.cap))?;
-        words.extend_from_slice(CARET)?;
-        remarks.add_words(words.as_slice());
-    }
-    Ok(())
-}
-
-const CARET: &[u8] =
-    b" `%^` is read as `%` and a control character; exclusive or is written `%\\^`";
+use ti_source::{FaultKind, SourceFault};
 
 /// Explains the fault of the source text `text` at `path`, with the field that has it where that is one field's.
 pub fn explain_source(

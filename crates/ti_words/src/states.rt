@@ -1,23 +1,9 @@
-//! States of the terminal: the start of a run, and what has changed in its end.
+//! What has changed in the end of a run.
 
 use crate::changes::{Changed, changed_cells};
+use crate::starts::{HIDDEN, PENDING, push_charset, push_cursor, push_margins, push_rendition};
 use std::alloc::{AllocError, Global};
-use vt_term::{Charset, Color, Rendition, Settings, Size, Terminal};
-
-/// The start of a run on a terminal of `size`, in which every cell shows the character `fill`.
-pub fn start_words(
-    alloc: Global,
-    size: Size,
-    start: &Settings,
-    fill: u8,
-) -> Result<Vec<u8>, AllocError> {
-    let mut words = Vec::from_slice(alloc, b"start: every cell shows '")?;
-    words.extend_from_slice(&[fill, b'\''])?;
-    push_cursor(alloc, start, &mut words)?;
-    let rest = at_rest(size);
-    push_settings(alloc, &rest, &rest, start, &mut words)?;
-    Ok(words)
-}
+use vt_term::{Charset, Rendition, Settings, Size, Terminal};
 
 /// What a run from `start`, where every cell shows the character `fill`, has changed, and its `end`.
 pub fn seen_words(
@@ -55,14 +41,6 @@ fn at_rest(size: Size) -> Settings {
         bottom: size.rows.saturating_sub(1),
         visible: true,
     }
-}
-
-/// Appends where the cursor is.
-fn push_cursor(alloc: Global, settings: &Settings, words: &mut Vec<u8>) -> Result<(), AllocError> {
-    let row = settings.row;
-    let col = settings.col;
-    let place = format!(in alloc; ", the cursor is at row {row}, column {col}")?;
-    words.extend_from_slice(place.as_bytes())
 }
 
 /// Appends which cells have `changed`, and to what.
@@ -122,7 +100,7 @@ fn differ(one: &Settings, other: &Settings) -> bool {
 
 fn pending_words(pending: bool) -> &'static [u8] {
     if pending {
-        b", and the next character wraps to the next line"
+        PENDING
     } else {
         b", and the next character no longer wraps"
     }
@@ -132,80 +110,6 @@ fn visible_words(visible: bool) -> &'static [u8] {
     if visible {
         b", the cursor is visible"
     } else {
-        b", the cursor is hidden"
-    }
-}
-
-fn push_margins(alloc: Global, settings: &Settings, words: &mut Vec<u8>) -> Result<(), AllocError> {
-    let top = settings.top;
-    let bottom = settings.bottom;
-    let text = format!(in alloc; ", the scrolling region is rows {top} to {bottom}")?;
-    words.extend_from_slice(text.as_bytes())
-}
-
-/// Appends the marks of `rendition` that are on, or that there are none, and colours other than the default ones.
-pub fn push_rendition(rendition: Rendition, words: &mut Vec<u8>) -> Result<(), AllocError> {
-    let marks: [(bool, &[u8]); 6] = [
-        (rendition.bold, b" bold"),
-        (rendition.faint, b" dim"),
-        (rendition.underline, b" underlined"),
-        (rendition.blink, b" blinking"),
-        (rendition.negative, b" reverse"),
-        (rendition.concealed, b" invisible"),
-    ];
-    let len = words.len();
-    for (on, word) in marks {
-        if on {
-            words.extend_from_slice(word)?;
-        }
-    }
-    if words.len() == len {
-        words.extend_from_slice(b" plain")?;
-    }
-    push_colors(rendition, words)
-}
-
-fn push_colors(rendition: Rendition, words: &mut Vec<u8>) -> Result<(), AllocError> {
-    if rendition.foreground.is_none() && rendition.background.is_none() {
-        return Ok(());
-    }
-    words.extend_from_slice(b" in ")?;
-    words.extend_from_slice(color_name(rendition.foreground))?;
-    words.extend_from_slice(b" on ")?;
-    words.extend_from_slice(color_name(rendition.background))
-}
-
-fn color_name(color: Option<Color>) -> &'static [u8] {
-    match color {
-        None => b"default",
-        Some(Color::Black) => b"black",
-        Some(Color::Red) => b"red",
-        Some(Color::Green) => b"green",
-        Some(Color::Yellow) => b"yellow",
-        Some(Color::Blue) => b"blue",
-        Some(Color::Magenta) => b"magenta",
-        Some(Color::Cyan) => b"cyan",
-        Some(Color::White) => b"white",
-    }
-}
-
-/// Appends which sets G0 and G1 are, and which of them is active.
-fn push_charset(charset: Charset, words: &mut Vec<u8>) -> Result<(), AllocError> {
-    words.extend_from_slice(b", G0 is ")?;
-    words.extend_from_slice(set_name(charset.g0_graphic))?;
-    words.extend_from_slice(b", G1 is ")?;
-    words.extend_from_slice(set_name(charset.g1_graphic))?;
-    words.extend_from_slice(if charset.shifted_out {
-        b", G1 is active"
-    } else {
-        b", G0 is active"
-    })
-}
-
-fn set_name(is_graphic: bool) -> &'static [u8] {
-    if is_graphic {
-        b"the line drawing set"
-    } else {
-        b"the plain set"
+        HIDDEN
     }
 }

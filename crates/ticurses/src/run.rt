@@ -40,7 +40,7 @@ pub fn command<F: Files, O: Write, E: Write + IsTerminal>(
         &mut remarks,
     ) {
         Ok(()) => {
-            let _ = err.write_all(remarks.as_slice());
+            let _ = remarks.write(err);
             0
         }
         Err(failure) => report(&failure, &remarks, err),

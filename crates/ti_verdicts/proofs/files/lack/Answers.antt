@@ -1,6 +1,10 @@
-use Rattle.std.proofs.lemmas.Result.{IfOk-weaker}
+use Rattle.std.proofs.Common.{◌∙◌, ℕ, List, IfOk, subst}
+use Rattle.std.specs.Prelude.{option_map}
+use Rattle.ti_verdicts.specs.Told.{told_of}
 use Rattle.ti_verdicts.proofs.files.lack.Goals as goal
 
--- the reason is the one that was given
+-- the reason is the refusal's own
 pub returns : goal.returns
-returns g c = IfOk-weaker c.refuse.result _ _ (λ said refused. (c.args.why.now, refused)) c.refuse.ensures
+returns g c =
+    subst (λ (why : List ℕ). IfOk c.refuse.result (λ said. g.S.Speaker.refuses c.args.speaker.now c.args.path.now (option_map (λ n. n.now) c.args.name) why (told_of said)))
+    (c.as_slice.ensures.value ∙ c.in_ok-why.ensures) c.refuse.ensures

@@ -1,11 +1,15 @@
 use Rattle.std.proofs.Common.{◌<◌, ◌∙◌, length, refl, arith}
-use Rattle.ti_verdicts.specs.Lines.{AreLines, HasPairs}
-use Rattle.ti_verdicts.proofs.Parts.{ends_step}
+use Rattle.ti_verdicts.specs.Lines.{AreLines}
+use Rattle.ti_verdicts.specs.Surveys.{HasLines}
+use Rattle.ti_verdicts.specs.Told.{told_of}
+use Rattle.ti_verdicts.proofs.Parts.{ends_step, said_of_none}
 use Rattle.ti_verdicts.proofs.surveys.paths_said.Goals as goal
 
 pub loop-done-init : goal.loop-done-init
-unfolding HasPairs
-loop-done-init g c = record { told = (c.new-said.ensures.lines, c.new-said.ensures.places); kept = refl }
+loop-done-init g c = record {
+  told = said_of_none (HasLines (AreLines (g.S.Speaker.says c.args.speaker.now) (g.S.Speaker.refuses c.args.speaker.now)) (g.F.Files.holds c.args.files.now)) (told_of c.new-said.result) c.new-said.ensures;
+  kept = refl;
+}
 
 -- the lines of the next path follow those so far
 pub loop-done-preserved : goal.loop-done-preserved
@@ -13,8 +17,7 @@ loop-done-preserved g c =
     let here : c.loop-done.done < length c.args.paths.now = omega arith in
     record {
       told = ends_step (AreLines (g.S.Speaker.says c.args.speaker.now) (g.S.Speaker.refuses c.args.speaker.now)) (g.F.Files.holds c.args.files.now) (g.F.Files.holds c.loop-done.files)
-          c.args.paths.now c.loop-done.done _ c.loop-done.said.lines.items c.in_ok-own.own.said.lines.items c.add.new.self.lines.items c.loop-done.said.places.items c.in_ok-own.own.said.places.items c.add.new.self.places.items
-          c.loop-done.failure c.in_ok-own.own.failure c.first_failure-failure.result here c.loop-done.invariant.kept c.in_ok-add.ensures.lines c.in_ok-add.ensures.places c.first_failure-failure.ensures c.loop-done.invariant.told
-          c.in_ok-own.ensures.told;
+          c.args.paths.now c.loop-done.done _ (told_of c.loop-done.said) (told_of c.in_ok-own.own.said) (told_of c.add.new.self) c.loop-done.failure c.in_ok-own.own.failure c.first_failure-failure.result
+          here c.loop-done.invariant.kept c.in_ok-add.ensures c.first_failure-failure.ensures c.loop-done.invariant.told c.in_ok-own.ensures.told;
       kept = c.path_said.ensures.kept ∙ c.loop-done.invariant.kept;
     }

@@ -1,0 +1,141 @@
+//! The words of a refusal.
+
+ghost use Rattle.std.specs.Prelude.{◌≡◌, ◌++◌, IfOk, OnOk, codes};
+ghost use Rattle.std.specs.Fmt.{decimal};
+ghost use Rattle.ti_commands.specs.Refusals as spec;
+
+use crate::failure::CommandRefusal;
+use std::alloc::{AllocError, Global};
+use ti_compiled::PackFault;
+use ti_parm::ParmFault;
+use ti_resolve::ResolveFault;
+use ti_source::{EscapeFault, FaultKind, SourceFault};
+use vt_term::{TokenFault, TokenFaultKind};
+
+/// The words of `refusal`, as they follow `refused: `: its kind, and the place or the name that it is about. A name has
+/// the bytes that it has in its source.
+pub fn refusal_words(alloc: Global, refusal: &CommandRefusal) -> Result<Vec<u8>, AllocError>
+    ensures { IfOk result (λ words. words.items ≡ spec.refusal_text_of refusal.now) }
+{
+    match refusal {
+        CommandRefusal::Size => Vec::from_slice(alloc, b"BadSize"),
+        CommandRefusal::Escape(fault) => Vec::from_slice(alloc, escape_name(*fault)),
+        CommandRefusal::Parm(fault) => Vec::from_slice(alloc, parm_name(*fault)),
+        CommandRefusal::Token(fault) => token_words(alloc, *fault),
+        CommandRefusal::Stuck(fault) => stuck_words(alloc, fault.at),
+        CommandRefusal::Source(fault) => source_words(alloc, *fault),
+        CommandRefusal::Resolve(fault) => resolve_words(alloc, fault),
+        CommandRefusal::Pack(fault) => Vec::from_slice(alloc, pack_name(*fault)),
+        CommandRefusal::Verdict(words) => Vec::from_slice(alloc, words.as_slice()),
+    }
+}
+
+fn token_words(alloc: Global, fault: TokenFault) -> Result<Vec<u8>, AllocError>
+    ensures { IfOk result (λ words. words.items ≡ spec.token_text fault.kind fault.at) }
+{
+    match fault.kind {
+        TokenFaultKind::Unfinished => unfinished_words(alloc, fault.at),
+        TokenFaultKind::Stuck => stuck_words(alloc, fault.at),
+        TokenFaultKind::NoMemory => Vec::from_slice(alloc, b"NoMemory"),
+    }
+}
+
+fn unfinished_words(alloc: Global, at: usize) -> Result<Vec<u8>, AllocError>
+    ensures { IfOk result (λ words. words.items ≡ codes "Unfinished " ++ decimal at) }
+{
+    Ok(format!(in alloc; "Unfinished {at}")?.into_bytes())
+}
+
+fn stuck_words(alloc: Global, at: usize) -> Result<Vec<u8>, AllocError>
+    ensures { IfOk result (λ words. words.items ≡ codes "Stuck " ++ decimal at) }
+{
+    Ok(format!(in alloc; "Stuck {at}")?.into_bytes())
+}
+
+fn source_words(alloc: Global, fault: SourceFault) -> Result<Vec<u8>, AllocError>
+    ensures { IfOk result (λ words. words.items
+        ≡ spec.refusal_text_of (CommandRefusal.Source fault)) }
+{
+    let line = fault.line;
+    let mut words = format!(in alloc; "line {line}: ")?.into_bytes();
+    words.extend_from_slice(source_name(fault.kind))?;
+    Ok(words)
+}
+
+/// The kind of `fault`, and the name that it is about.
+fn resolve_words(alloc: Global, fault: &ResolveFault) -> Result<Vec<u8>, AllocError>
+    ensures { IfOk result (λ words. words.items ≡ spec.resolve_text fault.now) }
+{
+    match fault {
+        ResolveFault::NoSuchEntry(name) => named(alloc, b"NoSuchEntry ", name.as_slice()),
+        ResolveFault::Cycle(name) => named(alloc, b"Cycle ", name.as_slice()),
+        ResolveFault::TooMany(name) => named(alloc, b"TooMany ", name.as_slice()),
+        ResolveFault::NoMemory => Vec::from_slice(alloc, b"NoMemory"),
+    }
+}
+
+/// The `kind`, and the `name` behind it.
+fn named(alloc: Global, kind: &[u8], name: &[u8]) -> Result<Vec<u8>, AllocError>
+    ensures { IfOk result (λ words. words.items ≡ kind.now ++ name.now) }
+{
+    let mut words = Vec::from_slice(alloc, kind)?;
+    words.extend_from_slice(name)?;
+    Ok(words)
+}
+
+fn escape_name(fault: EscapeFault) -> &'static [u8]
+    ensures { result.now ≡ spec.escape_name fault }
+{
+    match fault {
+        EscapeFault::BadEscape => b"BadEscape",
+        EscapeFault::TooLong => b"TooLong",
+        EscapeFault::NoMemory => b"NoMemory",
+    }
+}
+
+/// The name of a fault of parameters.
+pub fn parm_name(fault: ParmFault) -> &'static [u8]
+    ensures { result.now ≡ spec.parm_name fault }
+{
+    match fault {
+        ParmFault::Underflow => b"Underflow",
+        ParmFault::BadNest => b"BadNest",
+        ParmFault::BadCode => b"BadCode",
+        ParmFault::Overflow => b"Overflow",
+        ParmFault::BadChar => b"BadChar",
+        ParmFault::WrongKind => b"WrongKind",
+        ParmFault::NoMemory => b"NoMemory",
+    }
+}
+
+fn source_name(kind: FaultKind) -> &'static [u8]
+    ensures { result.now ≡ spec.source_name kind }
+{
+    match kind {
+        FaultKind::NoName => b"NoName",
+        FaultKind::WrongKind => b"WrongKind",
+        FaultKind::BadNumber => b"BadNumber",
+        FaultKind::NumberRange => b"NumberRange",
+        FaultKind::OpenField => b"OpenField",
+        FaultKind::BadEscape => b"BadEscape",
+        FaultKind::TooLong => b"TooLong",
+        FaultKind::NoMemory => b"NoMemory",
+    }
+}
+
+fn pack_name(fault: PackFault) -> &'static [u8]
+    ensures { result.now ≡ spec.pack_name fault }
+{
+    match fault {
+        PackFault::Short => b"Short",
+        PackFault::BadMagic => b"BadMagic",
+        PackFault::BadCount => b"BadCount",
+        PackFault::BadFlag => b"BadFlag",
+        PackFault::BadNumber => b"BadNumber",
+        PackFault::BadOffset => b"BadOffset",
+        PackFault::NoNul => b"NoNul",
+        PackFault::TooLarge => b"TooLarge",
+        PackFault::NoMemory => b"NoMemory",
+        PackFault::BadNames => b"BadNames",
+    }
+}

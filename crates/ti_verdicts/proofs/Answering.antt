@@ -1,0 +1,13 @@
+-- The answer of a no.
+use Rattle.std.proofs.Common.{◌≡◌, ◌≢◌, ◌⊎◌, ◌++◌, ℕ, List, Result, Ok, Err, IfOk, codes, inr}
+use Rattle.ti_checker.specs.declared.causes.Cause.TheVariants.{NoMemory}
+use Rattle.ti_checker.specs.declared.causes.No.{No}
+use Rattle.ti_verdicts.specs.Answers.{HasNo, HasYes, one_line}
+use Rattle.ti_verdicts.specs.Refusals.{no_text}
+use Rattle.ti_verdicts.specs.Told.{Told}
+use Rattle.ti_verdicts.specs.declared.answers.Answer.TheVariants as answers
+
+pub as_no : {V E : Type 0} (told : V → Told) (Certifies : List ℕ → Type 0) (Refuses : No → Type 0) (name : List ℕ) (no : No) (r : Result V E) → Refuses no → IfOk r (λ said. no.cause ≢ NoMemory)
+    → IfOk r (λ said. told said ≡ one_line name (codes " " ++ no_text no) (answers.No no.cause)) → IfOk r (λ said. HasYes Certifies name (told said) ⊎ HasNo Refuses name (told said))
+as_no told Certifies Refuses name no (Ok said) refused claims says = inr (record { refusal = no; refused = refused; claims = claims; says = says })
+as_no told Certifies Refuses name no (Err fault) refused claims says = tt

@@ -1,0 +1,25 @@
+-- How many answers a survey has, and which.
+use Rattle.std.specs.Prelude.{ℕ, List, [], ◌∷◌, ◌++◌, codes, length}
+use Rattle.std.specs.Fmt.{decimal}
+use Rattle.std.specs.List.{count_by, flat_map}
+use Rattle.std.specs.Str.{bytes_eq}
+use Rattle.ti_verdicts.specs.FaultLists.{cause_names, part_of}
+use Rattle.ti_verdicts.specs.Told.{answer_name}
+use Rattle.ti_verdicts.specs.declared.answers.Answer.{Answer}
+
+-- in the order in which they are counted
+unfoldable pub answer_names : List (List ℕ)
+answer_names = codes "yes" ∷ (cause_names ++ codes "refused" ∷ [])
+
+-- how many have this name
+abbrev pub answer_count : List Answer → List ℕ → ℕ
+answer_count answers name = count_by (λ answer. bytes_eq (answer_name answer) name) answers
+
+-- `, NAME N`, where there is one
+abbrev pub answer_part : List Answer → List ℕ → List ℕ
+answer_part answers name = part_of (answer_count answers name) name
+
+-- `total N`, and how many are which
+abbrev pub answers_line : List Answer → List ℕ
+answers_line answers =
+    codes "total " ++ (decimal (length answers) ++ (flat_map (answer_part answers) answer_names ++ 10 ∷ []))

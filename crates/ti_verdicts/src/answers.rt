@@ -1,0 +1,117 @@
+//! The answers of a survey, and how many there are of each.
+
+ghost use Rattle.std.specs.Prelude.{◌≡◌, ◌++◌, IfOk, OnOk};
+ghost use Rattle.std.specs.List.{flat_map};
+ghost use Rattle.ti_commands.specs.Words.{texts_of};
+ghost use Rattle.ti_verdicts.specs.Counts as spec;
+ghost use Rattle.ti_verdicts.specs.Told.{answer_name};
+
+use crate::counts::push_part;
+use crate::refusals::cause_name;
+use std::alloc::{AllocError, Global};
+use ti_checker::Cause;
+
+/// What a line of a survey answers.
+#[derive(Clone, Copy, Debug, PartialEq, Eq)]
+pub enum Answer {
+    /// The entry has a certificate.
+    Yes,
+    /// It has none, for this cause.
+    No(Cause),
+    /// It can't be had.
+    Refused,
+}
+
+impl Answer {
+    /// The word by which it is counted.
+    fn name(self) -> &'static [u8]
+        ensures { result.now ≡ answer_name self }
+    {
+        match self {
+            Answer::Yes => b"yes",
+            Answer::No(cause) => cause_name(cause),
+            Answer::Refused => b"refused",
+        }
+    }
+}
+
+/// The answers in the order in which they are counted.
+const ANSWERS: [&str; 20] = [
+    "yes",
+    "FlagOut",
+    "Absent",
+    "AcsByte",
+    "Underflow",
+    "BadNest",
+    "BadCode",
+    "Overflow",
+    "BadChar",
+    "WrongKind",
+    "StaticRead",
+    "Unfinished",
+    "Stuck",
+    "NotTame",
+    "BadLook",
+    "WrongEffect",
+    "NotShown",
+    "TooLong",
+    "NoResync",
+    "refused",
+];
+
+/// The line of counts: how many `answers` there are, and how many of each one that comes.
+pub fn answers_line(alloc: Global, answers: &[Answer]) -> Result<Vec<u8>, AllocError>
+    ensures { IfOk result (λ line. line.items ≡ spec.answers_line answers.now) }
+{
+    let total = answers.len();
+    let mut line = format!(in alloc; "total {total}")?.into_bytes();
+    push_answers(alloc, answers, &mut line)?;
+    line.push(b'\n')?;
+    Ok(line)
+}
+
+/// Appends how many of the `answers` are which.
+fn push_answers(alloc: Global, answers: &[Answer], line: &mut Vec<u8>) -> Result<(), AllocError>
+    ensures { OnOk result (line.new.items
+        ≡ line.old.items ++ flat_map (spec.answer_part answers.now) spec.answer_names) }
+{
+    push_named(alloc, answers, &ANSWERS, line)
+}
+
+/// Appends how many of the `answers` have each of these `names`, in their order.
+fn push_named(
+    alloc: Global,
+    answers: &[Answer],
+    names: &[&str],
+    line: &mut Vec<u8>,
+) -> Result<(), AllocError>
+    ensures { OnOk result (line.new.items
+        ≡ line.old.items ++ flat_map (spec.answer_part answers.now) (texts_of names.now)) }
+{
+    for name in names {
+        push_count(alloc, answers, name, line)?;
+    }
+    Ok(())
+}
+
+/// Appends how many of the `answers` have this `name`, if any has.
+fn push_count(
+    alloc: Global,
+    answers: &[Answer],
+    name: &str,
+    line: &mut Vec<u8>,
+) -> Result<(), AllocError>
+    ensures { OnOk result (line.new.items ≡ line.old.items ++ spec.answer_part answers.now name.now) }
+{
+    push_part(alloc, count_of(answers, name), name, line)
+}
+
+/// How many of the `answers` have this `name`.
+fn count_of(answers: &[Answer], name: &str) -> usize
+    ensures { result ≡ spec.answer_count answers.now name.now }
+{
+    answers
+        .iter()
+        .filter(|answer| answer.name() == name.as_bytes())
+        .count()
+}
