@@ -33,6 +33,7 @@ XT = rb"""xt|xterm manner,
 xc|xterm colours,
 	setaf=\E[3%p1%dm, setab=\E[4%p1%dm, op=\E[39;49m, use=xt,
 """
+BASE = b"base|what each needs,\n\tclear=\\E[H\\E[2J, cup=\\E[%i%p1%d;%p2%dH, sgr0=\\E[m,\n"
 EVEN = bytes.fromhex("1a01 0400 0200 0100 0000 0000 617c6200 0001 5000")
 STRING = bytes.fromhex("1a01 0200 0000 0000 0700 0400 6d00 ffffffffffffffffffffffff 0000 1b5b4b00")
 WIDE = bytes.fromhex("1e02 0400 0200 0100 0000 0000 617c6200 0001 409c0000")
@@ -131,6 +132,29 @@ FILES = {
     "longest": EVEN + b"x" * (131072 - len(EVEN)),
     "too_long": EVEN + b"x" * (131073 - len(EVEN)),
     "caret": b"a|a,\n\tsetaf=%p1%p2%^%d,\n",
+    "advice": BASE
+    + rb"""dull|sgr drops bold and standout,
+	sgr=\E[0%?%p2%t;4%;%?%p3%t;7%;m, bold=\E[1m, smul=\E[4m, smso=\E[7m, use=base,
+odd|bold is shown by its own string in another rendition,
+	sgr=\E[0m, bold=\E[4m, use=base,
+half|colors without op,
+	setaf=\E[3%p1%dm, setab=\E[4%p1%dm, use=base,
+one|op alone,
+	op=\E[39;49m, use=base,
+lines|a table of characters without the strings that switch,
+	acsc=qqxx, smacs=\E(0, civis=\E[?25l, use=base,
+""",
+    "hints": BASE
+    + rb"""a|names that no capability has,
+	rmasc=^O, ell=\E[K, use=b, use=c,
+	clear=\E[H\E[2J, cup=\E[%i%p1%d;%p2%dH, clear=\E[2J,
+b|used,
+	el=\E[\K, foo, sgr0=\E[m,
+c|used too,
+	setb=%p1%p2%^%d, use=b,
+d|not used,
+	bar, setf=%p1%p2%^%d,
+""",
     "hostile": b"a|a, use=\x1b[31m,\n",
     "latin": b"h\xe9",
     "wrap": b"abcde",
@@ -408,6 +432,46 @@ RUNS.append((["feed", "2", "2", "no\udcff"], 2, "", None))
 
 CARET = "hint line 2: in setaf `%^` is read as `%` and a control character; exclusive or is written `%\\^`"
 
+# of the entry `hints:a` and of those that it uses
+HINTS = [
+    "hint line 4: rmasc is no capability",
+    "hint line 4: ell is no capability",
+    "hint line 5: clear stands in the entry before, where the first one counts",
+    "hint line 7: el has `\\K`, which is no escape and stands for the byte behind the backslash",
+    "hint line 7: foo is no capability",
+    "hint line 9: in setb `%^` is read as `%` and a control character; exclusive or is written `%\\^`",
+]
+OTHERS = [
+    "hint line 11: bar is no capability",
+    "hint line 11: in setf `%^` is read as `%` and a control character; exclusive or is written `%\\^`",
+]
+DULL = [
+    "advice sgr: smso=\\E[7m shows standout, sgr never does",
+    "advice sgr: bold=\\E[1m shows bold, sgr never does",
+]
+
+# the words, the status, and the lines of standard error that advise or hint
+ADVISED = [
+    *((["check", *form, f"{path}:{name}", "24", "80"], 0, [])
+      for form in ([], ["--all"]) for path, name in (("samples", "mini"), ("samples", "vt"), ("samples", "xt"), ("samples", "xc"))),
+    (["check", "advice:dull", "2", "4"], 0, DULL),
+    (["check", "--all", "advice:dull", "2", "4"], 0, DULL),
+    (["check", "--json", "advice:dull", "2", "4"], 0, []),
+    (["check", "advice:odd", "2", "4"], 0, []),
+    (["check", "advice:half", "2", "4"], 0, ["advice setaf: op is missing, so colors are never shown"]),
+    (["check", "advice:one", "2", "4"], 0, ["advice op: setaf and setab are missing, so colors are never shown"]),
+    (["check", "advice:lines", "2", "4"], 0, [
+        "advice acsc: rmacs is missing, so the line drawing set is never used",
+        "advice civis: cnorm is missing, so the cursor is never hidden",
+    ]),
+    (["check", "hints:a", "2", "4"], 0, HINTS),
+    (["check", "--all", "hints:a", "2", "4"], 0, HINTS),
+    (["check", "hints:d", "2", "4"], 1, OTHERS),
+    (["check", "hints:base", "2", "4"], 0, []),
+    (["survey", "2", "4", "hints"], 0, []),
+    (["survey", "--all", "2", "4", "hints"], 0, [f"{line}, in hints" for line in HINTS + OTHERS]),
+]  # fmt: skip
+
 LONG = (
     f"'{'x' * 200}' .. in line 2 of long.cert: a line is written as `cup 0 0 1b5b313b3148 row=0 col=0 nopend`, with"
     " parameters that the size allows; the last one is `end`, and each ends with LF"
@@ -607,6 +671,16 @@ def judge_explained(words, told, line):
         sys.exit(f"examples: {words}: {told.err}")
 
 
+def judge_advice():
+    """What a run advises and hints at: just these lines, and no verdict or status changes for them."""
+    cases = [Case(words) for words, _, _ in ADVISED]
+    for (words, status, wanted), told in zip(ADVISED, run_cases(f"{TOP}/crates/ticurses", cases, FILES)):
+        lines = [line for line in told.err.decode().splitlines() if line.startswith(("advice ", "hint "))]
+        if lines != wanted or told.status != status:
+            sys.exit(f"examples: {words}: status {told.status}, {lines}")
+    print(f"examples: {len(ADVISED)} runs advise and hint as they should")
+
+
 def judge_kept(work):
     """A file that `tic --out` can't replace is as before, and nothing is left beside it; one that it replaces keeps its
     permissions, and a link stays a link."""
@@ -683,6 +757,7 @@ def main():
         judge_certificate_stored(work)
         judge_progress(work)
         judge_checks()
+        judge_advice()
         judge_system()
     print(f"examples: {len(EXPLAINED)} failures are explained, and a file that can't be replaced is as before")
     print(f"examples: {len(RUNS)} runs told what they are to tell, and {len(WRITTEN)} of `tic --out` wrote their file or none")
