@@ -96,6 +96,11 @@ def check_entries(work, linked):
     write_at(f"{work}/dirs/x/xx", good)
     hold(found(program, work, environment) == len(good), "TERMINFO_DIRS isn't read")
     check_rights(program, work, environment)
+    for (rows, cols), code in (((2, 2), 0), ((200, 500), 0), ((1, 80), 21), ((24, 1), 21), ((201, 80), 21), ((24, 600), 21)):
+        run = Run(rows, cols, [program], environment)
+        run.waits_for(b"\n")
+        run.ends()
+        hold(run.sent.split()[1:4] == [b"%d" % it for it in (code, rows, cols)], "a size is told otherwise", run.sent)
     print("edge: broken, cut, long and unreadable entries don't end the search; variables don't count with more rights")
 
 
@@ -215,7 +220,8 @@ def check_cuts(work, linked):
     after any number of bytes, is an error, and the next refresh begins anew. So in Python."""
     build(["cc", "-std=c99", *WARNED, *SANITIZED, f"{TOP}/tests/c/sends.c", *linked, "-o", f"{work}/sends"])
     for taken in (0, 1, 4095, 4096, 4097, 70_000, 200_009, 200_017, 333_333):
-        for words in ([f"{work}/sends", "200000"], edge_python.sender(work)):
+        senders = [[f"{work}/sends", "200000"], edge_python.sender(work)]
+        for words in [*senders, *([*it, "blocking"] for it in senders)]:
             outer, inner = pty.openpty()
             # nobody knows modes of this terminal but the program
             how = {"stdin": inner, "stdout": inner, "stderr": subprocess.PIPE, "start_new_session": True}

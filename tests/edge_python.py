@@ -175,7 +175,7 @@ SENDER = """
 signal.signal(signal.SIGALRM, lambda *_: None)
 signal.signal(signal.SIGHUP, signal.SIG_IGN)
 ticurses.set_raw(1)
-os.set_blocking(1, False)
+os.set_blocking(1, len(sys.argv) > 2)
 session = Session(b"entry", 24, 80)
 signal.setitimer(signal.ITIMER_REAL, 0.0005, 0.0005)
 try:
@@ -193,7 +193,7 @@ print(session.output(7).decode(), file=sys.stderr)
 def sender(work):
     """The words that run it."""
     write(f"{work}/sender.py", (BEGINNING + SENDER).encode())
-    return [sys.executable, f"{work}/sender.py"]
+    return [sys.executable, f"{work}/sender.py", "200000"]
 
 
 def variables(work):

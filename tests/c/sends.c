@@ -1,5 +1,5 @@
-/* sends COUNT: sends COUNT bytes and `endwin` to the terminal at standard output, which doesn't block, while a timer
- * interrupts each write; again and again until a send fails, which it says on standard error with what waits then and
+/* sends COUNT [BLOCKING]: sends COUNT bytes and `endwin` to the terminal at standard output, which doesn't block unless
+ * that is said, while a timer interrupts it; again and again until a send fails, which it says on standard error with what waits then and
  * what the next refresh begins with. */
 #define _XOPEN_SOURCE 700
 #include <ticurses_terminal.h>
@@ -19,9 +19,9 @@ int main(int argc, char **argv) {
     char piece[8] = "";
     memset(&action, 0, sizeof action);
     action.sa_handler = on_signal;
-    if (argc != 2 || ticurses_open(&session, "entry", 5, NULL, 0, 24, 80, NULL, 0)) return 2;
+    if (argc < 2 || ticurses_open(&session, "entry", 5, NULL, 0, 24, 80, NULL, 0)) return 2;
     if (ticurses_set_raw(STDOUT_FILENO, &before)) return 2;
-    fcntl(STDOUT_FILENO, F_SETFL, O_NONBLOCK);
+    if (argc == 2) fcntl(STDOUT_FILENO, F_SETFL, O_NONBLOCK);
     sigaction(SIGALRM, &action, NULL);
     signal(SIGHUP, SIG_IGN);
     setitimer(ITIMER_REAL, &often, NULL);
