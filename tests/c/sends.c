@@ -1,6 +1,6 @@
-/* sends COUNT [BLOCKING]: sends COUNT bytes and `endwin` to the terminal at standard output, which doesn't block unless
- * that is said, while a timer interrupts it; again and again until a send fails, which it says on standard error with what waits then and
- * what the next refresh begins with. */
+/* sends COUNT [BLOCKING]: sends COUNT bytes and `endwin` to the terminal at standard output, which doesn't block
+ * unless that is said, while a timer interrupts it; again and again until a send fails, which it says on standard
+ * error with what waits then and what the next refresh begins with. */
 #define _XOPEN_SOURCE 700
 #include <ticurses_terminal.h>
 
