@@ -7,4 +7,4 @@ if ! command -v python3 >/dev/null 2>&1; then
     echo "package: python3 is not installed, and nothing of this is tried"
     exit 0
 fi
-exec python3 -B package.py
+exec python3 -B packaged.py

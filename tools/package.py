@@ -227,19 +227,26 @@ def debian(proved, age):
     control.add("triggers", "activate-noawait ldconfig\n")
     members = [
         ("debian-binary", b"2.0\n"),
-        ("control.tar.xz", lzma.compress(control.tar(".", age), preset=9)),
-        ("data.tar.xz", lzma.compress(tree.tar(".", age), preset=9)),
+        ("control.tar.xz", lzma.compress(control.tar(".", age), preset=6)),
+        ("data.tar.xz", lzma.compress(tree.tar(".", age), preset=6)),
     ]
     heads = [f"{name:<16}{age:<12}{0:<6}{0:<6}{'100644':<8}{len(held):<10}`\n".encode() for name, held in members]
     return b"!<arch>\n" + b"".join(head + held + b"\n" * (len(held) % 2) for head, (_, held) in zip(heads, members))
+
+
+def is_known(made):
+    """Whether what the toolchain said of what is built is here, or was kept. The gate leaves a program without it."""
+    return verdicts.read(made, made.sources()) is not None or (
+        kept.fetch(made) and verdicts.read(made, made.sources()) is not None
+    )
 
 
 def bring():
     """Has the program and the library, with what the toolchain said of them; returns the status."""
     for made in (PROVED, LIBRARY):
         status = build.bring(made)
-        if not status and verdicts.read(made, made.sources()) is None:
-            # built by what kept no verdicts: the toolchain goes over what it kept
+        if not status and not is_known(made):
+            # the toolchain goes over what it has kept of each crate
             with build.alone():
                 status = build.built(made)
                 if not status:

@@ -20,6 +20,7 @@ from trying import TOP, held_in
 sys.path.append(f"{TOP}/tools")
 
 from build import is_there
+from package import is_known
 from sources import LIBRARY, PROVED
 from version import SONAME, VERSION
 
@@ -270,8 +271,8 @@ def check_tarball(bare, package, work):
 
 def main():
     for made in (PROVED, LIBRARY):
-        if not is_there(made):
-            print(f"package: the {made.name} isn't built from these sources; nothing of this is tried")
+        if not is_there(made) or not is_known(made):
+            print(f"package: no {made.name} of these sources is built or kept with its verdicts; nothing of this is tried")
             return
     if missing("package", "cc", "strip", "objdump"):
         return
