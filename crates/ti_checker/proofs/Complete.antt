@@ -9,7 +9,7 @@ use Rattle.vt_effects.specs.declared.effects.Rendering.{Rendering}
 use Rattle.vt_effects.specs.declared.effects.Sets.{Sets}
 use Rattle.vt_effects.specs.declared.effects.Switch.{Switch}
 use Rattle.vt_effects.specs.Effect.{applied, designated, rendered, switched}
-use Rattle.ti_rows.specs.Asked.{asked, ink_of, just, on_or_kept}
+use Rattle.ti_rows.specs.Asked.{asked, ink_of, just, no_marks, on_or_kept}
 use Rattle.ti_rows.specs.Lists.{IsInRange}
 use Rattle.ti_rows.specs.Looks.{shown}
 use Rattle.ti_rows.specs.Starts.{Starts}
@@ -18,14 +18,13 @@ use Rattle.ti_rows.specs.declared.rows.Attributes.{Attributes}
 use Rattle.ti_rows.specs.declared.rows.Looks.{Looks}
 use Rattle.ti_rows.specs.declared.rows.Row.{Row}
 use Rattle.ti_rows.specs.declared.rows.Row.TheVariants.{Sgr, Smso, Cvvis}
-use Rattle.ti_checker.specs.Breakage.{AgreeBefore, marks_after, with_defaults, without_defaults}
-use Rattle.ti_checker.specs.Mislooks.{marks_of}
-use Rattle.ti_checker.specs.Strays.{HaveOnePlace, IsAlwaysWanted, IsRecorded, IsWantedFrom}
+use Rattle.ti_checker.specs.Breakage.{marks_after, with_defaults, without_defaults}
+use Rattle.ti_checker.specs.Strays.{HaveOnePlace, IsAlwaysWanted, IsRecorded}
 use Rattle.ti_checker.specs.Trials.{EndsBelow}
 use Rattle.ti_checker.proofs.Elsewhere.{agree_with_itself, end_wanted, same_place}
 use Rattle.ti_checker.proofs.Erasing.{same_cells}
 use Rattle.ti_checker.proofs.Modes.{same_sets, told_seen, chosen_seen}
-use Rattle.ti_checker.proofs.OneRendition.{fixed_rendered, standout_rendered, set_rendered}
+use Rattle.ti_checker.proofs.OneRendition.{fixed_rendered, standout_rendered, set_rendered, IsRendered}
 
 -- ---- two effects have one end if they have all of its parts
 
@@ -48,12 +47,8 @@ one_end e w s cells place rendition sets seen =
     ∙ ap (λ (v : Bool). built s y.grid y.row y.col y.pending y.rendition y.charset y.top y.bottom v) seen)))))))
 
 -- so the one is wanted where the other is
-wanted_by : (rows cols : ℕ) (taught looks : Looks) (row : Row) (e f : Effect) (s : Screen) → Starts rows cols row s → AgreeBefore row taught looks → applied e s ≡ applied (asked looks row f) s → IsWantedFrom taught row e s
-wanted_by rows cols taught looks row e f s starts agree same = record {
-  looks = looks;
-  agree = agree;
-  wanted = subst (λ (t : Screen). Wants looks row s t) (sym same) (end_wanted rows cols looks row f s starts);
-}
+wanted_by : (rows cols : ℕ) (looks : Looks) (row : Row) (e f : Effect) (s : Screen) → Starts rows cols row s → applied e s ≡ applied (asked looks row f) s → Wants looks row s (applied e s)
+wanted_by rows cols looks row e f s starts same = subst (λ (t : Screen). Wants looks row s t) (sym same) (end_wanted rows cols looks row f s starts)
 
 -- the effect of which colours and visibility are the default ones, or as they were
 abbrev chosen : Bool → Effect → Effect
@@ -75,30 +70,48 @@ choice_seen false l e = refl
 -- ---- each row
 
 pub always_wanted : (rows cols : ℕ) (taught : Looks) (row : Row) (e : Effect) → IsSize rows cols → IsInRange rows cols row → EndsBelow rows cols taught row e 32 → IsRecorded rows cols row e → IsAlwaysWanted rows cols taught row e
-always_wanted rows cols taught (Sgr a) e size range ends text s starts =
-    let r = set_rendered rows cols taught a e s.rendition ends in
+always_wanted rows cols taught (Sgr a) e size range ends text =
+    let r : IsRendered taught a e = set_rendered rows cols taught a e ends in
     let b : Bool = r.defaults in
     let w : Effect = asked r.looks (Sgr a) (chosen b e) in
-    let place = same_place rows cols taught (Sgr a) e s size starts ends in
-    wanted_by rows cols taught r.looks (Sgr a) e (chosen b e) s starts r.agree
-    (one_end e w s (same_cells rows cols taught (Sgr a) e s size range text starts ends) (record { row = place.row; col = place.col; pending = place.pending; top = place.top; bottom = place.bottom })
-    (r.same ∙ ap (λ (q : Rendering). rendered q s.rendition) (sym (set_asked b r.looks a e)))
-    (same_sets rows cols taught (Sgr a) e s.charset ends ∙ ap (λ (q : Sets). designated q s.charset) (set_sets b r.looks taught a e))
-    (told_seen rows cols taught (Sgr a) e s.visible refl ends))
-always_wanted rows cols taught Smso e size range ends text s starts =
-    let looks : Looks = record taught { standout = marks_after e.rendition (marks_of s.rendition) } in
-    let place = same_place rows cols taught Smso e s size starts ends in
-    wanted_by rows cols taught looks Smso e e s starts tt
-    (one_end e (asked looks Smso e) s (same_cells rows cols taught Smso e s size range text starts ends) (record { row = place.row; col = place.col; pending = place.pending; top = place.top; bottom = place.bottom })
-    (standout_rendered rows cols taught e s.rendition ends) (same_sets rows cols taught Smso e s.charset ends) (told_seen rows cols taught Smso e s.visible refl ends))
-always_wanted rows cols taught Cvvis e size range ends text s starts =
-    let v = chosen_seen rows cols taught e s.visible ends in
-    let place = same_place rows cols taught Cvvis e s size starts ends in
-    wanted_by rows cols taught taught Cvvis e (chosen v.shows e) s starts (agree_with_itself Cvvis taught)
-    (one_end e (asked taught Cvvis (chosen v.shows e)) s (same_cells rows cols taught Cvvis e s size range text starts ends) (record { row = place.row; col = place.col; pending = place.pending; top = place.top; bottom = place.bottom })
-    (fixed_rendered rows cols taught Cvvis e s.rendition refl ends) (same_sets rows cols taught Cvvis e s.charset ends)
-    (v.same ∙ ap (λ (q : Switch). switched q s.visible) (sym (choice_seen v.shows taught e))))
-always_wanted rows cols taught row e size range ends text s starts =
-    wanted_by rows cols taught taught row e e s starts (agree_with_itself row taught)
-    (one_end e (asked taught row e) s (same_cells rows cols taught row e s size range text starts ends) (same_place rows cols taught row e s size starts ends)
-    (fixed_rendered rows cols taught row e s.rendition refl ends) (same_sets rows cols taught row e s.charset ends) (told_seen rows cols taught row e s.visible refl ends))
+    record {
+      looks = r.looks;
+      agree = r.agree;
+      wanted = λ s starts.
+          let place = same_place rows cols taught (Sgr a) e s size starts ends in
+          wanted_by rows cols r.looks (Sgr a) e (chosen b e) s starts
+          (one_end e w s (same_cells rows cols taught (Sgr a) e s size range text starts ends) (record { row = place.row; col = place.col; pending = place.pending; top = place.top; bottom = place.bottom })
+          (r.same s.rendition ∙ ap (λ (q : Rendering). rendered q s.rendition) (sym (set_asked b r.looks a e)))
+          (same_sets rows cols taught (Sgr a) e s.charset ends ∙ ap (λ (q : Sets). designated q s.charset) (set_sets b r.looks taught a e))
+          (told_seen rows cols taught (Sgr a) e s.visible refl ends));
+    }
+always_wanted rows cols taught Smso e size range ends text =
+    let looks : Looks = record taught { standout = marks_after e.rendition no_marks } in
+    record {
+      looks = looks;
+      agree = tt;
+      wanted = λ s starts.
+          let place = same_place rows cols taught Smso e s size starts ends in
+          wanted_by rows cols looks Smso e e s starts
+          (one_end e (asked looks Smso e) s (same_cells rows cols taught Smso e s size range text starts ends) (record { row = place.row; col = place.col; pending = place.pending; top = place.top; bottom = place.bottom })
+          (standout_rendered rows cols taught e s.rendition ends) (same_sets rows cols taught Smso e s.charset ends) (told_seen rows cols taught Smso e s.visible refl ends));
+    }
+always_wanted rows cols taught Cvvis e size range ends text = record {
+  looks = taught;
+  agree = agree_with_itself Cvvis taught;
+  wanted = λ s starts.
+      let v = chosen_seen rows cols taught e s.visible ends in
+      let place = same_place rows cols taught Cvvis e s size starts ends in
+      wanted_by rows cols taught Cvvis e (chosen v.shows e) s starts
+      (one_end e (asked taught Cvvis (chosen v.shows e)) s (same_cells rows cols taught Cvvis e s size range text starts ends) (record { row = place.row; col = place.col; pending = place.pending; top = place.top; bottom = place.bottom })
+      (fixed_rendered rows cols taught Cvvis e s.rendition refl ends) (same_sets rows cols taught Cvvis e s.charset ends)
+      (v.same ∙ ap (λ (q : Switch). switched q s.visible) (sym (choice_seen v.shows taught e))));
+}
+always_wanted rows cols taught row e size range ends text = record {
+  looks = taught;
+  agree = agree_with_itself row taught;
+  wanted = λ s starts.
+      wanted_by rows cols taught row e e s starts
+      (one_end e (asked taught row e) s (same_cells rows cols taught row e s size range text starts ends) (same_place rows cols taught row e s size starts ends)
+      (fixed_rendered rows cols taught row e s.rendition refl ends) (same_sets rows cols taught row e s.charset ends) (told_seen rows cols taught row e s.visible refl ends));
+}

@@ -72,8 +72,8 @@ never_strays : (Alike : Screen → Screen → Type 0) → ((t : Screen) → Alik
     → SendsSome string row (λ bytes. HasUnasked rows cols string row bytes) → ⊥
 never_strays Alike same rows cols string row r s =
     let h = is_such (λ looks e. Strays Alike rows cols looks row e) rows cols string row r s in
-    let w = s.holds.unasked.wanted h.start h.starts in
-    h.apart w.looks (applied s.holds.has.effect h.start) w.agree w.wanted (same (applied s.holds.has.effect h.start))
+    let w = s.holds.unasked.wanted in
+    h.apart w.looks (applied s.holds.has.effect h.start) w.agree (w.wanted h.start h.starts) (same (applied s.holds.has.effect h.start))
 
 pub never_elsewhere : NeverElsewhere
 never_elsewhere rows cols string row r s = never_strays HaveOnePlace (λ t. record { row = refl; col = refl; pending = refl; top = refl; bottom = refl }) rows cols string row r s

@@ -34,6 +34,7 @@ use Rattle.ti_checker.specs.Certificate.{IsCertificateOf}
 use Rattle.ti_checker.specs.First.{SendsRight, StandBefore}
 use Rattle.ti_checker.specs.Mislooks.{Mislooks}
 use Rattle.ti_checker.proofs.Mislooked.{right_looks}
+use Rattle.ti_checker.proofs.ShownAlone.{right_alone}
 use Rattle.ti_checker.proofs.Walks.{same_string}
 use Rattle.ti_conforms.proofs.Matches.{same_checked}
 use Rattle.ti_checker.specs.No.{SendsSome, HasWrong, IsFaulty, IsRowFault, cause_of_unfit, IsOfEntry, IsOfAll, AtSmacs, AtRmacs, AtAcsc, AtClear, IsNo, OfEntry, OfRow, OfAll, OutOfMemory, ClaimsNothing}
@@ -78,7 +79,7 @@ not_broken rows cols looks string row bytes p r stand b =
     let start : State = record { screen = screen_of rows cols p; rest = [] } in
     let e = r.ends start refl b.starts in
     let same : e.after ≡ record { screen = b.after; rest = [] } = runs_once start (record { screen = b.after; rest = [] }) e.after bytes b.runs e.runs in
-    b.unwanted looks stand (subst (λ (s : State). Wants looks row (screen_of rows cols p) s.screen) same e.wanted)
+    b.unwanted looks stand (right_alone rows cols looks row bytes r) (subst (λ (s : State). Wants looks row (screen_of rows cols p) s.screen) same e.wanted)
 
 -- what holds of the bytes that a string sends holds of those that are right
 sent_is : (rows cols : ℕ) (looks : Looks) (string : List ℕ) (row : Row) (Holds : List ℕ → Type 0) → (r : SendsRight rows cols looks string row) → SendsSome string row Holds → Holds r.bytes

@@ -9,6 +9,7 @@ pub mod Settled
 pub mod Misjudgements
 pub mod Mislooked
 pub mod Teaching
+pub mod ShownAlone
 pub mod Answers
 pub mod Changes
 pub mod Additions

@@ -23,7 +23,8 @@ use Rattle.ti_rows.specs.declared.rows.Row.TheVariants.{Sgr, Smul, Rev, Blink, D
 use Rattle.ti_rows.proofs.StartFacts.{starts_allowed}
 use Rattle.ti_conforms.specs.Looks.{is_single}
 use Rattle.ti_checker.specs.Breakage.{marks_after}
-use Rattle.ti_checker.specs.Mislooks.{own_marks, other_in, shows_other, marks_of, Mislooks, looks_other}
+use Rattle.ti_checker.specs.Alone.{marks_of}
+use Rattle.ti_checker.specs.Mislooks.{own_marks, other_in, shows_other, Mislooks, looks_other}
 use Rattle.ti_checker.proofs.Quiet.{start, starts_free}
 
 -- ---- by the effect

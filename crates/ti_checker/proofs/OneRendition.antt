@@ -1,6 +1,6 @@
 -- An effect that no probe shows wrong renders as is wanted, from any start of the row.
 use Rattle.std.proofs.Common.{◌≡◌, ℕ, ◌<◌, ◌&&◌, ◌||◌, Bool, true, false, if◌then◌else◌, Option, None, Some, refl, sym, ap, subst, ◌∙◌, arith}
-use Rattle.std.proofs.lemmas.Bool.{and_parts, false≢true}
+use Rattle.std.proofs.lemmas.Bool.{and_parts}
 use Rattle.std.proofs.lemmas.Option.{none-some}
 use Rattle.vt_term.specs.Color.{Color, Red, Blue}
 use Rattle.vt_term.specs.Look.{Rendition}
@@ -12,7 +12,7 @@ use Rattle.vt_effects.specs.declared.effects.Switch.{Switch}
 use Rattle.vt_effects.specs.declared.effects.Switch.TheVariants as switches
 use Rattle.vt_effects.specs.Effect.{inked, rendered, switched}
 use Rattle.vt_effects.specs.Record.{switch_of}
-use Rattle.ti_rows.specs.Asked.{start_of, asked, ink_of, is_on, just, on_or_kept, with_marks_on}
+use Rattle.ti_rows.specs.Asked.{no_marks, start_of, asked, ink_of, is_on, just, with_marks_on}
 use Rattle.ti_rows.specs.Looks.{learned, shown}
 use Rattle.ti_rows.specs.Wants.{marked}
 use Rattle.ti_rows.specs.declared.rows.Attributes.{Attributes}
@@ -22,8 +22,8 @@ use Rattle.ti_rows.specs.declared.rows.Row.{Row}
 use Rattle.ti_rows.specs.declared.rows.Row.TheVariants.{Sgr, Smso}
 use Rattle.ti_rows.proofs.Answers.{earlier_kept}
 use Rattle.ti_rows.proofs.StartFacts.{never}
-use Rattle.ti_checker.specs.Breakage.{AgreeBefore, is_several, looks_for, looks_of, marks_after}
-use Rattle.ti_checker.specs.Mislooks.{marks_of}
+use Rattle.ti_checker.specs.Alone.{is_several, marks_of}
+use Rattle.ti_checker.specs.Breakage.{AgreeBefore, looks_for, looks_of, marks_after}
 use Rattle.ti_checker.specs.Trials.{all_marks, choices_of, probe_by, IsEnd, Only, WithDefaults, WithoutDefaults, EndsAsWanted, EndsBelow}
 use Rattle.ti_checker.specs.declared.probes.Probe.{Probe}
 use Rattle.ti_checker.proofs.Ends.{ends_as, is_fixed}
@@ -93,7 +93,7 @@ so_by e f r taught row p h is = record {
 -- ---- rows whose rendition no look decides
 
 fixed_so : {rows cols : ℕ} → (taught : Looks) (row : Row) (e : Effect) (p : Probe) → is_fixed row ≡ true → EndsAsWanted rows cols taught row e p → RendersSo e.rendition (asked taught row e).rendition p
-fixed_so taught row e p fixed h = so_by e h.wanted (asked taught row e).rendition taught row p h ((ends_as (looks_for taught row e p) taught row e h.wanted h.is).rendition fixed)
+fixed_so taught row e p fixed h = so_by e h.wanted (asked taught row e).rendition taught row p h ((ends_as (looks_for taught row e) taught row e h.wanted h.is).rendition fixed)
 
 pub fixed_rendered : (rows cols : ℕ) (taught : Looks) (row : Row) (e : Effect) (s : Rendition) → is_fixed row ≡ true → EndsBelow rows cols taught row e 32 → rendered e.rendition s ≡ rendered (asked taught row e).rendition s
 fixed_rendered rows cols taught row e s fixed ends =
@@ -101,43 +101,21 @@ fixed_rendered rows cols taught row e s fixed ends =
 
 -- ---- standout, which may look like anything that it turns on
 
-never_off : (a : Switch) → switched a true ≡ switched (on_or_kept (switched a true)) true → switched a true ≡ true
-never_off switches.Kept h = refl
-never_off switches.On h = refl
-never_off switches.Off h = h
-
-turned_on : (a : Switch) (c : Bool) → switched a true ≡ true → switched a c ≡ switched (on_or_kept (switched a c)) c
-turned_on switches.Kept true h = refl
-turned_on switches.Kept false h = refl
-turned_on switches.On c h = refl
-turned_on switches.Off c h = absurd (false≢true h)
-
-standout_mark : (a : Switch) (c : Bool) → switched a true ≡ switched (on_or_kept (switched a true)) true → switched a c ≡ switched (on_or_kept (switched a c)) c
-standout_mark a c h = turned_on a c (never_off a h)
-
-standout_marks : (r : Rendering) (m : Marks) → marks_after r (all_marks true) ≡ marks_after (with_marks_on (marks_after r (all_marks true))) (all_marks true) → marks_after r m ≡ marks_after (with_marks_on (marks_after r m)) m
-standout_marks r m h = same_sets _ _ _ _ _ _ _ _ _ _ _ _
-    (standout_mark r.bold m.bold (ap (λ (x : Marks). x.bold) h))
-    (standout_mark r.faint m.faint (ap (λ (x : Marks). x.faint) h))
-    (standout_mark r.underline m.underline (ap (λ (x : Marks). x.underline) h))
-    (standout_mark r.blink m.blink (ap (λ (x : Marks). x.blink) h))
-    (standout_mark r.negative m.negative (ap (λ (x : Marks). x.negative) h))
-    (standout_mark r.concealed m.concealed (ap (λ (x : Marks). x.concealed) h))
+-- the marks that the effect shows from a start without any
+abbrev alone : Effect → Marks
+alone e = marks_after e.rendition no_marks
 
 standout_as : (l : Looks) (e f : Effect) → IsEnd l Smso e f → f.rendition ≡ with_marks_on l.standout
 standout_as l e f (Only one is) = ap (λ (g : Effect). g.rendition) is
 standout_as l e f (WithDefaults choice is) = never (sym choice)
 standout_as l e f (WithoutDefaults choice is) = never (sym choice)
 
-standout_so : {rows cols : ℕ} → (taught : Looks) (e : Effect) (p : Probe) → EndsAsWanted rows cols taught Smso e p → RendersSo e.rendition (with_marks_on (marks_after e.rendition p.look)) p
-standout_so taught e p h = so_by e h.wanted (with_marks_on (marks_after e.rendition p.look)) taught Smso p h (standout_as (looks_for taught Smso e p) e h.wanted h.is)
+standout_so : {rows cols : ℕ} → (taught : Looks) (e : Effect) (p : Probe) → EndsAsWanted rows cols taught Smso e p → RendersSo e.rendition (with_marks_on (alone e)) p
+standout_so taught e p h = so_by e h.wanted (with_marks_on (alone e)) taught Smso p h (standout_as (looks_for taught Smso e) e h.wanted h.is)
 
-pub standout_rendered : (rows cols : ℕ) (taught : Looks) (e : Effect) (s : Rendition) → EndsBelow rows cols taught Smso e 32 → rendered e.rendition s ≡ rendered (with_marks_on (marks_after e.rendition (marks_of s))) s
+pub standout_rendered : (rows cols : ℕ) (taught : Looks) (e : Effect) (s : Rendition) → EndsBelow rows cols taught Smso e 32 → rendered e.rendition s ≡ rendered (with_marks_on (marks_after e.rendition no_marks)) s
 standout_rendered rows cols taught e s ends =
-    let none = standout_so taught e (unmarked rows cols Smso) (ends 0 (omega arith)) in
-    let all = standout_so taught e (all_on rows cols Smso) (ends 8 (omega arith)) in
-    from_parts (rendered e.rendition s) (rendered (with_marks_on (marks_after e.rendition (marks_of s))) s) (standout_marks e.rendition (marks_of s) all.marks)
-    (ink_by_both e.rendition.foreground inks.Kept Red s.foreground none.foreground all.foreground) (ink_by_both e.rendition.background inks.Kept Blue s.background none.background all.background)
+    everywhere rows cols Smso e.rendition (with_marks_on (alone e)) s (standout_so taught e (unmarked rows cols Smso) (ends 0 (omega arith))) (standout_so taught e (all_on rows cols Smso) (ends 8 (omega arith)))
 
 -- ---- sets of attributes
 
@@ -158,50 +136,33 @@ no_ink false = refl
 just_marks : (m n : Marks) (i : Ink) → m ≡ marks_after (just m i) n
 just_marks m n i = same_sets _ _ _ _ _ _ _ _ _ _ _ _ (set_mark m.bold n.bold) (set_mark m.faint n.faint) (set_mark m.underline n.underline) (set_mark m.blink n.blink) (set_mark m.negative n.negative) (set_mark m.concealed n.concealed)
 
--- the set is shown so by some looks, with both colours kept or both default
-pub record IsRendered (taught : Looks) (a : Attributes) (e : Effect) (s : Rendition) : Type 0 where
+-- the set is shown so by some looks, with both colours kept or both default, from whatever rendition
+pub record IsRendered (taught : Looks) (a : Attributes) (e : Effect) : Type 0 where
   pub looks : Looks
   pub agree : AgreeBefore (Sgr a) taught looks
   pub defaults : Bool
-  pub same : rendered e.rendition s ≡ rendered (just (shown looks a) (ink_of defaults)) s
+  pub same : (s : Rendition) → rendered e.rendition s ≡ rendered (just (shown looks a) (ink_of defaults)) s
 
--- by looks by which the set is shown as it is seen there
-rendered_by : (rows cols : ℕ) (taught looks : Looks) (a : Attributes) (e : Effect) (m n : Marks) (s : Rendition) → ShowsSome m e (unmarked rows cols (Sgr a)) → ShowsSome n e (all_on rows cols (Sgr a)) → AgreeBefore (Sgr a) taught looks
-    → marks_after e.rendition (marks_of s) ≡ shown looks a → IsRendered taught a e s
-rendered_by rows cols taught looks a e m n s none all agree marks =
+-- by looks by which the set is shown as from both probes
+rendered_by : (rows cols : ℕ) (taught looks : Looks) (a : Attributes) (e : Effect) (m : Marks) → ShowsSome m e (unmarked rows cols (Sgr a)) → ShowsSome m e (all_on rows cols (Sgr a)) → AgreeBefore (Sgr a) taught looks
+    → m ≡ shown looks a → IsRendered taught a e
+rendered_by rows cols taught looks a e m none all agree is =
     let b : Bool = all.defaults in
     record {
       looks = looks;
       agree = agree;
       defaults = b;
-      same = from_parts (rendered e.rendition s) (rendered (just (shown looks a) (ink_of b)) s) (marks ∙ just_marks (shown looks a) (marks_of s) (ink_of b))
+      same = λ s. from_parts (rendered e.rendition s) (rendered (just (shown looks a) (ink_of b)) s)
+          (marks_by_both e.rendition (just m inks.Kept) (marks_of s) none.so.marks all.so.marks ∙ (sym (just_marks m (marks_of s) inks.Kept) ∙ (is ∙ just_marks (shown looks a) (marks_of s) (ink_of b))))
           (ink_by_both e.rendition.foreground (ink_of b) Red s.foreground (none.so.foreground ∙ (no_ink none.defaults ∙ sym (no_ink b))) all.so.foreground)
           (ink_by_both e.rendition.background (ink_of b) Blue s.background (none.so.background ∙ (no_ink none.defaults ∙ sym (no_ink b))) all.so.background);
     }
 
 -- as was taught
-several_rendered : (rows cols : ℕ) (taught : Looks) (a : Attributes) (e : Effect) (s : Rendition) → ShowsSome (shown taught a) e (unmarked rows cols (Sgr a)) → ShowsSome (shown taught a) e (all_on rows cols (Sgr a)) → IsRendered taught a e s
-several_rendered rows cols taught a e s none all =
-    rendered_by rows cols taught taught a e (shown taught a) (shown taught a) s none all (agree_with_itself (Sgr a) taught)
-    (marks_by_both e.rendition (just (shown taught a) inks.Kept) (marks_of s) none.so.marks all.so.marks ∙ sym (just_marks (shown taught a) (marks_of s) inks.Kept))
+several_rendered : (rows cols : ℕ) (taught : Looks) (a : Attributes) (e : Effect) → ShowsSome (shown taught a) e (unmarked rows cols (Sgr a)) → ShowsSome (shown taught a) e (all_on rows cols (Sgr a)) → IsRendered taught a e
+several_rendered rows cols taught a e none all = rendered_by rows cols taught taught a e (shown taught a) none all (agree_with_itself (Sgr a) taught) refl
 
--- or a single one, which may look like anything
-mixed_mark : (a s : Bool) (w : Switch) (c : Bool) → switched w false ≡ ((a && switched w false) || (s && switched w false)) → switched w true ≡ ((a && switched w true) || (s && switched w true))
-    → switched w c ≡ ((a && switched w c) || (s && switched w c))
-mixed_mark a s w true h k = k
-mixed_mark a s w false h k = h
-
-abbrev seen_in : Effect → Marks → Attributes → Marks
-seen_in e m a = shown (looks_of (marks_after e.rendition m)) a
-
-mixed_marks : (e : Effect) (a : Attributes) (m : Marks) → marks_after e.rendition (all_marks false) ≡ seen_in e (all_marks false) a → marks_after e.rendition (all_marks true) ≡ seen_in e (all_marks true) a → marks_after e.rendition m ≡ seen_in e m a
-mixed_marks e a m h k = same_sets _ _ _ _ _ _ _ _ _ _ _ _
-    (mixed_mark a.bold a.standout e.rendition.bold m.bold (ap (λ (x : Marks). x.bold) h) (ap (λ (x : Marks). x.bold) k))
-    (mixed_mark a.dim a.standout e.rendition.faint m.faint (ap (λ (x : Marks). x.faint) h) (ap (λ (x : Marks). x.faint) k))
-    (mixed_mark a.underline a.standout e.rendition.underline m.underline (ap (λ (x : Marks). x.underline) h) (ap (λ (x : Marks). x.underline) k))
-    (mixed_mark a.blink a.standout e.rendition.blink m.blink (ap (λ (x : Marks). x.blink) h) (ap (λ (x : Marks). x.blink) k))
-    (mixed_mark a.reverse a.standout e.rendition.negative m.negative (ap (λ (x : Marks). x.negative) h) (ap (λ (x : Marks). x.negative) k))
-    (mixed_mark a.invisible a.standout e.rendition.concealed m.concealed (ap (λ (x : Marks). x.concealed) h) (ap (λ (x : Marks). x.concealed) k))
+-- or a single one, as it is shown from a start without marks
 
 on_set : (b : Bool) → b ≡ is_on (switch_of b)
 on_set true = refl
@@ -261,27 +222,25 @@ alone_by false false false false false true false v e l h = ap (λ (z : Bool). s
 alone_by false false false false false false true v e l h = ap (λ (z : Bool). sets false false false false false (z || false)) (on_set v.concealed)
 alone_by s u r k d b i v e l h = never (sym (lone s u r k d b i h))
 
-alone_rendered : (rows cols : ℕ) (taught : Looks) (a : Attributes) (e : Effect) (s : Rendition) → is_several (Sgr a) ≡ false → ShowsSome (seen_in e (all_marks false) a) e (unmarked rows cols (Sgr a))
-    → ShowsSome (seen_in e (all_marks true) a) e (all_on rows cols (Sgr a)) → IsRendered taught a e s
-alone_rendered rows cols taught a e s single none all =
-    let v : Marks = marks_after e.rendition (marks_of s) in
-    rendered_by rows cols taught (taught_by v a e taught) a e (seen_in e (all_marks false) a) (seen_in e (all_marks true) a) s none all (λ b lt. sym (earlier_kept taught a b (record e { rendition = just v inks.Kept }) lt))
-    (mixed_marks e a (marks_of s) (none.so.marks ∙ sym (just_marks (seen_in e (all_marks false) a) (all_marks false) inks.Kept)) (all.so.marks ∙ sym (just_marks (seen_in e (all_marks true) a) (all_marks true) inks.Kept))
-    ∙ alone_by a.standout a.underline a.reverse a.blink a.dim a.bold a.invisible v e taught single)
+alone_rendered : (rows cols : ℕ) (taught : Looks) (a : Attributes) (e : Effect) → is_several (Sgr a) ≡ false → ShowsSome (shown (looks_of (alone e)) a) e (unmarked rows cols (Sgr a))
+    → ShowsSome (shown (looks_of (alone e)) a) e (all_on rows cols (Sgr a)) → IsRendered taught a e
+alone_rendered rows cols taught a e single none all =
+    rendered_by rows cols taught (taught_by (alone e) a e taught) a e (shown (looks_of (alone e)) a) none all (λ b lt. sym (earlier_kept taught a b (record e { rendition = just (alone e) inks.Kept }) lt))
+    (alone_by a.standout a.underline a.reverse a.blink a.dim a.bold a.invisible (alone e) e taught single)
 
 -- by the looks by which the probes were judged
-told : (taught : Looks) (a : Attributes) (e : Effect) (p : Probe) (b : Bool) → is_several (Sgr a) ≡ b → looks_for taught (Sgr a) e p ≡ (if b then taught else looks_of (marks_after e.rendition p.look))
-told taught a e p b h = ap (λ (z : Bool). if z then taught else looks_of (marks_after e.rendition p.look)) h
+told : (taught : Looks) (a : Attributes) (e : Effect) (b : Bool) → is_several (Sgr a) ≡ b → looks_for taught (Sgr a) e ≡ (if b then taught else looks_of (alone e))
+told taught a e b h = ap (λ (z : Bool). if z then taught else looks_of (alone e)) h
 
 some_by : (rows cols : ℕ) (taught : Looks) (a : Attributes) (e : Effect) (b : Bool) (k : ℕ) → is_several (Sgr a) ≡ b → k < 32 → EndsBelow rows cols taught (Sgr a) e 32
-    → ShowsSome (shown (if b then taught else looks_of (marks_after e.rendition (probe_by (choices_of k) (start_of rows cols (Sgr a)) rows).look)) a) e (probe_by (choices_of k) (start_of rows cols (Sgr a)) rows)
+    → ShowsSome (shown (if b then taught else looks_of (alone e)) a) e (probe_by (choices_of k) (start_of rows cols (Sgr a)) rows)
 some_by rows cols taught a e b k is lt ends =
     let p : Probe = probe_by (choices_of k) (start_of rows cols (Sgr a)) rows in
-    shows_some _ taught a e p (ends k lt) (subst (λ (l : Looks). IsEnd l (Sgr a) e (ends k lt).wanted) (told taught a e p b is) (ends k lt).is)
+    shows_some _ taught a e p (ends k lt) (subst (λ (l : Looks). IsEnd l (Sgr a) e (ends k lt).wanted) (told taught a e b is) (ends k lt).is)
 
-set_by : (rows cols : ℕ) (taught : Looks) (a : Attributes) (e : Effect) (s : Rendition) (b : Bool) → is_several (Sgr a) ≡ b → EndsBelow rows cols taught (Sgr a) e 32 → IsRendered taught a e s
-set_by rows cols taught a e s true several ends = several_rendered rows cols taught a e s (some_by rows cols taught a e true 0 several (omega arith) ends) (some_by rows cols taught a e true 8 several (omega arith) ends)
-set_by rows cols taught a e s false single ends = alone_rendered rows cols taught a e s single (some_by rows cols taught a e false 0 single (omega arith) ends) (some_by rows cols taught a e false 8 single (omega arith) ends)
+set_by : (rows cols : ℕ) (taught : Looks) (a : Attributes) (e : Effect) (b : Bool) → is_several (Sgr a) ≡ b → EndsBelow rows cols taught (Sgr a) e 32 → IsRendered taught a e
+set_by rows cols taught a e true several ends = several_rendered rows cols taught a e (some_by rows cols taught a e true 0 several (omega arith) ends) (some_by rows cols taught a e true 8 several (omega arith) ends)
+set_by rows cols taught a e false single ends = alone_rendered rows cols taught a e single (some_by rows cols taught a e false 0 single (omega arith) ends) (some_by rows cols taught a e false 8 single (omega arith) ends)
 
-pub set_rendered : (rows cols : ℕ) (taught : Looks) (a : Attributes) (e : Effect) (s : Rendition) → EndsBelow rows cols taught (Sgr a) e 32 → IsRendered taught a e s
-set_rendered rows cols taught a e s ends = set_by rows cols taught a e s (is_several (Sgr a)) refl ends
+pub set_rendered : (rows cols : ℕ) (taught : Looks) (a : Attributes) (e : Effect) → EndsBelow rows cols taught (Sgr a) e 32 → IsRendered taught a e
+set_rendered rows cols taught a e ends = set_by rows cols taught a e (is_several (Sgr a)) refl ends

@@ -22,10 +22,10 @@ use Rattle.ti_rows.proofs.Rightness.{recorded_is_right}
 use Rattle.ti_lines.specs.declared.row_lines.RowLine.{RowLine}
 use Rattle.ti_conforms.specs.Looks.{is_single}
 use Rattle.ti_conforms.specs.Sends.{Sends}
-use Rattle.ti_checker.specs.Breakage.{AgreeBefore, is_several}
+use Rattle.ti_checker.specs.Alone.{is_several, marks_of}
+use Rattle.ti_checker.specs.Breakage.{AgreeBefore}
 use Rattle.ti_checker.specs.First.{SendsRight, StandBefore}
 use Rattle.ti_checker.specs.Limit.{IsLineFor}
-use Rattle.ti_checker.specs.Mislooks.{marks_of}
 use Rattle.ti_checker.specs.Taught.{IsAskedOf, IsTaught, AtFirst, After}
 use Rattle.ti_checker.proofs.Mislooked.{just_marks}
 

@@ -16,9 +16,10 @@ use Rattle.ti_rows.specs.declared.rows.Row.TheVariants.{Clear, Cup, Home, Cr, Hp
 use Rattle.ti_rows.specs.Looks.{shown}
 use Rattle.ti_rows.specs.Starts.{Starts}
 use Rattle.ti_rows.specs.Wants.{Wants, marked}
-use Rattle.ti_rows.specs.Asked.{asked, on_or_kept, just, with_marks_on}
+use Rattle.ti_rows.specs.Asked.{asked, no_marks, on_or_kept, just, with_marks_on}
 use Rattle.ti_checker.specs.Probes.{screen_of}
-use Rattle.ti_checker.specs.Breakage.{has_choice, wanted_end, with_defaults, without_defaults, marks_after, looks_of, looks_for, is_several, AgreeBefore, EndAlike, NotWanted}
+use Rattle.ti_checker.specs.Alone.{is_several, ShowsBy}
+use Rattle.ti_checker.specs.Breakage.{has_choice, wanted_end, with_defaults, without_defaults, marks_after, looks_of, looks_for, AgreeBefore, EndAlike, NotWanted}
 use Rattle.ti_checker.specs.declared.probes.Probe.{Probe}
 use Rattle.ti_checker.proofs.Teaching.{several_shown}
 
@@ -56,14 +57,6 @@ shown_mark true s x y m h = sym h ∙ sym (absorbed m s)
 shown_mark false true x y m h = sym h
 shown_mark false false x y m h = refl
 
-or_twice : (x b : Bool) → (x || b) ≡ ((x || b) || b)
-or_twice true b = refl
-or_twice false true = refl
-or_twice false false = refl
-
-added_mark : (m x b : Bool) → m ≡ (x || b) → (x || b) ≡ (m || b)
-added_mark m x b h = or_twice x b ∙ ap (λ (z : Bool). z || b) (sym h)
-
 just_shown : (l : Looks) (a : Attributes) (m : Marks) (x y : Option Color)
     → m.bold ≡ (shown l a).bold → m.faint ≡ (shown l a).faint → m.underline ≡ (shown l a).underline → m.blink ≡ (shown l a).blink → m.negative ≡ (shown l a).negative → m.concealed ≡ (shown l a).concealed
     → (r : Rendition) → marked (shown l a) x y ≡ record (rendered (just (shown (looks_of m) a) inks.Kept) r) { foreground = x; background = y }
@@ -75,14 +68,13 @@ just_shown l a m x y b f u k n c r = same_marks _ _ _ _ _ _ _ _ _ _ _ _ x y
     (shown_mark a.reverse a.standout l.reverse l.standout.negative m.negative n ∙ set_mark (shown (looks_of m) a).negative r.negative)
     (shown_mark a.invisible a.standout l.invisible l.standout.concealed m.concealed c ∙ set_mark (shown (looks_of m) a).concealed r.concealed)
 
-just_added : (l m : Marks) (r : Rendition) (x y : Option Color)
-    → m.bold ≡ (l.bold || r.bold) → m.faint ≡ (l.faint || r.faint) → m.underline ≡ (l.underline || r.underline) → m.blink ≡ (l.blink || r.blink) → m.negative ≡ (l.negative || r.negative) → m.concealed ≡ (l.concealed || r.concealed)
+just_added : (l m : Marks) (r : Rendition) (x y : Option Color) → l ≡ m
     → marked (record { bold = l.bold || r.bold; faint = l.faint || r.faint; underline = l.underline || r.underline; blink = l.blink || r.blink; negative = l.negative || r.negative; concealed = l.concealed || r.concealed }) x y
     ≡ record (rendered (with_marks_on m) r) { foreground = x; background = y }
-just_added l m r x y b f u k n c = same_marks _ _ _ _ _ _ _ _ _ _ _ _ x y
-    (added_mark m.bold l.bold r.bold b ∙ or_kept m.bold r.bold) (added_mark m.faint l.faint r.faint f ∙ or_kept m.faint r.faint)
-    (added_mark m.underline l.underline r.underline u ∙ or_kept m.underline r.underline) (added_mark m.blink l.blink r.blink k ∙ or_kept m.blink r.blink)
-    (added_mark m.negative l.negative r.negative n ∙ or_kept m.negative r.negative) (added_mark m.concealed l.concealed r.concealed c ∙ or_kept m.concealed r.concealed)
+just_added l m r x y h = same_marks _ _ _ _ _ _ _ _ _ _ _ _ x y
+    (ap (λ (z : Marks). z.bold || r.bold) h ∙ or_kept m.bold r.bold) (ap (λ (z : Marks). z.faint || r.faint) h ∙ or_kept m.faint r.faint)
+    (ap (λ (z : Marks). z.underline || r.underline) h ∙ or_kept m.underline r.underline) (ap (λ (z : Marks). z.blink || r.blink) h ∙ or_kept m.blink r.blink)
+    (ap (λ (z : Marks). z.negative || r.negative) h ∙ or_kept m.negative r.negative) (ap (λ (z : Marks). z.concealed || r.concealed) h ∙ or_kept m.concealed r.concealed)
 
 -- ---- a row of one end
 
@@ -90,92 +82,91 @@ calm_end : (b p : Bool) → p ≡ false → p ≡ (if b then false else p)
 calm_end true p h = h
 calm_end false p h = refl
 
--- the looks that the probe shows after the effect
-abbrev pub seen_by : Effect → Probe → Looks
-seen_by e p = looks_of (marks_after e.rendition p.look)
+-- the marks that the effect shows from a start without any, and the looks of which each is seen so
+abbrev alone : Effect → Marks
+alone e = marks_after e.rendition no_marks
 
-standout_asked : (rows cols : ℕ) (l : Looks) (e : Effect) (p : Probe) → Wants l Smso (screen_of rows cols p) (applied e (screen_of rows cols p)) → EndAlike e (asked (seen_by e p) Smso e) (screen_of rows cols p)
-standout_asked rows cols l e p h =
+abbrev pub seen_alone : Effect → Looks
+seen_alone e = looks_of (alone e)
+
+standout_asked : (rows cols : ℕ) (l : Looks) (e : Effect) (p : Probe) → l.standout ≡ alone e → Wants l Smso (screen_of rows cols p) (applied e (screen_of rows cols p)) → EndAlike e (asked (seen_alone e) Smso e) (screen_of rows cols p)
+standout_asked rows cols l e p by h =
     let s : Screen = screen_of rows cols p in
-    let m : Marks = marks_after e.rendition p.look in
-    h ∙ ap (λ (r : Rendition). record s { rendition = r; charset = (applied e s).charset })
-    (just_added l.standout m s.rendition p.foreground p.background (ap (λ (t : Screen). t.rendition.bold) h) (ap (λ (t : Screen). t.rendition.faint) h) (ap (λ (t : Screen). t.rendition.underline) h)
-    (ap (λ (t : Screen). t.rendition.blink) h) (ap (λ (t : Screen). t.rendition.negative) h) (ap (λ (t : Screen). t.rendition.concealed) h))
+    h ∙ ap (λ (r : Rendition). record s { rendition = r; charset = (applied e s).charset }) (just_added l.standout (alone e) s.rendition p.foreground p.background by)
 
-one_end : (rows cols : ℕ) (l : Looks) (row : Row) (e : Effect) (p : Probe) → has_choice row ≡ false → Starts rows cols row (screen_of rows cols p)
-    → Wants l row (screen_of rows cols p) (applied e (screen_of rows cols p)) → EndAlike e (wanted_end (seen_by e p) row e) (screen_of rows cols p)
-one_end rows cols l Clear e p one st h = h
-one_end rows cols l (Cup row col) e p one st h = h
-one_end rows cols l Home e p one st h = h
-one_end rows cols l Cr e p one st h = h
-one_end rows cols l (Hpa col) e p one st h = h
-one_end rows cols l (Vpa row) e p one st h = h
-one_end rows cols l Cub1 e p one st h = h ∙ ap (λ (z : Bool). record (screen_of rows cols p) { col = (applied (asked (seen_by e p) Cub1 e) (screen_of rows cols p)).col; pending = z }) (calm_end e.ends_pending p.pending st.0.pending)
-one_end rows cols l Cuf1 e p one st h = h ∙ ap (λ (z : Bool). record (screen_of rows cols p) { col = (applied (asked (seen_by e p) Cuf1 e) (screen_of rows cols p)).col; pending = z }) (calm_end e.ends_pending p.pending st.0.pending)
-one_end rows cols l Cuu1 e p one st h = h ∙ ap (λ (z : Bool). record (screen_of rows cols p) { row = (applied (asked (seen_by e p) Cuu1 e) (screen_of rows cols p)).row; pending = z }) (calm_end e.ends_pending p.pending st.0.pending)
-one_end rows cols l Cud1 e p one st h = h ∙ ap (λ (z : Bool). record (screen_of rows cols p) { row = (applied (asked (seen_by e p) Cud1 e) (screen_of rows cols p)).row; pending = z }) (calm_end e.ends_pending p.pending st.0.pending)
-one_end rows cols l (Cub n) e p one st h = h ∙ ap (λ (z : Bool). record (screen_of rows cols p) { col = (applied (asked (seen_by e p) (Cub n) e) (screen_of rows cols p)).col; pending = z }) (calm_end e.ends_pending p.pending st.0.pending)
-one_end rows cols l (Cuf n) e p one st h = h ∙ ap (λ (z : Bool). record (screen_of rows cols p) { col = (applied (asked (seen_by e p) (Cuf n) e) (screen_of rows cols p)).col; pending = z }) (calm_end e.ends_pending p.pending st.0.pending)
-one_end rows cols l (Cuu n) e p one st h = h ∙ ap (λ (z : Bool). record (screen_of rows cols p) { row = (applied (asked (seen_by e p) (Cuu n) e) (screen_of rows cols p)).row; pending = z }) (calm_end e.ends_pending p.pending st.0.pending)
-one_end rows cols l (Cud n) e p one st h = h ∙ ap (λ (z : Bool). record (screen_of rows cols p) { row = (applied (asked (seen_by e p) (Cud n) e) (screen_of rows cols p)).row; pending = z }) (calm_end e.ends_pending p.pending st.0.pending)
-one_end rows cols l El e p one st h = h ∙ ap (λ (z : Bool). record (screen_of rows cols p) { grid = (applied (asked (seen_by e p) El e) (screen_of rows cols p)).grid; pending = z }) (calm_end e.ends_pending p.pending st.pending)
-one_end rows cols l El1 e p one st h = h ∙ ap (λ (z : Bool). record (screen_of rows cols p) { grid = (applied (asked (seen_by e p) El1 e) (screen_of rows cols p)).grid; pending = z }) (calm_end e.ends_pending p.pending st.pending)
-one_end rows cols l Ed e p one st h = h ∙ ap (λ (z : Bool). record (screen_of rows cols p) { grid = (applied (asked (seen_by e p) Ed e) (screen_of rows cols p)).grid; pending = z }) (calm_end e.ends_pending p.pending st.pending)
-one_end rows cols l (Ech n) e p one st h = h ∙ ap (λ (z : Bool). record (screen_of rows cols p) { grid = (applied (asked (seen_by e p) (Ech n) e) (screen_of rows cols p)).grid; pending = z }) (calm_end e.ends_pending p.pending st.pending)
-one_end rows cols l (Sgr a) e p one st h = never one
-one_end rows cols l Sgr0 e p one st h = h
-one_end rows cols l (Setaf c) e p one st h = h
-one_end rows cols l (Setab c) e p one st h = h
-one_end rows cols l Op e p one st h = h
-one_end rows cols l Smul e p one st h = h
-one_end rows cols l Rev e p one st h = h
-one_end rows cols l Blink e p one st h = h
-one_end rows cols l Dim e p one st h = h
-one_end rows cols l Bold e p one st h = h
-one_end rows cols l Invis e p one st h = h
-one_end rows cols l Smso e p one st h = standout_asked rows cols l e p h
-one_end rows cols l Enacs e p one st h = h
-one_end rows cols l Smacs e p one st h = h
-one_end rows cols l Rmacs e p one st h = h
-one_end rows cols l (Csr top bottom) e p one st h = h.others
-one_end rows cols l Ind e p one st h = h ∙ ap (λ (z : Bool). record (screen_of rows cols p) { grid = (applied (asked (seen_by e p) Ind e) (screen_of rows cols p)).grid; pending = z }) (calm_end e.ends_pending p.pending st.0.pending)
-one_end rows cols l Ri e p one st h = h ∙ ap (λ (z : Bool). record (screen_of rows cols p) { grid = (applied (asked (seen_by e p) Ri e) (screen_of rows cols p)).grid; pending = z }) (calm_end e.ends_pending p.pending st.0.pending)
-one_end rows cols l Civis e p one st h = h
-one_end rows cols l Cnorm e p one st h = h
-one_end rows cols l Cvvis e p one st h = never one
-one_end rows cols l Smcup e p one st h = h.others
-one_end rows cols l Rmcup e p one st h = h.others
-one_end rows cols l Bel e p one st h = h
+one_end : (rows cols : ℕ) (l : Looks) (row : Row) (e : Effect) (p : Probe) → has_choice row ≡ false → Starts rows cols row (screen_of rows cols p) → ShowsBy l row (alone e)
+    → Wants l row (screen_of rows cols p) (applied e (screen_of rows cols p)) → EndAlike e (wanted_end (seen_alone e) row e) (screen_of rows cols p)
+one_end rows cols l Clear e p one st by h = h
+one_end rows cols l (Cup row col) e p one st by h = h
+one_end rows cols l Home e p one st by h = h
+one_end rows cols l Cr e p one st by h = h
+one_end rows cols l (Hpa col) e p one st by h = h
+one_end rows cols l (Vpa row) e p one st by h = h
+one_end rows cols l Cub1 e p one st by h = h ∙ ap (λ (z : Bool). record (screen_of rows cols p) { col = (applied (asked (seen_alone e) Cub1 e) (screen_of rows cols p)).col; pending = z }) (calm_end e.ends_pending p.pending st.0.pending)
+one_end rows cols l Cuf1 e p one st by h = h ∙ ap (λ (z : Bool). record (screen_of rows cols p) { col = (applied (asked (seen_alone e) Cuf1 e) (screen_of rows cols p)).col; pending = z }) (calm_end e.ends_pending p.pending st.0.pending)
+one_end rows cols l Cuu1 e p one st by h = h ∙ ap (λ (z : Bool). record (screen_of rows cols p) { row = (applied (asked (seen_alone e) Cuu1 e) (screen_of rows cols p)).row; pending = z }) (calm_end e.ends_pending p.pending st.0.pending)
+one_end rows cols l Cud1 e p one st by h = h ∙ ap (λ (z : Bool). record (screen_of rows cols p) { row = (applied (asked (seen_alone e) Cud1 e) (screen_of rows cols p)).row; pending = z }) (calm_end e.ends_pending p.pending st.0.pending)
+one_end rows cols l (Cub n) e p one st by h = h ∙ ap (λ (z : Bool). record (screen_of rows cols p) { col = (applied (asked (seen_alone e) (Cub n) e) (screen_of rows cols p)).col; pending = z }) (calm_end e.ends_pending p.pending st.0.pending)
+one_end rows cols l (Cuf n) e p one st by h = h ∙ ap (λ (z : Bool). record (screen_of rows cols p) { col = (applied (asked (seen_alone e) (Cuf n) e) (screen_of rows cols p)).col; pending = z }) (calm_end e.ends_pending p.pending st.0.pending)
+one_end rows cols l (Cuu n) e p one st by h = h ∙ ap (λ (z : Bool). record (screen_of rows cols p) { row = (applied (asked (seen_alone e) (Cuu n) e) (screen_of rows cols p)).row; pending = z }) (calm_end e.ends_pending p.pending st.0.pending)
+one_end rows cols l (Cud n) e p one st by h = h ∙ ap (λ (z : Bool). record (screen_of rows cols p) { row = (applied (asked (seen_alone e) (Cud n) e) (screen_of rows cols p)).row; pending = z }) (calm_end e.ends_pending p.pending st.0.pending)
+one_end rows cols l El e p one st by h = h ∙ ap (λ (z : Bool). record (screen_of rows cols p) { grid = (applied (asked (seen_alone e) El e) (screen_of rows cols p)).grid; pending = z }) (calm_end e.ends_pending p.pending st.pending)
+one_end rows cols l El1 e p one st by h = h ∙ ap (λ (z : Bool). record (screen_of rows cols p) { grid = (applied (asked (seen_alone e) El1 e) (screen_of rows cols p)).grid; pending = z }) (calm_end e.ends_pending p.pending st.pending)
+one_end rows cols l Ed e p one st by h = h ∙ ap (λ (z : Bool). record (screen_of rows cols p) { grid = (applied (asked (seen_alone e) Ed e) (screen_of rows cols p)).grid; pending = z }) (calm_end e.ends_pending p.pending st.pending)
+one_end rows cols l (Ech n) e p one st by h = h ∙ ap (λ (z : Bool). record (screen_of rows cols p) { grid = (applied (asked (seen_alone e) (Ech n) e) (screen_of rows cols p)).grid; pending = z }) (calm_end e.ends_pending p.pending st.pending)
+one_end rows cols l (Sgr a) e p one st by h = never one
+one_end rows cols l Sgr0 e p one st by h = h
+one_end rows cols l (Setaf c) e p one st by h = h
+one_end rows cols l (Setab c) e p one st by h = h
+one_end rows cols l Op e p one st by h = h
+one_end rows cols l Smul e p one st by h = h
+one_end rows cols l Rev e p one st by h = h
+one_end rows cols l Blink e p one st by h = h
+one_end rows cols l Dim e p one st by h = h
+one_end rows cols l Bold e p one st by h = h
+one_end rows cols l Invis e p one st by h = h
+one_end rows cols l Smso e p one st by h = standout_asked rows cols l e p by h
+one_end rows cols l Enacs e p one st by h = h
+one_end rows cols l Smacs e p one st by h = h
+one_end rows cols l Rmacs e p one st by h = h
+one_end rows cols l (Csr top bottom) e p one st by h = h.others
+one_end rows cols l Ind e p one st by h = h ∙ ap (λ (z : Bool). record (screen_of rows cols p) { grid = (applied (asked (seen_alone e) Ind e) (screen_of rows cols p)).grid; pending = z }) (calm_end e.ends_pending p.pending st.0.pending)
+one_end rows cols l Ri e p one st by h = h ∙ ap (λ (z : Bool). record (screen_of rows cols p) { grid = (applied (asked (seen_alone e) Ri e) (screen_of rows cols p)).grid; pending = z }) (calm_end e.ends_pending p.pending st.0.pending)
+one_end rows cols l Civis e p one st by h = h
+one_end rows cols l Cnorm e p one st by h = h
+one_end rows cols l Cvvis e p one st by h = never one
+one_end rows cols l Smcup e p one st by h = h.others
+one_end rows cols l Rmcup e p one st by h = h.others
+one_end rows cols l Bel e p one st by h = h
 
 -- its looks are those that are seen
-one_seen : (taught : Looks) (row : Row) (e : Effect) (p : Probe) → has_choice row ≡ false → looks_for taught row e p ≡ seen_by e p
-one_seen taught (Sgr a) e p one = never one
-one_seen taught _ e p one = refl
+one_seen : (taught : Looks) (row : Row) (e : Effect) → has_choice row ≡ false → looks_for taught row e ≡ seen_alone e
+one_seen taught (Sgr a) e one = never one
+one_seen taught _ e one = refl
 
 -- what is wanted of a row of one end fails where the ends differ
 pub one_end_missed : (rows cols : ℕ) (taught : Looks) (row : Row) (e : Effect) (p : Probe) → has_choice row ≡ false → Starts rows cols row (screen_of rows cols p)
-    → (EndAlike e (wanted_end (looks_for taught row e p) row e) (screen_of rows cols p) → ⊥) → NotWanted rows cols taught row e p
-one_end_missed rows cols taught row e p one st apart l agree h =
-    apart (subst (λ (m : Looks). EndAlike e (wanted_end m row e) (screen_of rows cols p)) (sym (one_seen taught row e p one)) (one_end rows cols l row e p one st h))
+    → (EndAlike e (wanted_end (looks_for taught row e) row e) (screen_of rows cols p) → ⊥) → NotWanted rows cols taught row e p
+one_end_missed rows cols taught row e p one st apart l agree by h =
+    apart (subst (λ (m : Looks). EndAlike e (wanted_end m row e) (screen_of rows cols p)) (sym (one_seen taught row e one)) (one_end rows cols l row e p one st by h))
 
 -- ---- a row of two ends
 
 abbrev pub TwoEnds : ℕ → ℕ → Looks → Row → Effect → Probe → Type 0
 TwoEnds rows cols m row e p = EndAlike e (asked m row (with_defaults e)) (screen_of rows cols p) ⊎ EndAlike e (asked m row (without_defaults e)) (screen_of rows cols p)
 
-two_inks : (rows cols : ℕ) (l : Looks) (a : Attributes) (e : Effect) (p : Probe) → Wants l (Sgr a) (screen_of rows cols p) (applied e (screen_of rows cols p)) → TwoEnds rows cols (seen_by e p) (Sgr a) e p
-two_inks rows cols l a e p (inl h) =
+-- a set of one attribute is shown as the effect shows it from a start without marks
+shown_alone : (l : Looks) (a : Attributes) (m : Marks) (x y : Option Color) → shown l a ≡ m → (r : Rendition) → marked (shown l a) x y ≡ record (rendered (just (shown (looks_of m) a) inks.Kept) r) { foreground = x; background = y }
+shown_alone l a m x y by r = just_shown l a m x y (sym (ap (λ (z : Marks). z.bold) by)) (sym (ap (λ (z : Marks). z.faint) by)) (sym (ap (λ (z : Marks). z.underline) by))
+    (sym (ap (λ (z : Marks). z.blink) by)) (sym (ap (λ (z : Marks). z.negative) by)) (sym (ap (λ (z : Marks). z.concealed) by)) r
+
+two_inks : (rows cols : ℕ) (l : Looks) (a : Attributes) (e : Effect) (p : Probe) → shown l a ≡ alone e → Wants l (Sgr a) (screen_of rows cols p) (applied e (screen_of rows cols p)) → TwoEnds rows cols (seen_alone e) (Sgr a) e p
+two_inks rows cols l a e p by (inl h) =
     let s : Screen = screen_of rows cols p in
-    let m : Marks = marks_after e.rendition p.look in
-    inr (h ∙ ap (λ (r : Rendition). record s { rendition = r; charset = (applied e s).charset })
-    (just_shown l a m p.foreground p.background (ap (λ (t : Screen). t.rendition.bold) h) (ap (λ (t : Screen). t.rendition.faint) h) (ap (λ (t : Screen). t.rendition.underline) h)
-    (ap (λ (t : Screen). t.rendition.blink) h) (ap (λ (t : Screen). t.rendition.negative) h) (ap (λ (t : Screen). t.rendition.concealed) h) s.rendition))
-two_inks rows cols l a e p (inr h) =
+    inr (h ∙ ap (λ (r : Rendition). record s { rendition = r; charset = (applied e s).charset }) (shown_alone l a (alone e) p.foreground p.background by s.rendition))
+two_inks rows cols l a e p by (inr h) =
     let s : Screen = screen_of rows cols p in
-    let m : Marks = marks_after e.rendition p.look in
-    inl (h ∙ ap (λ (r : Rendition). record s { rendition = r; charset = (applied e s).charset })
-    (just_shown l a m None None (ap (λ (t : Screen). t.rendition.bold) h) (ap (λ (t : Screen). t.rendition.faint) h) (ap (λ (t : Screen). t.rendition.underline) h)
-    (ap (λ (t : Screen). t.rendition.blink) h) (ap (λ (t : Screen). t.rendition.negative) h) (ap (λ (t : Screen). t.rendition.concealed) h) s.rendition))
+    inl (h ∙ ap (λ (r : Rendition). record s { rendition = r; charset = (applied e s).charset }) (shown_alone l a (alone e) None None by s.rendition))
 
 -- just these marks, whatever was on before
 just_these : (m : Marks) (x y : Option Color) (r : Rendition) → marked m x y ≡ record (rendered (just m inks.Kept) r) { foreground = x; background = y }
@@ -192,24 +183,24 @@ taught_inks rows cols l taught a e p same (inr h) =
     inl (h ∙ (ap (λ (m : Marks). record s { rendition = marked m None None; charset = (applied e s).charset }) (sym same)
     ∙ ap (λ (r : Rendition). record s { rendition = r; charset = (applied e s).charset }) (just_these (shown taught a) None None s.rendition)))
 
-set_ends : (rows cols : ℕ) (l taught : Looks) (a : Attributes) (e : Effect) (p : Probe) (b : Bool) → is_several (Sgr a) ≡ b → AgreeBefore (Sgr a) taught l → Wants l (Sgr a) (screen_of rows cols p) (applied e (screen_of rows cols p))
-    → TwoEnds rows cols (if b then taught else seen_by e p) (Sgr a) e p
-set_ends rows cols l taught a e p true several agree h = taught_inks rows cols l taught a e p (several_shown a taught l several agree) h
-set_ends rows cols l taught a e p false single agree h = two_inks rows cols l a e p h
+set_ends : (rows cols : ℕ) (l taught : Looks) (a : Attributes) (e : Effect) (p : Probe) (b : Bool) → is_several (Sgr a) ≡ b → AgreeBefore (Sgr a) taught l → ShowsBy l (Sgr a) (alone e) → Wants l (Sgr a) (screen_of rows cols p) (applied e (screen_of rows cols p))
+    → TwoEnds rows cols (if b then taught else seen_alone e) (Sgr a) e p
+set_ends rows cols l taught a e p true several agree by h = taught_inks rows cols l taught a e p (several_shown a taught l several agree) h
+set_ends rows cols l taught a e p false single agree by h = two_inks rows cols l a e p (by single) h
 
-appeared : (rows cols : ℕ) (l : Looks) (e : Effect) (p : Probe) → Wants l Cvvis (screen_of rows cols p) (applied e (screen_of rows cols p)) → TwoEnds rows cols (seen_by e p) Cvvis e p
+appeared : (rows cols : ℕ) (l : Looks) (e : Effect) (p : Probe) → Wants l Cvvis (screen_of rows cols p) (applied e (screen_of rows cols p)) → TwoEnds rows cols (seen_alone e) Cvvis e p
 appeared rows cols l e p (inl h) = inl h
 appeared rows cols l e p (inr h) = inr h
 
-two_ends : (rows cols : ℕ) (l taught : Looks) (row : Row) (e : Effect) (p : Probe) → has_choice row ≡ true → AgreeBefore row taught l → Wants l row (screen_of rows cols p) (applied e (screen_of rows cols p)) → TwoEnds rows cols (looks_for taught row e p) row e p
-two_ends rows cols l taught (Sgr a) e p choice agree h = set_ends rows cols l taught a e p (is_several (Sgr a)) refl agree h
-two_ends rows cols l taught Cvvis e p choice agree h = appeared rows cols l e p h
-two_ends rows cols l taught _ e p choice agree h = never (sym choice)
+two_ends : (rows cols : ℕ) (l taught : Looks) (row : Row) (e : Effect) (p : Probe) → has_choice row ≡ true → AgreeBefore row taught l → ShowsBy l row (alone e) → Wants l row (screen_of rows cols p) (applied e (screen_of rows cols p)) → TwoEnds rows cols (looks_for taught row e) row e p
+two_ends rows cols l taught (Sgr a) e p choice agree by h = set_ends rows cols l taught a e p (is_several (Sgr a)) refl agree by h
+two_ends rows cols l taught Cvvis e p choice agree by h = appeared rows cols l e p h
+two_ends rows cols l taught _ e p choice agree by h = never (sym choice)
 
 neither : {A B : Type 0} → (A → ⊥) → (B → ⊥) → A ⊎ B → ⊥
 neither f g (inl h) = f h
 neither f g (inr h) = g h
 
 pub two_ends_missed : (rows cols : ℕ) (taught : Looks) (row : Row) (e : Effect) (p : Probe) → has_choice row ≡ true
-    → (EndAlike e (asked (looks_for taught row e p) row (with_defaults e)) (screen_of rows cols p) → ⊥) → (EndAlike e (asked (looks_for taught row e p) row (without_defaults e)) (screen_of rows cols p) → ⊥) → NotWanted rows cols taught row e p
-two_ends_missed rows cols taught row e p choice apart off l agree h = neither apart off (two_ends rows cols l taught row e p choice agree h)
+    → (EndAlike e (asked (looks_for taught row e) row (with_defaults e)) (screen_of rows cols p) → ⊥) → (EndAlike e (asked (looks_for taught row e) row (without_defaults e)) (screen_of rows cols p) → ⊥) → NotWanted rows cols taught row e p
+two_ends_missed rows cols taught row e p choice apart off l agree by h = neither apart off (two_ends rows cols l taught row e p choice agree by h)

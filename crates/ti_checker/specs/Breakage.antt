@@ -1,5 +1,5 @@
 -- What a string wrongly does, seen from a probe.
-use Rattle.std.specs.Prelude.{ℕ, ◌≡◌, ◌<◌, ◌==◌, ◌||◌, not, Bool, true, false, if◌then◌else◌, List, [], Some, None}
+use Rattle.std.specs.Prelude.{ℕ, ◌≡◌, ◌<◌, Bool, true, false, if◌then◌else◌, List, [], Some, None}
 use Rattle.vt_term.specs.Screen.{Screen}
 use Rattle.vt_effects.specs.declared.effects.Effect.{Effect}
 use Rattle.vt_effects.specs.declared.effects.Rendering.{Rendering}
@@ -16,22 +16,23 @@ use Rattle.ti_rows.specs.declared.rows.Looks.{Looks}
 use Rattle.ti_rows.specs.declared.rows.Marks.{Marks}
 use Rattle.ti_rows.specs.declared.rows.Row.{Row}
 use Rattle.ti_rows.specs.declared.rows.Row.TheVariants.{Sgr, Cvvis, Smcup, Rmcup}
-use Rattle.ti_rows.specs.Asked.{start_of, asked}
+use Rattle.ti_rows.specs.Asked.{no_marks, start_of, asked}
 use Rattle.ti_rows.specs.Starts.{Starts}
 use Rattle.ti_rows.specs.Wants.{Wants}
-use Rattle.ti_conforms.specs.Looks.{is_single}
+use Rattle.ti_checker.specs.Alone.{is_several, ShowsAlone, ShowsBy}
 use Rattle.ti_checker.specs.First.{StandBefore}
 use Rattle.ti_checker.specs.Probes.{screen_of}
 use Rattle.ti_checker.specs.Taught.{IsTaught}
 use Rattle.ti_checker.specs.declared.probes.Probe.{Probe}
 
 -- The probe is a start of the row, and the run of the bytes from it ends as is not wanted: however attributes look, as
--- long as the rows of the string before this one do what is wanted where they look so.
+-- long as the rows of the string before this one do what is wanted where they look so, and the one attribute that this
+-- row turns on looks as the bytes show it from a start without marks.
 pub record Breaks (rows cols : ℕ) (string : List ℕ) (row : Row) (bytes : List ℕ) (p : Probe) : Type 0 where
   pub starts : Starts rows cols row (screen_of rows cols p)
   pub after : Screen
   pub runs : Runs (record { screen = screen_of rows cols p; rest = [] }) bytes (record { screen = after; rest = [] })
-  pub unwanted : (looks : Looks) → StandBefore rows cols looks string row
+  pub unwanted : (looks : Looks) → StandBefore rows cols looks string row → ShowsAlone rows cols row bytes looks
       → Wants looks row (screen_of rows cols p) after → ⊥
 
 -- the looks agree on what the parameter lists of `sgr` before this one show
@@ -39,9 +40,22 @@ abbrev pub AgreeBefore : Row → Looks → Looks → Type 0
 AgreeBefore (Sgr a) l m = (b : Attributes) → number_of b < number_of a → shown l b ≡ shown m b
 AgreeBefore _ l m = Unit {0}
 
--- the end of the effect isn't wanted, whatever attributes look like that agree with what the rows before taught
+-- the marks that an effect leaves of these
+abbrev pub marks_after : Rendering → Marks → Marks
+marks_after e m = record {
+  bold = switched e.bold m.bold;
+  faint = switched e.faint m.faint;
+  underline = switched e.underline m.underline;
+  blink = switched e.blink m.blink;
+  negative = switched e.negative m.negative;
+  concealed = switched e.concealed m.concealed;
+}
+
+-- the end of the effect isn't wanted, whatever attributes look like that agree with what the rows before taught, where
+-- the one that the row turns on looks as the effect shows it from a start without marks
 abbrev pub NotWanted : ℕ → ℕ → Looks → Row → Effect → Probe → Type 0
 NotWanted rows cols taught row e p = (looks : Looks) → AgreeBefore row taught looks
+    → ShowsBy looks row (marks_after e.rendition no_marks)
     → Wants looks row (screen_of rows cols p) (applied e (screen_of rows cols p)) → ⊥
 
 -- the probe is a start of the row, and from it the end of the effect isn't wanted
@@ -88,17 +102,7 @@ without_defaults e =
       visible = switches.Kept;
     }
 
--- the marks after an effect, and the looks of which each is seen where all these marks are on
-abbrev pub marks_after : Rendering → Marks → Marks
-marks_after e m = record {
-  bold = switched e.bold m.bold;
-  faint = switched e.faint m.faint;
-  underline = switched e.underline m.underline;
-  blink = switched e.blink m.blink;
-  negative = switched e.negative m.negative;
-  concealed = switched e.concealed m.concealed;
-}
-
+-- the looks of which each is seen where these marks are on
 abbrev pub looks_of : Marks → Looks
 looks_of m = record {
   standout = m;
@@ -110,14 +114,10 @@ looks_of m = record {
   invisible = m.concealed;
 }
 
--- sets of attributes that are shown as each of them is alone: all but single ones, which may look like anything
-abbrev pub is_several : Row → Bool
-is_several (Sgr a) = not (is_single (number_of a) || number_of a == 64)
-is_several _ = false
-
--- the looks by which the end of the effect is judged: what was taught, or what is seen where the probe ends
-abbrev pub looks_for : Looks → Row → Effect → Probe → Looks
-looks_for taught row e p = if is_several row then taught else looks_of (marks_after e.rendition p.look)
+-- the looks by which the end of the effect is judged: what was taught, or what the effect shows from a start without
+-- marks
+abbrev pub looks_for : Looks → Row → Effect → Looks
+looks_for taught row e = if is_several row then taught else looks_of (marks_after e.rendition no_marks)
 
 -- two effects have one end
 abbrev pub EndAlike : Effect → Effect → Screen → Type 0

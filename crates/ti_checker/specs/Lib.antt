@@ -1,3 +1,4 @@
+pub mod Alone
 pub mod Breakage
 pub mod Cells
 pub mod Certificate

@@ -1,7 +1,6 @@
 -- An attribute alone that shows a mark of another one (terminfo(5), "Highlighting, Underlining, and Visible Bells").
 use Rattle.std.specs.Prelude.{ℕ, ◌≡◌, ◌&&◌, ◌||◌, not, Bool, true, false, List, [], Option, Some, None, if◌then◌else◌}
 use Rattle.vt_effects.specs.declared.effects.Effect.{Effect}
-use Rattle.vt_term.specs.Look.{Rendition}
 use Rattle.vt_term.specs.Run.{Runs}
 use Rattle.vt_term.specs.Screen.{Screen}
 use Rattle.ti_rows.specs.Asked.{no_marks}
@@ -12,6 +11,7 @@ use Rattle.ti_rows.specs.declared.rows.Marks.{Marks}
 use Rattle.ti_rows.specs.declared.rows.Row.{Row}
 use Rattle.ti_rows.specs.declared.rows.Row.TheVariants.{Sgr, Smul, Rev, Blink, Dim, Bold, Invis}
 use Rattle.ti_conforms.specs.Looks.{is_single}
+use Rattle.ti_checker.specs.Alone.{marks_of}
 use Rattle.ti_checker.specs.Breakage.{marks_after}
 
 -- the marks that have the names of these attributes
@@ -42,16 +42,6 @@ abbrev pub has_other : Marks → Marks → Bool
 has_other own m =
     (m.bold && not own.bold) || ((m.faint && not own.faint) || ((m.underline && not own.underline)
     || ((m.blink && not own.blink) || ((m.negative && not own.negative) || (m.concealed && not own.concealed)))))
-
-abbrev pub marks_of : Rendition → Marks
-marks_of r = record {
-  bold = r.bold;
-  faint = r.faint;
-  underline = r.underline;
-  blink = r.blink;
-  negative = r.negative;
-  concealed = r.concealed;
-}
 
 -- a row that turns an attribute on alone shows these marks, and one of them isn't the attribute's own
 abbrev pub other_in : Option Marks → Marks → Bool

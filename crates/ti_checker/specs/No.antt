@@ -62,7 +62,7 @@ pub record HasOwnEffect (rows cols : ℕ) (row : Row) (bytes : List ℕ) : Type 
   pub own : Mislooks rows cols row bytes → ⊥
 
 -- an effect that isn't the one that is asked for, where attributes look as the rows of the string before this one
--- teach, though from each start of the row its end is one that is wanted
+-- teach, though attributes can look in one way with which its end from each start of the row is wanted
 pub record IsUnasked (rows cols : ℕ) (string : List ℕ) (row : Row) (e : Effect) : Type 0 where
   pub looks : Looks
   pub taught : IsTaught rows cols string row looks

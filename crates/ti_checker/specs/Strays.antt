@@ -56,13 +56,9 @@ LeavesOtherModes rows cols taught row e = Strays HaveSameModes rows cols taught 
 abbrev pub IsRecorded : ℕ → ℕ → Row → Effect → Type 0
 IsRecorded rows cols row e = (tokens : List (List ℕ)) × (record_of rows cols (start_of rows cols row) tokens ≡ Some e)
 
--- The end of the effect from this start is one that is wanted, with some looks of attributes that agree with what the
--- rows before taught.
-pub record IsWantedFrom (taught : Looks) (row : Row) (e : Effect) (s : Screen) : Type 0 where
+-- Attributes can look in one way, which agrees with what the rows before taught, so that the end of the effect from each
+-- start of the row is one that is wanted.
+pub record IsAlwaysWanted (rows cols : ℕ) (taught : Looks) (row : Row) (e : Effect) : Type 0 where
   pub looks : Looks
   pub agree : AgreeBefore row taught looks
-  pub wanted : Wants looks row s (applied e s)
-
--- so from each start of the row
-abbrev pub IsAlwaysWanted : ℕ → ℕ → Looks → Row → Effect → Type 0
-IsAlwaysWanted rows cols taught row e = (s : Screen) → Starts rows cols row s → IsWantedFrom taught row e s
+  pub wanted : (s : Screen) → Starts rows cols row s → Wants looks row s (applied e s)

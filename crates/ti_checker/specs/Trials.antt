@@ -91,7 +91,7 @@ pub data IsEnd (l : Looks) (row : Row) (e f : Effect) : Type 0 where
 
 pub record EndsAsWanted (rows cols : ℕ) (taught : Looks) (row : Row) (e : Effect) (p : Probe) : Type 0 where
   pub wanted : Effect
-  pub is : IsEnd (looks_for taught row e p) row e wanted
+  pub is : IsEnd (looks_for taught row e) row e wanted
   pub so : EndSo rows cols e wanted p
 
 -- so from the probes below this number, and from all

@@ -1,6 +1,7 @@
 //! Whether an effect leaves something else than is wanted of a row.
 
 ghost use Rattle.std.specs.Prelude.{◌≡◌, IsTrue, false, if◌then◌else◌};
+ghost use Rattle.ti_checker.specs.Alone.{is_several};
 ghost use Rattle.ti_checker.specs.Breakage as spec;
 ghost use Rattle.ti_checker.specs.Probes.{CanShow, screen_of};
 ghost use Rattle.ti_checker.specs.Trials.{EndSo, EndsAsWanted};
@@ -10,7 +11,7 @@ ghost use Rattle.vt_effects.specs.Effect.{bottom_of, designated, inked, moved, s
 use crate::cells::cells_differ;
 use crate::probes::Probe;
 use ti_conforms::{designated, is_alone, switched};
-use ti_rows::{Looks, Marks, Row};
+use ti_rows::{Looks, Marks, NO_MARKS, Row};
 use vt_effects::{Effect, Ink, Region, Rendering, Switch};
 use vt_term::{Color, Size};
 
@@ -205,7 +206,7 @@ fn without_defaults(effect: &Effect) -> Effect
 /// Whether a set of attributes is shown as each of them is alone: not the look of a single one, which is
 /// what its row tells.
 fn is_several(row: Row) -> bool
-    ensures { result ≡ spec.is_several row }
+    ensures { result ≡ is_several row }
 {
     match row {
         Row::Sgr(attributes) => !(is_alone(row) || attributes.number() == 64),
@@ -213,27 +214,28 @@ fn is_several(row: Row) -> bool
     }
 }
 
-/// The looks by which the end of the effect is judged: what the rows before taught, or what is seen where
-/// the probe ends.
-fn looks_for(taught: Looks, row: Row, effect: &Effect, probe: &Probe) -> Looks
-    ensures { result ≡ spec.looks_for taught row effect.now probe.now }
+/// The looks by which the end of the effect is judged: what the rows before taught, or what the effect
+/// shows from a start without marks.
+fn looks_for(taught: Looks, row: Row, effect: &Effect) -> Looks
+    ensures { result ≡ spec.looks_for taught row effect.now }
 {
     if is_several(row) {
         taught
     } else {
-        looks_of(marks_after(effect.rendition, probe.look))
+        looks_of(marks_after(effect.rendition, NO_MARKS))
     }
 }
 
 /// Whether the effect leads from the probe, a start of the row, to an end that isn't wanted, however
-/// attributes look that agree with what the rows before `taught`.
+/// attributes look that agree with what the rows before `taught`, where the one that the row turns on looks
+/// as the effect shows it from a start without marks.
 pub(crate) fn breaks(row: Row, taught: Looks, effect: &Effect, size: Size, probe: &Probe) -> bool
     requires starts { Starts size.rows size.cols row (screen_of size.rows size.cols probe.now) }
     requires seen { CanShow size.rows probe.now }
     ensures unwanted { IsTrue result → spec.NotWanted size.rows size.cols taught row effect.now probe.now }
     ensures wanted { result ≡ false → EndsAsWanted size.rows size.cols taught row effect.now probe.now }
 {
-    let looks = looks_for(taught, row, effect, probe);
+    let looks = looks_for(taught, row, effect);
     if has_choice(row) {
         let defaults = row.asked(looks, &with_defaults(effect));
         let others = row.asked(looks, &without_defaults(effect));

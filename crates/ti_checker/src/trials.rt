@@ -131,8 +131,9 @@ fn shown_by(number: u8, row: Row, taught: Looks, effect: &Effect, size: Size) ->
 }
 
 /// A start of the row from which the effect leads to an end that isn't wanted, however attributes look
-/// that agree with what the rows before `taught`. `None` where there is none: then the effect of a text leads
-/// from each start to an end that is wanted.
+/// that agree with what the rows before `taught`, where the one that the row turns on looks as the effect shows
+/// it from a start without marks. `None` where there is none: then attributes can look in one way with which
+/// the effect of a text leads from each start to an end that is wanted.
 pub(crate) fn probe_for(row: Row, taught: Looks, effect: &Effect, size: Size) -> Option<Probe>
     requires { IsInRange size.rows size.cols row }
     ensures shown { IfSome result (λ probe. IsShown size.rows size.cols taught row effect.now probe) }

@@ -13,7 +13,7 @@ use Rattle.ti_checker.proofs.breakage.breaks.Goals as goal
 pub returns-then-differ-clause-unwanted : goal.returns-then-differ-clause-unwanted
 returns-then-differ-clause-unwanted c = λ t.
     let s : Screen = screen_of c.args.size.rows c.args.size.cols c.args.probe.now in
-    let l : Looks = looks_for c.args.taught c.args.row c.args.effect.now c.args.probe.now in
+    let l : Looks = looks_for c.args.taught c.args.row c.args.effect.now in
     let on : c.asked-defaults.result ≡ asked l c.args.row (with_defaults c.args.effect.now) = c.asked-defaults.ensures ∙ ap (λ (e : Effect). asked c.looks_for-looks.result c.args.row e) c.with_defaults.ensures ∙ ap (λ (m : Looks). asked m c.args.row (with_defaults c.args.effect.now)) c.looks_for-looks.ensures in
     let off : c.asked-others.result ≡ asked l c.args.row (without_defaults c.args.effect.now) = c.asked-others.ensures ∙ ap (λ (e : Effect). asked c.looks_for-looks.result c.args.row e) c.without_defaults.ensures ∙ ap (λ (m : Looks). asked m c.args.row (without_defaults c.args.effect.now)) c.looks_for-looks.ensures in
     two_ends_missed c.args.size.rows c.args.size.cols c.args.taught c.args.row c.args.effect.now c.args.probe.now (sym c.has_choice.ensures ∙ c.if-has_choice.true)
@@ -37,7 +37,7 @@ returns-else-differ-clause-wanted c = λ f. record {
 pub returns-else-has_choice-clause-unwanted : goal.returns-else-has_choice-clause-unwanted
 returns-else-has_choice-clause-unwanted c = λ t.
     let s : Screen = screen_of c.args.size.rows c.args.size.cols c.args.probe.now in
-    let is : c.wanted_end.result ≡ wanted_end (looks_for c.args.taught c.args.row c.args.effect.now c.args.probe.now) c.args.row c.args.effect.now = c.wanted_end.ensures ∙ ap (λ (m : Looks). wanted_end m c.args.row c.args.effect.now) c.looks_for-looks.ensures in
+    let is : c.wanted_end.result ≡ wanted_end (looks_for c.args.taught c.args.row c.args.effect.now) c.args.row c.args.effect.now = c.wanted_end.ensures ∙ ap (λ (m : Looks). wanted_end m c.args.row c.args.effect.now) c.looks_for-looks.ensures in
     one_end_missed c.args.size.rows c.args.size.cols c.args.taught c.args.row c.args.effect.now c.args.probe.now (sym c.has_choice.ensures ∙ c.if-has_choice.false) c.requires.starts
     (λ h. c.differ-else-has_choice.ensures.apart t (h ∙ ap (λ (e : Effect). applied e s) (sym is)))
 
