@@ -261,6 +261,11 @@ def capabilities_page():
                    "off. `sgr`, `sgr0`, the strings of single attributes, `smcup` and `rmcup` may also switch character "
                    "sets. `check` doesn't try the states one by one: it computes one record of the effect from all of them ([vt_effects](../crates/vt_effects/README.md)), "
                    "and a refusal names a state from which the string goes wrong.") + "\n",
+           wrapped("What a yes means for looks: an attribute is shown by its own rendition or not at all, and `standout` by any. So a "
+                   "certificate allows an `sgr` that never turns bold on; bold text is then plain. Where the entry has a string of "
+                   "its own for what is never shown, `check` says so behind the certificate (`advice`): an attribute that `sgr` never "
+                   "shows, colors where one of `setaf`, `setab` and `op` is missing, `acsc` without `smacs` or `rmacs`, `civis` without "
+                   "`cnorm`.") + "\n",
            "| capability | parameters | starts | wanted | checked | what a no may mean |", "|---|---|---|---|---|---|"]
     for name in names:
         params, cause = SAID[name]
