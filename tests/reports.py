@@ -10,7 +10,7 @@ from trying import PROGRAM, TOP, Case, run_cases
 # the members of an object, and what each may be
 TEXT, NUMBER = (str, type(None)), (int, type(None))
 MEMBERS = {
-    "bytes": TEXT, "capability": TEXT, "cause": TEXT, "entry": TEXT, "file": (str,), "line": NUMBER, "parameters": (list,),
+    "advice": (list,), "bytes": TEXT, "capability": TEXT, "cause": TEXT, "entry": TEXT, "file": (str,), "line": NUMBER, "parameters": (list,),
     "seen": TEXT, "size": (dict,), "start": TEXT, "verdict": (str,), "wanted": TEXT,
 }  # fmt: skip
 OF_FAULTS = ["bytes", "capability", "cause", "line", "seen", "start", "wanted"]
@@ -38,8 +38,8 @@ def objects(told, size=(ROWS, COLS)):
     found = []
     for line in told.out.decode().splitlines():
         one = json.loads(line)
-        written = json.dumps(one, ensure_ascii=False, sort_keys=True, separators=(",", ":"))
-        if written.replace("\x7f", "\\u007f") not in (line, line.replace("\x7f", "\\u007f")):
+        # with an escape for each character outside 32 to 126
+        if json.dumps(one, sort_keys=True, separators=(",", ":")) != line:
             fail(f"not as Python writes it: {line}")
         if list(one) != list(MEMBERS) or not all(isinstance(one[key], kinds) for key, kinds in MEMBERS.items()):
             fail(f"not the members of a report: {line}")
@@ -47,6 +47,8 @@ def objects(told, size=(ROWS, COLS)):
             fail(f"not the size that was given: {line}")
         if one["verdict"] != "no" and any(one[key] is not None for key in OF_FAULTS if key != "cause"):
             fail(f"a fault of an entry without one: {line}")
+        if one["verdict"] != "yes" and one["advice"]:
+            fail(f"advice on an entry without a certificate: {line}")
         found.append(one)
     return found
 
@@ -120,7 +122,11 @@ def judge_entries(path, held, names):
             judge_lines({**one[0], "line": None}, first.err.decode().splitlines(), "no path")
         if {(it["entry"], it["file"]) for it in [*ones, *one]} != {(name, path)}:
             fail(f"not entry and file of {name}: {ones} {one}")
-        if (first.status, first.err) != (first_json.status, first_json.err) or every.status != every_json.status:
+        advice = [line for line in first.err.splitlines(keepends=True) if line.startswith(b"advice ")]
+        if [f"advice {it}\n".encode() for it in one[0]["advice"]] != advice or ones[0]["advice"] != one[0]["advice"]:
+            fail(f"check --json of {name} advised {one[0]['advice']}, and check {advice}")
+        plain_err = b"".join(line for line in first.err.splitlines(keepends=True) if line not in advice)
+        if (first.status, plain_err) != (first_json.status, first_json.err) or every.status != every_json.status:
             fail(f"check --json of {name} ended with {first_json.status} {first_json.err} and check with {first.status} {first.err}")
         count += len(ones)
     return count
@@ -149,16 +155,19 @@ def judge_survey(path, held):
             if lines_of.setdefault((it["entry"], it["capability"]), it["line"]) != it["line"]:
                 fail(f"survey --json reported the line of {it}, and with --all {lines_of[it['entry'], it['capability']]}")
         if form:
-            count += judge_places(path, ones, plain.err.decode().splitlines())
+            hints, places = [], []
+            for line in plain.err.splitlines(keepends=True):
+                (hints if line.startswith(b"hint line ") else places).append(line)
+            count += judge_places(path, ones, b"".join(places).decode().splitlines())
         *lines, counts = plain.out.decode("latin-1").splitlines()
         wanted = [f"{it['entry']} {said(it)}" for it in ones]
         if [shown(line) for line in lines] != [shown(it.encode().decode("latin-1")) for it in wanted]:
             fail(f"survey --json reported {wanted}, and survey printed {lines}")
         if counts.split(",")[0] != f"total {len(ones)}":
             fail(f"survey --json reported {len(ones)} objects, and survey counted {counts}")
-        # only with --all the plain form says on standard error where each fault stands
-        places = plain.err if form else b""
-        if (plain.status, plain.err) != (reported.status, reported.err + places):
+        # only with --all the plain form says on standard error where each fault stands, and both have hints
+        wanted_err = b"".join(places) + b"".join(hints) if len(form) else reported.err
+        if (plain.status, plain.err) != (reported.status, wanted_err) or form and reported.err != b"".join(hints):
             fail(f"survey --json ended with {reported.status} {reported.err} and survey with {plain.status} {plain.err}")
         if any(it["file"] != path for it in ones):
             fail(f"not the file {path}: {ones}")
