@@ -48,7 +48,7 @@ has_colors r = not (is_default r.foreground && is_default r.background)
 abbrev pub colors_text : Rendition → List ℕ
 colors_text r = if_so (has_colors r) (codes " in " ++ (color_name r.foreground ++ (codes " on " ++ color_name r.background)))
 
-abbrev pub rendition_text : Rendition → List ℕ
+unfoldable pub rendition_text : Rendition → List ℕ
 rendition_text r = (if has_mark r then marks_text r else codes " plain") ++ colors_text r
 
 -- ---- character sets
@@ -74,12 +74,15 @@ abbrev pub region_text : ℕ → Settings → List ℕ
 region_text height start =
     if_so (not ((start.top == 0) && (start.bottom == height - 1))) (margins_text start.top start.bottom)
 
-abbrev pub has_look : Rendition → Bool
+abbrev pub shown_text : Rendition → List ℕ
+shown_text r = codes ", the rendition is" ++ rendition_text r
+
+unfoldable pub has_look : Rendition → Bool
 has_look r = has_mark r || has_colors r
 
 -- the rendition, where it isn't plain
 abbrev pub look_text : Rendition → List ℕ
-look_text r = if_so (has_look r) (codes ", the rendition is" ++ rendition_text r)
+look_text r = if_so (has_look r) (shown_text r)
 
 -- the fill of the cells, the cursor, and what is not as after a reset on a terminal of this height
 abbrev pub start_text : ℕ → Settings → ℕ → List ℕ

@@ -95,14 +95,23 @@ fn push_look(rendition: Rendition, words: &mut Vec<u8>) -> Result<(), AllocError
     ensures { OnOk result (words.new.items ≡ words.old.items ++ spec.look_text rendition) }
 {
     if has_look(rendition) {
-        words.extend_from_slice(b", the rendition is")?;
-        push_rendition(rendition, words)
+        push_after(b", the rendition is", rendition, words)
     } else {
         Ok(())
     }
 }
 
+/// Appends `front` and what the `rendition` is.
+fn push_after(front: &[u8], rendition: Rendition, words: &mut Vec<u8>) -> Result<(), AllocError>
+    ensures { OnOk result (words.new.items
+        ≡ words.old.items ++ (front.now ++ spec.rendition_text rendition)) }
+{
+    words.extend_from_slice(front)?;
+    push_rendition(rendition, words)
+}
+
 /// Whether a mark is on, or a color is not the default.
+#[tactic(auto, unfolding(crate::specs::Starts::has_look))]
 fn has_look(rendition: Rendition) -> bool
     ensures { result ≡ spec.has_look rendition }
 {
@@ -126,7 +135,8 @@ fn has_colors(rendition: Rendition) -> bool
     !(rendition.foreground.is_none() && rendition.background.is_none())
 }
 
-/// Appends the marks of `rendition` that are on, or that there are none, and colours other than the default ones.
+/// Appends the marks of `rendition` that are on, or that there are none, and colors other than the default ones.
+#[tactic(auto, unfolding(crate::specs::Starts::rendition_text))]
 pub fn push_rendition(rendition: Rendition, words: &mut Vec<u8>) -> Result<(), AllocError>
     ensures { OnOk result (words.new.items ≡ words.old.items ++ spec.rendition_text rendition) }
 {

@@ -10,3 +10,9 @@ returns-in-Err-clause-failure g c =
     let notes = notes_text c.in_ok-text.field-0.raws.items in
     let found = inl (c.in-Some.path.now, c.in-Some.name.now, c.in-Some.ensures.parts, c.in_ok-text.ensures.found) in
     inr (c.in-Err.refusal, notes, refl, subst (λ (entry : Result Content CommandRefusal). Finds (g.F.Files.holds c.args.files.now) c.args.word.now notes entry) c.in-Err.is found)
+
+pub returns-in-Ok-clause-gives : goal.returns-in-Ok-clause-gives
+returns-in-Ok-clause-gives g c =
+    let notes = notes_text c.in_ok-text.field-0.raws.items in
+    let found = inl (c.in-Some.path.now, c.in-Some.name.now, c.in-Some.ensures.parts, c.in_ok-text.ensures.found) in
+    (notes, subst (λ (entry : Result Content CommandRefusal). Finds (g.F.Files.holds c.args.files.now) c.args.word.now notes entry) c.in-Ok.is found)
