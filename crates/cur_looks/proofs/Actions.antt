@@ -1,5 +1,5 @@
 -- From a line of the certificate to a step.
-use Rattle.std.proofs.Common.{◌≡◌, ℕ, ◌≤◌, List, length, Some, Result, sym, ap, arith}
+use Rattle.std.proofs.Common.{◌≡◌, ℕ, ◌≤◌, List, length, Some, Result, true, sym, ap, arith}
 use Rattle.vt_term.specs.Screen.{State}
 use Rattle.cur_wires.specs.Leads.{Leads}
 use Rattle.cur_wires.specs.Wire.{Sends}
@@ -10,6 +10,7 @@ use Rattle.cur_wires.proofs.Completion.{ends_sized}
 use Rattle.ti_rows.specs.declared.rows.Row.{Row}
 use Rattle.ti_conforms.specs.Certified.{Table, IsLost, IsReady, IsChecked, IsCheckedLine, IsPiece, Line, Ended, limit_of, or_nothing, text_of}
 use Rattle.cur_looks.specs.Beliefs.{Agrees, Belief, Turns}
+use Rattle.cur_looks.specs.Pieces.{IsPaint, Stroke, paints}
 use Rattle.cur_looks.specs.declared.inks.Ink.{Ink}
 
 pub ready_lost : (t : Table) → IsChecked t → (s : State) → IsReady t s → IsLost t s
@@ -31,24 +32,24 @@ line_ends t checked row bytes is g h b c turns s x =
     ends_sized t.rows t.cols s bytes (Closed (Ended t row s.screen)) (Agrees t h c) x.ready.sized (λ u sized k. turns.ends s u x sized k.rest k.screen) (line.drives.right s x.ready.rest (turns.starts s x))
 
 -- one line, of which a front leaves a lost state
-pub line_leads : (t : Table) → IsChecked t → (row : Row) (bytes : List ℕ) → t.line_of row ≡ Some bytes → (n : ℕ) → length bytes ≤ n → (g h : ℕ → ℕ → Ink) (b c : Belief) → Turns t row g b h c → Leads (IsPiece t) n (IsLost t) (Agrees t g b) bytes (Agrees t h c)
-line_leads t checked row bytes is n le g h b c turns =
-    leads_line (IsPiece t) n (IsLost t) (Agrees t g b) (Agrees t h c) bytes (Line row is) le (line_ends t checked row bytes is g h b c turns)
+pub line_leads : (P : List ℕ → Type 0) (t : Table) → IsChecked t → (row : Row) (bytes : List ℕ) → t.line_of row ≡ Some bytes → P bytes → (n : ℕ) → length bytes ≤ n → (g h : ℕ → ℕ → Ink) (b c : Belief) → Turns t row g b h c → Leads P n (IsLost t) (Agrees t g b) bytes (Agrees t h c)
+line_leads P t checked row bytes is sort n le g h b c turns =
+    leads_line P n (IsLost t) (Agrees t g b) (Agrees t h c) bytes sort le (line_ends t checked row bytes is g h b c turns)
     (λ s x front back e. (let line : IsCheckedLine t row bytes = checked.lines row bytes is in line.drives.fronts s x.ready.rest (agrees_lost t checked g b s x) front back e))
 
--- a line, sent where its row starts
-pub line_sent : {W T E : Type 0} (went : W → W → List ℕ → Type 0) (failures : W → ℕ) (a z : W) (answer : Result T E) (t : Table) → IsChecked t → (row : Row) (bytes : List ℕ) → t.line_of row ≡ Some bytes
+-- a line that paints, sent where its row starts
+pub line_sent : {W T E : Type 0} (went : W → W → List ℕ → Type 0) (failures : W → ℕ) (a z : W) (answer : Result T E) (t : Table) → IsChecked t → (row : Row) (bytes : List ℕ) → t.line_of row ≡ Some bytes → paints row ≡ true
     → (n : ℕ) (g h : ℕ → ℕ → Ink) (b c : Belief) → length bytes ≤ n → Turns t row g b h c → Sends went failures a z bytes answer
-    → Steps went failures a z answer (IsPiece t) n (IsLost t) (Agrees t g b) (Agrees t h c)
-line_sent went failures a z answer t checked row bytes is n g h b c le turns sends =
-    steps_sent went failures a z answer (IsPiece t) n (IsLost t) (Agrees t g b) (Agrees t h c) bytes (line_leads t checked row bytes is n le g h b c turns) (agrees_lost t checked h c) sends
+    → Steps went failures a z answer (IsPaint t) n (IsLost t) (Agrees t g b) (Agrees t h c)
+line_sent went failures a z answer t checked row bytes is paint n g h b c le turns sends =
+    steps_sent went failures a z answer (IsPaint t) n (IsLost t) (Agrees t g b) (Agrees t h c) bytes (line_leads (IsPaint t) t checked row bytes is (Stroke row paint is) n le g h b c turns) (agrees_lost t checked h c) sends
 
 -- the same under the row's limit
-pub line_steps : {W T E : Type 0} (went : W → W → List ℕ → Type 0) (failures : W → ℕ) (a z : W) (answer : Result T E) (t : Table) → IsChecked t → (row : Row) (bytes : List ℕ) → t.line_of row ≡ Some bytes
+pub line_steps : {W T E : Type 0} (went : W → W → List ℕ → Type 0) (failures : W → ℕ) (a z : W) (answer : Result T E) (t : Table) → IsChecked t → (row : Row) (bytes : List ℕ) → t.line_of row ≡ Some bytes → paints row ≡ true
     → (n : ℕ) (g h : ℕ → ℕ → Ink) (b c : Belief) → limit_of t row ≤ n → Turns t row g b h c → Sends went failures a z bytes answer
-    → Steps went failures a z answer (IsPiece t) n (IsLost t) (Agrees t g b) (Agrees t h c)
-line_steps went failures a z answer t checked row bytes is n g h b c le turns sends =
-    line_sent went failures a z answer t checked row bytes is n g h b c (omega (arith, (checked.lines row bytes is).short, le)) turns sends
+    → Steps went failures a z answer (IsPaint t) n (IsLost t) (Agrees t g b) (Agrees t h c)
+line_steps went failures a z answer t checked row bytes is paint n g h b c le turns sends =
+    line_sent went failures a z answer t checked row bytes is paint n g h b c (omega (arith, (checked.lines row bytes is).short, le)) turns sends
 
 -- the same, of which all is known that goes out
 pub line_spelled : {W T E : Type 0} (went : W → W → List ℕ → Type 0) (failures : W → ℕ) (a z : W) (answer : Result T E) (t : Table) → IsChecked t → (row : Row) (bytes : List ℕ) → t.line_of row ≡ Some bytes
@@ -57,4 +58,4 @@ pub line_spelled : {W T E : Type 0} (went : W → W → List ℕ → Type 0) (fa
 line_spelled went failures a z answer t checked row bytes is g b c turns sends =
     let short : length bytes ≤ limit_of t row = (checked.lines row bytes is).short in
     spells_as went failures a z answer bytes (text_of t row) (IsPiece t) (limit_of t row) (limit_of t row) (IsLost t) (Agrees t g b) (Agrees t g c) (sym (ap or_nothing is)) (omega arith)
-    (spells_sent went failures a z answer (IsPiece t) (limit_of t row) (IsLost t) (Agrees t g b) (Agrees t g c) bytes (line_leads t checked row bytes is (limit_of t row) short g g b c turns) (agrees_lost t checked g c) sends)
+    (spells_sent went failures a z answer (IsPiece t) (limit_of t row) (IsLost t) (Agrees t g b) (Agrees t g c) bytes (line_leads (IsPiece t) t checked row bytes is (Line row is) (limit_of t row) short g g b c turns) (agrees_lost t checked g c) sends)

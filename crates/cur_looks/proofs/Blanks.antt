@@ -1,5 +1,5 @@
 -- What each erasure does to a state that agrees with what is believed.
-use Rattle.std.proofs.Common.{◌≡◌, ℕ, ◌<◌, ◌≤◌, false, ap, subst, ◌∙◌, refl, arith, if◌then◌else◌}
+use Rattle.std.proofs.Common.{◌≡◌, ℕ, ◌<◌, ◌≤◌, true, false, ap, subst, ◌∙◌, refl, arith, if◌then◌else◌}
 use Rattle.vt_term.specs.Look.{Rendition, blank}
 use Rattle.vt_term.specs.Grid.{look_at, drawn}
 use Rattle.vt_term.specs.Screen.{Screen}
@@ -11,6 +11,7 @@ use Rattle.cur_looks.specs.declared.inks.Ink.{Ink}
 use Rattle.ti_conforms.specs.Certified.{Table, limit_of}
 use Rattle.cur_looks.specs.Inks.{rendition_of, blank_ink, plain_brush}
 use Rattle.cur_looks.specs.Beliefs.{Agrees, Belief, Place, Turns, IsHere}
+use Rattle.cur_looks.specs.Pieces.{paints}
 use Rattle.cur_looks.specs.Erasures.{ErasedPart, Head, Part, Rest, erasure_row, is_erased, erased}
 use Rattle.cur_looks.proofs.Turns.{look_at-drawn, free_of, by_screen, calmly, drawn_look}
 
@@ -28,6 +29,11 @@ pub erasure_limit : (t : Table) (e : ErasedPart) → limit_of t (erasure_row e) 
 erasure_limit t Head = omega arith
 erasure_limit t (Part n) = omega arith
 erasure_limit t Rest = omega arith
+
+pub erasure_paints : (e : ErasedPart) → paints (erasure_row e) ≡ true
+erasure_paints Head = refl
+erasure_paints (Part n) = refl
+erasure_paints Rest = refl
 
 -- erased from where the cursor is known to be, in the plain brush
 pub turns_erased : (t : Table) (g : ℕ → ℕ → Ink) (b : Belief) (e : ErasedPart) (r c : ℕ) → c < t.cols → b.place ≡ record { row = r; col = c } → b.brush ≡ plain_brush → Turns t (erasure_row e) g b (erased e r c g) b

@@ -1,5 +1,5 @@
 -- Each row that moves leads where it is said to, from every state that agrees with what is believed.
-use Rattle.std.proofs.Common.{◌≡◌, ℕ, ◌+◌, ◌-◌, ◌<◌, ◌≤◌, Bool, false, List, [], length, Option, Some, None, refl, ap, subst, ◌∙◌, arith}
+use Rattle.std.proofs.Common.{◌≡◌, ℕ, ◌+◌, ◌-◌, ◌<◌, ◌≤◌, Bool, true, false, List, [], length, Option, Some, None, refl, ap, subst, ◌∙◌, arith}
 use Rattle.vt_term.specs.Screen.{Screen, State, IsOfSize}
 use Rattle.ti_rows.specs.declared.rows.Row.{Row}
 use Rattle.ti_rows.specs.declared.rows.Row.TheVariants.{Cup, Home, Cr, Hpa, Vpa, Cub1, Cuf1, Cuu1, Cud1, Cub, Cuf, Cuu, Cud}
@@ -7,6 +7,7 @@ use Rattle.ti_rows.specs.Starts.{IsCalm}
 use Rattle.ti_conforms.specs.Certified.{Table, IsChecked, or_nothing, limit_of}
 use Rattle.cur_looks.specs.Beliefs.{Agrees, Belief, Place, Turns, IsHere}
 use Rattle.cur_looks.specs.Moves.{Moves, MovesFrom, IsWay}
+use Rattle.cur_looks.specs.Pieces.{paints}
 use Rattle.cur_looks.specs.declared.inks.Ink.{Ink}
 use Rattle.cur_looks.proofs.Turns.{any_of, free_of, placed, calmly}
 
@@ -99,6 +100,26 @@ turned t g b row col lr lc Home m = record {
   ends = λ s u h sized closed w. arrives t g b row col lc s u h sized closed 0 0 false w.wants m.0 m.1 refl;
 }
 turned t g b row col lr lc line m = from_place t g b row col lr lc b.place refl line m
+
+-- what leads to a place paints
+straight_paints : (cols : ℕ) (p : Place) (row col : ℕ) (line : Row) → MovesFrom cols p row col line → paints line ≡ true
+straight_paints cols p row col Cr m = refl
+straight_paints cols p row col (Hpa c) m = refl
+straight_paints cols p row col (Vpa r) m = refl
+straight_paints cols p row col Cub1 m = refl
+straight_paints cols p row col Cuf1 m = refl
+straight_paints cols p row col Cuu1 m = refl
+straight_paints cols p row col Cud1 m = refl
+straight_paints cols p row col (Cub n) m = refl
+straight_paints cols p row col (Cuf n) m = refl
+straight_paints cols p row col (Cuu n) m = refl
+straight_paints cols p row col (Cud n) m = refl
+straight_paints cols p row col line m = absurd m
+
+pub move_paints : (cols : ℕ) (p : Place) (row col : ℕ) (line : Row) → Moves cols (Some p) row col line → paints line ≡ true
+move_paints cols p row col (Cup r c) m = refl
+move_paints cols p row col Home m = refl
+move_paints cols p row col line m = straight_paints cols p row col line m
 
 -- a row's text is within its limit
 bounded : (t : Table) → IsChecked t → (row : Row) (o : Option (List ℕ)) → t.line_of row ≡ o → length (or_nothing o) ≤ limit_of t row

@@ -21,7 +21,8 @@ use Rattle.cur_wires.proofs.Completion.{stays, ends_as}
 use Rattle.cur_wires.proofs.Stops.{leads_line, steps_sent}
 use Rattle.cur_looks.specs.declared.inks.Brush.{Brush}
 use Rattle.cur_looks.specs.declared.inks.Ink.{Ink}
-use Rattle.ti_conforms.specs.Certified.{Table, IsLost, IsChecked, IsPiece, Character}
+use Rattle.ti_conforms.specs.Certified.{Table, IsLost, IsChecked}
+use Rattle.cur_looks.specs.Pieces.{IsPaint, Printed}
 use Rattle.cur_looks.specs.Inks.{rendition_of, look_of, put_at}
 use Rattle.cur_looks.specs.Beliefs.{Agrees, Belief, Place, IsHere, IsNext, IsSo}
 use Rattle.cur_looks.proofs.Actions.{agrees_lost}
@@ -174,19 +175,19 @@ front_lost t s x (y ∷ z ∷ zs) back e h r k = absurd (cc)
 
 -- a character as a piece that leads on
 pub print_leads : (t : Table) → IsChecked t → (g : ℕ → ℕ → Ink) (b : Belief) (r c : ℕ) (x : Ink) → r < t.rows → c < t.cols → IsPrinted x.byte → IsPoised t.cols b r c x
-    → Leads (IsPiece t) 1 (IsLost t) (Agrees t g b) (x.byte ∷ []) (Agrees t (put_at r c x g) (standing b r (c + 1)))
+    → Leads (IsPaint t) 1 (IsLost t) (Agrees t g b) (x.byte ∷ []) (Agrees t (put_at r c x g) (standing b r (c + 1)))
 print_leads t checked g b r c x lr lc printed poised =
     let B : State → Type 0 = Agrees t (put_at r c x g) (standing b r (c + 1)) in
     let lost : (s : State) → B s → IsLost t s = agrees_lost t checked (put_at r c x g) (standing b r (c + 1)) in
-    leads_line (IsPiece t) 1 (IsLost t) (Agrees t g b) B (x.byte ∷ []) (Character x.byte printed refl) (omega arith)
+    leads_line (IsPaint t) 1 (IsLost t) (Agrees t g b) B (x.byte ∷ []) (Printed x.byte printed refl) (omega arith)
     (typed_agrees t g b r c x lr lc printed poised)
     (λ s h front back e. front_lost t s x.byte front back e (agrees_lost t checked g b s h) h.ready.rest (ends_as s (x.byte ∷ []) B (IsLost t) lost (typed_agrees t g b r c x lr lc printed poised s h)))
 
 -- a character is sent
 pub print_steps : {W T E : Type 0} (went : W → W → List ℕ → Type 0) (failures : W → ℕ) (a z : W) (answer : Result T E) (t : Table) → IsChecked t → (g : ℕ → ℕ → Ink) (b : Belief) (r c : ℕ) (x : Ink)
     → r < t.rows → c < t.cols → IsPrinted x.byte → IsPoised t.cols b r c x → Sends went failures a z (x.byte ∷ []) answer
-    → Steps went failures a z answer (IsPiece t) 1 (IsLost t) (Agrees t g b) (Agrees t (put_at r c x g) (standing b r (c + 1)))
+    → Steps went failures a z answer (IsPaint t) 1 (IsLost t) (Agrees t g b) (Agrees t (put_at r c x g) (standing b r (c + 1)))
 print_steps went failures a z answer t checked g b r c x lr lc printed poised sends =
     let B : State → Type 0 = Agrees t (put_at r c x g) (standing b r (c + 1)) in
     let lost : (s : State) → B s → IsLost t s = agrees_lost t checked (put_at r c x g) (standing b r (c + 1)) in
-    steps_sent went failures a z answer (IsPiece t) 1 (IsLost t) (Agrees t g b) B (x.byte ∷ []) (print_leads t checked g b r c x lr lc printed poised) lost sends
+    steps_sent went failures a z answer (IsPaint t) 1 (IsLost t) (Agrees t g b) B (x.byte ∷ []) (print_leads t checked g b r c x lr lc printed poised) lost sends

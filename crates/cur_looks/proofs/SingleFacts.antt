@@ -18,6 +18,7 @@ use Rattle.cur_looks.specs.declared.inks.Ink.{Ink}
 use Rattle.ti_conforms.specs.Certified.{Table, HasSingles, IsReady, has, limit_of, text_of, lengths, settles, singles}
 use Rattle.cur_looks.specs.Inks.{rendition_of, plain_brush, no_attributes}
 use Rattle.cur_looks.specs.Beliefs.{Agrees, Belief, Turns}
+use Rattle.cur_looks.specs.Pieces.{paints}
 use Rattle.cur_looks.specs.Singles.{has_single, turned_on, with_single, with_singles}
 use Rattle.cur_looks.proofs.Turns.{free_of, rendered}
 
@@ -145,6 +146,16 @@ single_limit t wanted Bold on = omega arith
 single_limit t wanted Invis on = omega arith
 single_limit t wanted Smso on = omega arith
 single_limit t wanted row on = absurd (false≢true on)
+
+pub single_paints : (wanted : Attributes) (row : Row) → has_single row wanted ≡ true → paints row ≡ true
+single_paints wanted Smul on = refl
+single_paints wanted Rev on = refl
+single_paints wanted Blink on = refl
+single_paints wanted Dim on = refl
+single_paints wanted Bold on = refl
+single_paints wanted Invis on = refl
+single_paints wanted Smso on = refl
+single_paints wanted row on = absurd (false≢true on)
 
 -- what isn't wanted stays as it is
 pub unwanted : (wanted : Attributes) (row : Row) (a : Attributes) → has_single row wanted ≡ false → with_single wanted row a ≡ a

@@ -16,6 +16,7 @@ use Rattle.ti_rows.specs.Wants.{marked, Renders, Appears}
 use Rattle.ti_rows.specs.Looks.{shown}
 use Rattle.ti_conforms.specs.Certified.{Table, IsReady, IsChecked, has, limit_of}
 use Rattle.cur_looks.specs.Inks.{rendition_of, look_of, IsColored, tail_blank, blank_ink, plain_brush}
+use Rattle.cur_looks.specs.Pieces.{paints}
 use Rattle.cur_looks.specs.Beliefs.{Agrees, Belief, Place, Turns, IsHere, set_row, Mode, Hidden, Normal, Prominent, IsSeen, is_shown}
 
 pub look_at-drawn : (f : ℕ → ℕ → Look → Look) (g : Grid) (i j : ℕ) → j < length (line_at g i) → look_at (drawn f g) i j ≡ f i j (look_at g i j)
@@ -234,6 +235,10 @@ set_known t g b x e s h = let P : Option Bool → Type 0 = λ y. Agrees t g (rec
 pub set_limit : (t : Table) (x : Bool) → limit_of t (set_row x) ≤ t.longest.sets
 set_limit t true = omega arith
 set_limit t false = omega arith
+
+pub set_paints : (x : Bool) → paints (set_row x) ≡ true
+set_paints true = refl
+set_paints false = refl
 
 -- a set whose line is absent is the plain one, and active
 pub set_absent : (t : Table) → IsChecked t → (x : Bool) → (has t Smacs ≡ false → x ≡ false) → has t (set_row x) ≡ false → (g : ℕ → ℕ → Ink) (b : Belief) (s : State) → Agrees t g b s → Agrees t g (record b { graphic = Some x }) s

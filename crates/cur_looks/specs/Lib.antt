@@ -1,4 +1,5 @@
 pub mod Inks
+pub mod Pieces
 pub mod Beliefs
 pub mod Singles
 pub mod Moves

@@ -4,6 +4,7 @@ use Rattle.std.specs.Prelude.{ℕ, ◌<◌, List, Result}
 use Rattle.cur_wires.specs.Steps.{Spells, Steps}
 use Rattle.ti_conforms.specs.Certified.{Table, IsChecked, IsPiece, IsLost}
 use Rattle.cur_looks.specs.Beliefs.{Agrees, Belief, Place}
+use Rattle.cur_looks.specs.Pieces.{IsPaint}
 use Rattle.cur_looks.specs.Gaps.{BeginsAs}
 use Rattle.cur_looks.specs.declared.inks.Ink.{Ink}
 
@@ -13,11 +14,11 @@ pub record IsGoal (t : Table) (at : Place) : Type 0 where
   pub row : at.row < t.rows
   pub col : at.col < t.cols
 
--- A step from a terminal that shows the cells g to one that shows h. It sends at most limit bytes.
+-- A step from a terminal that shows the cells g to one that shows h. It sends what paints, and at most limit bytes.
 abbrev pub Acts : {W T E : Type 0} → (W → W → List ℕ → Type 0) → (W → ℕ) → W → W → Result T E → Table → ℕ
     → (ℕ → ℕ → Ink) → (ℕ → ℕ → Ink) → Belief → Belief → Type 0
 Acts went failures before after answer t limit g h b c =
-    Steps went failures before after answer (IsPiece t) limit (IsLost t) (Agrees t g b) (Agrees t h c)
+    Steps went failures before after answer (IsPaint t) limit (IsLost t) (Agrees t g b) (Agrees t h c)
 
 -- all cells stay, whatever they are
 abbrev pub Keeps : {W T E : Type 0} → (W → W → List ℕ → Type 0) → (W → ℕ) → W → W → Result T E → Table → ℕ

@@ -1,7 +1,8 @@
 //! The sending of one line.
-ghost use Rattle.std.specs.Prelude.{◌≡◌, ◌≤◌, ℕ, length, Some};
+ghost use Rattle.std.specs.Prelude.{◌≡◌, ◌≤◌, ℕ, length, Some, true};
 ghost use Rattle.ti_conforms.specs.Certified.{IsChecked, limit_of, text_of};
 ghost use Rattle.cur_looks.specs.Beliefs.{Belief, Turns};
+ghost use Rattle.cur_looks.specs.Pieces.{paints};
 ghost use Rattle.cur_looks.specs.Steps.{Acts, KeepsBy};
 ghost use Rattle.cur_looks.specs.declared.inks.Ink.{Ink};
 
@@ -10,7 +11,7 @@ use ti_conforms::Certificate;
 use ti_rows::Row;
 
 /// Sends `bytes`, which is the line of `row`. It leads from whatever belief the row starts from to what the row makes
-/// of it.
+/// of it, and is a step of a painter if the row paints.
 pub(crate) fn send_line<C: Certificate, W: Wire>(
     checked: &C,
     row: Row,
@@ -19,11 +20,12 @@ pub(crate) fn send_line<C: Certificate, W: Wire>(
 ) -> Result<(), WireFault>
     requires checked { IsChecked (C.table checked.now) }
     requires line { (C.table checked.now).line_of row ≡ Some bytes.now }
-    ensures exact { (n : ℕ) (g h : ℕ → ℕ → Ink) (b c : Belief) → length (text_of (C.table checked.now) row) ≤ n
+    ensures exact { (n : ℕ) (g h : ℕ → ℕ → Ink) (b c : Belief) → paints row ≡ true
+        → length (text_of (C.table checked.now) row) ≤ n
         → Turns (C.table checked.now) row g b h c
         → Acts W.went W.failures wire.old wire.new result (C.table checked.now) n g h b c }
-    ensures step { (n : ℕ) (g h : ℕ → ℕ → Ink) (b c : Belief) → limit_of (C.table checked.now) row ≤ n
-        → Turns (C.table checked.now) row g b h c
+    ensures step { (n : ℕ) (g h : ℕ → ℕ → Ink) (b c : Belief) → paints row ≡ true
+        → limit_of (C.table checked.now) row ≤ n → Turns (C.table checked.now) row g b h c
         → Acts W.went W.failures wire.old wire.new result (C.table checked.now) n g h b c }
     ensures text { (b c : Belief) → ((g : ℕ → ℕ → Ink) → Turns (C.table checked.now) row g b g c)
         → KeepsBy W.went W.failures wire.old wire.new result (C.table checked.now) (limit_of (C.table checked.now) row)

@@ -1,7 +1,8 @@
 -- Steps that may fail, after one another.
-use Rattle.std.proofs.Common.{◌≡◌, ℕ, ◌+◌, ◌≤◌, List, [], ◌∷◌, ◌++◌, length, Result, Ok, Err, refl, sym, ap, subst, ◌∙◌, arith}
+use Rattle.std.proofs.Common.{◌≡◌, ℕ, ◌+◌, ◌≤◌, List, [], ◌∷◌, ◌++◌, length, Result, Ok, Err, refl, sym, ap, subst, ◌∙◌, arith, append_assoc}
 use Rattle.std.proofs.lemmas.List.{append-nil}
 use Rattle.std.specs.Prelude.{OnOk}
+use Rattle.std.specs.List.{AllByRecursion}
 use Rattle.vt_term.specs.Screen.{State}
 use Rattle.vt_term.specs.Text.{IsOpen}
 use Rattle.vt_term.proofs.Sequences.{empty_open}
@@ -12,6 +13,10 @@ use Rattle.vt_term.specs.Ends.{Ends}
 use Rattle.cur_wires.proofs.Leads.{leads_then, leads_wider}
 use Rattle.cur_wires.proofs.Paints.{sends_then}
 use Rattle.cur_wires.specs.Steps.{then_kind, Spells, Steps}
+
+pub all_as : (P Q : List ℕ → Type 0) → ((x : List ℕ) → P x → Q x) → (xs : List (List ℕ)) → AllByRecursion P xs → AllByRecursion Q xs
+all_as P Q f [] h = tt
+all_as P Q f (x ∷ xs) h = (f x h.0, all_as P Q f xs h.1)
 
 -- a step that failed ends the whole, whatever would have followed it: no plan of the rest is needed
 pub steps_fail : {W T E U F : Type 0} (went : W → W → List ℕ → Type 0) (failures : W → ℕ) (a b : W) (v : E) (u : F) (P : List ℕ → Type 0) (m n : ℕ) (D A B C : State → Type 0)
@@ -104,8 +109,9 @@ steps_none went failures laws a v P n D A rest d = steps_nothing went failures l
 -- bytes that lead on, sent
 pub spells_sent : {W T E : Type 0} (went : W → W → List ℕ → Type 0) (failures : W → ℕ) (a b : W) (answer : Result T E) (P : List ℕ → Type 0) (n : ℕ) (D A B : State → Type 0) (bytes : List ℕ)
     → Leads P n D A bytes B → ((s : State) → B s → D s) → Sends went failures a b bytes answer → Spells went failures a b answer bytes P n D A B
+unfolding steps_sent
 spells_sent went failures a b (Ok v) P n D A B bytes h f k = record { step = record { bytes = bytes; leads = h; sends = k }; all = refl }
-spells_sent went failures a b (Err v) P n D A B bytes h f k = record { step = steps_sent went failures a b (Err v) P n D A B bytes h f k; all = tt }
+spells_sent went failures a b (Err v) P n D A B bytes h f k = record { step = steps_sent went failures a b (Err v) P n D A B bytes h f k; all = ([], sym (append-nil bytes)) }
 
 -- nothing is sent
 pub spells_nothing : {W T E : Type 0} (went : W → W → List ℕ → Type 0) (failures : W → ℕ) → IsWire went failures → (a : W) (v : T) (P : List ℕ → Type 0) (n : ℕ) (D A B : State → Type 0)
@@ -123,7 +129,16 @@ spells_next went failures laws a b c v (Ok w) x y P m n k D A B C le h j = recor
 }
 spells_next went failures laws a b c v (Err e) x y P m n k D A B C le h j = record {
   step = steps_next went failures laws a b c v (Err e) P m n k D A B C le h.step j.step;
-  all = tt;
+  all = (j.all.0, ap (λ (l : List ℕ). x ++ l) j.all.1 ∙ sym (append_assoc x j.step.bytes j.all.0) ∙ ap (λ (l : List ℕ). (l ++ j.step.bytes) ++ j.all.0) (sym h.all));
+}
+
+-- the first of two texts was cut short
+pub spells_fail : {W T E U F : Type 0} (went : W → W → List ℕ → Type 0) (failures : W → ℕ) (a b : W) (v : E) (u : F) (x y : List ℕ) (P : List ℕ → Type 0) (m n : ℕ) (D A B C : State → Type 0)
+    → m ≤ n → Spells {T = T} {E = E} went failures a b (Err v) x P m D A B → Spells {T = U} {E = F} went failures a b (Err u) (x ++ y) P n D A C
+unfolding steps_fail
+spells_fail went failures a b v u x y P m n D A B C le h = record {
+  step = steps_fail went failures a b v u P m n D A B C le h.step;
+  all = (h.all.0 ++ y, ap (λ (l : List ℕ). l ++ y) h.all.1 ∙ append_assoc h.step.bytes h.all.0 y);
 }
 
 -- the same text by another name, under a greater limit
@@ -136,5 +151,10 @@ spells_as went failures a b (Ok v) x y P m n D A B e le h = record {
 }
 spells_as went failures a b (Err v) x y P m n D A B e le h = record {
   step = steps_wider went failures a b (Err v) P m n D A B A B le (λ s p. p) (λ s p. p) h.step;
-  all = tt;
+  all = (h.all.0, sym e ∙ h.all.1);
 }
+
+-- ---- pieces of another sort
+
+pub leads_each : (P Q : List ℕ → Type 0) (n : ℕ) (D A B : State → Type 0) (bytes : List ℕ) → ((x : List ℕ) → P x → Q x) → Leads P n D A bytes B → Leads Q n D A bytes B
+leads_each P Q n D A B bytes f h = record { pieces = h.pieces; made = h.made; each = all_as P Q f h.pieces h.each; bound = h.bound; ends = h.ends; cut = h.cut }

@@ -1,6 +1,6 @@
 -- A painter's step that may fail: at Ok it leads on, at Err to the kind between, and nothing is said of what would have
 -- followed.
-use Rattle.std.specs.Prelude.{ℕ, ◌≡◌, List, Result, Ok, Err, OnOk}
+use Rattle.std.specs.Prelude.{ℕ, ◌≡◌, List, ◌++◌, Result, Ok, Err}
 use Rattle.vt_term.specs.Screen.{State}
 use Rattle.cur_wires.specs.Paints.{Paints}
 
@@ -14,9 +14,14 @@ abbrev pub Steps : {W T E : Type 0} → (W → W → List ℕ → Type 0) → (W
 Steps went failures old new answer P n between before after =
     Paints went failures old new answer P n between before (then_kind answer after between)
 
--- a step that sends just this text where nothing fails
+-- these bytes are a text, or a front of it where more was to follow
+abbrev pub Spelled : {T E : Type 0} → Result T E → List ℕ → List ℕ → Type 0
+Spelled (Ok x) text bytes = bytes ≡ text
+Spelled (Err e) text bytes = (more : List ℕ) × (text ≡ bytes ++ more)
+
+-- a step that sends just this text where nothing fails, and else no more than a front of it
 pub record Spells {W T E : Type 0} (went : W → W → List ℕ → Type 0) (failures : W → ℕ) (old new : W)
     (answer : Result T E) (text : List ℕ) (IsPiece : List ℕ → Type 0) (limit : ℕ)
     (between before after : State → Type 0) : Type 0 where
   pub step : Steps went failures old new answer IsPiece limit between before after
-  pub all : OnOk answer (step.bytes ≡ text)
+  pub all : Spelled answer text step.bytes

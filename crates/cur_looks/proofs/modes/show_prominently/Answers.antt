@@ -1,6 +1,6 @@
 use Rattle.std.proofs.Common.{arith}
 use Rattle.std.proofs.lemmas.Result.{err_from_is_err_and}
-use Rattle.cur_wires.proofs.Stops.{spells_next, steps_fail}
+use Rattle.cur_wires.proofs.Stops.{spells_fail, spells_next}
 use Rattle.ti_rows.specs.declared.rows.Row.TheVariants.{Cnorm, Cvvis}
 use Rattle.ti_conforms.specs.Certified.{IsPiece, IsLost, text_of}
 use Rattle.cur_looks.specs.Beliefs.{Agrees, modes_limit}
@@ -11,10 +11,7 @@ returns-in_err-show-clause-step g c h =
     let e = err_from_is_err_and c.from_residual.result c.from_residual.ensures.1 in
     let t = g.C.Certificate.table c.args.checked.now in
     let b = c.args.belief.now in
-    rw e.1 (record {
-      step = steps_fail g.W.Wire.went g.W.Wire.failures c.args.wire.now c.show.new.wire _ _ (IsPiece t) t.longest.cnorm (modes_limit t) (IsLost t) (Agrees t h b) (Agrees t h c.show.new.belief) (Agrees t h c.show.new.belief) (omega arith) (c.in_err-show.ensures.step h).step;
-      all = tt;
-    })
+    rw e.1 (spells_fail g.W.Wire.went g.W.Wire.failures c.args.wire.now c.show.new.wire _ _ (text_of t Cnorm) (text_of t Cvvis) (IsPiece t) t.longest.cnorm (modes_limit t) (IsLost t) (Agrees t h b) (Agrees t h c.show.new.belief) (Agrees t h c.show.new.belief) (omega arith) (c.in_err-show.ensures.step h))
 
 pub returns-clause-step : goal.returns-clause-step
 returns-clause-step g c h =

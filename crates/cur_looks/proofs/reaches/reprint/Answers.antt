@@ -1,7 +1,8 @@
 use Rattle.std.proofs.Common.{◌≡◌, ◌+◌, ℕ, Ok, sym, ap, ◌∙◌, arith}
 use Rattle.std.proofs.lemmas.Result.{err_from_is_err_and}
 use Rattle.cur_wires.proofs.Stops.{steps_fail, steps_next, steps_none, steps_wider}
-use Rattle.ti_conforms.specs.Certified.{IsPiece, IsLost}
+use Rattle.ti_conforms.specs.Certified.{IsLost}
+use Rattle.cur_looks.specs.Pieces.{IsPaint}
 use Rattle.cur_looks.specs.Inks.{put_at}
 use Rattle.cur_looks.specs.Beliefs.{Agrees, Belief, Place}
 use Rattle.cur_looks.proofs.Actions.{agrees_lost}
@@ -15,7 +16,7 @@ loop-n-init g c =
     let here : c.args.from.col ≡ c.args.from.col + 0 = omega arith in
     record {
       belief = ap (λ (o : Place). record b { place = o }) (c.requires.place ∙ ap (λ (n : ℕ). record c.args.from { col = n }) here);
-      step = λ h k. steps_none g.W.Wire.went g.W.Wire.failures g.met.W.Wire.lawful c.args.wire.now tt (IsPiece t) _ (IsLost t) (Agrees t h b) (λ s x. x.ready.rest) (agrees_lost t c.requires.checked h b);
+      step = λ h k. steps_none g.W.Wire.went g.W.Wire.failures g.met.W.Wire.lawful c.args.wire.now tt (IsPaint t) _ (IsLost t) (Agrees t h b) (λ s x. x.ready.rest) (agrees_lost t c.requires.checked h b);
     }
 
 pub loop-n-preserved : goal.loop-n-preserved
@@ -30,9 +31,9 @@ loop-n-preserved g c =
     let next : col + 1 ≡ c.args.from.col + (n + 1) = omega arith in
     record {
       belief = c.print_at.ensures.belief ∙ ap (λ (x : Belief). record x { place = record { row = row; col = col + 1 } }) c.loop-n.invariant.belief ∙ ap (λ (m : ℕ). record b { place = record { row = row; col = m } }) next;
-      step = λ h k. steps_next g.W.Wire.went g.W.Wire.failures g.met.W.Wire.lawful c.args.wire.now c.loop-n.wire c.print_at.new.wire _ (Ok tt) (IsPiece t) n 1 (n + 1) (IsLost t) (Agrees t h b) (Agrees t h a) (Agrees t h z) (omega arith)
+      step = λ h k. steps_next g.W.Wire.went g.W.Wire.failures g.met.W.Wire.lawful c.args.wire.now c.loop-n.wire c.print_at.new.wire _ (Ok tt) (IsPaint t) n 1 (n + 1) (IsLost t) (Agrees t h b) (Agrees t h a) (Agrees t h z) (omega arith)
           (c.loop-n.invariant.step h k)
-          (steps_wider g.W.Wire.went g.W.Wire.failures c.loop-n.wire c.print_at.new.wire _ (IsPiece t) 1 1 (IsLost t) (Agrees t h a) (Agrees t (put_at row col c.at-ink.result h) z) (Agrees t h a) (Agrees t h z) (omega arith) (λ s x. x)
+          (steps_wider g.W.Wire.went g.W.Wire.failures c.loop-n.wire c.print_at.new.wire _ (IsPaint t) 1 1 (IsLost t) (Agrees t h a) (Agrees t (put_at row col c.at-ink.result h) z) (Agrees t h a) (Agrees t h z) (omega arith) (λ s x. x)
           (reprinted t h z row col c.at-ink.result (k col (omega (arith, c.loop-n-test.true)) ∙ sym c.at-ink.ensures.value)) (c.in_ok-print_at.ensures.step h));
     }
 
@@ -45,6 +46,6 @@ returns-in_err-print_at-clause-step g c h k =
     let z : Belief = c.print_at.new.belief in
     let n = c.loop-n.n in
     let more = put_at c.args.from.row (c.args.from.col + n) c.at-ink.result h in
-    rw e.1 (steps_fail g.W.Wire.went g.W.Wire.failures c.args.wire.now c.print_at.new.wire _ _ (IsPiece t) (n + 1) c.args.count (IsLost t) (Agrees t h b) (Agrees t more z) (Agrees t h z) (omega (arith, c.loop-n-test.true))
-    (steps_next g.W.Wire.went g.W.Wire.failures g.met.W.Wire.lawful c.args.wire.now c.loop-n.wire c.print_at.new.wire _ _ (IsPiece t) n 1 (n + 1) (IsLost t) (Agrees t h b) (Agrees t h a) (Agrees t more z) (omega arith)
+    rw e.1 (steps_fail g.W.Wire.went g.W.Wire.failures c.args.wire.now c.print_at.new.wire _ _ (IsPaint t) (n + 1) c.args.count (IsLost t) (Agrees t h b) (Agrees t more z) (Agrees t h z) (omega (arith, c.loop-n-test.true))
+    (steps_next g.W.Wire.went g.W.Wire.failures g.met.W.Wire.lawful c.args.wire.now c.loop-n.wire c.print_at.new.wire _ _ (IsPaint t) n 1 (n + 1) (IsLost t) (Agrees t h b) (Agrees t h a) (Agrees t more z) (omega arith)
     (c.loop-n.invariant.step h k) (c.in_err-print_at.ensures.step h)))

@@ -1,7 +1,8 @@
 use Rattle.std.proofs.Common.{◌+◌, take, Ok, refl, ap, ◌∙◌, arith}
 use Rattle.std.proofs.lemmas.Result.{err_from_is_err_and}
 use Rattle.cur_wires.proofs.Stops.{steps_fail, steps_next, steps_none}
-use Rattle.ti_conforms.specs.Certified.{IsPiece, IsLost, lengths}
+use Rattle.ti_conforms.specs.Certified.{IsLost, lengths}
+use Rattle.cur_looks.specs.Pieces.{IsPaint}
 use Rattle.cur_looks.specs.Beliefs.{Agrees, Belief}
 use Rattle.cur_looks.proofs.Actions.{agrees_lost}
 use Rattle.cur_looks.proofs.SingleFacts.{ahead_more, lengths_more, lengths_within}
@@ -14,7 +15,7 @@ loop-row-init g c =
     record {
       set = c.requires.set;
       ahead = refl;
-      step = λ h. steps_none g.W.Wire.went g.W.Wire.failures g.met.W.Wire.lawful c.args.wire.now tt (IsPiece t) _ (IsLost t) (Agrees t h b) (λ s x. x.ready.rest) (agrees_lost t c.requires.checked h b);
+      step = λ h. steps_none g.W.Wire.went g.W.Wire.failures g.met.W.Wire.lawful c.args.wire.now tt (IsPaint t) _ (IsLost t) (Agrees t h b) (λ s x. x.ready.rest) (agrees_lost t c.requires.checked h b);
     }
 
 pub loop-row-preserved : goal.loop-row-preserved
@@ -26,7 +27,7 @@ loop-row-preserved g c =
     record {
       set = ap (λ (x : Belief). x.graphic) c.add_single.ensures.belief ∙ c.loop-row.invariant.set;
       ahead = ahead_more c.args.wanted rows n _ b c.loop-row.belief c.add_single.new.belief c.loop-row-test.true c.add_single.ensures.belief c.loop-row.invariant.ahead;
-      step = λ h. steps_next g.W.Wire.went g.W.Wire.failures g.met.W.Wire.lawful c.args.wire.now c.loop-row.wire c.add_single.new.wire _ (Ok tt) (IsPiece t) (lengths t (take n rows)) _ (lengths t (take (n + 1) rows)) (IsLost t)
+      step = λ h. steps_next g.W.Wire.went g.W.Wire.failures g.met.W.Wire.lawful c.args.wire.now c.loop-row.wire c.add_single.new.wire _ (Ok tt) (IsPaint t) (lengths t (take n rows)) _ (lengths t (take (n + 1) rows)) (IsLost t)
           (Agrees t h b) (Agrees t h c.loop-row.belief) (Agrees t h c.add_single.new.belief) (lengths_more t rows n _ c.loop-row-test.true) (c.loop-row.invariant.step h) (c.in_ok-add_single.ensures.step h);
     }
 
@@ -37,6 +38,6 @@ returns-in_err-add_single-clause-step g c h =
     let b = c.args.belief.now in
     let rows = c.args.rows.now in
     let n = c.loop-row.row-index in
-    rw e.1 (steps_fail g.W.Wire.went g.W.Wire.failures c.args.wire.now c.add_single.new.wire _ _ (IsPiece t) (lengths t rows) (lengths t rows) (IsLost t) (Agrees t h b) (Agrees t h c.add_single.new.belief) (Agrees t h c.add_single.new.belief) (omega arith)
-    (steps_next g.W.Wire.went g.W.Wire.failures g.met.W.Wire.lawful c.args.wire.now c.loop-row.wire c.add_single.new.wire _ _ (IsPiece t) (lengths t (take n rows)) _ (lengths t rows) (IsLost t)
+    rw e.1 (steps_fail g.W.Wire.went g.W.Wire.failures c.args.wire.now c.add_single.new.wire _ _ (IsPaint t) (lengths t rows) (lengths t rows) (IsLost t) (Agrees t h b) (Agrees t h c.add_single.new.belief) (Agrees t h c.add_single.new.belief) (omega arith)
+    (steps_next g.W.Wire.went g.W.Wire.failures g.met.W.Wire.lawful c.args.wire.now c.loop-row.wire c.add_single.new.wire _ _ (IsPaint t) (lengths t (take n rows)) _ (lengths t rows) (IsLost t)
     (Agrees t h b) (Agrees t h c.loop-row.belief) (Agrees t h c.add_single.new.belief) (lengths_within t rows n _ c.loop-row-test.true) (c.loop-row.invariant.step h) (c.in_err-add_single.ensures.step h)))

@@ -2,7 +2,8 @@ use Rattle.std.proofs.Common.{◌≡◌, ◌+◌, ◌≤◌, false, length, ap, 
 use Rattle.std.proofs.lemmas.Result.{err_from_is_err_and}
 use Rattle.cur_wires.proofs.Stops.{steps_fail, steps_next, on_ok_map}
 use Rattle.ti_rows.specs.declared.rows.Row.TheVariants.{Sgr, Sgr0}
-use Rattle.ti_conforms.specs.Certified.{IsPiece, IsLost, has, text_of, lengths, singles}
+use Rattle.ti_conforms.specs.Certified.{IsLost, has, text_of, lengths, singles}
+use Rattle.cur_looks.specs.Pieces.{IsPaint}
 use Rattle.cur_looks.specs.Inks.{no_attributes}
 use Rattle.cur_looks.specs.Beliefs.{Agrees, Belief}
 use Rattle.cur_looks.proofs.Answers.{has_none}
@@ -16,7 +17,7 @@ returns-in_err-make_plain-clause-step g c h =
     let b = c.args.belief.now in
     let none : has t (Sgr no_attributes) ≡ false = sgr_absent t c.requires.checked.attributes c.args.wanted (has_none t (Sgr c.args.wanted) c.requires.sgr) in
     let short : length (text_of t Sgr0) + lengths t singles ≤ t.longest.sgr = (c.requires.checked.singles none).short in
-    rw e.1 (steps_fail g.W.Wire.went g.W.Wire.failures c.args.wire.now c.make_plain.new.wire _ _ (IsPiece t) (length (text_of t Sgr0)) t.longest.sgr (IsLost t) (Agrees t h b) (Agrees t h c.make_plain.new.belief) (Agrees t h c.make_plain.new.belief)
+    rw e.1 (steps_fail g.W.Wire.went g.W.Wire.failures c.args.wire.now c.make_plain.new.wire _ _ (IsPaint t) (length (text_of t Sgr0)) t.longest.sgr (IsLost t) (Agrees t h b) (Agrees t h c.make_plain.new.belief) (Agrees t h c.make_plain.new.belief)
     (omega (arith, short)) (c.in_err-make_plain.ensures.step h))
 
 pub returns-clause-brush : goal.returns-clause-brush
@@ -29,5 +30,5 @@ returns-clause-step g c h =
     let b = c.args.belief.now in
     let none : has t (Sgr no_attributes) ≡ false = sgr_absent t c.requires.checked.attributes c.args.wanted (has_none t (Sgr c.args.wanted) c.requires.sgr) in
     let short : length (text_of t Sgr0) + lengths t singles ≤ t.longest.sgr = (c.requires.checked.singles none).short in
-    steps_next g.W.Wire.went g.W.Wire.failures g.met.W.Wire.lawful c.args.wire.now c.make_plain.new.wire c.add_singles.new.wire _ c.add_singles.result (IsPiece t) (length (text_of t Sgr0)) (lengths t singles) t.longest.sgr (IsLost t)
+    steps_next g.W.Wire.went g.W.Wire.failures g.met.W.Wire.lawful c.args.wire.now c.make_plain.new.wire c.add_singles.new.wire _ c.add_singles.result (IsPaint t) (length (text_of t Sgr0)) (lengths t singles) t.longest.sgr (IsLost t)
     (Agrees t h b) (Agrees t h c.make_plain.new.belief) (Agrees t h c.add_singles.new.belief) short (c.in_ok-make_plain.ensures.step h) (c.add_singles.ensures.step h)

@@ -1,4 +1,4 @@
-use Rattle.std.proofs.Common.{None, length, arith}
+use Rattle.std.proofs.Common.{None, length, arith, refl}
 use Rattle.ti_rows.specs.declared.rows.Row.TheVariants.{Sgr0}
 use Rattle.ti_conforms.specs.Certified.{text_of}
 use Rattle.cur_looks.specs.Inks.{plain_brush}
@@ -11,4 +11,4 @@ returns-clause-step g c h =
     let t = g.C.Certificate.table c.args.checked.now in
     let b = c.args.belief.now in
     let d : Belief = record b { brush = plain_brush; graphic = None } in
-    rw c.plain-belief.ensures.value (c.send_line.ensures.step (length (text_of t Sgr0)) h h b d (omega arith) (stripped t h b))
+    rw c.plain-belief.ensures.value (c.send_line.ensures.step (length (text_of t Sgr0)) h h b d refl (omega arith) (stripped t h b))
