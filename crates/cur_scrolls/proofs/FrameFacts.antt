@@ -14,7 +14,8 @@ use Rattle.cur_wires.proofs.Completion.{ends_sized}
 use Rattle.ti_rows.specs.declared.rows.Row.{Row}
 use Rattle.ti_rows.specs.declared.rows.Row.TheVariants.{Cup, Csr, Ind, Ri}
 use Rattle.ti_rows.specs.Starts.{IsAny, IsCalmAnywhere}
-use Rattle.ti_conforms.specs.Certified.{Table, IsChecked, IsCheckedLine, IsLost, IsPiece, Line, Ended, cell_limit, has, limit_of}
+use Rattle.ti_conforms.specs.Certified.{Table, IsChecked, IsCheckedLine, IsLost, Ended, cell_limit, has, limit_of}
+use Rattle.cur_looks.specs.Pieces.{IsPaint, Stroke, paints}
 use Rattle.ti_conforms.specs.Table.{widening}
 use Rattle.cur_looks.specs.Inks.{rendition_of, look_of, blank_ink, plain_brush, IsColored}
 use Rattle.cur_looks.specs.Beliefs.{Agrees, IsHere, brush_limit, moves}
@@ -46,17 +47,17 @@ row_ends t checked row bytes is f h b turns s x =
     let line : IsCheckedLine t row bytes = checked.lines row bytes is in
     ends_sized t.rows t.cols s bytes (Closed (Ended t row s.screen)) (Framed t h b) x.sized (λ u sized k. turns.ends s u x sized k.rest k.screen) (line.drives.right s x.rest (turns.starts s x))
 
-row_leads : (t : Table) → IsChecked t → has t (widening t) ≡ true → (row : Row) (bytes : List ℕ) → t.line_of row ≡ Some bytes → (n : ℕ) → length bytes ≤ n → (f h : Frame) (b : Belief) → Reframes t row f h b
-    → Leads (IsPiece t) n (IsLost t) (Framed t f b) bytes (Framed t h b)
-row_leads t checked widens row bytes is n le f h b turns =
-    leads_line (IsPiece t) n (IsLost t) (Framed t f b) (Framed t h b) bytes (Line row is) le (row_ends t checked row bytes is f h b turns)
+row_leads : (t : Table) → IsChecked t → has t (widening t) ≡ true → (row : Row) (bytes : List ℕ) → t.line_of row ≡ Some bytes → paints row ≡ true → (n : ℕ) → length bytes ≤ n → (f h : Frame) (b : Belief) → Reframes t row f h b
+    → Leads (IsPaint t) n (IsLost t) (Framed t f b) bytes (Framed t h b)
+row_leads t checked widens row bytes is paint n le f h b turns =
+    leads_line (IsPaint t) n (IsLost t) (Framed t f b) (Framed t h b) bytes (Stroke row paint is) le (row_ends t checked row bytes is f h b turns)
     (λ s x front back e. (let line : IsCheckedLine t row bytes = checked.lines row bytes is in line.drives.fronts s x.rest (framed_lost t checked widens f b s x) front back e))
 
-pub row_sent : {W T E : Type 0} (went : W → W → List ℕ → Type 0) (failures : W → ℕ) (a z : W) (answer : Result T E) (t : Table) → IsChecked t → has t (widening t) ≡ true → (row : Row) (bytes : List ℕ) → t.line_of row ≡ Some bytes
+pub row_sent : {W T E : Type 0} (went : W → W → List ℕ → Type 0) (failures : W → ℕ) (a z : W) (answer : Result T E) (t : Table) → IsChecked t → has t (widening t) ≡ true → (row : Row) (bytes : List ℕ) → t.line_of row ≡ Some bytes → paints row ≡ true
     → (n : ℕ) (f h : Frame) (b : Belief) → limit_of t row ≤ n → Reframes t row f h b → Sends went failures a z bytes answer → Moves went failures a z answer t n f h b
-row_sent went failures a z answer t checked widens row bytes is n f h b le turns sends =
-    steps_sent went failures a z answer (IsPiece t) n (IsLost t) (Framed t f b) (Framed t h b) bytes
-    (row_leads t checked widens row bytes is n (omega (arith, (checked.lines row bytes is).short, le)) f h b turns) (framed_lost t checked widens h b) sends
+row_sent went failures a z answer t checked widens row bytes is paint n f h b le turns sends =
+    steps_sent went failures a z answer (IsPaint t) n (IsLost t) (Framed t f b) (Framed t h b) bytes
+    (row_leads t checked widens row bytes is paint n (omega (arith, (checked.lines row bytes is).short, le)) f h b turns) (framed_lost t checked widens h b) sends
 
 -- ---- margins and moves
 
@@ -318,6 +319,13 @@ row_limit t x = either x.up
     either : (up : Bool) → limit_of t (if up then Ind else Ri) ≤ t.longest.scroll
     either true = omega arith
     either false = omega arith
+
+pub scroll_paints : (x : Scroll) → paints (scroll_row x) ≡ true
+scroll_paints x = either x.up
+  where
+    either : (up : Bool) → paints (if up then Ind else Ri) ≡ true
+    either true = refl
+    either false = refl
 
 pub line_more : (n l : ℕ) → n * l + l ≤ (n + 1) * l
 line_more n l = let e : (n + 1) * l ≡ n * l + l = grind arith in omega (arith, e)

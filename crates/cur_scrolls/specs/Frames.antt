@@ -7,7 +7,8 @@ use Rattle.cur_wires.specs.Steps.{Steps}
 use Rattle.ti_rows.specs.declared.rows.Row.{Row}
 use Rattle.ti_rows.specs.declared.rows.Row.TheVariants.{Cnorm}
 use Rattle.ti_rows.specs.Starts.{Starts}
-use Rattle.ti_conforms.specs.Certified.{Table, IsLost, IsPiece, Ended, has}
+use Rattle.ti_conforms.specs.Certified.{Table, IsLost, Ended, has}
+use Rattle.cur_looks.specs.Pieces.{IsPaint}
 use Rattle.cur_looks.specs.Inks.{rendition_of, look_of, plain_brush}
 use Rattle.cur_looks.specs.Beliefs.{IsHere, IsSo, IsSeen}
 use Rattle.cur_looks.specs.declared.beliefs.Belief.{Belief}
@@ -53,7 +54,7 @@ pub record Reframes (t : Table) (row : Row) (f h : Frame) (b : Belief) : Type 0 
 abbrev pub Moves : {W T E : Type 0} → (W → W → List ℕ → Type 0) → (W → ℕ) → W → W → Result T E → Table → ℕ
     → Frame → Frame → Belief → Type 0
 Moves went failures before after answer t limit f h b =
-    Steps went failures before after answer (IsPiece t) limit (IsLost t) (Framed t f b) (Framed t h b)
+    Steps went failures before after answer (IsPaint t) limit (IsLost t) (Framed t f b) (Framed t h b)
 
 -- these margins, with the cursor in the column before all others of this line
 abbrev pub framed : ℕ → ℕ → (ℕ → ℕ → Ink) → ℕ → Frame

@@ -2,6 +2,7 @@
 ghost use Rattle.std.specs.Prelude.{◌≡◌, ◌+◌, ◌<◌, ◌≤◌, ℕ, true, Some};
 ghost use Rattle.ti_conforms.specs.Certified.{IsChecked, has, limit_of};
 ghost use Rattle.ti_conforms.specs.Table.{widening};
+ghost use Rattle.cur_looks.specs.Pieces.{paints};
 ghost use Rattle.cur_looks.specs.declared.beliefs.Belief.{Belief};
 ghost use Rattle.ti_rows.specs.declared.rows.Row.TheVariants.{Csr};
 ghost use Rattle.cur_scrolls.specs.Frames.{Frame, Moves, Reframes, framed};
@@ -10,7 +11,8 @@ use cur_wires::{Wire, WireFault, send_all};
 use ti_conforms::Certificate;
 use ti_rows::Row;
 
-/// Sends the line of `row`, which leads from whatever frame the row starts from to what the row makes of it.
+/// Sends the line of `row`, which leads from whatever frame the row starts from to what the row makes of it,
+/// and is a step of a painter if the row paints.
 pub(crate) fn send_row<C: Certificate, W: Wire>(
     checked: &C,
     wire: &mut W,
@@ -19,7 +21,7 @@ pub(crate) fn send_row<C: Certificate, W: Wire>(
     requires checked { IsChecked (C.table checked.now) }
     requires widens { has (C.table checked.now) (widening (C.table checked.now)) ≡ true }
     requires there { has (C.table checked.now) row ≡ true }
-    ensures step { (n : ℕ) (f h : Frame) (b : Belief) → limit_of (C.table checked.now) row ≤ n
+    ensures step { (n : ℕ) (f h : Frame) (b : Belief) → paints row ≡ true → limit_of (C.table checked.now) row ≤ n
         → Reframes (C.table checked.now) row f h b
         → Moves W.went W.failures wire.old wire.new result (C.table checked.now) n f h b }
 {

@@ -1,7 +1,8 @@
 use Rattle.std.proofs.Common.{◌≡◌, ◌+◌, ◌-◌, ◌*◌, ◌∙◌, ℕ, None, arith}
 use Rattle.std.proofs.lemmas.Result.{err_from_is_err_and}
 use Rattle.cur_wires.proofs.Stops.{steps_fail, steps_next, steps_wider}
-use Rattle.ti_conforms.specs.Certified.{IsPiece, IsLost, cell_limit}
+use Rattle.ti_conforms.specs.Certified.{IsLost, cell_limit}
+use Rattle.cur_looks.specs.Pieces.{IsPaint}
 use Rattle.cur_looks.specs.Inks.{plain_brush}
 use Rattle.cur_looks.specs.Beliefs.{Agrees, brush_limit}
 use Rattle.cur_looks.specs.declared.beliefs.Belief.{Belief}
@@ -17,7 +18,7 @@ returns-in_err-brush_as-clause-step g c h =
     let t = g.C.Certificate.table c.args.checked.now in
     let b : Belief = c.args.belief.now in
     let a : Belief = c.brush_as.new.belief in
-    rw e.1 (steps_fail g.W.Wire.went g.W.Wire.failures c.args.wire.now c.brush_as.new.wire _ _ (IsPiece t) (brush_limit t) ((c.args.scroll.count + 4) * cell_limit t) (IsLost t)
+    rw e.1 (steps_fail g.W.Wire.went g.W.Wire.failures c.args.wire.now c.brush_as.new.wire _ _ (IsPaint t) (brush_limit t) ((c.args.scroll.count + 4) * cell_limit t) (IsLost t)
     (Agrees t h b) (Agrees t h a) (Agrees t (shifted c.args.scroll h) a) (omega (arith, scroll_enough t c.args.scroll.count)) (c.in_err-brush_as.ensures.step h))
 
 pub returns-clause-step : goal.returns-clause-step
@@ -32,9 +33,9 @@ returns-clause-step g c h =
     let f : Frame = record { top = 0; bottom = t.rows - 1; cells = h; place = None } in
     let plain : a.brush ≡ plain_brush = c.in_ok-brush_as.ensures.brush ∙ c.plain.ensures.value in
     let n : ℕ = (x.count + 2) * t.longest.scroll + 2 * t.longest.cup in
-    steps_next g.W.Wire.went g.W.Wire.failures g.met.W.Wire.lawful c.args.wire.now c.brush_as.new.wire c.scroll_region.new.wire _ c.scroll_region.result (IsPiece t) (brush_limit t) n ((x.count + 4) * cell_limit t) (IsLost t)
+    steps_next g.W.Wire.went g.W.Wire.failures g.met.W.Wire.lawful c.args.wire.now c.brush_as.new.wire c.scroll_region.new.wire _ c.scroll_region.result (IsPaint t) (brush_limit t) n ((x.count + 4) * cell_limit t) (IsLost t)
     (Agrees t h b) (Agrees t h a) (Agrees t (shifted x h) z) (scroll_enough t x.count) (c.in_ok-brush_as.ensures.step h)
-    (steps_wider g.W.Wire.went g.W.Wire.failures c.brush_as.new.wire c.scroll_region.new.wire c.scroll_region.result (IsPiece t) n n (IsLost t) (Framed t f z) (Framed t (whole t (shifted x h) row) z) (Agrees t h a) (Agrees t (shifted x h) z)
+    (steps_wider g.W.Wire.went g.W.Wire.failures c.brush_as.new.wire c.scroll_region.new.wire c.scroll_region.result (IsPaint t) n n (IsLost t) (Framed t f z) (Framed t (whole t (shifted x h) row) z) (Agrees t h a) (Agrees t (shifted x h) z)
     (omega arith) (entered t h a p plain) (left t (shifted x h) a row (omega (arith, c.rows-rows.ensures.checked.size)) plain) (c.scroll_region.ensures.step f z))
 
 pub returns-then-is_whole-clause-step : goal.returns-then-is_whole-clause-step
@@ -43,5 +44,5 @@ returns-then-is_whole-clause-step g c h =
     let b : Belief = c.args.belief.now in
     let a : Belief = c.brush_as.new.belief in
     let x = c.args.scroll in
-    steps_next g.W.Wire.went g.W.Wire.failures g.met.W.Wire.lawful c.args.wire.now c.brush_as.new.wire c.scroll_screen.new.wire _ c.scroll_screen.result (IsPiece t) (brush_limit t) (t.longest.cup + x.count * t.longest.scroll)
+    steps_next g.W.Wire.went g.W.Wire.failures g.met.W.Wire.lawful c.args.wire.now c.brush_as.new.wire c.scroll_screen.new.wire _ c.scroll_screen.result (IsPaint t) (brush_limit t) (t.longest.cup + x.count * t.longest.scroll)
     ((x.count + 4) * cell_limit t) (IsLost t) (Agrees t h b) (Agrees t h a) (Agrees t (shifted x h) c.scroll_screen.new.belief) (screen_enough t x.count) (c.in_ok-brush_as.ensures.step h) (c.scroll_screen.ensures.step h)
