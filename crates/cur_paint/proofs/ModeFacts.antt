@@ -1,20 +1,22 @@
--- The cursor's mode, as the last thing but its place that is set.
-use Rattle.std.proofs.Common.{ℕ, ◌+◌, ◌*◌, ◌≤◌, Bool, true, false, List, [], ◌++◌, Option, Some, None, Result, Ok, Err, sym, ap, ◌∙◌, arith, append_assoc, if◌then◌else◌}
+-- The cursor's mode, as the last thing but its place that is set, and what paints before and after that.
+use Rattle.std.proofs.Common.{◌≡◌, ℕ, ◌+◌, ◌*◌, ◌≤◌, Bool, true, false, List, [], ◌++◌, Option, Some, None, Result, Ok, Err, refl, sym, ap, subst, ◌∙◌, arith, append_assoc, if◌then◌else◌}
 use Rattle.std.proofs.lemmas.List.{append-nil}
-use Rattle.std.specs.Prelude.{OnOk}
+use Rattle.std.specs.List.{concat}
 use Rattle.vt_term.specs.Screen.{State}
 use Rattle.cur_wires.specs.Wire.{IsWire}
 use Rattle.cur_wires.specs.Steps.{Spells, Steps, then_kind}
-use Rattle.cur_wires.proofs.Leads.{leads_then, leads_wider}
+use Rattle.cur_wires.specs.Leads.{Leads}
+use Rattle.cur_wires.proofs.Leads.{all_append, concat-append, leads_then, leads_wider}
 use Rattle.cur_wires.proofs.Paints.{sends_then}
-use Rattle.cur_wires.proofs.Stops.{on_ok_map}
-use Rattle.ti_conforms.specs.Certified.{Table, IsLost, IsPiece}
+use Rattle.cur_wires.proofs.Stops.{leads_each}
+use Rattle.ti_conforms.specs.Certified.{Table, IsLost, IsPiece, Line, Character}
+use Rattle.cur_looks.specs.Pieces.{IsPaint, Stroke, Printed}
 use Rattle.cur_looks.specs.Beliefs.{mode_text, same_mode, setting_text}
 use Rattle.cur_looks.specs.declared.beliefs.Mode.{Mode}
 use Rattle.cur_looks.specs.declared.beliefs.Place.{Place}
 use Rattle.cur_looks.proofs.Answers.{at_most, moves_few}
 use Rattle.cur_paint.specs.Limits.{last_move, seen_at}
-use Rattle.cur_paint.specs.Modes.{IsNearEnd, SetsMode, move_limit}
+use Rattle.cur_paint.specs.Modes.{IsNearEnd, IsPainted, OnlyPaints, OnlyPaintsSoFar, OnlyPaintsBy, SetsMode, move_limit}
 use Rattle.cur_paint.specs.Scenes.{Sets}
 
 -- more in front
@@ -39,13 +41,102 @@ pub move_short : (t : Table) (now : Place) (cursor : Option Place) → last_move
 move_short t now None = omega arith
 move_short t now (Some p) = at_most (last_move t.cols now (Some p)) t.longest.cup (moves_few (seen_at t.cols now) p.row p.col)
 
-always : {T E : Type 0} (r : Result T E) (A : Type 0) → A → OnOk r A
-always (Ok x) A a = a
-always (Err e) A a = tt
+-- ---- what paints
+
+pub paint_piece : (t : Table) (x : List ℕ) → IsPaint t x → IsPiece t x
+paint_piece t x (Stroke row paint is) = Line row is
+paint_piece t x (Printed b printed is) = Character b printed is
+
+pub painted : (t : Table) (n : ℕ) (D A B : State → Type 0) (bytes : List ℕ) → Leads (IsPaint t) n D A bytes B → IsPainted t bytes
+painted t n D A B bytes h = record { pieces = h.pieces; made = h.made; each = h.each }
+
+pub painted_more : (t : Table) (x y : List ℕ) → IsPainted t x → IsPainted t y → IsPainted t (x ++ y)
+painted_more t x y h k = record {
+  pieces = h.pieces ++ k.pieces;
+  made = ap (λ (l : List ℕ). l ++ y) h.made ∙ ap (λ (l : List ℕ). concat h.pieces ++ l) k.made ∙ sym (concat-append h.pieces k.pieces);
+  each = all_append (IsPaint t) h.pieces k.pieces h.each k.each;
+}
+
+painted_none : (t : Table) → IsPainted t []
+painted_none t = record { pieces = []; made = refl; each = tt }
+
+-- ---- nothing goes out that wasn't asked for
+
+-- the mode's strings are near the end
+pub quiet_sets : (t : Table) (first : List ℕ) (now : Option Mode) (cursor : Option Place) (m : Mode) (bytes : List ℕ) → OnlyPaints t first now cursor m bytes → SetsMode t now cursor m bytes
+quiet_sets t first now cursor m bytes h = record { front = first ++ h.front; back = h.back; parts = h.parts ∙ sym (append_assoc first h.front (mode_text t now m ++ h.back)); short = h.short }
+
+-- all of it is a front of it
+quiets_all : {T E : Type 0} (answer : Result T E) (t : Table) (first : List ℕ) (now : Option Mode) (cursor : Option Place) (m : Mode) (bytes : List ℕ) → OnlyPaints t first now cursor m bytes → OnlyPaintsBy answer t first now cursor m bytes
+quiets_all (Ok x) t first now cursor m bytes h = h
+quiets_all (Err e) t first now cursor m bytes h = record { more = []; quiet = subst (OnlyPaints t first now cursor m) (sym (append-nil bytes)) h }
+
+-- from texts to their fronts
+lifted : {T E : Type 0} (answer : Result T E) (t u : Table) (first other : List ℕ) (now : Option Mode) (cursor : Option Place) (m : Mode) (x bytes : List ℕ)
+    → ((l : List ℕ) → OnlyPaints t first now cursor m l → OnlyPaints t other now cursor m (x ++ l)) → OnlyPaintsBy answer t first now cursor m bytes → OnlyPaintsBy answer t other now cursor m (x ++ bytes)
+lifted (Ok v) t u first other now cursor m x bytes f h = f bytes h
+lifted (Err e) t u first other now cursor m x bytes f h = record { more = h.more; quiet = subst (OnlyPaints t other now cursor m) (sym (append_assoc x bytes h.more)) (f (bytes ++ h.more) h.quiet) }
+
+-- paint in front
+pub quiets_more : {T E : Type 0} (answer : Result T E) (t : Table) (now : Option Mode) (cursor : Option Place) (m : Mode) (x bytes : List ℕ) → IsPainted t x → OnlyPaintsBy answer t [] now cursor m bytes → OnlyPaintsBy answer t [] now cursor m (x ++ bytes)
+quiets_more answer t now cursor m x bytes p = lifted answer t t [] [] now cursor m x bytes (λ l h. record {
+  front = x ++ h.front;
+  back = h.back;
+  parts = ap (λ (y : List ℕ). x ++ y) h.parts ∙ sym (append_assoc x h.front (mode_text t now m ++ h.back));
+  before = painted_more t x h.front p h.before;
+  after = h.after;
+  short = h.short;
+})
+
+-- what it begins with in front
+pub quiets_first : {T E : Type 0} (answer : Result T E) (t : Table) (first : List ℕ) (now : Option Mode) (cursor : Option Place) (m : Mode) (bytes : List ℕ) → OnlyPaintsBy answer t [] now cursor m bytes → OnlyPaintsBy answer t first now cursor m (first ++ bytes)
+quiets_first answer t first now cursor m bytes = lifted answer t t [] first now cursor m first bytes (λ l h. record {
+  front = h.front;
+  back = h.back;
+  parts = ap (λ (y : List ℕ). first ++ y) h.parts;
+  before = h.before;
+  after = h.after;
+  short = h.short;
+})
+
+-- what it begins with paints
+joined : (t : Table) (first : List ℕ) (now : Option Mode) (cursor : Option Place) (m : Mode) (bytes : List ℕ) → IsPainted t first → OnlyPaints t first now cursor m bytes → OnlyPaints t [] now cursor m bytes
+joined t first now cursor m bytes p h = record {
+  front = first ++ h.front;
+  back = h.back;
+  parts = h.parts ∙ sym (append_assoc first h.front (mode_text t now m ++ h.back));
+  before = painted_more t first h.front p h.before;
+  after = h.after;
+  short = h.short;
+}
+
+pub quiets_joined : {T E : Type 0} (answer : Result T E) (t : Table) (first : List ℕ) (now : Option Mode) (cursor : Option Place) (m : Mode) (bytes : List ℕ) → IsPainted t first → OnlyPaintsBy answer t first now cursor m bytes → OnlyPaintsBy answer t [] now cursor m bytes
+quiets_joined (Ok v) t first now cursor m bytes p h = joined t first now cursor m bytes p h
+quiets_joined (Err e) t first now cursor m bytes p h = record { more = h.more; quiet = joined t first now cursor m (bytes ++ h.more) p h.quiet }
+
+-- the mode's strings haven't begun
+unbegun : (t : Table) (first : List ℕ) (now : Option Mode) (cursor : Option Place) (m : Mode) (x : List ℕ) → IsPainted t x → OnlyPaintsSoFar t first now cursor m (first ++ x)
+unbegun t first now cursor m x p = record {
+  more = mode_text t now m;
+  quiet = record {
+    front = x;
+    back = [];
+    parts = append_assoc first x (mode_text t now m) ∙ ap (λ (l : List ℕ). first ++ (x ++ l)) (sym (append-nil (mode_text t now m)));
+    before = p;
+    after = painted_none t;
+    short = omega arith;
+  };
+}
+
+-- nothing but what it begins with
+pub only_first : (t : Table) (first : List ℕ) (now : Option Mode) (cursor : Option Place) (m : Mode) → OnlyPaintsSoFar t first now cursor m first
+only_first t first now cursor m = subst (OnlyPaintsSoFar t first now cursor m) (append-nil first) (unbegun t first now cursor m [] (painted_none t))
+
+-- ---- the steps of a refresh
 
 -- the mode's strings, and then the cursor's move
 pub sets_last : {W T E U F : Type 0} (went : W → W → List ℕ → Type 0) (failures : W → ℕ) → IsWire went failures → (a m z : W) (v : U) (answer : Result T E) (t : Table) (j k limit : ℕ) (now : Option Mode) (cursor : Option Place) (mode : Mode) (A B C : State → Type 0)
-    → j + k ≤ limit → k ≤ move_limit t cursor → Spells {T = U} {E = F} went failures a m (Ok v) (mode_text t now mode) (IsPiece t) j (IsLost t) A B → Steps went failures m z answer (IsPiece t) k (IsLost t) B C
+    → j + k ≤ limit → k ≤ move_limit t cursor → Spells {T = U} {E = F} went failures a m (Ok v) (mode_text t now mode) (IsPiece t) j (IsLost t) A B → Steps went failures m z answer (IsPaint t) k (IsLost t) B C
     → Sets went failures a z answer t limit now cursor mode A C
 sets_last went failures laws a m z v answer t j k limit now cursor mode A B C le few h steps =
     let D : State → Type 0 = then_kind answer C (IsLost t) in
@@ -53,15 +144,50 @@ sets_last went failures laws a m z v answer t j k limit now cursor mode A B C le
       step = record {
         bytes = h.step.bytes ++ steps.bytes;
         leads = leads_wider (IsPiece t) (j + k) limit (IsLost t) A D A D (h.step.bytes ++ steps.bytes) le (λ s x. x) (λ s x. x)
-            (leads_then (IsPiece t) j k (IsLost t) A B D h.step.bytes steps.bytes h.step.leads steps.leads);
+            (leads_then (IsPiece t) j k (IsLost t) A B D h.step.bytes steps.bytes h.step.leads (leads_each (IsPaint t) (IsPiece t) k (IsLost t) B D steps.bytes (paint_piece t) steps.leads));
         sends = sends_then went failures laws a m z h.step.bytes steps.bytes answer h.step.sends steps.sends;
       };
-      sets = always answer (SetsMode t now cursor mode (h.step.bytes ++ steps.bytes)) (record { front = []; back = steps.bytes; parts = ap (λ (l : List ℕ). l ++ steps.bytes) h.all; short = omega (arith, few, steps.leads.bound) });
+      quiet = quiets_all answer t [] now cursor mode (h.step.bytes ++ steps.bytes) (record {
+        front = [];
+        back = steps.bytes;
+        parts = ap (λ (l : List ℕ). l ++ steps.bytes) h.all;
+        before = painted_none t;
+        after = painted t k (IsLost t) B D steps.bytes steps.leads;
+        short = omega (arith, few, steps.leads.bound);
+      });
     }
+
+-- the mode's strings were cut short
+pub sets_unfinished : {W T E F : Type 0} (went : W → W → List ℕ → Type 0) (failures : W → ℕ) (a z : W) (v : E) (u : F) (t : Table) (j limit : ℕ) (now : Option Mode) (cursor : Option Place) (mode : Mode) (A B C : State → Type 0)
+    → j ≤ limit → Spells {T = T} {E = E} went failures a z (Err v) (mode_text t now mode) (IsPiece t) j (IsLost t) A B → Sets {T = T} {E = F} went failures a z (Err u) t limit now cursor mode A C
+sets_unfinished went failures a z v u t j limit now cursor mode A B C le h = record {
+  step = record {
+    bytes = h.step.bytes;
+    leads = leads_wider (IsPiece t) j limit (IsLost t) A (IsLost t) A (IsLost t) h.step.bytes le (λ s x. x) (λ s x. x) h.step.leads;
+    sends = h.step.sends;
+  };
+  quiet = record {
+    more = h.all.0;
+    quiet = record { front = []; back = []; parts = sym h.all.1 ∙ sym (append-nil (mode_text t now mode)); before = painted_none t; after = painted_none t; short = omega arith };
+  };
+}
+
+-- what paints before them was cut short
+pub sets_cut : {W T E F : Type 0} (went : W → W → List ℕ → Type 0) (failures : W → ℕ) (a z : W) (v : E) (u : F) (t : Table) (j limit : ℕ) (now : Option Mode) (cursor : Option Place) (mode : Mode) (A B C : State → Type 0)
+    → j ≤ limit → Steps {T = T} {E = E} went failures a z (Err v) (IsPaint t) j (IsLost t) A B → Sets {T = T} {E = F} went failures a z (Err u) t limit now cursor mode A C
+sets_cut went failures a z v u t j limit now cursor mode A B C le h = record {
+  step = record {
+    bytes = h.bytes;
+    leads = leads_wider (IsPiece t) j limit (IsLost t) A (IsLost t) A (IsLost t) h.bytes le (λ s x. x) (λ s x. x)
+        (leads_each (IsPaint t) (IsPiece t) j (IsLost t) A (IsLost t) h.bytes (paint_piece t) h.leads);
+    sends = h.sends;
+  };
+  quiet = unbegun t [] now cursor mode h.bytes (painted t j (IsLost t) A (IsLost t) h.bytes h.leads);
+}
 
 -- other bytes first
 pub sets_after : {W T E U F : Type 0} (went : W → W → List ℕ → Type 0) (failures : W → ℕ) → IsWire went failures → (a m z : W) (v : U) (answer : Result T E) (t : Table) (j k limit : ℕ) (now : Option Mode) (cursor : Option Place) (mode : Mode) (A B C : State → Type 0)
-    → j + k ≤ limit → Steps {T = U} {E = F} went failures a m (Ok v) (IsPiece t) j (IsLost t) A B → Sets went failures m z answer t k now cursor mode B C
+    → j + k ≤ limit → Steps {T = U} {E = F} went failures a m (Ok v) (IsPaint t) j (IsLost t) A B → Sets went failures m z answer t k now cursor mode B C
     → Sets went failures a z answer t limit now cursor mode A C
 sets_after went failures laws a m z v answer t j k limit now cursor mode A B C le h s =
     let D : State → Type 0 = then_kind answer C (IsLost t) in
@@ -69,10 +195,10 @@ sets_after went failures laws a m z v answer t j k limit now cursor mode A B C l
       step = record {
         bytes = h.bytes ++ s.step.bytes;
         leads = leads_wider (IsPiece t) (j + k) limit (IsLost t) A D A D (h.bytes ++ s.step.bytes) le (λ u x. x) (λ u x. x)
-            (leads_then (IsPiece t) j k (IsLost t) A B D h.bytes s.step.bytes h.leads s.step.leads);
+            (leads_then (IsPiece t) j k (IsLost t) A B D h.bytes s.step.bytes (leads_each (IsPaint t) (IsPiece t) j (IsLost t) A B h.bytes (paint_piece t) h.leads) s.step.leads);
         sends = sends_then went failures laws a m z h.bytes s.step.bytes answer h.sends s.step.sends;
       };
-      sets = on_ok_map answer _ _ (near_more (move_limit t cursor) (mode_text t now mode) s.step.bytes h.bytes) s.sets;
+      quiet = quiets_more answer t now cursor mode h.bytes s.step.bytes (painted t j (IsLost t) A B h.bytes h.leads) s.quiet;
     }
 
 -- under a greater limit
@@ -82,5 +208,5 @@ sets_wider went failures a z answer t k limit now cursor mode A B le s =
     let D : State → Type 0 = then_kind answer B (IsLost t) in
     record {
       step = record { bytes = s.step.bytes; leads = leads_wider (IsPiece t) k limit (IsLost t) A D A D s.step.bytes le (λ u x. x) (λ u x. x) s.step.leads; sends = s.step.sends };
-      sets = s.sets;
+      quiet = s.quiet;
     }

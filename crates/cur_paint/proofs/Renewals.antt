@@ -10,27 +10,26 @@ use Rattle.cur_wires.specs.Leads.{Leads}
 use Rattle.cur_wires.specs.Steps.{then_kind}
 use Rattle.cur_wires.proofs.Leads.{leads_then, leads_wider}
 use Rattle.cur_wires.proofs.Paints.{sends_then}
-use Rattle.cur_wires.proofs.Stops.{on_ok_map}
 use Rattle.cur_wires.proofs.Completion.{ends_as}
 use Rattle.ti_rows.specs.declared.rows.Row.TheVariants.{Clear}
 use Rattle.cur_looks.specs.declared.beliefs.Belief.{Belief}
 use Rattle.cur_looks.specs.declared.inks.Ink.{Ink}
-use Rattle.ti_conforms.specs.Certified.{Table, IsLost, IsBlank, IsChecked, IsPiece}
+use Rattle.ti_conforms.specs.Certified.{Table, IsLost, IsBlank, IsChecked, IsPiece, Line, or_nothing}
 use Rattle.cur_looks.specs.Inks.{blank_ink}
-use Rattle.cur_looks.specs.Beliefs.{Agrees, Turns, mode_text}
+use Rattle.cur_looks.specs.Beliefs.{Agrees, Turns}
 use Rattle.cur_looks.specs.declared.beliefs.Mode.{Mode}
 use Rattle.cur_looks.specs.declared.beliefs.Mode.TheVariants.{Normal}
 use Rattle.cur_looks.proofs.Turns.{free_of, by_screen, look_at-drawn, stands_at}
 use Rattle.cur_paint.specs.Cleared.{IsLeft, at_start, cleared}
 use Rattle.cur_paint.specs.Limits.{fresh_limit, IsPlaced, paint_limit}
-use Rattle.cur_paint.specs.Modes.{move_limit}
+use Rattle.cur_paint.specs.Modes.{OnlyPaintsBy}
 use Rattle.cur_paint.specs.Scenes.{Sets}
 use Rattle.cur_paint.specs.Update.{Anew, Draws, IsFresh}
 use Rattle.cur_paint.specs.declared.updates.Wanted.{Wanted}
 use Rattle.cur_paint.specs.declared.updates.Status.{Status}
 use Rattle.cur_paint.specs.declared.updates.Status.TheVariants.{Fresh, Known, Lost}
 use Rattle.cur_looks.proofs.Actions.{line_leads}
-use Rattle.cur_paint.proofs.ModeFacts.{near_more}
+use Rattle.cur_paint.proofs.ModeFacts.{only_first, quiets_first}
 use Rattle.cur_paint.proofs.Reaches.{blank_agrees}
 
 -- the first bytes were cut short
@@ -43,7 +42,7 @@ anew_failed went failures a z v t limit A B C first now w lost le h stops = reco
     sends = stops;
   };
   begins = record { more = []; begins = sym (append-nil first) };
-  sets = tt;
+  quiet = only_first t first now w.cursor w.mode;
 }
 
 -- they went out, and all was painted
@@ -60,7 +59,7 @@ anew_then went failures laws a m z answer t limit A B C first now w k le h sent 
         sends = sends_then went failures laws a m z first steps.bytes answer sent steps.sends;
       };
       begins = record { more = steps.bytes; begins = refl };
-      sets = on_ok_map answer _ _ (near_more (move_limit t w.cursor) (mode_text t now w.mode) steps.bytes first) rest.sets;
+      quiet = quiets_first answer t first now w.cursor w.mode steps.bytes rest.quiet;
     }
 
 pub resync_leads : (t : Table) → IsChecked t → (mode : Option Mode) → Leads (IsPiece t) (length t.resync) (IsLost t) (IsLeft t mode) t.resync (Agrees t (λ i j. blank_ink) (at_start mode))
@@ -94,7 +93,7 @@ all_cleared t g b = record {
 
 pub clear_leads : (t : Table) → IsChecked t → (line : List ℕ) → t.line_of Clear ≡ Some line → (g : ℕ → ℕ → Ink) (b : Belief)
     → Leads (IsPiece t) (length line) (IsLost t) (Agrees t g b) line (Agrees t (cleared b.brush.background) (record b { place = record { row = 0; col = 0 } }))
-clear_leads t checked line is g b = line_leads t checked Clear line is (length line) (omega arith) g (cleared b.brush.background) b (record b { place = record { row = 0; col = 0 } }) (all_cleared t g b)
+clear_leads t checked line is g b = line_leads (IsPiece t) t checked Clear line is (Line Clear is) (length line) (omega arith) g (cleared b.brush.background) b (record b { place = record { row = 0; col = 0 } }) (all_cleared t g b)
 
 pub draws_fresh : {W T E : Type 0} (went : W → W → List ℕ → Type 0) (failures : W → ℕ) (a z : W) (answer : Result T E) (t : Table) (shown g : ℕ → ℕ → Ink) (w : Wanted) (status : Status) (b after : Belief) → status ≡ Fresh
     → Anew went failures a z answer t (fresh_limit t) (IsLeft t (Some Normal)) (Agrees t g after) t.resync (Some Normal) w → OnOk answer (IsPlaced t.cols w.cursor after.place) → OnOk answer (after.mode ≡ Some w.mode) → Draws went failures a z answer t shown g w status b after
@@ -106,7 +105,7 @@ draws_fresh went failures a z answer t shown g w status b after e h there mode =
       begins = h.begins;
       there = there;
       mode = mode;
-      sets = h.sets;
+      quiet = h.quiet;
     })
 
 pub draws_lost : {W T E : Type 0} (went : W → W → List ℕ → Type 0) (failures : W → ℕ) (a z : W) (answer : Result T E) (t : Table) (shown g : ℕ → ℕ → Ink) (w : Wanted) (status : Status) (b after : Belief) → status ≡ Lost
@@ -119,7 +118,7 @@ draws_lost went failures a z answer t shown g w status b after e h there mode =
       begins = h.begins;
       there = there;
       mode = mode;
-      sets = h.sets;
+      quiet = h.quiet;
     })
 
 as_wanted : (w : Wanted) (x : Bool) → w.clear ≡ x → w ≡ record w { clear = x }
@@ -131,7 +130,7 @@ pub draws_known : {W T E : Type 0} (went : W → W → List ℕ → Type 0) (fai
 draws_known went failures a z answer t shown g w status b after e f h there mode =
     let P : Status → Type 0 = λ x. Draws went failures a z answer t shown g w x b after in
     let Q : Wanted → Type 0 = λ x. Draws went failures a z answer t shown g x Known b after in
-    subst P (sym e) (subst Q (sym (as_wanted w false f)) (record { step = h.step; begins = tt; there = there; mode = mode; sets = h.sets }))
+    subst P (sym e) (subst Q (sym (as_wanted w false f)) (record { step = h.step; begins = tt; there = there; mode = mode; quiet = h.quiet }))
 
 pub draws_clear : {W T E : Type 0} (went : W → W → List ℕ → Type 0) (failures : W → ℕ) (a z : W) (answer : Result T E) (t : Table) (shown g : ℕ → ℕ → Ink) (w : Wanted) (status : Status) (b after : Belief) → status ≡ Known → w.clear ≡ true
     → (line : List ℕ) → t.line_of Clear ≡ Some line → (n : ℕ) → n ≤ fresh_limit t → Anew went failures a z answer t n (Agrees t shown b) (Agrees t g after) line b.mode w
@@ -145,5 +144,5 @@ draws_clear went failures a z answer t shown g w status b after e f line is n le
       begins = record { line = line; is = is; begins = h.begins };
       there = there;
       mode = mode;
-      sets = h.sets;
+      quiet = subst (λ (l : List ℕ). OnlyPaintsBy answer t l b.mode w.cursor w.mode h.step.bytes) (sym (ap or_nothing is)) h.quiet;
     }))

@@ -3,7 +3,8 @@ use Rattle.std.proofs.Common.{◌≡◌, ◌+◌, ◌*◌, ◌<◌, ◌≤◌, �
 use Rattle.std.proofs.lemmas.List.{get_or-take}
 use Rattle.cur_wires.specs.Wire.{IsWire}
 use Rattle.cur_wires.proofs.Stops.{steps_next, steps_wider}
-use Rattle.ti_conforms.specs.Certified.{Table, IsPiece, IsLost, cell_limit}
+use Rattle.ti_conforms.specs.Certified.{Table, IsLost, cell_limit}
+use Rattle.cur_looks.specs.Pieces.{IsPaint}
 use Rattle.cur_looks.specs.Inks.{mixed, same}
 use Rattle.cur_looks.specs.Stretches.{AreLike, AreShown}
 use Rattle.cur_looks.specs.declared.inks.Cells.{Cells}
@@ -21,11 +22,11 @@ pub first_then : {W T E U F : Type 0} (went : W → W → List ℕ → Type 0) (
     → Mends went failures a c answer t (span old new row from (1 + n)) (mixed old new row from) (mixed old new row (from + (1 + n))) x z
 first_then went failures laws a b c v answer t old new row from n x y z first more =
     let last = span old new row (from + 1) n * cell_limit t in
-    steps_next went failures laws a b c v answer (IsPiece t)
+    steps_next went failures laws a b c v answer (IsPaint t)
     (differs old new row from * cell_limit t) last (span old new row from (1 + n) * cell_limit t) (IsLost t)
     (Agrees t (mixed old new row from) x) (Agrees t (mixed old new row (from + 1)) y) (Agrees t (mixed old new row (from + (1 + n))) z)
     (sum_limit _ _ _ (cell_limit t) (sym (span_first old new row from n))) first
-    (steps_wider went failures b c answer (IsPiece t) last last (IsLost t)
+    (steps_wider went failures b c answer (IsPaint t) last last (IsLost t)
     (Agrees t (mixed old new row (from + 1)) y) (Agrees t (mixed old new row (from + 1 + n)) z)
     (Agrees t (mixed old new row (from + 1)) y) (Agrees t (mixed old new row (from + (1 + n))) z)
     (omega arith) (λ s h. h) (agrees_at t old new row (from + 1 + n) (from + (1 + n)) z (omega arith)) more)

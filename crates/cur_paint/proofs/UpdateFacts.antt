@@ -11,14 +11,15 @@ use Rattle.ti_conforms.specs.Certified.{Table, IsLost, IsChecked, IsPiece}
 use Rattle.cur_looks.specs.Inks.{CanShow}
 use Rattle.cur_looks.specs.Beliefs.{CanHide, mode_text}
 use Rattle.cur_looks.specs.declared.beliefs.Mode.{Mode}
+use Rattle.cur_looks.specs.declared.beliefs.Place.{Place}
 use Rattle.cur_paint.specs.Limits.{IsWithin}
-use Rattle.cur_paint.specs.Modes.{move_limit, shown_mode}
-use Rattle.cur_paint.specs.Update.{Draws, Shows, Lawful, Begins, BeginsWith, Fits, Refreshed, CutShort}
+use Rattle.cur_paint.specs.Modes.{OnlyPaints, OnlyPaintsSoFar, move_limit, shown_mode}
+use Rattle.cur_paint.specs.Update.{Draws, Shows, Lawful, opening, Begins, BeginsWith, Fits, Refreshed, CutShort}
 use Rattle.cur_paint.specs.declared.updates.Wanted.{Wanted}
 use Rattle.cur_paint.specs.declared.updates.Knowledge.{Knowledge}
 use Rattle.cur_paint.specs.declared.updates.Status.{Status}
 use Rattle.cur_paint.specs.declared.updates.Status.TheVariants.{Fresh, Known, Lost}
-use Rattle.cur_paint.proofs.ModeFacts.{near_more, sets_anyway}
+use Rattle.cur_paint.proofs.ModeFacts.{near_more, quiet_sets, sets_anyway}
 use Rattle.cur_paint.proofs.Reaches.{Completes, anywhere_completes, agrees_shows}
 
 pub refreshed : {W T E : Type 0} (went : W → W → List ℕ → Type 0) (failures : W → ℕ) (a z : W) (v : T) (t : Table) (shown g : ℕ → ℕ → Ink) (w : Wanted) (before : Knowledge) (after : Belief)
@@ -33,8 +34,9 @@ refreshed went failures a z v t shown g w before after d = record {
     each = d.step.leads.each;
     begins = d.begins;
     shows = λ s f. (let e = d.step.leads.ends s f in record { after = e.after; runs = e.runs; there = agrees_shows t g after w d.there d.mode e.after e.there });
-    sets = d.sets;
+    sets = quiet_sets t (opening t before.status w.clear) (shown_mode before.status before.belief.mode) w.cursor w.mode d.step.bytes d.quiet;
   };
+  quiet = d.quiet;
   fits = d.step.leads.ends;
   cut = d.step.leads.cut;
   known = refl;
@@ -66,6 +68,13 @@ completed t A status now bytes front back g w pieces made each begins ends c par
       sets = near_more (move_limit t w.cursor) (mode_text t now w.mode) k.bytes bytes (sets_anyway t now w.cursor w.mode k.bytes c.sets);
     })
 
+-- a front of a front of what is quiet
+front_quiet : (t : Table) (first : List ℕ) (now : Option Mode) (cursor : Option Place) (m : Mode) (bytes front back : List ℕ) → bytes ≡ front ++ back → OnlyPaintsSoFar t first now cursor m bytes → OnlyPaintsSoFar t first now cursor m front
+front_quiet t first now cursor m bytes front back parts h = record {
+  more = back ++ h.more;
+  quiet = subst (OnlyPaints t first now cursor m) (ap (λ (l : List ℕ). l ++ h.more) parts ∙ append_assoc front back h.more) h.quiet;
+}
+
 -- a front of a front
 pub front_of_front : (bytes front back x y : List ℕ) → bytes ≡ front ++ back → front ≡ x ++ y → bytes ≡ x ++ (y ++ back)
 front_of_front bytes front back x y whole part = whole ∙ ap (λ (l : List ℕ). l ++ back) part ∙ append_assoc x y back
@@ -83,6 +92,7 @@ cut_short went failures a z v t shown g w before after checked fit within can d 
       failed = stops.failed;
       bound = omega (arith, d.step.leads.bound, ap length stops.parts, length-append stops.front stops.back);
       lawful = completed t (Fits t shown before.status before.belief) before.status (shown_mode before.status before.belief.mode) d.step.bytes stops.front stops.back g w d.step.leads.pieces d.step.leads.made d.step.leads.each d.begins d.step.leads.ends k stops.parts;
+      quiet = front_quiet t (opening t before.status w.clear) (shown_mode before.status before.belief.mode) w.cursor w.mode d.step.bytes stops.front stops.back stops.parts d.quiet;
       fits = d.step.leads.cut stops.front stops.back stops.parts;
       cut = λ x y e. d.step.leads.cut x (y ++ stops.back) (front_of_front d.step.bytes stops.front stops.back x y stops.parts e);
       lost = refl;

@@ -1,6 +1,8 @@
--- What a refresh sends to show the cursor in the mode that is wanted (X/Open Curses Issue 7, curs_set).
-use Rattle.std.specs.Prelude.{ℕ, ◌≤◌, ◌≡◌, List, ◌++◌, length, Option, Some, None}
+-- What a refresh sends to show the cursor in the mode that is wanted, and beside that (X/Open Curses Issue 7, curs_set).
+use Rattle.std.specs.Prelude.{ℕ, ◌≤◌, ◌≡◌, List, ◌++◌, length, Option, Some, None, Result, Ok, Err}
+use Rattle.std.specs.List.{AllByRecursion, concat}
 use Rattle.ti_conforms.specs.Certified.{Table}
+use Rattle.cur_looks.specs.Pieces.{IsPaint}
 use Rattle.cur_looks.specs.Beliefs.{mode_text}
 use Rattle.cur_looks.specs.declared.beliefs.Mode.{Mode}
 use Rattle.cur_looks.specs.declared.beliefs.Mode.TheVariants.{Normal}
@@ -31,3 +33,36 @@ pub record IsNearEnd (limit : ℕ) (text bytes : List ℕ) : Type 0 where
 -- shown so (now), and after them no more than the move to the cursor's place
 abbrev pub SetsMode : Table → Option Mode → Option Place → Mode → List ℕ → Type 0
 SetsMode t now cursor m bytes = IsNearEnd (move_limit t cursor) (mode_text t now m) bytes
+
+-- characters and the lines of rows that paint, one after another
+pub record IsPainted (t : Table) (bytes : List ℕ) : Type 0 where
+  pub pieces : List (List ℕ)
+  pub made : bytes ≡ concat pieces
+  pub each : AllByRecursion (IsPaint t) pieces
+
+-- After the bytes that it begins with (first), a text paints, then shows the cursor in its mode by these strings, and
+-- then paints by at most so many bytes.
+pub record PaintsAround (t : Table) (limit : ℕ) (first strings bytes : List ℕ) : Type 0 where
+  pub front : List ℕ
+  pub back : List ℕ
+  pub parts : bytes ≡ first ++ (front ++ (strings ++ back))
+  pub before : IsPainted t front
+  pub after : IsPainted t back
+  pub short : length back ≤ limit
+
+-- Nothing goes out that wasn't asked for: after what a refresh begins with, it paints, and the strings that show the
+-- cursor in the mode that is wanted go out once, none if it is known to be shown so (now).
+abbrev pub OnlyPaints : Table → List ℕ → Option Mode → Option Place → Mode → List ℕ → Type 0
+OnlyPaints t first now cursor m bytes = PaintsAround t (move_limit t cursor) first (mode_text t now m) bytes
+
+-- a front of such a text
+pub record OnlyPaintsSoFar (t : Table) (first : List ℕ) (now : Option Mode) (cursor : Option Place) (m : Mode)
+    (bytes : List ℕ) : Type 0 where
+  pub more : List ℕ
+  pub quiet : OnlyPaints t first now cursor m (bytes ++ more)
+
+-- such a text, or a front of it where the wire failed
+abbrev pub OnlyPaintsBy : {T E : Type 0} → Result T E → Table → List ℕ → Option Mode → Option Place → Mode → List ℕ
+    → Type 0
+OnlyPaintsBy (Ok x) t first now cursor m bytes = OnlyPaints t first now cursor m bytes
+OnlyPaintsBy (Err e) t first now cursor m bytes = OnlyPaintsSoFar t first now cursor m bytes

@@ -7,14 +7,14 @@ use Rattle.vt_term.specs.Ends.{Ends}
 use Rattle.cur_wires.specs.Steps.{Steps}
 use Rattle.cur_wires.specs.Wire.{Rose}
 use Rattle.ti_rows.specs.declared.rows.Row.TheVariants.{Clear}
-use Rattle.ti_conforms.specs.Certified.{Table, IsLost, IsWhole, IsPiece}
+use Rattle.ti_conforms.specs.Certified.{Table, IsLost, IsWhole, IsPiece, text_of}
 use Rattle.cur_looks.specs.Inks.{look_of}
 use Rattle.cur_looks.specs.Beliefs.{Agrees, is_shown}
 use Rattle.cur_looks.specs.declared.beliefs.Belief.{Belief}
 use Rattle.cur_looks.specs.declared.beliefs.Mode.{Mode}
 use Rattle.cur_looks.specs.declared.inks.Ink.{Ink}
 use Rattle.cur_paint.specs.Limits.{paint_limit, fresh_limit, IsCursor, IsPlaced}
-use Rattle.cur_paint.specs.Modes.{SetsMode, shown_mode}
+use Rattle.cur_paint.specs.Modes.{OnlyPaints, OnlyPaintsSoFar, OnlyPaintsBy, SetsMode, shown_mode}
 use Rattle.cur_paint.specs.declared.updates.Wanted.{Wanted}
 use Rattle.cur_paint.specs.declared.updates.Knowledge.{Knowledge}
 use Rattle.cur_paint.specs.declared.updates.Status.{Status}
@@ -57,6 +57,12 @@ Begins t Known true bytes = BeginsClear t bytes
 Begins t Known false bytes = Unit {0}
 Begins t _ clear bytes = BeginsWith t.resync bytes
 
+-- what a refresh begins with
+abbrev pub opening : Table → Status → Bool → List ℕ
+opening t Known true = text_of t Clear
+opening t Known false = []
+opening t _ clear = t.resync
+
 -- Characters and lines that begin so, and lead each state of the kind to one that shows the screen. Where the cursor
 -- isn't known to be shown in its mode (now), the strings for that are among them.
 pub record Lawful (t : Table) (kind : State → Type 0) (status : Status) (now : Option Mode) (bytes : List ℕ)
@@ -81,7 +87,7 @@ pub record Draws {W T E : Type 0} (went : W → W → List ℕ → Type 0) (fail
   pub begins : Begins t status w.clear step.bytes
   pub there : OnOk answer (IsPlaced t.cols w.cursor after.place)
   pub mode : OnOk answer (after.mode ≡ Some w.mode)
-  pub sets : OnOk answer (SetsMode t (shown_mode status b.mode) w.cursor w.mode step.bytes)
+  pub quiet : OnlyPaintsBy answer t (opening t status w.clear) (shown_mode status b.mode) w.cursor w.mode step.bytes
 
 -- the same from one kind of states, with the most that goes out, what it begins with, and the mode in which the cursor
 -- is known to be shown before
@@ -90,10 +96,10 @@ pub record Anew {W T E : Type 0} (went : W → W → List ℕ → Type 0) (failu
     (now : Option Mode) (w : Wanted) : Type 0 where
   pub step : Steps went failures old new answer (IsPiece t) limit (IsLost t) before after
   pub begins : BeginsWith first step.bytes
-  pub sets : OnOk answer (SetsMode t now w.cursor w.mode step.bytes)
+  pub quiet : OnlyPaintsBy answer t first now w.cursor w.mode step.bytes
 
 -- A refresh that was done: every state that fits before, run over what went out, shows the screen and fits after. The
--- bytes are lawful and keep the bound.
+-- bytes are lawful, send nothing that wasn't asked for, and keep the bound.
 pub record Refreshed {W : Type 0} (went : W → W → List ℕ → Type 0) (old new : W) (t : Table) (shown g : ℕ → ℕ → Ink)
     (w : Wanted) (before after : Knowledge) : Type 0 where
   pub bytes : List ℕ
@@ -101,6 +107,8 @@ pub record Refreshed {W : Type 0} (went : W → W → List ℕ → Type 0) (old 
   pub bound : length bytes ≤ refresh_limit t shown g before.status before.belief w
   pub lawful : Lawful t (Fits t shown before.status before.belief) before.status
       (shown_mode before.status before.belief.mode) bytes g w
+  pub quiet : OnlyPaints t (opening t before.status w.clear) (shown_mode before.status before.belief.mode) w.cursor w.mode
+      bytes
   pub fits : (s : State) → Fits t shown before.status before.belief s → Ends s bytes (Fits t g Known after.belief)
   -- a front of them leads to a state that fits a lost session
   pub cut : (front back : List ℕ) → bytes ≡ front ++ back → (s : State) → Fits t shown before.status before.belief s
@@ -120,6 +128,8 @@ pub record CutShort {W : Type 0} (went : W → W → List ℕ → Type 0) (failu
   pub bound : length front ≤ refresh_limit t shown g before.status before.belief w
   pub lawful : Lawful t (Fits t shown before.status before.belief) before.status
       (shown_mode before.status before.belief.mode) (front ++ back) g w
+  pub quiet : OnlyPaintsSoFar t (opening t before.status w.clear) (shown_mode before.status before.belief.mode) w.cursor
+      w.mode front
   pub fits : (s : State) → Fits t shown before.status before.belief s → Ends s front (IsLost t)
   -- and so does a front of this front
   pub cut : (x y : List ℕ) → front ≡ x ++ y → (s : State) → Fits t shown before.status before.belief s

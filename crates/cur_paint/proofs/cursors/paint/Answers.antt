@@ -1,7 +1,6 @@
 use Rattle.std.proofs.Common.{◌*◌, Option, subst}
 use Rattle.std.proofs.lemmas.Result.{err_from_is_err_and}
-use Rattle.cur_wires.proofs.Stops.{steps_fail}
-use Rattle.ti_conforms.specs.Certified.{IsPiece, IsLost, cell_limit}
+use Rattle.ti_conforms.specs.Certified.{cell_limit}
 use Rattle.cur_looks.specs.Beliefs.{Agrees}
 use Rattle.cur_looks.specs.declared.beliefs.Belief.{Belief}
 use Rattle.cur_looks.specs.declared.beliefs.Mode.{Mode}
@@ -9,7 +8,7 @@ use Rattle.cur_paint.specs.Differ.{all_differ}
 use Rattle.cur_paint.specs.Limits.{cursor_limit, paint_limit}
 use Rattle.cur_paint.specs.Scenes.{Sets}
 use Rattle.cur_paint.proofs.Bounds.{limit_sum, limit_more}
-use Rattle.cur_paint.proofs.ModeFacts.{sets_after}
+use Rattle.cur_paint.proofs.ModeFacts.{sets_after, sets_cut}
 use Rattle.cur_paint.proofs.cursors.paint.Goals as goal
 
 pub returns-in_err-mend_screen-clause-step : goal.returns-in_err-mend_screen-clause-step
@@ -19,11 +18,8 @@ returns-in_err-mend_screen-clause-step g c =
     let b = c.args.belief.now in
     let old = g.O.Picture.cells c.args.screens.now.old.now in
     let new = g.N.Picture.cells c.args.screens.now.new.now in
-    rw e.1 (record {
-      step = steps_fail g.W.Wire.went g.W.Wire.failures c.args.wire.now c.mend_screen.new.wire _ _ (IsPiece t) (all_differ old new t.cols t.rows * cell_limit t) (paint_limit t old new b c.args.wanted.cursor c.args.wanted.mode) (IsLost t)
-          (Agrees t old b) (Agrees t new c.mend_screen.new.belief) (Agrees t new c.mend_screen.new.belief) (limit_more t old new b c.args.wanted.cursor c.args.wanted.mode) c.in_err-mend_screen.ensures.step;
-      sets = tt;
-    })
+    rw e.1 (sets_cut g.W.Wire.went g.W.Wire.failures c.args.wire.now c.mend_screen.new.wire _ _ t (all_differ old new t.cols t.rows * cell_limit t) (paint_limit t old new b c.args.wanted.cursor c.args.wanted.mode) b.mode c.args.wanted.cursor c.args.wanted.mode
+    (Agrees t old b) (Agrees t new c.mend_screen.new.belief) (Agrees t new c.mend_screen.new.belief) (limit_more t old new b c.args.wanted.cursor c.args.wanted.mode) c.in_err-mend_screen.ensures.step)
 
 pub returns-clause-step : goal.returns-clause-step
 returns-clause-step g c =

@@ -1,6 +1,7 @@
 use Rattle.std.proofs.Common.{◌*◌, Some, refl, ap, arith}
 use Rattle.cur_wires.proofs.Stops.{on_ok_map, steps_none, steps_wider}
-use Rattle.ti_conforms.specs.Certified.{IsPiece, IsLost}
+use Rattle.ti_conforms.specs.Certified.{IsLost}
+use Rattle.cur_looks.specs.Pieces.{IsPaint}
 use Rattle.cur_looks.specs.Beliefs.{Agrees, moves}
 use Rattle.cur_looks.specs.declared.beliefs.Belief.{Belief}
 use Rattle.cur_looks.proofs.Actions.{agrees_lost}
@@ -14,14 +15,14 @@ returns-in_default-clause-step g c =
     let h = g.N.Picture.cells c.args.screens.now.new.now in
     let t = g.C.Certificate.table c.args.screens.now.checked.now in
     let b = c.args.belief.now in
-    steps_none g.W.Wire.went g.W.Wire.failures g.met.W.Wire.lawful c.args.wire.now tt (IsPiece t) _ (IsLost t) (Agrees t h b) (λ s x. x.ready.rest) (agrees_lost t c.requires.scene.checked h b)
+    steps_none g.W.Wire.went g.W.Wire.failures g.met.W.Wire.lawful c.args.wire.now tt (IsPaint t) _ (IsLost t) (Agrees t h b) (λ s x. x.ready.rest) (agrees_lost t c.requires.scene.checked h b)
 
 pub returns-then-is_seen-clause-step : goal.returns-then-is_seen-clause-step
 returns-then-is_seen-clause-step g c =
     let h = g.N.Picture.cells c.args.screens.now.new.now in
     let t = g.C.Certificate.table c.args.screens.now.checked.now in
     let b = c.args.belief.now in
-    steps_none g.W.Wire.went g.W.Wire.failures g.met.W.Wire.lawful c.args.wire.now tt (IsPiece t) _ (IsLost t) (Agrees t h b) (λ s x. x.ready.rest) (agrees_lost t c.requires.scene.checked h b)
+    steps_none g.W.Wire.went g.W.Wire.failures g.met.W.Wire.lawful c.args.wire.now tt (IsPaint t) _ (IsLost t) (Agrees t h b) (λ s x. x.ready.rest) (agrees_lost t c.requires.scene.checked h b)
 
 pub returns-clause-step : goal.returns-clause-step
 returns-clause-step g c =
@@ -31,7 +32,7 @@ returns-clause-step g c =
     let z = c.reach.new.belief in
     let at = c.in-Some.at in
     let seen = rw c.cols.ensures.value at c.is_seen.ensures in
-    rw c.in-Some.is (steps_wider g.W.Wire.went g.W.Wire.failures c.args.wire.now c.reach.new.wire c.reach.result (IsPiece t) (moves b.place at.row at.col * t.longest.cup) (last_move t.cols b.place (Some at) * t.longest.cup) (IsLost t) (Agrees t h b) (Agrees t h z) (Agrees t h b) (Agrees t h z)
+    rw c.in-Some.is (steps_wider g.W.Wire.went g.W.Wire.failures c.args.wire.now c.reach.new.wire c.reach.result (IsPaint t) (moves b.place at.row at.col * t.longest.cup) (last_move t.cols b.place (Some at) * t.longest.cup) (IsLost t) (Agrees t h b) (Agrees t h z) (Agrees t h b) (Agrees t h z)
     (omega (arith, at_most _ t.longest.cup (moves_few b.place at.row at.col), once _ t.longest.cup (seen.counted c.if-is_seen.false))) (λ s x. x) (λ s x. x) (c.reach.ensures.step h (λ k lt. refl)))
 
 pub returns-clause-there : goal.returns-clause-there

@@ -1,11 +1,9 @@
 use Rattle.std.proofs.Common.{◌*◌, ap, arith}
 use Rattle.std.proofs.lemmas.Result.{err_from_is_err_and}
-use Rattle.cur_wires.proofs.Stops.{steps_fail}
-use Rattle.ti_conforms.specs.Certified.{IsPiece, IsLost}
 use Rattle.cur_looks.specs.Beliefs.{Agrees, changes, modes_limit}
 use Rattle.cur_looks.specs.declared.beliefs.Belief.{Belief}
 use Rattle.cur_paint.specs.Limits.{last_move, cursor_limit}
-use Rattle.cur_paint.proofs.ModeFacts.{move_short, sets_last}
+use Rattle.cur_paint.proofs.ModeFacts.{move_short, sets_last, sets_unfinished}
 use Rattle.cur_paint.proofs.cursors.set_cursor.Goals as goal
 
 pub returns-in_err-show_as-clause-step : goal.returns-in_err-show_as-clause-step
@@ -14,11 +12,8 @@ returns-in_err-show_as-clause-step g c =
     let e = err_from_is_err_and c.from_residual.result c.from_residual.ensures.1 in
     let t = g.C.Certificate.table c.args.screens.now.checked.now in
     let b = c.args.belief.now in
-    rw e.1 (record {
-      step = steps_fail g.W.Wire.went g.W.Wire.failures c.args.wire.now c.show_as.new.wire _ _ (IsPiece t) (changes b.mode c.args.wanted.mode * modes_limit t) (cursor_limit t b c.args.wanted.cursor c.args.wanted.mode) (IsLost t)
-          (Agrees t h b) (Agrees t h c.show_as.new.belief) (Agrees t h c.show_as.new.belief) (omega arith) (c.in_err-show_as.ensures.step h).step;
-      sets = tt;
-    })
+    rw e.1 (sets_unfinished g.W.Wire.went g.W.Wire.failures c.args.wire.now c.show_as.new.wire _ _ t (changes b.mode c.args.wanted.mode * modes_limit t) (cursor_limit t b c.args.wanted.cursor c.args.wanted.mode) b.mode c.args.wanted.cursor c.args.wanted.mode
+    (Agrees t h b) (Agrees t h c.show_as.new.belief) (Agrees t h c.show_as.new.belief) (omega arith) (c.in_err-show_as.ensures.step h))
 
 pub returns-clause-step : goal.returns-clause-step
 returns-clause-step g c =

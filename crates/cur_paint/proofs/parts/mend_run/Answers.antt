@@ -3,7 +3,8 @@ use Rattle.cur_looks.specs.Inks.{mixed}
 use Rattle.cur_looks.specs.Erasures.{erased}
 use Rattle.cur_looks.specs.declared.erasures.ErasedPart.TheVariants.{Part}
 use Rattle.cur_paint.specs.Differ.{span}
-use Rattle.ti_conforms.specs.Certified.{IsPiece, IsLost, cell_limit}
+use Rattle.ti_conforms.specs.Certified.{IsLost, cell_limit}
+use Rattle.cur_looks.specs.Pieces.{IsPaint}
 use Rattle.cur_looks.specs.Beliefs.{Agrees}
 use Rattle.cur_wires.proofs.Stops.{steps_wider}
 use Rattle.cur_paint.proofs.Mixtures.{mixed_before, run_done, some_times}
@@ -19,6 +20,6 @@ returns-in-Some-clause-step g c =
     let from = c.args.cells.from in
     let count = c.args.cells.count in
     let some = c.if-not-is_run.ensures.differs refl in
-    steps_wider g.W.Wire.went g.W.Wire.failures c.args.wire.now c.erase_from.new.wire c.erase_from.result (IsPiece t) (cell_limit t) (span old new row from count * cell_limit t) (IsLost t)
+    steps_wider g.W.Wire.went g.W.Wire.failures c.args.wire.now c.erase_from.new.wire c.erase_from.result (IsPaint t) (cell_limit t) (span old new row from count * cell_limit t) (IsLost t)
     (Agrees t (mixed old new row from) b) (Agrees t (erased (Part c.args.cells.count) row from (mixed old new row from)) c.erase_from.new.belief) (Agrees t (mixed old new row from) b) (Agrees t (mixed old new row (from + count)) c.erase_from.new.belief)
     (some_times _ (cell_limit t) some) (λ s x. x) (run_done t old new row from count c.erase_from.new.belief (c.if-not-is_run.ensures.some refl) (c.if-not-is_run.ensures.blank refl)) (c.erase_from.ensures.step (mixed old new row from) (mixed_before old new row from))

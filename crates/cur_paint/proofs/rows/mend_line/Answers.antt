@@ -2,7 +2,8 @@ use Rattle.std.proofs.Common.{◌+◌, ◌-◌, ◌*◌, ◌≤◌, sym, ◌∙�
 use Rattle.std.proofs.lemmas.Result.{err_from_is_err_and}
 use Rattle.cur_looks.specs.Inks.{mixed}
 use Rattle.cur_paint.specs.Differ.{span}
-use Rattle.ti_conforms.specs.Certified.{IsPiece, IsLost, cell_limit}
+use Rattle.ti_conforms.specs.Certified.{IsLost, cell_limit}
+use Rattle.cur_looks.specs.Pieces.{IsPaint}
 use Rattle.cur_looks.specs.Beliefs.{Agrees}
 use Rattle.cur_wires.proofs.Stops.{steps_next, steps_fail, steps_nothing, steps_wider, on_ok_map}
 use Rattle.cur_paint.proofs.Mixtures.{span_parts, span_split, times_grows, sum_limit, front_shown, rest_shown, row_done, agrees_at}
@@ -28,10 +29,10 @@ returns-in_err-mend_parts-clause-step g c =
     let parts = span_split old new row from tail t.cols c.lesser-from.ensures.first within in
     let some = span old new row from (tail - from) * cell_limit t in
     let after = c.mend_parts.new.belief in
-    rw e.1 (steps_fail g.W.Wire.went g.W.Wire.failures c.args.wire.now c.mend_parts.new.wire _ _ (IsPiece t) some (span old new row 0 t.cols * cell_limit t) (IsLost t)
+    rw e.1 (steps_fail g.W.Wire.went g.W.Wire.failures c.args.wire.now c.mend_parts.new.wire _ _ (IsPaint t) some (span old new row 0 t.cols * cell_limit t) (IsLost t)
     (Agrees t (mixed old new row 0) b) (Agrees t (mixed old new row (from + (tail - from))) after) (Agrees t (mixed old new (row + 1) 0) after)
     (times_grows _ _ (cell_limit t) (omega (arith, first, parts)))
-    (steps_wider g.W.Wire.went g.W.Wire.failures c.args.wire.now c.mend_parts.new.wire _ (IsPiece t) some some (IsLost t)
+    (steps_wider g.W.Wire.went g.W.Wire.failures c.args.wire.now c.mend_parts.new.wire _ (IsPaint t) some some (IsLost t)
     (Agrees t (mixed old new row from) b) (Agrees t (mixed old new row (from + (tail - from))) after) (Agrees t (mixed old new row 0) b) (Agrees t (mixed old new row (from + (tail - from))) after)
     (omega arith) (front_shown t old new row from b (λ k lt. c.requires.same.before k (omega (arith, lt, c.lesser-from.ensures.second)))) (λ s x. x) c.in_err-mend_parts.ensures.step))
 
@@ -66,14 +67,14 @@ returns-clause-step g c =
     let all = span old new row from (t.cols - from) * cell_limit t in
     let middle = c.mend_parts.new.belief in
     let after = c.mend_tail.new.belief in
-    steps_wider g.W.Wire.went g.W.Wire.failures c.args.wire.now c.mend_tail.new.wire c.mend_tail.result (IsPiece t) all (span old new row 0 t.cols * cell_limit t) (IsLost t)
+    steps_wider g.W.Wire.went g.W.Wire.failures c.args.wire.now c.mend_tail.new.wire c.mend_tail.result (IsPaint t) all (span old new row 0 t.cols * cell_limit t) (IsLost t)
     (Agrees t (mixed old new row from) b) (Agrees t (mixed old new row t.cols) after) (Agrees t (mixed old new row 0) b) (Agrees t (mixed old new (row + 1) 0) after)
     (times_grows _ _ (cell_limit t) (omega (arith, first))) (front_shown t old new row from b (λ k lt. c.requires.same.before k (omega (arith, lt, c.lesser-from.ensures.second)))) (row_done t old new row after)
-    (steps_next g.W.Wire.went g.W.Wire.failures g.met.W.Wire.lawful c.args.wire.now c.mend_parts.new.wire c.mend_tail.new.wire _ c.mend_tail.result (IsPiece t)
+    (steps_next g.W.Wire.went g.W.Wire.failures g.met.W.Wire.lawful c.args.wire.now c.mend_parts.new.wire c.mend_tail.new.wire _ c.mend_tail.result (IsPaint t)
     some last all (IsLost t)
     (Agrees t (mixed old new row from) b) (Agrees t (mixed old new row (from + (tail - from))) middle) (Agrees t (mixed old new row t.cols) after)
     (sum_limit _ _ _ (cell_limit t) (sym parts)) c.in_ok-mend_parts.ensures.step
-    (steps_wider g.W.Wire.went g.W.Wire.failures c.mend_parts.new.wire c.mend_tail.new.wire c.mend_tail.result (IsPiece t) last last (IsLost t)
+    (steps_wider g.W.Wire.went g.W.Wire.failures c.mend_parts.new.wire c.mend_tail.new.wire c.mend_tail.result (IsPaint t) last last (IsLost t)
     (Agrees t (mixed old new row tail) middle) (Agrees t (mixed old new row t.cols) after)
     (Agrees t (mixed old new row (from + (tail - from))) middle) (Agrees t (mixed old new row t.cols) after)
     (omega arith) (agrees_at t old new row (from + (tail - from)) tail middle (omega (arith, order))) (λ s x. x) c.mend_tail.ensures.step))
@@ -86,6 +87,6 @@ returns-then-columns-clause-step g c =
     let new = g.N.Picture.cells c.args.screens.now.new.now in
     let row = c.args.row in
     let same = all_same old new row c.args.columns.from c.args.columns.end t.cols c.requires.same c.if-columns.true in
-    steps_nothing g.W.Wire.went g.W.Wire.failures g.met.W.Wire.lawful c.args.wire.now tt (IsPiece t) (span old new row 0 t.cols * cell_limit t) (IsLost t)
+    steps_nothing g.W.Wire.went g.W.Wire.failures g.met.W.Wire.lawful c.args.wire.now tt (IsPaint t) (span old new row 0 t.cols * cell_limit t) (IsLost t)
     (Agrees t (mixed old new row 0) b) (Agrees t (mixed old new (row + 1) 0) b) (λ s x. x.ready.rest)
     (λ s x. row_done t old new row b s (rest_shown t old new row 0 b (λ k le lt. same k lt) s x)) (agrees_lost t c.requires.scene.checked (mixed old new row 0) b)

@@ -1,7 +1,6 @@
 use Rattle.std.proofs.Common.{◌+◌, ◌*◌, ◌≤◌, ℕ, Option, arith, subst}
 use Rattle.std.proofs.lemmas.Result.{err_from_is_err_and}
-use Rattle.cur_wires.proofs.Stops.{steps_fail}
-use Rattle.ti_conforms.specs.Certified.{IsPiece, IsLost, cell_limit}
+use Rattle.ti_conforms.specs.Certified.{cell_limit}
 use Rattle.cur_looks.specs.Beliefs.{Agrees}
 use Rattle.cur_looks.specs.declared.beliefs.Belief.{Belief}
 use Rattle.cur_looks.specs.declared.beliefs.Mode.{Mode}
@@ -10,7 +9,7 @@ use Rattle.cur_scrolls.specs.Scrolls.{shifted}
 use Rattle.cur_paint.specs.Limits.{paint_limit}
 use Rattle.cur_paint.specs.Scenes.{Sets}
 use Rattle.cur_paint.proofs.Bounds.{scrolled_enough}
-use Rattle.cur_paint.proofs.ModeFacts.{sets_after}
+use Rattle.cur_paint.proofs.ModeFacts.{sets_after, sets_cut}
 use Rattle.cur_paint.proofs.scrolls.scroll_first.Goals as goal
 
 pub returns-in_err-scroll_lines-clause-step : goal.returns-in_err-scroll_lines-clause-step
@@ -26,11 +25,8 @@ returns-in_err-scroll_lines-clause-step g c =
     let k : ℕ = c.args.scroll.count + 4 in
     let enough : k * cell_limit t + paint_limit t moved new a w.cursor w.mode ≤ paint_limit t old new b w.cursor w.mode =
     scrolled_enough t k moved old new b a w.cursor w.mode (omega arith) c.requires.fewer in
-    rw e.1 (record {
-      step = steps_fail g.W.Wire.went g.W.Wire.failures c.args.wire.now c.scroll_lines.new.wire _ _ (IsPiece t) (k * cell_limit t) (paint_limit t old new b w.cursor w.mode) (IsLost t)
-          (Agrees t old b) (Agrees t moved a) (Agrees t new a) (omega (arith, enough)) (c.in_err-scroll_lines.ensures.step old);
-      sets = tt;
-    })
+    rw e.1 (sets_cut g.W.Wire.went g.W.Wire.failures c.args.wire.now c.scroll_lines.new.wire _ _ t (k * cell_limit t) (paint_limit t old new b w.cursor w.mode) b.mode w.cursor w.mode
+    (Agrees t old b) (Agrees t moved a) (Agrees t new a) (omega (arith, enough)) (c.in_err-scroll_lines.ensures.step old))
 
 pub returns-clause-step : goal.returns-clause-step
 returns-clause-step g c =

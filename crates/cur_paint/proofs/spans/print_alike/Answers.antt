@@ -2,7 +2,8 @@ use Rattle.std.proofs.Common.{◌≡◌, ◌+◌, ◌*◌, ◌≤◌, ℕ, Resul
 use Rattle.cur_looks.specs.Inks.{mixed}
 use Rattle.cur_looks.specs.declared.inks.Ink.{Ink}
 use Rattle.cur_paint.specs.Differ.{span}
-use Rattle.ti_conforms.specs.Certified.{IsPiece, IsLost, cell_limit}
+use Rattle.ti_conforms.specs.Certified.{IsLost, cell_limit}
+use Rattle.cur_looks.specs.Pieces.{IsPaint}
 use Rattle.cur_looks.specs.Beliefs.{Agrees}
 use Rattle.cur_wires.proofs.Stops.{steps_wider}
 use Rattle.cur_paint.proofs.Mixtures.{like_alike}
@@ -41,5 +42,5 @@ returns-then-is_led_on-clause-step g c =
     let count = c.args.cells.count in
     let A = Agrees t (mixed old new row from) b in
     let B = Agrees t (mixed old new row (from + count)) c.print_text.new.belief in
-    steps_wider g.W.Wire.went g.W.Wire.failures c.args.wire.now c.print_text.new.wire c.print_text.result (IsPiece t) count (span old new row from count * cell_limit t) (IsLost t) A B A B
+    steps_wider g.W.Wire.went g.W.Wire.failures c.args.wire.now c.print_text.new.wire c.print_text.result (IsPaint t) count (span old new row from count * cell_limit t) (IsLost t) A B A B
     c.requires.bytes (λ s x. x) (λ s x. x) (c.print_text.ensures.step old)

@@ -1,7 +1,8 @@
 use Rattle.std.proofs.Common.{◌+◌, ◌*◌}
 use Rattle.cur_looks.specs.Inks.{mixed, put_at}
 use Rattle.cur_paint.specs.Differ.{differs}
-use Rattle.ti_conforms.specs.Certified.{IsPiece, IsLost, cell_limit}
+use Rattle.ti_conforms.specs.Certified.{IsLost, cell_limit}
+use Rattle.cur_looks.specs.Pieces.{IsPaint}
 use Rattle.cur_looks.specs.Beliefs.{Agrees}
 use Rattle.cur_wires.proofs.Stops.{steps_wider}
 use Rattle.cur_paint.proofs.Mixtures.{agrees_as, mixed_before, put_new}
@@ -16,7 +17,7 @@ returns-clause-step g c =
     let new = g.N.Picture.cells c.args.screens.now.new.now in
     let row = c.args.row in
     let col = c.args.col in
-    steps_wider g.W.Wire.went g.W.Wire.failures c.args.wire.now c.put_cell.new.wire c.put_cell.result (IsPiece t) (cell_limit t) (differs old new row col * cell_limit t) (IsLost t)
+    steps_wider g.W.Wire.went g.W.Wire.failures c.args.wire.now c.put_cell.new.wire c.put_cell.result (IsPaint t) (cell_limit t) (differs old new row col * cell_limit t) (IsLost t)
     (Agrees t (mixed old new row col) b) (Agrees t (put_at row col c.args.ink (mixed old new row col)) c.put_cell.new.belief)
     (Agrees t (mixed old new row col) b) (Agrees t (mixed old new row (col + 1)) c.put_cell.new.belief)
     (once _ (cell_limit t) c.requires.changed) (λ s x. x)

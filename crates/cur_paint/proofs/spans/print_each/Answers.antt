@@ -2,7 +2,8 @@ use Rattle.std.proofs.Common.{◌≡◌, ◌+◌, ◌*◌, Ok, refl, ◌∙◌, 
 use Rattle.std.proofs.lemmas.Result.{err_from_is_err_and}
 use Rattle.cur_looks.specs.Inks.{mixed}
 use Rattle.cur_paint.specs.Differ.{differs, span}
-use Rattle.ti_conforms.specs.Certified.{IsPiece, IsLost, cell_limit}
+use Rattle.ti_conforms.specs.Certified.{IsLost, cell_limit}
+use Rattle.cur_looks.specs.Pieces.{IsPaint}
 use Rattle.cur_looks.specs.Beliefs.{Agrees}
 use Rattle.cur_wires.proofs.Stops.{steps_nothing, steps_next, steps_fail, steps_wider}
 use Rattle.cur_looks.proofs.Actions.{agrees_lost}
@@ -17,7 +18,7 @@ loop-n-init g c =
     let new = g.N.Picture.cells c.args.screens.now.new.now in
     record {
       idle = λ e. refl;
-      step = steps_nothing g.W.Wire.went g.W.Wire.failures g.met.W.Wire.lawful c.args.wire.now tt (IsPiece t) _ (IsLost t) (Agrees t (mixed old new c.args.cells.row c.args.cells.from) b) (Agrees t (mixed old new c.args.cells.row (c.args.cells.from + 0)) b)
+      step = steps_nothing g.W.Wire.went g.W.Wire.failures g.met.W.Wire.lawful c.args.wire.now tt (IsPaint t) _ (IsLost t) (Agrees t (mixed old new c.args.cells.row c.args.cells.from) b) (Agrees t (mixed old new c.args.cells.row (c.args.cells.from + 0)) b)
           (λ s x. x.ready.rest) (agrees_at t old new c.args.cells.row c.args.cells.from (c.args.cells.from + 0) b (omega arith)) (agrees_lost t c.requires.scene.checked (mixed old new c.args.cells.row c.args.cells.from) b);
       mode = refl;
     }
@@ -35,10 +36,10 @@ loop-n-preserved g c =
     let one : differs old new row (from + n) ≡ 1 = found_different old new row (from + n) (old row (from + n)) c.at-ink.result refl c.at-ink.ensures.value c.if-shows.ensures.value in
     record {
       idle = λ e. absurd (omega (arith, e, more, one));
-      step = steps_wider g.W.Wire.went g.W.Wire.failures c.args.wire.now c.print_cell.new.wire _ (IsPiece t) (span old new row from (n + 1) * cell_limit t) (span old new row from (n + 1) * cell_limit t) (IsLost t)
+      step = steps_wider g.W.Wire.went g.W.Wire.failures c.args.wire.now c.print_cell.new.wire _ (IsPaint t) (span old new row from (n + 1) * cell_limit t) (span old new row from (n + 1) * cell_limit t) (IsLost t)
           (Agrees t (mixed old new row from) b) (Agrees t (mixed old new row (from + n + 1)) c.print_cell.new.belief)
           (Agrees t (mixed old new row from) b) (Agrees t (mixed old new row (from + (n + 1))) c.print_cell.new.belief) (omega arith) (λ s x. x) (agrees_at t old new row (from + n + 1) (from + (n + 1)) c.print_cell.new.belief (omega arith))
-          (steps_next g.W.Wire.went g.W.Wire.failures g.met.W.Wire.lawful c.args.wire.now c.loop-n.wire c.print_cell.new.wire _ (Ok tt) (IsPiece t)
+          (steps_next g.W.Wire.went g.W.Wire.failures g.met.W.Wire.lawful c.args.wire.now c.loop-n.wire c.print_cell.new.wire _ (Ok tt) (IsPaint t)
           (span old new row from n * cell_limit t) (differs old new row (from + n) * cell_limit t) (span old new row from (n + 1) * cell_limit t) (IsLost t)
           (Agrees t (mixed old new row from) b) (Agrees t (mixed old new row (from + n)) c.loop-n.belief) (Agrees t (mixed old new row (from + n + 1)) c.print_cell.new.belief)
           (sum_limit _ _ _ (cell_limit t) more) c.loop-n.invariant.step c.in_ok-print_cell.ensures.step);
@@ -58,7 +59,7 @@ loop-n-preserved-then-shows g c =
     let e = found_same old new row (from + n) (old row (from + n)) c.at-ink.result refl c.at-ink.ensures.value c.if-shows.ensures.value in
     record {
       idle = λ none. c.loop-n.invariant.idle (omega (arith, none, span_more old new row from n));
-      step = steps_wider g.W.Wire.went g.W.Wire.failures c.args.wire.now c.loop-n.wire _ (IsPiece t) (span old new row from n * cell_limit t) (span old new row from (n + 1) * cell_limit t) (IsLost t)
+      step = steps_wider g.W.Wire.went g.W.Wire.failures c.args.wire.now c.loop-n.wire _ (IsPaint t) (span old new row from n * cell_limit t) (span old new row from (n + 1) * cell_limit t) (IsLost t)
           (Agrees t (mixed old new row from) b) (Agrees t (mixed old new row (from + n)) a)
           (Agrees t (mixed old new row from) b) (Agrees t (mixed old new row (from + (n + 1))) a)
           (times_grows _ _ (cell_limit t) (span_grows old new row from n (n + 1) (omega arith))) (λ s x. x)
@@ -84,10 +85,10 @@ returns-in_err-print_cell-clause-step g c =
     let row = c.args.cells.row in
     let from = c.args.cells.from in
     let n = c.loop-n.n in
-    rw e.1 (steps_fail g.W.Wire.went g.W.Wire.failures c.args.wire.now c.print_cell.new.wire _ _ (IsPiece t) (span old new row from (n + 1) * cell_limit t) (span old new row from c.args.cells.count * cell_limit t) (IsLost t)
+    rw e.1 (steps_fail g.W.Wire.went g.W.Wire.failures c.args.wire.now c.print_cell.new.wire _ _ (IsPaint t) (span old new row from (n + 1) * cell_limit t) (span old new row from c.args.cells.count * cell_limit t) (IsLost t)
     (Agrees t (mixed old new row from) b) (Agrees t (mixed old new row (from + n + 1)) c.print_cell.new.belief) (Agrees t (mixed old new row (from + c.args.cells.count)) c.print_cell.new.belief)
     (times_grows _ _ (cell_limit t) (span_grows old new row from (n + 1) c.args.cells.count (omega arith)))
-    (steps_next g.W.Wire.went g.W.Wire.failures g.met.W.Wire.lawful c.args.wire.now c.loop-n.wire c.print_cell.new.wire _ _ (IsPiece t)
+    (steps_next g.W.Wire.went g.W.Wire.failures g.met.W.Wire.lawful c.args.wire.now c.loop-n.wire c.print_cell.new.wire _ _ (IsPaint t)
     (span old new row from n * cell_limit t) (differs old new row (from + n) * cell_limit t) (span old new row from (n + 1) * cell_limit t) (IsLost t)
     (Agrees t (mixed old new row from) b) (Agrees t (mixed old new row (from + n)) c.loop-n.belief) (Agrees t (mixed old new row (from + n + 1)) c.print_cell.new.belief)
     (sum_limit _ _ _ (cell_limit t) (span_more old new row from n)) c.loop-n.invariant.step c.in_err-print_cell.ensures.step))

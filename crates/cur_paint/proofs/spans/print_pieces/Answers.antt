@@ -2,7 +2,8 @@ use Rattle.std.proofs.Common.{◌≡◌, ◌+◌, ◌*◌, Ok, refl, sym, ◌∙
 use Rattle.std.proofs.lemmas.Result.{err_from_is_err_and}
 use Rattle.cur_looks.specs.Inks.{mixed}
 use Rattle.cur_paint.specs.Differ.{differs, span}
-use Rattle.ti_conforms.specs.Certified.{IsPiece, IsLost, cell_limit}
+use Rattle.ti_conforms.specs.Certified.{IsLost, cell_limit}
+use Rattle.cur_looks.specs.Pieces.{IsPaint}
 use Rattle.cur_looks.specs.Beliefs.{Agrees}
 use Rattle.cur_wires.proofs.Stops.{steps_nothing, steps_next, steps_fail, steps_wider}
 use Rattle.cur_looks.proofs.Actions.{agrees_lost}
@@ -19,7 +20,7 @@ loop-done-init g c =
     record {
       within = omega arith;
       idle = λ e. refl;
-      step = steps_nothing g.W.Wire.went g.W.Wire.failures g.met.W.Wire.lawful c.args.wire.now tt (IsPiece t) _ (IsLost t) (Agrees t (mixed old new c.args.cells.row c.args.cells.from) b) (Agrees t (mixed old new c.args.cells.row (c.args.cells.from + 0)) b)
+      step = steps_nothing g.W.Wire.went g.W.Wire.failures g.met.W.Wire.lawful c.args.wire.now tt (IsPaint t) _ (IsLost t) (Agrees t (mixed old new c.args.cells.row c.args.cells.from) b) (Agrees t (mixed old new c.args.cells.row (c.args.cells.from + 0)) b)
           (λ s x. x.ready.rest) (agrees_at t old new c.args.cells.row c.args.cells.from (c.args.cells.from + 0) b (omega arith)) (agrees_lost t c.requires.scene.checked (mixed old new c.args.cells.row c.args.cells.from) b);
       mode = refl;
     }
@@ -41,10 +42,10 @@ loop-done-preserved g c =
     record {
       within = omega (arith, c.piece_of-more.ensures.within, c.loop-done-test.true, c.loop-done.invariant.within);
       idle = λ e. absurd (omega (arith, e, more, changed, span_first old new row (from + done) c.piece_of-more.result));
-      step = steps_wider g.W.Wire.went g.W.Wire.failures c.args.wire.now c.print_alike.new.wire _ (IsPiece t) (span old new row from (done + n) * cell_limit t) (span old new row from (done + n) * cell_limit t) (IsLost t)
+      step = steps_wider g.W.Wire.went g.W.Wire.failures c.args.wire.now c.print_alike.new.wire _ (IsPaint t) (span old new row from (done + n) * cell_limit t) (span old new row from (done + n) * cell_limit t) (IsLost t)
           (Agrees t (mixed old new row from) b) (Agrees t (mixed old new row (from + done + n)) c.print_alike.new.belief)
           (Agrees t (mixed old new row from) b) (Agrees t (mixed old new row (from + (done + n))) c.print_alike.new.belief) (omega arith) (λ s x. x) (agrees_at t old new row (from + done + n) (from + (done + n)) c.print_alike.new.belief (omega arith))
-          (steps_next g.W.Wire.went g.W.Wire.failures g.met.W.Wire.lawful c.args.wire.now c.loop-done.wire c.print_alike.new.wire _ (Ok tt) (IsPiece t)
+          (steps_next g.W.Wire.went g.W.Wire.failures g.met.W.Wire.lawful c.args.wire.now c.loop-done.wire c.print_alike.new.wire _ (Ok tt) (IsPaint t)
           (span old new row from done * cell_limit t) (span old new row (from + done) n * cell_limit t) (span old new row from (done + n) * cell_limit t) (IsLost t)
           (Agrees t (mixed old new row from) b) (Agrees t (mixed old new row (from + done)) c.loop-done.belief) (Agrees t (mixed old new row (from + done + n)) c.print_alike.new.belief)
           (sum_limit _ _ _ (cell_limit t) (sym more)) c.loop-done.invariant.step then);
@@ -65,7 +66,7 @@ loop-done-preserved-then-shows g c =
     record {
       within = omega (arith, c.loop-done-test.true, c.loop-done.invariant.within);
       idle = λ n. c.loop-done.invariant.idle (omega (arith, n, span_more old new row from done));
-      step = steps_wider g.W.Wire.went g.W.Wire.failures c.args.wire.now c.loop-done.wire _ (IsPiece t) (span old new row from done * cell_limit t) (span old new row from (done + 1) * cell_limit t) (IsLost t)
+      step = steps_wider g.W.Wire.went g.W.Wire.failures c.args.wire.now c.loop-done.wire _ (IsPaint t) (span old new row from done * cell_limit t) (span old new row from (done + 1) * cell_limit t) (IsLost t)
           (Agrees t (mixed old new row from) b) (Agrees t (mixed old new row (from + done)) a)
           (Agrees t (mixed old new row from) b) (Agrees t (mixed old new row (from + (done + 1))) a)
           (times_grows _ _ (cell_limit t) (span_grows old new row from done (done + 1) (omega arith))) (λ s x. x)
@@ -92,10 +93,10 @@ returns-in_err-print_cell-clause-step g c =
     let from = c.args.cells.from in
     let done = c.loop-done.done in
     let count = c.args.cells.count in
-    rw e.1 (steps_fail g.W.Wire.went g.W.Wire.failures c.args.wire.now c.print_cell.new.wire _ _ (IsPiece t) (span old new row from (done + 1) * cell_limit t) (span old new row from count * cell_limit t) (IsLost t)
+    rw e.1 (steps_fail g.W.Wire.went g.W.Wire.failures c.args.wire.now c.print_cell.new.wire _ _ (IsPaint t) (span old new row from (done + 1) * cell_limit t) (span old new row from count * cell_limit t) (IsLost t)
     (Agrees t (mixed old new row from) b) (Agrees t (mixed old new row (from + done + 1)) c.print_cell.new.belief) (Agrees t (mixed old new row (from + count)) c.print_cell.new.belief)
     (times_grows _ _ (cell_limit t) (span_grows old new row from (done + 1) count (omega (arith, c.loop-done-test.true, c.loop-done.invariant.within))))
-    (steps_next g.W.Wire.went g.W.Wire.failures g.met.W.Wire.lawful c.args.wire.now c.loop-done.wire c.print_cell.new.wire _ _ (IsPiece t)
+    (steps_next g.W.Wire.went g.W.Wire.failures g.met.W.Wire.lawful c.args.wire.now c.loop-done.wire c.print_cell.new.wire _ _ (IsPaint t)
     (span old new row from done * cell_limit t) (differs old new row (from + done) * cell_limit t) (span old new row from (done + 1) * cell_limit t) (IsLost t)
     (Agrees t (mixed old new row from) b) (Agrees t (mixed old new row (from + done)) c.loop-done.belief) (Agrees t (mixed old new row (from + done + 1)) c.print_cell.new.belief)
     (sum_limit _ _ _ (cell_limit t) (span_more old new row from done)) c.loop-done.invariant.step c.in_err-print_cell.ensures.step))
@@ -114,10 +115,10 @@ returns-in_err-print_alike-clause-step g c =
     let n = 1 + c.piece_of-more.result in
     let then = first_then g.W.Wire.went g.W.Wire.failures g.met.W.Wire.lawful c.loop-done.wire c.print_cell.new.wire c.print_alike.new.wire _ _ t old new row (from + done) c.piece_of-more.result
     c.loop-done.belief c.print_cell.new.belief c.print_alike.new.belief c.in_ok-print_cell.ensures.step c.in_err-print_alike.ensures.step in
-    rw e.1 (steps_fail g.W.Wire.went g.W.Wire.failures c.args.wire.now c.print_alike.new.wire _ _ (IsPiece t) (span old new row from (done + n) * cell_limit t) (span old new row from count * cell_limit t) (IsLost t)
+    rw e.1 (steps_fail g.W.Wire.went g.W.Wire.failures c.args.wire.now c.print_alike.new.wire _ _ (IsPaint t) (span old new row from (done + n) * cell_limit t) (span old new row from count * cell_limit t) (IsLost t)
     (Agrees t (mixed old new row from) b) (Agrees t (mixed old new row (from + done + n)) c.print_alike.new.belief) (Agrees t (mixed old new row (from + count)) c.print_alike.new.belief)
     (times_grows _ _ (cell_limit t) (span_grows old new row from (done + n) count (omega (arith, c.piece_of-more.ensures.within, c.loop-done-test.true, c.loop-done.invariant.within))))
-    (steps_next g.W.Wire.went g.W.Wire.failures g.met.W.Wire.lawful c.args.wire.now c.loop-done.wire c.print_alike.new.wire _ _ (IsPiece t)
+    (steps_next g.W.Wire.went g.W.Wire.failures g.met.W.Wire.lawful c.args.wire.now c.loop-done.wire c.print_alike.new.wire _ _ (IsPaint t)
     (span old new row from done * cell_limit t) (span old new row (from + done) n * cell_limit t) (span old new row from (done + n) * cell_limit t) (IsLost t)
     (Agrees t (mixed old new row from) b) (Agrees t (mixed old new row (from + done)) c.loop-done.belief) (Agrees t (mixed old new row (from + done + n)) c.print_alike.new.belief)
     (sum_limit _ _ _ (cell_limit t) (sym (span_join old new row from done n))) c.loop-done.invariant.step then))
