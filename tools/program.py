@@ -5,7 +5,6 @@ are, in this checkout or in another; else the unproved one, and says so. The sta
 import os
 import sys
 
-import kept
 from ending import say
 from sources import PROVED, UNPROVED
 
@@ -19,6 +18,9 @@ def current():
     """The program's path; None where it has to be built."""
     if PROVED.is_current() and os.access(PROVED.files[0], os.X_OK):
         return PROVED.files[0]
+    # it takes as long to load as all the rest
+    import kept
+
     try:
         files = kept.found(PROVED, PROVED.sources())
     except (OSError, KeyError):

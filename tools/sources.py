@@ -12,25 +12,34 @@ from version import SONAME
 
 
 def checksum(path):
-    with open(path, "rb") as file:
-        return hashlib.sha256(file.read()).hexdigest()
+    # thousands of small files are read for each run of ./ticurses
+    descriptor, held = os.open(path, os.O_RDONLY), hashlib.sha256()
+    try:
+        while piece := os.read(descriptor, 1 << 20):
+            held.update(piece)
+    finally:
+        os.close(descriptor)
+    return held.hexdigest()
+
+
+def files_below(folder):
+    """The files below a folder. One that can't be read is an error, and so is a link to a folder."""
+    found = []
+    with os.scandir(folder) as entries:
+        for entry in entries:
+            if entry.is_dir(follow_symlinks=False):
+                found += files_below(entry.path)
+            elif entry.is_symlink() and entry.is_dir():
+                raise OSError(f"{entry.path} is a link to a folder")
+            else:
+                found.append(entry.path)
+    return found
 
 
 def files_of(crate):
-    """The files from which a crate is built. A folder that can't be read is an error, and so is a linked one."""
-
-    def refuse(error):
-        raise error
-
-    found = []
-    for part in ("src", "specs", "proofs"):
-        top = f"{TOP}/crates/{crate}/{part}"
-        for at, folders, names in os.walk(top, onerror=refuse) if os.path.lexists(top) or part == "src" else []:
-            linked = [it for it in folders if os.path.islink(f"{at}/{it}")]
-            if linked:
-                raise OSError(f"{at}/{linked[0]} is a link to a folder")
-            found += [f"{at}/{name}" for name in names]
-    return found
+    """The files from which a crate is built."""
+    folders = [f"{TOP}/crates/{crate}/{part}" for part in ("src", "specs", "proofs")]
+    return [file for it in folders if it.endswith("/src") or os.path.lexists(it) for file in files_below(it)]
 
 
 def size_of(crate):
@@ -40,7 +49,7 @@ def size_of(crate):
 
 def lines_of(files):
     """The line of each file, by its path in the repository."""
-    return "".join(f"{checksum(file)}  {os.path.relpath(file, TOP)}\n" for file in sorted(files))
+    return "".join(f"{checksum(file)}  {file[len(TOP) + 1 :]}\n" for file in sorted(files))
 
 
 class Made:
