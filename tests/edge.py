@@ -23,6 +23,8 @@ WARNED = ["-Wall", "-Wextra", "-Wconversion", "-Wshadow", "-pedantic", "-Werror"
 FORMATS, CALLS, SLOW_CALLS = 150_000, 150_000, 4_000
 IS_ROOT = os.geteuid() == 0
 NOBODY = 65534
+# sizes of terminals that no session fits
+OTHER_SIZES = ((1, 80), (24, 501), (201, 80), (24, 600), (24, 1))
 TOO_LARGE = b"a terminal has 2 to 200 rows and 2 to 500 columns"
 ENDINGS = (signal.SIGHUP, signal.SIGINT, signal.SIGQUIT, signal.SIGTERM)
 
@@ -96,8 +98,8 @@ def check_entries(work, linked):
     write_at(f"{work}/dirs/x/xx", good)
     hold(found(program, work, environment) == len(good), "TERMINFO_DIRS isn't read")
     check_rights(program, work, environment)
-    for (rows, cols), code in (((2, 2), 0), ((200, 500), 0), ((1, 80), 21), ((24, 1), 21), ((201, 80), 21), ((24, 600), 21)):
-        run = Run(rows, cols, [program], environment)
+    for rows, cols in ((2, 2), (200, 500), *OTHER_SIZES):
+        run, code = Run(rows, cols, [program], environment), 21 if (rows, cols) in OTHER_SIZES else 0
         run.waits_for(b"\n")
         run.ends()
         hold(run.sent.split()[1:4] == [b"%d" % it for it in (code, rows, cols)], "a size is told otherwise", run.sent)
@@ -216,8 +218,8 @@ def check_programs(work, linked):
 
 
 def check_cuts(work, linked):
-    """What is sent to a terminal that is slow, while signals interrupt it, arrives whole; one that goes away in the middle,
-    after any number of bytes, is an error, and the next refresh begins anew. So in Python."""
+    """What is sent to a terminal that is slow, while signals interrupt it, arrives whole; one that goes away in the
+    middle, after any number of bytes, is an error, and the next refresh begins anew. So in Python."""
     build(["cc", "-std=c99", *WARNED, *SANITIZED, f"{TOP}/tests/c/sends.c", *linked, "-o", f"{work}/sends"])
     for taken in (0, 1, 4095, 4096, 4097, 70_000, 200_009, 200_017, 333_333):
         senders = [[f"{work}/sends", "200000"], edge_python.sender(work)]
@@ -249,7 +251,7 @@ def taken_slowly(outer, most):
 
 def check_sizes(words, environment):
     """A terminal that no session fits is refused, and left as it was."""
-    for rows, cols in ((1, 80), (24, 501), (201, 80), (24, 600), (24, 1)):
+    for rows, cols in OTHER_SIZES:
         run, before = on_terminal(words, environment, TOO_LARGE, (rows, cols))
         run.is_left(before, 1, b"columns")
         hold(b"<endwin>" not in run.sent and b"xx" not in run.sent, "something is drawn", run.sent)
@@ -333,11 +335,9 @@ def check_said(work, hello, environment):
     run.is_left(before, 1, b"hello: a string of the entry is wrong: no op: WrongEffect\r\n")
     # a pipe that nobody reads any more
     line = f"{{ sleep 0.5; exec {hello[0]}; }} | true; exit ${{PIPESTATUS[0]}}"
-    bash = shutil.which("bash")
-    if not bash:
-        return
-    run, before = on_terminal([bash, "-c", line], environment, b"Broken pipe")
-    run.is_left(before, 1, b"hello: Broken pipe\r\n")
+    if not missing("edge", "bash"):
+        run, before = on_terminal([shutil.which("bash"), "-c", line], environment, b"Broken pipe")
+        run.is_left(before, 1, b"hello: Broken pipe\r\n")
 
 
 def check_formats(work):
