@@ -169,6 +169,8 @@ def run(given):
     if not first.run_all():
         return 1
     status, last = proved(rt_ci("--anew" in given))
+    # `rt ci` sets aside what was built; where nothing could be kept, it is built once more
+    status = status or ("--library" in given and build.bring(LIBRARY))
     if status or not others.run_all():
         say(f"FAILED; rt ci said: {last.strip()}")
         return 1
