@@ -160,13 +160,12 @@ static inline int ticurses_verify(const void *entry, size_t entry_len, const voi
                                ticurses_bytes(certificate), certificate_len);
 }
 
-/* Opens a session. One that was open is closed once the new one is there; where none is opened, it stays
- * open, so that `endwin` can still be sent. With no certificate (a length of 0) it checks the entry itself,
- * which takes some milliseconds more. The
- * terminal is taken to be as after a reset, and its first refresh clears it; after ticurses_lost the
- * first refresh leads to the screen from whatever state the terminal is in, also within a sequence that
- * was cut. A session keeps its size: where the terminal's changes, open it anew, call ticurses_lost, and
- * draw again. */
+/* Opens a session. One that was open is closed if the new one opens, and stays open otherwise, so that
+ * its `endwin` can still be sent. With no certificate (a length of 0) it checks the entry itself, which
+ * takes some milliseconds more. The terminal is taken to be as after a reset, and the first refresh
+ * clears it; where an earlier session may have left it in another state, ticurses_lost comes before the
+ * first refresh. A session keeps its size: where the terminal's changes, open it anew, call
+ * ticurses_lost, and draw again. */
 static inline int ticurses_open(ticurses *session, const void *entry, size_t entry_len, const void *name,
                                 size_t name_len, uint16_t rows, uint16_t cols, const void *certificate,
                                 size_t certificate_len) {

@@ -136,7 +136,6 @@ static void closed(void) {
 
 static void opening(void) {
     ticurses session = {0, 0};
-    size_t waits;
     static const char wrong[] = "w|w,\n\tclear=\\E[H\\E[2J, cup=\\E[%p1%d;%p2%dH, sgr0=\\E[m,\n";
     IS(TICURSES_BAD_SIZE, OPEN(&session, "vt", 1, 80));
     IS(TICURSES_BAD_SIZE, OPEN(&session, "vt", 201, 80));
@@ -147,17 +146,21 @@ static void opening(void) {
     IS(TICURSES_BAD_ENTRY, ticurses_open(&session, NULL, 0, NULL, 0, 24, 80, NULL, 0));
     IS(TICURSES_NO_CERTIFICATE, ticurses_open(&session, wrong, sizeof wrong - 1, "w", 1, 24, 80, NULL, 0));
     IS(TICURSES_OK, OPEN(&session, "mini", 2, 2));
-    IS(TICURSES_OK, CALL(&session, "refresh 0"));
-    /* what was open stays open where nothing is opened, with what waits, and else it is closed */
-    waits = ticurses_waiting(&session);
-    IS(1, waits > 0);
+    IS(TICURSES_OK, CALL(&session, "move 0 1 1\nrefresh 0"));
+    /* what was open stays so where nothing is opened, with all that it has, and can be ended */
+    size_t waiting = ticurses_waiting(&session);
+    IS(1, waiting > 5);
     IS(TICURSES_BAD_SIZE, OPEN(&session, "mini", 0, 0));
     IS(TICURSES_BAD_ENTRY, OPEN(&session, "none", 24, 80));
     IS(TICURSES_NO_CERTIFICATE, ticurses_open(&session, wrong, sizeof wrong - 1, "w", 1, 24, 80, NULL, 0));
-    IS(waits, ticurses_waiting(&session));
-    IS(TICURSES_OK, CALL(&session, "move 0 1 1\nrefresh 0"));
+    IS(waiting, ticurses_waiting(&session));
+    IS(1001, cursor(&session, 0));
+    IS(TICURSES_OK, CALL(&session, "endwin"));
+    IS(1, ticurses_waiting(&session) > waiting);
+    /* else it is closed, and nothing of it waits */
     IS(TICURSES_OK, OPEN(&session, "mini", 200, 500));
     IS(0, ticurses_waiting(&session));
+    IS(0, cursor(&session, 0));
     IS(TICURSES_OK, OPEN(&session, "mini", 3, 9));
     IS(TICURSES_OUT_OF_WINDOW, CALL(&session, "move 0 3 0"));
     ticurses_close(&session);
