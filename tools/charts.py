@@ -1,17 +1,18 @@
 #!/usr/bin/env python3
-"""The charts of docs/PERFORMANCE.md, one for each subject, made from the page's own tables.
+"""The charts of docs/PERFORMANCE.md, one for each subject, and the diagram of docs/TRUST.md, from the pages' own tables.
 
-charts.py          writes docs/pictures/performance-*.svg
+charts.py          writes docs/pictures/performance-*.svg and trust.svg
 charts.py --check  says which of them differ from the tables, with status 1 if there is one
 
-A bar is a ratio: how often what is measured of the other program (time or bytes) has that of ticurses. Bars to the right
-of the line at 1 are in favor of ticurses, and each step of the scale is ten times or twice the one before."""
+A bar is a ratio: how often what is measured of the other program (time or bytes) has that of ticurses. Bars to the
+right of the line at 1 are in favor of ticurses, and each step of the scale is ten times or twice the one before."""
 
 import math
 import os
 import re
 import sys
 
+import diagram
 from crates import TOP
 from svg import FAINT, FRAME, INK, Picture
 
@@ -245,12 +246,13 @@ def drawn(title, subject, groups):
 
 
 def made():
-    """Each chart's file and what is in it."""
+    """Each picture's file and what is in it."""
     tables = sections()
-    return {
+    charts = {
         f"{FOLDER}/performance-{name}.svg": drawn(title, subject, groups(tables[title]))
         for name, title, subject, groups in CHARTS
     }
+    return {**charts, f"{FOLDER}/trust.svg": diagram.drawn()}
 
 
 def main():
@@ -258,7 +260,7 @@ def main():
     for path, text in made().items():
         if sys.argv[1:] == ["--check"]:
             if not os.path.exists(path) or open(path, encoding="utf-8").read() != text:
-                print(f"charts: {os.path.relpath(path, TOP)} isn't what docs/PERFORMANCE.md says: run tools/charts.py")
+                print(f"charts: {os.path.relpath(path, TOP)} isn't what the tables say: run tools/charts.py")
                 stale = 1
         else:
             os.makedirs(FOLDER, exist_ok=True)

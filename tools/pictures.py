@@ -1,12 +1,11 @@
 #!/usr/bin/env python3
-"""The pictures of README, docs/TOUR.md and docs/TRUST.md, as SVG, from what the program prints and from tables.
+"""The pictures of README and docs/TOUR.md, as SVG, from what the program prints.
 
 pictures.py          writes docs/pictures/*.svg; it runs ./ticurses
 pictures.py --check  says which of them differ, with status 1 if there is one
 
 The fault is that of `check --json` for docs/pictures/color.ti, ncurses' entry xterm-color. The certificate is that of
-`mini`, and the screens are those of `feed`, from examples/terminals.ti and examples/clock.script. The diagram of what is
-trusted is drawn from the tables of docs/TRUST.md."""
+`mini`, and the screens are those of `feed`, from examples/terminals.ti and examples/clock.script."""
 
 import json
 import os
@@ -15,7 +14,6 @@ import subprocess
 import sys
 import tempfile
 
-import diagram
 from crates import TOP
 from svg import FAINT, FRAME, INK, MONO, Picture
 
@@ -281,7 +279,7 @@ def play():
 
 def made():
     """Each picture's file and what is in it."""
-    return {"fault": fault(), "certificate": certificate(), "play": play(), "trust": diagram.drawn()}
+    return {"fault": fault(), "certificate": certificate(), "play": play()}
 
 
 def main():
