@@ -67,11 +67,10 @@ def lines_of(crate, module, words):
     return sum(1 for word in words for line in blocks[word] if line.strip())
 
 
-def files_in(known, parts):
+def files_in(known, crates):
     """The files of these words, from the bottom up: each with those of its words that are asked for, in its own order."""
-    order = [crate for _, names in parts for crate in reversed(names)]
     found = {}
-    for crate in order:
+    for crate in crates:
         for module in files_of(crate, "specs", ".antt"):
             words = [word for word in spec(crate, module).order if (crate, module, word) in known]
             if words:
@@ -141,7 +140,7 @@ class Lists:
     def table(self, part, known, first=None):
         """A table of the files that have these words, but for those that an earlier table had."""
         left = known - self.read
-        files = files_in(left, self.parts)
+        files = files_in(left, crates_listed())
         if first:
             files = [it for it in files if it[0] == first] + [it for it in files if it[0] != first]
         self.out += ["| file | words | lines | minutes |", "|---|---|---|---|"]
@@ -205,7 +204,7 @@ def others(lists):
     out = []
     for part, names in lists.parts:
         rows = []
-        for (crate, module), words in files_in(known - lists.read, [(part, names)]):
+        for (crate, module), words in files_in(known - lists.read, reversed(names)):
             link = f"[{crate} `{module}`](../crates/{crate}/specs/{module}.antt)"
             rows.append(lists.wrapped(f"- {link}: {named((crate, module), words)}."))
             lists.count("the other calls", 1, lines_of(crate, module, words))
