@@ -27,6 +27,7 @@
 #ifndef TICURSES_H
 #define TICURSES_H
 
+#include <errno.h>
 #include <stdarg.h>
 #include <stddef.h>
 #include <stdint.h>
@@ -34,7 +35,7 @@
 #include <stdlib.h>
 
 #if defined(__GNUC__)
-#define TICURSES_PRINTF(at, rest) __attribute__((format(printf, at, rest)))
+#define TICURSES_PRINTF(at, rest) __attribute__((__format__(__printf__, at, rest)))
 #else
 #define TICURSES_PRINTF(at, rest)
 #endif
@@ -71,7 +72,7 @@ enum ticurses_code {
     TICURSES_BAD_PAIR = 16,         /* pairs are 0 to 63, pair 0 cannot be changed, and colors are 0 to 7 */
     /* and of the calls of this header */
     TICURSES_OUTPUT_FAILED = 17,    /* no memory for the bytes of a refresh; the next refresh begins anew */
-    TICURSES_BAD_LINE = 18,         /* a line is no call; none of the lines was done */
+    TICURSES_BAD_LINE = 18,         /* a line is no call, or printf can't write it; none of the lines was done */
     TICURSES_TOO_LONG = 19,         /* more than 1048576 bytes of lines */
     TICURSES_CLOSED = 20,           /* the session is not open */
     TICURSES_BAD_SIZE = 21,         /* not 2 to 200 rows and 2 to 500 columns */
@@ -81,6 +82,9 @@ enum ticurses_code {
     TICURSES_NO_ROOM = 25,          /* the buffer is too short; nothing was written to it */
     TICURSES_NULL = 26              /* a pointer is null, or a length is above PTRDIFF_MAX */
 };
+
+/* The most bytes that the lines of one call have. */
+enum { TICURSES_TEXT_MAX = 1048576 };
 
 typedef struct ticurses { void *at; size_t state; } ticurses;
 
@@ -189,6 +193,12 @@ static inline int ticurses_call(ticurses *session, const char *text, size_t len)
                                                   : ticurses_raw_call(session, ticurses_bytes(text), len);
 }
 
+/* Answers this code for lines that could not be made. */
+static inline int ticurses_unmade(ticurses *session, int code) {
+    int none = ticurses_call(session, NULL, 0);
+    return none == TICURSES_OK ? code : none;
+}
+
 /* Writes a number in as many digits as it needs, but at least `least`, and gives how many there are. */
 static inline size_t ticurses_digits(char *at, unsigned number, unsigned base, size_t least) {
     size_t count = 1, place;
@@ -246,30 +256,36 @@ static inline int ticurses_format(char *line, size_t room, const char *format, v
     return (int)len;
 }
 
-/* The same, with the lines made as by printf. A %s whose text has a newline makes two lines of it: text
- * of which a program doesn't know what it holds is for ticurses_addstr. */
+/* ticurses_call of lines that are made as by printf. A %s whose text has a newline makes two lines of it:
+ * text of which a program doesn't know what it holds is for ticurses_addstr. What printf can't write, as
+ * a wide character that has no bytes, is TICURSES_BAD_LINE. */
 static inline int ticurses_callf(ticurses *session, const char *format, ...) TICURSES_PRINTF(2, 3);
 static inline int ticurses_callf(ticurses *session, const char *format, ...) {
-    char line[512], *text = line;
-    va_list rest, again;
+    char line[512], *text;
+    va_list rest;
     int len, code;
     if (!session || !format) return TICURSES_NULL;
     va_start(rest, format);
     len = ticurses_format(line, sizeof line, format, rest);
     va_end(rest);
     if (len >= 0) return ticurses_call(session, line, (size_t)len);
+    errno = 0;
     va_start(rest, format);
-    va_copy(again, rest);
     len = vsnprintf(line, sizeof line, format, rest);
     va_end(rest);
-    if (len >= (int)sizeof line) {
-        text = (char *)malloc((size_t)len + 1);
-        if (text) vsnprintf(text, (size_t)len + 1, format, again);
-    }
-    va_end(again);
-    if (!text) return TICURSES_NO_MEMORY;
-    code = len < 0 ? TICURSES_TOO_LONG : ticurses_call(session, text, (size_t)len);
-    if (text != line) free(text);
+    if (len < 0)
+        return ticurses_unmade(session, errno == ENOMEM      ? TICURSES_NO_MEMORY
+                                        : errno == EOVERFLOW ? TICURSES_TOO_LONG
+                                                             : TICURSES_BAD_LINE);
+    if (len > TICURSES_TEXT_MAX) return ticurses_unmade(session, TICURSES_TOO_LONG);
+    if (len < (int)sizeof line) return ticurses_call(session, line, (size_t)len);
+    text = (char *)malloc((size_t)len + 1);
+    if (!text) return ticurses_unmade(session, TICURSES_NO_MEMORY);
+    va_start(rest, format);
+    vsnprintf(text, (size_t)len + 1, format, rest);
+    va_end(rest);
+    code = ticurses_call(session, text, (size_t)len);
+    free(text);
     return code;
 }
 

@@ -88,9 +88,8 @@ def check_manual(prefix, work):
     declared = [it for header in headers for it in re.findall(found, header, re.M)]
     declared = {name: (kind.strip(), re.sub(r"\s+", " ", words)) for kind, name, words in declared}
     # what the others are made of
-    for name in ("bytes", "is_bad", "unmade", "digits", "format"):
-        declared.pop(f"ticurses_{name}", None)
-    for name in ("short_at", "is_entry", "read", "entry_in", "variable", "set", "is_full"):
+    parts = "bytes is_bad unmade digits format short_at is_entry read entry_in variable set is_full"
+    for name in parts.split():
         del declared[f"ticurses_{name}"]
     written = {}
     for kind, first, rest in re.findall(r"^\.Ft (.*)\n\.F[no] (\w+)(.*(?:\n\.Fa .*)*)", page, re.M):

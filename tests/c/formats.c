@@ -1,10 +1,26 @@
 /* formats: what ticurses_callf hands to the library, beside what snprintf writes: each directive that it writes by
- * itself, those that it leaves to printf, and texts of all lengths about those that its buffer takes. It has a call
- * of its own in the library's place. Each fault is a line; the status is 0 if there is none. */
+ * itself, those that it leaves to printf, texts of all lengths about those that its buffer takes, and what printf can't
+ * write. It has a call of its own in the library's place, and counts what is asked of malloc. Each fault is a line; the
+ * status is 0 if there is none. */
+#include <stddef.h>
+#include <stdlib.h>
+
+/* where malloc is asked for memory, how much at most, and whether it gives any */
+static size_t most_asked;
+static int has_memory = 1;
+
+static void *asked(size_t size) {
+    if (size > most_asked) most_asked = size;
+    return has_memory ? (malloc)(size) : NULL;
+}
+
+#define malloc(size) asked(size)
 #include <ticurses.h>
+#undef malloc
 
 #include <limits.h>
 #include <string.h>
+#include <wchar.h>
 
 enum { LONGEST = 1200 };
 
@@ -106,8 +122,34 @@ static void lengths(void) {
     }
 }
 
+/* What printf refuses or what is too long gets no line to the library, and no memory is taken for it. The formats are
+ * wrong or never ending, so that the compiler may not see them. */
+static void refused(void) {
+    int (*volatile call)(ticurses *, const char *, ...) = ticurses_callf;
+    static const wchar_t wide[] = {0x20ac, 0};
+    most_asked = 0;
+    is(__LINE__, call(&session, "addstr 0 %ls", wide), TICURSES_BAD_LINE);
+    is(__LINE__, (int)handed_len, 0);
+    is(__LINE__, call(&session, "addstr 0 100%"), TICURSES_BAD_LINE);
+    is(__LINE__, (int)handed_len, 0);
+    is(__LINE__, call(&session, "%20000000d", 1), TICURSES_TOO_LONG);
+    is(__LINE__, call(&session, "%1048577d", 1), TICURSES_TOO_LONG);
+    is(__LINE__, (int)handed_len, 0);
+    is(__LINE__, (int)most_asked, 0);
+    has_memory = 0;
+    is(__LINE__, call(&session, "%600d", 1), TICURSES_NO_MEMORY);
+    is(__LINE__, (int)handed_len, 0);
+    has_memory = 1;
+    is(__LINE__, (int)most_asked, 601);
+    is(__LINE__, call(&session, NULL), TICURSES_NULL);
+    is(__LINE__, call(NULL, "endwin"), TICURSES_NULL);
+    is(__LINE__, call(&session, ""), TICURSES_OK);
+    is(__LINE__, (int)handed_len, 0);
+}
+
 int main(void) {
     memset(letters, 'a', LONGEST);
+    refused();
     numbers();
     characters();
     lengths();
