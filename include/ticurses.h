@@ -11,7 +11,8 @@
  *     code = ticurses_call(&session, "endwin", 6);                        and write what waits
  *     ticurses_close(&session);
  *
- * ticurses_terminal.h finds the entry and the size, and does the writing. Link with -lticurses.
+ * ticurses_terminal.h finds the entry and the size, and does the writing. Link with -lticurses. The headers are C99 and
+ * C++11.
  *
  * Bytes are handed over as a pointer and a length. Where the length is 0, the pointer may be null. A
  * session is a `ticurses` that begins as {0} (in C++ {}). A program passes its address, and doesn't
@@ -114,6 +115,7 @@ int32_t ticurses_raw_open(ticurses *session, const uint8_t *entry, size_t entry_
                           size_t name_len, uint16_t rows, uint16_t cols, const uint8_t *certificate,
                           size_t certificate_len);
 int32_t ticurses_raw_call(ticurses *session, const uint8_t *text, size_t len);
+int32_t ticurses_raw_failed(ticurses *session, size_t *line);
 int32_t ticurses_raw_addstr(ticurses *session, size_t window, const uint8_t *text, size_t len);
 int32_t ticurses_raw_cursor(ticurses *session, size_t window, uint16_t *row, uint16_t *col);
 int32_t ticurses_raw_size(ticurses *session, size_t window, uint16_t *rows, uint16_t *cols);
@@ -142,8 +144,9 @@ static inline int ticurses_check(const void *entry, size_t entry_len, const void
 }
 
 /* Writes why an entry has no certificate: the first string that is wrong, in the words of `ticurses
- * check`, as in "no op: WrongEffect". They are *needed bytes, at most 256, without a newline or a zero
- * byte at the end; *needed is 0 where the entry has a certificate. */
+ * check`, as in "no op: WrongEffect". They are *needed bytes, without a newline or a zero byte at the
+ * end; a room of 256 has been enough for all entries that were tried. *needed is 0 where the entry has
+ * a certificate, and only there. */
 static inline int ticurses_reason(const void *entry, size_t entry_len, const void *name, size_t name_len, uint16_t rows,
                                   uint16_t cols, void *room, size_t room_len, size_t *needed) {
     uint8_t none;
@@ -154,7 +157,8 @@ static inline int ticurses_reason(const void *entry, size_t entry_len, const voi
                                room ? (uint8_t *)room : &none, room_len, needed);
 }
 
-/* TICURSES_OK if the certificate shows that each checked string of the entry does what programs rely on. */
+/* TICURSES_OK if the certificate is one of this entry and size: its strings are just those that the
+ * entry sends, and each of them does what programs rely on. */
 static inline int ticurses_verify(const void *entry, size_t entry_len, const void *name, size_t name_len, uint16_t rows,
                                   uint16_t cols, const void *certificate, size_t certificate_len) {
     if (ticurses_is_bad(entry, entry_len) || ticurses_is_bad(name, name_len) ||
@@ -173,27 +177,29 @@ static inline int ticurses_verify(const void *entry, size_t entry_len, const voi
 static inline int ticurses_open(ticurses *session, const void *entry, size_t entry_len, const void *name,
                                 size_t name_len, uint16_t rows, uint16_t cols, const void *certificate,
                                 size_t certificate_len) {
-    ticurses opened = {0, 0};
-    int code;
     if (!session || ticurses_is_bad(entry, entry_len) || ticurses_is_bad(name, name_len) ||
         ticurses_is_bad(certificate, certificate_len))
         return TICURSES_NULL;
-    code = ticurses_raw_open(&opened, ticurses_bytes(entry), entry_len, ticurses_bytes(name), name_len, rows, cols,
+    return ticurses_raw_open(session, ticurses_bytes(entry), entry_len, ticurses_bytes(name), name_len, rows, cols,
                              ticurses_bytes(certificate), certificate_len);
-    if (code != TICURSES_OK) return code;
-    ticurses_raw_close(session);
-    *session = opened;
-    return code;
 }
 
 /* Makes calls, one a line, in the language of scripts (man 5 ticurses-script), up to the first that
- * isn't done, and gives the code of that one. If any line is no call (TICURSES_BAD_LINE), none is made. */
+ * isn't done, and gives the code of that one. If any line is no call (TICURSES_BAD_LINE), none is made.
+ * ticurses_failed says which line it was. A text of one call takes no memory for reading it. */
 static inline int ticurses_call(ticurses *session, const char *text, size_t len) {
     return !session || ticurses_is_bad(text, len) ? TICURSES_NULL
                                                   : ticurses_raw_call(session, ticurses_bytes(text), len);
 }
 
-/* Answers this code for lines that could not be made. */
+/* The line, from 1, of the last text of calls at which ticurses_call or ticurses_callf stopped: the call
+ * that was refused, or the first line that is no call. It is 0 where all lines were done, where the lines
+ * were too long, and where there was no memory for reading them. Other calls leave it as it is. */
+static inline int ticurses_failed(ticurses *session, size_t *line) {
+    return !session || !line ? TICURSES_NULL : ticurses_raw_failed(session, line);
+}
+
+/* Answers this code for lines that could not be made; no line has failed. */
 static inline int ticurses_unmade(ticurses *session, int code) {
     int none = ticurses_call(session, NULL, 0);
     return none == TICURSES_OK ? code : none;
@@ -298,8 +304,8 @@ static inline int ticurses_addstr(ticurses *session, size_t window, const void *
                : ticurses_raw_addstr(session, window, ticurses_bytes(text), len);
 }
 
-/* Where the cursor of a window is, in the window (getyx). For this and the next two: where the answer
- * isn't TICURSES_OK, what the pointers lead to stays as it is. */
+/* Where the cursor of a window is, in the window (getyx). For this and the next two, as for
+ * ticurses_failed: where the answer isn't TICURSES_OK, what the pointers lead to stays as it is. */
 static inline int ticurses_cursor(ticurses *session, size_t window, uint16_t *row, uint16_t *col) {
     return !session || !row || !col ? TICURSES_NULL : ticurses_raw_cursor(session, window, row, col);
 }
@@ -317,16 +323,19 @@ static inline int ticurses_cell_at(ticurses *session, size_t window, uint16_t ro
 /* How many bytes wait to be written to the terminal. */
 static inline size_t ticurses_waiting(ticurses *session) { return session ? ticurses_raw_waiting(session) : 0; }
 
-/* Takes the first of them, as many as there is room for, and gives their number: 0 where none wait.
- * Once a program has written all bytes in this order, the terminal shows the screen of the last
- * refresh. */
+/* Takes the first of them, as many as there is room for, and gives their number: 0 where none wait. The
+ * rest of the room stays as it is. Once a program has written all bytes in this order, the terminal shows
+ * the screen of the last refresh. */
 static inline size_t ticurses_output(ticurses *session, void *room, size_t room_len) {
     return !session || !room || room_len > PTRDIFF_MAX ? 0 : ticurses_raw_output(session, (uint8_t *)room, room_len);
 }
 
-/* Some of the bytes that were taken did not get to the terminal, or something else wrote to it: what
- * waits is thrown away, and the next refresh begins anew and repairs whatever the terminal shows.
- * Windows and the screen stay. */
+/* For output that was cut off: from some byte on, what was taken did not get to the terminal. What waits
+ * is thrown away, and the next refresh begins anew and repairs what the terminal shows, wherever it was
+ * cut, also within a sequence. Windows and the screen stay. So too after another session on the same
+ * terminal and entry, whose output may have been cut. Where another program wrote to the terminal, or
+ * bytes are missing from the middle, the next refresh repairs what is shown only if the terminal still
+ * wraps at the end of a line, inserts nothing, and has no other character sets than the entry's. */
 static inline int ticurses_lost(ticurses *session) { return session ? ticurses_raw_lost(session) : TICURSES_NULL; }
 
 /* Frees the session, and what waits in it. Nothing is sent: the call `endwin`, whose bytes are written

@@ -79,6 +79,12 @@ static long cursor(ticurses *session, size_t window) {
     return ticurses_cursor(session, window, &row, &col) ? -1 : row * 1000L + col;
 }
 
+/* The line that wasn't done; -1 if the session says nothing of it. */
+static long failed(ticurses *session) {
+    size_t line;
+    return ticurses_failed(session, &line) ? -1 : (long)line;
+}
+
 static void nulls(void) {
     ticurses session = {0, 0};
     uint16_t one = 7, other = 8;
@@ -93,6 +99,8 @@ static void nulls(void) {
     IS(TICURSES_NULL, ticurses_call(&session, NULL, 8));
     IS(TICURSES_NULL, ticurses_call(&session, "doupdate", SIZE_MAX));
     IS(TICURSES_NULL, ticurses_callf(NULL, "doupdate"));
+    IS(TICURSES_NULL, ticurses_failed(NULL, &needed));
+    IS(TICURSES_NULL, ticurses_failed(&session, NULL));
     IS(TICURSES_NULL, ticurses_addstr(NULL, 0, "a", 1));
     IS(TICURSES_NULL, ticurses_addstr(&session, 0, NULL, 1));
     IS(TICURSES_NULL, ticurses_cursor(NULL, 0, &one, &other));
@@ -119,8 +127,12 @@ static void closed(void) {
     ticurses session = {0, 0};
     uint16_t one = 7, other = 8;
     ticurses_cell found = {9, 9, 9};
+    size_t line = 5;
     IS(TICURSES_CLOSED, CALL(&session, "doupdate"));
+    IS(TICURSES_CLOSED, CALL(&session, "none"));
     IS(TICURSES_CLOSED, ticurses_callf(&session, "doupdate"));
+    IS(TICURSES_CLOSED, ticurses_callf(&session, "%1048577d", 1));
+    IS(TICURSES_CLOSED, ticurses_failed(&session, &line));
     IS(TICURSES_CLOSED, ticurses_addstr(&session, 0, "a", 1));
     IS(TICURSES_CLOSED, ticurses_cursor(&session, 0, &one, &other));
     IS(TICURSES_CLOSED, ticurses_window_size(&session, 0, &one, &other));
@@ -132,6 +144,7 @@ static void closed(void) {
     ticurses_close(&session);
     IS(15, one + other);
     IS(27, found.byte + found.attrs + found.pair);
+    IS(5, line);
 }
 
 static void opening(void) {
@@ -190,6 +203,9 @@ static void certificates(void) {
     IS(TICURSES_BAD_SIZE, ticurses_verify(source, source_len, "vt", 2, 1, 80, certificate, needed));
     IS(TICURSES_BAD_ENTRY, ticurses_verify(source, source_len, "none", 4, 24, 80, certificate, needed));
     IS(TICURSES_OK, ticurses_open(&session, source, source_len, "vt", 2, 24, 80, certificate, needed));
+    IS(TICURSES_BAD_CERTIFICATE, ticurses_open(&session, source, source_len, "vt", 2, 24, 81, certificate, needed));
+    IS(TICURSES_OUT_OF_WINDOW, CALL(&session, "move 0 0 80"));
+    ticurses_close(&session);
     IS(TICURSES_BAD_CERTIFICATE, ticurses_open(&session, source, source_len, "vt", 2, 24, 81, certificate, needed));
     IS(TICURSES_CLOSED, CALL(&session, "doupdate"));
     ticurses_close(&session);
@@ -266,16 +282,41 @@ static void lines(void) {
     char *text = (char *)malloc(long_len);
     IS(TICURSES_OK, OPEN(&session, "vt", 6, 24));
     /* a bad line has none of the lines done, a refused one those before it */
+    IS(0, failed(&session));
     IS(TICURSES_BAD_LINE, CALL(&session, "move 0 1 1\nmove 0 2"));
+    IS(2, failed(&session));
     IS(0, cursor(&session, 0));
     IS(TICURSES_OUT_OF_WINDOW, CALL(&session, "move 0 1 1\nmove 0 9 9\nmove 0 2 2"));
+    IS(2, failed(&session));
     IS(1001, cursor(&session, 0));
     IS(TICURSES_OK, CALL(&session, "# a comment\n\nmove 0 3 4\n"));
+    IS(0, failed(&session));
     IS(3004, cursor(&session, 0));
+    /* lines that are skipped count, and what isn't a text of calls leaves the number as it is */
+    IS(TICURSES_NO_WINDOW, CALL(&session, "#\n\n\nmove 0 0 0\n# more\nmove 9 0 0\nmove 9 9 9\n"));
+    IS(6, failed(&session));
+    IS(TICURSES_OK, ticurses_addstr(&session, 0, "a", 1));
+    IS(TICURSES_NO_WINDOW, ticurses_addstr(&session, 5, "a", 1));
+    IS(TICURSES_OK, ticurses_lost(&session));
+    IS(6, failed(&session));
+    IS(TICURSES_NO_WINDOW, CALL(&session, "delwin 9"));
+    IS(1, failed(&session));
+    IS(TICURSES_BAD_LINE, CALL(&session, "none"));
+    IS(1, failed(&session));
+    IS(TICURSES_BAD_LINE, CALL(&session, "\n\ndoupdate 1\nnone"));
+    IS(3, failed(&session));
     IS(TICURSES_OK, ticurses_call(&session, NULL, 0));
+    IS(0, failed(&session));
     memset(text, '\n', long_len);
     IS(TICURSES_OK, ticurses_call(&session, text, long_len - 1));
+    memcpy(text + long_len - 9, "delwin 9", 8);
+    IS(TICURSES_NO_WINDOW, ticurses_call(&session, text, long_len - 1));
+    IS(long_len - 8, failed(&session));
     IS(TICURSES_TOO_LONG, ticurses_call(&session, text, long_len));
+    IS(0, failed(&session));
+    IS(TICURSES_BAD_LINE, CALL(&session, "none"));
+    IS(TICURSES_TOO_LONG, ticurses_callf(&session, "%1048577d", 1));
+    IS(0, failed(&session));
     free(text);
     IS(TICURSES_OK, ticurses_callf(&session, "move %d %d %u", 0, 5, 23U));
     IS(5023, cursor(&session, 0));
@@ -356,6 +397,12 @@ static void output(void) {
     IS(waiting - 1, ticurses_waiting(&session));
     IS(waiting - 1, drain(&session, room + 1));
     IS(0, ticurses_output(&session, room, 5));
+    memset(room, 'z', 64);
+    IS(TICURSES_OK, CALL(&session, "addstr 0 a\nrefresh 0"));
+    waiting = ticurses_waiting(&session);
+    IS(1, waiting > 0 && waiting < 64);
+    IS(waiting, ticurses_output(&session, room, 64));
+    for (size_t at = waiting; at < 64; at++) IS('z', room[at]);
     /* nothing differs: nothing is sent; after a loss all is sent again */
     IS(TICURSES_OK, CALL(&session, "refresh 0"));
     IS(0, ticurses_waiting(&session));
@@ -464,8 +511,16 @@ static void no_memory_call(void) {
     allowed = 0;
     IS(TICURSES_NO_MEMORY, CALL(&session, "newwin 1 3 3 0 0"));
     allowed = -1;
+    IS(1, failed(&session));
     IS(TICURSES_NO_WINDOW, CALL(&session, "move 1 0 0"));
     IS(TICURSES_OK, CALL(&session, "newwin 1 3 3 0 0"));
+    /* one call takes none for reading it; several may, and none of them is done without */
+    allowed = 0;
+    IS(TICURSES_OK, CALL(&session, "move 0 2 2"));
+    IS(TICURSES_NO_MEMORY, CALL(&session, "move 0 3 3\nmove 9 0 0"));
+    allowed = -1;
+    IS(0, failed(&session));
+    IS(2002, cursor(&session, 0));
     ticurses_close(&session);
 }
 

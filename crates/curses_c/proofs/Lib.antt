@@ -1,5 +1,6 @@
 mod Looses
 mod Making
+pub mod Places
 mod Reaching
 mod Slots
 mod Openings

@@ -20,8 +20,8 @@ use Rattle.cur_update.specs.Painters.{Painted}
 use Rattle.cur_play.specs.Deliveries.{FitsIn}
 use Rattle.cur_play.specs.Scenes.{Scene, Stage}
 use Rattle.cur_play.specs.declared.answers.Answer.{Answer}
-use Rattle.curses_c.specs.Held.{Hands, Makes}
-use Rattle.curses_c.specs.Laws.{Played, Begun, Called, Took, Rests, Still, Drew, TookMore, FitsHeld, ShowsAfter, Begins, CallsReach, RefreshesShow, LossesFit, OpeningsBegin}
+use Rattle.curses_c.specs.Held.{Hands, Makes, noting}
+use Rattle.curses_c.specs.Laws.{Played, Begun, Called, Took, Noted, Rests, Still, Drew, TookMore, NotedMore, FitsHeld, ShowsAfter, Begins, CallsReach, RefreshesShow, LossesBegin, LossesFit, OpeningsBegin}
 use Rattle.curses_c.specs.declared.held.Held.{Held}
 
 -- a front of all that was sent leads to a state that fits a lost session
@@ -70,6 +70,10 @@ took mid k room count sent s hands r =
     let there : P k.session = subst P (sym hands.session) (r.whole, r.cut) in
     record { whole = there.0; cut = there.1; checked = subst (λ (p : Stage CheckedTable). IsChecked (certified p.painter.checked)) (sym hands.session) r.checked }
 
+-- nor does which line wasn't done
+noted : (mid k : Held) (line : ℕ) (sent : List ℕ) (s : State) → k ≡ noting line mid → Reached mid sent s → Reached k sent s
+noted mid k line sent s e r = subst (λ (x : Held). Reached x sent s) (sym e) (record { whole = r.whole; cut = r.cut; checked = r.checked })
+
 nothing_sent : {C : Type 0} (t : Table) → IsChecked t → (partners : ℕ → Option ℕ) (p : Painted C) (s : State) → FitsIn t partners p s → Ends s [] (FitsIn t partners p)
 nothing_sent t checked partners p s f =
     let lost = fits_lost t checked (ink_at t partners p.shown) p.session.status p.session.belief s f in
@@ -89,6 +93,8 @@ reached h k taken s (Called _ mid _ call answer p m) b = made mid k call answer 
 reached h k taken s (Took before _ mid _ room count p hands e) b =
     subst (λ (l : List ℕ). Reached k l s) (sym (handed before taken mid.outbox.waiting k.outbox.waiting count e hands.rest))
     (took mid k room count (before ++ mid.outbox.waiting) s hands (reached h mid before s p b))
+reached h k taken s (Noted _ mid _ line p e) b =
+    subst (λ (l : List ℕ). Reached k (taken ++ l) s) (sym (ap (λ (x : Held). x.outbox.waiting) e)) (noted mid k line (taken ++ mid.outbox.waiting) s e (reached h mid taken s p b))
 
 pub calls_reach : CallsReach
 calls_reach h k taken s p b = (reached h k taken s p b).whole
@@ -100,6 +106,7 @@ rested h k taken (Drew _ mid _ call answer p m quiet) =
     let none : m.carries.bytes ≡ [] = empty_list m.carries.bytes (m.carries.quiet quiet) in
     ap (λ (l : List ℕ). taken ++ l) (m.carries.sent.waiting ∙ ap (λ (l : List ℕ). mid.outbox.waiting ++ l) none ∙ append-nil mid.outbox.waiting) ∙ rested h mid taken p
 rested h k taken (TookMore before _ mid _ room count p hands e) = handed before taken mid.outbox.waiting k.outbox.waiting count e hands.rest ∙ rested h mid before p
+rested h k taken (NotedMore _ mid _ line p e) = ap (λ (x : Held). taken ++ x.outbox.waiting) e ∙ rested h mid taken p
 
 pub refreshes_show : RefreshesShow
 refreshes_show h mid k last taken more call answer s p m shown rests none b =
@@ -118,6 +125,12 @@ losses_fit h mid k taken front back s p e loses b =
     let x = r.cut front back e in
     let there : Lost k.session x.after = subst (λ (q : Stage CheckedTable). Lost q x.after) (sym loses.session) (r.checked, x.there) in
     record { after = x.after; runs = x.runs; there = record { nothing = loses.waiting; checked = there.0; fits = there.1 } }
+
+pub losses_begin : LossesBegin
+losses_begin h k s loses checked lost =
+    let Lost : Stage CheckedTable → Type 0 = λ q. IsChecked (certified q.painter.checked) × FitsIn (certified q.painter.checked) (partner_in q.painter.checked) q.painter s in
+    let there : Lost k.session = subst Lost (sym loses.session) (checked, lost) in
+    record { nothing = loses.waiting; checked = there.0; fits = there.1 }
 
 pub openings_begin : OpeningsBegin
 openings_begin h s scene nothing checked fresh =

@@ -1,15 +1,20 @@
 -- What a program's calls do to the session that its handle holds.
-use Rattle.std.specs.Prelude.{ℕ, ℤ, ◌≡◌, ◌⊎◌, Bool, true, false, List, [], ◌∷◌, Option, Some, None, Result, Ok, Err, min, length, drop, pos}
+use Rattle.std.specs.Prelude.{ℕ, ℤ, ◌+◌, ◌≡◌, ◌⊎◌, Bool, true, false, List, [], ◌∷◌, Option, Some, None, Result, Ok, Err, min, length, drop, pos, if◌then◌else◌}
 use Rattle.ti_cert.specs.Table.{certified}
 use Rattle.ti_cert.specs.Verified.{partner_in}
+use Rattle.cur_calls.specs.Texts.{only_call, script_of}
 use Rattle.cur_calls.specs.declared.calls.Call.{Call}
+use Rattle.cur_calls.specs.declared.faults.ScriptFault.{ScriptFault}
+use Rattle.cur_calls.specs.declared.faults.ScriptFaultKind.{ScriptFaultKind}
+use Rattle.cur_calls.specs.declared.faults.ScriptFaultKind.TheVariants.{BadLine, TooLong, NoMemory}
 use Rattle.cur_play.specs.Deliveries.{Carries}
 use Rattle.cur_play.specs.Outputs.{poised}
 use Rattle.cur_play.specs.Scenes.{lost_stage, scene_of}
 use Rattle.cur_play.specs.Steps.{CallStep, drawn, output_of}
 use Rattle.cur_play.specs.declared.answers.Answer.{Answer}
 use Rattle.cur_play.specs.declared.answers.Answer.TheVariants.{Done, Was, Refused, WireFailed}
-use Rattle.curses_c.specs.Codes.{answer_code}
+use Rattle.curses_c.specs.Codes.{answer_code, script_code}
+use Rattle.curses_c.specs.Lines.{line_of}
 use Rattle.curses_c.specs.Outbox.{Posted, Posts}
 use Rattle.curses_c.specs.declared.held.Held.{Held}
 
@@ -32,34 +37,62 @@ is_done (Refused r) = false
 is_done WireFailed = false
 
 -- the first call that isn't done is the last one that is made
-abbrev pub Then : Bool → Answer → Answer → Held → Held → Type 0 → Type 0
-Then true answer a mid k rest = rest
-Then false answer a mid k rest = (a ≡ answer) × (k ≡ mid)
+abbrev pub Then : Bool → Answer → ℕ → Answer → Held → Held → (ℕ → Type 0) → Type 0
+Then true answer n a mid k Rest = (more : ℕ) × (n ≡ more + 1) × Rest more
+Then false answer n a mid k Rest = (n ≡ 0) × (a ≡ answer) × (k ≡ mid)
 
--- calls up to the first that isn't done, and its answer; `Done` where all are done
-abbrev pub MakesUpTo : Held → List Call → Answer → Held → Type 0
-MakesUpTo h [] a k = (a ≡ Done) × (k ≡ h)
-MakesUpTo h (call ∷ calls) a k =
+-- calls up to the first that isn't done: how many were done before it, and its answer; all and `Done` where all are
+abbrev pub MakesUpTo : Held → List Call → ℕ → Answer → Held → Type 0
+MakesUpTo h [] n a k = (n ≡ 0) × (a ≡ Done) × (k ≡ h)
+MakesUpTo h (call ∷ calls) n a k =
     (answer : Answer) × (mid : Held) × Makes h call answer mid
-    × Then (is_done answer) answer a mid k (MakesUpTo mid calls a k)
+    × Then (is_done answer) answer n a mid k (λ more. MakesUpTo mid calls more a k)
 
--- A text of calls: they are made up to the first that isn't done, and the number is that of its answer; or there was no
--- memory for reading them. A text that lists no calls changes nothing.
-abbrev pub Says : {E : Type 0} → Result (List Call) E → Held → ℤ → Held → Type 0
-Says (Ok calls) h code k =
-    ((answer : Answer) × MakesUpTo h calls answer k × (code ≡ answer_code answer)) ⊎ ((k ≡ h) × (code ≡ pos 12))
-Says (Err e) h code k = k ≡ h
+-- this line is the one that wasn't done; all else is the same
+abbrev pub noting : ℕ → Held → Held
+noting line h = record h { failed = line }
+
+-- the line of a text whose call isn't done, so many having been done before it; 0 where all are
+abbrev pub line_left : List ℕ → ℕ → Answer → ℕ
+line_left text done answer = if is_done answer then 0 else line_of text done
+
+-- a text's calls are made up to the first that isn't done; its line is noted, and the number is that of its answer
+pub record Plays (text : List ℕ) (calls : List Call) (h : Held) (code : ℤ) (k : Held) : Type 0 where
+  pub done : ℕ
+  pub answer : Answer
+  pub last : Held
+  pub makes : MakesUpTo h calls done answer last
+  pub noted : k ≡ noting (line_left text done answer) last
+  pub number : code ≡ answer_code answer
+
+-- want of memory is at no line
+abbrev pub fault_line : ScriptFaultKind → ℕ → ℕ
+fault_line BadLine line = line
+fault_line TooLong line = line
+fault_line NoMemory line = 0
+
+-- the calls that a text lists, or its fault, of which only the line is noted
+abbrev pub SaysRead : List ℕ → Result (List Call) ScriptFault → Held → ℤ → Held → Type 0
+SaysRead text (Ok calls) h code k = Plays text calls h code k
+SaysRead text (Err fault) h code k = (k ≡ noting fault.line h) × (code ≡ script_code fault.kind)
+
+-- A text of calls does so; or there was no memory for reading it, which is never so where it is one call.
+abbrev pub Says : List ℕ → Held → ℤ → Held → Type 0
+Says text h code k =
+    SaysRead text (script_of text) h code k ⊎ ((only_call text ≡ None) × (k ≡ noting 0 h) × (code ≡ pos 12))
 
 -- nothing waits, and nothing is known of the terminal
 pub record Loses (h k : Held) : Type 0 where
   pub session : k.session ≡ lost_stage h.session
   pub waiting : k.outbox.waiting ≡ []
+  pub failed : k.failed ≡ h.failed
 
 -- the first bytes that wait are handed out, as many as there is room for
 pub record Hands (h : Held) (room : List ℕ) (count : ℕ) (k : Held) : Type 0 where
   pub session : k.session ≡ h.session
   pub counted : count ≡ min (length room) (length h.outbox.waiting)
   pub rest : k.outbox.waiting ≡ drop count h.outbox.waiting
+  pub failed : k.failed ≡ h.failed
 
 -- what an open handle holds changes so; a closed one stays closed
 abbrev pub Changes : (Held → Held → Type 0) → Option Held → Option Held → Type 0

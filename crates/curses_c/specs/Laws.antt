@@ -4,7 +4,7 @@ use Rattle.vt_term.specs.Ends.{Ends}
 use Rattle.vt_term.specs.Screen.{State}
 use Rattle.ti_cert.specs.Table.{certified}
 use Rattle.ti_cert.specs.Verified.{partner_in}
-use Rattle.ti_conforms.specs.Certified.{IsChecked}
+use Rattle.ti_conforms.specs.Certified.{IsChecked, IsLost}
 use Rattle.cur_calls.specs.declared.calls.Call.{Call}
 use Rattle.cur_paint.specs.Update.{IsFresh, Shows}
 use Rattle.cur_update.specs.Inks.{ink_at}
@@ -16,16 +16,17 @@ use Rattle.cur_play.specs.Scenes.{first, scene_of}
 use Rattle.cur_play.specs.Steps.{drawn, output_of}
 use Rattle.cur_play.specs.declared.answers.Answer.{Answer}
 use Rattle.cur_play.specs.declared.sends.Emission.TheVariants.{Nothing}
-use Rattle.curses_c.specs.Held.{Hands, Loses, Makes}
+use Rattle.curses_c.specs.Held.{Hands, Loses, Makes, noting}
 use Rattle.curses_c.specs.declared.held.Held.{Held}
 
--- calls on a session, and what the program took of the bytes that wait
+-- calls on a session, and what the program took of the bytes that wait; which line wasn't done changes none of these
 pub data Played (h : Held) : List ℕ → Held → Type 0 where
   Begun : (taken : List ℕ) (k : Held) → taken ≡ [] → k ≡ h → Played h taken k
   Called : (taken : List ℕ) (mid k : Held) (call : Call) (answer : Answer) → Played h taken mid
       → Makes mid call answer k → Played h taken k
   Took : (before taken : List ℕ) (mid k : Held) (room : List ℕ) (count : ℕ) → Played h before mid
       → Hands mid room count k → taken ≡ before ++ take count mid.outbox.waiting → Played h taken k
+  Noted : (taken : List ℕ) (mid k : Held) (line : ℕ) → Played h taken mid → k ≡ noting line mid → Played h taken k
 
 -- the same, of calls that send nothing
 pub data Rests (h : Held) : List ℕ → Held → Type 0 where
@@ -34,6 +35,7 @@ pub data Rests (h : Held) : List ℕ → Held → Type 0 where
       → output_of call ≡ Nothing → Rests h taken k
   TookMore : (before taken : List ℕ) (mid k : Held) (room : List ℕ) (count : ℕ) → Rests h before mid
       → Hands mid room count k → taken ≡ before ++ take count mid.outbox.waiting → Rests h taken k
+  NotedMore : (taken : List ℕ) (mid k : Held) (line : ℕ) → Rests h taken mid → k ≡ noting line mid → Rests h taken k
 
 -- the states that the terminal may be in where nothing waits
 abbrev pub FitsHeld : Held → State → Type 0
@@ -71,6 +73,13 @@ LossesFit =
     (h mid k : Held) (taken front back : List ℕ) (s : State) → Played h taken mid
     → taken ++ mid.outbox.waiting ≡ front ++ back → Loses mid k → Begins h s
     → Ends s front (Begins k)
+
+-- A session that is lost begins with each state that output may have left that was cut: so does one that was opened
+-- anew.
+abbrev pub LossesBegin : Type 0
+LossesBegin =
+    (h k : Held) (s : State) → Loses h k → IsChecked (certified h.session.painter.checked)
+    → IsLost (certified h.session.painter.checked) s → Begins k s
 
 -- A session that was opened begins with each fresh terminal.
 abbrev pub OpeningsBegin : Type 0

@@ -3,6 +3,7 @@ pub mod Entries
 pub mod Handles
 pub mod Held
 pub mod Laws
+pub mod Lines
 pub mod Outbox
 pub mod Queries
 pub mod Sessions

@@ -7,6 +7,8 @@ use Rattle.cur_wires.specs.Wire.{IsWire}
 
 pub record Posted : Type 0 where
   pub waiting : List ℕ
+  -- for how many bytes more no memory has to be found
+  pub room : ℕ
   pub failures : ℕ
 
 -- these bytes wait after the others

@@ -1,13 +1,15 @@
 -- What the calls on sessions answer and do to a handle.
-use Rattle.std.specs.Prelude.{ℕ, ℤ, pos, ◌≡◌, ◌⊎◌, List, [], ◌∷◌, Option, Some, None}
+use Rattle.std.specs.Prelude.{ℕ, ℤ, pos, ◌≡◌, ◌⊎◌, List, [], ◌∷◌, ◌++◌, Option, Some, None, take, drop}
 use Rattle.ti_caps.specs.Entry.{Content}
-use Rattle.ti_cert.specs.Table.{certified}
+use Rattle.ti_cert.specs.Table.{CheckedTable, certified}
+use Rattle.ti_cert.specs.Texts.{IsTableOf}
 use Rattle.ti_conforms.specs.Certified.{IsChecked}
 use Rattle.cur_play.specs.Scenes.{first, scene_of}
 use Rattle.curses_c.specs.Codes.{failure_code}
 use Rattle.curses_c.specs.Entries.{Gives, IsCertified, IsShown, IsUncertified, IsUnshown, Lacks}
 use Rattle.curses_c.specs.declared.codes.Failure.{Failure}
 use Rattle.curses_c.specs.declared.codes.Failure.TheVariants.{NoMemory}
+use Rattle.curses_c.specs.Held.{Hands}
 use Rattle.curses_c.specs.declared.held.Held.{Held}
 
 -- a call on an open handle does this; a closed one stays closed, and the answer is this one
@@ -21,13 +23,26 @@ Answers none R None answer None = answer ≡ none
 abbrev pub closed : ℤ
 closed = pos 20
 
+-- the strings are those of the entry's own certificate
+pub record IsOwnTable (entry : Content) (rows cols : ℕ) (checked : CheckedTable) : Type 0 where
+  pub text : List ℕ
+  pub certified : IsCertified entry rows cols text
+  pub accepted : IsTableOf rows cols text checked
+
+-- so where no certificate was given; else those of the one that was
+abbrev pub IsTableFor : Content → ℕ → ℕ → List ℕ → CheckedTable → Type 0
+IsTableFor entry rows cols [] checked = IsOwnTable entry rows cols checked
+IsTableFor entry rows cols (b ∷ certificate) checked = IsTableOf rows cols (b ∷ certificate) checked
+
 -- an entry's session that has sent nothing
-pub record IsOpened (bytes name : List ℕ) (rows cols : ℕ) (h : Held) : Type 0 where
+pub record IsOpened (bytes name : List ℕ) (rows cols : ℕ) (certificate : List ℕ) (h : Held) : Type 0 where
   pub entry : Content
   pub gives : Gives bytes name entry
   pub shown : IsShown entry rows cols h.session.painter.checked
+  pub accepted : IsTableFor entry rows cols certificate h.session.painter.checked
   pub scene : scene_of h.session ≡ first (certified h.session.painter.checked)
   pub nothing : h.outbox.waiting ≡ []
+  pub failed : h.failed ≡ 0
   pub checked : IsChecked (certified h.session.painter.checked)
 
 -- a certificate that was made here isn't accepted
@@ -55,8 +70,14 @@ abbrev pub IsUnopened : List ℕ → List ℕ → ℕ → ℕ → List ℕ → F
 IsUnopened bytes name rows cols certificate e =
     Lacks bytes name rows cols e ⊎ IsUnopenedEntry bytes name rows cols certificate e
 
--- it is open, or there is a failure
-abbrev pub Opens : List ℕ → List ℕ → ℕ → ℕ → List ℕ → ℤ → Option Held → Type 0
-Opens bytes name rows cols certificate code (Some h) = (code ≡ pos 0) × IsOpened bytes name rows cols h
-Opens bytes name rows cols certificate code None =
-    (failure : Failure) × IsUnopened bytes name rows cols certificate failure × (code ≡ failure_code failure)
+-- it is open for the entry, or there is a failure and the handle is as it was
+abbrev pub Opens : List ℕ → List ℕ → ℕ → ℕ → List ℕ → Option Held → ℤ → Option Held → Type 0
+Opens bytes name rows cols certificate old code new =
+    ((h : Held) × IsOpened bytes name rows cols certificate h × (new ≡ Some h) × (code ≡ pos 0))
+    ⊎ ((e : Failure) × IsUnopened bytes name rows cols certificate e × (new ≡ old) × (code ≡ failure_code e))
+
+-- the first bytes that wait come first in the caller's room, and the rest of it stays; all of it on a closed handle
+abbrev pub Fetches : Option Held → List ℕ → ℕ × List ℕ → Option Held → Type 0
+Fetches old room fetched new =
+    Answers (0, room) (λ h answer k. Hands h room answer.0 k
+    × (answer.1 ≡ take answer.0 h.outbox.waiting ++ drop answer.0 room)) old fetched new

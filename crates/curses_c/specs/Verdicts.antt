@@ -1,7 +1,8 @@
 -- What the calls on certificates answer.
-use Rattle.std.specs.Prelude.{ℕ, ℤ, pos, nat_lt, ◌≡◌, ◌⊎◌, Bool, true, false, List, [], length, take, Result, Ok, Err}
+use Rattle.std.specs.Prelude.{ℕ, ℤ, pos, nat_lt, ◌≡◌, ◌⊎◌, Bool, true, false, List, [], ◌++◌, length, drop, Result, Ok, Err}
 use Rattle.ti_caps.specs.Entry.{Content}
 use Rattle.ti_cert.specs.Table.{CheckedTable}
+use Rattle.ti_cert.specs.Texts.{IsTableOf}
 use Rattle.ti_checker.specs.No.{IsNo}
 use Rattle.ti_checker.specs.declared.causes.No.{No}
 use Rattle.ti_verdicts.specs.Refusals.{no_text}
@@ -31,11 +32,11 @@ pub record IsReason (entry : Content) (rows cols : ℕ) (words : List ℕ) : Typ
   pub is : IsNo entry rows cols refusal
   pub says : words ≡ no_text refusal
 
--- without a no there are no words
+-- there are no words just where the entry has a certificate
 pub record Reasons (bytes name : List ℕ) (rows cols : ℕ) (words : List ℕ) : Type 0 where
   pub entry : Content
   pub gives : Gives bytes name entry
-  pub reason : (words ≡ []) ⊎ IsReason entry rows cols words
+  pub reason : ((words ≡ []) × ((text : List ℕ) × IsCertified entry rows cols text)) ⊎ IsReason entry rows cols words
 
 -- the size or the entry is lacking, or memory ran out
 abbrev pub LacksReason : List ℕ → List ℕ → ℕ → ℕ → Failure → Type 0
@@ -45,10 +46,10 @@ abbrev pub SameWords : {A E : Type 0} → Result A E → Result A Failure → Ty
 SameWords (Ok words) result = result ≡ Ok words
 SameWords (Err e) result = result ≡ Err NoMemory
 
--- where it is too long nothing is written
+-- where it is too long nothing is written; else the rest of the room stays
 abbrev pub FillsBy : Bool → List ℕ → List ℕ → List ℕ → ℤ → Type 0
 FillsBy true text old new code = (new ≡ old) × (code ≡ pos 25)
-FillsBy false text old new code = (take (length text) new ≡ text) × (code ≡ pos 0)
+FillsBy false text old new code = (new ≡ text ++ drop (length text) old) × (code ≡ pos 0)
 
 abbrev pub Fills : List ℕ → List ℕ → List ℕ → ℤ → Type 0
 Fills text old new code = FillsBy (nat_lt (length old) (length text)) text old new code
@@ -63,12 +64,13 @@ Answers Some Fails old new needed code =
     ((text : List ℕ) × Some text × (needed ≡ length text) × Fills text old new code)
     ⊎ ((e : Failure) × Fails e × (needed ≡ 0) × (new ≡ old) × (code ≡ failure_code e))
 
--- the entry conforms, and sends the strings of a verified certificate
-pub record IsVerified (bytes name : List ℕ) (rows cols : ℕ) : Type 0 where
+-- the entry conforms, and the certificate's strings are just those that it sends
+pub record IsVerified (bytes name : List ℕ) (rows cols : ℕ) (certificate : List ℕ) : Type 0 where
   pub entry : Content
   pub gives : Gives bytes name entry
   pub checked : CheckedTable
   pub shown : IsShown entry rows cols checked
+  pub accepted : IsTableOf rows cols certificate checked
 
 -- the size or the entry is lacking, or the certificate isn't one of the entry
 pub record IsUnverifiedEntry (bytes name : List ℕ) (rows cols : ℕ) (certificate : List ℕ) (e : Failure) : Type 0 where
@@ -81,5 +83,5 @@ IsUnverified bytes name rows cols certificate e =
     Lacks bytes name rows cols e ⊎ IsUnverifiedEntry bytes name rows cols certificate e
 
 abbrev pub Verifies : List ℕ → List ℕ → ℕ → ℕ → List ℕ → ℤ → Type 0
-Verifies bytes name rows cols certificate code = (IsVerified bytes name rows cols × (code ≡ pos 0))
+Verifies bytes name rows cols certificate code = (IsVerified bytes name rows cols certificate × (code ≡ pos 0))
     ⊎ ((e : Failure) × IsUnverified bytes name rows cols certificate e × (code ≡ failure_code e))

@@ -1,6 +1,7 @@
 //! Entries, sizes and certificates from what a program hands over.
 ghost use Rattle.std.specs.Prelude.{◌≡◌, IfErr, IfOk};
 ghost use Rattle.ti_checker.specs.Certificate.{IsCertificateOf};
+ghost use Rattle.ti_cert.specs.Texts.{IsTableOf};
 ghost use Rattle.ti_conforms.specs.Conforms.{Conforms};
 ghost use Rattle.vt_term.specs.Size.{IsSize};
 ghost use Rattle.curses_c.specs.Entries as spec;
@@ -133,6 +134,7 @@ pub fn checked_by(
     certificate: &[u8],
 ) -> Result<Checked, Failure>
     ensures shown { IfOk result (spec.IsShown described.now.entry described.now.size.rows described.now.size.cols) }
+    ensures accepted { IfOk result (IsTableOf described.now.size.rows described.now.size.cols certificate.now) }
     ensures unshown { IfErr result (spec.IsUnshown described.now.entry described.now.size.rows
         described.now.size.cols certificate.now) }
 {

@@ -1,15 +1,16 @@
 //! What an open handle holds: a session, and the bytes that wait to be taken.
-ghost use Rattle.std.specs.Prelude.{◌≡◌, IfOk, [], take};
+ghost use Rattle.std.specs.Prelude.{◌≡◌, ◌++◌, IfOk, [], drop, take};
 ghost use Rattle.cur_calls.specs.declared.calls.Call.TheVariants.{Addstr};
-ghost use Rattle.cur_calls.specs.Texts.{script_of};
 ghost use Rattle.cur_play.specs.Scenes.{first, scene_of};
 ghost use Rattle.ti_cert.specs.Table.{certified};
 ghost use Rattle.ti_conforms.specs.Certified.{IsChecked};
-ghost use Rattle.curses_c.specs.Held.{Hands, Loses, Makes, MakesUpTo, Says, is_done};
+ghost use Rattle.curses_c.specs.Codes as codes;
+ghost use Rattle.curses_c.specs.Held.{Hands, Loses, Makes, MakesUpTo, Plays, Says, fault_line, is_done, line_left, noting};
 
 use crate::codes::{answer_code, script_code};
+use crate::lines::line_of;
 use crate::outbox::Outbox;
-use cur_calls::{Call, Text, read_call, read_script};
+use cur_calls::{Call, ScriptFault, ScriptFaultKind, Text, read_call, read_script};
 use cur_play::{Answer, Session};
 use std::alloc::{AllocError, Global};
 use std::slice;
@@ -21,6 +22,15 @@ use ti_conforms::Certificate;
 pub struct Held {
     pub session: Session<Checked>,
     pub outbox: Outbox,
+    /// The line, from 1, of the last text of calls that wasn't done; 0 where all of it was.
+    pub failed: usize,
+}
+
+/// How many calls were done, and the answer of the one behind them; `Done` where all were.
+#[derive(Clone, Copy)]
+pub struct Made {
+    done: usize,
+    answer: Answer,
 }
 
 impl Held {
@@ -29,6 +39,7 @@ impl Held {
         ensures scene { IfOk result (λ held. scene_of held.session ≡ first (certified checked)) }
         ensures certificate { IfOk result (λ held. held.session.painter.checked ≡ checked) }
         ensures nothing { IfOk result (λ held. held.outbox.waiting ≡ []) }
+        ensures failed { IfOk result (λ held. held.failed ≡ 0) }
         ensures sound { IfOk result (λ _. IsChecked (certified checked)) }
     {
         // only this call's contract says so
@@ -36,19 +47,22 @@ impl Held {
         Ok(Held {
             session: Session::open(alloc, checked)?,
             outbox: Outbox::new(alloc),
+            failed: 0,
         })
     }
 
     /// Does `call`; what it sends waits in the outbox.
     pub fn call(&mut self, call: &Call<'_>) -> Answer
-        ensures { Makes self.old call.now result self.new }
+        ensures makes { Makes self.old call.now result self.new }
+        ensures failed { (self.new).failed ≡ (self.old).failed }
     {
         self.session.call(call, &mut self.outbox)
     }
 
     /// `addstr` of any bytes.
     pub fn addstr(&mut self, window: usize, text: &[u8]) -> Answer
-        ensures { Makes self.old (Addstr window text.now) result self.new }
+        ensures makes { Makes self.old (Addstr window text.now) result self.new }
+        ensures failed { (self.new).failed ≡ (self.old).failed }
     {
         let call = Call::Addstr {
             window,
@@ -57,37 +71,63 @@ impl Held {
         self.call(&call)
     }
 
-    /// Does `calls` up to the first that isn't done, and gives its answer.
-    pub fn calls(&mut self, calls: &[Call<'_>]) -> Answer
-        ensures { MakesUpTo self.old calls.now result self.new }
+    /// Does `calls` up to the first that isn't done.
+    fn calls(&mut self, calls: &[Call<'_>]) -> Made
+        ensures { MakesUpTo self.old calls.now result.done result.answer self.new }
     {
+        let mut done = 0;
         for call in calls {
             let answer = self.call(call);
             if !is_done(answer) {
-                return answer;
+                return Made { done, answer };
             }
+            done += 1;
         }
-        Answer::Done
+        Made {
+            done,
+            answer: Answer::Done,
+        }
     }
 
     /// Does the calls of a script, `text`, up to the first that isn't done, and gives the number of its answer.
     pub fn script(&mut self, alloc: Global, text: &[u8]) -> i32
-        ensures { Says (script_of text.now) self.old result self.new }
+        ensures { Says text.now self.old result self.new }
     {
         // most scripts of a program are one call, for which no memory is taken
         if let Some(call) = read_call(text) {
-            return answer_code(self.calls(slice::from_ref(&call)));
+            return self.play(text, slice::from_ref(&call));
         }
         match read_script(alloc, text) {
-            Ok(calls) => answer_code(self.calls(calls.as_slice())),
-            Err(fault) => script_code(fault.kind),
+            Ok(calls) => self.play(text, calls.as_slice()),
+            Err(fault) => self.refuse(fault),
         }
+    }
+
+    /// Does the calls of `text` up to the first that isn't done, notes its line, and gives the number of its answer.
+    fn play(&mut self, text: &[u8], calls: &[Call<'_>]) -> i32
+        ensures { Plays text.now calls.now self.old result self.new }
+    {
+        let made = self.calls(calls);
+        self.failed = line_left(text, made);
+        answer_code(made.answer)
+    }
+
+    /// Notes the line of a fault, and gives its number.
+    fn refuse(&mut self, fault: ScriptFault) -> i32
+        ensures line { self.new ≡ noting (fault_line fault.kind fault.line) self.old }
+        ensures code { result ≡ codes.script_code fault.kind }
+    {
+        self.failed = match fault.kind {
+            ScriptFaultKind::BadLine | ScriptFaultKind::TooLong => fault.line as usize,
+            ScriptFaultKind::NoMemory => 0,
+        };
+        script_code(fault.kind)
     }
 
     /// Hands out the first bytes that wait, as many as `room` has room for, and gives their number.
     pub fn take_into(&mut self, room: &mut [u8]) -> usize
         ensures hands { Hands self.old room.old result self.new }
-        ensures bytes { take result room.new ≡ take result (self.old).outbox.waiting }
+        ensures room { room.new ≡ take result (self.old).outbox.waiting ++ drop result room.old }
     {
         self.outbox.take_into(room)
     }
@@ -98,6 +138,17 @@ impl Held {
     {
         self.outbox.clear();
         self.session.lose();
+    }
+}
+
+/// The line of the call that wasn't done; 0 where all were.
+fn line_left(text: &[u8], made: Made) -> usize
+    ensures { result ≡ line_left text.now made.done made.answer }
+{
+    if is_done(made.answer) {
+        0
+    } else {
+        line_of(text, made.done)
     }
 }
 

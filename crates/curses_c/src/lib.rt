@@ -6,6 +6,7 @@ mod entries;
 mod handles;
 mod held;
 pub mod laws;
+mod lines;
 mod loose;
 mod outbox;
 mod queries;

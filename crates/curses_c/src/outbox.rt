@@ -1,6 +1,7 @@
 //! Bytes that wait for the program to take them.
-ghost use Rattle.std.specs.Prelude.{◌≡◌, [], length, min, take, drop};
+ghost use Rattle.std.specs.Prelude.{◌≡◌, ◌++◌, ◌<◌, ◌≤◌, [], length, min, take, drop, IfOk, OnErr};
 ghost use Rattle.curses_c.specs.Outbox.{Posts};
+ghost use Rattle.cur_wires.specs.Wire.{Rose};
 
 use cur_wires::{Wire, WireFault};
 use std::alloc::Global;
@@ -15,12 +16,16 @@ pub struct Outbox {
 }
 
 impl Model for Outbox {
-    ghost use Rattle.std.specs.Prelude.{◌≤◌, drop, length};
+    ghost use Rattle.std.specs.Prelude.{◌≤◌, ◌-◌, drop, length, vec_capacity};
     ghost use Rattle.curses_c.specs.Outbox.{Posted};
 
     ghost Value = { Posted };
 
-    ghost view = { λ o. record { waiting = drop o.taken o.bytes.items; failures = o.failures } };
+    ghost view = { λ o. record {
+      waiting = drop o.taken o.bytes.items;
+      room = vec_capacity o.bytes - length o.bytes.items;
+      failures = o.failures;
+    } };
 
     ghost invariant = { λ o. o.taken ≤ length o.bytes.items };
 }
@@ -55,7 +60,7 @@ impl Outbox {
     /// Moves the first bytes that wait to the start of `room`, as many as it has room for, and gives their number.
     pub fn take_into(&mut self, room: &mut [u8]) -> usize
         ensures count { result ≡ min (length room.old) (length self.old.waiting) }
-        ensures bytes { take result room.new ≡ take result self.old.waiting }
+        ensures room { room.new ≡ take result self.old.waiting ++ drop result room.old }
         ensures rest { self.new.waiting ≡ drop result self.old.waiting }
     {
         let waiting = &self.bytes[self.taken..];
@@ -68,7 +73,7 @@ impl Outbox {
 
     /// Where all was taken, the next bytes take its room.
     fn reuse(&mut self)
-        ensures { self.new ≡ self.old }
+        ensures waiting { self.new.waiting ≡ self.old.waiting }
     {
         if self.taken == self.bytes.len() {
             self.bytes.clear();
@@ -85,7 +90,16 @@ impl Wire for Outbox {
     ghost failures = { λ o. o.failures };
 
     /// Keeps `piece`, and fails where there is no memory for it.
-    fn send(&mut self, piece: &[u8]) -> Result<usize, WireFault> {
+    fn send(&mut self, piece: &[u8]) -> Result<usize, WireFault>
+        requires { 0 < length piece.now }
+        ensures some { IfOk result (λ n. 0 < n) }
+        ensures within { IfOk result (λ n. n ≤ length piece.now) }
+        ensures sent { IfOk result (λ n. Posts self.old self.new (take n piece.now)) }
+        ensures unsent { OnErr result (Posts self.old self.new []) }
+        ensures failed { OnErr result (Rose self.old.failures self.new.failures) }
+        ensures whole { IfOk result (λ n. n ≡ length piece.now) }
+        ensures fails_only_short { OnErr result (self.old.room < length piece.now) }
+    {
         match self.bytes.extend_from_slice(piece) {
             Ok(()) => Ok(piece.len()),
             Err(_) => {

@@ -1,5 +1,5 @@
 //! What programs ask of a window.
-ghost use Rattle.std.specs.Prelude.{◌≡◌};
+ghost use Rattle.std.specs.Prelude.{◌≡◌, Ok};
 ghost use Rattle.cur_windows.specs.Queries.{window_of};
 ghost use Rattle.cur_windows.specs.Sizes.{window_size};
 ghost use Rattle.cur_windows.specs.Views.{seen};
@@ -19,6 +19,19 @@ pub struct Standing {
     pub byte: u8,
     pub attrs: u8,
     pub pair: u8,
+}
+
+/// The line, from 1, of the last text of calls that wasn't done; 0 where all of it was, and where no line is at fault.
+#[unsafe(no_mangle)]
+pub extern "C" fn ticurses_raw_failed(alloc: Global, handle: &mut Handle, line: &mut usize) -> i32
+    ensures { Asks (λ h. Ok h.failed) (handle.old).slot.held (handle.new).slot.held line.old line.new result }
+{
+    let Some(held) = handle.take(alloc) else {
+        return failure_code(Failure::Closed);
+    };
+    *line = held.failed;
+    handle.put(held);
+    OK
 }
 
 /// The place of a window's cursor in the window (`getyx`).

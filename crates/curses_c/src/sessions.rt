@@ -1,12 +1,11 @@
 //! The calls on sessions.
-ghost use Rattle.std.specs.Prelude.{◌≡◌, None, IfErr, IfOk, length, pos, take};
+ghost use Rattle.std.specs.Prelude.{◌≡◌, None, IfErr, IfOk, length, pos};
 ghost use Rattle.cur_calls.specs.declared.calls.Call.TheVariants.{Addstr};
-ghost use Rattle.cur_calls.specs.Texts.{script_of};
 ghost use Rattle.cur_play.specs.declared.answers.Answer.{Answer};
 ghost use Rattle.curses_c.specs.Codes.{answer_code};
 ghost use Rattle.curses_c.specs.Entries.{IsShown};
-ghost use Rattle.curses_c.specs.Held.{Hands, Loses, Makes, Says};
-ghost use Rattle.curses_c.specs.Sessions.{Answers, IsOpened, IsUnopened, LacksChecked, LacksOwn, Opens, closed};
+ghost use Rattle.curses_c.specs.Held.{Loses, Makes, Says};
+ghost use Rattle.curses_c.specs.Sessions.{Answers, Fetches, IsOpened, IsOwnTable, IsTableFor, IsUnopened, LacksChecked, LacksOwn, Opens, closed};
 
 use crate::codes::{Failure, OK, answer_code, failure_code};
 use crate::entries::{Described, Subject, certificate_of, checked_by, describe};
@@ -16,7 +15,8 @@ use std::alloc::Global;
 use ti_cert::Checked;
 
 /// Opens a session on the terminal of `rows` and `cols` that an entry drives: the one of the compiled file `entry`, or
-/// of `name` in the source text `entry`. Without a `certificate` it makes one. What the handle held before is closed.
+/// of `name` in the source text `entry`. Without a `certificate` it makes one. What the handle held before is closed; where
+/// no session can be opened it stays open.
 #[unsafe(no_mangle)]
 pub extern "C" fn ticurses_raw_open(
     alloc: Global,
@@ -27,9 +27,8 @@ pub extern "C" fn ticurses_raw_open(
     cols: u16,
     certificate: &[u8],
 ) -> i32
-    ensures { Opens entry.now name.now rows cols certificate.now result (handle.new).slot.held }
+    ensures { Opens entry.now name.now rows cols certificate.now (handle.old).slot.held result (handle.new).slot.held }
 {
-    let _ = handle.take(alloc);
     let subject = Subject {
         bytes: entry,
         name,
@@ -38,6 +37,7 @@ pub extern "C" fn ticurses_raw_open(
     };
     match open(alloc, &subject, certificate) {
         Ok(held) => {
+            let _ = handle.take(alloc);
             handle.put(held);
             OK
         }
@@ -51,7 +51,7 @@ fn open(
     certificate: &[u8],
 ) -> Result<Box<Held, Global>, Failure>
     ensures opened { IfOk result (λ b. IsOpened subject.now.bytes.now subject.now.name.now subject.now.rows
-        subject.now.cols b.value) }
+        subject.now.cols certificate.now b.value) }
     ensures unopened { IfErr result (IsUnopened subject.now.bytes.now subject.now.name.now subject.now.rows
         subject.now.cols certificate.now) }
 {
@@ -69,6 +69,8 @@ fn open(
 /// What `certificate` shows, or, where it is empty, what one that is made here does.
 fn checked_for(alloc: Global, described: &Described, certificate: &[u8]) -> Result<Checked, Failure>
     ensures shown { IfOk result (IsShown described.now.entry described.now.size.rows described.now.size.cols) }
+    ensures accepted { IfOk result (IsTableFor described.now.entry described.now.size.rows described.now.size.cols
+        certificate.now) }
     ensures lacks { IfErr result (LacksChecked described.now.entry described.now.size.rows
         described.now.size.cols certificate.now) }
 {
@@ -81,6 +83,7 @@ fn checked_for(alloc: Global, described: &Described, certificate: &[u8]) -> Resu
 /// What the entry's certificate, which is made here, shows.
 fn checked_by_own(alloc: Global, described: &Described) -> Result<Checked, Failure>
     ensures shown { IfOk result (IsShown described.now.entry described.now.size.rows described.now.size.cols) }
+    ensures accepted { IfOk result (IsOwnTable described.now.entry described.now.size.rows described.now.size.cols) }
     ensures lacks { IfErr result (LacksOwn described.now.entry described.now.size.rows described.now.size.cols) }
 {
     let text = certificate_of(alloc, described)?;
@@ -98,7 +101,7 @@ pub extern "C" fn ticurses_raw_close(alloc: Global, handle: &mut Handle)
 /// Does the calls of a script, `text`, up to the first that isn't done. What they send waits to be taken.
 #[unsafe(no_mangle)]
 pub extern "C" fn ticurses_raw_call(alloc: Global, handle: &mut Handle, text: &[u8]) -> i32
-    ensures { Answers closed (Says (script_of text.now)) (handle.old).slot.held result (handle.new).slot.held }
+    ensures { Answers closed (Says text.now) (handle.old).slot.held result (handle.new).slot.held }
 {
     let Some(held) = handle.take(alloc) else {
         return failure_code(Failure::Closed);
@@ -118,7 +121,7 @@ pub extern "C" fn ticurses_raw_addstr(
     text: &[u8],
 ) -> i32
     ensures { Answers closed (λ h code k. (answer : Answer) × Makes h (Addstr window text.now) answer k
-        × (code ≡ answer_code answer)) (handle.old).slot.held result (handle.new).slot.held }
+        × (k.failed ≡ h.failed) × (code ≡ answer_code answer)) (handle.old).slot.held result (handle.new).slot.held }
 {
     let Some(held) = handle.take(alloc) else {
         return failure_code(Failure::Closed);
@@ -143,11 +146,11 @@ pub extern "C" fn ticurses_raw_waiting(alloc: Global, handle: &mut Handle) -> us
     count
 }
 
-/// Moves the first of the bytes that wait to the start of `room`, as many as it has room for, and gives their number.
+/// Moves the first of the bytes that wait to the start of `room`, as many as it has room for, and gives their number. The
+/// rest of the room stays as it is.
 #[unsafe(no_mangle)]
 pub extern "C" fn ticurses_raw_output(alloc: Global, handle: &mut Handle, room: &mut [u8]) -> usize
-    ensures { Answers 0 (λ h count k. Hands h room.old count k × (take count room.new ≡ take count h.outbox.waiting))
-        (handle.old).slot.held result (handle.new).slot.held }
+    ensures { Fetches (handle.old).slot.held room.old (result, room.new) (handle.new).slot.held }
 {
     let Some(held) = handle.take(alloc) else {
         return 0;

@@ -1,11 +1,12 @@
 //! The calls on certificates, which keep nothing.
-ghost use Rattle.std.specs.Prelude.{IfErr, IfOk};
+ghost use Rattle.std.specs.Prelude.{◌≡◌, IfErr, IfOk};
+ghost use Rattle.ti_verdicts.specs.Refusals.{no_text};
 ghost use Rattle.curses_c.specs.Verdicts as spec;
 
 use crate::codes::{Failure, OK, failure_code};
 use crate::entries::{Subject, certificate_of, checked_by, describe};
 use std::alloc::{AllocError, Global};
-use ti_checker::{Cause, check};
+use ti_checker::{Cause, No, check};
 use ti_verdicts::no_words;
 
 /// Writes the certificate of an entry for `rows` and `cols` to the start of `room`: the entry of the compiled file
@@ -73,12 +74,20 @@ fn reason(alloc: Global, subject: &Subject<'_>) -> Result<Vec<u8>, Failure>
         subject.now.cols) }
 {
     let described = describe(alloc, subject)?;
-    let Err(no) = check(alloc, &described.entry, described.size) else {
-        return Ok(Vec::new(alloc));
-    };
+    match check(alloc, &described.entry, described.size) {
+        Ok(_certificate) => Ok(Vec::new(alloc)),
+        Err(no) => words_of(alloc, &no),
+    }
+}
+
+/// The words of a refusal.
+fn words_of(alloc: Global, no: &No) -> Result<Vec<u8>, Failure>
+    ensures says { IfOk result (λ words. words.items ≡ no_text no.now) }
+    ensures lacks { IfErr result (λ e. e ≡ Failure.NoMemory) }
+{
     match no.cause {
         Cause::NoMemory => Err(Failure::NoMemory),
-        _ => or_no_memory(no_words(alloc, &no)),
+        _ => or_no_memory(no_words(alloc, no)),
     }
 }
 
@@ -144,7 +153,7 @@ pub extern "C" fn ticurses_raw_verify(
 
 fn verified(alloc: Global, subject: &Subject<'_>, certificate: &[u8]) -> Result<(), Failure>
     ensures shown { IfOk result (λ _. spec.IsVerified subject.now.bytes.now subject.now.name.now subject.now.rows
-        subject.now.cols) }
+        subject.now.cols certificate.now) }
     ensures unshown { IfErr result (spec.IsUnverified subject.now.bytes.now subject.now.name.now subject.now.rows
         subject.now.cols certificate.now) }
 {
