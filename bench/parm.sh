@@ -72,9 +72,9 @@ escape=$(printf '\033')
 in=$(printf '\016')
 out=$(printf '\017')
 echo "expansions a second         ticurses        tparm    ratio"
-beside 'cup 23 79' 1000000 "$escape[%i%p1%d;%p2%dH" 23 79
-beside 'sgr, nine parameters' 500000 "$escape[0;10%?%p1%t;7%;%?%p2%t;4%;%?%p3%t;7%;%?%p4%t;5%;%?%p5%t;2%;%?%p6%t;1%;m%?%p9%t$in%e$out%;" 0 1 0 1 0 1 0 0 1
-beside 'setaf 200' 1000000 "$escape[%?%p1%{8}%<%t3%p1%d%e%p1%{16}%<%t9%p1%{8}%-%d%e38;5;%p1%d%;m" 200
+beside 'cup 23 79' 1000000 "${escape}[%i%p1%d;%p2%dH" 23 79
+beside 'sgr, nine parameters' 500000 "${escape}[0;10%?%p1%t;7%;%?%p2%t;4%;%?%p3%t;7%;%?%p4%t;5%;%?%p5%t;2%;%?%p6%t;1%;m%?%p9%t$in%e$out%;" 0 1 0 1 0 1 0 0 1
+beside 'setaf 200' 1000000 "${escape}[%?%p1%{8}%<%t3%p1%d%e%p1%{16}%<%t9%p1%{8}%-%d%e38;5;%p1%d%;m" 200
 grows 'nest, each run' "$(nested 454)" "$(nested 227)" 1
 grows 'nest, passed over' "$(nested 454)" "$(nested 227)" 0
 grows 'nest in %e' "$(others 372)" "$(others 186)" 1 0

@@ -6,7 +6,7 @@ same words has placed.
 
 Without PREFIX it is /usr/local. Files go below DESTDIR, but are made for PREFIX: the headers, libticurses.a,
 libticurses.so, ticurses.pc for pkg-config, the manual pages, and the Python package, in the folder below PREFIX in
-which python3 looks for packages. The program and its page come along where it is built. CC, AR and OBJCOPY are the C
+which python3 looks for packages. The program comes along where it is built. CC, AR and OBJCOPY are the C
 compiler, the archiver and the copier of objects, cc, ar and objcopy if they aren't set.
 
 The status is 0, 1 if a file could not be written, 2 for other words than these and for folders that a .pc file can't
@@ -113,28 +113,23 @@ class File:
 
 
 def files(where):
-    """All files but the program's, in the order in which they are placed."""
+    """All files but the program, in the order in which they are placed."""
     top, libdir = f"{where.destination}{where.prefix}", f"{where.destination}{where.libdir}"
     package = f"{where.destination}{where.python}/ticurses"
     archive, shared = LIBRARY.files
     found = [File(f"{top}/include/{it}", f"{TOP}/include/{it}") for it in ("ticurses.h", "ticurses_terminal.h")]
     found += [File(f"{libdir}/libticurses.a", archive), File(f"{libdir}/{SONAME}", shared, mode=0o755)]
     found.append(File(f"{libdir}/pkgconfig/ticurses.pc", text=where.pkgconfig()))
-    found += [manual(top, page) for page in ("ticurses.3", "ticurses-script.5")]
+    for page in ("ticurses.1", "ticurses.3", "ticurses-script.5"):
+        found.append(File(f"{top}/share/man/man{page[-1]}/{page}", f"{TOP}/man/{page}"))
     names = sorted(it for it in os.listdir(BINDING) if it.endswith((".py", "py.typed")) and it != "_installed.py")
     found += [File(f"{package}/{it}", f"{BINDING}/{it}") for it in names]
     found.append(File(f"{package}/_installed.py", text=INSTALLED.format(path=f"{where.libdir}/{SONAME}")))
     return found
 
 
-def manual(top, page):
-    return File(f"{top}/share/man/man{page[-1]}/{page}", f"{TOP}/man/{page}")
-
-
-def of_program(where):
-    """The program, and its page."""
-    top = f"{where.destination}{where.prefix}"
-    return [File(f"{top}/bin/ticurses", PROVED.files[0], mode=0o755), manual(top, "ticurses.1")]
+def program(where):
+    return File(f"{where.destination}{where.prefix}/bin/ticurses", PROVED.files[0], mode=0o755)
 
 
 def links(where):
@@ -148,9 +143,9 @@ def install(where):
     os.umask(0o022)
     placed = files(where)
     if PROVED.is_current():
-        placed += of_program(where)
+        placed.append(program(where))
     else:
-        print("install: the program isn't built (./build makes it), so that it and its page ticurses(1) are left out")
+        print("install: the program isn't built (./build makes it), and is left out")
     for file in placed:
         file.place()
     link_at = links(where)
@@ -163,7 +158,7 @@ def install(where):
 def uninstall(where):
     """Removes what `install` places. What isn't there is no error."""
     package = f"{where.destination}{where.python}/ticurses"
-    for at in [*(it.at for it in files(where) + of_program(where)), links(where)]:
+    for at in [*(it.at for it in files(where)), program(where).at, links(where)]:
         if os.path.lexists(at):
             os.remove(at)
             print(f"install: {at} is removed")
