@@ -2,7 +2,7 @@
 use Rattle.std.specs.Prelude.{◌≡◌, ℕ, Bool, true, false, List, Option, Some, None, String, string_bytes}
 use Rattle.std.specs.declared.alloc.Global.{Global}
 use Rattle.ti_checker.specs.declared.causes.Cause.{Cause}
-use Rattle.ti_checker.specs.declared.causes.Cause.TheVariants.{BadLook, NotShown, WrongEffect}
+use Rattle.ti_checker.specs.declared.causes.Cause.TheVariants.{FlagOut, Absent, AcsByte, Parm, StaticRead, Unfinished, Stuck, NotTame, BadLook, WrongEffect, NotShown, TooLong, NoResync, NoMemory}
 use Rattle.ti_verdicts.specs.Starts.{settings_of}
 use Rattle.ti_words.specs.Starts.{start_text}
 
@@ -13,16 +13,37 @@ IsOnlyIf false text = text ≡ None
 
 -- something is wanted of what is sent
 abbrev pub wants : Cause → Bool
+wants FlagOut = false
+wants Absent = false
+wants AcsByte = false
+wants (Parm fault) = false
+wants StaticRead = false
+wants Unfinished = false
+wants Stuck = false
+wants NotTame = false
 wants BadLook = true
 wants (WrongEffect probe) = true
 wants NotShown = true
-wants _ = false
+wants TooLong = false
+wants NoResync = false
+wants NoMemory = false
 
 -- what is sent was run
 abbrev pub is_run : Cause → Bool
+is_run FlagOut = false
+is_run Absent = false
+is_run AcsByte = false
+is_run (Parm fault) = false
+is_run StaticRead = false
+is_run Unfinished = false
+is_run Stuck = false
+is_run NotTame = false
 is_run BadLook = true
 is_run (WrongEffect probe) = true
-is_run _ = false
+is_run NotShown = false
+is_run TooLong = false
+is_run NoResync = false
+is_run NoMemory = false
 
 abbrev pub HasText : List ℕ → Option (String Global) → Type 0
 HasText bytes (Some text) = string_bytes text ≡ bytes
@@ -30,8 +51,20 @@ HasText bytes None = ⊥
 
 -- the state from which it goes wrong on a terminal of this height, in words
 abbrev pub HasStart : ℕ → Cause → Option (String Global) → Type 0
+HasStart height FlagOut start = start ≡ None
+HasStart height Absent start = start ≡ None
+HasStart height AcsByte start = start ≡ None
+HasStart height (Parm fault) start = start ≡ None
+HasStart height StaticRead start = start ≡ None
+HasStart height Unfinished start = start ≡ None
+HasStart height Stuck start = start ≡ None
+HasStart height NotTame start = start ≡ None
+HasStart height BadLook start = start ≡ None
 HasStart height (WrongEffect probe) start = HasText (start_text height (settings_of probe) probe.fill) start
-HasStart height _ start = start ≡ None
+HasStart height NotShown start = start ≡ None
+HasStart height TooLong start = start ≡ None
+HasStart height NoResync start = start ≡ None
+HasStart height NoMemory start = start ≡ None
 
 -- Where a state shows the fault, it is the cause's own; what is wanted, and what is seen, is in free words.
 pub record IsExplained (height : ℕ) (cause : Cause) (start wanted seen : Option (String Global)) : Type 0 where
