@@ -6,5 +6,5 @@ use Rattle.ti_commands.proofs.descriptions.entry_of.Goals as goal
 
 pub returns-clause-failure : goal.returns-clause-failure
 returns-clause-failure g c =
-    let notes = notes_text c.in_ok-_text.field-0.raws.items in
-    inr (c.in-Err.refusal, notes, refl, subst (λ (entry : Result Content CommandRefusal). Finds (g.F.Files.holds c.args.files.now) c.args.word.now notes entry) c.in-Err.is c.in_ok-_text.ensures.found)
+    let notes = notes_text c.in_ok-text.field-0.raws.items in
+    inr (c.in-Err.refusal, notes, refl, subst (λ (entry : Result Content CommandRefusal). Finds (g.F.Files.holds c.args.files.now) c.args.word.now notes entry) c.in-Err.is c.in_ok-text.ensures.found)
