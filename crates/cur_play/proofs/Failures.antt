@@ -11,8 +11,8 @@ use Rattle.cur_wires.specs.declared.wires.WireFault.{WireFault}
 use Rattle.cur_looks.specs.declared.beliefs.Mode.{Mode}
 use Rattle.cur_looks.specs.declared.inks.Ink.{Ink}
 use Rattle.cur_paint.specs.Beep.{RangShort}
-use Rattle.cur_paint.specs.Modes.{SetsMode, shown_mode}
-use Rattle.cur_paint.specs.Update.{Lawful}
+use Rattle.cur_paint.specs.Modes.{OnlyPaints, OnlyPaintsSoFar, SetsMode, shown_mode}
+use Rattle.cur_paint.specs.Update.{Lawful, opening}
 use Rattle.cur_paint.specs.declared.updates.Status.{Status}
 use Rattle.cur_paint.specs.declared.updates.Status.TheVariants.{Fresh, Known, Lost}
 use Rattle.cur_paint.specs.declared.updates.Wanted.{Wanted}
@@ -25,7 +25,7 @@ use Rattle.cur_calls.specs.declared.calls.Call.{Call}
 use Rattle.cur_play.proofs.Performances.{draws_answer}
 use Rattle.cur_play.specs.Deliveries.{FitsIn}
 use Rattle.cur_play.specs.Drawings.{Drawn}
-use Rattle.cur_play.specs.Log.{Emits, Says}
+use Rattle.cur_play.specs.Log.{Emits, PaintsAs, Says}
 use Rattle.cur_play.specs.Outputs.{Puts, Told}
 use Rattle.cur_play.specs.Scenes.{Scene}
 use Rattle.cur_play.specs.Steps.{CallStep, Stepped, NoRoom, Failed, Step, drawn, is_sent, output_of, rung, sent, call_step, then_sent}
@@ -118,6 +118,28 @@ shown_same Lost m n h = refl
 
 not_sent : false ≡ true → ⊥
 not_sent e = cc
+
+-- a refresh only paints
+pub painted_only : {W C : Type 0} (went : W → W → List ℕ → Type 0) (failures : W → ℕ) (old new : W) (t : Table) (partners : ℕ → Option ℕ) (v : Screen) (o : Emission) (answer : Answer) (bytes : List ℕ) (before after : Painted C)
+    (now : Option Mode) → shown_mode before.session.status before.session.belief.mode ≡ now → Puts went failures old new t partners v o answer bytes before after → o ≡ Update
+    → PaintsAs answer t before.session.status now (wanted_of v before.mode) bytes
+painted_only {W} {C} went failures old new t partners v o answer bytes before after now same p e =
+    let P : Emission → Type 0 = λ x. Puts went failures old new t partners v x answer bytes before after in
+    let status = before.session.status in
+    let w = wanted_of v before.mode in
+    let Q : Option Mode → Type 0 = λ n. PaintsAs answer t status n w bytes in
+    subst Q same (by_answer answer (subst P e p))
+  where
+    by_answer : (answer : Answer) → Puts went failures old new t partners v Update answer bytes before after
+        → PaintsAs answer t before.session.status (shown_mode before.session.status before.session.belief.mode) (wanted_of v before.mode) bytes
+    by_answer Done p =
+        let w = wanted_of v before.mode in
+        subst (OnlyPaints t (opening t before.session.status w.clear) (shown_mode before.session.status before.session.belief.mode) w.cursor w.mode) (sym p.all) p.refreshed.quiet
+    by_answer WireFailed p =
+        let w = wanted_of v before.mode in
+        subst (OnlyPaintsSoFar t (opening t before.session.status w.clear) (shown_mode before.session.status before.session.belief.mode) w.cursor w.mode) (sym p.all) p.cut.quiet
+    by_answer (Was n) p = tt
+    by_answer (Refused r) p = tt
 
 -- from the states that may be met to some of them
 pub emitted : {W C : Type 0} (went : W → W → List ℕ → Type 0) (failures : W → ℕ) (old new : W) (t : Table) (partners : ℕ → Option ℕ) (v : Screen) (o : Emission) (answer : Answer) (bytes : List ℕ) (before after : Painted C)

@@ -23,9 +23,9 @@ use Rattle.cur_paint.specs.declared.updates.Status.TheVariants.{Fresh, Known}
 use Rattle.cur_update.specs.Inks.{ink_at}
 use Rattle.cur_update.specs.Painters.{Painted, wanted_of}
 use Rattle.cur_calls.specs.declared.calls.Call.{Call}
-use Rattle.cur_play.proofs.Failures.{call_rose, cut_sends, emitted, rose_sooner, shown_same}
+use Rattle.cur_play.proofs.Failures.{call_rose, cut_sends, emitted, painted_only, rose_sooner, shown_same}
 use Rattle.cur_play.specs.Deliveries.{Carries, FitsIn, IsLast, IsSettled, IsShown}
-use Rattle.cur_play.specs.Log.{IsAfter, Moment, Plays, Subject, Tells, is_shown, last_after, mode_after, first_moment, subject_of}
+use Rattle.cur_play.specs.Log.{IsAfter, Moment, Plays, Subject, Tells, is_shown, last_after, mode_after, first_moment, subject_at}
 use Rattle.cur_play.specs.Outputs.{poised}
 use Rattle.cur_play.specs.Runs.{RanOn}
 use Rattle.cur_play.specs.Scenes.{IsStage, Scene, Stage, first, scene_of}
@@ -162,9 +162,9 @@ CarriesOn {W} {V} {C} about wire count old new call answer before after =
 log_more : {W V C : Type 0} (about : Subject W) → IsWire about.went about.failures → (wire : V → MutBor W) (count : V → ℕ) (a : MutBor W) (m n z : V) (calls : List Call) (i : ℕ) (call : Call) (before after : Stage C) (log : List LogEntry) (answer : Answer)
     → IsChecked about.table → i < 2 ^ 64 → Logged about a (wire m) (count m) calls i before log → drop i calls ≡ call ∷ drop (i + 1) calls
     → CallStep about.table (scene_of before) call answer (scene_of after) → IsStage about.table after.desk after.screen
-    → CarriesOn about wire count m n call answer before after.painter → Counts about.went (wire n) (wire z) (count n) (count z) []
+    → CarriesOn about wire count m n call answer before after.painter → Counts about.went (wire n) (wire z) (count n) (count z) [] → about.rests (wire z).now
     → Logged about a (wire z) (count z) calls (i + 1) after (log ++ record { answer = answer; sent = count z } ∷ [])
-log_more {W} {V} {C} about laws wire count a m n z calls i call before after log answer checked small l left step sized carries passed =
+log_more {W} {V} {C} about laws wire count a m n z calls i call before after log answer checked small l left step sized carries passed rests =
     let t : Table = about.table in
     let e : LogEntry = record { answer = answer; sent = count z } in
     let d : Scene = (drawn t (scene_of before) call).0 in
@@ -194,6 +194,10 @@ log_more {W} {V} {C} about laws wire count a m n z calls i call before after log
           (IsAfter t l.bytes) (shown_mode before.painter.session.status (Some l.last_mode)) known
           (shown_same before.painter.session.status before.painter.session.belief.mode (Some l.last_mode) l.settled)
           (cut_sends t (scene_of before) call answer (scene_of after) step) carries.puts;
+      quiet = painted_only {W = V} (λ x y c. Counts about.went (wire x) (wire y) (count x) (count y) c) (λ x. about.failures (wire x).now) m n t about.partners d.screen (output_of call) answer b (poised t before call) after.painter
+          (shown_mode before.painter.session.status (Some l.last_mode))
+          (shown_same before.painter.session.status before.painter.session.belief.mode (Some l.last_mode) l.settled) carries.puts;
+      rests = rests;
       failed = λ k. rose_sooner (about.failures (wire m).now) (about.failures (wire n).now) (about.failures (wire z).now)
           (call_rose {W = V} (λ x y c. Counts about.went (wire x) (wire y) (count x) (count y) c) (λ x. about.failures (wire x).now) m n t about.partners d.screen call (scene_of before) (scene_of after) answer b (poised t before call) after.painter step carries.puts k)
           (laws.counts (wire n).now (wire z).now [] passed.inner);
@@ -298,20 +302,20 @@ log_whole {W} about laws a z to calls i stage log all l = record {
 }
 
 -- the same, of what the certificates in the session say
-pub log_call : {W V C : Type 0} (went : W → W → List ℕ → Type 0) (failures : W → ℕ) → IsWire went failures → (wire : V → MutBor W) (count : V → ℕ) (a : MutBor W) (m n z : V) (table : C → Table) (partners : C → ℕ → Option ℕ) (given : C) (calls : List Call) (i : ℕ) (call : Call) (before after : Stage C) (log : List LogEntry) (answer : Answer)
-    → Logged (subject_of went failures (table given) (partners given)) a (wire m) (count m) calls i before log → i < 2 ^ 64 → drop i calls ≡ call ∷ drop (i + 1) calls
+pub log_call : {W V C : Type 0} (went : W → W → List ℕ → Type 0) (failures : W → ℕ) (rests : W → Type 0) → IsWire went failures → (wire : V → MutBor W) (count : V → ℕ) (a : MutBor W) (m n z : V) (table : C → Table) (partners : C → ℕ → Option ℕ) (given : C) (calls : List Call) (i : ℕ) (call : Call) (before after : Stage C) (log : List LogEntry) (answer : Answer)
+    → Logged (subject_at went failures rests (table given) (partners given)) a (wire m) (count m) calls i before log → i < 2 ^ 64 → drop i calls ≡ call ∷ drop (i + 1) calls
     → before.painter.checked ≡ given → after.painter.checked ≡ before.painter.checked
     → CallStep (table before.painter.checked) (scene_of before) call answer (scene_of after) → IsStage (table after.painter.checked) after.desk after.screen → IsChecked (table after.painter.checked)
-    → CarriesOn (subject_of went failures (table before.painter.checked) (partners before.painter.checked)) wire count m n call answer before after.painter
-    → Counts went (wire n) (wire z) (count n) (count z) []
-    → Logged (subject_of went failures (table given) (partners given)) a (wire z) (count z) calls (i + 1) after (log ++ record { answer = answer; sent = count z } ∷ [])
-log_call {W} {V} {C} went failures laws wire count a m n z table partners given calls i call before after log answer l small left same kept step sized checked carries passed =
+    → CarriesOn (subject_at went failures rests (table before.painter.checked) (partners before.painter.checked)) wire count m n call answer before after.painter
+    → Counts went (wire n) (wire z) (count n) (count z) [] → rests (wire z).now
+    → Logged (subject_at went failures rests (table given) (partners given)) a (wire z) (count z) calls (i + 1) after (log ++ record { answer = answer; sent = count z } ∷ [])
+log_call {W} {V} {C} went failures rests laws wire count a m n z table partners given calls i call before after log answer l small left same kept step sized checked carries passed still =
     let S : C → Type 0 = λ y. CallStep (table y) (scene_of before) call answer (scene_of after) in
     let G : C → Type 0 = λ y. IsStage (table y) after.desk after.screen in
     let H : C → Type 0 = λ y. IsChecked (table y) in
-    let K : C → Type 0 = λ y. CarriesOn (subject_of went failures (table y) (partners y)) wire count m n call answer before after.painter in
-    log_more (subject_of went failures (table given) (partners given)) laws wire count a m n z calls i call before after log answer (subst H (kept ∙ same) checked) small l left
-    (subst S same step) (subst G (kept ∙ same) sized) (subst K same carries) passed
+    let K : C → Type 0 = λ y. CarriesOn (subject_at went failures rests (table y) (partners y)) wire count m n call answer before after.painter in
+    log_more (subject_at went failures rests (table given) (partners given)) laws wire count a m n z calls i call before after log answer (subst H (kept ∙ same) checked) small l left
+    (subst S same step) (subst G (kept ∙ same) sized) (subst K same carries) passed still
 
 pub next_call : (calls : List Call) (i : ℕ) (call : Call) → i < length calls → call ≡ get_or calls i call → drop i calls ≡ call ∷ drop (i + 1) calls
 next_call calls i call lt e =

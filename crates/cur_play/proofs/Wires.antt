@@ -9,7 +9,7 @@ use Rattle.ti_conforms.specs.Certified.{Table, IsLost}
 use Rattle.cur_wires.specs.Wire.{IsWire, Rose}
 use Rattle.cur_paint.specs.Update.{IsFresh}
 use Rattle.cur_calls.specs.declared.calls.Call.{Call}
-use Rattle.cur_play.specs.Log.{Moment, Plays, Ran, Subject, Tells, first_moment, subject_of}
+use Rattle.cur_play.specs.Log.{Moment, Plays, Ran, Subject, Tells, first_moment, subject_at, subject_of}
 use Rattle.cur_play.specs.declared.answers.Answer.TheVariants.{WireFailed}
 use Rattle.cur_play.specs.declared.runs.LogEntry.{LogEntry}
 
@@ -43,24 +43,26 @@ pub record Follows {V W : Type 0} (went : V → V → List ℕ → Type 0) (fail
 abbrev seen : {V W : Type 0} → (V → W) → Moment V → Moment W
 seen f m = record { wire = f m.wire; bytes = m.bytes; scene = m.scene; last = m.last; last_mode = m.last_mode }
 
-well_before : {V W : Type 0} (went : V → V → List ℕ → Type 0) (failures : V → ℕ) (tells : W → W → List ℕ → Type 0) (fails : W → ℕ) (f : V → W) (IsWell : V → Type 0) → Follows went failures tells fails f IsWell
-    → (t : Table) (partners : ℕ → Option ℕ) (before : Moment V) (calls : List Call) (log : List LogEntry) (new : V) (all : List ℕ) → Plays (subject_of went failures t partners) before calls log new all → IsWell new → IsWell before.wire
-well_before went failures tells fails f IsWell k t partners before [] [] new all h w = k.sooner before.wire new [] h.0 w
-well_before went failures tells fails f IsWell k t partners before [] (e ∷ log) new all h w = absurd h
-well_before went failures tells fails f IsWell k t partners before (call ∷ calls) [] new all h w = absurd h
-well_before went failures tells fails f IsWell k t partners before (call ∷ calls) (e ∷ log) new all h w =
-    k.sooner before.wire h.0.wire h.1.piece h.1.went (well_before went failures tells fails f IsWell k t partners h.0 calls log new all h.2 w)
+well_before : {V W : Type 0} (went : V → V → List ℕ → Type 0) (failures : V → ℕ) (rests : V → Type 0) (tells : W → W → List ℕ → Type 0) (fails : W → ℕ) (f : V → W) (IsWell : V → Type 0) → Follows went failures tells fails f IsWell
+    → (t : Table) (partners : ℕ → Option ℕ) (before : Moment V) (calls : List Call) (log : List LogEntry) (new : V) (all : List ℕ) → Plays (subject_at went failures rests t partners) before calls log new all → IsWell new → IsWell before.wire
+well_before went failures rests tells fails f IsWell k t partners before [] [] new all h w = k.sooner before.wire new [] h.0 w
+well_before went failures rests tells fails f IsWell k t partners before [] (e ∷ log) new all h w = absurd h
+well_before went failures rests tells fails f IsWell k t partners before (call ∷ calls) [] new all h w = absurd h
+well_before went failures rests tells fails f IsWell k t partners before (call ∷ calls) (e ∷ log) new all h w =
+    k.sooner before.wire h.0.wire h.1.piece h.1.went (well_before went failures rests tells fails f IsWell k t partners h.0 calls log new all h.2 w)
 
-tells_over : {V W : Type 0} (went : V → V → List ℕ → Type 0) (failures : V → ℕ) (tells : W → W → List ℕ → Type 0) (fails : W → ℕ) (f : V → W) (IsWell : V → Type 0) → Follows went failures tells fails f IsWell
-    → (t : Table) (partners : ℕ → Option ℕ) (before : Moment V) (call : Call) (e : LogEntry) (after : Moment V) → Tells (subject_of went failures t partners) before call e after → IsWell after.wire
+tells_over : {V W : Type 0} (went : V → V → List ℕ → Type 0) (failures : V → ℕ) (rests : V → Type 0) (tells : W → W → List ℕ → Type 0) (fails : W → ℕ) (f : V → W) (IsWell : V → Type 0) → Follows went failures tells fails f IsWell
+    → (t : Table) (partners : ℕ → Option ℕ) (before : Moment V) (call : Call) (e : LogEntry) (after : Moment V) → Tells (subject_at went failures rests t partners) before call e after → IsWell after.wire
     → Tells (subject_of tells fails t partners) (seen f before) call e (seen f after)
-tells_over went failures tells fails f IsWell k t partners before call e after h w = record {
+tells_over went failures rests tells fails f IsWell k t partners before call e after h w = record {
   step = h.step;
   piece = h.piece;
   went = k.goes before.wire after.wire h.piece h.went w;
   bytes = h.bytes;
   counted = h.counted;
   emits = h.emits;
+  quiet = h.quiet;
+  rests = tt;
   failed = λ a. k.rises before.wire after.wire w (h.failed a);
   takes = h.takes;
   shows = h.shows;
@@ -70,25 +72,25 @@ tells_over went failures tells fails f IsWell k t partners before call e after h
   last_mode = h.last_mode;
 }
 
-plays_over : {V W : Type 0} (went : V → V → List ℕ → Type 0) (failures : V → ℕ) (tells : W → W → List ℕ → Type 0) (fails : W → ℕ) (f : V → W) (IsWell : V → Type 0) → Follows went failures tells fails f IsWell
-    → (t : Table) (partners : ℕ → Option ℕ) (before : Moment V) (calls : List Call) (log : List LogEntry) (new : V) (all : List ℕ) → Plays (subject_of went failures t partners) before calls log new all → IsWell new
+plays_over : {V W : Type 0} (went : V → V → List ℕ → Type 0) (failures : V → ℕ) (rests : V → Type 0) (tells : W → W → List ℕ → Type 0) (fails : W → ℕ) (f : V → W) (IsWell : V → Type 0) → Follows went failures tells fails f IsWell
+    → (t : Table) (partners : ℕ → Option ℕ) (before : Moment V) (calls : List Call) (log : List LogEntry) (new : V) (all : List ℕ) → Plays (subject_at went failures rests t partners) before calls log new all → IsWell new
     → Plays (subject_of tells fails t partners) (seen f before) calls log (f new) all
-plays_over went failures tells fails f IsWell k t partners before [] [] new all h w = (k.goes before.wire new [] h.0 w, h.1)
-plays_over went failures tells fails f IsWell k t partners before [] (e ∷ log) new all h w = absurd h
-plays_over went failures tells fails f IsWell k t partners before (call ∷ calls) [] new all h w = absurd h
-plays_over went failures tells fails f IsWell k t partners before (call ∷ calls) (e ∷ log) new all h w = (
+plays_over went failures rests tells fails f IsWell k t partners before [] [] new all h w = (k.goes before.wire new [] h.0 w, h.1)
+plays_over went failures rests tells fails f IsWell k t partners before [] (e ∷ log) new all h w = absurd h
+plays_over went failures rests tells fails f IsWell k t partners before (call ∷ calls) [] new all h w = absurd h
+plays_over went failures rests tells fails f IsWell k t partners before (call ∷ calls) (e ∷ log) new all h w = (
   seen f h.0,
-  tells_over went failures tells fails f IsWell k t partners before call e h.0 h.1 (well_before went failures tells fails f IsWell k t partners h.0 calls log new all h.2 w),
-  plays_over went failures tells fails f IsWell k t partners h.0 calls log new all h.2 w,
+  tells_over went failures rests tells fails f IsWell k t partners before call e h.0 h.1 (well_before went failures rests tells fails f IsWell k t partners h.0 calls log new all h.2 w),
+  plays_over went failures rests tells fails f IsWell k t partners h.0 calls log new all h.2 w,
 )
 
-pub ran_over : {V W : Type 0} (went : V → V → List ℕ → Type 0) (failures : V → ℕ) (tells : W → W → List ℕ → Type 0) (fails : W → ℕ) (f : V → W) (IsWell : V → Type 0) → Follows went failures tells fails f IsWell
-    → (t : Table) (partners : ℕ → Option ℕ) (old new : V) (calls : List Call) (log : List LogEntry) → Ran (subject_of went failures t partners) old new calls log → IsWell new → Ran (subject_of tells fails t partners) (f old) (f new) calls log
-ran_over went failures tells fails f IsWell k t partners old new calls log r w = record {
+pub ran_over : {V W : Type 0} (went : V → V → List ℕ → Type 0) (failures : V → ℕ) (rests : V → Type 0) (tells : W → W → List ℕ → Type 0) (fails : W → ℕ) (f : V → W) (IsWell : V → Type 0) → Follows went failures tells fails f IsWell
+    → (t : Table) (partners : ℕ → Option ℕ) (old new : V) (calls : List Call) (log : List LogEntry) → Ran (subject_at went failures rests t partners) old new calls log → IsWell new → Ran (subject_of tells fails t partners) (f old) (f new) calls log
+ran_over went failures rests tells fails f IsWell k t partners old new calls log r w = record {
   bytes = r.bytes;
   sent = k.goes old new r.bytes r.sent w;
   counted = r.counted;
-  plays = plays_over went failures tells fails f IsWell k t partners (first_moment (subject_of went failures t partners) old) calls log new r.bytes r.plays w;
+  plays = plays_over went failures rests tells fails f IsWell k t partners (first_moment (subject_at went failures rests t partners) old) calls log new r.bytes r.plays w;
 }
 
 -- ---- what follows of the whole run

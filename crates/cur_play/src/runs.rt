@@ -1,7 +1,7 @@
 //! Runs of many calls.
-ghost use Rattle.std.specs.Prelude.{◌≡◌, ◌≤◌, [], length, vec_capacity, vec_len, IfOk, OnErr, OnOk};
+ghost use Rattle.std.specs.Prelude.{◌≡◌, ◌<◌, ◌≤◌, [], length, vec_capacity, vec_len, IfOk, OnErr, OnOk};
 ghost use Rattle.cur_wires.specs.Counted.{Counts};
-ghost use Rattle.cur_play.specs.Log.{HasRun, Ran, subject_of};
+ghost use Rattle.cur_play.specs.Log.{HasRun, Ran, paced_subject_of, subject_of};
 ghost use Rattle.cur_play.specs.Runs.{HasRunOn, RanOn};
 ghost use Rattle.cur_play.specs.Scenes.{first, scene_of};
 
@@ -79,16 +79,17 @@ fn play_logged<C: Certificate + Drop, W: Wire>(
 }
 
 /// Plays calls as `run` does, without a log, on a wire that may hold back what it took: what a call has sent is passed
-/// on before the next call, and after the last one. An error where there was no memory for the session; then nothing
-/// was sent.
+/// on before the next call, and after the last one, so that nothing is held back after any call. An error where there
+/// was no memory for the session; then nothing was sent.
 pub fn run_paced<C: Certificate + Drop, W: Paced>(
     alloc: Global,
     checked: C,
     calls: &[Call<'_>],
     wire: &mut W,
 ) -> Result<(), AllocError>
-    ensures ran { OnOk result (HasRun (subject_of W.went W.failures (C.table checked) (C.partners checked))
+    ensures ran { OnOk result (HasRun (paced_subject_of W.went W.failures W.held (C.table checked) (C.partners checked))
         wire.old wire.new calls.now) }
+    ensures left { OnOk result (0 < length calls.now → W.held wire.new ≡ []) }
     ensures refused { OnErr result (wire.new ≡ wire.old) }
 {
     let session = Session::open(alloc, checked)?;
@@ -105,8 +106,9 @@ fn play_paced<C: Certificate + Drop, W: Paced>(
 )
     requires scene { scene_of session ≡ first (C.table session.painter.checked) }
     requires none { wire.old.sent ≡ 0 }
-    ensures { HasRunOn (subject_of W.went W.failures (C.table session.painter.checked)
+    ensures ran { HasRunOn (paced_subject_of W.went W.failures W.held (C.table session.painter.checked)
         (C.partners session.painter.checked)) wire.old.wire wire.new.wire calls.now }
+    ensures left { 0 < length calls.now → W.held wire.new.wire.now ≡ [] }
 {
     let mut session = session;
     for call in calls {
@@ -117,7 +119,8 @@ fn play_paced<C: Certificate + Drop, W: Paced>(
 
 /// Passes on what a counted wire holds back.
 fn pass_on<W: Paced>(wire: &mut Counted<'_, W>)
-    ensures { Counts W.went wire.old.wire wire.new.wire wire.old.sent wire.new.sent [] }
+    ensures none_more { Counts W.went wire.old.wire wire.new.wire wire.old.sent wire.new.sent [] }
+    ensures emptied { W.held wire.new.wire.now ≡ [] }
 {
     wire.wire.pass_on();
 }

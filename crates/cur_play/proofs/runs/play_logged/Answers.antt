@@ -20,12 +20,12 @@ loop-call-preserved g c =
     let len = rw c.unwrap.ensures at c.push.ensures.len in
     let before = c.loop-call.invariant in
     record {
-      played = rw items (log_call g.W.Wire.went g.W.Wire.failures g.met.W.Wire.lawful (λ x. x.wire) (λ x. x.sent) c.args.wire.now.wire c.loop-call.wire c.call-answer.new.wire c.call-answer.new.wire g.C.Certificate.table g.C.Certificate.partners
+      played = rw items (log_call g.W.Wire.went g.W.Wire.failures (λ a. Unit {0}) g.met.W.Wire.lawful (λ x. x.wire) (λ x. x.sent) c.args.wire.now.wire c.loop-call.wire c.call-answer.new.wire c.call-answer.new.wire g.C.Certificate.table g.C.Certificate.partners
           c.args.session.painter.checked c.args.calls.now c.loop-call.call-index c.call-item.result c.loop-call.session c.call-answer.new.self c.loop-call.log.items c.call-answer.result
           before.played (omega (arith, c.loop-call.log.small, c.loop-call.log.ok, before.room, c.loop-call-test.true))
           (next_call c.args.calls.now c.loop-call.call-index c.call-item.result c.loop-call-test.true c.call-item.is) before.certificate c.call-answer.ensures.certificate
           c.call-answer.ensures.step c.call-answer.ensures.stage c.call-answer.ensures.checked c.call-answer.ensures.carries
-          (none_counted g.W.Wire.went g.W.Wire.failures g.met.W.Wire.lawful c.call-answer.new.wire.wire c.call-answer.new.wire.sent));
+          (none_counted g.W.Wire.went g.W.Wire.failures g.met.W.Wire.lawful c.call-answer.new.wire.wire c.call-answer.new.wire.sent) tt);
       room = omega (arith, before.room, c.push.ensures.capacity);
       count = omega (arith, len, before.count);
       certificate = c.call-answer.ensures.certificate ∙ before.certificate;
