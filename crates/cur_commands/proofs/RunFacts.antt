@@ -10,7 +10,7 @@ use Rattle.cur_calls.specs.declared.calls.Call.{Call}
 use Rattle.cur_paint.proofs.Starts.{reset_fresh}
 use Rattle.cur_play.proofs.Failures.{none_rose}
 use Rattle.cur_play.proofs.Wires.{Follows, ran_further, ran_over, ran_taken, ran_through}
-use Rattle.cur_play.specs.Log.{Ran, subject_of}
+use Rattle.cur_play.specs.Log.{Ran, paced_subject_of, subject_of}
 use Rattle.cur_play.specs.declared.runs.LogEntry.{LogEntry}
 use Rattle.cur_commands.specs.Held.{Holds, HoldsOf, holds_lawful}
 use Rattle.cur_commands.specs.Shows.{IsTaken}
@@ -36,14 +36,14 @@ held_follows contents has_failed output held failures = record {
 
 -- a run, and then what is left is handed on, where nothing failed
 pub held_over : {O C : Type 0} (contents : O → Option (List ℕ)) (has_failed : O → Bool) (output : C → MutBor O) (held : C → List ℕ) (failures : C → ℕ) (t : Table) (partners : ℕ → Option ℕ) (a b c : C) (calls : List Call) (log : List LogEntry)
-    → Ran (subject_of (HoldsOf contents has_failed output held failures) failures t partners) a b calls log → Holds contents has_failed (output b) (output c) (held b) (held c) (failures b) (failures c) []
+    → Ran (paced_subject_of (HoldsOf contents has_failed output held failures) failures held t partners) a b calls log → Holds contents has_failed (output b) (output c) (held b) (held c) (failures b) (failures c) []
     → failures c ≡ 0 → held a ≡ [] → held c ≡ [] → Ran (unfailing t partners) (contents (output a).now) (contents (output c).now) calls log
 held_over {O} {C} contents has_failed output held failures t partners a b c calls log r passed none first last =
     let went : C → C → List ℕ → Type 0 = HoldsOf contents has_failed output held failures in
     let f : C → Option (List ℕ) = λ w. append_known (contents (output w).now) (held w) in
-    let whole : Ran (subject_of went failures t partners) a c calls log = ran_further (subject_of went failures t partners) (holds_lawful contents has_failed output held failures) a b c calls log r passed in
+    let whole : Ran (paced_subject_of went failures held t partners) a c calls log = ran_further (paced_subject_of went failures held t partners) (holds_lawful contents has_failed output held failures) a b c calls log r passed in
     let over : Ran (unfailing t partners) (f a) (f c) calls log =
-    ran_over went failures Appends (λ known. 0) f (λ w. failures w ≡ 0) (held_follows contents has_failed output held failures) t partners a c calls log whole none in
+    ran_over went failures (λ w. held w ≡ []) Appends (λ known. 0) f (λ w. failures w ≡ 0) (held_follows contents has_failed output held failures) t partners a c calls log whole none in
     let P : Option (List ℕ) → Type 0 = λ x. Ran (unfailing t partners) x (f c) calls log in
     let Q : Option (List ℕ) → Type 0 = λ x. Ran (unfailing t partners) (contents (output a).now) x calls log in
     subst Q (bare (contents (output c).now) (held c) last) (subst P (bare (contents (output a).now) (held a) first) over)
@@ -60,7 +60,7 @@ taken_follows taken failures = record {
 pub taken_over : {C : Type 0} (taken : C → List ℕ) (failures : C → ℕ) (t : Table) (partners : ℕ → Option ℕ) (a b : C) (calls : List Call) (log : List LogEntry)
     → Ran (subject_of (StoresOf taken failures) failures t partners) a b calls log → failures b ≡ 0 → Ran (unfailing t partners) (Some (taken a)) (Some (taken b)) calls log
 taken_over taken failures t partners a b calls log r none =
-    ran_over (StoresOf taken failures) failures Appends (λ known. 0) (λ w. Some (taken w)) (λ w. failures w ≡ 0) (taken_follows taken failures) t partners a b calls log r none
+    ran_over (StoresOf taken failures) failures (λ w. Unit {0}) Appends (λ known. 0) (λ w. Some (taken w)) (λ w. failures w ≡ 0) (taken_follows taken failures) t partners a b calls log r none
 
 -- a terminal in its reset state takes all that a run has sent
 pub run_taken : (t : Table) (partners : ℕ → Option ℕ) → IsChecked t → (rows cols : ℕ) → rows ≡ t.rows → cols ≡ t.cols → (before bytes slice : List ℕ) (calls : List Call) (log : List LogEntry)

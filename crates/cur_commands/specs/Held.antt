@@ -17,6 +17,8 @@ pub record Holds {O : Type 0} (contents : O → Option (List ℕ)) (has_failed :
   pub risen : failed ≤ failures
   pub grows : failures ≡ 0 → Appends (append_known (contents old.now) held) (append_known (contents new.now) kept) bytes
   pub told : IsTold has_failed old.now failed → IsTold has_failed new.now failures
+  -- from the first failure on nothing is put on the output
+  pub stays : 0 < failed → new.now ≡ old.now
   pub same : new.ghost_name ≡ old.ghost_name
 
 pub appends_nothing : (a : Option (List ℕ)) → Appends a a []
@@ -38,6 +40,7 @@ holds_joins contents has_failed a b c p q r k m n x y h j = record {
   grows =
       λ none. appends_joins _ _ _ x y (h.grows (let le : m ≤ n = j.risen in omega (arith, none, le))) (j.grows none);
   told = λ t. j.told (h.told t);
+  stays = λ some. j.stays (let le : k ≤ m = h.risen in omega (arith, some, le)) ∙ h.stays some;
   same = j.same ∙ h.same;
 }
 
@@ -50,7 +53,7 @@ HoldsOf contents has_failed output held failures a b x =
 pub holds_lawful : {O C : Type 0} (contents : O → Option (List ℕ)) (has_failed : O → Bool) (output : C → MutBor O)
     (held : C → List ℕ) (failures : C → ℕ) → IsWire (HoldsOf contents has_failed output held failures) failures
 holds_lawful contents has_failed output held failures = record {
-  nothing = λ w. record { risen = le_refl (failures w); grows = λ none. appends_nothing _; told = λ t. t; same = refl };
+  nothing = λ w. record { risen = le_refl (failures w); grows = λ none. appends_nothing _; told = λ t. t; stays = λ some. refl; same = refl };
   joins = λ a b c x y p q. holds_joins contents has_failed (output a) (output b) (output c) (held a) (held b) (held c)
       (failures a) (failures b) (failures c) x y p q;
   counts = λ a b x p. p.risen;

@@ -21,12 +21,12 @@ pub struct Held<'a, O> {
 }
 
 impl<'a, O: Output> Held<'a, O> {
-    /// Hands the output all that is held back.
+    /// Hands the output all that is held back. Once the output has failed, it gets nothing any more.
     #[inline(always)]
     pub fn flush(&mut self)
         ensures holds { Holds O.contents O.has_failed self.old.output self.new.output self.old.buffer.now
             self.new.buffer.now self.old.failures self.new.failures [] }
-        ensures emptied { self.new.failures ≡ 0 → self.new.buffer.now ≡ [] }
+        ensures emptied { self.new.buffer.now ≡ [] }
     {
         if !self.buffer.is_empty() {
             self.hand_over();
@@ -38,9 +38,10 @@ impl<'a, O: Output> Held<'a, O> {
     fn hand_over(&mut self)
         ensures holds { Holds O.contents O.has_failed self.old.output self.new.output self.old.buffer.now
             self.new.buffer.now self.old.failures self.new.failures [] }
-        ensures emptied { self.new.failures ≡ 0 → self.new.buffer.now ≡ [] }
+        ensures emptied { self.new.buffer.now ≡ [] }
     {
         if self.failures > 0 {
+            self.buffer.clear();
             return;
         }
         if self.output.put(self.buffer.as_slice()).is_err() {
@@ -90,6 +91,8 @@ impl<'a, O: Output> Wire for Held<'a, O> {
 }
 
 impl<'a, O: Output> Paced for Held<'a, O> {
+    ghost held = { λ a. a.buffer.now };
+
     fn pass_on(&mut self) {
         self.flush();
     }

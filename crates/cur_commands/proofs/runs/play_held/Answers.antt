@@ -14,7 +14,7 @@ returns-clause-ran g c =
     let none : c.flush.new.self.failures ≡ 0 = omega (arith, c.if-held-gt0.false) in
     let run = c.in_ok-run_paced.ensures.ran in
     let over = held_over g.O.Output.contents g.O.Output.has_failed (λ a. a.output) (λ a. a.buffer.now) (λ a. a.failures) (g.C.Certificate.table c.args.checked) (g.C.Certificate.partners c.args.checked)
-    c.args.held.now c.run_paced.new.wire c.flush.new.self c.args.calls.now run.log run.ran c.flush.ensures.holds none c.requires.nothing (c.flush.ensures.emptied none) in
+    c.args.held.now c.run_paced.new.wire c.flush.new.self c.args.calls.now run.log run.ran c.flush.ensures.holds none c.requires.nothing c.flush.ensures.emptied in
     record { log = run.log; ran = over; through = through (g.C.Certificate.table c.args.checked) (g.C.Certificate.partners c.args.checked) _ _ c.args.calls.now run.log over }
 
 pub returns-clause-same : goal.returns-clause-same
