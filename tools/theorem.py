@@ -91,5 +91,11 @@ def unclaimed(page):
                     yield f"THEOREM.md: {crate}'s {call} has no clause {name}"
 
 
+def unnamed_laws(page):
+    """The laws of the library for C that the page doesn't name."""
+    laws = re.findall(r"^pub fn (\w+)", read(os.path.join(CRATES, "curses_c", "src", "laws.rt")), re.M)
+    return [f"THEOREM.md doesn't name the law {it} of curses_c" for it in laws if f"`{it}`" not in page]
+
+
 def faults(page):
-    return [*unexplained(page), *unclaimed(page)]
+    return [*unexplained(page), *unclaimed(page), *unnamed_laws(page)]
