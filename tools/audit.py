@@ -2,8 +2,21 @@
 that every word on which a published clause depends."""
 
 import math
+import re
 
-from specs import cited, closure, clauses, crates_listed, each_item, files_of, imports_of, roots_of, spec
+from specs import (
+    CRATES,
+    cited,
+    clauses,
+    closure,
+    crates_listed,
+    each_item,
+    files_of,
+    imports_of,
+    read,
+    roots_of,
+    spec,
+)
 
 # the crates whose exported clauses are the promises to users; a helper crate counts where these cite it
 PUBLISHED = [
@@ -45,6 +58,9 @@ COMMANDS = [
     ("check --json, survey --json", [("ti_reports", "check_reports"), ("ti_reports", "survey_reports")]),
 ]
 
+# functions by which the program answers all commands
+OF_ALL = {"report", "write_reply", "write_text", "usage_error", "refuse_usage"}
+
 # what a reader takes in who looks at each line until it is clear
 LINES_A_MINUTE = 6
 
@@ -59,6 +75,18 @@ def said_by(functions):
             if item == name:
                 found |= cited(clauses(text, at), *imports_of(text))
     return found
+
+
+def commands():
+    """The commands with their functions; a function that the program calls and that is in no row has one of its own."""
+    text = read(f"{CRATES}/ticurses/src/run.rt")
+    called = [
+        (crate, name)
+        for crate, names in re.findall(r"^use ((?:ti|cur)_\w+)::\{([^}]*)\}", text, re.M)
+        for name in re.findall(r"\b[a-z]\w*", names)
+    ]
+    known = {it for _, functions in COMMANDS for it in functions}
+    return COMMANDS + [(it[1], [it]) for it in called if it not in known and it[1] not in OF_ALL]
 
 
 def lines_of(crate, module, words):
@@ -191,7 +219,7 @@ def reading(lists):
     lists.table("the library for C", closure(roots_of("curses_c")))
     lists.out += ["### The commands", ""]
     lists.say("For each command the words of the functions that answer it, but for those above it.")
-    for command, functions in COMMANDS:
+    for command, functions in commands():
         lists.out += [f"#### {command}", ""]
         lists.table("the commands", closure(said_by(functions)))
     return "\n".join(lists.out)

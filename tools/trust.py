@@ -17,6 +17,12 @@ def lines_in(*paths):
     return count
 
 
+def about(count):
+    """A count to two figures or to hundreds, so that the page doesn't change with every line."""
+    step = 100 if count >= 1000 else 10
+    return f"{(count + step // 2) // step * step:,}"
+
+
 def below(folder, *endings):
     """The files below a folder, by the endings of their names."""
     found = [os.path.relpath(f"{at}/{name}", TOP) for at, _, names in os.walk(f"{TOP}/{folder}") for name in names]
@@ -49,9 +55,9 @@ def what_is_proved():
     crates = len(list(sizes.sizes()))
     rows = [
         row(
-            "code", f"{crates} crates, {totals[0]:,} lines with clauses", "each function is proved to meet its clauses"
+            "code", f"{crates} crates, about {about(totals[0])} lines", "each function is proved to meet its clauses"
         ),
-        row("proofs", f"{totals[1]:,} lines", "the kernel checks each"),
+        row("proofs", f"about {about(totals[1])} lines", "the kernel checks each"),
         row("wrong bodies", f"{totals[2]} edits", "the prover refuses each, in every gate"),
     ]
     return "\n".join(HEAD + rows)
@@ -64,11 +70,11 @@ def what_runs():
     rows = [
         row(
             "headers for C",
-            f"{lines_in(*below('include', '.h'))} lines",
+            f"about {about(lines_in(*below('include', '.h')))} lines",
             "they pass pointers and lengths on; compiled into your program",
         ),
-        row("Python package", f"{lines_in(*python)} lines", "it loads the library and passes values on"),
-        row("scripts", f"{lines_in(*scripts):,} lines", "they build, install and package what was proved"),
+        row("Python package", f"about {about(lines_in(*python))} lines", "it loads the library and passes values on"),
+        row("scripts", f"about {about(lines_in(*scripts))} lines", "they build, install and package what was proved"),
         row("Linux", "glibc 2.34, x86-64-v2", "memory, files, and bytes that arrive; processors since about 2009"),
         row("your terminal", "like T", "no proof reaches it; [TERMINAL](TERMINAL.md) has what is known"),
     ]
