@@ -1,0 +1,5 @@
+pub mod Switchings
+pub mod Endings
+pub mod Answered
+pub mod Shown
+pub mod Characters

@@ -1,0 +1,91 @@
+-- What T is shown of a recording of today, in place of characters and strings that it doesn't have (ECMA-48 5.6, command
+-- strings and character strings; xterm's control sequences, OSC; Unicode, table 3-7).
+use Rattle.std.specs.Prelude.{ℕ, ◌+◌, ◌==◌, ◌&&◌, ◌||◌, nat_le, Bool, true, false, List, [], ◌∷◌, ◌++◌, length, take, drop, slice_index_or, if◌then◌else◌, zero, suc}
+use Rattle.std.specs.List.{flat_map}
+
+-- ---- characters above 127, in UTF-8
+
+abbrev pub at : List ℕ → ℕ → ℕ
+at bytes k = slice_index_or bytes k 0
+
+abbrev pub is_between : ℕ → ℕ → ℕ → Bool
+is_between low high b = nat_le low b && nat_le b high
+
+abbrev pub continues : ℕ → Bool
+continues b = is_between 128 191 b
+
+abbrev pub begins_two : ℕ → ℕ → Bool
+begins_two a b = is_between 194 223 a && continues b
+
+abbrev pub begins_three : ℕ → ℕ → Bool
+begins_three a b =
+    ((a == 224) && is_between 160 191 b) || ((a == 237) && is_between 128 159 b)
+    || ((is_between 225 236 a || is_between 238 239 a) && continues b)
+
+abbrev pub begins_four : ℕ → ℕ → Bool
+begins_four a b =
+    ((a == 240) && is_between 144 191 b) || ((a == 244) && is_between 128 143 b) || (is_between 241 243 a && continues b)
+
+-- the bytes of the character in front, 1 where none is valid
+abbrev pub character_length : List ℕ → ℕ
+character_length bytes =
+    if begins_two (at bytes 0) (at bytes 1) then 2
+    else (if begins_three (at bytes 0) (at bytes 1) && continues (at bytes 2) then 3
+    else (if begins_four (at bytes 0) (at bytes 1) && (continues (at bytes 2) && continues (at bytes 3)) then 4
+    else 1))
+
+-- ---- strings: DCS, SOS, OSC, PM and APC
+
+abbrev pub introduces : ℕ → Bool
+introduces b = (b == 80) || (b == 88) || is_between 93 95 b
+
+abbrev pub begins_string : List ℕ → Bool
+begins_string bytes = (at bytes 0 == 27) && introduces (at bytes 1)
+
+-- ESC (of ST, or of what follows), CAN and SUB end a string, and stand behind it
+abbrev pub cuts : ℕ → Bool
+cuts b = (b == 27) || (b == 24) || (b == 26)
+
+-- the bytes of a string up to its end; BEL is the last byte of an OSC
+abbrev pub up_to_end : Bool → List ℕ → ℕ
+up_to_end osc [] = 0
+up_to_end osc (b ∷ bytes) = if cuts b then 0 else (if osc && (b == 7) then 1 else 1 + up_to_end osc bytes)
+
+abbrev pub string_length : List ℕ → ℕ
+string_length bytes = 2 + up_to_end (at bytes 1 == 93) (drop 2 bytes)
+
+-- ---- the parts of a recording
+
+abbrev pub is_character : List ℕ → Bool
+is_character part = nat_le 128 (at part 0)
+
+abbrev pub part_length : List ℕ → ℕ
+part_length bytes =
+    if begins_string bytes then string_length bytes else (if is_character bytes then character_length bytes else 1)
+
+-- at most n parts, one after another
+abbrev pub parts : ℕ → List ℕ → List (List ℕ)
+parts zero bytes = []
+parts (suc n) [] = []
+parts (suc n) (b ∷ bytes) = take (part_length (b ∷ bytes)) (b ∷ bytes) ∷ parts n (drop (part_length (b ∷ bytes)) (b ∷ bytes))
+
+-- what T is shown of a part: nothing of a string, a question mark for a character above 127
+abbrev pub shown : List ℕ → List ℕ
+shown part = if begins_string part then [] else (if is_character part then 63 ∷ [] else part)
+
+abbrev pub dropped : List ℕ → ℕ
+dropped part = if begins_string part then length part else 0
+
+abbrev pub replaced : List ℕ → ℕ
+replaced part = if begins_string part then 0 else (if is_character part then 1 else 0)
+
+abbrev pub all_parts : List ℕ → List (List ℕ)
+all_parts bytes = parts (length bytes) bytes
+
+abbrev pub total : (List ℕ → ℕ) → List (List ℕ) → ℕ
+total f [] = 0
+total f (part ∷ rest) = f part + total f rest
+
+-- what T is shown of the whole
+abbrev pub plain_text : List ℕ → List ℕ
+plain_text bytes = flat_map shown (all_parts bytes)

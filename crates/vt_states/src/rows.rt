@@ -1,0 +1,227 @@
+//! The cells of a terminal, row by row, as items of JSON lists.
+
+ghost use Rattle.std.specs.Prelude.{◌≡◌, ℕ, ◌+◌, ◌<◌, ◌∷◌, ◌++◌, [], length, IfOk, OnOk};
+ghost use Rattle.std.specs.List.{flat_map};
+ghost use Rattle.vt_term.specs.Grid.{line_at};
+ghost use Rattle.vt_term.specs.Printed as shown;
+ghost use Rattle.vt_states.specs.Json as spec;
+
+use crate::styles::letters_of;
+use std::alloc::{AllocError, Global};
+use vt_term::{Cell, Color, Terminal};
+
+/// The rows of a terminal, each as a text in quotes, with commas between them.
+pub(crate) fn row_items(alloc: Global, terminal: &Terminal) -> Result<Vec<u8>, AllocError>
+    ensures { IfOk result (λ items. items.items ≡ spec.rows_behind [] terminal.now.screen.grid) }
+{
+    let mut items = Vec::new(alloc);
+    for row in 0..terminal.size().rows {
+        let cells = row_cells(alloc, terminal, row)?;
+        begin_item(&mut items)?;
+        push_row(&mut items, cells.as_slice())?;
+    }
+    Ok(items)
+}
+
+/// Each run of cells that are shown in one way and not plainly, with commas between them.
+pub(crate) fn look_items(alloc: Global, terminal: &Terminal) -> Result<Vec<u8>, AllocError>
+    ensures { IfOk result (λ items. items.items ≡ spec.looks_behind [] 0 terminal.now.screen.grid) }
+{
+    let mut items = Vec::new(alloc);
+    for row in 0..terminal.size().rows {
+        let cells = row_cells(alloc, terminal, row)?;
+        push_runs(alloc, &mut items, row, cells.as_slice())?;
+    }
+    Ok(items)
+}
+
+/// The cells of one row.
+fn row_cells(alloc: Global, terminal: &Terminal, row: usize) -> Result<Vec<Cell>, AllocError>
+    requires { row < terminal.now.screen.rows }
+    ensures { IfOk result (λ cells. cells.items ≡ line_at terminal.now.screen.grid row) }
+{
+    let mut cells = Vec::new(alloc);
+    for col in 0..terminal.size().cols {
+        cells.push(terminal.cell(row, col))?;
+    }
+    Ok(cells)
+}
+
+/// Adds a comma behind what is there, if anything is.
+fn begin_item(items: &mut Vec<u8>) -> Result<(), AllocError>
+    ensures { OnOk result (items.new.items ≡ spec.before_next items.old.items) }
+{
+    if !items.is_empty() {
+        items.push(b',')?;
+    }
+    Ok(())
+}
+
+fn push_row(items: &mut Vec<u8>, cells: &[Cell]) -> Result<(), AllocError>
+    ensures { OnOk result (items.new.items ≡ items.old.items ++ spec.row_item cells.now) }
+{
+    items.push(b'"')?;
+    push_characters(items, cells)?;
+    items.push(b'"')?;
+    Ok(())
+}
+
+fn push_characters(items: &mut Vec<u8>, cells: &[Cell]) -> Result<(), AllocError>
+    ensures { OnOk result (items.new.items ≡ items.old.items ++ flat_map (λ x. spec.escaped x.byte) cells.now) }
+{
+    for cell in cells {
+        push_escaped(items, cell.byte())?;
+    }
+    Ok(())
+}
+
+/// Adds a character of a text in quotes.
+pub(crate) fn push_escaped(items: &mut Vec<u8>, byte: u8) -> Result<(), AllocError>
+    ensures { OnOk result (items.new.items ≡ items.old.items ++ spec.escaped byte) }
+{
+    if byte == b'"' || byte == b'\\' {
+        items.push(b'\\')?;
+    }
+    items.push(byte)?;
+    Ok(())
+}
+
+fn push_runs(
+    alloc: Global,
+    items: &mut Vec<u8>,
+    row: usize,
+    cells: &[Cell],
+) -> Result<(), AllocError>
+    ensures { OnOk result (items.new.items ≡ spec.runs_behind items.old.items row cells.now (length cells.now)) }
+{
+    let mut start = 0;
+    for col in 0..cells.len() {
+        start = run_start(cells, col, start);
+        push_run(alloc, items, row, start, cells, col)?;
+    }
+    Ok(())
+}
+
+/// Adds the run that ends in this column, if one does.
+fn push_run(
+    alloc: Global,
+    items: &mut Vec<u8>,
+    row: usize,
+    first: usize,
+    cells: &[Cell],
+    col: usize,
+) -> Result<(), AllocError>
+    requires within { col < length cells.now }
+    requires first { first ≡ shown.run_start cells.now col }
+    ensures { OnOk result (items.new.items ≡ spec.run_behind items.old.items row cells.now col) }
+{
+    if ends_run(cells, col) {
+        push_look(alloc, items, row, first, col, &cells[col])
+    } else {
+        Ok(())
+    }
+}
+
+/// Where the run of this column begins, after where that of the column before it does.
+fn run_start(cells: &[Cell], col: usize, before: usize) -> usize
+    requires within { col < length cells.now }
+    requires before { (k : ℕ) → k + 1 ≡ col → before ≡ shown.run_start cells.now k }
+    ensures { result ≡ shown.run_start cells.now col }
+{
+    if col == 0 {
+        0
+    } else if is_shown_as(&cells[col - 1], &cells[col]) {
+        before
+    } else {
+        col
+    }
+}
+
+fn ends_run(cells: &[Cell], col: usize) -> bool
+    requires { col < length cells.now }
+    ensures { result ≡ shown.ends_run cells.now col }
+{
+    col + 1 == cells.len() || !is_shown_as(&cells[col], &cells[col + 1])
+}
+
+/// Whether two cells are shown in one way, whatever their characters.
+fn is_shown_as(a: &Cell, b: &Cell) -> bool
+    ensures { result ≡ shown.same_style a.now b.now }
+{
+    let x = a.rendition();
+    let y = b.rendition();
+    (a.is_graphic() == b.is_graphic())
+        & (x.bold == y.bold)
+        & (x.faint == y.faint)
+        & (x.underline == y.underline)
+        & (x.blink == y.blink)
+        & (x.negative == y.negative)
+        & (x.concealed == y.concealed)
+        & is_colored_as(x.foreground, y.foreground)
+        & is_colored_as(x.background, y.background)
+}
+
+fn is_colored_as(a: Option<Color>, b: Option<Color>) -> bool
+    ensures { result ≡ shown.same_color a b }
+{
+    match (a, b) {
+        (None, None) => true,
+        (Some(a), Some(b)) => a.number() == b.number(),
+        _ => false,
+    }
+}
+
+fn push_look(
+    alloc: Global,
+    items: &mut Vec<u8>,
+    row: usize,
+    first: usize,
+    last: usize,
+    cell: &Cell,
+) -> Result<(), AllocError>
+    ensures { OnOk result (items.new.items ≡
+        spec.look_behind items.old.items row first last (shown.style_text cell.now)) }
+{
+    let style = style_letters(alloc, cell)?;
+    if style.is_empty() {
+        return Ok(());
+    }
+    begin_item(items)?;
+    push_look_item(alloc, items, row, first, last, style.as_slice())
+}
+
+fn push_look_item(
+    alloc: Global,
+    items: &mut Vec<u8>,
+    row: usize,
+    first: usize,
+    last: usize,
+    style: &[u8],
+) -> Result<(), AllocError>
+    ensures { OnOk result (items.new.items ≡ items.old.items ++ spec.look_item row first last style.now) }
+{
+    push_place(alloc, items, row, first, last)?;
+    items.extend_from_slice(style)?;
+    items.extend_from_slice(b"\"]")?;
+    Ok(())
+}
+
+fn push_place(
+    alloc: Global,
+    items: &mut Vec<u8>,
+    row: usize,
+    first: usize,
+    last: usize,
+) -> Result<(), AllocError>
+    ensures { OnOk result (items.new.items ≡ items.old.items ++ spec.look_place row first last) }
+{
+    let place = format!(in alloc; "[{row},{first},{last},\"")?;
+    items.extend_from_slice(place.as_bytes())
+}
+
+#[tactic(auto, unfolding(crate::specs::Styles::letters))]
+fn style_letters(alloc: Global, cell: &Cell) -> Result<Vec<u8>, AllocError>
+    ensures { IfOk result (λ text. text.items ≡ shown.style_text cell.now) }
+{
+    letters_of(alloc, cell.is_graphic(), cell.rendition())
+}
