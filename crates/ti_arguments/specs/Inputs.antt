@@ -5,7 +5,7 @@ use Rattle.std.specs.Str.{bytes_eq}
 use Rattle.ti_arguments.specs.declared.parser.ParsedLine.{ParsedLine}
 use Rattle.ti_arguments.specs.declared.parser.ParsedLine.TheVariants as answers
 use Rattle.ti_requests.specs.declared.request.Request.{Request}
-use Rattle.ti_requests.specs.declared.request.Request.TheVariants.{Expand, Feed, Tic, Check, CheckAll, CheckJson, Verify, Play, Show, Survey, SurveyJson, Print, Common, Neither}
+use Rattle.ti_requests.specs.declared.request.Request.TheVariants.{Expand, Feed, FeedAs, Tic, Check, CheckAll, CheckJson, Verify, Play, Show, Survey, SurveyJson, Print, Common, Neither}
 use Rattle.ti_requests.specs.declared.request.ScriptWords.{ScriptWords}
 use denote.Ref.{Bor}
 
@@ -37,6 +37,7 @@ script_paths words = entry_path words.entry.now ∷ words.certificate.now ∷ wo
 abbrev pub paths_read : Request → List (List ℕ)
 paths_read (Expand words) = []
 paths_read (Feed rows cols file) = file.now ∷ []
+paths_read (FeedAs words) = words.file.now ∷ []
 paths_read (Tic entry out) = entry_path entry.now ∷ []
 paths_read (Check words) = entry_path words.entry.now ∷ []
 paths_read (CheckAll words) = entry_path words.entry.now ∷ []

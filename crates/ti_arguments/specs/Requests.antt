@@ -10,10 +10,12 @@ use Rattle.clap.specs.declared.error.kind.ErrorKind.TheVariants as kind
 use Rattle.ti_arguments.specs.Line.{line}
 use Rattle.ti_arguments.specs.declared.parser.ParsedLine.{ParsedLine}
 use Rattle.ti_arguments.specs.declared.parser.ParsedLine.TheVariants as answers
+use Rattle.ti_requests.specs.declared.feeds.FeedForm.{FeedForm}
+use Rattle.ti_requests.specs.declared.feeds.FeedForm.TheVariants.{Screen, State, Json, Cases}
 use Rattle.ti_requests.specs.declared.request.Request.{Request}
 use Rattle.ti_requests.specs.declared.request.ScriptWords.{ScriptWords}
 use Rattle.ti_requests.specs.declared.request.SurveyWords.{SurveyWords}
-use Rattle.ti_requests.specs.declared.request.Request.TheVariants.{Expand, Feed, Tic, Check, CheckAll, CheckJson, Verify, Play, Show, Survey, SurveyJson, Print, Common, Neither}
+use Rattle.ti_requests.specs.declared.request.Request.TheVariants.{Expand, Feed, FeedAs, Tic, Check, CheckAll, CheckJson, Verify, Play, Show, Survey, SurveyJson, Print, Common, Neither}
 
 -- the word that stands for an argument, if it has one
 abbrev pub word_of : Text → List Row → Text
@@ -47,6 +49,18 @@ Surveys name rows words =
     × (words.rows.now ≡ word_of (codes "ROWS") rows) × (words.cols.now ≡ word_of (codes "COLS") rows)
     × (map (λ f. f.now) words.paths.items ≡ words_of (codes "FILE") rows)
 
+-- which of the switches of `feed` are on
+abbrev pub Forms : List Row → Bool → Bool → Bool → Type 0
+Forms rows state json cases =
+    (is_on (codes "state") rows ≡ state) × (is_on (codes "json") rows ≡ json) × (is_on (codes "cases") rows ≡ cases)
+
+-- what `feed` is asked to print
+abbrev pub HasForm : List Row → FeedForm → Type 0
+HasForm rows Screen = Forms rows false false false
+HasForm rows State = Forms rows true false false
+HasForm rows Json = Forms rows false true false
+HasForm rows Cases = Forms rows false false true
+
 -- the request of a command of this name with these words for its arguments
 abbrev pub AsksFor : Text → List Row → Request → Type 0
 AsksFor name rows (Expand words) =
@@ -55,8 +69,13 @@ AsksFor name rows (Expand words) =
     × (words.rows.now ≡ word_of (codes "ROWS") rows) × (words.cols.now ≡ word_of (codes "COLS") rows)
     × (map (λ p. p.now) words.params.items ≡ words_of (codes "PARAM") rows)
 AsksFor name rows (Feed height width file) =
-    (name ≡ codes "feed") × (height.now ≡ word_of (codes "ROWS") rows) × (width.now ≡ word_of (codes "COLS") rows)
+    (name ≡ codes "feed") × Forms rows false false false × (is_on (codes "plain-text") rows ≡ false)
+    × (height.now ≡ word_of (codes "ROWS") rows) × (width.now ≡ word_of (codes "COLS") rows)
     × (file.now ≡ word_of (codes "FILE") rows)
+AsksFor name rows (FeedAs words) =
+    (name ≡ codes "feed") × HasForm rows words.form × (words.plain_text ≡ is_on (codes "plain-text") rows)
+    × (words.rows.now ≡ word_of (codes "ROWS") rows) × (words.cols.now ≡ word_of (codes "COLS") rows)
+    × (words.file.now ≡ word_of (codes "FILE") rows)
 AsksFor name rows (Tic entry out) =
     (name ≡ codes "tic") × (entry.now ≡ word_of (codes "ENTRY") rows)
     × (option_map (λ o. o.now) out ≡ first_of (codes "out") rows)

@@ -3,7 +3,7 @@
 ghost use Rattle.std.specs.Prelude.{◌≡◌, Some, IfOk, codes, false};
 ghost use Rattle.clap.specs.Words.{app_of, rule_of, with_subcommand};
 ghost use Rattle.clap.specs.declared.builder.command.Command.TheViews.{out-Command};
-ghost use Rattle.ti_arguments.specs.Line.{check_rules, expand_rules, feed_rules, infocmp_rules, line, long_switch_rule, out_rule, params_rule, play_rules, positional_rule, program, several_rule, show_rules, survey_rules, switch_rule, tic_rules, verify_rules, with_plays, with_script_rules, with_report_rules, with_size_rules, with_verdicts};
+ghost use Rattle.ti_arguments.specs.Line.{check_rules, expand_rules, feed_rules, infocmp_rules, line, long_switch_rule, out_rule, params_rule, play_rules, positional_rule, program, several_rule, show_rules, survey_rules, switch_rule, tic_rules, verify_rules, with_plays, with_script_rules, with_form_rules, with_input_rules, with_report_rules, with_size_rules, with_verdicts};
 
 use crate::help;
 use clap::{Arg, ArgAction, Command};
@@ -132,7 +132,35 @@ fn feed_command<'a>(alloc: Global) -> Result<Command<'a>, AllocError>
     let command = Command::new(alloc, "feed")
         .about(help::FEED)
         .after_help(help::FEED_MORE);
+    let command = with_forms(alloc, command)?;
     with_size(alloc, command)?.arg(positional(alloc, "FILE", "The bytes to feed, at most 16777216"))
+}
+
+/// `command` with the switches for what is printed, and for recordings.
+fn with_forms<'a>(alloc: Global, command: Command<'a>) -> Result<Command<'a>, AllocError>
+    requires { (out-Command command).has_globals ≡ false }
+    ensures shape { IfOk result (λ c. app_of c ≡ with_form_rules (app_of command.entry)) }
+    ensures local { IfOk result (λ c. (out-Command c).has_globals ≡ false) }
+{
+    let state = "Show the whole state: also modes, margins, rendition and what is open of a sequence";
+    let json = "Show the whole state as a JSON object";
+    let command = command
+        .arg(long_switch(alloc, "state", state))?
+        .arg(long_switch(alloc, "json", json))?;
+    with_inputs(alloc, command)
+}
+
+/// `command` with the switches for what the file of `feed` is.
+fn with_inputs<'a>(alloc: Global, command: Command<'a>) -> Result<Command<'a>, AllocError>
+    requires { (out-Command command).has_globals ≡ false }
+    ensures shape { IfOk result (λ c. app_of c ≡ with_input_rules (app_of command.entry)) }
+    ensures local { IfOk result (λ c. (out-Command c).has_globals ≡ false) }
+{
+    let cases = "Read a case from each line, and show the state after each as a JSON object a line";
+    let plain = "Drop strings such as titles, and show characters above 127 as question marks";
+    command
+        .arg(long_switch(alloc, "cases", cases))?
+        .arg(long_switch(alloc, "plain-text", plain))
 }
 
 fn tic_command<'a>(alloc: Global) -> Result<Command<'a>, AllocError>

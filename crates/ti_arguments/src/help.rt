@@ -73,12 +73,25 @@ where the cursor is not visible), then for each run of cells with attributes or 
 `look ROW COLUMN-COLUMN LETTERS`: B bold, D dim, U underlined, K blinking, R reverse, I invisible,
 G line drawing, fN and bN the colors.
 
+With --state there follow lines for the rest of the state: `pending` (yes, no), `margins FIRST LAST`, `autowrap` and
+`insert` (on, off), `rendition` (LETTERS, or -), `g0` and `g1` (plain, graphic), `active` (g0, g1), and `open`: what has
+come of a sequence that is not whole, in hexadecimal, or -. With --json the state is one JSON object with members of
+these names.
+
+With --cases each line of the file is a case: a name, a space, and bytes in hexadecimal, or - for none. The output has
+for each case the JSON object of the state that its bytes leave of a blank terminal, with the case's `name`; if its bytes
+are stuck, also with `stuck`, the place, and the state is that of the bytes before it.
+
+With --plain-text the file is a recording: strings (titles and other OSC, DCS, SOS, PM, APC) are dropped up to their
+end, and a character above 127 counts as `?`. What was dropped is counted on standard error.
+
 Exit status: 0 done; 1 refused, with a line `refused: KIND` on standard error; 2 usage error; 3 the file
 could not be read or has more than 16777216 bytes, or standard output could not be written; 4 out of memory.
 
 KIND is one of:
-  BadSize   ROWS is not 2 to 200, or COLS is not 2 to 500
-  Stuck AT  the byte at AT, counted from 0, is neither 7-bit text nor part of a sequence
+  BadSize          ROWS is not 2 to 200, or COLS is not 2 to 500
+  Stuck AT         the byte at AT, counted from 0, is neither 7-bit text nor part of a sequence
+  line N: BadLine  with --cases: this line of the file is no case
 
 Example:
   ticurses feed 24 80 typescript";
@@ -219,7 +232,8 @@ pub const VERIFY: &str =
 pub const VERIFY_MORE: &str = "\
 The output is `yes` if the certificate CERT shows that the entry conforms on a terminal of this size: each checked
 string, with all parameters in range and from every state in which programs send it, does what they rely on. It does
-not matter who wrote the certificate. A certificate has at most 67108864 bytes, and is judged as it is read.
+not matter who wrote the certificate. A certificate has at most 67108864 bytes, and is judged as it is read. What its
+lines and words say, and in what order they are judged, stands in docs/CERTIFICATE.md.
 
 Exit status: 0 done; 1 refused, with a line `refused: KIND` on standard error; 2 usage error; 3 a file could not
 be read, or standard output could not be written; 4 out of memory.

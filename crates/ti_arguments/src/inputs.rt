@@ -38,6 +38,7 @@ fn reads(request: &Request<'_>) -> usize
     match request {
         Request::Expand(_) => 0,
         Request::Feed { file, .. } => of_paths(&[file]),
+        Request::FeedAs(words) => of_paths(&[words.file]),
         Request::Tic { entry, .. } | Request::Print { entry } => of_paths(&[file_of(entry)]),
         Request::Check(words) => of_paths(&[file_of(words.entry)]),
         Request::CheckAll(words) => of_paths(&[file_of(words.entry)]),

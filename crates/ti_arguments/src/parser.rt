@@ -5,7 +5,7 @@ ghost use Rattle.std.specs.String.{string_bytes};
 ghost use Rattle.clap.specs.Walk.{first_of, rows_of};
 ghost use Rattle.clap.specs.Words.{found_of, kind_of, subcommand_rows_of};
 ghost use Rattle.ti_arguments.specs.Inputs.{AnswersWithInput};
-ghost use Rattle.ti_arguments.specs.Requests.{Asks, AsksFor, IsAnswer, IsTold, Plays, is_on, word_of, words_of};
+ghost use Rattle.ti_arguments.specs.Requests.{Asks, AsksFor, HasForm, IsAnswer, IsTold, Plays, is_on, word_of, words_of};
 
 use crate::commands::command_line;
 use crate::inputs::judge_input;
@@ -13,7 +13,7 @@ use clap::ArgMatches;
 use clap::error::{Error, ErrorKind};
 use std::alloc::{AllocError, Global};
 use ti_requests::{
-    CheckWords, ExpandWords, FaultsWords, Request, ScriptWords, SurveyWords, VerifyWords,
+    CheckWords, ExpandWords, FaultsWords, FeedForm, FeedWords, Request, ScriptWords, SurveyWords, VerifyWords,
 };
 
 /// What a line that can be understood asks for.
@@ -77,7 +77,7 @@ fn request_of<'a>(alloc: Global, matches: &ArgMatches<'a>) -> Result<Request<'a>
 {
     match matches.subcommand() {
         Some(("expand", words)) => Ok(expand_request(alloc, words)?),
-        Some(("feed", words)) => Ok(feed_request(words)),
+        Some(("feed", words)) => feed_request(alloc, words),
         Some(("tic", words)) => Ok(tic_request(words)),
         Some(("infocmp", words)) => infocmp_request(alloc, words),
         Some(("check", words)) => check_request(alloc, words),
@@ -103,14 +103,44 @@ fn expand_request<'a>(alloc: Global, words: &ArgMatches<'a>) -> Result<Request<'
     }))
 }
 
-fn feed_request<'a>(words: &ArgMatches<'a>) -> Request<'a>
+/// Without an option the screen is shown; the options for other forms exclude each other, and a case is no recording.
+fn feed_request<'a>(alloc: Global, words: &ArgMatches<'a>) -> Result<Request<'a>, UsageFault>
+    ensures { IfOk result (λ request. AsksFor (codes "feed") (rows_of (found_of words.now)) request) }
+{
+    let state = is_on(words, "state");
+    let json = is_on(words, "json");
+    let cases = is_on(words, "cases");
+    let plain_text = is_on(words, "plain-text");
+    match (state, json, cases, plain_text) {
+        (false, false, false, false) => Ok(Request::Feed {
+            rows: word(words, "ROWS"),
+            cols: word(words, "COLS"),
+            file: word(words, "FILE"),
+        }),
+        (false, false, false, true) => Ok(feed_as(words, FeedForm::Screen, true)),
+        (true, false, false, plain) => Ok(feed_as(words, FeedForm::State, plain)),
+        (false, true, false, plain) => Ok(feed_as(words, FeedForm::Json, plain)),
+        (false, false, true, false) => Ok(feed_as(words, FeedForm::Cases, false)),
+        _ => Err(UsageFault::Usage(String::from_str(alloc, ONE_FORM)?)),
+    }
+}
+
+const ONE_FORM: &str = "error: feed shows one of --state, --json and --cases; --plain-text is not for --cases\n\n\
+                        For more information, try '--help'.\n";
+
+/// The request of `feed` with an option, which asks for this form.
+fn feed_as<'a>(words: &ArgMatches<'a>, form: FeedForm, plain_text: bool) -> Request<'a>
+    requires form { HasForm (rows_of (found_of words.now)) form }
+    requires plain { plain_text ≡ is_on (codes "plain-text") (rows_of (found_of words.now)) }
     ensures { AsksFor (codes "feed") (rows_of (found_of words.now)) result }
 {
-    Request::Feed {
+    Request::FeedAs(FeedWords {
+        form,
+        plain_text,
         rows: word(words, "ROWS"),
         cols: word(words, "COLS"),
         file: word(words, "FILE"),
-    }
+    })
 }
 
 fn tic_request<'a>(words: &ArgMatches<'a>) -> Request<'a>

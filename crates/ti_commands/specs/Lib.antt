@@ -10,3 +10,4 @@ pub mod Findings
 pub mod Replies
 pub mod Sources
 pub mod Refusals
+pub mod States

@@ -32,7 +32,7 @@ pub fn feed_file<F: Files>(
 }
 
 /// The screen of a terminal after `bytes`, which are those of the file at `path`.
-fn screen_after(
+pub(crate) fn screen_after(
     alloc: Global,
     size: Size,
     path: &str,

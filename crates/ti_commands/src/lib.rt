@@ -15,6 +15,7 @@ mod refusals;
 mod replies;
 mod sizes;
 mod sources;
+mod states;
 
 pub use contents::{LONGEST_FILE, file_fault, read_whole};
 pub use descriptions::{Comparison, compare_entries, compile_entry, entry_of, print_entry};
@@ -28,3 +29,4 @@ pub use refusals::{parm_name, refusal_words};
 pub use replies::{write_reply, write_text};
 pub use sizes::size_words;
 pub use sources::{SourceText, Sourced, sourced_entry};
+pub use states::feed_state;

@@ -1,5 +1,7 @@
 //! What a command line can ask for: one variant for each command, with its words.
 
+use crate::feeds::FeedWords;
+
 /// The words of `expand`.
 #[derive(Debug, Drop)]
 pub struct ExpandWords<'a> {
@@ -94,6 +96,8 @@ pub enum Request<'a> {
         /// The path of the file.
         file: &'a str,
     },
+    /// `feed` with an option: print the whole state, or the states of many cases, or feed a recording.
+    FeedAs(FeedWords<'a>),
     /// `tic ENTRY [--out FILE]`: compile an entry.
     Tic {
         /// The entry.

@@ -11,7 +11,7 @@ use std::io::{IsTerminal, Write};
 use ti_arguments::{ParsedLine, UsageFault, parse_line};
 use ti_commands::{
     Comparison, Failure, Files, Output, Reply, Written, compare_entries, compile_entry,
-    expand_string, feed_file, print_entry, report, write_reply, write_text,
+    expand_string, feed_file, feed_state, print_entry, report, write_reply, write_text,
 };
 use ti_reports::{check_reports, survey_reports};
 use ti_requests::{CheckWords, Request};
@@ -120,6 +120,7 @@ fn reply_to<F: Files, O: Output, E: Write + IsTerminal>(
     match request {
         Request::Expand(words) => expand_string(alloc, words, remarks),
         Request::Feed { rows, cols, file } => feed_file(alloc, rows, cols, file, files, remarks),
+        Request::FeedAs(words) => feed_state(alloc, words, files, remarks),
         Request::Tic { entry, out } => compile_entry(alloc, entry, *out, files, remarks),
         Request::Check(words) => check_counted(alloc, words, files, err, remarks),
         Request::CheckAll(words) => check_all(alloc, words, files, remarks),

@@ -1,0 +1,187 @@
+//! The command `feed` with options.
+
+ghost use Rattle.std.specs.Prelude.{◌≡◌, IfErr, IfOk};
+ghost use Rattle.ti_commands.specs.States.{FailsToShow, FailsWith, IsBadLineFailure, Shows, ShowsForm, ShowsStates, fed_of, line_text, note_of, notes_of};
+ghost use Rattle.ti_commands.specs.Feeds.{IsStuckFailure};
+ghost use Rattle.vt_states.specs.Cases.{AreAnswers};
+ghost use Rattle.ti_requests.specs.declared.feeds.FeedForm.TheVariants as forms;
+
+use crate::contents::{LONGEST_FILE, read_whole};
+use crate::failure::{CommandRefusal, Failure, Reply};
+use crate::feeds::screen_after;
+use crate::files::Files;
+use crate::sizes::size_words;
+use std::alloc::{AllocError, Global};
+use ti_requests::{FeedForm, FeedWords};
+use ti_words::{Remarks, explain_stuck};
+use vt_states::{CaseFault, Snapshot, case_answers, plain_recording};
+use vt_term::{Size, Stuck};
+
+/// Feeds the file of the `words` to a terminal in its reset state, and shows what they ask for of the state that it leaves;
+/// or the states of all cases of the file. Of a recording strings are dropped and characters above 127 replaced first, and
+/// the notes say how much.
+pub fn feed_state<F: Files>(
+    alloc: Global,
+    words: &FeedWords<'_>,
+    files: &mut F,
+    remarks: &mut Remarks,
+) -> Result<Reply, Failure>
+    ensures reply { IfOk result (λ reply. ShowsStates (F.holds files.old) words.now reply) }
+    ensures failure { IfErr result (λ e. FailsToShow (F.holds files.old) words.now e) }
+    ensures kept { F.holds files.new ≡ F.holds files.old }
+{
+    let size = size_words(alloc, words.rows, words.cols, remarks)?;
+    let bytes = read_whole(alloc, files, words.file, LONGEST_FILE, remarks)?;
+    let (fed, notes) = fed_bytes(alloc, words.plain_text, bytes)?;
+    let text = shown(alloc, words, size, fed.as_slice(), remarks)?;
+    Ok(Reply {
+        notes,
+        text,
+        failure: None,
+    })
+}
+
+/// What the terminal is fed with of a file, and what is said of that.
+fn fed_bytes(
+    alloc: Global,
+    plain_text: bool,
+    bytes: Vec<u8>,
+) -> Result<(Vec<u8>, Vec<u8>), AllocError>
+    ensures { IfOk result (λ fed. (fed.0.items ≡ fed_of plain_text bytes.items)
+        × (fed.1.items ≡ notes_of plain_text bytes.items)) }
+{
+    if plain_text {
+        let recording = plain_recording(alloc, bytes.as_slice())?;
+        let note = note(alloc, recording.dropped, recording.replaced)?;
+        Ok((recording.text, note))
+    } else {
+        Ok((bytes, Vec::new(alloc)))
+    }
+}
+
+/// What is said of a recording, if something was dropped or replaced.
+fn note(alloc: Global, dropped: usize, replaced: usize) -> Result<Vec<u8>, AllocError>
+    ensures { IfOk result (λ text. text.items ≡ note_of dropped replaced) }
+{
+    if dropped == 0 && replaced == 0 {
+        return Ok(Vec::new(alloc));
+    }
+    let text = format!(in alloc;
+        "plain-text: {dropped} bytes of strings dropped, {replaced} characters shown as ?\n"
+    )?;
+    Vec::from_slice(alloc, text.as_bytes())
+}
+
+/// What the words ask for of the bytes, which are those of their file.
+fn shown(
+    alloc: Global,
+    words: &FeedWords<'_>,
+    size: Size,
+    bytes: &[u8],
+    remarks: &mut Remarks,
+) -> Result<Vec<u8>, Failure>
+    ensures text { IfOk result (λ text. Shows words.now.form size.rows size.cols bytes.now text.items) }
+    ensures failure { IfErr result (λ e. FailsWith words.now.form size.rows size.cols bytes.now e) }
+{
+    match words.form {
+        FeedForm::Screen => screen_after(alloc, size, words.file, bytes, remarks),
+        FeedForm::State => lines_after(alloc, size, words.file, bytes, remarks),
+        FeedForm::Json => object_after(alloc, size, words.file, bytes, remarks),
+        FeedForm::Cases => answers_to(alloc, size, words.file, bytes, remarks),
+    }
+}
+
+/// The whole state after the bytes, as lines.
+fn lines_after(
+    alloc: Global,
+    size: Size,
+    path: &str,
+    bytes: &[u8],
+    remarks: &mut Remarks,
+) -> Result<Vec<u8>, Failure>
+    ensures text { IfOk result (λ text. ShowsForm forms.State size.rows size.cols bytes.now text.items) }
+    ensures failure { IfErr result (λ e. IsStuckFailure size.rows size.cols bytes.now e) }
+{
+    match Snapshot::after(alloc, size, bytes)? {
+        (snapshot, None) => Ok(snapshot.print(alloc)?),
+        (_, Some(stuck)) => Err(stuck_failure(alloc, path, bytes, stuck, remarks)),
+    }
+}
+
+/// The whole state after the bytes, as an object, and a LF.
+fn object_after(
+    alloc: Global,
+    size: Size,
+    path: &str,
+    bytes: &[u8],
+    remarks: &mut Remarks,
+) -> Result<Vec<u8>, Failure>
+    ensures text { IfOk result (λ text. ShowsForm forms.Json size.rows size.cols bytes.now text.items) }
+    ensures failure { IfErr result (λ e. IsStuckFailure size.rows size.cols bytes.now e) }
+{
+    match Snapshot::after(alloc, size, bytes)? {
+        (snapshot, None) => {
+            let mut text = Vec::new(alloc);
+            snapshot.push_object(alloc, b"", &mut text)?;
+            text.push(b'\n')?;
+            Ok(text)
+        }
+        (_, Some(stuck)) => Err(stuck_failure(alloc, path, bytes, stuck, remarks)),
+    }
+}
+
+/// The failure of the file at `path`, whose bytes are stuck.
+fn stuck_failure(
+    alloc: Global,
+    path: &str,
+    bytes: &[u8],
+    stuck: Stuck,
+    remarks: &mut Remarks,
+) -> Failure
+    ensures { result ≡ Failure.Refused (CommandRefusal.Stuck stuck) }
+{
+    explain_stuck(alloc, path.as_bytes(), bytes, stuck.at, remarks);
+    Failure::Refused(CommandRefusal::Stuck(stuck))
+}
+
+/// The answers to the cases of the file at `path`.
+fn answers_to(
+    alloc: Global,
+    size: Size,
+    path: &str,
+    file: &[u8],
+    remarks: &mut Remarks,
+) -> Result<Vec<u8>, Failure>
+    ensures text { IfOk result (λ text. AreAnswers size.rows size.cols file.now text.items) }
+    ensures failure { IfErr result (λ e. FailsWith forms.Cases size.rows size.cols file.now e) }
+{
+    match case_answers(alloc, size, file) {
+        Ok(text) => Ok(text),
+        Err(CaseFault::NoMemory) => Err(Failure::NoMemory),
+        Err(CaseFault::BadLine(line)) => {
+            remarks.add(path.as_bytes(), CASE_WORDS);
+            Err(bad_line(alloc, line))
+        }
+    }
+}
+
+/// What a line of a file of cases is.
+const CASE_WORDS: &[u8] =
+    b": a line of it is a name, a space, and bytes in hexadecimal, or a dash for none";
+
+/// The failure of a file of cases with a line that is none.
+fn bad_line(alloc: Global, line: usize) -> Failure
+    ensures { IsBadLineFailure line result }
+{
+    match line_words(alloc, line) {
+        Ok(words) => Failure::Refused(CommandRefusal::Verdict(words)),
+        Err(_) => Failure::NoMemory,
+    }
+}
+
+fn line_words(alloc: Global, line: usize) -> Result<Vec<u8>, AllocError>
+    ensures { IfOk result (λ words. words.items ≡ line_text line) }
+{
+    let words = format!(in alloc; "line {line}: BadLine")?;
+    Vec::from_slice(alloc, words.as_bytes())
+}

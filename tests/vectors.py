@@ -1,0 +1,182 @@
+"""The options of `feed` beside vectors/: the states there are those of a model that doesn't know the program."""
+
+import json
+import random
+import resource
+import subprocess
+import sys
+import tempfile
+from pathlib import Path
+
+from trying import PROGRAM, TOP, Case, run_cases
+
+VECTORS = Path(TOP) / "vectors"
+sys.path.append(str(VECTORS))
+
+import model
+
+LONG = 100_000
+SECONDS = 2
+
+
+def fail(text):
+    sys.exit(f"vectors: {text}")
+
+
+def files():
+    """Each file of vectors: its rows and columns as words, its cases and its states."""
+    for path in sorted(VECTORS.glob("*.cases")):
+        rows, cols = path.stem.rsplit("-", 1)[1].split("x")
+        yield path, rows, cols, path.read_bytes(), path.with_suffix(".states").read_bytes()
+
+
+def made_anew():
+    """The files are what the generator writes."""
+    with tempfile.TemporaryDirectory() as room:
+        subprocess.run([sys.executable, "-B", str(VECTORS / "make.py"), room], check=True, stdout=subprocess.DEVNULL)
+        made = {path.name: path.read_bytes() for path in Path(room).iterdir()}
+    there = {path.name: path.read_bytes() for path in VECTORS.iterdir() if path.suffix in (".cases", ".states")}
+    for name in sorted(made.keys() | there.keys()):
+        if made.get(name) != there.get(name):
+            fail(f"{name} isn't what vectors/make.py writes")
+    page = (VECTORS / "README.md").read_text(encoding="utf-8")
+    count = sum(text.count(b"\n") for name, text in there.items() if name.endswith(".cases"))
+    if f"{count:,} cases in {len(there) // 2} files" not in page:
+        fail(f"vectors/README.md doesn't say that there are {count:,} cases")
+    return count
+
+
+def beside_vectors():
+    """`--cases` prints just the states."""
+    told = run_cases(PROGRAM, [Case(["feed", "--cases", rows, cols, "{}"], cases) for _, rows, cols, cases, _ in files()])
+    for (path, _, _, cases, states), one in zip(files(), told):
+        if one.status or one.err:
+            fail(f"{path.name}: {one.err!r}")
+        for case, wanted, seen in zip(cases.split(b"\n"), states.split(b"\n"), one.out.split(b"\n")):
+            if wanted != seen:
+                fail(f"{path.name}: {case.decode()}\nthe model has {wanted.decode()}\nthe program {seen.decode()}")
+        if one.out != states:
+            fail(f"{path.name}: not as many lines")
+
+
+def state_lines(state):
+    """What `--state` prints."""
+    yield from state["rows"]
+    yield f"cursor {state['cursor'][0]} {state['cursor'][1]}{'' if state['visible'] else ' hidden'}"
+    for row, first, last, look in state["looks"]:
+        yield f"look {row} {first}-{last} {look}"
+    yield f"pending {'yes' if state['pending'] else 'no'}"
+    yield f"margins {state['margins'][0]} {state['margins'][1]}"
+    yield f"autowrap {'on' if state['autowrap'] else 'off'}"
+    yield f"insert {'on' if state['insert'] else 'off'}"
+    yield f"rendition {state['rendition'] or '-'}"
+    yield from (f"{name} {state[name]}" for name in ("g0", "g1", "active"))
+    yield f"open {state['open'] or '-'}"
+
+
+def one_by_one():
+    """`--json` and `--state` of some cases of each file: the same states, and stuck ones are refused as without options."""
+    chance, runs, wanted = random.Random(7), [], []
+    for _, rows, cols, cases, states in files():
+        lines = list(zip(cases.decode().splitlines(), states.decode().splitlines()))
+        for case, told in chance.sample(lines, 8):
+            data, state = bytes.fromhex(case.split()[1].strip("-")), json.loads(told)
+            del state["name"]
+            stuck = state.pop("stuck", None)
+            texts = {"--json": json.dumps(state, separators=(",", ":")) + "\n", "--state": "".join(f"{line}\n" for line in state_lines(state))}
+            for option, text in texts.items():
+                runs.append(Case(["feed", option, rows, cols, "{}"], data))
+                wanted.append((0, text.encode(), b"") if stuck is None else (1, b"", f"refused: Stuck {stuck}\n".encode()))
+    for run, (status, out, err), told in zip(runs, wanted, run_cases(PROGRAM, runs)):
+        if (told.status, told.out) != (status, out) or not told.err.startswith(err) or bool(err) != bool(told.err):
+            fail(f"{' '.join(run.words)} of {run.given.hex()}: {told.status} {told.out!r} {told.err!r}, and not {out!r}")
+    return len(runs)
+
+
+# a file, the line that is none (counted from 1), or None; blank lines, other white space and CR are none
+DAMAGED = [
+    (b"", None), (b"a -\n", None), (b"a 41\n", None), (b"a 4A4b\n", None), (b"\"\\ 22\n", None), (b"a -\na -\n", None),
+    (b"\n", 1), (b"a\n", 1), (b"a \n", 1), (b" 41\n", 1), (b"a 4\n", 1), (b"a 4g\n", 1), (b"a  41\n", 1), (b"a 41 \n", 1),
+    (b"a 41\r\n", 1), (b"a\t41\n", 1), (b"a 41", 1), (b"a -\n\nb -\n", 2), (b"a -\nb -\nc", 3), (b"a -\nb --\n", 2), (b"a -\n\xff 41\n", 2),
+    (b"a -\n\x7f 41\n", 2), (b"a -\nb 41\x00\n", 2), (b"# a comment\n", 1), (b"a 0x41\n", 1), (b"a -\n\n", 2),
+]  # fmt: skip
+
+
+def damaged():
+    """Files with a line that is no case: refused, with the line's number, and nothing printed."""
+    for (text, line), told in zip(DAMAGED, run_cases(PROGRAM, [Case(["feed", "--cases", "2", "9", "{}"], text) for text, _ in DAMAGED])):
+        wanted = (0, b"") if line is None else (1, f"refused: line {line}: BadLine\n".encode())
+        if told.status != wanted[0] or not told.err.startswith(wanted[1]) or (line is not None and told.out):
+            fail(f"{text!r}: {told.status} {told.out!r} {told.err!r}")
+        if line is None:
+            names = [json.loads(one)["name"].encode() for one in told.out.splitlines()]
+            if names != [one.split(b" ")[0] for one in text.splitlines()]:
+                fail(f"{text!r}: {told.out!r}")
+
+
+# a recording, what T is shown of it, bytes of strings, characters
+RECORDINGS = [
+    (b"plain\r\n", b"plain\r\n", 0, 0),
+    ("naïve €, 𝄞".encode(), b"na?ve ?, ?", 0, 3),
+    (b"a\xffb\xc3(c\xe2\x82d", b"a?b?(c??d", 0, 4),
+    (b"\xed\xa0\x80\xc0\x80\xf5\x80", b"???????", 0, 7),
+    (b"\xf4\x90\x80\x80|\xf0\x90\x80\x80", b"????|?", 0, 5),
+    (b"\033]0;title\007ab", b"ab", 10, 0),
+    (b"\033]0;title\033\\ab", b"\033\\ab", 9, 0),
+    (b"\033Pq#0\033\\ab\033_x\033\\\033^y\033\\\033Xz\033\\", b"\033\\ab\033\\\033\\\033\\", 14, 0),
+    (b"\033Pa\007b\033\\c", b"\033\\c", 5, 0),
+    (b"\033]0;x\030ab\033]1\032c", b"\030ab\032c", 8, 0),
+    (b"\033]2;na\xc3\xafve\007x", b"x", 11, 0),
+    (b"ab\033]0;never ends", b"ab", 14, 0),
+    (b"\033]a\033]b\007c\033\033]d\007e", b"c\033e", 11, 0),
+    (b"\033(]\033[31m]\033", b"\033(]\033[31m]\033", 0, 0),
+]  # fmt: skip
+
+
+def recordings():
+    """`--plain-text`: what T is shown, and what is said of the rest."""
+    runs = [Case(["feed", "--plain-text", "--json", "3", "20", "{}"], given) for given, _, _, _ in RECORDINGS]
+    for (given, shown, dropped, replaced), told in zip(RECORDINGS, run_cases(PROGRAM, runs)):
+        terminal = model.Terminal(3, 20)
+        terminal.feed(shown)
+        said = f"plain-text: {dropped} bytes of strings dropped, {replaced} characters shown as ?\n" if dropped or replaced else ""
+        if (told.status, told.err.decode()) != (0, said) or json.loads(told.out) != terminal.state():
+            fail(f"{given!r}: {told.status} {told.out!r} {told.err!r}")
+
+
+def refused_together():
+    """One form at a time."""
+    for words in (["--state", "--json"], ["--cases", "--json"], ["--cases", "--state"], ["--cases", "--plain-text"], ["--state", "--state"]):
+        told = run_cases(PROGRAM, [Case(["feed", *words, "2", "2", "{}"], b"")])[0]
+        if told.status != 2 or told.out:
+            fail(f"feed {' '.join(words)}: status {told.status}")
+
+
+def many():
+    """100,000 cases in one run."""
+    _, rows, cols, cases, _ = next(one for one in files() if one[0].name.startswith("sequences"))
+    lines = cases.splitlines(keepends=True)
+    text = b"".join(lines[at % len(lines)] for at in range(LONG))
+    before = resource.getrusage(resource.RUSAGE_CHILDREN).ru_utime
+    told = run_cases(PROGRAM, [Case(["feed", "--cases", rows, cols, "{}"], text)])[0]
+    seconds = resource.getrusage(resource.RUSAGE_CHILDREN).ru_utime - before
+    if told.out.count(b"\n") != LONG:
+        fail(f"{LONG} cases: {told.status} {told.err!r}")
+    if seconds > SECONDS:
+        fail(f"{LONG} cases take {seconds:.1f} s of processor time")
+    return seconds
+
+
+def main():
+    count = made_anew()
+    beside_vectors()
+    print(f"vectors: {count} cases leave the states that the model gives")
+    print(f"vectors: {one_by_one()} runs with --json and --state print those states")
+    damaged()
+    recordings()
+    refused_together()
+    print(f"vectors: {len(DAMAGED)} files of cases and {len(RECORDINGS)} recordings; {LONG} cases in {many():.1f} s")
+
+
+if __name__ == "__main__":
+    main()
