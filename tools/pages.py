@@ -22,7 +22,7 @@ PARTS = [
     ("The program", ["ticurses", "ti_arguments", "ti_requests", "cur_commands", "ti_reports", "ti_verdicts", "ti_commands", "ti_words"]),
     ("For programs", ["curses", "hello", "curses_c"]),
     ("Descriptions", ["ti_resolve", "ti_source", "ti_compiled", "ti_caps", "ti_parm", "ti_reach"]),
-    ("The terminal", ["vt_states", "vt_effects", "vt_term", "vt_screen", "grids"]),
+    ("The terminal", ["vt_effects", "vt_states", "vt_term", "vt_screen", "grids"]),
     ("Certificates", ["ti_remedies", "ti_faults", "ti_checker", "ti_cert", "ti_lines", "ti_conforms", "ti_rows"]),
     ("Windows", ["cur_pads", "cur_windows", "cur_drawing"]),
     ("Painting", ["cur_play", "cur_calls", "cur_update", "cur_paint", "cur_scrolls", "cur_looks", "cur_wires"]),
