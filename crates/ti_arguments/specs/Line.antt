@@ -50,17 +50,21 @@ expand_rules =
     with_rule (with_size_rules (with_rule (with_rule (new_app (codes "expand")) (long_switch_rule (codes "cup")))
     (positional_rule (codes "STRING")))) params_rule
 
--- what the file is: cases, or a recording
-abbrev pub with_input_rules : App → App
-with_input_rules a = with_rule (with_rule a (long_switch_rule (codes "cases"))) (long_switch_rule (codes "plain-text"))
-
--- in which form the state is printed, and what the file is
+-- the forms of one state
 abbrev pub with_form_rules : App → App
-with_form_rules a =
-    with_input_rules (with_rule (with_rule a (long_switch_rule (codes "state"))) (long_switch_rule (codes "json")))
+with_form_rules a = with_rule (with_rule a (long_switch_rule (codes "state"))) (long_switch_rule (codes "json"))
+
+-- many cases, and recordings
+abbrev pub with_case_rule : App → App
+with_case_rule a = with_rule a (long_switch_rule (codes "cases"))
+
+abbrev pub with_plain_rule : App → App
+with_plain_rule a = with_rule a (long_switch_rule (codes "plain-text"))
 
 abbrev pub feed_rules : App
-feed_rules = with_rule (with_size_rules (with_form_rules (new_app (codes "feed")))) (positional_rule (codes "FILE"))
+feed_rules =
+    with_rule (with_size_rules (with_plain_rule (with_case_rule (with_form_rules (new_app (codes "feed"))))))
+    (positional_rule (codes "FILE"))
 
 abbrev pub tic_rules : App
 tic_rules = with_rule (with_rule (new_app (codes "tic")) out_rule) (positional_rule (codes "ENTRY"))

@@ -3,7 +3,7 @@
 ghost use Rattle.std.specs.Prelude.{◌≡◌, Some, IfOk, codes, false};
 ghost use Rattle.clap.specs.Words.{app_of, rule_of, with_subcommand};
 ghost use Rattle.clap.specs.declared.builder.command.Command.TheViews.{out-Command};
-ghost use Rattle.ti_arguments.specs.Line.{check_rules, expand_rules, feed_rules, infocmp_rules, line, long_switch_rule, out_rule, params_rule, play_rules, positional_rule, program, several_rule, show_rules, survey_rules, switch_rule, tic_rules, verify_rules, with_plays, with_script_rules, with_form_rules, with_input_rules, with_report_rules, with_size_rules, with_verdicts};
+ghost use Rattle.ti_arguments.specs.Line.{check_rules, expand_rules, feed_rules, infocmp_rules, line, long_switch_rule, out_rule, params_rule, play_rules, positional_rule, program, several_rule, show_rules, survey_rules, switch_rule, tic_rules, verify_rules, with_plays, with_script_rules, with_case_rule, with_form_rules, with_plain_rule, with_report_rules, with_size_rules, with_verdicts};
 
 use crate::help;
 use clap::{Arg, ArgAction, Command};
@@ -132,35 +132,54 @@ fn feed_command<'a>(alloc: Global) -> Result<Command<'a>, AllocError>
     let command = Command::new(alloc, "feed")
         .about(help::FEED)
         .after_help(help::FEED_MORE);
-    let command = with_forms(alloc, command)?;
+    let state = "Show the whole state: also modes, margins, rendition and what is open of a sequence";
+    let json = "Show the whole state as a JSON object";
+    let command = with_forms(alloc, command, state, json)?;
+    let command = with_cases(alloc, command)?;
+    let command = with_plain_text(alloc, command)?;
     with_size(alloc, command)?.arg(positional(alloc, "FILE", "The bytes to feed, at most 16777216"))
 }
 
-/// `command` with the switches for what is printed, and for recordings.
-fn with_forms<'a>(alloc: Global, command: Command<'a>) -> Result<Command<'a>, AllocError>
+/// `command` with the switches for the forms of one state, and their help.
+fn with_forms<'a>(
+    alloc: Global,
+    command: Command<'a>,
+    state: &'a str,
+    json: &'a str,
+) -> Result<Command<'a>, AllocError>
     requires { (out-Command command).has_globals ≡ false }
     ensures shape { IfOk result (λ c. app_of c ≡ with_form_rules (app_of command.entry)) }
     ensures local { IfOk result (λ c. (out-Command c).has_globals ≡ false) }
 {
-    let state = "Show the whole state: also modes, margins, rendition and what is open of a sequence";
-    let json = "Show the whole state as a JSON object";
-    let command = command
+    command
         .arg(long_switch(alloc, "state", state))?
-        .arg(long_switch(alloc, "json", json))?;
-    with_inputs(alloc, command)
+        .arg(long_switch(alloc, "json", json))
 }
 
-/// `command` with the switches for what the file of `feed` is.
-fn with_inputs<'a>(alloc: Global, command: Command<'a>) -> Result<Command<'a>, AllocError>
+/// `command` with the switch for many cases.
+fn with_cases<'a>(alloc: Global, command: Command<'a>) -> Result<Command<'a>, AllocError>
     requires { (out-Command command).has_globals ≡ false }
-    ensures shape { IfOk result (λ c. app_of c ≡ with_input_rules (app_of command.entry)) }
+    ensures shape { IfOk result (λ c. app_of c ≡ with_case_rule (app_of command.entry)) }
     ensures local { IfOk result (λ c. (out-Command c).has_globals ≡ false) }
 {
-    let cases = "Read a case from each line, and show the state after each as a JSON object a line";
-    let plain = "Drop strings such as titles, and show characters above 127 as question marks";
-    command
-        .arg(long_switch(alloc, "cases", cases))?
-        .arg(long_switch(alloc, "plain-text", plain))
+    command.arg(long_switch(
+        alloc,
+        "cases",
+        "Read a case from each line, and show the state after each as a JSON object a line",
+    ))
+}
+
+/// `command` with the switch for recordings.
+fn with_plain_text<'a>(alloc: Global, command: Command<'a>) -> Result<Command<'a>, AllocError>
+    requires { (out-Command command).has_globals ≡ false }
+    ensures shape { IfOk result (λ c. app_of c ≡ with_plain_rule (app_of command.entry)) }
+    ensures local { IfOk result (λ c. (out-Command c).has_globals ≡ false) }
+{
+    command.arg(long_switch(
+        alloc,
+        "plain-text",
+        "Drop strings such as titles, and show characters above 127 as question marks",
+    ))
 }
 
 fn tic_command<'a>(alloc: Global) -> Result<Command<'a>, AllocError>
