@@ -95,7 +95,10 @@ def lines_of(text, most=4):
 
 def certificate(path, most=4):
     """For each line, its bytes from each kind of start."""
-    text = Path(path).read_text(encoding="ascii")
+    try:
+        text = Path(path).read_text(encoding="ascii")
+    except (OSError, UnicodeDecodeError) as error:
+        raise SystemExit(f"conform: {path} can't be read: {error}") from None
     head = re.match(r"ticert 2 (\d+) (\d+)\n", text)
     if not head:
         raise SystemExit(f"conform: {path} is no certificate of version 2")
