@@ -234,7 +234,7 @@ def judge_by_hand():
     print("faults: an entry with six faults is mended in one round")
 
 
-SUGGESTED = re.compile(r"  (\w+=.+) would be right on this terminal")
+SUGGESTED = re.compile(r"  (\w+=.+) would be right on T")
 
 
 def judge_suggestions():
@@ -248,6 +248,68 @@ def judge_suggestions():
     if (told.status, told.out) != (0, b"yes\n"):
         fail(f"with {fields} the entry is {told.status} {told.out}")
     print("faults: the strings that are suggested, as they are printed, mend an entry")
+
+
+# Entries whose strings are right only together, each with its faults and with what is suggested: `smacs` by SO needs an
+# `enacs`, and what `\E(0` begins `\E(B` ends and SI doesn't. SGR 10 and 11 switch no set, which shows only once `op` is
+# right. SGR 7 alone turns nothing off.
+BASE = r"""base|base, acsc=qqxx, clear=\E[H\E[2J, cup=\E[%i%p1%d;%p2%dH, sgr0=\E[m, setaf=\E[3%p1%dm, setab=\E[4%p1%dm,"""
+KEEPING = (
+    r"sgr=%?%p1%p2%|%p3%|%p4%|%p5%|%p6%|%p7%|%!%t\E[0m%e%?%p1%t\E[7m%e"
+    r"\E[0%?%p2%t;4%;%?%p3%t;7%;%?%p4%t;5%;%?%p5%t;2%;%?%p6%t;1%;%?%p7%t;8%;m%;%;"
+)
+ATTRIBUTES = r"sgr=\E[0%?%p1%p3%|%t;7%;%?%p2%t;4%;%?%p4%t;5%;%?%p5%t;2%;%?%p6%t;1%;%?%p7%t;8%;m"
+TOGETHER = [
+    ([r"op=\E[39;49m", r"smacs=x\E(0", r"rmacs=\017"], ["no smacs: NotTame"], []),
+    ([r"op=\E[m", r"smacs=x\E(0", r"rmacs=\017"], ["no op: WrongEffect", "no smacs: NotTame"], [r"op=\E[39;49m"]),
+    (
+        [r"op=\E[39;49m", r"smacs=x\E(0", r"rmacs=x\017"],
+        ["no rmacs: NotTame", "no smacs: NotTame"],
+        [r"rmacs=\E(B", r"smacs=\E(0"],
+    ),
+    (
+        [r"op=\E[m", r"smacs=\E(0", r"rmacs=x\017"],
+        ["no op: WrongEffect", "no rmacs: NotTame"],
+        [r"op=\E[39;49m", r"rmacs=\E(B"],
+    ),
+    (
+        [r"op=\E[m", r"smacs=\E[11m", r"rmacs=\E[10m"],
+        ["no op: WrongEffect", "no smacs: WrongEffect"],
+        [r"op=\E[39;49m"],
+    ),
+    (
+        [r"op=\E[39;49m", "acsc@", KEEPING],
+        ["no sgr 1 0 0 0 0 0 0 0 0: WrongEffect"],
+        [ATTRIBUTES],
+    ),
+]  # fmt: skip
+
+
+def list_together(entries):
+    """The lines that `check --all` prints of each of these entries, which are lists of fields."""
+    data = {f"{i}.ti": f"e|e, {', '.join(fields)}, use=base,\n{BASE}\n".encode() for i, fields in enumerate(entries)}
+    told = run_cases(PROGRAM, [Case(["check", "--all", f"{name}:e", "3", "5"]) for name in data], data)
+    return [one.out.decode().splitlines() for one in told]
+
+
+def told_faults(lines):
+    return [line for line in lines if line.startswith("no ")]
+
+
+def judge_together():
+    """With all strings that are suggested, what is still at fault is none of them."""
+    listed = list_together([fields for fields, _, _ in TOGETHER])
+    mended = []
+    for (fields, faults, wanted), lines in zip(TOGETHER, listed):
+        suggested = [found[1] for found in map(SUGGESTED.fullmatch, lines) if found]
+        if told_faults(lines) != faults or suggested != wanted:
+            fail(f"{fields} printed {lines}")
+        mended.append(wanted + [field for field in fields if named(field) not in map(named, wanted)])
+    for (_, faults, wanted), fields, lines in zip(TOGETHER, mended, list_together(mended)):
+        left = [fault for fault in faults if named(fault[3:]) not in map(named, wanted)]
+        if told_faults(lines) != left:
+            fail(f"the mended {fields} printed {lines}")
+    print("faults: strings that are suggested hold together, and no fault is hidden by others")
 
 
 # two entries of one name, which has a byte that isn't shown
@@ -277,4 +339,5 @@ if __name__ == "__main__":
     judge_planted()
     judge_by_hand()
     judge_suggestions()
+    judge_together()
     judge_places()

@@ -1,3 +1,5 @@
 pub mod Ranks
 pub mod Caps
 pub mod Whole
+pub mod Places
+pub mod Mends

@@ -1,39 +1,35 @@
--- All faults of an entry.
-use Rattle.std.specs.Prelude.{ℕ, ◌≡◌, ◌≢◌, ◌++◌, List, [], ◌∷◌}
+-- All faults of an entry: those that it shows as it is, and those of all strings together that these hide.
+use Rattle.std.specs.Prelude.{ℕ, ◌≡◌, ◌==◌, ◌&&◌, ◌++◌, not, if◌then◌else◌, Bool, List, [], filter}
 use Rattle.ti_caps.specs.Entry.{Content}
-use Rattle.ti_conforms.specs.Conforms.{Conforms}
-use Rattle.ti_checker.specs.Certificate.{IsCertificateOf}
-use Rattle.ti_checker.specs.No.{IsNo}
-use Rattle.ti_checker.specs.declared.causes.Cause.TheVariants.{NoMemory}
+use Rattle.ti_rows.specs.declared.rows.Row.TheVariants.{Smacs, Rmacs}
+use Rattle.ti_rows.specs.Names.{cap_of}
 use Rattle.ti_checker.specs.declared.causes.No.{No}
-use Rattle.ti_faults.specs.Lacks.{Lacks}
-use Rattle.ti_faults.specs.RowFaults.{OfCaps}
+use Rattle.ti_faults.specs.Mended.{names, IsBestMended}
+use Rattle.ti_faults.specs.Shown.{AreShown}
+pub use Rattle.ti_faults.specs.Shown.{HasCertificate}
+use Rattle.ti_faults.specs.declared.mended.Mended.{Mended}
 
--- these, or this one where there are none
-abbrev pub or_one : List No → No → List No
-or_one [] refusal = refusal ∷ []
-or_one (first ∷ nos) refusal = first ∷ nos
+-- `smacs` and `rmacs` are right only together
+abbrev pub other_of : ℕ → ℕ
+other_of cap =
+    if cap == cap_of Smacs then cap_of Rmacs else (if cap == cap_of Rmacs then cap_of Smacs else cap)
 
--- there is a certificate of the entry, which conforms
-pub record HasCertificate (entry : Content) (rows cols : ℕ) : Type 0 where
-  pub conforms : Conforms entry rows cols
-  pub text : List ℕ
-  pub certificate : IsCertificateOf entry rows cols text
+-- A fault of the mended entry that none of these tells: of a capability that none of them is of, nor of the other one
+-- of `smacs` and `rmacs`.
+abbrev pub is_hidden : List No → No → Bool
+is_hidden shown fault = not (names shown fault.cap) && not (names shown (other_of fault.cap))
 
--- There is none, as the no of `check` says. What the entry as a whole is at fault for comes first, then for each of the
--- 42 capabilities its first faulty row; where there is neither, that no stands alone: it is about all strings together,
--- or about how long the certificate would be.
-pub record AreFaults (entry : Content) (rows cols : ℕ) (nos : List No) : Type 0 where
-  pub refusal : No
-  pub refused : IsNo entry rows cols refusal
-  pub claims : refusal.cause ≢ NoMemory
-  pub whole : List No
-  pub of_whole : Lacks entry whole
-  pub single : List No
-  pub of_single : OfCaps entry rows cols 42 single
-  pub are : nos ≡ or_one (whole ++ single) refusal
+-- Where faults are shown, others may be hidden: those that are left once each capability that they are of is mended.
+-- They are of all strings together, in which `check` looks for faults only where each string is right by itself.
+pub data AreHidden (entry : Content) (rows cols : ℕ) (shown hidden : List No) : Type 0 where
+  NoneShown : shown ≡ [] → hidden ≡ [] → AreHidden entry rows cols shown hidden
+  SomeShown : (m : Mended) → IsBestMended entry rows cols shown m
+      → hidden ≡ filter (is_hidden shown) m.left.items → AreHidden entry rows cols shown hidden
 
--- no fault exactly where there is a certificate
-pub data AreAllFaults (entry : Content) (rows cols : ℕ) (nos : List No) : Type 0 where
-  NoFault : nos ≡ [] → HasCertificate entry rows cols → AreAllFaults entry rows cols nos
-  Faulty : AreFaults entry rows cols nos → AreAllFaults entry rows cols nos
+-- so there is no fault exactly where there is a certificate
+pub record AreAllFaults (entry : Content) (rows cols : ℕ) (nos : List No) : Type 0 where
+  pub shown : List No
+  pub are_shown : AreShown entry rows cols shown
+  pub hidden : List No
+  pub are_hidden : AreHidden entry rows cols shown hidden
+  pub are : nos ≡ shown ++ hidden

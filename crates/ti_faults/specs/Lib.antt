@@ -1,3 +1,7 @@
 pub mod Lacks
 pub mod RowFaults
+pub mod Shown
+pub mod Standard
+pub mod Candidates
+pub mod Mended
 pub mod AllFaults

@@ -1,8 +1,18 @@
-//! All faults of an entry at once: what it lacks as a whole, and the first faulty row of each checked capability.
+//! All faults of an entry at once: what it lacks as a whole, the first faulty row of each checked capability, and what is
+//! wrong with all strings together once these are mended. The mended entry has the standards' strings.
 #![tactic(auto)]
 
 mod all_faults;
+mod candidates;
+mod capabilities;
 mod lacks;
+mod mended;
 mod row_faults;
+mod shown;
+mod standards;
 
 pub use all_faults::faults;
+pub use candidates::Choice;
+pub use capabilities::row_of;
+pub use mended::{Mended, names};
+pub use standards::{standard, where_so};

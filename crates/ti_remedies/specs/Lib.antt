@@ -1,2 +1,1 @@
-pub mod Standard
 pub mod Remedies

@@ -1,18 +1,11 @@
-//! Which capabilities faults name.
+//! Whether an entry is for a terminal of another kind.
 
 ghost use Rattle.std.specs.Prelude.{◌≡◌};
 ghost use Rattle.ti_remedies.specs.Remedies as spec;
 
-use ti_caps::Cap;
 use ti_checker::No;
+use ti_faults::names;
 use ti_rows::Row;
-
-/// Whether one of the faults is of this capability.
-pub(crate) fn names(faults: &[No], cap: Cap) -> bool
-    ensures { result ≡ spec.names faults.now cap }
-{
-    faults.iter().any(|no| no.cap == cap)
-}
 
 /// Whether an entry with these faults seems to be for a terminal of another kind: both its `clear` and its `cup` are
 /// among the capabilities at fault. Then the standards' strings are no remedies.

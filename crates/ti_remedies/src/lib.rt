@@ -1,10 +1,11 @@
-//! What would be right in the place of a string that is at fault: the standard's string, if it is judged right there.
+//! What would be right in the place of strings that are at fault: the standards' strings, if they are judged right there,
+//! all of them together.
 #![tactic(auto)]
 
-mod capabilities;
 mod kinds;
+mod laws;
 mod remedies;
-mod standard;
 
 pub use kinds::is_of_another_kind;
-pub use remedies::{remedy, standard_string};
+pub use laws::suggestions_are_right;
+pub use remedies::{standard_string, suggestion};

@@ -12,6 +12,8 @@ use Rattle.ti_commands.specs.declared.failure.Failure.{Failure}
 use Rattle.ti_commands.specs.declared.failure.Reply.{Reply}
 use Rattle.ti_commands.specs.declared.sources.SourceText.{SourceText}
 use Rattle.ti_faults.specs.AllFaults.{AreAllFaults}
+use Rattle.ti_faults.specs.Mended.{IsBestMended}
+use Rattle.ti_faults.specs.declared.mended.Mended.{Mended}
 use Rattle.ti_requests.specs.declared.request.FaultsWords.{FaultsWords}
 use Rattle.ti_verdicts.specs.Checks.{HasText, TellsNotes}
 use Rattle.ti_verdicts.specs.Lines.{HasParts}
@@ -34,9 +36,9 @@ pub record AreIndented (lines : List ℕ) : Type 0 where
 
 -- Its line; below it where its value stands in the source, further lines in free words, each of which begins with two
 -- spaces, and the line of the string that would be right.
-abbrev pub HasFaultLines : Content → Option SourceText → ℕ → ℕ → List No → No → List ℕ → Type 0
-HasFaultLines entry source rows cols nos refusal lines =
-    (line : List ℕ) × (further : List ℕ) × (remedy : List ℕ) × IsLocation source refusal.cap line × AreIndented further × HasRemedy entry rows cols nos refusal.cap remedy × (lines ≡ no_text refusal ++ 10 ∷ (line ++ (further ++ remedy)))
+abbrev pub HasFaultLines : Content → Option SourceText → Mended → List No → No → List ℕ → Type 0
+HasFaultLines entry source mended nos refusal lines =
+    (line : List ℕ) × (further : List ℕ) × (remedy : List ℕ) × IsLocation source refusal.cap line × AreIndented further × HasRemedy entry mended nos refusal.cap remedy × (lines ≡ no_text refusal ++ 10 ∷ (line ++ (further ++ remedy)))
 
 -- ---- how many
 
@@ -66,18 +68,21 @@ counts_line nos = codes "total " ++ (decimal (length nos) ++ (flat_map (count_pa
 -- ---- the reply
 
 -- the lines of each fault, in their order, and the line of counts
-pub record IsFaultsText (entry : Content) (source : Option SourceText) (rows cols : ℕ) (nos : List No) (text : List ℕ) : Type 0 where
+pub record IsFaultsText (entry : Content) (source : Option SourceText) (mended : Mended) (nos : List No) (text : List ℕ) : Type 0 where
   pub lines : List ℕ
-  pub each : HasParts (HasFaultLines entry source rows cols nos) nos lines
+  pub each : HasParts (HasFaultLines entry source mended nos) nos lines
   pub says : text ≡ lines ++ counts_line nos
 
 abbrev pub EndsAsNo : No → Option Failure → Type 0
 EndsAsNo refusal (Some failure) = TellsNo refusal failure
 EndsAsNo refusal None = ⊥
 
--- the reply lists these faults, and fails as the first does
+-- The reply lists these faults, with what is suggested by the entry in which all of them are mended at once, and fails
+-- as the first does.
 pub record HasFaults (entry : Content) (source : Option SourceText) (rows cols : ℕ) (first : No) (others : List No) (reply : Reply) : Type 0 where
-  pub text : IsFaultsText entry source rows cols (first ∷ others) reply.text.items
+  pub mended : Mended
+  pub best : IsBestMended entry rows cols (first ∷ others) mended
+  pub text : IsFaultsText entry source mended (first ∷ others) reply.text.items
   pub ends : EndsAsNo first reply.failure
 
 -- without a fault it is `yes`

@@ -3,7 +3,8 @@ use Rattle.std.specs.Prelude.{◌≡◌, ℕ, Bool, true, false, List, [], ◌++
 use Rattle.ti_caps.specs.Entry.{Content}
 use Rattle.ti_caps.specs.Table.{name_at}
 use Rattle.ti_checker.specs.declared.causes.No.{No}
-use Rattle.ti_remedies.specs.Remedies.{IsRemedy, is_of_another_kind}
+use Rattle.ti_faults.specs.declared.mended.Mended.{Mended}
+use Rattle.ti_remedies.specs.Remedies.{IsSuggestion, is_of_another_kind}
 use Rattle.ti_source.specs.Escapes.{unescaped}
 use Rattle.ti_source.specs.Prints.{string_text}
 
@@ -12,21 +13,21 @@ pub record IsSpelled (string spelled : List ℕ) : Type 0 where
   pub printed : spelled ≡ string_text string
   pub reads : unescaped spelled ≡ Ok string
 
--- `CAP=STRING would be right on this terminal`, after two spaces
+-- `CAP=STRING would be right on T`, after two spaces
 abbrev pub remedy_line : ℕ → List ℕ → List ℕ
-remedy_line cap spelled = codes "  " ++ (name_at cap ++ (codes "=" ++ (spelled ++ codes " would be right on this terminal\n")))
+remedy_line cap spelled = codes "  " ++ (name_at cap ++ (codes "=" ++ (spelled ++ codes " would be right on T\n")))
 
 abbrev pub TellsRemedy : ℕ → Option (List ℕ) → List ℕ → Type 0
 TellsRemedy cap None line = line ≡ []
 TellsRemedy cap (Some string) line = (spelled : List ℕ) × IsSpelled string spelled × (line ≡ remedy_line cap spelled)
 
--- where the faults show a terminal of another kind there is no string, and else the remedy
-abbrev pub IsSuggestedBy : Bool → Content → ℕ → ℕ → List No → ℕ → Option (List ℕ) → Type 0
-IsSuggestedBy true entry rows cols nos cap found = found ≡ None
-IsSuggestedBy false entry rows cols nos cap found = IsRemedy entry rows cols nos cap found
+-- where the faults show a terminal of another kind there is no string, and else what is suggested by the mended entry
+abbrev pub IsSuggestedBy : Bool → Content → Mended → ℕ → Option (List ℕ) → Type 0
+IsSuggestedBy true entry mended cap found = found ≡ None
+IsSuggestedBy false entry mended cap found = IsSuggestion entry mended cap found
 
 -- the line of the string that was judged right in the place of the entry's own; none where there is no such string
-pub record HasRemedy (entry : Content) (rows cols : ℕ) (nos : List No) (cap : ℕ) (line : List ℕ) : Type 0 where
+pub record HasRemedy (entry : Content) (mended : Mended) (nos : List No) (cap : ℕ) (line : List ℕ) : Type 0 where
   pub found : Option (List ℕ)
-  pub judged : IsSuggestedBy (is_of_another_kind nos) entry rows cols nos cap found
+  pub judged : IsSuggestedBy (is_of_another_kind nos) entry mended cap found
   pub says : TellsRemedy cap found line

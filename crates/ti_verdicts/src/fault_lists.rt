@@ -11,12 +11,12 @@ use crate::indents::indented;
 use crate::locations::location;
 use crate::reasons::explain_no;
 use crate::refusals::{no_failure, no_words};
-use crate::remedies::{note_another_kind, suggestion};
+use crate::remedies::{note_another_kind, suggestion_line};
 use std::alloc::{AllocError, Global};
 use ti_caps::Entry;
 use ti_checker::No;
 use ti_commands::{Failure, Files, Reply, Sourced, size_words, sourced_entry};
-use ti_faults::faults;
+use ti_faults::{Mended, faults};
 use ti_requests::FaultsWords;
 use ti_words::{Remarks, advise};
 use vt_term::Size;
@@ -65,59 +65,64 @@ fn reply_of(
             text: Vec::from_slice(alloc, b"yes\n")?,
             failure: None,
         }),
-        [first, ..] => Ok(Reply {
-            notes,
-            text: faults_text(alloc, found, size, nos)?,
-            failure: Some(no_failure(alloc, first)),
-        }),
+        [first, ..] => {
+            let mended = Mended::new(alloc, &found.entry, size, nos)?;
+            Ok(Reply {
+                notes,
+                text: faults_text(alloc, found, size, &mended, nos)?,
+                failure: Some(no_failure(alloc, first)),
+            })
+        }
     }
 }
 
-/// The lines of the faults `nos` of the entry `found`, and then how many there are.
+/// The lines of the faults `nos` of the entry `found`, which is `mended`, and then how many there are.
 fn faults_text(
     alloc: Global,
     found: &Sourced<'_>,
     size: Size,
+    mended: &Mended,
     nos: &[No],
 ) -> Result<Vec<u8>, AllocError>
-    ensures { IfOk result (λ text. spec.IsFaultsText found.now.entry found.now.source size.rows size.cols nos.now
-        text.items) }
+    ensures { IfOk result (λ text. spec.IsFaultsText found.now.entry found.now.source mended.now nos.now text.items) }
 {
-    let mut text = fault_lines(alloc, found, size, nos)?;
+    let mut text = fault_lines(alloc, found, size, mended, nos)?;
     let counts = counts_line(alloc, nos)?;
     text.extend_from_slice(counts.as_slice())?;
     Ok(text)
 }
 
-/// The lines of the faults `nos` of the entry `found`, one after another.
+/// The lines of the faults `nos` of the entry `found`, which is `mended`, one after another.
 fn fault_lines(
     alloc: Global,
     found: &Sourced<'_>,
     size: Size,
+    mended: &Mended,
     nos: &[No],
 ) -> Result<Vec<u8>, AllocError>
     ensures { IfOk result (λ lines. HasParts
-        (spec.HasFaultLines found.now.entry found.now.source size.rows size.cols nos.now) nos.now lines.items) }
+        (spec.HasFaultLines found.now.entry found.now.source mended.now nos.now) nos.now lines.items) }
 {
     let mut lines = Vec::new(alloc);
     for no in nos {
-        let own = own_lines(alloc, found, size, no, nos)?;
+        let own = own_lines(alloc, found, size, mended, no, nos)?;
         lines.extend_from_slice(own.as_slice())?;
     }
     Ok(lines)
 }
 
-/// The line of `no`, one of the faults `nos` of the entry `found`, where its value stands in the source, what explains
+/// The line of `no`, one of the faults `nos` of the entry `found`, which is `mended`, where its value stands in the source, what explains
 /// it, and what would be right.
 fn own_lines(
     alloc: Global,
     found: &Sourced<'_>,
     size: Size,
+    mended: &Mended,
     no: &No,
     nos: &[No],
 ) -> Result<Vec<u8>, AllocError>
-    ensures { IfOk result (λ lines. spec.HasFaultLines found.now.entry found.now.source size.rows size.cols nos.now
-        no.now lines.items) }
+    ensures { IfOk result (λ lines. spec.HasFaultLines found.now.entry found.now.source mended.now nos.now no.now
+        lines.items) }
 {
     let mut lines = no_words(alloc, no)?;
     lines.push(b'\n')?;
@@ -125,7 +130,7 @@ fn own_lines(
     lines.extend_from_slice(place.as_slice())?;
     let further = explanation(alloc, &found.entry, size, no)?;
     lines.extend_from_slice(further.as_slice())?;
-    let remedy = suggestion(alloc, &found.entry, size, no, nos)?;
+    let remedy = suggestion_line(alloc, &found.entry, mended, no, nos)?;
     lines.extend_from_slice(remedy.as_slice())?;
     Ok(lines)
 }

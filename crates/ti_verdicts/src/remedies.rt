@@ -9,27 +9,21 @@ ghost use Rattle.ti_verdicts.specs.Remedies as spec;
 use std::alloc::{AllocError, Global};
 use ti_caps::{Cap, Entry, name};
 use ti_checker::No;
-use ti_remedies::{is_of_another_kind, remedy};
+use ti_faults::Mended;
+use ti_remedies::{is_of_another_kind, suggestion};
 use ti_source::escape;
 use ti_words::{OF_ANOTHER_KIND, Remarks};
-use vt_term::Size;
 
 /// The string that is suggested in the place of the one that `no` is about, if there is one.
-fn suggested(
-    alloc: Global,
-    entry: &Entry,
-    size: Size,
-    no: &No,
-    nos: &[No],
-) -> Result<Option<&'static [u8]>, AllocError>
-    ensures judged { IfOk result (λ found. spec.IsSuggestedBy (remedies.is_of_another_kind nos.now) entry.now
-        size.rows size.cols nos.now no.now.cap (option_copied found)) }
-    ensures fits { IfOk result (λ found. IfSome found (λ bytes. IsTrue (string_fits bytes.now))) }
+fn suggested(entry: &Entry, mended: &Mended, no: &No, nos: &[No]) -> Option<&'static [u8]>
+    ensures judged { spec.IsSuggestedBy (remedies.is_of_another_kind nos.now) entry.now mended.now no.now.cap
+        (option_copied result) }
+    ensures fits { IfSome result (λ bytes. IsTrue (string_fits bytes.now)) }
 {
     if is_of_another_kind(nos) {
-        Ok(None)
+        None
     } else {
-        remedy(alloc, entry, size, no.cap, nos)
+        suggestion(entry, mended, no.cap)
     }
 }
 
@@ -41,7 +35,7 @@ fn spelled_line(alloc: Global, cap: Cap, spelled: &[u8]) -> Result<Vec<u8>, Allo
     line.extend_from_slice(name(cap))?;
     line.extend_from_slice(b"=")?;
     line.extend_from_slice(spelled)?;
-    line.extend_from_slice(b" would be right on this terminal\n")?;
+    line.extend_from_slice(b" would be right on T\n")?;
     Ok(line)
 }
 
@@ -55,18 +49,18 @@ fn remedy_line(alloc: Global, cap: Cap, string: &[u8]) -> Result<Vec<u8>, AllocE
 }
 
 /// The line of the string that would be right in the place of the one that `no` is about; none if there is no such
-/// string. It is judged there in this call. `nos` are all faults of `entry`. Where these show a terminal of another
-/// kind, nothing is suggested.
-pub fn suggestion(
+/// string. `nos` are all faults of `entry`, and `mended` is the entry with all of them mended, in which each string that
+/// is suggested is right beside the others. Where the faults show a terminal of another kind, nothing is suggested.
+pub fn suggestion_line(
     alloc: Global,
     entry: &Entry,
-    size: Size,
+    mended: &Mended,
     no: &No,
     nos: &[No],
 ) -> Result<Vec<u8>, AllocError>
-    ensures { IfOk result (λ line. spec.HasRemedy entry.now size.rows size.cols nos.now no.now.cap line.items) }
+    ensures { IfOk result (λ line. spec.HasRemedy entry.now mended.now nos.now no.now.cap line.items) }
 {
-    match suggested(alloc, entry, size, no, nos)? {
+    match suggested(entry, mended, no, nos) {
         Some(string) => remedy_line(alloc, no.cap, string),
         None => Ok(Vec::new(alloc)),
     }

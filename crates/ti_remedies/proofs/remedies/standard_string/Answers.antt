@@ -1,4 +1,4 @@
-use Rattle.ti_remedies.specs.Standard.{OfRow}
+use Rattle.ti_faults.specs.Standard.{OfRow}
 use Rattle.ti_remedies.proofs.remedies.standard_string.Goals as goal
 
 pub returns-in-Some : goal.returns-in-Some

@@ -17,7 +17,7 @@ fn first_row(place: usize) -> Row
 }
 
 /// The first parameter list of a capability, if it is a checked one.
-pub(crate) fn row_of(cap: Cap) -> Option<Row>
+pub fn row_of(cap: Cap) -> Option<Row>
     ensures found { IfSome result (λ row. cap_of row ≡ cap) }
     ensures none { IfNone result ((row : rows.Row) → cap_of row ≢ cap) }
 {

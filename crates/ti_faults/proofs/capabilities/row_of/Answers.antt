@@ -1,8 +1,8 @@
 use Rattle.std.proofs.Common.{◌≢◌, ◌∙◌, sym, eq-eqb, arith}
 use Rattle.std.proofs.lemmas.Bool.{false≢true}
 use Rattle.ti_rows.specs.Names.{cap_of}
-use Rattle.ti_remedies.proofs.Places.{passed, all_apart}
-use Rattle.ti_remedies.proofs.capabilities.row_of.Goals as goal
+use Rattle.ti_faults.proofs.Places.{passed, all_apart}
+use Rattle.ti_faults.proofs.capabilities.row_of.Goals as goal
 
 pub loop-place-init : goal.loop-place-init
 loop-place-init c row less = absurd (omega (arith, less))

@@ -3,14 +3,14 @@
 ghost use Rattle.std.specs.Prelude.{◌≡◌, ◌<◌, IfSome, IsTrue};
 ghost use Rattle.std.specs.Option.{option_copied};
 ghost use Rattle.ti_caps.specs.Fits.{string_fits};
-ghost use Rattle.ti_remedies.specs.Standard as spec;
+ghost use Rattle.ti_faults.specs.Standard as spec;
 ghost use Rattle.ti_rows.specs.Names.{order};
 
 use ti_caps::{Entry, Kind, at};
 use ti_rows::Row;
 
 /// The standard's string for a row's capability. None has a second screen.
-pub(crate) fn standard(row: Row) -> Option<&'static [u8]>
+pub fn standard(row: Row) -> Option<&'static [u8]>
     ensures value { option_copied result ≡ spec.standard row }
     ensures fits { IfSome result (λ string. IsTrue (string_fits string.now)) }
 {
@@ -141,7 +141,7 @@ fn by_sets(
 }
 
 /// A string where this is so.
-pub(crate) fn where_so(is_so: bool, string: &'static [u8]) -> Option<&'static [u8]>
+pub fn where_so(is_so: bool, string: &'static [u8]) -> Option<&'static [u8]>
     requires { IsTrue (string_fits string.now) }
     ensures value { option_copied result ≡ spec.where_so is_so string.now }
     ensures fits { IfSome result (λ string. IsTrue (string_fits string.now)) }

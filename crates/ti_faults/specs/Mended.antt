@@ -1,0 +1,72 @@
+-- An entry with all that is at fault mended at once.
+use Rattle.std.specs.Prelude.{ℕ, ◌≡◌, ◌≢◌, ◌<◌, ◌==◌, ◌&&◌, not, Bool, true, false, List, [], ◌∷◌, Option, Some, None}
+use Rattle.std.specs.List.{list_any}
+use Rattle.ti_caps.specs.Entry.{Content, with_value}
+use Rattle.ti_caps.specs.declared.value.Value.TheVariants.{String}
+use Rattle.ti_rows.specs.declared.rows.Row.{Row}
+use Rattle.ti_rows.specs.declared.rows.Row.TheVariants.{Smacs, Rmacs}
+use Rattle.ti_rows.specs.Names.{cap_of}
+use Rattle.ti_conforms.specs.Entries.{acsc}
+use Rattle.ti_checker.specs.declared.causes.No.{No}
+use Rattle.ti_faults.specs.Shown.{AreShown}
+use Rattle.ti_faults.specs.Candidates.{choice_of, stand_in}
+use Rattle.ti_faults.specs.declared.candidates.Choice.{Choice}
+use Rattle.ti_faults.specs.declared.mended.Mended.{Mended}
+
+-- the entry with this string of the row's capability in place of its own
+abbrev pub with_string : Content → Row → List ℕ → Content
+with_string entry row string = with_value entry (cap_of row) (Some (String string))
+
+abbrev pub without_pairs : Content → Content
+without_pairs entry = with_value entry acsc (Some (String []))
+
+-- one of the faults is of the capability
+abbrev pub names : List No → ℕ → Bool
+names faults cap = list_any (λ fault. fault.cap == cap) faults
+
+-- the row's capability gets this string, or goes where there is none
+abbrev pub put_string : Content → Row → Option (List ℕ) → Content
+put_string before row None = with_value before (cap_of row) None
+put_string before row (Some string) = with_string before row string
+
+-- A checked capability gets what its string is mended with, which depends on the strings that the entry has of its own.
+abbrev pub MendsRow : Content → Content → Choice → Row → Content → Type 0
+MendsRow own before choice row after = after ≡ put_string before row (stand_in own choice row)
+
+-- `acsc` loses its pairs, and what rules every certificate out goes
+pub data MendsOther (before : Content) (cap : ℕ) (after : Content) : Type 0 where
+  Pairs : cap ≡ acsc → after ≡ without_pairs before → MendsOther before cap after
+  Other : cap ≢ acsc → after ≡ with_value before cap None → MendsOther before cap after
+
+pub data Mends (own : Content) (choice : Choice) (cap : ℕ) (before after : Content) : Type 0 where
+  OfRow : (row : Row) → cap_of row ≡ cap → MendsRow own before choice row after → Mends own choice cap before after
+  OfNone : ((row : Row) → cap_of row ≢ cap) → MendsOther before cap after → Mends own choice cap before after
+
+-- each capability that one of these faults is of, one after another
+abbrev pub MendsAll : Content → Choice → List No → Content → Content → Type 0
+MendsAll own choice [] before after = after ≡ before
+MendsAll own choice (fault ∷ rest) before after =
+    (between : Content) × Mends own choice fault.cap before between × MendsAll own choice rest between after
+
+-- the entry with all of them mended, and the faults that it shows then
+pub record IsMended (entry : Content) (rows cols : ℕ) (nos : List No) (choice : Choice) (m : Mended) : Type 0 where
+  pub chosen : m.choice ≡ choice
+  pub mended : MendsAll entry choice nos entry m.entry
+  pub left : AreShown m.entry rows cols m.left.items
+
+abbrev pub switches_sets : List No → Bool
+switches_sets left = not (names left (cap_of Smacs)) && not (names left (cap_of Rmacs))
+
+-- mended by the choice of this number, `smacs` or `rmacs` is at fault
+pub record FailsToSwitch (entry : Content) (rows cols : ℕ) (nos : List No) (number : ℕ) : Type 0 where
+  pub tried : Mended
+  pub mended : IsMended entry rows cols nos (choice_of number) tried
+  pub fails : switches_sets tried.left.items ≡ false
+
+-- mended by the first of the four choices with which neither is at fault, or else by the first
+pub data IsBestMended (entry : Content) (rows cols : ℕ) (nos : List No) (m : Mended) : Type 0 where
+  Switching : (number : ℕ) → IsMended entry rows cols nos (choice_of number) m → switches_sets m.left.items ≡ true
+      → ((earlier : ℕ) → earlier < number → FailsToSwitch entry rows cols nos earlier)
+      → IsBestMended entry rows cols nos m
+  First : IsMended entry rows cols nos (choice_of 0) m
+      → ((number : ℕ) → number < 4 → FailsToSwitch entry rows cols nos number) → IsBestMended entry rows cols nos m

@@ -1,0 +1,65 @@
+//! Which string is taken in the place of one that is at fault.
+
+ghost use Rattle.std.specs.Prelude.{◌≡◌, ◌<◌, IfSome, IsTrue};
+ghost use Rattle.std.specs.Option.{option_copied};
+ghost use Rattle.ti_caps.specs.Fits.{string_fits};
+ghost use Rattle.ti_faults.specs.Candidates as spec;
+
+use crate::standards::{general, matching, standard};
+use ti_caps::Entry;
+use ti_rows::Row;
+
+/// Which candidates of `smacs` and `rmacs` are taken, which are right only together: the second one, or else the first.
+#[derive(Clone, Copy, Debug, PartialEq, Eq)]
+pub struct Choice {
+    second_smacs: bool,
+    second_rmacs: bool,
+}
+
+impl Choice {
+    /// The choice of this number below 4.
+    pub(crate) fn of(number: u8) -> Choice
+        ensures { result ≡ spec.choice_of number }
+    {
+        Choice {
+            second_smacs: number / 2 % 2 == 1,
+            second_rmacs: number % 2 == 1,
+        }
+    }
+
+    /// Whether the second candidate of the row's capability is taken.
+    fn takes_second(self, row: Row) -> bool
+        ensures { result ≡ spec.takes_second self row }
+    {
+        match row {
+            Row::Smacs => self.second_smacs,
+            Row::Rmacs => self.second_rmacs,
+            _ => false,
+        }
+    }
+
+    /// The candidate for the row's capability of an entry, if it has one.
+    pub fn candidate(self, entry: &Entry, row: Row) -> Option<&'static [u8]>
+        ensures value { option_copied result ≡ spec.candidate entry.now self row }
+        ensures fits { IfSome result (λ string. IsTrue (string_fits string.now)) }
+    {
+        if self.takes_second(row) {
+            return general(entry, row);
+        }
+        match matching(entry, row) {
+            Some(string) => Some(string),
+            None => general(entry, row),
+        }
+    }
+
+    /// The string with which the row's capability is mended: the candidate, or else the standard's own.
+    pub(crate) fn stand_in(self, entry: &Entry, row: Row) -> Option<&'static [u8]>
+        ensures value { option_copied result ≡ spec.stand_in entry.now self row }
+        ensures fits { IfSome result (λ string. IsTrue (string_fits string.now)) }
+    {
+        match self.candidate(entry, row) {
+            Some(string) => Some(string),
+            None => standard(row),
+        }
+    }
+}

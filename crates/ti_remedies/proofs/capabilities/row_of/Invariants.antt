@@ -1,5 +1,0 @@
-use Rattle.ti_remedies.proofs.Places.{Apart}
-use Rattle.ti_remedies.proofs.capabilities.row_of.Given as goal
-
-abbrev pub invariant-loop-place : goal.invariant-loop-place
-invariant-loop-place l = Apart l.cap l.place
