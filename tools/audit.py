@@ -47,6 +47,7 @@ COMMANDS = [
     ("the command line", [("ti_arguments", "parse_line")]),
     ("expand", [("ti_commands", "expand_string")]),
     ("feed", [("ti_commands", "feed_file")]),
+    ("feed --state, --json, --cases", [("ti_commands", "feed_state")]),
     ("infocmp", [("ti_commands", "print_entry"), ("ti_commands", "compare_entries")]),
     ("tic", [("ti_commands", "compile_entry")]),
     ("verify", [("ti_verdicts", "verify_certificate")]),
