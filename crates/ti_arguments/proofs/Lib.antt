@@ -1,3 +1,4 @@
 mod Colons
 pub mod Rows
 pub mod Faults
+pub mod Switches
