@@ -7,7 +7,7 @@ use Rattle.ti_commands.proofs.descriptions.compile_entry.Goals as goal
 pub returns-clause-reply : goal.returns-clause-reply
 returns-clause-reply g c =
     let found = c.in_ok-text.field-0 in
-    let slice : c.as_slice.result.now ≡ found.raws.items = search rules in
+    let slice : c.as_slice-2.result.now ≡ found.raws.items = search rules in
     let notes = sym (c.in_ok-notes.ensures ∙ ap notes_text slice) in
     record {
       entry = found.entry;
