@@ -63,6 +63,12 @@ FUNCTIONS = {
     "DECTCEM": [b"\033[?25l"],
 }
 
+# the control sequences of counts and places, by their final bytes
+FINALS = {
+    "A": "CUU", "B": "CUD", "C": "CUF", "D": "CUB", "G": "CHA", "d": "VPA", "H": "CUP", "f": "HVP", "J": "ED", "K": "EL", "X": "ECH",
+    "@": "ICH", "P": "DCH", "L": "IL", "M": "DL", "S": "SU", "T": "SD", "r": "DECSTBM",
+}  # fmt: skip
+
 # what stands before a function, for the pairs; the screen is full
 WRAP = [at(3, COLS) + b"Z", at(ROWS, COLS) + b"Z"]
 MARGINS = [b"\033[2;5r" + at(row, 6) for row in (1, 2, 3, 5, 6)]
@@ -93,26 +99,26 @@ def with_situation(situations, fill=FILL):
 def by_numbers():
     """What numbers a function takes: none, 0, empty ones, too many, leading zeros, above 65535; marks and other bytes."""
     start = FILL + at(3, 6)
-    for final in "ABCDGdHfJKX@PLMSTr":
+    for final, name in FINALS.items():
         for body in ("", "0", "00", "1", "002", ";", ";;", "2;", ";2", "2;3", "2;3;4", "65535", "65536", "99999999999", "3", "5"):
-            yield f"{final}", start + b"\033[" + body.encode() + final.encode() + b"X"
+            yield name, start + b"\033[" + body.encode() + final.encode() + b"X"
         for body in ("?1", ">1", "=1", "<1", "1?", "1:2", "1 ", "1!", "1$"):
-            yield f"{final}", start + b"\033[" + body.encode() + final.encode() + b"X"
+            yield name, start + b"\033[" + body.encode() + final.encode() + b"X"
 
 
 def by_rendition():
     """SGR: each number, lists of numbers, and what ends what."""
     for number in [*range(0, 110), 255, 256, 65535, 65536, 70000]:
-        yield "number", b"\033[1;2;4;5;7;8;31;42mA\033[%dmB" % number
+        yield "SGR", b"\033[1;2;4;5;7;8;31;42mA\033[%dmB" % number
         if number < 50:
-            yield "alone", b"\033[%dmA" % number
+            yield "SGR", b"\033[%dmA" % number
     for body in (";", ";1", "1;", "1;;4", "1;22", "2;22", "1;2;22", "38;5;1", "48;5;4", "38;2;4;7;1", "38:5:1", "4:3", "?1", ">4;2", "0" * 40 + "1"):
-        yield "list", b"A\033[7m\033[" + body.encode() + b"mB"
+        yield "SGR", b"A\033[7m\033[" + body.encode() + b"mB"
     for count in (12, 16, 17, 32, 33, 60):
-        yield "many", b"\033[" + b"0;" * (count - 1) + b"1mA"
+        yield "SGR", b"\033[" + b"0;" * (count - 1) + b"1mA"
     for one in (1, 2, 4, 5, 7, 8):
         for end in (22, 24, 25, 27, 28):
-            yield "ends", b"\033[%dmA\033[%dmB" % (one, end)
+            yield "SGR", b"\033[%dmA\033[%dmB" % (one, end)
 
 
 def by_modes():
@@ -120,20 +126,20 @@ def by_modes():
     for body in ("4", "7", "25", "?4", "?7", "?25", "?7;25", "?25;7", "?12;25", "?1;7;9", "4;20", "20;4", "", "?", "?;7", "?1049", ">4", "?7;", "4;4"):
         for final in "hl":
             for before in (b"", b"\033[?7;25l\033[4h"):
-                yield f"{body or 'none'}{final}", before + b"\033[1;%dHab" % COLS + b"\033[" + body.encode() + final.encode() + b"cd\rZ"
+                yield "modes", before + b"\033[1;%dHab" % COLS + b"\033[" + body.encode() + final.encode() + b"cd\rZ"
     for between in (b"", b"\033[?7h", b"\b", b"\033[C"):
-        yield "wrap-and-autowrap", at(2, COLS - 1) + b"ab" + b"\033[?7l" + between + b"c\033[?7hd"
+        yield "DECAWM", at(2, COLS - 1) + b"ab" + b"\033[?7l" + between + b"c\033[?7hd"
 
 
 def by_sets():
     """The graphic set: each byte in it, G0 and G1, and what designates and selects."""
     for first in range(32, 127, 19):
-        yield "bytes", b"\033(0" + bytes(range(first, min(first + 19, 127)))
+        yield "SCS", b"\033(0" + bytes(range(first, min(first + 19, 127)))
     for word in (b"\033(0", b"\033)0", b"\033(B", b"\033)B", b"\016", b"\017"):
         for then in (b"\033(0", b"\033)0", b"\033(B", b"\033)B", b"\016", b"\017"):
-            yield "two", b"q" + word + b"q" + then + b"q_^\017q"
+            yield "SCS", b"q" + word + b"q" + then + b"q_^\017q"
     for word in (b"\033*0", b"\033+0", b"\033(A", b"\033(1", b"\033n", b"\033o", b"\033~", b"\033(%5", b"\033N", b"\033O"):
-        yield "none", b"\033)0" + word + b"q\016q"
+        yield "SCS", b"\033)0" + word + b"q\016q"
 
 
 def by_sequence():
