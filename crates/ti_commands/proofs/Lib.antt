@@ -4,4 +4,3 @@ pub mod Expansions
 pub mod Colons
 pub mod FeedFacts
 pub mod Comparisons
-pub mod StateFacts

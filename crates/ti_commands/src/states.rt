@@ -32,39 +32,31 @@ pub fn feed_state<F: Files>(
 {
     let size = size_words(alloc, words.rows, words.cols, remarks)?;
     let bytes = read_whole(alloc, files, words.file, LONGEST_FILE, remarks)?;
-    let fed = fed_bytes(alloc, words.plain_text, bytes)?;
-    let text = shown(alloc, words, size, fed.bytes.as_slice(), remarks)?;
+    let (fed, notes) = fed_bytes(alloc, words.plain_text, bytes)?;
+    let text = shown(alloc, words, size, fed.as_slice(), remarks)?;
     Ok(Reply {
-        notes: fed.notes,
+        notes,
         text,
         failure: None,
     })
 }
 
 /// What the terminal is fed with of a file, and what is said of that.
-#[derive(Drop)]
-struct FedBytes {
+fn fed_bytes(
+    alloc: Global,
+    plain_text: bool,
     bytes: Vec<u8>,
-    notes: Vec<u8>,
-}
-
-/// What the terminal is fed with of a file with these bytes.
-fn fed_bytes(alloc: Global, plain_text: bool, bytes: Vec<u8>) -> Result<FedBytes, AllocError>
-    ensures bytes { IfOk result (λ fed. fed.bytes.items ≡ fed_of plain_text bytes.items) }
-    ensures notes { IfOk result (λ fed. fed.notes.items ≡ notes_of plain_text bytes.items) }
+) -> Result<(Vec<u8>, Vec<u8>), AllocError>
+    ensures { IfOk result (λ fed. (fed.0.items ≡ fed_of plain_text bytes.items)
+        × (fed.1.items ≡ notes_of plain_text bytes.items)) }
 {
-    if !plain_text {
-        return Ok(FedBytes {
-            bytes,
-            notes: Vec::new(alloc),
-        });
+    if plain_text {
+        let recording = plain_recording(alloc, bytes.as_slice())?;
+        let note = note(alloc, recording.dropped, recording.replaced)?;
+        Ok((recording.text, note))
+    } else {
+        Ok((bytes, Vec::new(alloc)))
     }
-    let recording = plain_recording(alloc, bytes.as_slice())?;
-    let notes = note(alloc, recording.dropped, recording.replaced)?;
-    Ok(FedBytes {
-        bytes: recording.text,
-        notes,
-    })
 }
 
 /// What is said of a recording, if something was dropped or replaced.
