@@ -132,7 +132,8 @@ fn feed_command<'a>(alloc: Global) -> Result<Command<'a>, AllocError>
     let command = Command::new(alloc, "feed")
         .about(help::FEED)
         .after_help(help::FEED_MORE);
-    let state = "Show the whole state: also modes, margins, rendition and what is open of a sequence";
+    let state =
+        "Show the whole state: also modes, margins, rendition and what is open of a sequence";
     let json = "Show the whole state as a JSON object";
     let command = with_forms(alloc, command, state, json)?;
     let command = with_cases(alloc, command)?;

@@ -13,7 +13,8 @@ use clap::ArgMatches;
 use clap::error::{Error, ErrorKind};
 use std::alloc::{AllocError, Global};
 use ti_requests::{
-    CheckWords, ExpandWords, FaultsWords, FeedForm, FeedWords, Request, ScriptWords, SurveyWords, VerifyWords,
+    CheckWords, ExpandWords, FaultsWords, FeedForm, FeedWords, Request, ScriptWords, SurveyWords,
+    VerifyWords,
 };
 
 /// What a line that can be understood asks for.
@@ -125,7 +126,8 @@ fn feed_request<'a>(alloc: Global, words: &ArgMatches<'a>) -> Result<Request<'a>
     }
 }
 
-const ONE_FORM: &str = "error: feed shows one of --state, --json and --cases; --plain-text is not for --cases\n\n\
+const ONE_FORM: &str =
+    "error: feed shows one of --state, --json and --cases; --plain-text is not for --cases\n\n\
                         For more information, try '--help'.\n";
 
 /// The request of `feed` with an option, which asks for this form.
