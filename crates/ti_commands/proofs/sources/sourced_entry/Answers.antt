@@ -5,8 +5,8 @@ use Rattle.ti_commands.specs.declared.failure.CommandRefusal.{CommandRefusal}
 use Rattle.ti_commands.proofs.sources.sourced_entry.Goals as goal
 
 -- the entry that is refused is the one that the word gives
-pub returns-in-Err-clause-failure : goal.returns-in-Err-clause-failure
-returns-in-Err-clause-failure g c =
+pub returns-clause-failure : goal.returns-clause-failure
+returns-clause-failure g c =
     let notes = notes_text c.in_ok-text.field-0.raws.items in
     let found = inl (c.in-Some.path.now, c.in-Some.name.now, c.in-Some.ensures.parts, c.in_ok-text.ensures.found) in
     inr (c.in-Err.refusal, notes, refl, subst (λ (entry : Result Content CommandRefusal). Finds (g.F.Files.holds c.args.files.now) c.args.word.now notes entry) c.in-Err.is found)
