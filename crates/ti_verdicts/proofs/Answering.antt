@@ -7,7 +7,7 @@ use Rattle.ti_verdicts.specs.Refusals.{no_text}
 use Rattle.ti_verdicts.specs.Told.{Told}
 use Rattle.ti_verdicts.specs.declared.answers.Answer.TheVariants as answers
 
-pub as_no : {V E : Type 0} (told : V → Told) (Certifies : List ℕ → Type 0) (Refuses : No → Type 0) (name : List ℕ) (no : No) (r : Result V E) → Refuses no → IfOk r (λ said. no.cause ≢ NoMemory)
-    → IfOk r (λ said. told said ≡ one_line name (codes " " ++ no_text no) (answers.No no.cause)) → IfOk r (λ said. HasYes Certifies name (told said) ⊎ HasNo Refuses name (told said))
-as_no told Certifies Refuses name no (Ok said) refused claims says = inr (record { refusal = no; refused = refused; claims = claims; says = says })
-as_no told Certifies Refuses name no (Err fault) refused claims says = tt
+pub as_no : {V E : Type 0} (told : V → Told) (Certifies : List ℕ → Type 0) (Refuses : No → Type 0) (name : List ℕ) (refusal : No) (r : Result V E) → Refuses refusal → IfOk r (λ said. refusal.cause ≢ NoMemory)
+    → IfOk r (λ said. told said ≡ one_line name (codes " " ++ no_text refusal) (answers.No refusal.cause)) → IfOk r (λ said. HasYes Certifies name (told said) ⊎ HasNo Refuses name (told said))
+as_no told Certifies Refuses name refusal (Ok said) refused claims says = inr (record { refusal = refusal; refused = refused; claims = claims; says = says })
+as_no told Certifies Refuses name refusal (Err fault) refused claims says = tt

@@ -35,9 +35,7 @@ pub fn check_entry<C: Certifier, F: Files>(
     match certificate_of(alloc, certifier, &entry, size, remarks) {
         Ok(text) => {
             let reply = deliver(alloc, notes, text, words.out, files, remarks);
-            if reply.failure.is_none() {
-                advise(alloc, &entry, size, remarks);
-            }
+            advise_on(alloc, &entry, size, &reply, remarks);
             Ok(reply)
         }
         Err(failure) => Ok(Reply {
@@ -45,6 +43,13 @@ pub fn check_entry<C: Certifier, F: Files>(
             text: Vec::new(alloc),
             failure: Some(failure),
         }),
+    }
+}
+
+/// Adds advice on `entry` to `remarks`, where the `reply` has delivered its certificate.
+fn advise_on(alloc: Global, entry: &Entry, size: Size, reply: &Reply, remarks: &mut Remarks) {
+    if reply.failure.is_none() {
+        advise(alloc, entry, size, remarks);
     }
 }
 

@@ -73,12 +73,7 @@ fn line(alloc: Global, name: &[u8], words: &[u8]) -> Result<Vec<u8>, AllocError>
 }
 
 /// The line of `name` alone, with the `words` that are said of it, which answer this.
-fn one_line(
-    alloc: Global,
-    name: &[u8],
-    words: &[u8],
-    answer: Answer,
-) -> Result<Said, AllocError>
+fn one_line(alloc: Global, name: &[u8], words: &[u8], answer: Answer) -> Result<Said, AllocError>
     ensures { IfOk result (λ said. told_of said ≡ spec.one_line name.now words.now answer) }
 {
     let line = line(alloc, name, words)?;
