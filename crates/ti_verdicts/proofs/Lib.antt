@@ -1,3 +1,4 @@
 pub mod Verdicts
 pub mod Parts
 pub mod Answering
+pub mod Listing
