@@ -322,7 +322,9 @@ tw@n|the other one,
 TWIN_PLACES = rb"""twins.ti:2: el of tw\355n: tw\355n no el: WrongEffect
 twins.ti:5: ed of tw\355n: tw\355n no ed: WrongEffect
 """
-TWIN_LINES = b"tw\xedn no el: WrongEffect\ntw\xedn no ed: WrongEffect\n"
+TWIN_LINES = rb"""tw\355n no el: WrongEffect
+tw\355n no ed: WrongEffect
+"""
 
 
 def judge_places():
