@@ -3,6 +3,7 @@ use Rattle.std.specs.Prelude.{◌≡◌, ℕ, Bool, true, false, List, Option, S
 use Rattle.std.specs.declared.alloc.Global.{Global}
 use Rattle.ti_checker.specs.declared.causes.Cause.{Cause}
 use Rattle.ti_checker.specs.declared.causes.Cause.TheVariants.{FlagOut, Absent, AcsByte, Parm, StaticRead, Unfinished, Stuck, NotTame, BadLook, WrongEffect, NotShown, TooLong, NoResync, NoMemory}
+use Rattle.ti_reports.specs.Texts.{IsShownAs}
 use Rattle.ti_verdicts.specs.Starts.{settings_of}
 use Rattle.ti_words.specs.Starts.{start_text}
 
@@ -45,8 +46,9 @@ is_run TooLong = false
 is_run NoResync = false
 is_run NoMemory = false
 
+-- there is a text, and it shows these bytes
 abbrev pub HasText : List ℕ → Option (String Global) → Type 0
-HasText bytes (Some text) = string_bytes text ≡ bytes
+HasText bytes (Some text) = IsShownAs bytes (string_bytes text)
 HasText bytes None = ⊥
 
 -- the state from which it goes wrong on a terminal of this height, in words

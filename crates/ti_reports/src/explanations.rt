@@ -57,11 +57,7 @@ fn start_of(alloc: Global, size: Size, cause: Cause) -> Result<Option<String>, A
 }
 
 /// What is wanted, as one of the `lines` says, if the `cause` is that it isn't so.
-fn wanted_in(
-    alloc: Global,
-    cause: Cause,
-    lines: &[Vec<u8>],
-) -> Result<Option<String>, AllocError>
+fn wanted_in(alloc: Global, cause: Cause, lines: &[Vec<u8>]) -> Result<Option<String>, AllocError>
     ensures { IfOk result (λ wanted. spec.IsOnlyIf (spec.wants cause) wanted) }
 {
     match cause {

@@ -143,7 +143,12 @@ fn put_run(
     put(members, alloc, "wanted", wanted)?;
     put(members, alloc, "seen", seen)?;
     put(members, alloc, "line", number_value(report.line))?;
-    put(members, alloc, "advice", texts_value(alloc, report.advice.as_slice())?)
+    put(
+        members,
+        alloc,
+        "advice",
+        texts_value(alloc, report.advice.as_slice())?,
+    )
 }
 
 /// The JSON object of a terminal's size.

@@ -8,7 +8,7 @@ use crate::asked::Asked;
 use std::alloc::Global;
 use ti_commands::{Failure, Files, Reply, size_words};
 use ti_requests::SurveyWords;
-use ti_verdicts::{Watcher, survey_paths};
+use ti_verdicts::{Said, Surveyed, Watcher, survey_paths};
 use ti_words::Remarks;
 
 /// Reports in JSON on each entry of each file that the `words` name: its first fault, or all of them where the `words`
@@ -34,7 +34,7 @@ pub fn survey_reports<F: Files, W: Watcher + Drop>(
         size,
         lists_all: words.lists_all,
     };
-    let surveyed = survey_paths(
+    let Surveyed { said, failure } = survey_paths(
         alloc,
         &asked,
         words.paths.as_slice(),
@@ -42,9 +42,14 @@ pub fn survey_reports<F: Files, W: Watcher + Drop>(
         watcher,
         remarks,
     )?;
+    let Said {
+        lines,
+        places,
+        answers: _answers,
+    } = said;
     Ok(Reply {
-        notes: surveyed.said.places,
-        text: surveyed.said.lines,
-        failure: surveyed.failure,
+        notes: places,
+        text: lines,
+        failure,
     })
 }

@@ -1,0 +1,25 @@
+use Rattle.std.proofs.Common.{ℕ, List, Bor, refl, subst}
+use Rattle.ti_commands.specs.Words.{texts_of}
+use Rattle.ti_verdicts.specs.Lines.{AreLines}
+use Rattle.ti_verdicts.specs.Surveys.{EndsPaths}
+use Rattle.ti_verdicts.specs.Told.{told_of}
+use Rattle.ti_reports.specs.Surveys.{Reports, ReportsLack}
+use Rattle.ti_reports.proofs.surveys.survey_reports.Goals as goal
+
+-- what is said of the paths, as it is asked
+pub returns-clause-reply : goal.returns-clause-reply
+returns-clause-reply g c =
+    let said = c.in_ok-said.field-0.said in
+    record {
+      height = c.in_ok-size.size.rows;
+      width = c.in_ok-size.size.cols;
+      given = c.in_ok-size.ensures.size;
+      told = told_of said;
+      ends = subst
+          (λ (paths : List (Bor (List ℕ))).
+          EndsPaths (AreLines (Reports c.in_ok-size.size.rows c.in_ok-size.size.cols c.args.words.now.lists_all) (ReportsLack c.in_ok-size.size.rows c.in_ok-size.size.cols))
+          (g.F.Files.holds c.args.files.now) (texts_of paths) (told_of said) c.in_ok-said.field-0.failure)
+          c.as_slice.ensures.value c.in_ok-said.ensures.told;
+      places = refl;
+      says = refl;
+    }
