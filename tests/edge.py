@@ -200,15 +200,18 @@ def check_programs(work, linked):
     hello, page = [f"{work}/hello"], [sys.executable, "-c", edge_python.page()]
     python = [sys.executable, f"{TOP}/examples/python/monitor.py"]
     monitors = [[*run, f"{work}/file"] for run in ([f"{work}/monitor"], python)]
+    build(["cc", "-shared", "-fPIC", *STRICT, f"{TOP}/tests/c/late.c", "-o", f"{work}/late.so", "-ldl"])
     for words in (hello, *monitors, page):
-        for number in ENDINGS if words is not page else (signal.SIGHUP, signal.SIGTERM):
+        for number in ENDINGS if words is not page else (signal.SIGHUP, signal.SIGINT, signal.SIGTERM):
+            last = b"KeyboardInterrupt" if words is page and number == signal.SIGINT else b"<endwin>"
             run, before = on_terminal(words, environment)
             run.program.send_signal(number)
-            run.is_left(before, 128 + number)
+            run.is_left(before, 128 + number, last)
+            # a signal that comes when the program has begun to wait, but for the system's call
+            late = [shutil.which("env"), f"LD_PRELOAD={work}/late.so", f"LATE={int(number)}"]
+            run, before = on_terminal([*late, *words], environment)
+            run.is_left(before, 128 + number, last)
         check_sizes(words, environment)
-    run, before = on_terminal(page, environment)
-    run.program.send_signal(signal.SIGINT)
-    run.is_left(before, 130, b"KeyboardInterrupt")
     for words in monitors:
         check_stopped(words, environment)
         check_gone(words, environment)
@@ -292,7 +295,6 @@ def check_stopped(words, environment):
         if is_key:
             hold(b"<endwin>" in run.sent and run.modes() == before, "stopped, it leaves the terminal", run.sent)
         run.resize(14, 50)
-        time.sleep(0.2)
         run.program.send_signal(signal.SIGUSR1)
         run.waits_for(b"<14x50>")
         os.write(run.fd, b"q")
@@ -324,6 +326,17 @@ def check_fifo(work, words, environment):
     run.is_left(before, 0)
 
 
+# runs a program whose output is a pipe that nobody reads any more
+UNREAD = """
+import os, signal, sys
+signal.signal(signal.SIGPIPE, signal.SIG_DFL)
+reading, writing = os.pipe()
+os.close(reading)
+os.dup2(writing, 1)
+os.execv(sys.argv[1], sys.argv[1:])
+"""
+
+
 def check_said(work, hello, environment):
     """hello says what is wrong."""
     how = {"env": {**os.environ, **environment}, "stdin": subprocess.DEVNULL, "capture_output": True}
@@ -333,11 +346,8 @@ def check_said(work, hello, environment):
     run.is_left(before, 1, b"hello: TERM names no entry of terminfo\r\n")
     run, before = on_terminal(hello, environment, b"hello: ", (40, 80))
     run.is_left(before, 1, b"hello: a string of the entry is wrong: no op: WrongEffect\r\n")
-    # a pipe that nobody reads any more
-    line = f"{{ sleep 0.5; exec {hello[0]}; }} | true; exit ${{PIPESTATUS[0]}}"
-    if not missing("edge", "bash"):
-        run, before = on_terminal([shutil.which("bash"), "-c", line], environment, b"Broken pipe")
-        run.is_left(before, 1, b"hello: Broken pipe\r\n")
+    run, before = on_terminal([sys.executable, "-c", UNREAD, *hello], environment, b"Broken pipe")
+    run.is_left(before, 1, b"hello: Broken pipe\r\n")
 
 
 def check_formats(work):

@@ -77,27 +77,43 @@ error = raises(Error, session.call, "refresh 1")
 same((error.code, error.line, error.text), (Code.CLOSED, None, ""))
 """
 
-# what ends `send` is an exception from a handler, an interrupt, or an error; each throws away what waits
+# what ends `send` is an exception from a handler; each throws away what waits
 SENT = """
-import fcntl, resource, threading, time
+import fcntl, resource, struct, termios, threading, time
 
 resource.setrlimit(resource.RLIMIT_NOFILE, (4096, 4096))
+F_GETPIPE_SZ = 1032
+reading, ended_by = -1, []
 
-def late(number, _):
-    raise TimeoutError("late")
+def held():
+    return struct.unpack("i", fcntl.ioctl(reading, termios.FIONREAD, bytes(4)))[0]
+
+# a signal is heeded once, and not before the pipe is full; it comes again and again, since one may come between two calls
+def heed(number, _):
+    if ended_by and held() == fcntl.fcntl(reading, F_GETPIPE_SZ):
+        raise ended_by.pop()
+
+def signals(number):
+    while ended_by:
+        time.sleep(0.02)
+        os.kill(os.getpid(), number)
 
 def cut(session, fd, kind, number):
+    os.read(reading, held() or 1)
     session.call("refresh 300000")
-    timer = threading.Timer(0.3, os.kill, (os.getpid(), number))
-    timer.start()
+    ended_by.append(kind)
+    signal.signal(number, heed)
+    sender = threading.Thread(target=signals, args=[number])
+    sender.start()
     raises(kind, session.send, fd)
+    sender.join()
     same(session.waiting, 0)
     session.call("refresh 1")
     same(session.output(), b"<again>x")
 
-signal.signal(signal.SIGALRM, late)
 for blocking in (True, False):
     reading, writing = os.pipe()
+    os.write(writing, b"not sent")
     high = fcntl.fcntl(writing, fcntl.F_DUPFD, 2000)
     os.set_blocking(high, blocking)
     session = Session(b"entry", 24, 80)
@@ -105,21 +121,62 @@ for blocking in (True, False):
     session.output()
     cut(session, high, TimeoutError, signal.SIGALRM)
     cut(session, high, KeyboardInterrupt, signal.SIGINT)
-    held = []
-    reader = threading.Thread(target=lambda: [held.append(os.read(reading, 65536)) for _ in range(40)], daemon=True)
+    os.read(reading, held())
+    pieces = []
+    reader = threading.Thread(target=lambda: pieces.extend(iter(lambda: os.read(reading, 65536), b"")), daemon=True)
     reader.start()
     session.call("refresh 200000")
     session.send(high)
     os.close(writing)
     os.close(high)
     reader.join()
-    same(b"".join(held).count(b"x") >= 200000, True)
+    same(b"".join(pieces), b"x" * 200000)
     os.close(reading)
 reading, writing = os.pipe()
 os.close(reading)
 session.call("refresh 9")
 raises(BrokenPipeError, session.send, writing)
 same(session.waiting, 0)
+"""
+
+# keys as they come; a signal whose handler raises nothing doesn't end the wait; a terminal that goes away
+READ = """
+import pty, threading, time
+
+def pressed(fd, keys, seconds=0.0):
+    def press():
+        time.sleep(seconds)
+        os.kill(os.getpid(), signal.SIGUSR1)
+        os.write(fd, keys)
+    presser = threading.Thread(target=press)
+    presser.start()
+    return presser
+
+seen = []
+signal.signal(signal.SIGUSR1, lambda *_: seen.append(1))
+outer, inner = pty.openpty()
+session = Session(b"entry", 24, 80)
+session.set_raw(inner)
+for blocking in (True, False):
+    os.set_blocking(inner, blocking)
+    presser = pressed(outer, b"keys", 0.1)
+    same(session.read(), b"keys")
+    presser.join()
+    presser = pressed(outer, b"abc")
+    same((session.read(1), session.read(), signal.set_wakeup_fd(-1)), (b"a", b"bc", -1))
+    presser.join()
+same(len(seen), 4)
+answers = []
+presser = pressed(outer, b"other", 0.1)
+reader = threading.Thread(target=lambda: answers.append(session.read()))
+reader.start()
+reader.join()
+presser.join()
+same(answers, [b"other"])
+os.close(outer)
+same(session.read(), b"")
+os.close(inner)
+raises(OSError, session.read)
 """
 
 # what a block sends at its end, to a pipe
@@ -258,9 +315,9 @@ def check_types(work):
 
 
 def check(work):
-    for program in (ERRORS, TEXTS, SENT, BLOCKS):
+    for program in (ERRORS, TEXTS, SENT, READ, BLOCKS):
         run(work, program, {"PATH": os.environ["PATH"]})
     check_import(work)
     check_types(work)
     which = sysconfig.get_python_version()
-    print(f"edge: the Python package ({which}): errors, imports, interrupted output, blocks that are left")
+    print(f"edge: the Python package ({which}): errors, imports, interrupted output, keys, blocks that are left")

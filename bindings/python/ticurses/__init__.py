@@ -1,15 +1,14 @@
 """Curses sessions with a proved refresh: ctypes over the library of ticurses.
 
-    import os
     import ticurses
 
     with ticurses.Session.on_terminal() as session:
         session.call("newwin 1 5 24 2 4", "box 1 - -", "move 1 2 5", "addstr 1 Hello", "refresh 1")
         session.send()
-        os.read(0, 1)
+        session.read()
 
 Calls are lines in the language of scripts (man 5 ticurses-script). What a refresh sends waits in the session until it
-is taken (`output`) and written, or both at once (`send`). What isn't done raises an `Error`, whose `code` is a `Code`.
+is taken (`output`) and written, or both at once (`send`); `read` waits for keys. What isn't done raises an `Error`, whose `code` is a `Code`.
 However the block is left, by its end, an exception, an interrupt or SIGTERM, the terminal is as it was before.
 
 The library is $TICURSES_LIBRARY, or the one that was installed with this package, or the one that the system finds."""
@@ -18,6 +17,7 @@ from __future__ import annotations
 
 import contextlib
 import ctypes
+import errno
 import os
 import select
 import signal
@@ -25,7 +25,7 @@ import sys
 import termios
 import threading
 from types import TracebackType
-from typing import Any, Callable, NamedTuple, NoReturn, Union
+from typing import Any, Callable, Iterator, NamedTuple, NoReturn, Union
 import enum
 
 from ._codes import TEXTS, Code, Error
@@ -130,6 +130,25 @@ def _leave(number: int, _: Any) -> NoReturn:
     """A signal that would end the program without a word leaves its blocks; once, so that they are left in peace."""
     signal.signal(number, signal.SIG_IGN)
     sys.exit(128 + number)
+
+
+@contextlib.contextmanager
+def _woken_by_signals() -> Iterator[int | None]:
+    """A descriptor that has bytes once a signal has come; none in other threads than the main one, which alone gets
+    them. Python runs handlers between its own steps, so that a signal just before a system's call doesn't end it."""
+    if threading.current_thread() is not threading.main_thread():
+        yield None
+        return
+    woken, waking = os.pipe()
+    before = -1
+    try:
+        os.set_blocking(waking, False)
+        before = signal.set_wakeup_fd(waking, warn_on_full_buffer=False)
+        yield woken
+    finally:
+        signal.set_wakeup_fd(before)
+        os.close(woken)
+        os.close(waking)
 
 
 class Session:
@@ -245,6 +264,32 @@ class Session:
             with contextlib.suppress(Error):
                 self.lost()
             raise
+
+    def read(self, most: int = 64) -> bytes:
+        """Waits for keys and gives their bytes, at most so many; none where the terminal is gone. A signal whose handler
+        raises an exception ends the wait, also one that comes just before it, which `os.read` would miss."""
+        # one that is closed is an error; its number would be that of the next descriptor
+        os.fstat(self._input)
+        waiting = select.poll()
+        waiting.register(self._input, select.POLLIN)
+        with _woken_by_signals() as woken:
+            if woken is not None:
+                waiting.register(woken, select.POLLIN)
+            while True:
+                ready = [fd for fd, _ in waiting.poll()]
+                if woken in ready:
+                    os.read(woken, 64)
+                if self._input not in ready:
+                    continue
+                try:
+                    return os.read(self._input, most)
+                except BlockingIOError:
+                    # another program was given the keys
+                    continue
+                except OSError as error:
+                    if error.errno != errno.EIO:
+                        raise
+                    return b""
 
     def set_raw(self, fd: int | None = None) -> None:
         """Sets the terminal raw, as the function of this name does, until the end of the `with` statement."""
