@@ -1,6 +1,7 @@
 """tools/conform, run on the emulators that are quick: what it says is compared with what is known of them otherwise."""
 
 import json
+import shutil
 import subprocess
 import sys
 import tempfile
@@ -74,15 +75,40 @@ def on_certificate(room):
     print("conform: which lines of a certificate aren't so on pyte")
 
 
+def on_command(room):
+    """Any program with a terminal in it, of which the cursor alone is known; here tmux, with where it is known to differ."""
+    if not shutil.which("tmux"):
+        print("conform: tmux is not installed, and no program is given by --command")
+        return
+    # a server that ends isn't to be met by the next one
+    line = f"tmux -S {room}/server$$ -f /dev/null set -g status off ';' new-session -d -x {{cols}} -y {{rows}} {{}}"
+    ran = run("--command", line, "--json", f"{room}/given.json", "--most", "80", "--sessions", "1")
+    if ran.returncode != 1:
+        fail(f"--command of tmux: {ran.returncode} {ran.stderr}")
+    if "left out" in ran.stderr:
+        fail(f"--command of tmux: {ran.stderr}")
+    told = json.loads(Path(f"{room}/given.json").read_text(encoding="utf-8"))["command"]
+    places = {(one["function"], one["situation"]) for one in told["differ"]}
+    if not KNOWN["tmux"] - {("IL", "margins")} <= places or any(function in ALIKE and it in PLAIN for function, it in places):
+        fail(f"--command of tmux differs in {places}")
+    print("conform: a program that is given by --command, with the differences of its cursor that are known")
+
+
 def refused():
-    if run("nobody").returncode != 2:
-        fail("an emulator without an adapter isn't refused")
+    """What can't be run is named, with its last words."""
+    for words in (["nobody"], ["--command", "true"]):
+        if run(*words).returncode != 2:
+            fail(f"{words} isn't refused")
+    ran = run("--command", "echo nothing; exit 3 # {}", "--most", "1", "--sessions", "1")
+    if ran.returncode != 1 or "conform: command is left out: it ends with status 3: nothing\n" not in ran.stderr:
+        fail(f"of a command that fails it says {ran.stderr}")
 
 
 def main():
     with tempfile.TemporaryDirectory() as room:
         on_vectors(room)
         on_certificate(room)
+        on_command(room)
     refused()
 
 

@@ -15,7 +15,7 @@ import time
 from pathlib import Path
 
 import cases as asked
-from emulator import STARTS, Missing
+from emulator import STARTS, Missing, OtherSize
 from emulators import ALL, Display, Given, Windowed
 from screens import differences, of_state
 
@@ -53,7 +53,7 @@ def run(kind, sizes, told, note):
         emulator, failed = None, 0
         try:
             emulator = kind(rows, cols)
-        except Missing as missing:
+        except OtherSize as missing:
             if (rows, cols) == max(sizes):
                 raise
             note(f"{rows} by {cols} is left out: {missing}")
@@ -145,9 +145,23 @@ def arguments():
     given = parser.parse_args()
     kinds = choose(given.emulators, parser)
     if given.command:
+        if "{}" not in given.command:
+            parser.error("--command has no {}, which stands for the command that its terminal is to run")
         Given.line = given.command
         kinds = {"command": Given, **(kinds if given.emulators else {})}
     return given, kinds
+
+
+def opened(kind):
+    """A display for the emulators with a window. A program of one's own may need none."""
+    try:
+        display = Windowed.display = Display()
+    except Missing:
+        if kind is Given:
+            return None
+        raise
+    os.environ["DISPLAY"] = display.name
+    return display
 
 
 def main():
@@ -163,8 +177,7 @@ def main():
         for name, kind in kinds.items():
             try:
                 if (issubclass(kind, Windowed) or getattr(kind, "wants_display", False)) and not display:
-                    display = Windowed.display = Display()
-                    os.environ["DISPLAY"] = display.name
+                    display = opened(kind)
                 told, began = Told(), time.monotonic()
                 run(kind, sizes, told, lambda text: print(f"conform: {name}: {text}", file=sys.stderr))
                 results[name], versions[name] = told, kind.version()

@@ -22,6 +22,10 @@ class Missing(Exception):
     """The emulator, or what its adapter needs, isn't installed; the text says what."""
 
 
+class OtherSize(Missing):
+    """It can't be run at this size; perhaps at others."""
+
+
 def need(*programs):
     for program in programs:
         if not shutil.which(program):
@@ -66,16 +70,33 @@ class Emulator:
         with socket.socket(socket.AF_UNIX) as listener:
             listener.bind(path)
             listener.listen(1)
-            listener.settimeout(40)
             words = self.command([sys.executable, str(HERE / "relay.py"), path])
             env = {**os.environ, "LC_ALL": "C.UTF-8", "LIBGL_ALWAYS_SOFTWARE": "1", **self.environment()}
             with open(f"{self.room}/log", "wb") as log:
                 self.process = subprocess.Popen(words, env=env, cwd=self.room, stdin=subprocess.DEVNULL, stdout=log, stderr=log, start_new_session=True)
-            self.peer = listener.accept()[0]
+            self.peer = self.accepted(listener)
         os.remove(path)
         size = tuple(map(int, self.until(rb"\A(\d+) (\d+)\n").groups()))
         if size != (self.rows, self.cols):
-            raise Missing(f"it has {size[0]} rows and {size[1]} columns where {self.rows} and {self.cols} were asked for")
+            raise OtherSize(f"it has {size[0]} rows and {size[1]} columns where {self.rows} and {self.cols} were asked for")
+
+    def accepted(self, listener):
+        """The relay's connection. An emulator that doesn't run it can't be asked here, and its last words may say why."""
+        end = time.monotonic() + 60
+        listener.settimeout(0.5)
+        while time.monotonic() < end:
+            try:
+                return listener.accept()[0]
+            except socket.timeout:
+                # status 0 may be that of a client whose server goes on
+                if self.process.poll():
+                    raise Missing(f"it ends with status {self.process.returncode}{self.last_words()}") from None
+        raise Missing(f"it runs no command within a minute{self.last_words()}")
+
+    def last_words(self):
+        lines = Path(f"{self.room}/log").read_text(encoding="utf-8", errors="replace").split("\n")
+        last = next((line.strip() for line in reversed(lines) if line.strip()), "")
+        return f": {last}" if last else ""
 
     def close(self):
         if self.peer:

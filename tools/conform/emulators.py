@@ -2,6 +2,9 @@
 
 import json
 import os
+import re
+import shutil
+import socket
 import subprocess
 import sys
 import time
@@ -9,8 +12,12 @@ from pathlib import Path
 
 from emulator import HERE, Emulator, Missing, need
 from libraries import Libtsm, Libvterm, Pyte
-from screens import alike, read_sgr
+from screens import Screen, alike, read_sgr
 from vte import Vte
+
+
+# a user without rights
+NOBODY = 65534
 
 
 def text_cells(text, rows, cols):
@@ -128,10 +135,37 @@ class Kitty(Windowed):
         flags = [word for key, value in options.items() for word in ("-o", f"{key}={value}")]
         return ["kitty", "--config", "NONE", "--listen-on", f"unix:{self.room}/rc", *flags, *words]
 
-    def cells(self):
-        words = ["kitty", "@", "--to", f"unix:{self.room}/rc", "get-text", "--extent", "screen", "--ansi", "--add-wrap-markers"]
-        ran = subprocess.run(words, env={**os.environ, **self.environment()}, capture_output=True, timeout=60, check=True)
-        text = ran.stdout.decode("utf-8", "replace")
+    def asked(self):
+        """What the window answers to get-text: what is shown, and behind it how the cursor is set. A process of `kitty @`
+        for each case would take most of the time."""
+        payload = {"extent": "screen", "ansi": True, "cursor": True, "wrap_markers": True}
+        request = {"cmd": "get-text", "version": [0, 14, 2], "no_response": False, "payload": payload}
+        answer = b""
+        with socket.socket(socket.AF_UNIX) as peer:
+            peer.settimeout(60)
+            peer.connect(f"{self.room}/rc")
+            peer.sendall(f"\033P@kitty-cmd{json.dumps(request)}\033\\".encode())
+            while not answer.endswith(b"\033\\"):
+                piece = peer.recv(65536)
+                if not piece:
+                    raise EOFError("kitty ends its answer")
+                answer += piece
+        told = json.loads(answer.removeprefix(b"\033P@kitty-cmd").removesuffix(b"\033\\"))
+        if not told.get("ok"):
+            raise OSError(told.get("error"))
+        return told["data"]
+
+    def screen(self):
+        # its report of a cursor behind the last column is the line below; the answer has it as it is shown
+        self.cursor()
+        told = self.asked()
+        found = re.fullmatch(r"(.*)\033\[\?25([hl])\033\[(\d+);(\d+)H[^H]*", told, re.S)
+        if not found:
+            raise ValueError(f"kitty's answer has no cursor at its end: {told[-40:]!r}")
+        text, visible, row, col = found.groups()
+        return Screen(self.cells_of(text), (int(row) - 1, min(int(col), self.cols) - 1, visible == "h"))
+
+    def cells_of(self, text):
         # a line that was wrapped ends with CR; where bold or faint changes, just those of both that are on are written
         fields = [part.split("m", 1) for part in text.split("\033[")]
         parts = [fields[0][0]] + [f"\033[{'22;' if {'1', '2'} & set(code.split(';')) else ''}{code}m{rest}" for code, rest in fields[1:]]
@@ -243,8 +277,14 @@ class Foot(Emulator):
     name, package, reads = "foot", "foot", ""
 
     def command(self, words):
-        need("foot", "sway", "wtype", "setpriv")
+        need("foot", "sway", "wtype")
         os.chmod(self.room, 0o700)
+        before = []
+        if os.getuid() == 0:
+            # sway refuses to run as root
+            need("setpriv")
+            before = ["setpriv", f"--reuid={NOBODY}", f"--regid={NOBODY}", "--clear-groups"]
+            words = self.for_nobody(words, before)
         copy = f"cat > {self.room}/text.new; mv {self.room}/text.new {self.room}/text"
         Path(f"{self.room}/foot.ini").write_text(
             f"font=DejaVu Sans Mono:size=6\npad=0x0\ninitial-window-size-chars={self.cols}x{self.rows}\n[scrollback]\nlines=0\n"
@@ -253,12 +293,21 @@ class Foot(Emulator):
         Path(f"{self.room}/sway").write_text(
             'output HEADLESS-1 resolution 1000x720\ndefault_border none\nfor_window [app_id=".*"] floating enable, move position 0 0\n'
             f"xwayland disable\nexec foot -c {self.room}/foot.ini {line}\n", encoding="ascii")  # fmt: skip
-        if os.getuid() != 0:
-            return ["sway", "-c", f"{self.room}/sway"]
-        # sway refuses to run as root
-        os.chmod(f"{self.room}/socket", 0o777)
-        os.chown(self.room, 65534, 65534)
-        return ["setpriv", "--reuid=65534", "--regid=65534", "--clear-groups", "sway", "-c", f"{self.room}/sway"]
+        return [*before, "sway", "-c", f"{self.room}/sway"]
+
+    def for_nobody(self, words, before):
+        """The command that runs the relay, for a user who may reach neither this Python nor this folder."""
+        mine, _, path = words
+        relay = shutil.copy(HERE / "relay.py", self.room)
+        os.chmod(relay, 0o644)
+        os.chmod(path, 0o777)
+        os.chown(self.room, NOBODY, NOBODY)
+        for python in (mine, "/usr/bin/python3"):
+            # setpriv itself still reaches what root does
+            tried = [*before, "sh", "-c", 'exec "$@"', "sh", python, "-c", "import sys; open(sys.argv[1])", relay]
+            if os.path.exists(python) and subprocess.run(tried, capture_output=True, check=False).returncode == 0:
+                return [python, relay, path]
+        raise Missing("sway refuses to run as root, and another user can run no python3 here")
 
     def environment(self):
         return {
@@ -298,8 +347,6 @@ class Given(Windowed):
         return cls.line
 
     def command(self, words):
-        if "{}" not in self.line:
-            raise Missing("--command has no {} where the program to run belongs")
         inner = " ".join("'" + word.replace("'", "'\\''") + "'" for word in words)
         line = self.line.replace("{rows}", str(self.rows)).replace("{cols}", str(self.cols)).replace("{}", inner)
         return ["/bin/sh", "-c", line]

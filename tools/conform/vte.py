@@ -5,7 +5,7 @@ import re
 import sys
 import time
 
-from emulator import Emulator, Missing
+from emulator import Emulator, Missing, OtherSize
 from screens import alike
 
 FRONT, BACK = "E0E0E0", "101010"
@@ -36,7 +36,7 @@ class Vte(Emulator):
         self.spin(0.5)
         size = self.terminal.get_row_count(), self.terminal.get_column_count()
         if size != (self.rows, self.cols):
-            raise Missing(f"it has {size[0]} rows and {size[1]} columns where {self.rows} and {self.cols} were asked for")
+            raise OtherSize(f"it has {size[0]} rows and {size[1]} columns where {self.rows} and {self.cols} were asked for")
 
     def toolkit(self):
         try:
