@@ -2,7 +2,9 @@
 
 import json
 import random
+import re
 import resource
+import shutil
 import subprocess
 import sys
 import tempfile
@@ -44,6 +46,26 @@ def made_anew():
     if f"{count:,} cases in {len(there) // 2} files" not in page:
         fail(f"vectors/README.md doesn't say that there are {count:,} cases")
     return count
+
+
+def named():
+    """The page's names of vttest's tests are in the program, and the files beside them are there. How many there are."""
+    page = (VECTORS / "README.md").read_text(encoding="utf-8").partition("## What of other test suites they cover\n")[2]
+    rows = re.findall(r"^\| \d[\d.]* \| `([^`]*)` \|.*\| ([^|]*) \|$", page, re.M)
+    kinds = {path.stem.rsplit("-", 1)[0] for path, *_ in files()}
+    for name, cell in rows:
+        lacking = set(re.findall("`([^`]*)`", cell) or [""]) - kinds
+        if lacking:
+            fail(f"vectors/README.md names files beside {name!r} that aren't there: {lacking}")
+    program = shutil.which("vttest")
+    if not program:
+        print("vectors: vttest is not installed, and its names are not compared")
+        return len(rows)
+    held = Path(program).read_bytes()
+    for name, _ in rows:
+        if name.encode() + b"\0" not in held:
+            fail(f"vttest has no test that is named {name!r}")
+    return len(rows)
 
 
 def beside_vectors():
@@ -172,6 +194,7 @@ def main():
     beside_vectors()
     print(f"vectors: {count} cases leave the states that the model gives")
     print(f"vectors: {one_by_one()} runs with --json and --state print those states")
+    print(f"vectors: {named()} tests of vttest are named as it names them")
     damaged()
     recordings()
     refused_together()
