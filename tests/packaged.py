@@ -89,10 +89,22 @@ class Bare:
         return ran(self.line(words, **environment))
 
 
+def check_needs(said):
+    """README and TRUST name the glibc and the library beside it that ./package says what it made needs."""
+    told = re.search(r"^package: they run on x86-64 Linux with glibc ([\d.]+) or later, and need (.+)$", said, re.M)
+    hold(told, "./package doesn't say what is needed", said)
+    readme, trust = held_in(f"{TOP}/README.md").decode(), held_in(f"{TOP}/docs/TRUST.md").decode()
+    hold(f"on x86-64 Linux with glibc {told[1]} or later" in readme, "README names another glibc", told[1])
+    row = re.search(r"^\| Linux \| (.*?) \|", trust, re.M)
+    # libm and the loader belong to glibc
+    others = {it.split(".so")[0] for it in told[2].split(", ")} - {"libc", "libm", "ld-linux-x86-64"}
+    hold(row and {f"glibc {told[1]}", *others} <= set(row[1].split(", ")), "TRUST names others", row, told[1], others)
+
+
 def make_twice(work):
     """Makes the packages twice, under another umask the second time, and gives the folder."""
     for name, umask in (("one", 0o022), ("two", 0o077)):
-        ran([f"{TOP}/package", f"{work}/{name}"], umask=umask)
+        check_needs(ran([f"{TOP}/package", f"{work}/{name}"], umask=umask).decode())
     names = sorted(os.listdir(f"{work}/one"))
     hold(
         names == [f"ticurses-{VERSION}-x86_64-linux-gnu.tar.gz", f"ticurses_{VERSION}_amd64.deb"], "other files", names
@@ -238,6 +250,7 @@ def check_tarball(bare, package, work):
     top = f"{work}/unpacked/{top}"
     check_paths(top)
     check_sums(f"{top}/share/doc/ticurses")
+    ran(["sha256sum", "--check", "--quiet", "share/doc/ticurses/BUILT"], cwd=top)
     check_program(bare, f"{top}/bin/ticurses", work)
     prefix = f"{work}/prefix"
     os.makedirs(f"{prefix}/bin")

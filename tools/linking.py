@@ -1,4 +1,4 @@
-"""Links both forms of the library, libticurses.a and libticurses.so.0, from what the toolchain leaves of its crate."""
+"""Links both forms of the library, libticurses.a and the shared one, from what the toolchain leaves of its crate."""
 
 import os
 import shutil

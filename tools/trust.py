@@ -75,7 +75,7 @@ def what_runs():
         ),
         row("Python package", f"about {about(lines_in(*python))} lines", "it loads the library and passes values on"),
         row("scripts", f"about {about(lines_in(*scripts))} lines", "they build, install and package what was proved"),
-        row("Linux", "glibc 2.34, x86-64-v2", "memory, files, and bytes that arrive; processors since about 2009"),
+        row("Linux", "glibc 2.34, libgcc_s, x86-64-v2", "memory, files, and bytes that arrive; processors since about 2009"),
         row("your terminal", "like T", "no proof reaches it; [TERMINAL](TERMINAL.md) has what is known"),
     ]
     return "\n".join(HEAD + rows)
