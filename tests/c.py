@@ -31,7 +31,7 @@ from trying import TOP, held_in, write
 
 TERMINALS = f"{TOP}/examples/terminals.ti"
 WRAPPED = ["-Wl,--wrap=malloc", "-Wl,--wrap=realloc", "-Wl,--wrap=free"]
-# three refreshes, of a box with colours, of a text that changes in it, and of a window over it
+# three refreshes, of a box with colors, of a text that changes in it, and of a window over it
 REFRESHES = (
     "init_pair 1 7 4\nnewwin 1 5 20 1 2\nbkgd 1 20:1\nbox 1 - -\nmove 1 2 3\nattron 1 B\naddstr 1 first\nrefresh 1\n"
     "move 1 2 3\nattrset 1 U\naddstr 1 second\nmove 1 3 10\naddstr 1 more\nrefresh 1\n"

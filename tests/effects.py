@@ -115,7 +115,7 @@ def uses():
 
 
 def uses_of_looks():
-    """The same of those that turn renditions on and off, and of colours."""
+    """The same of those that turn renditions on and off, and of colors."""
     # standout may be any, and the others are their own rendition or nothing
     alone = ["[01]{6}", "00[01]000", "0000[01]0", "000[01]00", "0[01]0000", "[01]00000", "00000[01]"]
     none = [0] * 9

@@ -1,6 +1,6 @@
 #!/bin/sh
 # `ticurses expand` beside other programs: formats beside printf(1), arithmetic beside the shell's own, conditionals, variables
-# and the system's cursor and colour strings beside ncurses' tput; and conditionals 454 deep, which no other program judges.
+# and the system's cursor and color strings beside ncurses' tput; and conditionals 454 deep, which no other program judges.
 set -eu
 cd -- "$(dirname -- "$0")/.."
 . tests/probing
@@ -121,10 +121,10 @@ by_tput() {
 STRINGS
 }
 
-# the system's colour strings by tput, as far as they are one SGR sequence, which leaves the cursor
+# the system's color strings by tput, as far as they are one SGR sequence, which leaves the cursor
 system() {
     command -v tput >/dev/null 2>&1 && command -v infocmp >/dev/null 2>&1 || {
-        echo "expansions: the system's colours skipped, since tput or infocmp is missing"
+        echo "expansions: the system's colors skipped, since tput or infocmp is missing"
         return
     }
     for name in ansi linux screen screen-256color tmux-256color xterm xterm-256color vt220 rxvt putty; do

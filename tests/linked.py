@@ -43,7 +43,8 @@ def installed(work):
     """Installs the library in the folder and gives its prefix. The gate leaves it unbuilt, and to build it proves the
     crates below it once more, so that where it is neither built nor kept nothing is tried."""
     if not is_there(LIBRARY):
-        print("the library for C isn't built: `./install` or `./test --library` builds it; nothing of this is tried")
+        script = os.path.basename(sys.argv[0]).partition(".")[0]
+        print(f"{script}: the library for C isn't built: `./install` or `./test --library` builds it; nothing of this is tried")
         sys.exit(0)
     run = subprocess.run([f"{TOP}/install", f"PREFIX={work}/prefix"], stdout=subprocess.PIPE)
     if run.returncode:

@@ -32,7 +32,7 @@ OVERLAP = [
 ]
 # as long as a script may be
 LONGEST = ["#" * 1048554, "addstr 0 a", "refresh 0"]
-COLOURS = ["init_pair 1 1 4", "color_set 0 1", "addstr 0 ab", "refresh 0"]
+COLORS = ["init_pair 1 1 4", "color_set 0 1", "addstr 0 ab", "refresh 0"]
 
 
 def scrolled():
@@ -128,9 +128,9 @@ SHOWN = [
         scrolled(),
         "".join(chr(ord("a") + row) * 79 + " \n" for row in range(1, 24)) + " " * 80 + "\ncursor 23 79\n",
     ),
-    ("xc", 2, 4, COLOURS, "ab  \n    \ncursor 0 2\nlook 0 0-1 f1b4\n"),
-    ("xc", 2, 4, [*COLOURS, "init_pair 1 2 4", "refresh 0"], "ab  \n    \ncursor 0 2\nlook 0 0-1 f2b4\n"),
-    ("vt", 2, 4, COLOURS, "ab  \n    \ncursor 0 2\n"),
+    ("xc", 2, 4, COLORS, "ab  \n    \ncursor 0 2\nlook 0 0-1 f1b4\n"),
+    ("xc", 2, 4, [*COLORS, "init_pair 1 2 4", "refresh 0"], "ab  \n    \ncursor 0 2\nlook 0 0-1 f2b4\n"),
+    ("vt", 2, 4, COLORS, "ab  \n    \ncursor 0 2\n"),
     (
         "xc",
         2,

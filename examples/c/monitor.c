@@ -10,7 +10,7 @@
 
 /* the windows: PAGE is a pad, the others are parts of the screen */
 enum { FRAME = 1, PAGE, HEAD, LOG, STATUS, HELP };
-/* the colour pairs */
+/* the color pairs */
 enum { LIGHT = 1, BAD, WARNING };
 /* a pad has at most so many lines and columns, and so many lines of the log are kept */
 enum { PAD_MAX = 1000, KEPT = 200 };

@@ -15,7 +15,7 @@ import ticurses
 
 # the windows: PAGE is a pad, the others are parts of the screen
 FRAME, PAGE, HEAD, LOG, STATUS, HELP = range(1, 7)
-# the colour pairs
+# the color pairs
 LIGHT, BAD, WARNING = range(1, 4)
 # a pad has at most so many lines and columns, and so many lines of the log are kept
 PAD_MAX, KEPT = 1000, 200

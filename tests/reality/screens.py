@@ -5,7 +5,7 @@ screens.py NAME..   makes NAME.screen here, which both tmux (3.3a, `capture-pane
                     python3-pyte) show, or NAME.tmux and NAME.pyte where they differ; run it with the Python that has
                     pyte (/usr/bin/python3 on Debian)
 
-A rendition has the marks of both emulators (bold, faint, underline, blink, negative, concealed) and colours; pyte 0.8 knows
+A rendition has the marks of both emulators (bold, faint, underline, blink, negative, concealed) and colors; pyte 0.8 knows
 neither faint, blink nor concealed. Characters of the line drawing set are given as the letters that stand for them."""
 
 import os
