@@ -10,6 +10,9 @@ from pathlib import Path
 TOP = Path(__file__).resolve().parents[1]
 TOOL = TOP / "tools" / "conform"
 QUICK = ["libvterm", "tmux", "pyte"]
+sys.path.append(str(TOOL))
+
+import screens  # noqa: E402
 
 # where each is known to differ (docs/TERMINAL.md): the function and what the cases are about
 KNOWN = {
@@ -94,6 +97,15 @@ def on_command(room):
     print("conform: a program that is given by --command, with the differences of its cursor that are known")
 
 
+def unknown_looks():
+    """A blank that an emulator writes has its look; of one that it leaves out at the end of a line nothing is known."""
+    wanted = screens.Screen([[("a", frozenset()), (" ", frozenset({"b4"}))]], (0, 0, True))
+    for text, count in (("a", 0), ("a\033[44m ", 0), ("a ", 1), ("a\033[44mb", 1), ("", 1)):
+        seen = screens.Screen(screens.read_sgr(text, 1, 2), (0, 0, True))
+        if len(screens.differences(wanted, seen, "fb")) != count:
+            fail(f"of {text!r} it says {screens.differences(wanted, seen, 'fb')}")
+
+
 def refused():
     """What can't be run is named, with its last words."""
     for words in (["nobody"], ["--command", "true"]):
@@ -109,6 +121,7 @@ def main():
         on_vectors(room)
         on_certificate(room)
         on_command(room)
+    unknown_looks()
     refused()
 
 

@@ -10,7 +10,7 @@ from pathlib import Path
 VECTORS = Path(__file__).resolve().parents[2] / "vectors"
 sys.path.insert(0, str(VECTORS))
 
-from make import FILL, at, at_random  # noqa: E402
+from make import at, at_random  # noqa: E402
 from model import Stuck, Terminal  # noqa: E402
 
 

@@ -69,7 +69,7 @@ def words(marks, reads):
 
 def read_sgr(text, rows, cols, once=False):
     """Cells of a text with SGR and character sets in it, as terminals print their screens. With `once` each sequence is
-    for the next cell alone."""
+    for the next cell alone. Blanks at the end of a line, which terminals leave out, have looks that aren't known."""
     marks, graphic, cells = set(), False, []
     lines = re.split(r"\r?\n", text)[:rows]
     for line in lines + [""] * (rows - len(lines)):
@@ -92,7 +92,7 @@ def read_sgr(text, rows, cols, once=False):
                 if once:
                     marks.clear()
             at += 1
-        cells.append((row + [(" ", frozenset())] * cols)[:cols])
+        cells.append((row + [(" ", None)] * cols)[:cols])
     return cells
 
 
