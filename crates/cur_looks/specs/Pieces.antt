@@ -1,4 +1,4 @@
--- What a refresh may send to make a screen appear: printed bytes, and the lines of rows that paint.
+-- The pieces that make a screen appear: printed bytes, and the lines of rows that paint.
 use Rattle.std.specs.Prelude.{ℕ, ◌≡◌, Bool, true, false, List, [], ◌∷◌, Some}
 use Rattle.vt_term.specs.Look.{IsPrinted}
 use Rattle.ti_rows.specs.declared.rows.Row.{Row}

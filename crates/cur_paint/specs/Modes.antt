@@ -1,4 +1,5 @@
--- What a refresh sends to show the cursor in the mode that is wanted, and beside that (X/Open Curses Issue 7, curs_set).
+-- The strings of a refresh that show the cursor in the mode that is wanted, and the bytes around them (X/Open Curses
+-- Issue 7, curs_set).
 use Rattle.std.specs.Prelude.{ℕ, ◌≤◌, ◌≡◌, List, ◌++◌, length, Option, Some, None, Result, Ok, Err}
 use Rattle.std.specs.List.{AllByRecursion, concat}
 use Rattle.ti_conforms.specs.Certified.{Table}
@@ -40,8 +41,8 @@ pub record IsPainted (t : Table) (bytes : List ℕ) : Type 0 where
   pub made : bytes ≡ concat pieces
   pub each : AllByRecursion (IsPaint t) pieces
 
--- After the bytes that it begins with (first), a text paints, then shows the cursor in its mode by these strings, and
--- then paints by at most so many bytes.
+-- A text begins with these bytes (first), paints, shows the cursor in its mode by these strings, and then paints in at
+-- most so many bytes.
 pub record PaintsAround (t : Table) (limit : ℕ) (first strings bytes : List ℕ) : Type 0 where
   pub front : List ℕ
   pub back : List ℕ

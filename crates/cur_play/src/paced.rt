@@ -5,7 +5,7 @@ use cur_wires::Wire;
 
 /// A wire that may hold back what it took, until `pass_on` is called.
 pub trait Paced: Wire {
-    /// What it holds back.
+    /// The bytes that it holds back.
     ghost held: { Self → List ℕ };
 
     /// Passes on what is held back: nothing is held back any more. Where that fails, the wire's count of failures
