@@ -2,7 +2,7 @@
 use Rattle.std.specs.Prelude.{ℕ, ◌≡◌, Bool, true, false, List, [], ◌∷◌, Some}
 use Rattle.vt_term.specs.Look.{IsPrinted}
 use Rattle.ti_rows.specs.declared.rows.Row.{Row}
-use Rattle.ti_rows.specs.declared.rows.Row.TheVariants.{Clear, Cup, Home, Cr, Hpa, Vpa, Cub1, Cuf1, Cuu1, Cud1, Cub, Cuf, Cuu, Cud, El, El1, Ed, Ech, Sgr, Sgr0, Setaf, Setab, Op, Smul, Rev, Blink, Dim, Bold, Invis, Smso, Smacs, Rmacs, Csr, Ind, Ri}
+use Rattle.ti_rows.specs.declared.rows.Row.TheVariants.{Clear, Cup, Home, Cr, Hpa, Vpa, Cub1, Cuf1, Cuu1, Cud1, Cub, Cuf, Cuu, Cud, El, El1, Ed, Ech, Sgr, Sgr0, Setaf, Setab, Op, Smul, Rev, Blink, Dim, Bold, Invis, Smso, Smacs, Rmacs, Csr, Ind, Ri, Enacs, Civis, Cnorm, Cvvis, Smcup, Rmcup, Bel}
 use Rattle.ti_conforms.specs.Certified.{Table}
 
 -- Moves, erasures, scrolls, attributes, colors and sets paint (terminfo(5), "Basic Capabilities" to "Line Graphics").
@@ -43,7 +43,13 @@ paints Rmacs = true
 paints (Csr top bottom) = true
 paints Ind = true
 paints Ri = true
-paints _ = false
+paints Enacs = false
+paints Civis = false
+paints Cnorm = false
+paints Cvvis = false
+paints Smcup = false
+paints Rmcup = false
+paints Bel = false
 
 -- the line of a row that paints, or a character
 pub data IsPaint (t : Table) (piece : List ℕ) : Type 0 where

@@ -61,7 +61,8 @@ Begins t _ clear bytes = BeginsWith t.resync bytes
 abbrev pub opening : Table → Status → Bool → List ℕ
 opening t Known true = text_of t Clear
 opening t Known false = []
-opening t _ clear = t.resync
+opening t Fresh clear = t.resync
+opening t Lost clear = t.resync
 
 -- Characters and lines that begin so, and lead each state of the kind to one that shows the screen. Where the cursor
 -- isn't known to be shown in its mode (now), the strings for that are among them.
