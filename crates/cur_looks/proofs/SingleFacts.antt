@@ -157,13 +157,6 @@ single_paints wanted Invis on = refl
 single_paints wanted Smso on = refl
 single_paints wanted row on = absurd (false≢true on)
 
--- what isn't wanted stays as it is
-pub unwanted : (wanted : Attributes) (row : Row) (a : Attributes) → has_single row wanted ≡ false → with_single wanted row a ≡ a
-unwanted wanted row a e = ap (λ (x : Bool). if x then turned_on row a else a) e
-
-pub wanted_on : (wanted : Attributes) (row : Row) (a : Attributes) → has_single row wanted ≡ true → with_single wanted row a ≡ turned_on row a
-wanted_on wanted row a e = ap (λ (x : Bool). if x then turned_on row a else a) e
-
 -- from none, all that are wanted
 pub all_singles : (w : Attributes) → with_singles w singles no_attributes ≡ w
 all_singles w =

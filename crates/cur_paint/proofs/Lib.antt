@@ -4,7 +4,7 @@ pub mod Ranges
 pub mod LineRanges
 pub mod Bounds
 pub mod ModeFacts
-pub mod Reaches
+pub mod Agreeing
 pub mod Renewals
 pub mod UpdateFacts
 pub mod BellFacts

@@ -43,12 +43,6 @@ mixed_rest old new r c cols i j lt h = grind (arith, nat_tests, h j)
 pub mixed_row : (old new : ℕ → ℕ → Ink) (r cols i j : ℕ) → j < cols → mixed old new r cols i j ≡ mixed old new (r + 1) 0 i j
 mixed_row old new r cols i j lt = grind (arith, nat_tests)
 
-pub mixed_end : (old new : ℕ → ℕ → Ink) (rows i j : ℕ) → i < rows → mixed old new rows 0 i j ≡ new i j
-mixed_end old new rows i j lt = grind (arith, nat_tests)
-
-pub mixed_start : (old new : ℕ → ℕ → Ink) (i j : ℕ) → old i j ≡ mixed old new 0 0 i j
-mixed_start old new i j = grind (arith, nat_tests)
-
 pub put_new : (old new : ℕ → ℕ → Ink) (r c : ℕ) (x : Ink) → x ≡ new r c → (i j : ℕ) → put_at r c x (mixed old new r c) i j ≡ mixed old new r (c + 1) i j
 put_new old new r c x e i j = ap (λ (y : Ink). put_at r c y (mixed old new r c) i j) e ∙ mixed_put old new r c i j
 
@@ -136,12 +130,6 @@ rest_shown t old new r c b e s h = agrees_as t (mixed old new r c) (mixed old ne
 -- a line is done
 pub row_done : (t : Table) (old new : ℕ → ℕ → Ink) (r : ℕ) (b : Belief) (s : State) → Agrees t (mixed old new r t.cols) b s → Agrees t (mixed old new (r + 1) 0) b s
 row_done t old new r b s h = agrees_as t (mixed old new r t.cols) (mixed old new (r + 1) 0) b (λ i j li lj. mixed_row old new r t.cols i j lj) s h
-
-pub all_done : (t : Table) (old new : ℕ → ℕ → Ink) (b : Belief) (s : State) → Agrees t (mixed old new t.rows 0) b s → Agrees t new b s
-all_done t old new b s h = agrees_as t (mixed old new t.rows 0) new b (λ i j li lj. mixed_end old new t.rows i j li) s h
-
-pub none_done : (t : Table) (old new : ℕ → ℕ → Ink) (b : Belief) (s : State) → Agrees t old b s → Agrees t (mixed old new 0 0) b s
-none_done t old new b s h = agrees_as t old (mixed old new 0 0) b (λ i j li lj. mixed_start old new i j) s h
 
 pub tail_done : (t : Table) (old new : ℕ → ℕ → Ink) (r c : ℕ) (b : Belief) → ((k : ℕ) → c ≤ k → k < t.cols → new r k ≡ blank_ink) → (s : State)
     → Agrees t (tail_blank r c (mixed old new r c)) b s → Agrees t (mixed old new r t.cols) b s

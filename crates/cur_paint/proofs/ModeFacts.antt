@@ -1,6 +1,6 @@
 -- The cursor's mode, as the last thing but its place that is set, and what paints before and after that.
-use Rattle.std.proofs.Common.{◌≡◌, ℕ, ◌+◌, ◌*◌, ◌≤◌, Bool, true, false, List, [], ◌++◌, Option, Some, None, Result, Ok, Err, refl, sym, ap, subst, ◌∙◌, arith, append_assoc, if◌then◌else◌}
-use Rattle.std.proofs.lemmas.List.{append-nil}
+use Rattle.std.proofs.Common.{ℕ, ◌+◌, ◌*◌, ◌≤◌, List, [], ◌++◌, Option, Some, None, Result, Ok, Err, refl, sym, ap, ◌∙◌, arith, append_assoc}
+use Rattle.std.specs.Prelude.{OnOk}
 use Rattle.std.specs.List.{concat}
 use Rattle.vt_term.specs.Screen.{State}
 use Rattle.cur_wires.specs.Wire.{IsWire}
@@ -8,34 +8,16 @@ use Rattle.cur_wires.specs.Steps.{Spells, Steps, then_kind}
 use Rattle.cur_wires.specs.Leads.{Leads}
 use Rattle.cur_wires.proofs.Leads.{all_append, concat-append, leads_then, leads_wider}
 use Rattle.cur_wires.proofs.Paints.{sends_then}
-use Rattle.cur_wires.proofs.Stops.{leads_each}
+use Rattle.cur_wires.proofs.Stops.{leads_each, on_ok_map}
 use Rattle.ti_conforms.specs.Certified.{Table, IsLost, IsPiece, Line, Character}
 use Rattle.cur_looks.specs.Pieces.{IsPaint, Stroke, Printed}
-use Rattle.cur_looks.specs.Beliefs.{mode_text, same_mode, setting_text}
+use Rattle.cur_looks.specs.Beliefs.{mode_text}
 use Rattle.cur_looks.specs.declared.beliefs.Mode.{Mode}
 use Rattle.cur_looks.specs.declared.beliefs.Place.{Place}
 use Rattle.cur_looks.proofs.Answers.{at_most, moves_few}
 use Rattle.cur_paint.specs.Limits.{last_move, seen_at}
-use Rattle.cur_paint.specs.Modes.{IsNearEnd, IsPainted, OnlyPaints, OnlyPaintsSoFar, OnlyPaintsBy, SetsMode, move_limit}
+use Rattle.cur_paint.specs.Modes.{IsPainted, OnlyPaints, move_limit}
 use Rattle.cur_paint.specs.Scenes.{Sets}
-
--- more in front
-pub near_more : (limit : ℕ) (text bytes more : List ℕ) → IsNearEnd limit text bytes → IsNearEnd limit text (more ++ bytes)
-near_more limit text bytes more h = record {
-  front = more ++ h.front;
-  back = h.back;
-  parts = ap (λ (l : List ℕ). more ++ l) h.parts ∙ sym (append_assoc more h.front (text ++ h.back));
-  short = h.short;
-}
-
--- what shows the cursor in a mode, however it was shown, is enough where it is known to be shown in one
-pub sets_anyway : (t : Table) (now : Option Mode) (cursor : Option Place) (m : Mode) (bytes : List ℕ) → SetsMode t None cursor m bytes → SetsMode t now cursor m bytes
-sets_anyway t None cursor m bytes h = h
-sets_anyway t (Some n) cursor m bytes h = less (same_mode n m) (move_limit t cursor) (setting_text t m) bytes h
-  where
-    less : (b : Bool) (limit : ℕ) (text bytes : List ℕ) → IsNearEnd limit text bytes → IsNearEnd limit (if b then [] else text) bytes
-    less true limit text bytes h = record { front = bytes; back = []; parts = sym (append-nil bytes); short = omega arith }
-    less false limit text bytes h = h
 
 pub move_short : (t : Table) (now : Place) (cursor : Option Place) → last_move t.cols now cursor * t.longest.cup ≤ move_limit t cursor
 move_short t now None = omega arith
@@ -62,75 +44,43 @@ painted_none t = record { pieces = []; made = refl; each = tt }
 
 -- ---- nothing goes out that wasn't asked for
 
--- the mode's strings are near the end
-pub quiet_sets : (t : Table) (first : List ℕ) (now : Option Mode) (cursor : Option Place) (m : Mode) (bytes : List ℕ) → OnlyPaints t first now cursor m bytes → SetsMode t now cursor m bytes
-quiet_sets t first now cursor m bytes h = record { front = first ++ h.front; back = h.back; parts = h.parts ∙ sym (append_assoc first h.front (mode_text t now m ++ h.back)); short = h.short }
-
--- all of it is a front of it
-quiets_all : {T E : Type 0} (answer : Result T E) (t : Table) (first : List ℕ) (now : Option Mode) (cursor : Option Place) (m : Mode) (bytes : List ℕ) → OnlyPaints t first now cursor m bytes → OnlyPaintsBy answer t first now cursor m bytes
-quiets_all (Ok x) t first now cursor m bytes h = h
-quiets_all (Err e) t first now cursor m bytes h = record { more = []; quiet = subst (OnlyPaints t first now cursor m) (sym (append-nil bytes)) h }
-
--- from texts to their fronts
-lifted : {T E : Type 0} (answer : Result T E) (t u : Table) (first other : List ℕ) (now : Option Mode) (cursor : Option Place) (m : Mode) (x bytes : List ℕ)
-    → ((l : List ℕ) → OnlyPaints t first now cursor m l → OnlyPaints t other now cursor m (x ++ l)) → OnlyPaintsBy answer t first now cursor m bytes → OnlyPaintsBy answer t other now cursor m (x ++ bytes)
-lifted (Ok v) t u first other now cursor m x bytes f h = f bytes h
-lifted (Err e) t u first other now cursor m x bytes f h = record { more = h.more; quiet = subst (OnlyPaints t other now cursor m) (sym (append_assoc x bytes h.more)) (f (bytes ++ h.more) h.quiet) }
+-- what is so
+so : {T E : Type 0} (answer : Result T E) (P : Type 0) → P → OnOk answer P
+so (Ok v) P p = p
+so (Err e) P p = tt
 
 -- paint in front
-pub quiets_more : {T E : Type 0} (answer : Result T E) (t : Table) (now : Option Mode) (cursor : Option Place) (m : Mode) (x bytes : List ℕ) → IsPainted t x → OnlyPaintsBy answer t [] now cursor m bytes → OnlyPaintsBy answer t [] now cursor m (x ++ bytes)
-quiets_more answer t now cursor m x bytes p = lifted answer t t [] [] now cursor m x bytes (λ l h. record {
+quiet_more : (t : Table) (now : Option Mode) (cursor : Option Place) (m : Mode) (x bytes : List ℕ) → IsPainted t x → OnlyPaints t [] now cursor m bytes → OnlyPaints t [] now cursor m (x ++ bytes)
+quiet_more t now cursor m x bytes p h = record {
   front = x ++ h.front;
   back = h.back;
   parts = ap (λ (y : List ℕ). x ++ y) h.parts ∙ sym (append_assoc x h.front (mode_text t now m ++ h.back));
   before = painted_more t x h.front p h.before;
   after = h.after;
   short = h.short;
-})
+}
 
 -- what it begins with in front
-pub quiets_first : {T E : Type 0} (answer : Result T E) (t : Table) (first : List ℕ) (now : Option Mode) (cursor : Option Place) (m : Mode) (bytes : List ℕ) → OnlyPaintsBy answer t [] now cursor m bytes → OnlyPaintsBy answer t first now cursor m (first ++ bytes)
-quiets_first answer t first now cursor m bytes = lifted answer t t [] first now cursor m first bytes (λ l h. record {
-  front = h.front;
-  back = h.back;
-  parts = ap (λ (y : List ℕ). first ++ y) h.parts;
-  before = h.before;
-  after = h.after;
-  short = h.short;
-})
+pub quiet_first : {T E : Type 0} (answer : Result T E) (t : Table) (first : List ℕ) (now : Option Mode) (cursor : Option Place) (m : Mode) (bytes : List ℕ) → OnOk answer (OnlyPaints t [] now cursor m bytes) → OnOk answer (OnlyPaints t first now cursor m (first ++ bytes))
+quiet_first answer t first now cursor m bytes h = on_ok_map answer (OnlyPaints t [] now cursor m bytes) (OnlyPaints t first now cursor m (first ++ bytes)) (λ k. record {
+  front = k.front;
+  back = k.back;
+  parts = ap (λ (y : List ℕ). first ++ y) k.parts;
+  before = k.before;
+  after = k.after;
+  short = k.short;
+}) h
 
 -- what it begins with paints
-joined : (t : Table) (first : List ℕ) (now : Option Mode) (cursor : Option Place) (m : Mode) (bytes : List ℕ) → IsPainted t first → OnlyPaints t first now cursor m bytes → OnlyPaints t [] now cursor m bytes
-joined t first now cursor m bytes p h = record {
-  front = first ++ h.front;
-  back = h.back;
-  parts = h.parts ∙ sym (append_assoc first h.front (mode_text t now m ++ h.back));
-  before = painted_more t first h.front p h.before;
-  after = h.after;
-  short = h.short;
-}
-
-pub quiets_joined : {T E : Type 0} (answer : Result T E) (t : Table) (first : List ℕ) (now : Option Mode) (cursor : Option Place) (m : Mode) (bytes : List ℕ) → IsPainted t first → OnlyPaintsBy answer t first now cursor m bytes → OnlyPaintsBy answer t [] now cursor m bytes
-quiets_joined (Ok v) t first now cursor m bytes p h = joined t first now cursor m bytes p h
-quiets_joined (Err e) t first now cursor m bytes p h = record { more = h.more; quiet = joined t first now cursor m (bytes ++ h.more) p h.quiet }
-
--- the mode's strings haven't begun
-unbegun : (t : Table) (first : List ℕ) (now : Option Mode) (cursor : Option Place) (m : Mode) (x : List ℕ) → IsPainted t x → OnlyPaintsSoFar t first now cursor m (first ++ x)
-unbegun t first now cursor m x p = record {
-  more = mode_text t now m;
-  quiet = record {
-    front = x;
-    back = [];
-    parts = append_assoc first x (mode_text t now m) ∙ ap (λ (l : List ℕ). first ++ (x ++ l)) (sym (append-nil (mode_text t now m)));
-    before = p;
-    after = painted_none t;
-    short = omega arith;
-  };
-}
-
--- nothing but what it begins with
-pub only_first : (t : Table) (first : List ℕ) (now : Option Mode) (cursor : Option Place) (m : Mode) → OnlyPaintsSoFar t first now cursor m first
-only_first t first now cursor m = subst (OnlyPaintsSoFar t first now cursor m) (append-nil first) (unbegun t first now cursor m [] (painted_none t))
+pub quiet_joined : {T E : Type 0} (answer : Result T E) (t : Table) (first : List ℕ) (now : Option Mode) (cursor : Option Place) (m : Mode) (bytes : List ℕ) → IsPainted t first → OnOk answer (OnlyPaints t first now cursor m bytes) → OnOk answer (OnlyPaints t [] now cursor m bytes)
+quiet_joined answer t first now cursor m bytes p h = on_ok_map answer (OnlyPaints t first now cursor m bytes) (OnlyPaints t [] now cursor m bytes) (λ k. record {
+  front = first ++ k.front;
+  back = k.back;
+  parts = k.parts ∙ sym (append_assoc first k.front (mode_text t now m ++ k.back));
+  before = painted_more t first k.front p k.before;
+  after = k.after;
+  short = k.short;
+}) h
 
 -- ---- the steps of a refresh
 
@@ -147,7 +97,7 @@ sets_last went failures laws a m z v answer t j k limit now cursor mode A B C le
             (leads_then (IsPiece t) j k (IsLost t) A B D h.step.bytes steps.bytes h.step.leads (leads_each (IsPaint t) (IsPiece t) k (IsLost t) B D steps.bytes (paint_piece t) steps.leads));
         sends = sends_then went failures laws a m z h.step.bytes steps.bytes answer h.step.sends steps.sends;
       };
-      quiet = quiets_all answer t [] now cursor mode (h.step.bytes ++ steps.bytes) (record {
+      quiet = so answer (OnlyPaints t [] now cursor mode (h.step.bytes ++ steps.bytes)) (record {
         front = [];
         back = steps.bytes;
         parts = ap (λ (l : List ℕ). l ++ steps.bytes) h.all;
@@ -166,10 +116,7 @@ sets_unfinished went failures a z v u t j limit now cursor mode A B C le h = rec
     leads = leads_wider (IsPiece t) j limit (IsLost t) A (IsLost t) A (IsLost t) h.step.bytes le (λ s x. x) (λ s x. x) h.step.leads;
     sends = h.step.sends;
   };
-  quiet = record {
-    more = h.all.0;
-    quiet = record { front = []; back = []; parts = sym h.all.1 ∙ sym (append-nil (mode_text t now mode)); before = painted_none t; after = painted_none t; short = omega arith };
-  };
+  quiet = tt;
 }
 
 -- what paints before them was cut short
@@ -182,7 +129,7 @@ sets_cut went failures a z v u t j limit now cursor mode A B C le h = record {
         (leads_each (IsPaint t) (IsPiece t) j (IsLost t) A (IsLost t) h.bytes (paint_piece t) h.leads);
     sends = h.sends;
   };
-  quiet = unbegun t [] now cursor mode h.bytes (painted t j (IsLost t) A (IsLost t) h.bytes h.leads);
+  quiet = tt;
 }
 
 -- other bytes first
@@ -198,7 +145,7 @@ sets_after went failures laws a m z v answer t j k limit now cursor mode A B C l
             (leads_then (IsPiece t) j k (IsLost t) A B D h.bytes s.step.bytes (leads_each (IsPaint t) (IsPiece t) j (IsLost t) A B h.bytes (paint_piece t) h.leads) s.step.leads);
         sends = sends_then went failures laws a m z h.bytes s.step.bytes answer h.sends s.step.sends;
       };
-      quiet = quiets_more answer t now cursor mode h.bytes s.step.bytes (painted t j (IsLost t) A B h.bytes h.leads) s.quiet;
+      quiet = on_ok_map answer (OnlyPaints t [] now cursor mode s.step.bytes) (OnlyPaints t [] now cursor mode (h.bytes ++ s.step.bytes)) (quiet_more t now cursor mode h.bytes s.step.bytes (painted t j (IsLost t) A B h.bytes h.leads)) s.quiet;
     }
 
 -- under a greater limit

@@ -22,15 +22,15 @@ use Rattle.cur_looks.specs.declared.beliefs.Mode.TheVariants.{Normal}
 use Rattle.cur_looks.proofs.Turns.{free_of, by_screen, look_at-drawn, stands_at}
 use Rattle.cur_paint.specs.Cleared.{IsLeft, at_start, cleared}
 use Rattle.cur_paint.specs.Limits.{fresh_limit, IsPlaced, paint_limit}
-use Rattle.cur_paint.specs.Modes.{OnlyPaintsBy}
+use Rattle.cur_paint.specs.Modes.{OnlyPaints}
 use Rattle.cur_paint.specs.Scenes.{Sets}
 use Rattle.cur_paint.specs.Update.{Anew, Draws, IsFresh}
 use Rattle.cur_paint.specs.declared.updates.Wanted.{Wanted}
 use Rattle.cur_paint.specs.declared.updates.Status.{Status}
 use Rattle.cur_paint.specs.declared.updates.Status.TheVariants.{Fresh, Known, Lost}
 use Rattle.cur_looks.proofs.Actions.{line_leads}
-use Rattle.cur_paint.proofs.ModeFacts.{only_first, quiets_first}
-use Rattle.cur_paint.proofs.Reaches.{blank_agrees}
+use Rattle.cur_paint.proofs.ModeFacts.{quiet_first}
+use Rattle.cur_paint.proofs.Agreeing.{blank_agrees}
 
 -- the first bytes were cut short
 pub anew_failed : {W T E : Type 0} (went : W → W → List ℕ → Type 0) (failures : W → ℕ) (a z : W) (v : E) (t : Table) (limit : ℕ) (A B C : State → Type 0) (first : List ℕ) (now : Option Mode) (w : Wanted) → ((s : State) → B s → IsLost t s) → length first ≤ limit
@@ -42,7 +42,7 @@ anew_failed went failures a z v t limit A B C first now w lost le h stops = reco
     sends = stops;
   };
   begins = record { more = []; begins = sym (append-nil first) };
-  quiet = only_first t first now w.cursor w.mode;
+  quiet = tt;
 }
 
 -- they went out, and all was painted
@@ -59,7 +59,7 @@ anew_then went failures laws a m z answer t limit A B C first now w k le h sent 
         sends = sends_then went failures laws a m z first steps.bytes answer sent steps.sends;
       };
       begins = record { more = steps.bytes; begins = refl };
-      quiet = quiets_first answer t first now w.cursor w.mode steps.bytes rest.quiet;
+      quiet = quiet_first answer t first now w.cursor w.mode steps.bytes rest.quiet;
     }
 
 pub resync_leads : (t : Table) → IsChecked t → (mode : Option Mode) → Leads (IsPiece t) (length t.resync) (IsLost t) (IsLeft t mode) t.resync (Agrees t (λ i j. blank_ink) (at_start mode))
@@ -144,5 +144,5 @@ draws_clear went failures a z answer t shown g w status b after e f line is n le
       begins = record { line = line; is = is; begins = h.begins };
       there = there;
       mode = mode;
-      quiet = subst (λ (l : List ℕ). OnlyPaintsBy answer t l b.mode w.cursor w.mode h.step.bytes) (sym (ap or_nothing is)) h.quiet;
+      quiet = subst (λ (l : List ℕ). OnOk answer (OnlyPaints t l b.mode w.cursor w.mode h.step.bytes)) (sym (ap or_nothing is)) h.quiet;
     }))

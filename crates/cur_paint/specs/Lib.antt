@@ -2,6 +2,7 @@ pub mod Differ
 pub mod Blanks
 pub mod Limits
 pub mod Modes
+pub mod Lasting
 pub mod Cleared
 pub mod Scenes
 pub mod Update

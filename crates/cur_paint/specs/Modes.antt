@@ -1,6 +1,6 @@
 -- The strings of a refresh that show the cursor in the mode that is wanted, and the bytes around them (X/Open Curses
 -- Issue 7, curs_set).
-use Rattle.std.specs.Prelude.{ℕ, ◌≤◌, ◌≡◌, List, ◌++◌, length, Option, Some, None, Result, Ok, Err}
+use Rattle.std.specs.Prelude.{ℕ, ◌≤◌, ◌≡◌, List, ◌++◌, length, Option, Some, None}
 use Rattle.std.specs.List.{AllByRecursion, concat}
 use Rattle.ti_conforms.specs.Certified.{Table}
 use Rattle.cur_looks.specs.Pieces.{IsPaint}
@@ -23,18 +23,6 @@ abbrev pub move_limit : Table → Option Place → ℕ
 move_limit t None = 0
 move_limit t (Some p) = t.longest.cup
 
--- the text, and at most so many bytes after it
-pub record IsNearEnd (limit : ℕ) (text bytes : List ℕ) : Type 0 where
-  pub front : List ℕ
-  pub back : List ℕ
-  pub parts : bytes ≡ front ++ (text ++ back)
-  pub short : length back ≤ limit
-
--- the strings that show the cursor in the mode that is wanted go out one after the other, none if it is known to be
--- shown so (now), and after them no more than the move to the cursor's place
-abbrev pub SetsMode : Table → Option Mode → Option Place → Mode → List ℕ → Type 0
-SetsMode t now cursor m bytes = IsNearEnd (move_limit t cursor) (mode_text t now m) bytes
-
 -- characters and the lines of rows that paint, one after another
 pub record IsPainted (t : Table) (bytes : List ℕ) : Type 0 where
   pub pieces : List (List ℕ)
@@ -51,19 +39,8 @@ pub record PaintsAround (t : Table) (limit : ℕ) (first strings bytes : List �
   pub after : IsPainted t back
   pub short : length back ≤ limit
 
--- Nothing goes out that wasn't asked for: after what a refresh begins with, it paints, and the strings that show the
--- cursor in the mode that is wanted go out once, none if it is known to be shown so (now).
+-- A refresh sends nothing that wasn't asked for: it begins with these bytes (first), and then it paints. The strings
+-- that show the cursor in the mode that is wanted go out once, none if it is known to be shown so (now), and no more than
+-- the move to the cursor's place goes out after them.
 abbrev pub OnlyPaints : Table → List ℕ → Option Mode → Option Place → Mode → List ℕ → Type 0
 OnlyPaints t first now cursor m bytes = PaintsAround t (move_limit t cursor) first (mode_text t now m) bytes
-
--- a front of such a text
-pub record OnlyPaintsSoFar (t : Table) (first : List ℕ) (now : Option Mode) (cursor : Option Place) (m : Mode)
-    (bytes : List ℕ) : Type 0 where
-  pub more : List ℕ
-  pub quiet : OnlyPaints t first now cursor m (bytes ++ more)
-
--- such a text, or a front of it where the wire failed
-abbrev pub OnlyPaintsBy : {T E : Type 0} → Result T E → Table → List ℕ → Option Mode → Option Place → Mode → List ℕ
-    → Type 0
-OnlyPaintsBy (Ok x) t first now cursor m bytes = OnlyPaints t first now cursor m bytes
-OnlyPaintsBy (Err e) t first now cursor m bytes = OnlyPaintsSoFar t first now cursor m bytes

@@ -13,7 +13,7 @@ use Rattle.cur_looks.specs.declared.inks.Cells.{Cells}
 use Rattle.cur_looks.specs.declared.inks.Ink.{Ink}
 use Rattle.cur_paint.specs.Differ.{differs, span, all_differ}
 use Rattle.cur_paint.specs.Limits.{paint_limit}
-use Rattle.cur_paint.specs.Modes.{OnlyPaintsBy}
+use Rattle.cur_paint.specs.Modes.{OnlyPaints}
 use Rattle.cur_paint.specs.declared.screens.Screens.{Screens}
 
 -- a certificate's table, the cells that its terminal shows, and those that it is to show
@@ -127,7 +127,7 @@ pub record Sets {W T E : Type 0} (went : W → W → List ℕ → Type 0) (failu
     (answer : Result T E) (t : Table) (limit : ℕ) (now : Option Mode) (cursor : Option Place) (mode : Mode)
     (before after : State → Type 0) : Type 0 where
   pub step : Steps went failures old new answer (IsPiece t) limit (IsLost t) before after
-  pub quiet : OnlyPaintsBy answer t [] now cursor mode step.bytes
+  pub quiet : OnOk answer (OnlyPaints t [] now cursor mode step.bytes)
 
 -- all becomes new, and then the cursor gets its mode and its place
 abbrev pub Paints : {W T E : Type 0} → (W → W → List ℕ → Type 0) → (W → ℕ) → W → W → Result T E → Scene

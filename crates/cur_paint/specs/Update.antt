@@ -5,7 +5,8 @@ use Rattle.vt_term.specs.Grid.{look_at}
 use Rattle.vt_term.specs.Screen.{State}
 use Rattle.vt_term.specs.Ends.{Ends}
 use Rattle.cur_wires.specs.Steps.{Steps}
-use Rattle.cur_wires.specs.Wire.{Rose}
+use Rattle.cur_wires.specs.Leads.{Leads}
+use Rattle.cur_wires.specs.Wire.{Rose, Sends}
 use Rattle.ti_rows.specs.declared.rows.Row.TheVariants.{Clear}
 use Rattle.ti_conforms.specs.Certified.{Table, IsLost, IsWhole, IsPiece, text_of}
 use Rattle.cur_looks.specs.Inks.{look_of}
@@ -14,7 +15,7 @@ use Rattle.cur_looks.specs.declared.beliefs.Belief.{Belief}
 use Rattle.cur_looks.specs.declared.beliefs.Mode.{Mode}
 use Rattle.cur_looks.specs.declared.inks.Ink.{Ink}
 use Rattle.cur_paint.specs.Limits.{paint_limit, fresh_limit, IsCursor, IsPlaced}
-use Rattle.cur_paint.specs.Modes.{OnlyPaints, OnlyPaintsSoFar, OnlyPaintsBy, SetsMode, shown_mode}
+use Rattle.cur_paint.specs.Modes.{OnlyPaints, shown_mode}
 use Rattle.cur_paint.specs.declared.updates.Wanted.{Wanted}
 use Rattle.cur_paint.specs.declared.updates.Knowledge.{Knowledge}
 use Rattle.cur_paint.specs.declared.updates.Status.{Status}
@@ -64,8 +65,8 @@ opening t Known false = []
 opening t Fresh clear = t.resync
 opening t Lost clear = t.resync
 
--- Characters and lines that begin so, and lead each state of the kind to one that shows the screen. Where the cursor
--- isn't known to be shown in its mode (now), the strings for that are among them.
+-- Characters and lines that begin so, send nothing that wasn't asked for, and lead each state of the kind to one that
+-- shows the screen. Where the cursor isn't known to be shown in its mode (now), the strings for that are among them.
 pub record Lawful (t : Table) (kind : State → Type 0) (status : Status) (now : Option Mode) (bytes : List ℕ)
     (g : ℕ → ℕ → Ink) (w : Wanted) : Type 0 where
   pub pieces : List (List ℕ)
@@ -73,7 +74,7 @@ pub record Lawful (t : Table) (kind : State → Type 0) (status : Status) (now :
   pub each : AllByRecursion (IsPiece t) pieces
   pub begins : Begins t status w.clear bytes
   pub shows : (s : State) → kind s → Ends s bytes (Shows t g w)
-  pub sets : SetsMode t now w.cursor w.mode bytes
+  pub quiet : OnlyPaints t (opening t status w.clear) now w.cursor w.mode bytes
 
 abbrev pub refresh_limit : Table → (ℕ → ℕ → Ink) → (ℕ → ℕ → Ink) → Status → Belief → Wanted → ℕ
 refresh_limit t shown g Known b w = if w.clear then fresh_limit t else paint_limit t shown g b w.cursor w.mode
@@ -88,7 +89,8 @@ pub record Draws {W T E : Type 0} (went : W → W → List ℕ → Type 0) (fail
   pub begins : Begins t status w.clear step.bytes
   pub there : OnOk answer (IsPlaced t.cols w.cursor after.place)
   pub mode : OnOk answer (after.mode ≡ Some w.mode)
-  pub quiet : OnlyPaintsBy answer t (opening t status w.clear) (shown_mode status b.mode) w.cursor w.mode step.bytes
+  pub quiet : OnOk answer
+      (OnlyPaints t (opening t status w.clear) (shown_mode status b.mode) w.cursor w.mode step.bytes)
 
 -- the same from one kind of states, with the most that goes out, what it begins with, and the mode in which the cursor
 -- is known to be shown before
@@ -97,10 +99,23 @@ pub record Anew {W T E : Type 0} (went : W → W → List ℕ → Type 0) (failu
     (now : Option Mode) (w : Wanted) : Type 0 where
   pub step : Steps went failures old new answer (IsPiece t) limit (IsLost t) before after
   pub begins : BeginsWith first step.bytes
-  pub quiet : OnlyPaintsBy answer t first now w.cursor w.mode step.bytes
+  pub quiet : OnOk answer (OnlyPaints t first now w.cursor w.mode step.bytes)
+
+-- all that a refresh is to send; it went out, or only a front of it did, by the answer
+pub record Made {W T E : Type 0} (went : W → W → List ℕ → Type 0) (failures : W → ℕ) (old new : W)
+    (answer : Result T E) (t : Table) (shown g : ℕ → ℕ → Ink) (w : Wanted) (status : Status)
+    (b after : Belief) : Type 0 where
+  pub bytes : List ℕ
+  pub sends : Sends went failures old new bytes answer
+  pub leads : Leads (IsPiece t) (refresh_limit t shown g status b w) (IsLost t) (Fits t shown status b) bytes
+      (Agrees t g after)
+  pub begins : Begins t status w.clear bytes
+  pub there : IsPlaced t.cols w.cursor after.place
+  pub mode : after.mode ≡ Some w.mode
+  pub quiet : OnlyPaints t (opening t status w.clear) (shown_mode status b.mode) w.cursor w.mode bytes
 
 -- A refresh that was done: every state that fits before, run over what went out, shows the screen and fits after. The
--- bytes are lawful, send nothing that wasn't asked for, and keep the bound.
+-- bytes are lawful, and keep the bound.
 pub record Refreshed {W : Type 0} (went : W → W → List ℕ → Type 0) (old new : W) (t : Table) (shown g : ℕ → ℕ → Ink)
     (w : Wanted) (before after : Knowledge) : Type 0 where
   pub bytes : List ℕ
@@ -108,8 +123,6 @@ pub record Refreshed {W : Type 0} (went : W → W → List ℕ → Type 0) (old 
   pub bound : length bytes ≤ refresh_limit t shown g before.status before.belief w
   pub lawful : Lawful t (Fits t shown before.status before.belief) before.status
       (shown_mode before.status before.belief.mode) bytes g w
-  pub quiet : OnlyPaints t (opening t before.status w.clear) (shown_mode before.status before.belief.mode) w.cursor w.mode
-      bytes
   pub fits : (s : State) → Fits t shown before.status before.belief s → Ends s bytes (Fits t g Known after.belief)
   -- a front of them leads to a state that fits a lost session
   pub cut : (front back : List ℕ) → bytes ≡ front ++ back → (s : State) → Fits t shown before.status before.belief s
@@ -129,8 +142,6 @@ pub record CutShort {W : Type 0} (went : W → W → List ℕ → Type 0) (failu
   pub bound : length front ≤ refresh_limit t shown g before.status before.belief w
   pub lawful : Lawful t (Fits t shown before.status before.belief) before.status
       (shown_mode before.status before.belief.mode) (front ++ back) g w
-  pub quiet : OnlyPaintsSoFar t (opening t before.status w.clear) (shown_mode before.status before.belief.mode) w.cursor
-      w.mode front
   pub fits : (s : State) → Fits t shown before.status before.belief s → Ends s front (IsLost t)
   -- and so does a front of this front
   pub cut : (x y : List ℕ) → front ≡ x ++ y → (s : State) → Fits t shown before.status before.belief s

@@ -7,6 +7,7 @@ mod clears;
 mod counts;
 mod cursors;
 mod endings;
+mod lasting;
 mod laws;
 mod parts;
 mod rows;

@@ -9,12 +9,13 @@ ghost use Rattle.cur_paint.specs.declared.updates.Status.TheVariants.{Fresh};
 ghost use Rattle.cur_paint.specs.Cleared.{IsLeft, at_corner, at_start, cleared};
 ghost use Rattle.cur_paint.specs.Differ.{all_differ};
 ghost use Rattle.cur_paint.specs.Scenes.{IsPaintable, Paints, all_changed, scene};
-ghost use Rattle.cur_paint.specs.Update.{Anew, Draws, Refreshes};
+ghost use Rattle.cur_paint.specs.Update.{Anew, Draws, Made, Refreshes};
 
 use crate::changes::{Changes, Whole};
 use crate::clears::{may_become_blanks, saves};
 use crate::counts::{count_cells, differ_in_more};
 use crate::cursors::paint;
+use crate::lasting::Lasting;
 use crate::screens::Screens;
 use crate::scrolls::{scroll_first, useful_scroll};
 use cur_looks::{Belief, Blank, Brush, Ink, Mode, Picture, Place, Row};
@@ -256,6 +257,33 @@ fn draw<C: Certificate, O: Picture, N: Picture, D: Changes, W: Wire>(
     }
 }
 
+/// As `draw`, and to the end even where the wire fails: a front of all that was to be sent goes out then.
+fn draw_whole<C: Certificate, O: Picture, N: Picture, D: Changes, W: Wire>(
+    screens: &Screens<'_, C, O, N>,
+    status: Status,
+    belief: &mut Belief,
+    wire: &mut W,
+    changes: &D,
+    wanted: Wanted,
+) -> Result<(), WireFault>
+    requires scene { IsPaintable (scene C.table O.cells N.cells screens.now) }
+    requires changes { D.between changes.now (O.cells screens.now.old.now) (N.cells screens.now.new.now) }
+    requires cursor { IsWithin (C.table screens.now.checked.now) wanted.cursor }
+    requires lines { CanHide (C.table screens.now.checked.now) wanted.mode }
+    ensures made { Made W.went W.failures wire.old wire.new result (C.table screens.now.checked.now)
+        (O.cells screens.now.old.now) (N.cells screens.now.new.now) wanted status belief.old belief.new }
+{
+    let mut lasting = Lasting {
+        wire,
+        failed: false,
+    };
+    draw(screens, status, belief, &mut lasting, changes, wanted)?;
+    if lasting.failed {
+        return Err(WireFault);
+    }
+    Ok(())
+}
+
 /// Makes the terminal show the new one of the `screens`, with the cursor as `wanted` says. The old one is what it
 /// shows, where that is known by `session`; only the columns that may differ by `changes` are looked at, unless much
 /// of the screen becomes blank. On `WireFault` a front of lawful bytes went out, and the session is lost.
@@ -277,7 +305,7 @@ pub fn update<C: Certificate, O: Picture, N: Picture, D: Changes, W: Wire>(
     let _ = screens.checked.rows();
     let status = session.status;
     session.status = Status::Lost;
-    draw(screens, status, &mut session.belief, wire, changes, wanted)?;
+    draw_whole(screens, status, &mut session.belief, wire, changes, wanted)?;
     session.status = Status::Known;
     Ok(())
 }

@@ -11,7 +11,7 @@ use Rattle.cur_wires.specs.declared.wires.WireFault.{WireFault}
 use Rattle.cur_looks.specs.declared.beliefs.Mode.{Mode}
 use Rattle.cur_looks.specs.declared.inks.Ink.{Ink}
 use Rattle.cur_paint.specs.Beep.{RangShort}
-use Rattle.cur_paint.specs.Modes.{OnlyPaints, OnlyPaintsSoFar, SetsMode, shown_mode}
+use Rattle.cur_paint.specs.Modes.{OnlyPaints, shown_mode}
 use Rattle.cur_paint.specs.Update.{Lawful, opening}
 use Rattle.cur_paint.specs.declared.updates.Status.{Status}
 use Rattle.cur_paint.specs.declared.updates.Status.TheVariants.{Fresh, Known, Lost}
@@ -25,7 +25,7 @@ use Rattle.cur_calls.specs.declared.calls.Call.{Call}
 use Rattle.cur_play.proofs.Performances.{draws_answer}
 use Rattle.cur_play.specs.Deliveries.{FitsIn}
 use Rattle.cur_play.specs.Drawings.{Drawn}
-use Rattle.cur_play.specs.Log.{Emits, PaintsAs, Says}
+use Rattle.cur_play.specs.Log.{Emits, Says}
 use Rattle.cur_play.specs.Outputs.{Puts, Told}
 use Rattle.cur_play.specs.Scenes.{Scene}
 use Rattle.cur_play.specs.Steps.{CallStep, Stepped, NoRoom, Failed, Step, drawn, is_sent, output_of, rung, sent, call_step, then_sent}
@@ -107,8 +107,8 @@ rung_short {W} {C} went failures old new t before after e fault is h shown =
 narrowed : (t : Table) (A B : State → Type 0) (status : Status) (m n : Option Mode) (x y : List ℕ) (g : ℕ → ℕ → Ink) (w : Wanted) → ((s : State) → B s → A s) → m ≡ n → x ≡ y → Lawful t A status m x g w → Lawful t B status n y g w
 narrowed t A B status m n x y g w f same e h =
     let P : List ℕ → Type 0 = λ b. Lawful t B status n b g w in
-    let Q : Option Mode → Type 0 = λ o. SetsMode t o w.cursor w.mode x in
-    subst P e (record { pieces = h.pieces; made = h.made; each = h.each; begins = h.begins; shows = λ s b. h.shows s (f s b); sets = subst Q same h.sets })
+    let Q : Option Mode → Type 0 = λ o. OnlyPaints t (opening t status w.clear) o w.cursor w.mode x in
+    subst P e (record { pieces = h.pieces; made = h.made; each = h.each; begins = h.begins; shows = λ s b. h.shows s (f s b); quiet = subst Q same h.quiet })
 
 -- the mode matters in a known session alone
 pub shown_same : (status : Status) (m n : Option Mode) → (status ≡ Known → m ≡ n) → shown_mode status m ≡ shown_mode status n
@@ -118,28 +118,6 @@ shown_same Lost m n h = refl
 
 not_sent : false ≡ true → ⊥
 not_sent e = cc
-
--- a refresh only paints
-pub painted_only : {W C : Type 0} (went : W → W → List ℕ → Type 0) (failures : W → ℕ) (old new : W) (t : Table) (partners : ℕ → Option ℕ) (v : Screen) (o : Emission) (answer : Answer) (bytes : List ℕ) (before after : Painted C)
-    (now : Option Mode) → shown_mode before.session.status before.session.belief.mode ≡ now → Puts went failures old new t partners v o answer bytes before after → o ≡ Update
-    → PaintsAs answer t before.session.status now (wanted_of v before.mode) bytes
-painted_only {W} {C} went failures old new t partners v o answer bytes before after now same p e =
-    let P : Emission → Type 0 = λ x. Puts went failures old new t partners v x answer bytes before after in
-    let status = before.session.status in
-    let w = wanted_of v before.mode in
-    let Q : Option Mode → Type 0 = λ n. PaintsAs answer t status n w bytes in
-    subst Q same (by_answer answer (subst P e p))
-  where
-    by_answer : (answer : Answer) → Puts went failures old new t partners v Update answer bytes before after
-        → PaintsAs answer t before.session.status (shown_mode before.session.status before.session.belief.mode) (wanted_of v before.mode) bytes
-    by_answer Done p =
-        let w = wanted_of v before.mode in
-        subst (OnlyPaints t (opening t before.session.status w.clear) (shown_mode before.session.status before.session.belief.mode) w.cursor w.mode) (sym p.all) p.refreshed.quiet
-    by_answer WireFailed p =
-        let w = wanted_of v before.mode in
-        subst (OnlyPaintsSoFar t (opening t before.session.status w.clear) (shown_mode before.session.status before.session.belief.mode) w.cursor w.mode) (sym p.all) p.cut.quiet
-    by_answer (Was n) p = tt
-    by_answer (Refused r) p = tt
 
 -- from the states that may be met to some of them
 pub emitted : {W C : Type 0} (went : W → W → List ℕ → Type 0) (failures : W → ℕ) (old new : W) (t : Table) (partners : ℕ → Option ℕ) (v : Screen) (o : Emission) (answer : Answer) (bytes : List ℕ) (before after : Painted C)

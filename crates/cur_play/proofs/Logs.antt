@@ -23,7 +23,7 @@ use Rattle.cur_paint.specs.declared.updates.Status.TheVariants.{Fresh, Known}
 use Rattle.cur_update.specs.Inks.{ink_at}
 use Rattle.cur_update.specs.Painters.{Painted, wanted_of}
 use Rattle.cur_calls.specs.declared.calls.Call.{Call}
-use Rattle.cur_play.proofs.Failures.{call_rose, cut_sends, emitted, painted_only, rose_sooner, shown_same}
+use Rattle.cur_play.proofs.Failures.{call_rose, cut_sends, emitted, rose_sooner, shown_same}
 use Rattle.cur_play.specs.Deliveries.{Carries, FitsIn, IsLast, IsSettled, IsShown}
 use Rattle.cur_play.specs.Log.{IsAfter, Moment, Plays, Subject, Tells, is_shown, last_after, mode_after, first_moment, subject_at}
 use Rattle.cur_play.specs.Outputs.{poised}
@@ -194,9 +194,6 @@ log_more {W} {V} {C} about laws wire count a m n z calls i call before after log
           (IsAfter t l.bytes) (shown_mode before.painter.session.status (Some l.last_mode)) known
           (shown_same before.painter.session.status before.painter.session.belief.mode (Some l.last_mode) l.settled)
           (cut_sends t (scene_of before) call answer (scene_of after) step) carries.puts;
-      quiet = painted_only {W = V} (λ x y c. Counts about.went (wire x) (wire y) (count x) (count y) c) (λ x. about.failures (wire x).now) m n t about.partners d.screen (output_of call) answer b (poised t before call) after.painter
-          (shown_mode before.painter.session.status (Some l.last_mode))
-          (shown_same before.painter.session.status before.painter.session.belief.mode (Some l.last_mode) l.settled) carries.puts;
       rests = rests;
       failed = λ k. rose_sooner (about.failures (wire m).now) (about.failures (wire n).now) (about.failures (wire z).now)
           (call_rose {W = V} (λ x y c. Counts about.went (wire x) (wire y) (count x) (count y) c) (λ x. about.failures (wire x).now) m n t about.partners d.screen call (scene_of before) (scene_of after) answer b (poised t before call) after.painter step carries.puts k)

@@ -61,7 +61,6 @@ tells_over went failures rests tells fails f IsWell k t partners before call e a
   bytes = h.bytes;
   counted = h.counted;
   emits = h.emits;
-  quiet = h.quiet;
   rests = tt;
   failed = λ a. k.rises before.wire after.wire w (h.failed a);
   takes = h.takes;

@@ -11,10 +11,9 @@ use Rattle.cur_wires.specs.Wire.{Rose}
 use Rattle.cur_looks.specs.declared.beliefs.Mode.{Mode}
 use Rattle.cur_paint.specs.Finish.{finish_text}
 use Rattle.cur_paint.specs.Limits.{IsCursor, fresh_limit}
-use Rattle.cur_paint.specs.Modes.{OnlyPaints, OnlyPaintsSoFar, shown_mode}
-use Rattle.cur_paint.specs.Update.{IsFresh, Lawful, Shows, opening}
+use Rattle.cur_paint.specs.Modes.{shown_mode}
+use Rattle.cur_paint.specs.Update.{IsFresh, Lawful, Shows}
 use Rattle.cur_paint.specs.declared.updates.Status.{Status}
-use Rattle.cur_paint.specs.declared.updates.Wanted.{Wanted}
 use Rattle.cur_paint.specs.declared.updates.Status.TheVariants.{Known}
 use Rattle.cur_update.specs.Differ.{in_lines}
 use Rattle.cur_update.specs.Inks.{ink_at}
@@ -101,12 +100,6 @@ Emits says Done bytes = says bytes
 Emits says WireFailed bytes = IsFront says bytes
 Emits says answer bytes = bytes ≡ []
 
--- by the answer of a refresh: it only paints, and shows the cursor in its mode
-abbrev pub PaintsAs : Answer → Table → Status → Option Mode → Wanted → List ℕ → Type 0
-PaintsAs Done t status now w bytes = OnlyPaints t (opening t status w.clear) now w.cursor w.mode bytes
-PaintsAs WireFailed t status now w bytes = OnlyPaintsSoFar t (opening t status w.clear) now w.cursor w.mode bytes
-PaintsAs answer t status now w bytes = Unit {0}
-
 -- ---- what was shown last, and the most that a refresh sends
 
 -- the virtual screen was shown
@@ -153,13 +146,6 @@ Due about before call =
     let now = shown_mode before.scene.status (Some before.last_mode) in
     Says t about.partners (IsAfter t before.bytes) before.scene.status now d.screen d.mode (output_of call)
 
--- a refresh sends nothing then that wasn't asked for
-abbrev pub PaintsAt : {W : Type 0} → Subject W → Moment W → Call → Answer → List ℕ → Type 0
-PaintsAt about before call answer bytes =
-    let d = scene_at about before call in
-    let now = shown_mode before.scene.status (Some before.last_mode) in
-    PaintsAs answer about.table before.scene.status now (wanted_of d.screen d.mode) bytes
-
 -- the most that a refresh sends then
 abbrev pub most_at : {W : Type 0} → Subject W → Moment W → Call → ℕ
 most_at about before call =
@@ -194,8 +180,6 @@ pub record Tells {W : Type 0} (about : Subject W) (before : Moment W) (call : Ca
   pub counted : e.sent ≡ length after.bytes
   -- that is what the call is to send, a front of it where it was cut short, and nothing where it was refused
   pub emits : Emits (Due about before call) e.answer piece
-  -- a refresh, done or cut short, sends nothing that wasn't asked for
-  pub quiet : output_of call ≡ Update → PaintsAt about before call e.answer piece
   -- nothing is held back after it, where that is promised
   pub rests : about.rests after.wire
   -- no call is cut short but by a wire that failed in it

@@ -20,11 +20,3 @@ pub record Leads (IsPiece : List ℕ → Type 0) (limit : ℕ) (between before :
 pub data Meets (a b c d : List ℕ) : Type 0 where
   Within : (x : List ℕ) → a ≡ c ++ x → d ≡ x ++ b → Meets a b c d
   Past : (x : List ℕ) → c ≡ a ++ x → b ≡ x ++ d → Meets a b c d
-
--- some pieces lead from one kind of state to another, whatever their bytes and their number
-pub record Reaches (IsPiece : List ℕ → Type 0) (before after : State → Type 0) : Type 0 where
-  pub bytes : List ℕ
-  pub pieces : List (List ℕ)
-  pub made : bytes ≡ concat pieces
-  pub each : AllByRecursion IsPiece pieces
-  pub ends : (s : State) → before s → Ends s bytes after

@@ -3,7 +3,7 @@ use Rattle.cur_paint.specs.Cleared.{at_corner, cleared}
 use Rattle.cur_paint.specs.Limits.{paint_limit}
 use Rattle.cur_paint.proofs.Bounds.{fresh_enough}
 use Rattle.ti_rows.specs.declared.rows.Row.TheVariants.{Clear}
-use Rattle.cur_paint.proofs.Reaches.{IsThere, there}
+use Rattle.cur_paint.proofs.Agreeing.{IsThere, there}
 use Rattle.cur_paint.proofs.Renewals.{draws_fresh, draws_lost, draws_known, draws_clear}
 use Rattle.cur_paint.proofs.updates.draw.Goals as goal
 

@@ -8,8 +8,8 @@ use Rattle.cur_looks.specs.Pieces.{Stroke}
 use Rattle.cur_paint.specs.Limits.{paint_limit}
 use Rattle.cur_paint.specs.Modes.{IsPainted}
 use Rattle.cur_paint.proofs.Bounds.{fewer_enough}
-use Rattle.cur_paint.proofs.ModeFacts.{quiets_joined, sets_wider}
-use Rattle.cur_paint.proofs.Reaches.{IsThere, there}
+use Rattle.cur_paint.proofs.ModeFacts.{quiet_joined, sets_wider}
+use Rattle.cur_paint.proofs.Agreeing.{IsThere, there}
 use Rattle.cur_paint.proofs.updates.mend.Goals as goal
 
 painted_line : (t : Table) (bytes : List ℕ) → t.line_of Clear ≡ Some bytes → IsPainted t bytes
@@ -28,4 +28,4 @@ returns-then-is_better_cleared-clause-step g c =
     let anew = c.clear_first.ensures.step k.bytes k.is old in
     sets_wider g.W.Wire.went g.W.Wire.failures c.args.wire.now c.clear_first.new.wire c.clear_first.result t (length k.bytes + paint_limit t blank new (at_corner b) w.cursor w.mode) (paint_limit t old new b w.cursor w.mode) b.mode w.cursor w.mode
     (Agrees t old b) (Agrees t new after)
-    (fewer_enough t (length k.bytes) blank old new b (at_corner b) w.cursor w.mode (c.is_better_cleared.ensures.fewer c.if-is_better_cleared.true k.bytes k.is)) (record { step = anew.step; quiet = quiets_joined c.clear_first.result t k.bytes b.mode w.cursor w.mode anew.step.bytes (painted_line t k.bytes k.is) anew.quiet })
+    (fewer_enough t (length k.bytes) blank old new b (at_corner b) w.cursor w.mode (c.is_better_cleared.ensures.fewer c.if-is_better_cleared.true k.bytes k.is)) (record { step = anew.step; quiet = quiet_joined c.clear_first.result t k.bytes b.mode w.cursor w.mode anew.step.bytes (painted_line t k.bytes k.is) anew.quiet })

@@ -1,0 +1,36 @@
+//! A wire that goes on where another one fails.
+use cur_wires::{Wire, WireFault};
+
+/// A wire over another one, which never fails: once the inner one has failed, it takes all that it is handed, and
+/// nothing of that goes out. So a refresh is made up to its end, and only a front of it has gone out.
+#[derive(Drop)]
+pub(crate) struct Lasting<'a, W> {
+    /// What the bytes go out on.
+    pub wire: &'a mut W,
+    /// Whether that has failed.
+    pub failed: bool,
+}
+
+impl<'a, W: Wire> Wire for Lasting<'a, W> {
+    ghost use Rattle.cur_paint.specs.Lasting.{Lasts, lasts_lawful};
+
+    ghost went = { λ a b x. Lasts W.went W.failures a.wire b.wire a.failed b.failed x };
+
+    ghost failures = { λ a. 0 };
+
+    /// Sends on the inner wire, unless that has failed, and takes all where it fails.
+    fn send(&mut self, piece: &[u8]) -> Result<usize, WireFault> {
+        if self.failed {
+            return Ok(piece.len());
+        }
+        match self.wire.send(piece) {
+            Ok(taken) => Ok(taken),
+            Err(_) => {
+                self.failed = true;
+                Ok(piece.len())
+            }
+        }
+    }
+
+    ghost lawful = { lasts_lawful W.went W.failures W.lawful (λ c. c.wire) (λ c. c.failed) };
+}
