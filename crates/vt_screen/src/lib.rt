@@ -5,6 +5,7 @@
 mod cells;
 mod displays;
 mod functions;
+mod looks;
 mod marks;
 mod pens;
 mod printer;
@@ -14,5 +15,6 @@ mod sizes;
 pub use cells::Cell;
 pub use displays::{Charset, Display, Settings};
 pub use functions::{CodeElement, EraseExtent, Function, ModeKind, Parameters};
+pub use looks::{ends_run, run_start, style_letters, style_text};
 pub use renditions::{Color, Rendition, RenditionChange, color_of};
 pub use sizes::{MAX_COLS, MAX_ROWS, Size};

@@ -91,7 +91,7 @@ impl Snapshot<'_> {
     fn push_rendition_member(&self, alloc: Global, text: &mut Vec<u8>) -> Result<(), AllocError>
         ensures { OnOk result (text.new.items ≡ text.old.items ++ spec.rendition_members self.now.screen) }
     {
-        let letters = letters_of(alloc, false, self.terminal.rendition())?;
+        let letters = letters_of(alloc, self.terminal.rendition())?;
         let rendition = quoted_plainly(alloc, letters.as_slice())?;
         push_member(text, b"rendition", rendition.as_slice())
     }

@@ -56,7 +56,7 @@ impl Snapshot<'_> {
     fn push_rendition(&self, alloc: Global, text: &mut Vec<u8>) -> Result<(), AllocError>
         ensures { OnOk result (text.new.items ≡ text.old.items ++ spec.rendition_line self.now.screen) }
     {
-        let letters = letters_of(alloc, false, self.terminal.rendition())?;
+        let letters = letters_of(alloc, self.terminal.rendition())?;
         push_line(text, b"rendition", or_dash(letters.as_slice()))
     }
 

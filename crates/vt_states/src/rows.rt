@@ -1,14 +1,14 @@
 //! The cells of a terminal, row by row, as items of JSON lists.
 
-ghost use Rattle.std.specs.Prelude.{◌≡◌, ℕ, ◌+◌, ◌<◌, ◌∷◌, ◌++◌, [], length, IfOk, OnOk};
+ghost use Rattle.std.specs.Prelude.{◌≡◌, ◌<◌, ◌++◌, [], length, IfOk, OnOk};
 ghost use Rattle.std.specs.List.{flat_map};
 ghost use Rattle.vt_term.specs.Grid.{line_at};
 ghost use Rattle.vt_term.specs.Printed as shown;
 ghost use Rattle.vt_states.specs.Json as spec;
 
-use crate::styles::letters_of;
 use std::alloc::{AllocError, Global};
-use vt_term::{Cell, Color, Terminal};
+use vt_screen::{ends_run, run_start, style_text};
+use vt_term::{Cell, Terminal};
 
 /// The rows of a terminal, each as a text in quotes, with commas between them.
 pub(crate) fn row_items(alloc: Global, terminal: &Terminal) -> Result<Vec<u8>, AllocError>
@@ -122,55 +122,6 @@ fn push_run(
     }
 }
 
-/// Where the run of this column begins, after where that of the column before it does.
-fn run_start(cells: &[Cell], col: usize, before: usize) -> usize
-    requires within { col < length cells.now }
-    requires before { (k : ℕ) → k + 1 ≡ col → before ≡ shown.run_start cells.now k }
-    ensures { result ≡ shown.run_start cells.now col }
-{
-    if col == 0 {
-        0
-    } else if is_shown_as(&cells[col - 1], &cells[col]) {
-        before
-    } else {
-        col
-    }
-}
-
-fn ends_run(cells: &[Cell], col: usize) -> bool
-    requires { col < length cells.now }
-    ensures { result ≡ shown.ends_run cells.now col }
-{
-    col + 1 == cells.len() || !is_shown_as(&cells[col], &cells[col + 1])
-}
-
-/// Whether two cells are shown in one way, whatever their characters.
-fn is_shown_as(a: &Cell, b: &Cell) -> bool
-    ensures { result ≡ shown.same_style a.now b.now }
-{
-    let x = a.rendition();
-    let y = b.rendition();
-    (a.is_graphic() == b.is_graphic())
-        & (x.bold == y.bold)
-        & (x.faint == y.faint)
-        & (x.underline == y.underline)
-        & (x.blink == y.blink)
-        & (x.negative == y.negative)
-        & (x.concealed == y.concealed)
-        & is_colored_as(x.foreground, y.foreground)
-        & is_colored_as(x.background, y.background)
-}
-
-fn is_colored_as(a: Option<Color>, b: Option<Color>) -> bool
-    ensures { result ≡ shown.same_color a b }
-{
-    match (a, b) {
-        (None, None) => true,
-        (Some(a), Some(b)) => a.number() == b.number(),
-        _ => false,
-    }
-}
-
 fn push_look(
     alloc: Global,
     items: &mut Vec<u8>,
@@ -182,7 +133,7 @@ fn push_look(
     ensures { OnOk result (items.new.items ≡
         spec.look_behind items.old.items row first last (shown.style_text cell.now)) }
 {
-    let style = style_letters(alloc, cell)?;
+    let style = style_text(alloc, cell)?;
     if style.is_empty() {
         return Ok(());
     }
@@ -217,11 +168,4 @@ fn push_place(
 {
     let place = format!(in alloc; "[{row},{first},{last},\"")?;
     items.extend_from_slice(place.as_bytes())
-}
-
-#[tactic(auto, unfolding(crate::specs::Styles::letters))]
-fn style_letters(alloc: Global, cell: &Cell) -> Result<Vec<u8>, AllocError>
-    ensures { IfOk result (λ text. text.items ≡ shown.style_text cell.now) }
-{
-    letters_of(alloc, cell.is_graphic(), cell.rendition())
 }

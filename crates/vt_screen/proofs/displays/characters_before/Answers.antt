@@ -1,5 +1,5 @@
 use Rattle.std.proofs.Common.{◌<◌, length, sym, arith}
-use Rattle.vt_screen.proofs.Runs.{is_character, all_step, one_further, stops_there, ends_there}
+use Rattle.vt_screen.proofs.Runs.{is_character, all_step, one_further}
 use Rattle.vt_screen.proofs.displays.characters_before.Goals as goal
 
 pub loop-k-preserved : goal.loop-k-preserved

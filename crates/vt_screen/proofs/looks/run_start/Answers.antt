@@ -1,8 +1,8 @@
 use Rattle.std.proofs.Common.{◌-◌, sym, ◌∙◌, arith}
 use Rattle.std.proofs.lemmas.List.{get_or_read}
-use Rattle.vt_term.specs.Look.{space}
+use Rattle.vt_screen.specs.Look.{space}
 use Rattle.vt_screen.proofs.Styles.{run_start_kept, run_start_new}
-use Rattle.vt_states.proofs.rows.run_start.Goals as goal
+use Rattle.vt_screen.proofs.looks.run_start.Goals as goal
 
 pub returns-then-is_shown_as : goal.returns-then-is_shown_as
 returns-then-is_shown_as c =
