@@ -8,6 +8,7 @@ pub mod Splits
 pub mod Drops
 pub mod Runs
 pub mod Moves
+pub mod Drawn
 pub mod Charsets
 pub mod AtOnce
 pub mod Starts
