@@ -1,10 +1,10 @@
 -- A file of cases answered line by line.
-use Rattle.std.proofs.Common.{◌≡◌, ℕ, suc, ◌+◌, ◌-◌, ◌<◌, ◌≤◌, ◌==◌, List, [], ◌∷◌, ◌++◌, length, take, drop, get_or, refl, sym, ap, subst, ◌∙◌, arith, append_assoc, length-append, Option, Some}
-use Rattle.std.specs.List.{flat_map, position}
+use Rattle.std.proofs.Common.{◌≡◌, ℕ, ◌+◌, ◌-◌, ◌<◌, ◌≤◌, ◌==◌, List, [], ◌∷◌, ◌++◌, length, take, drop, get_or, refl, sym, ap, ◌∙◌, arith, append_assoc, length-append, Some}
+use Rattle.std.specs.List.{AllByRecursion, flat_map, position}
 use Rattle.std.proofs.lemmas.List.{append-nil, take-append-drop, drop_more}
 use Rattle.std.proofs.lemmas.List.Quantifiers.{position-Some}
 use Rattle.std.proofs.lemmas.Bool.{eqb-true}
-use Rattle.vt_states.specs.Cases.{Answers, AreAnswers, EachAnswers, ended}
+use Rattle.vt_states.specs.Cases.{Answers, AreAnswers, EachAnswers, IsCase, ended}
 
 -- the lines before what is left, of which there are so many, and the answers to them
 pub record Answered (rows cols : ℕ) (file rest : List ℕ) (number : ℕ) (text : List ℕ) : Type 0 where
@@ -13,11 +13,12 @@ pub record Answered (rows cols : ℕ) (file rest : List ℕ) (number : ℕ) (tex
   pub read : file ≡ flat_map ended lines ++ rest
   pub written : text ≡ flat_map ended answers
   pub each : EachAnswers rows cols lines answers
+  pub cases : AllByRecursion IsCase lines
   pub count : number ≡ length lines
   pub few : number + length rest ≤ length file
 
 pub none_answered : (rows cols : ℕ) (file : List ℕ) → Answered rows cols file file 0 []
-none_answered rows cols file = record { lines = []; answers = []; read = refl; written = refl; each = tt; count = refl; few = omega arith }
+none_answered rows cols file = record { lines = []; answers = []; read = refl; written = refl; each = tt; cases = tt; count = refl; few = omega arith }
 
 each_more : (rows cols : ℕ) (lines answers : List (List ℕ)) (line answer : List ℕ) → EachAnswers rows cols lines answers → Answers rows cols line answer → EachAnswers rows cols (lines ++ line ∷ []) (answers ++ answer ∷ [])
 each_more rows cols [] [] line answer h a = (a, tt)
@@ -29,6 +30,13 @@ ended_more : (lines : List (List ℕ)) (line : List ℕ) → flat_map ended (lin
 ended_more [] line = append-nil (ended line)
 ended_more (l ∷ lines) line = ap (λ (t : List ℕ). ended l ++ t) (ended_more lines line) ∙ sym (append_assoc (ended l) (flat_map ended lines) (ended line))
 
+-- what is answered is a case
+answered_cases : (rows cols : ℕ) (lines answers : List (List ℕ)) → EachAnswers rows cols lines answers → AllByRecursion IsCase lines
+answered_cases rows cols [] [] h = tt
+answered_cases rows cols [] (x ∷ answers) h = absurd h
+answered_cases rows cols (l ∷ lines) [] h = absurd h
+answered_cases rows cols (l ∷ lines) (x ∷ answers) h = ((h.0.fed, h.0.given), answered_cases rows cols lines answers h.1)
+
 pub one_answered : (rows cols : ℕ) (file rest : List ℕ) (number : ℕ) (text line behind answer more : List ℕ) → Answered rows cols file rest number text → rest ≡ ended line ++ behind → Answers rows cols line answer → more ≡ text ++ ended answer → Answered rows cols file behind (number + 1) more
 one_answered rows cols file rest number text line behind answer more h e a w = record {
   lines = h.lines ++ line ∷ [];
@@ -36,6 +44,7 @@ one_answered rows cols file rest number text line behind answer more h e a w = r
   read = h.read ∙ ap (λ (t : List ℕ). flat_map ended h.lines ++ t) e ∙ sym (append_assoc (flat_map ended h.lines) (ended line) behind) ∙ ap (λ (t : List ℕ). t ++ behind) (sym (ended_more h.lines line));
   written = w ∙ ap (λ (t : List ℕ). t ++ ended answer) h.written ∙ sym (ended_more h.answers answer);
   each = each_more rows cols h.lines h.answers line answer h.each a;
+  cases = answered_cases rows cols (h.lines ++ line ∷ []) (h.answers ++ answer ∷ []) (each_more rows cols h.lines h.answers line answer h.each a);
   count = omega (arith, h.count, length-append h.lines (line ∷ []));
   few = omega (arith, h.few, ap length e, length-append (ended line) behind, length-append line (10 ∷ []));
 }

@@ -1,8 +1,8 @@
 -- Where a text ends, and what a scan over it has found.
-use Rattle.std.proofs.Common.{◌≡◌, ℕ, ◌+◌, ◌-◌, ◌<◌, ◌≤◌, ◌⊎◌, List, [], ◌∷◌, ◌++◌, length, take, drop, refl, sym, ap, subst, ◌∙◌, arith, inl, inr, length-append, length-drop, zero, suc}
+use Rattle.std.proofs.Common.{◌≡◌, ℕ, ◌+◌, ◌-◌, ◌≤◌, List, [], ◌∷◌, ◌++◌, length, take, drop, refl, sym, ap, subst, ◌∙◌, arith, inl, length-append, zero, suc}
 use Rattle.std.proofs.lemmas.List.{drop_all, take-append-drop}
 use Rattle.vt_term.specs.Text.{IsOpen, Splits, IsSplit}
-use Rattle.vt_term.specs.Screen.{State, Screen, reset}
+use Rattle.vt_term.specs.Screen.{State, reset}
 use Rattle.vt_term.specs.Step.{steps}
 use Rattle.vt_term.specs.Function.{function_of}
 use Rattle.vt_term.specs.Run.{Runs}
@@ -10,7 +10,7 @@ use Rattle.vt_term.specs.Scanned.{Begins, IsTokenAt, IsTextFault, HasFault}
 use Rattle.vt_term.specs.declared.scanners.TextFault.{TextFault}
 use Rattle.vt_term.specs.declared.scanners.TextFaultKind.{TextFaultKind}
 use Rattle.vt_term.specs.declared.scanners.TextFaultKind.TheVariants.{Unfinished, Stuck}
-use Rattle.vt_term.proofs.Splits.{one_splitting, splits_front, splits_open, cancels, cut_whole}
+use Rattle.vt_term.proofs.Splits.{one_splitting, splits_front, splits_open, cut_whole}
 use Rattle.vt_term.proofs.Drops.{cancel_runs}
 use Rattle.vt_term.proofs.Runs.{runs_append}
 use Rattle.vt_term.proofs.Starts.{begins_at, begins_all}

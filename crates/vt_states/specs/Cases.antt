@@ -71,6 +71,10 @@ pub record AreAnswers (rows cols : ℕ) (file text : List ℕ) : Type 0 where
   pub written : text ≡ flat_map ended answers
   pub each : EachAnswers rows cols lines answers
 
+-- a line that is one
+abbrev pub IsCase : List ℕ → Type 0
+IsCase line = (fed : Fed) × (fed_in line ≡ Some fed)
+
 -- a line that is no case, or that has no LF
 abbrev pub BeginsBadly : List ℕ → Option ℕ → Type 0
 BeginsBadly rest None = 0 < length rest
@@ -79,6 +83,7 @@ BeginsBadly rest (Some k) = fed_in (take k rest) ≡ None
 -- the lines before this one are cases, and this one is none; lines are counted from 1
 pub record IsBadLine (file : List ℕ) (line : ℕ) : Type 0 where
   pub before : List (List ℕ)
+  pub cases : AllByRecursion IsCase before
   pub rest : List ℕ
   pub read : file ≡ flat_map ended before ++ rest
   pub number : line ≡ length before + 1

@@ -1,6 +1,6 @@
 -- What T is shown of a recording of today, in place of characters and strings that it doesn't have (ECMA-48 5.6, command
 -- strings and character strings; xterm's control sequences, OSC; Unicode, table 3-7).
-use Rattle.std.specs.Prelude.{ℕ, ◌+◌, ◌==◌, ◌&&◌, ◌||◌, nat_le, Bool, true, false, List, [], ◌∷◌, ◌++◌, length, take, drop, slice_index_or, if◌then◌else◌, zero, suc}
+use Rattle.std.specs.Prelude.{ℕ, ◌+◌, ◌==◌, ◌&&◌, ◌||◌, nat_le, Bool, List, [], ◌∷◌, length, take, drop, slice_index_or, if◌then◌else◌, zero, suc}
 use Rattle.std.specs.List.{flat_map}
 
 -- ---- characters above 127, in UTF-8

@@ -1,4 +1,4 @@
-use Rattle.std.proofs.Common.{◌≡◌, ℕ, ◌+◌, ◌-◌, List, ◌∙◌, sym, subst, length, take, drop, arith, length-drop}
+use Rattle.std.proofs.Common.{ℕ, ◌+◌, ◌-◌, List, sym, subst, length, take, drop, arith, length-drop}
 use Rattle.std.proofs.lemmas.List.{take_all}
 use Rattle.vt_states.proofs.Answered.{Answered, next_answered, none_answered}
 use Rattle.vt_states.proofs.cases.case_answers.Goals as goal

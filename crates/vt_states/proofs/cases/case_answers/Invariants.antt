@@ -1,5 +1,5 @@
 -- The lines before what is left are answered.
-use Rattle.std.proofs.Common.{◌≡◌, ◌≤◌, ◌+◌, ◌++◌, List, ℕ, length}
+use Rattle.std.proofs.Common.{length}
 use Rattle.vt_states.proofs.Answered.{Answered}
 use Rattle.vt_states.proofs.cases.case_answers.Given as goal
 

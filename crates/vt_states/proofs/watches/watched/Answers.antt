@@ -1,6 +1,6 @@
 use Rattle.std.proofs.Common.{◌≡◌, ℕ, ◌∷◌, ◌++◌, [], List, refl, sym, subst, ap, ◌∙◌, ◌-◌, length, drop, arith, length-drop}
 use Rattle.std.proofs.lemmas.List.{take_all}
-use Rattle.vt_term.specs.Screen.{State, reset}
+use Rattle.vt_term.specs.Screen.{reset}
 use Rattle.vt_term.specs.Run.{Runs}
 use Rattle.vt_states.proofs.Endings.{cancelled}
 use Rattle.vt_states.proofs.watches.watched.Goals as goal
