@@ -5,6 +5,7 @@
 mod all_faults;
 mod candidates;
 mod capabilities;
+mod claims;
 mod lacks;
 mod mended;
 mod row_faults;
@@ -14,5 +15,6 @@ mod standards;
 pub use all_faults::faults;
 pub use candidates::Choice;
 pub use capabilities::row_of;
+pub use claims::must_claim;
 pub use mended::{Mended, names};
 pub use standards::{standard, where_so};

@@ -5,6 +5,7 @@ ghost use Rattle.ti_faults.specs.RowFaults as spec;
 ghost use Rattle.ti_rows.specs.Lists.{IsFirst};
 ghost use Rattle.ti_rows.specs.Names.{order};
 
+use crate::claims::must_claim;
 use std::alloc::{AllocError, Global};
 use ti_caps::Entry;
 use ti_checker::{Cause, Judge, No, checked_string};
@@ -83,13 +84,9 @@ fn push_claim(no: No, nos: &mut Vec<No>) -> Result<(), AllocError>
     ensures claims { OnOk result (no.cause ≢ Cause.NoMemory) }
     ensures added { OnOk result (nos.new.items ≡ nos.old.items ++ no ∷ []) }
 {
-    match no.cause {
-        Cause::NoMemory => Err(AllocError),
-        _ => {
-            nos.push(no)?;
-            Ok(())
-        }
-    }
+    must_claim(no.cause)?;
+    nos.push(no)?;
+    Ok(())
 }
 
 /// Adds the first faulty row of each checked capability, in the order of names.

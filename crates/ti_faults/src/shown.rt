@@ -4,6 +4,7 @@ ghost use Rattle.std.specs.Prelude.{◌≡◌, ◌≢◌, IfOk};
 ghost use Rattle.ti_checker.specs.No.{IsNo};
 ghost use Rattle.ti_faults.specs.Shown as spec;
 
+use crate::claims::must_claim;
 use crate::lacks::lacks;
 use crate::row_faults::push_row_faults;
 use std::alloc::{AllocError, Global};
@@ -51,9 +52,9 @@ pub(crate) fn shown_faults(alloc: Global, entry: &Entry, size: Size) -> Result<V
 {
     match check(alloc, entry, size) {
         Ok(_text) => Ok(Vec::new(alloc)),
-        Err(no) => match no.cause {
-            Cause::NoMemory => Err(AllocError),
-            _ => faults_beside(alloc, entry, size, no),
-        },
+        Err(no) => {
+            must_claim(no.cause)?;
+            faults_beside(alloc, entry, size, no)
+        }
     }
 }

@@ -5,8 +5,8 @@ ghost use Rattle.ti_reports.specs.Findings as spec;
 
 use std::alloc::{AllocError, Global};
 use ti_caps::Entry;
-use ti_checker::{Cause, No, check};
-use ti_faults::faults;
+use ti_checker::{No, check};
+use ti_faults::{faults, must_claim};
 use vt_term::Size;
 
 /// All faults of `entry` where `lists_all`, or else the first alone; none where it has a certificate.
@@ -31,10 +31,10 @@ fn first_fault(alloc: Global, entry: &Entry, size: Size) -> Result<Vec<No>, Allo
 {
     match check(alloc, entry, size) {
         Ok(_text) => Ok(Vec::new(alloc)),
-        Err(no) => match no.cause {
-            Cause::NoMemory => Err(AllocError),
-            _ => only(alloc, no),
-        },
+        Err(no) => {
+            must_claim(no.cause)?;
+            only(alloc, no)
+        }
     }
 }
 

@@ -1,6 +1,6 @@
 //! What is said of the entries of a file, one after another.
 
-ghost use Rattle.std.specs.Prelude.{◌≡◌, ◌<◌, IfOk, IfSome, Some, false, length, option_map, slice_get, true};
+ghost use Rattle.std.specs.Prelude.{◌≡◌, ◌≢◌, ◌<◌, IfOk, IfSome, OnOk, Some, false, length, option_map, slice_get, true};
 ghost use Rattle.std.specs.List.{AllByRecursion, range_with_len};
 ghost use Rattle.ti_source.specs.Raw.{IsRaw};
 ghost use Rattle.ti_verdicts.specs.Lines as spec;
@@ -98,10 +98,26 @@ fn text_lines<S: Speaker, W: Watcher>(
             }
             source_lines(alloc, speaker, path, bytes, raws.as_slice(), watcher)
         }
-        Err(fault) => match fault.kind {
-            FaultKind::NoMemory => Err(AllocError),
-            _ => lack(alloc, speaker, path, None, &CommandRefusal::Source(fault)),
-        },
+        Err(fault) => {
+            must_claim(fault.kind)?;
+            lack(alloc, speaker, path, None, &CommandRefusal::Source(fault))
+        }
+    }
+}
+
+/// Fails where the `kind` of a source's fault is that memory ran out, which claims nothing of the source.
+fn must_claim(kind: FaultKind) -> Result<(), AllocError>
+    ensures { OnOk result (kind ≢ FaultKind.NoMemory) }
+{
+    match kind {
+        FaultKind::NoMemory => Err(AllocError),
+        FaultKind::NoName
+        | FaultKind::WrongKind
+        | FaultKind::BadNumber
+        | FaultKind::NumberRange
+        | FaultKind::OpenField
+        | FaultKind::BadEscape
+        | FaultKind::TooLong => Ok(()),
     }
 }
 

@@ -18,7 +18,7 @@ use crate::speakers::{FileEntry, Speaker};
 use std::alloc::{AllocError, Global};
 use ti_caps::Entry;
 use ti_checker::{Cause, No};
-use ti_faults::faults;
+use ti_faults::{faults, must_claim};
 use ti_words::push_shown;
 use vt_term::Size;
 
@@ -180,7 +180,7 @@ fn answers_of(alloc: Global, nos: &[No]) -> Result<Vec<Answer>, AllocError>
 }
 
 /// The answers of the lines of the faults `nos`.
-fn fault_answers(alloc: Global, nos: &[No]) -> Result<Vec<Answer>, AllocError>
+pub(crate) fn fault_answers(alloc: Global, nos: &[No]) -> Result<Vec<Answer>, AllocError>
     ensures { IfOk result (λ answers. answers.items ≡ map spec.fault_answer nos.now) }
 {
     let mut answers = Vec::new(alloc);
@@ -213,13 +213,9 @@ fn no_line(alloc: Global, name: &[u8], no: &No) -> Result<Said, AllocError>
     ensures says { IfOk result (λ said. told_of said
         ≡ spec.one_line name.now (codes " " ++ no_text no.now) (Answer.No no.now.cause)) }
 {
-    match no.cause {
-        Cause::NoMemory => Err(AllocError),
-        cause => {
-            let words = words_of(alloc, no)?;
-            one_line(alloc, name, words.as_slice(), Answer::No(cause))
-        }
-    }
+    must_claim(no.cause)?;
+    let words = words_of(alloc, no)?;
+    one_line(alloc, name, words.as_slice(), Answer::No(no.cause))
 }
 
 /// The line of `name`, that what it names can't be had, and `why`.

@@ -3,6 +3,6 @@ use Rattle.std.proofs.lemmas.Result.{IfOk-weaker}
 use Rattle.ti_commands.specs.declared.failure.CommandRefusal.TheVariants.{Source}
 use Rattle.ti_verdicts.proofs.files.text_lines.Goals as goal
 
-pub returns-in_default : goal.returns-in_default
-returns-in_default g c =
-    IfOk-weaker c.lack.result _ _ (λ lines told. inr (record { refusal = Source c.in-Err.fault; faulty = (c.in-Err.ensures.fault, c.in_default.not-NoMemory); told = told })) c.lack.ensures
+pub returns-in_ok-must_claim-in-Err : goal.returns-in_ok-must_claim-in-Err
+returns-in_ok-must_claim-in-Err g c =
+    IfOk-weaker c.lack.result _ _ (λ lines told. inr (record { refusal = Source c.in-Err.fault; faulty = (c.in-Err.ensures.fault, c.in_ok-must_claim-in-Err.ensures); told = told })) c.lack.ensures
