@@ -1,8 +1,6 @@
 -- What `check --all` answers: all faults of an entry, and how many there are.
-use Rattle.std.specs.Prelude.{◌≡◌, ◌==◌, ℕ, List, [], ◌∷◌, ◌++◌, Option, Some, None, if◌then◌else◌, codes, length}
-use Rattle.std.specs.Fmt.{decimal}
-use Rattle.std.specs.List.{AllByRecursion, count_by, flat_map}
-use Rattle.std.specs.Str.{bytes_eq}
+use Rattle.std.specs.Prelude.{◌≡◌, ℕ, List, [], ◌∷◌, ◌++◌, Option, Some, None, codes, map}
+use Rattle.std.specs.List.{AllByRecursion, flat_map}
 use Rattle.ti_caps.specs.Entry.{Content}
 use Rattle.ti_checker.specs.declared.causes.No.{No}
 use Rattle.ti_commands.specs.Contents.{Held}
@@ -15,11 +13,13 @@ use Rattle.ti_faults.specs.AllFaults.{AreAllFaults}
 use Rattle.ti_faults.specs.Mended.{IsBestMended}
 use Rattle.ti_faults.specs.declared.mended.Mended.{Mended}
 use Rattle.ti_requests.specs.declared.request.FaultsWords.{FaultsWords}
+use Rattle.ti_verdicts.specs.Answers.{fault_answer}
 use Rattle.ti_verdicts.specs.Checks.{HasText, TellsNotes}
+use Rattle.ti_verdicts.specs.Counts.{answers_line}
 use Rattle.ti_verdicts.specs.Lines.{HasParts}
 use Rattle.ti_verdicts.specs.Locations.{IsLocation}
 use Rattle.ti_verdicts.specs.Remedies.{HasRemedy}
-use Rattle.ti_verdicts.specs.Refusals.{TellsNo, cause_name, no_text}
+use Rattle.ti_verdicts.specs.Refusals.{TellsNo, no_text}
 use Rattle.ti_words.specs.Remarks.{IsRemark}
 
 -- ---- a fault
@@ -42,28 +42,9 @@ HasFaultLines entry source mended nos refusal lines =
 
 -- ---- how many
 
-unfoldable pub cause_names : List (List ℕ)
-cause_names =
-    codes "FlagOut" ∷ codes "Absent" ∷ codes "AcsByte" ∷ codes "Underflow" ∷ codes "BadNest" ∷ codes "BadCode"
-    ∷ codes "Overflow" ∷ codes "BadChar" ∷ codes "WrongKind" ∷ codes "StaticRead" ∷ codes "Unfinished"
-    ∷ codes "Stuck" ∷ codes "NotTame" ∷ codes "BadLook" ∷ codes "WrongEffect" ∷ codes "NotShown" ∷ codes "TooLong"
-    ∷ codes "NoResync" ∷ []
-
--- how many have a cause of this name
-abbrev pub count_of : List No → List ℕ → ℕ
-count_of nos name = count_by (λ refusal. bytes_eq (cause_name refusal.cause) name) nos
-
--- `, NAME N`, where there is one
-abbrev pub part_of : ℕ → List ℕ → List ℕ
-part_of count name = if count == 0 then [] else codes ", " ++ (name ++ (codes " " ++ decimal count))
-
--- the same of those that have a cause of this name
-abbrev pub count_part : List No → List ℕ → List ℕ
-count_part nos name = part_of (count_of nos name) name
-
--- `total N`, and how many have which cause
+-- `total N`, and how many have which cause, as a survey counts its answers
 abbrev pub counts_line : List No → List ℕ
-counts_line nos = codes "total " ++ (decimal (length nos) ++ (flat_map (count_part nos) cause_names ++ 10 ∷ []))
+counts_line nos = answers_line (map fault_answer nos)
 
 -- ---- the reply
 

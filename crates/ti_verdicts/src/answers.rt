@@ -1,4 +1,4 @@
-//! The answers of a survey, and how many there are of each.
+//! What is answered of entries, and how many answers there are of each kind.
 
 ghost use Rattle.std.specs.Prelude.{◌≡◌, ◌++◌, IfOk, OnOk};
 ghost use Rattle.std.specs.List.{flat_map};
@@ -6,12 +6,11 @@ ghost use Rattle.ti_commands.specs.Words.{texts_of};
 ghost use Rattle.ti_verdicts.specs.Counts as spec;
 ghost use Rattle.ti_verdicts.specs.Told.{answer_name};
 
-use crate::counts::push_part;
 use crate::refusals::cause_name;
 use std::alloc::{AllocError, Global};
 use ti_checker::Cause;
 
-/// What a line of a survey answers.
+/// What a line answers of an entry.
 #[derive(Clone, Copy, Debug, PartialEq, Eq)]
 pub enum Answer {
     /// The entry has a certificate.
@@ -104,6 +103,22 @@ fn push_count(
     ensures { OnOk result (line.new.items ≡ line.old.items ++ spec.answer_part answers.now name.now) }
 {
     push_part(alloc, count_of(answers, name), name, line)
+}
+
+/// Appends `count` with this `name`, if it isn't 0.
+fn push_part(
+    alloc: Global,
+    count: usize,
+    name: &str,
+    line: &mut Vec<u8>,
+) -> Result<(), AllocError>
+    ensures { OnOk result (line.new.items ≡ line.old.items ++ spec.part_of count name.now) }
+{
+    if count == 0 {
+        return Ok(());
+    }
+    let part = format!(in alloc; ", {name} {count}")?;
+    line.extend_from_slice(part.as_bytes())
 }
 
 /// How many of the `answers` have this `name`.

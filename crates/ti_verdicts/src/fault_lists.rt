@@ -5,9 +5,10 @@ ghost use Rattle.ti_verdicts.specs.Checks.{FailsForEntry};
 ghost use Rattle.ti_verdicts.specs.FaultLists as spec;
 ghost use Rattle.ti_verdicts.specs.Lines.{HasParts};
 
+use crate::answers::answers_line;
 use crate::checks::notes_on;
-use crate::counts::counts_line;
 use crate::indents::indented;
+use crate::lines::fault_answers;
 use crate::locations::location;
 use crate::reasons::explain_no;
 use crate::refusals::{no_failure, no_words};
@@ -90,6 +91,14 @@ fn faults_text(
     let counts = counts_line(alloc, nos)?;
     text.extend_from_slice(counts.as_slice())?;
     Ok(text)
+}
+
+/// The line of counts of the faults `nos`: how many there are, and how many of each cause that comes.
+fn counts_line(alloc: Global, nos: &[No]) -> Result<Vec<u8>, AllocError>
+    ensures { IfOk result (λ line. line.items ≡ spec.counts_line nos.now) }
+{
+    let answers = fault_answers(alloc, nos)?;
+    answers_line(alloc, answers.as_slice())
 }
 
 /// The lines of the faults `nos` of the entry `found`, which is `mended`, one after another.

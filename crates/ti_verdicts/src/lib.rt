@@ -6,7 +6,6 @@ mod asked;
 mod certificates;
 mod certifiers;
 mod checks;
-mod counts;
 mod fault_lists;
 mod faults;
 mod files;

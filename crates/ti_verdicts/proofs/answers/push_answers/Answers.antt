@@ -1,5 +1,4 @@
-use Rattle.ti_verdicts.specs.Counts.{answer_names}
-use Rattle.ti_verdicts.specs.FaultLists.{cause_names}
+use Rattle.ti_verdicts.specs.Counts.{answer_names, cause_names}
 use Rattle.ti_verdicts.proofs.answers.push_answers.Goals as goal
 
 -- the table of the code has just these names
