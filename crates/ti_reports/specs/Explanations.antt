@@ -12,39 +12,29 @@ abbrev pub IsOnlyIf : Bool → Option (String Global) → Type 0
 IsOnlyIf true text = Unit {0}
 IsOnlyIf false text = text ≡ None
 
--- something is wanted of what is sent
-abbrev pub wants : Cause → Bool
-wants FlagOut = false
-wants Absent = false
-wants AcsByte = false
-wants (Parm fault) = false
-wants StaticRead = false
-wants Unfinished = false
-wants Stuck = false
-wants NotTame = false
-wants BadLook = true
-wants (WrongEffect probe) = true
-wants NotShown = true
-wants TooLong = false
-wants NoResync = false
-wants NoMemory = false
+-- whether something is wanted of what is sent, and whether that was run
+pub record Telling : Type 0 where
+  pub wants : Bool
+  pub runs : Bool
 
--- what is sent was run
-abbrev pub is_run : Cause → Bool
-is_run FlagOut = false
-is_run Absent = false
-is_run AcsByte = false
-is_run (Parm fault) = false
-is_run StaticRead = false
-is_run Unfinished = false
-is_run Stuck = false
-is_run NotTame = false
-is_run BadLook = true
-is_run (WrongEffect probe) = true
-is_run NotShown = false
-is_run TooLong = false
-is_run NoResync = false
-is_run NoMemory = false
+abbrev pub silent : Telling
+silent = record { wants = false; runs = false }
+
+abbrev pub telling : Cause → Telling
+telling FlagOut = silent
+telling Absent = silent
+telling AcsByte = silent
+telling (Parm fault) = silent
+telling StaticRead = silent
+telling Unfinished = silent
+telling Stuck = silent
+telling NotTame = silent
+telling BadLook = record { wants = true; runs = true }
+telling (WrongEffect probe) = record { wants = true; runs = true }
+telling NotShown = record { wants = true; runs = false }
+telling TooLong = silent
+telling NoResync = silent
+telling NoMemory = silent
 
 -- there is a text, and it shows these bytes
 abbrev pub HasText : List ℕ → Option (String Global) → Type 0
@@ -71,5 +61,5 @@ HasStart height NoMemory start = start ≡ None
 -- Where a state shows the fault, it is the cause's own; what is wanted, and what is seen, is in free words.
 pub record IsExplained (height : ℕ) (cause : Cause) (start wanted seen : Option (String Global)) : Type 0 where
   pub start_is : HasStart height cause start
-  pub wanted_is : IsOnlyIf (wants cause) wanted
-  pub seen_is : IsOnlyIf (is_run cause) seen
+  pub wanted_is : IsOnlyIf (telling cause).wants wanted
+  pub seen_is : IsOnlyIf (telling cause).runs seen

@@ -58,7 +58,7 @@ fn start_of(alloc: Global, size: Size, cause: Cause) -> Result<Option<String>, A
 
 /// What is wanted, as one of the `lines` says, if the `cause` is that it isn't so.
 fn wanted_in(alloc: Global, cause: Cause, lines: &[Vec<u8>]) -> Result<Option<String>, AllocError>
-    ensures { IfOk result (λ wanted. spec.IsOnlyIf (spec.wants cause) wanted) }
+    ensures { IfOk result (λ wanted. spec.IsOnlyIf (spec.telling cause).wants wanted) }
 {
     match cause {
         Cause::BadLook | Cause::WrongEffect(_) | Cause::NotShown => {
@@ -72,7 +72,7 @@ fn wanted_in(alloc: Global, cause: Cause, lines: &[Vec<u8>]) -> Result<Option<St
 
 /// What happens, as one of the `lines` says, if a run showed the `cause`.
 fn seen_in(alloc: Global, cause: Cause, lines: &[Vec<u8>]) -> Result<Option<String>, AllocError>
-    ensures { IfOk result (λ seen. spec.IsOnlyIf (spec.is_run cause) seen) }
+    ensures { IfOk result (λ seen. spec.IsOnlyIf (spec.telling cause).runs seen) }
 {
     match cause {
         Cause::BadLook | Cause::WrongEffect(_) => line_after(alloc, lines, b"seen: "),
