@@ -1,9 +1,9 @@
 //! The commands and their words, as the parser reads them.
 
 ghost use Rattle.std.specs.Prelude.{◌≡◌, Some, IfOk, codes, false};
-ghost use Rattle.clap.specs.Words.{app_of, rule_of, with_subcommand};
+ghost use Rattle.clap.specs.Words.{app_of, rule_of, with_rule, with_subcommand};
 ghost use Rattle.clap.specs.declared.builder.command.Command.TheViews.{out-Command};
-ghost use Rattle.ti_arguments.specs.Line.{check_rules, expand_rules, feed_rules, infocmp_rules, line, long_switch_rule, out_rule, params_rule, play_rules, positional_rule, program, several_rule, show_rules, survey_rules, switch_rule, tic_rules, verify_rules, with_plays, with_script_rules, with_case_rule, with_form_rules, with_plain_rule, with_report_rules, with_size_rules, with_verdicts};
+ghost use Rattle.ti_arguments.specs.Line.{check_rules, expand_rules, feed_rules, infocmp_rules, line, long_switch_rule, out_rule, params_rule, play_rules, positional_rule, program, several_rule, show_rules, survey_rules, switch_rule, tic_rules, verify_rules, with_plays, with_script_rules, with_case_rule, with_plain_rule, with_report_rules, with_size_rules, with_verdicts};
 
 use crate::help;
 use clap::{Arg, ArgAction, Command};
@@ -109,6 +109,30 @@ fn with_size<'a>(alloc: Global, command: Command<'a>) -> Result<Command<'a>, All
         .arg(positional(alloc, "COLS", "The terminal's columns, 2 to 500"))
 }
 
+/// The word of a switch of two dashes, and its help.
+#[derive(Clone, Copy)]
+struct SwitchWords<'a> {
+    name: &'a str,
+    help: &'a str,
+}
+
+/// `command` with two switches, `first` before `second`.
+fn with_switches<'a>(
+    alloc: Global,
+    command: Command<'a>,
+    first: SwitchWords<'a>,
+    second: SwitchWords<'a>,
+) -> Result<Command<'a>, AllocError>
+    requires { (out-Command command).has_globals ≡ false }
+    ensures shape { IfOk result (λ c. app_of c ≡ with_rule (with_rule (app_of command.entry)
+        (long_switch_rule first.entry.name.now)) (long_switch_rule second.entry.name.now)) }
+    ensures local { IfOk result (λ c. (out-Command c).has_globals ≡ false) }
+{
+    command
+        .arg(long_switch(alloc, first.name, first.help))?
+        .arg(long_switch(alloc, second.name, second.help))
+}
+
 /// `command` with the switches for all faults and for JSON, and their help.
 fn with_reports<'a>(
     alloc: Global,
@@ -120,9 +144,15 @@ fn with_reports<'a>(
     ensures shape { IfOk result (λ c. app_of c ≡ with_report_rules (app_of command.entry)) }
     ensures local { IfOk result (λ c. (out-Command c).has_globals ≡ false) }
 {
-    command
-        .arg(long_switch(alloc, "all", all))?
-        .arg(long_switch(alloc, "json", json))
+    let all = SwitchWords {
+        name: "all",
+        help: all,
+    };
+    let json = SwitchWords {
+        name: "json",
+        help: json,
+    };
+    with_switches(alloc, command, all, json)
 }
 
 fn feed_command<'a>(alloc: Global) -> Result<Command<'a>, AllocError>
@@ -132,29 +162,18 @@ fn feed_command<'a>(alloc: Global) -> Result<Command<'a>, AllocError>
     let command = Command::new(alloc, "feed")
         .about(help::FEED)
         .after_help(help::FEED_MORE);
-    let state =
-        "Show the whole state: also modes, margins, rendition and what is open of a sequence";
-    let json = "Show the whole state as a JSON object";
-    let command = with_forms(alloc, command, state, json)?;
+    let state = SwitchWords {
+        name: "state",
+        help: "Show the whole state: also modes, margins, rendition and what is open of a sequence",
+    };
+    let json = SwitchWords {
+        name: "json",
+        help: "Show the whole state as a JSON object",
+    };
+    let command = with_switches(alloc, command, state, json)?;
     let command = with_cases(alloc, command)?;
     let command = with_plain_text(alloc, command)?;
     with_size(alloc, command)?.arg(positional(alloc, "FILE", "The bytes to feed, at most 16777216"))
-}
-
-/// `command` with the switches for the forms of one state, and their help.
-fn with_forms<'a>(
-    alloc: Global,
-    command: Command<'a>,
-    state: &'a str,
-    json: &'a str,
-) -> Result<Command<'a>, AllocError>
-    requires { (out-Command command).has_globals ≡ false }
-    ensures shape { IfOk result (λ c. app_of c ≡ with_form_rules (app_of command.entry)) }
-    ensures local { IfOk result (λ c. (out-Command c).has_globals ≡ false) }
-{
-    command
-        .arg(long_switch(alloc, "state", state))?
-        .arg(long_switch(alloc, "json", json))
 }
 
 /// `command` with the switch for many cases.

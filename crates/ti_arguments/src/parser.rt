@@ -122,7 +122,9 @@ fn feed_request<'a>(alloc: Global, words: &ArgMatches<'a>) -> Result<Request<'a>
         (true, false, false, plain) => Ok(feed_as(words, FeedForm::State, plain)),
         (false, true, false, plain) => Ok(feed_as(words, FeedForm::Json, plain)),
         (false, false, true, false) => Ok(feed_as(words, FeedForm::Cases, false)),
-        _ => Err(UsageFault::Usage(String::from_str(alloc, ONE_FORM)?)),
+        (true, true, _, _) | (true, _, true, _) | (_, true, true, _) | (_, _, true, true) => {
+            Err(UsageFault::Usage(String::from_str(alloc, ONE_FORM)?))
+        }
     }
 }
 
