@@ -9,7 +9,6 @@ use Rattle.vt_effects.specs.declared.effects.Ink.{Ink}
 use Rattle.vt_effects.specs.declared.effects.Ink.TheVariants as inks
 use Rattle.vt_effects.specs.declared.effects.Rendering.{Rendering}
 use Rattle.vt_effects.specs.declared.effects.Switch.{Switch}
-use Rattle.vt_effects.specs.declared.effects.Switch.TheVariants as switches
 use Rattle.vt_effects.specs.Effect.{inked, rendered, switched}
 use Rattle.vt_effects.specs.Record.{switch_of}
 use Rattle.ti_rows.specs.Asked.{no_marks, start_of, asked, ink_of, is_on, just, with_marks_on}

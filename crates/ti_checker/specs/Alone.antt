@@ -1,6 +1,6 @@
 -- How an attribute looks: by the marks that it turns on alone, from a state without any (terminfo(5), "Highlighting,
 -- Underlining, and Visible Bells").
-use Rattle.std.specs.Prelude.{ℕ, ◌≡◌, ◌==◌, ◌||◌, not, Bool, true, false, List, []}
+use Rattle.std.specs.Prelude.{ℕ, ◌≡◌, ◌==◌, ◌||◌, not, Bool, false, List, []}
 use Rattle.vt_term.specs.Look.{Rendition}
 use Rattle.vt_term.specs.Run.{Runs}
 use Rattle.vt_term.specs.Screen.{Screen}

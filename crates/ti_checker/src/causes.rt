@@ -10,7 +10,6 @@ use std::fmt;
 use ti_caps::Cap;
 use ti_parm::ParmFault;
 use ti_rows::{Params, Row};
-use vt_term::{TokenFault, TokenFaultKind};
 
 /// What is wrong with a capability.
 #[derive(Clone, Copy, Debug, PartialEq, Eq)]

@@ -5,7 +5,7 @@ use Rattle.std.specs.declared.alloc.Global.{Global}
 use Rattle.serde_json.specs.Data.{number, string, unsigned}
 use Rattle.serde_json.specs.View.{items_of}
 use Rattle.serde_json.specs.Written.{has_float, items_have_float}
-use Rattle.ti_reports.specs.Reports.{number_data, numbers_data, report_data, text_data}
+use Rattle.ti_reports.specs.Reports.{number_data, report_data, text_data}
 use Rattle.ti_reports.specs.declared.reports.Report.{Report}
 
 text_whole : (text : Option (String Global)) → has_float (text_data text) ≡ false

@@ -11,7 +11,7 @@ use Rattle.ti_commands.specs.Words.{texts_of}
 use Rattle.ti_commands.specs.declared.failure.Failure.{Failure}
 use Rattle.ti_commands.specs.declared.failure.CommandRefusal.{CommandRefusal}
 use Rattle.ti_verdicts.specs.Lines.{HasParts, IsSourcePart, IsTold, Refusing, Saying}
-use Rattle.ti_verdicts.specs.Locations.{PlaceInSource, first_name}
+use Rattle.ti_verdicts.specs.Locations.{first_name}
 use Rattle.ti_verdicts.specs.Surveys.{EndsPath, EndsPaths, HasLines, MayHaveLines, OfFile, first_failure}
 use Rattle.ti_verdicts.specs.Told.{IsToldOfEach, Told, followed_by, nothing}
 use denote.Ref.{Bor}

@@ -1,5 +1,5 @@
 -- What `survey` answers, by what its files hold and what a certifier promises.
-use Rattle.std.specs.Prelude.{◌≡◌, ◌⊎◌, ℕ, List, [], ◌∷◌, ◌++◌, Option, Some, None}
+use Rattle.std.specs.Prelude.{◌≡◌, ◌⊎◌, ℕ, List, ◌∷◌, ◌++◌, Option, Some, None}
 use Rattle.ti_caps.specs.Entry.{Content}
 use Rattle.ti_checker.specs.declared.causes.No.{No}
 use Rattle.ti_commands.specs.Failures.{IsFileFailure}

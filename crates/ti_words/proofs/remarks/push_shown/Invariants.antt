@@ -1,4 +1,4 @@
-use Rattle.std.proofs.Common.{◌≡◌, ◌++◌, take, drop, flat_map}
+use Rattle.std.proofs.Common.{◌≡◌, ◌++◌, take, flat_map}
 use Rattle.std.specs.List.{AllByRecursion}
 use Rattle.ti_words.specs.Remarks.{IsPrintable}
 use Rattle.ti_words.specs.Shown.{shown, shown_byte}
