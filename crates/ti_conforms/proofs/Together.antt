@@ -1,5 +1,6 @@
 -- Lines that are just what an entry sends, beside each other.
 use Rattle.std.proofs.Common.{◌≡◌, ◌&&◌, ℕ, not, Bool, true, false, List, Option, refl, sym, ap, ◌∙◌}
+use Rattle.std.proofs.Math.Bool.{and-false}
 use Rattle.std.specs.Prelude.{is_some}
 use Rattle.vt_term.specs.Color.{Black}
 use Rattle.ti_caps.specs.Entry.{Content, string_at}
@@ -25,24 +26,16 @@ alone true h = refl
 alone false h = h
 
 first_of_three : (a b c : Bool) → (a && (a && (b && c))) ≡ (c && (a && (b && c)))
-first_of_three true true true = refl
-first_of_three true true false = refl
-first_of_three true false true = refl
-first_of_three true false false = refl
-first_of_three false true true = refl
-first_of_three false true false = refl
-first_of_three false false true = refl
-first_of_three false false false = refl
+first_of_three true b true = refl
+first_of_three true b false = and-false b
+first_of_three false b c = sym (and-false c)
+
+either_first : (a b c : Bool) → (a && (b && c)) ≡ (b && (a && c))
+either_first true b c = refl
+either_first false b c = sym (and-false b)
 
 second_of_three : (a b c : Bool) → (b && (a && (b && c))) ≡ (c && (a && (b && c)))
-second_of_three true true true = refl
-second_of_three true true false = refl
-second_of_three true false true = refl
-second_of_three true false false = refl
-second_of_three false true true = refl
-second_of_three false true false = refl
-second_of_three false false true = refl
-second_of_three false false false = refl
+second_of_three a b c = ap (λ (x : Bool). b && x) (either_first a b c) ∙ first_of_three b a c ∙ ap (λ (x : Bool). c && x) (sym (either_first a b c))
 
 first_two_of_three : (a b c : Bool) → (a && (a && (b && c))) ≡ (b && (a && (b && c)))
 first_two_of_three a b c = first_of_three a b c ∙ sym (second_of_three a b c)
