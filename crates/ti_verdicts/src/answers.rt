@@ -106,12 +106,7 @@ fn push_count(
 }
 
 /// Appends `count` with this `name`, if it isn't 0.
-fn push_part(
-    alloc: Global,
-    count: usize,
-    name: &str,
-    line: &mut Vec<u8>,
-) -> Result<(), AllocError>
+fn push_part(alloc: Global, count: usize, name: &str, line: &mut Vec<u8>) -> Result<(), AllocError>
     ensures { OnOk result (line.new.items ≡ line.old.items ++ spec.part_of count name.now) }
 {
     if count == 0 {
