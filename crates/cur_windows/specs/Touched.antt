@@ -163,6 +163,12 @@ pub record MarksArea (m n : Marking) (a : Area) : Type 0 where
   pub cells : (i j : ℕ) → IsUnmarked n i j → is_in a i j ≡ false
   pub only : MarksNoMore m n a
 
+-- a rectangle of the screen is marked as well of a grid that has marks, and nothing of any other grid
+pub record MarksGrid (t u : Markings) (root : ℕ) (a : Area) : Type 0 where
+  pub grid : root < length t → MarksArea (grid_marks t root) (grid_marks u root) a
+  pub none : length t ≤ root → u ≡ t
+  pub others : (k : ℕ) → k ≢ root → grid_marks u k ≡ grid_marks t k
+
 -- a window's rectangle is marked as well of its grid, unless that is a pad's, and nothing of any other grid
 pub record MarksSlot (t u : Markings) (d : State) (s : Slot) : Type 0 where
   pub grid : (origin_at d s.root).pad ≡ false → s.root < length t

@@ -7,8 +7,9 @@ ghost use Rattle.cur_drawing.specs.Spans.{IsAreaWithin};
 ghost use Rattle.cur_windows.specs.Desks as spec;
 ghost use Rattle.cur_windows.specs.Creations as make;
 
-use crate::desks::{Desk, WINDOWS, blank_grid};
-use crate::slots::{Origin, Slot, whole_area};
+use crate::desks::Desk;
+use crate::slots::{Origin, Slot, WINDOWS, whole_area};
+use crate::virtual_screen::blank_grid;
 use cur_drawing::{Cell, Geometry, Refusal, Window, area_within, start_within};
 use grids::{Area, Grid, Place};
 

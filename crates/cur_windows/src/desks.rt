@@ -5,15 +5,13 @@ ghost use Rattle.cur_windows.specs.Desks as spec;
 ghost use Rattle.cur_windows.specs.Desks.{IsPlaced, IsDesk};
 
 use crate::hints::Scroll;
-use crate::slots::{Origin, Slot, whole_area};
+use crate::slots::{Origin, Slot, WINDOWS, whole_area};
+use crate::virtual_screen::blank_grid;
 use cur_drawing::{Cell, Refusal, Window};
 use grids::Grid;
 use std::alloc::{AllocError, Global};
 use std::marker::Model;
 use vt_term::Size;
-
-/// How many windows there may be.
-pub const WINDOWS: usize = 64;
 
 /// The windows of a screen. Numbers 0 to 63 name them; 0 is the screen's own and always there.
 #[derive(Drop)]
@@ -106,13 +104,6 @@ impl Desk {
             None => Err(Refusal::NoWindow),
         }
     }
-}
-
-/// A grid of spaces without attributes. An error where a growth was refused.
-pub(crate) fn blank_grid(alloc: Global, rows: u16, cols: u16) -> Result<Grid<Cell>, AllocError>
-    ensures { IfOk result (λ grid. grid ≡ blank rows cols) }
-{
-    Grid::new(alloc, rows as usize, cols as usize, Cell::space())
 }
 
 fn empty_grids(alloc: Global) -> Result<Vec<Grid<Cell>>, AllocError>

@@ -1,8 +1,4 @@
 //! Hints at lines that were scrolled, and which grids the screen's lines show.
-ghost use Rattle.std.specs.Prelude.{◌<◌};
-
-use crate::desks::Desk;
-use crate::slots::Slot;
 use crate::virtual_screen::Copy;
 use grids::Area;
 use vt_term::MAX_ROWS;
@@ -21,30 +17,6 @@ pub struct Hint {
 pub(crate) struct Scroll {
     pub root: u8,
     pub hint: Hint,
-}
-
-impl Desk {
-    // The rows of the window's region, which went by no line yet: of a window that is as wide as the screen and may
-    // scroll, and no pad's.
-    pub(crate) fn region_of(&self, slot: &Slot) -> Option<Scroll>
-        requires { (slot.now).root < 64 }
-    {
-        let window = slot.window;
-        let origin = self.origins[slot.root as usize];
-        if !window.scrolls || origin.pad || window.area.cols != self.cols {
-            return None;
-        }
-        let top = origin.top.saturating_add(window.area.top);
-        let hint = Hint {
-            top: top.saturating_add(window.region_top),
-            bottom: top.saturating_add(window.region_bottom),
-            up: 0,
-        };
-        Some(Scroll {
-            root: slot.root,
-            hint,
-        })
-    }
 }
 
 impl Scroll {

@@ -7,9 +7,11 @@ mod creations;
 mod desks;
 mod hints;
 pub mod laws;
+mod marking;
 mod pads;
 mod queries;
 mod refreshes;
+mod regions;
 mod rows;
 mod sizes;
 mod slots;
@@ -22,9 +24,10 @@ pub use creations::in_range;
 pub use cur_drawing::{
     Area, Attrs, Border, Cell, Marks, Place, Put, Refusal, Window, first_diff, last_diff,
 };
-pub use desks::{Desk, WINDOWS};
+pub use desks::Desk;
 pub use hints::Hint;
 pub use rows::RowMut;
+pub use slots::WINDOWS;
 pub use std::alloc::AllocError as NoMemory;
 pub use touched::Touched;
 pub use views::{Part, View};

@@ -6,9 +6,9 @@ ghost use Rattle.cur_windows.specs.Desks as spec;
 ghost use Rattle.cur_windows.specs.Creations as make;
 ghost use Rattle.cur_windows.specs.Pads.{area, is_pad, pad_added, part_shown};
 
-use crate::desks::{Desk, blank_grid};
+use crate::desks::Desk;
 use crate::slots::{Origin, whole_area};
-use crate::virtual_screen::{Copy, Virtual};
+use crate::virtual_screen::{Copy, Virtual, blank_grid};
 use cur_drawing::{Marks, Refusal, Window, cursor_in_part};
 use grids::{Area, Place};
 use std::alloc::AllocError;

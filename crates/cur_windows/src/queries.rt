@@ -3,7 +3,8 @@ ghost use Rattle.std.specs.Prelude.{◌≡◌, ◌<◌, ℕ, Option, None, IfSom
 ghost use Rattle.cur_windows.specs.Desks.{window_at, window_count};
 ghost use Rattle.cur_windows.specs.Queries.{window_of, parent_of, cell_of, corner_of, IsFirstFree};
 
-use crate::desks::{Desk, WINDOWS};
+use crate::desks::Desk;
+use crate::slots::WINDOWS;
 use cur_drawing::{Cell, Place, Refusal, Window};
 
 impl Desk {

@@ -1,9 +1,12 @@
 //! Where windows and their grids lie.
 ghost use Rattle.std.specs.Prelude.{◌≡◌};
-ghost use Rattle.cur_windows.specs.Desks as spec;
+ghost use Rattle.cur_windows.specs.Slots as spec;
 
 use cur_drawing::Window;
 use grids::Area;
+
+/// How many windows there may be.
+pub const WINDOWS: usize = 64;
 
 /// Where a grid lies on the screen, and whether it is a pad's, which lies nowhere.
 #[derive(Clone, Copy)]

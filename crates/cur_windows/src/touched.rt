@@ -3,12 +3,9 @@ ghost use Rattle.std.specs.Prelude.{◌≡◌, ◌≢◌, ◌⊎◌, ◌<◌, �
 ghost use Rattle.cur_drawing.specs.Marks.{JoinsMarks, none_marked};
 ghost use Rattle.cur_drawing.specs.Calls.{IsCanvas};
 ghost use Rattle.cur_drawing.specs.Windows.{IsWindow};
-ghost use Rattle.cur_windows.specs.Desks as spec;
-ghost use Rattle.cur_windows.specs.Desks.{IsDesk};
-ghost use Rattle.cur_windows.specs.Touched.{AreFull, ArePrinted, AreTouched, FillsAll, FitsLine, TakesMarksOff, IsOneCell, LeavesMarks, IsTouched, LiesWithin, MarksArea, MarksCells, MarksLines, MarksSlot, MarksWindow, Spreads, TouchesGrid, all_marked, full_from, grid_marks};
+ghost use Rattle.cur_windows.specs.Touched.{AreFull, ArePrinted, AreTouched, FillsAll, FitsLine, TakesMarksOff, IsOneCell, LeavesMarks, IsTouched, LiesWithin, MarksArea, MarksCells, MarksGrid, MarksLines, Spreads, TouchesGrid, all_marked, full_from, grid_marks};
 
-use crate::desks::{Desk, WINDOWS};
-use crate::slots::{Origin, Slot};
+use crate::slots::{Origin, Slot, WINDOWS};
 use cur_drawing::{Area, Marks, Put, Refusal, Window};
 use std::alloc::{AllocError, Global};
 use std::marker::Model;
@@ -84,33 +81,18 @@ fn unmarked_grids(alloc: Global, rows: u16) -> Result<Vec<Marks>, AllocError>
     Ok(grids)
 }
 
-impl Desk {
-    /// Marks the window's rectangle, for a call that changes nothing outside of it and has no marks itself; nothing if
-    /// there is no such window, or if it lies in a pad. The desk is a legal one.
-    pub fn mark_window(&self, id: usize, touched: &mut Touched)
-        ensures marks { MarksWindow touched.old touched.new self.now
-            (spec.slot_of self.now id) }
-        ensures legal { IsDesk self.now }
-    {
-        let _ = &self.rows;
-        if let Ok(slot) = self.find(id) {
-            self.mark_slot(&slot, touched);
-        }
+/// Marks a rectangle of the screen for the grid that the window `root` made, which lies on the screen. The `area` must
+/// have a column.
+pub fn mark_rectangle(touched: &mut Touched, root: usize, area: Area)
+    requires rows { area.top + area.rows < 65536 }
+    requires cols { area.left + area.cols < 65536 }
+    requires some { 0 < area.cols }
+    ensures { MarksGrid touched.old touched.new root area }
+{
+    if root >= touched.used || root >= touched.grids.len() {
+        return;
     }
-
-    // Marks the rectangle of a window.
-    fn mark_slot(&self, slot: &Slot, touched: &mut Touched)
-        requires canvas { IsCanvas (spec.grid_at self.now (slot.now).root) (slot.now).window }
-        requires root { (slot.now).root < 64 }
-        ensures { MarksSlot touched.old touched.new self.now slot.now }
-    {
-        let root = slot.root as usize;
-        if self.origin_of(slot).pad || root >= touched.used || root >= touched.grids.len() {
-            return;
-        }
-        let area = self.place_on_screen(slot);
-        mark_area(&mut touched.grids[root], area);
-    }
+    mark_area(&mut touched.grids[root], area);
 }
 
 // Marks a rectangle of the screen.

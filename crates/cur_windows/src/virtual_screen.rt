@@ -1,12 +1,11 @@
 //! The virtual screen and its colour pairs.
 ghost use Rattle.std.specs.Prelude.{ℕ, length, slice_index_or, ◌≡◌, ◌<◌, ◌≤◌, ◌+◌, IfOk, IfSome, replicate, true};
 ghost use Rattle.cur_drawing.specs.Cells.{IsCell, space};
-ghost use Rattle.cur_drawing.specs.Grids.{Fits, line_at, moved_to};
+ghost use Rattle.cur_drawing.specs.Grids.{Fits, blank, line_at, moved_to};
 ghost use Rattle.cur_drawing.specs.Marks.{AreSame, IsCopiedBut, Keeps, MarksOnly};
 ghost use Rattle.cur_drawing.specs.Spans.{ArePlaces};
 ghost use Rattle.cur_windows.specs.VirtualScreen as spec;
 
-use crate::desks::blank_grid;
 use crate::hints::{Hint, Owners, Scroll, remember};
 use cur_drawing::{Cell, Marks, PAIRS, Refusal, all_cells, copy_changed, copy_marked, place_below};
 use grids::{Area, Grid, Place};
@@ -253,6 +252,13 @@ impl Virtual {
         self.cursor = copy.cursor;
         self.clearok = self.clearok | copy.clears;
     }
+}
+
+/// A grid of spaces without attributes. An error where a growth was refused.
+pub(crate) fn blank_grid(alloc: Global, rows: u16, cols: u16) -> Result<Grid<Cell>, AllocError>
+    ensures { IfOk result (λ grid. grid ≡ blank rows cols) }
+{
+    Grid::new(alloc, rows as usize, cols as usize, Cell::space())
 }
 
 fn default_pairs(alloc: Global) -> Result<Vec<Colors>, AllocError>
